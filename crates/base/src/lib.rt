@@ -1,0 +1,19 @@
+//! The words that every layer shares: ids of objects and slots, labels, cores, rights, kinds of
+//! authority, edges, and refusals.
+#![tactic(auto)]
+
+mod core_number;
+mod edge;
+mod ids;
+mod kind;
+mod label;
+mod refusal;
+mod rights;
+
+pub use core_number::CoreNo;
+pub use edge::Edge;
+pub use ids::{ObjId, SlotRef};
+pub use kind::{Kind, Kinds};
+pub use label::Label;
+pub use refusal::{Cause, LookupFailure, Refusal};
+pub use rights::{Rights, rights_words_are_read_back};

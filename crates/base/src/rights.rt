@@ -1,0 +1,156 @@
+ghost use Rattle.std.specs.Prelude.{⊤, ◌≡◌, ◌==◌, ◌<◌, ℕ, List, [], ◌∷◌, codes, Some, IfSome};
+ghost use Rattle.std.specs.Int.RustNames.{bit_and};
+ghost use Rattle.base.specs.Rights.{letter_of, rights_with, rights_word, rights_of_word};
+
+use bitflags::{Flag, Flags, bitflag_items};
+use std::fmt;
+
+/// The rights of a capability (seL4 manual, "Capability Rights"), spelled `r`, `w`, `g` and `y` in
+/// texts.
+#[derive(Clone, Copy, PartialEq, Eq, Debug)]
+pub struct Rights(u8);
+
+bitflag_items! {
+    impl Rights: u8 {
+        const READ = 1;
+        const WRITE = 2;
+        const GRANT = 4;
+        const GRANT_REPLY = 8;
+    }
+}
+
+impl Flags for Rights {
+    type Bits = u8;
+
+    ghost exact = { ⊤ };
+
+    ghost table = { (codes "READ", 1) ∷ (codes "WRITE", 2) ∷ (codes "GRANT", 4) ∷ (codes "GRANT_REPLY", 8) ∷ [] };
+
+    ghost set_of = { λ rights. rights.0 };
+
+    fn flags<'a>() -> &'a [Flag<Rights>] {
+        Rights::FLAGS
+    }
+
+    fn bits(&self) -> u8 {
+        self.0
+    }
+
+    fn from_bits_retain(bits: u8) -> Rights {
+        Rights(bits)
+    }
+}
+
+impl Rights {
+    /// The rights that a word names: `-` for none, or the letters of those that are in the set, in
+    /// the order `r`, `w`, `g`, `y`.
+    #[tactic(auto, unfolding(crate::specs::Rights::rights_of_word))]
+    pub fn from_word(word: &[u8]) -> Option<Rights>
+        ensures { result ≡ rights_of_word word.now }
+    {
+        if word == b"-".as_slice() {
+            Some(Rights::empty())
+        } else if word == b"r".as_slice() {
+            Some(Rights::READ)
+        } else if word == b"w".as_slice() {
+            Some(Rights::WRITE)
+        } else if word == b"rw".as_slice() {
+            Some(Rights::READ.union(Rights::WRITE))
+        } else if word == b"g".as_slice() {
+            Some(Rights::GRANT)
+        } else if word == b"rg".as_slice() {
+            Some(Rights::READ.union(Rights::GRANT))
+        } else if word == b"wg".as_slice() {
+            Some(Rights::WRITE.union(Rights::GRANT))
+        } else if word == b"rwg".as_slice() {
+            Some(Rights::READ.union(Rights::WRITE).union(Rights::GRANT))
+        } else if word == b"y".as_slice() {
+            Some(Rights::GRANT_REPLY)
+        } else if word == b"ry".as_slice() {
+            Some(Rights::READ.union(Rights::GRANT_REPLY))
+        } else if word == b"wy".as_slice() {
+            Some(Rights::WRITE.union(Rights::GRANT_REPLY))
+        } else if word == b"rwy".as_slice() {
+            Some(Rights::READ.union(Rights::WRITE).union(Rights::GRANT_REPLY))
+        } else if word == b"gy".as_slice() {
+            Some(Rights::GRANT.union(Rights::GRANT_REPLY))
+        } else if word == b"rgy".as_slice() {
+            Some(Rights::READ.union(Rights::GRANT).union(Rights::GRANT_REPLY))
+        } else if word == b"wgy".as_slice() {
+            Some(
+                Rights::WRITE
+                    .union(Rights::GRANT)
+                    .union(Rights::GRANT_REPLY),
+            )
+        } else if word == b"rwgy".as_slice() {
+            Some(
+                Rights::READ
+                    .union(Rights::WRITE)
+                    .union(Rights::GRANT)
+                    .union(Rights::GRANT_REPLY),
+            )
+        } else {
+            None
+        }
+    }
+
+    // The four rights.
+    const SPELLED: u8 = 0b1111;
+
+    // The letter, if the set has the right.
+    fn letter(self, right: Rights, letter: &'static str) -> &'static str
+        ensures { result.now ≡ letter_of self right.0 letter.now }
+    {
+        if self.contains(right) { letter } else { "" }
+    }
+}
+
+impl fmt::Display for Rights {
+    ghost output = { λ rights. Some (rights_word rights) };
+
+    fn fmt<W: fmt::Write>(&self, f: &mut fmt::Formatter<W>) -> fmt::Result {
+        if self.0 & Rights::SPELLED == 0 {
+            return f.write_str("-");
+        }
+        let read = self.letter(Rights::READ, "r");
+        let write = self.letter(Rights::WRITE, "w");
+        let grant = self.letter(Rights::GRANT, "g");
+        let grant_reply = self.letter(Rights::GRANT_REPLY, "y");
+        write!(f, "{read}{write}{grant}{grant_reply}")
+    }
+}
+
+/// A law about the words of rights, with nothing to run: what is read from a word is written as
+/// that word, and the word of a set is read as that set.
+pub fn rights_words_are_read_back()
+    ensures written { (word : List ℕ) → IfSome (rights_of_word word) (λ rights. word ≡ rights_word rights) }
+    ensures read { (n : ℕ) → n < 16 → rights_of_word (rights_word (rights_with n)) ≡ Some (rights_with n) }
+{}
+
+#[cfg(test)]
+mod tests {
+    use super::*;
+    use std::test::Fail;
+
+    #[test]
+    fn words_of_rights(rt: HostRuntime) -> Result<(), Fail> {
+        rights_words_are_read_back();
+        for (word, bits) in [
+            ("-", 0),
+            ("r", 1),
+            ("w", 2),
+            ("rw", 3),
+            ("wg", 6),
+            ("wy", 10),
+            ("rwgy", 15),
+        ] {
+            let rights = Rights::from_word(word.as_bytes()).ok_or("no rights")?;
+            assert_eq!(rt; rights.bits(), bits, "of {word}");
+            assert_eq!(rt; rights.to_string(rt.alloc())?.as_str(), word);
+        }
+        for word in ["", "wr", "rr", "r-", "--", "x", "rwgyr", "R"] {
+            assert_eq!(rt; Rights::from_word(word.as_bytes()), None, "of {word}");
+        }
+        Ok(())
+    }
+}

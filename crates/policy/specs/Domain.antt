@@ -1,0 +1,18 @@
+-- Which labels a label finds its capabilities in, and that they are one subject with it
+-- ('seL4 Enforces Integrity', section 3, where a policy maps the objects of one subject to one label).
+use Rattle.std.specs.Prelude.{◌≡◌, ℕ, Bool, true, false, ◌⊎◌}
+use Rattle.base.specs.declared.kind.Kind.{Kind}
+use Rattle.base.specs.declared.kind.Kind.TheVariants.{Control, Space}
+use Rattle.base.specs.Kinds.{is_structural}
+
+-- whether there is an edge from a label, of a kind, to a label
+abbrev pub EdgeTest : Type 0
+EdgeTest = ℕ → Kind → ℕ → Bool
+
+-- x is in the domain of a: its CNodes are a's capability space, or a controls it
+abbrev pub IsInDomain : EdgeTest → ℕ → ℕ → Type 0
+IsInDomain test a x = (test a Space x ≡ true) ⊎ (test a Control x ≡ true)
+
+-- P1: labels of one domain may do the same
+abbrev pub SubjectsAgree : EdgeTest → Type 0
+SubjectsAgree test = (a b : ℕ) → IsInDomain test a b → (kind : Kind) → is_structural kind ≡ false → (to : ℕ) → test a kind to ≡ test b kind to

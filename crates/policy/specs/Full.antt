@@ -1,0 +1,34 @@
+-- Full authority: on which labels' objects the acts of a label may have any effect
+-- (the integrity property of 'seL4 Enforces Integrity', section 4, restated for this profile).
+use Rattle.std.specs.Prelude.{◌≡◌, ℕ, Bool, true, false}
+use Rattle.base.specs.declared.kind.Kind.{Kind}
+use Rattle.base.specs.declared.kind.Kind.TheVariants.{Control, Send, Receive, Grant, Notify, Await, Write, Reply, Context, Holds}
+use Rattle.policy.specs.Domain.{EdgeTest}
+
+-- the kinds whose use changes the object itself
+abbrev pub is_modifying : Kind → Bool
+is_modifying Control = true
+is_modifying Send = true
+is_modifying Receive = true
+is_modifying Notify = true
+is_modifying Await = true
+is_modifying Write = true
+is_modifying Reply = true
+is_modifying Context = true
+is_modifying _ = false
+
+pub data IsFull (test : EdgeTest) (a l : ℕ) : Type 0 where
+  -- its own objects
+  own : l ≡ a → IsFull test a l
+  -- what it has a capability to
+  modifies : (kind : Kind) → is_modifying kind ≡ true → test a kind l ≡ true → IsFull test a l
+  -- who waits at an endpoint or a notification that it uses
+  sends : (endpoint : ℕ) → test a Send endpoint ≡ true → test l Receive endpoint ≡ true → IsFull test a l
+  receives : (endpoint : ℕ) → test a Receive endpoint ≡ true → test l Send endpoint ≡ true → IsFull test a l
+  notifies : (notification : ℕ) → test a Notify notification ≡ true → test l Await notification ≡ true → IsFull test a l
+  -- the replies of who receives from it
+  links : (endpoint receiver : ℕ) → test a Send endpoint ≡ true → test receiver Receive endpoint ≡ true → test receiver Reply l ≡ true → IsFull test a l
+  -- where who receives its capabilities keeps them
+  grants : (endpoint receiver : ℕ) → test a Grant endpoint ≡ true → test receiver Receive endpoint ≡ true → test receiver Control l ≡ true → IsFull test a l
+  -- the threads that its replies hold
+  replies : (reply : ℕ) → test a Reply reply ≡ true → test reply Holds l ≡ true → IsFull test a l

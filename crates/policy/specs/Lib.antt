@@ -1,0 +1,5 @@
+pub mod Policy
+pub mod Domain
+pub mod Closed
+pub mod Full
+pub mod Cut

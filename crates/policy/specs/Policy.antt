@@ -1,0 +1,40 @@
+-- A policy as the rising list of its edges: the order of edges, and which edges a policy allows
+-- ('seL4 Enforces Integrity', section 3, where a policy is a graph of labels).
+use Rattle.std.specs.Prelude.{◌≡◌, ℕ, ◌≤◌, ◌-◌, Bool, ◌&&◌, ◌==◌, List, length, Option, IfSome, slice_get}
+use Rattle.std.specs.declared.cmp.Ordering.{Ordering}
+use Rattle.std.specs.declared.cmp.Ordering.TheVariants.{Less, Greater}
+use Rattle.std.specs.Ordering.{nat_cmp, on, then_cmp}
+use Rattle.std.specs.List.{AllWithin, list_any}
+use Rattle.std.specs.List.Sorted.{IsStrictlySortedBy}
+use Rattle.base.specs.declared.edge.Edge.{Edge}
+use Rattle.base.specs.declared.kind.Kind.{Kind}
+use Rattle.base.specs.Kinds.{kind_number}
+
+-- by label, then kind, then label
+abbrev pub edge_cmp : Edge → Edge → Ordering
+edge_cmp = then_cmp (on (λ edge. edge.from) nat_cmp) (then_cmp (on (λ edge. kind_number edge.kind) nat_cmp) (on (λ edge. edge.to) nat_cmp))
+
+-- each edge is below those after it, so none comes twice
+abbrev pub IsRising : List Edge → Type 0
+IsRising edges = IsStrictlySortedBy edge_cmp edges
+
+-- whether an edge is the one from this label, of this kind, to that label
+abbrev pub is_edge : ℕ → Kind → ℕ → Edge → Bool
+is_edge from kind to edge = (edge.from == from) && ((kind_number edge.kind == kind_number kind) && (edge.to == to))
+
+-- whether the edge from this label, of this kind, to that label is among them
+unfoldable pub allows : List Edge → ℕ → Kind → ℕ → Bool
+allows edges from kind to = list_any (is_edge from kind to) edges
+
+abbrev pub last_edge : List Edge → Option Edge
+last_edge edges = slice_get edges (length edges - 1)
+
+-- the last edge, if there is one, is below this one
+abbrev pub IsAboveLast : List Edge → Edge → Type 0
+IsAboveLast edges edge = IfSome (last_edge edges) (λ last. edge_cmp last edge ≡ Less)
+
+-- the edges before the place are below this one, and those from it on are above
+pub record IsGap (edges : List Edge) (edge : Edge) (at : ℕ) : Type 0 where
+  pub in_range : at ≤ length edges
+  pub below : AllWithin (λ other. edge_cmp other edge ≡ Less) edges 0 at
+  pub above : AllWithin (λ other. edge_cmp other edge ≡ Greater) edges at (length edges)

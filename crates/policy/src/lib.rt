@@ -1,0 +1,6 @@
+//! Policies: the edges of authority that a system may have.
+#![tactic(auto)]
+
+mod policy;
+
+pub use policy::Policy;

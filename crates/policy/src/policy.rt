@@ -1,0 +1,140 @@
+ghost use Rattle.std.specs.Prelude.{◌≡◌, ℕ, ◌||◌, true, List, [], ◌∷◌, ◌++◌, IsOk, OnOk, OnErr, IfErr};
+ghost use Rattle.base.specs.declared.edge.Edge.{Edge};
+ghost use Rattle.base.specs.declared.kind.Kind.{Kind};
+ghost use Rattle.base.specs.Refusals.{out_of_memory};
+ghost use Rattle.policy.specs.Policy.{IsRising, IsGap, IsAboveLast, allows, is_edge, last_edge};
+
+use base::{Edge, Refusal};
+use std::alloc::Global;
+use std::marker::Model;
+
+/// A set of edges of authority.
+///
+/// It keeps them in rising order, by label, kind and label: an edge is found by a binary search, and
+/// one above all others is added in constant time.
+#[derive(Debug, Drop)]
+pub struct Policy {
+    edges: Vec<Edge>,
+}
+
+impl Model for Policy {
+    ghost Value = { List Edge };
+
+    ghost view = { λ policy. policy.edges.items };
+
+    ghost invariant = { λ policy. IsRising policy.edges.items };
+}
+
+impl Policy {
+    /// The policy with no edge, which takes no memory.
+    pub fn new(alloc: Global) -> Policy
+        ensures { result ≡ [] }
+    {
+        Policy {
+            edges: Vec::new(alloc),
+        }
+    }
+
+    /// Adds an edge, if it isn't there.
+    ///
+    /// # Errors
+    ///
+    /// 40 where memory is refused.
+    pub fn add(&mut self, edge: Edge) -> Result<(), Refusal>
+        ensures rising { IsRising self.new }
+        ensures added { OnOk result ((from : ℕ) (kind : Kind) (to : ℕ) →
+            allows self.new from kind to ≡ (is_edge from kind to edge || allows self.old from kind to)) }
+        ensures pushed { OnOk result (IsAboveLast self.old edge → self.new ≡ self.old ++ edge ∷ []) }
+        ensures present { allows self.old edge.from edge.kind edge.to ≡ true → IsOk result }
+
+        ensures err { OnErr result (self.new ≡ self.old) }
+        ensures memory { IfErr result (λ refusal. refusal ≡ out_of_memory) }
+    {
+        if let Err(at) = self.search(&edge) {
+            self.edges.insert(at, edge)?;
+        }
+        Ok(())
+    }
+
+    /// Whether the edge is in the policy.
+    pub fn has(&self, edge: Edge) -> bool
+        ensures { result ≡ allows self.now edge.from edge.kind edge.to }
+    {
+        self.search(&edge).is_ok()
+    }
+
+    // Where the edge is, or would go.
+    fn search(&self, edge: &Edge) -> Result<usize, usize>
+        ensures found { OnOk result (allows self.now edge.now.from edge.now.kind edge.now.to ≡ true) }
+        ensures gap { IfErr result (λ at. IsGap self.now edge.now at) }
+        ensures rising { IsRising self.now }
+    {
+        match self.edges.last() {
+            Some(last) if last < edge => Err(self.edges.len()),
+            _ => self.edges.binary_search(edge),
+        }
+    }
+
+    /// The edges in rising order.
+    pub fn edges(&self) -> &[Edge]
+        ensures all { result.now ≡ self.now }
+        ensures rising { IsRising self.now }
+    {
+        &self.edges
+    }
+
+    /// The greatest edge, if there is one.
+    pub fn last(&self) -> Option<Edge>
+        ensures { result ≡ last_edge self.now }
+    {
+        self.edges.last().copied()
+    }
+}
+
+#[cfg(test)]
+mod tests {
+    use super::*;
+    use base::{Kind, Label};
+    use std::test::Fail;
+
+    fn edge(from: u8, kind: Kind, to: u8) -> Result<Edge, Fail> {
+        let from = Label::new(from).ok_or("no label")?;
+        let to = Label::new(to).ok_or("no label")?;
+        Ok(Edge { from, kind, to })
+    }
+
+    #[test]
+    fn keeps_each_edge_once_in_rising_order(rt: HostRuntime) -> Result<(), Fail> {
+        let rising = [
+            edge(0, Kind::Reset, 1)?,
+            edge(0, Kind::Notify, 0)?,
+            edge(0, Kind::Notify, 1)?,
+            edge(1, Kind::Control, 0)?,
+        ];
+        let mut policy = Policy::new(rt.alloc());
+        assert_eq!(rt; policy.last(), None);
+        for i in [1, 3, 0, 3, 2, 0] {
+            policy.add(rising[i])?;
+        }
+        assert_eq!(rt; policy.edges(), rising.as_slice());
+        assert_eq!(rt; policy.last(), Some(rising[3]));
+        Ok(())
+    }
+
+    #[test]
+    fn has_what_was_added(rt: HostRuntime) -> Result<(), Fail> {
+        let mut policy = Policy::new(rt.alloc());
+        let notify = edge(0, Kind::Notify, 1)?;
+        assert!(rt; !policy.has(notify));
+        policy.add(notify)?;
+        assert!(rt; policy.has(notify));
+        for other in [
+            edge(1, Kind::Notify, 1)?,
+            edge(0, Kind::Await, 1)?,
+            edge(0, Kind::Notify, 0)?,
+        ] {
+            assert!(rt; !policy.has(other));
+        }
+        Ok(())
+    }
+}
