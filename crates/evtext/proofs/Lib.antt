@@ -1,0 +1,2 @@
+mod Logs
+mod Scripts

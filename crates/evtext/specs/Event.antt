@@ -1,0 +1,58 @@
+-- How the words of a line are read as an event: its core, its thread, then a call by its name and operands.
+use Rattle.std.specs.Prelude.{ℕ, ◌<◌, ◌^◌, ◌&&◌, nat_lt, List, codes, Result, Ok, Err, if◌then◌else◌}
+use Rattle.std.specs.Str.{bytes_eq}
+use Rattle.machine.specs.declared.call.Call.{Call}
+use Rattle.machine.specs.declared.call.Call.TheVariants.{Signal, Poll}
+use Rattle.machine.specs.declared.call.Event.{Event}
+use Rattle.words.specs.declared.faults.Wrong.{Wrong}
+use Rattle.words.specs.declared.faults.Wrong.TheVariants.{Syntax, Limit}
+use Rattle.words.specs.Number.{number_at}
+use Rattle.words.specs.Reading.{◌>>=◌, word_at}
+
+unfoldable pub signal_at : List (List ℕ) → Result (Call × List (List ℕ)) Wrong
+signal_at words = do
+  address ← number_at words
+  Ok (Signal address.0, address.1)
+
+unfoldable pub poll_at : List (List ℕ) → Result (Call × List (List ℕ)) Wrong
+poll_at words = do
+  address ← number_at words
+  Ok (Poll address.0, address.1)
+
+-- the operands of the call that has a name
+unfoldable pub call_named : List ℕ → List (List ℕ) → Result (Call × List (List ℕ)) Wrong
+call_named name words =
+    if bytes_eq name (codes "signal") then signal_at words else
+    (if bytes_eq name (codes "poll") then poll_at words else
+    Err Syntax)
+
+-- the next words as a call, and the words after it
+unfoldable pub call_at : List (List ℕ) → Result (Call × List (List ℕ)) Wrong
+call_at words = do
+  name ← word_at words
+  call_named name.0 name.1
+
+-- the next words as an event, whatever its core's number, and the words after it
+unfoldable pub event_at : List (List ℕ) → Result (Event × List (List ℕ)) Wrong
+event_at words = do
+  core ← number_at words
+  thread ← number_at core.1
+  call ← call_at thread.1
+  Ok (record { core = core.0; thread = record { 0 = thread.0 }; call = call.0 }, call.1)
+
+-- how many events a script or a log has at most
+abbrev pub most_events : ℕ
+most_events = 1000000
+
+-- an event whose core is one of sixteen, and before which there are not too many
+unfoldable pub within_limits : ℕ → Event → Result Event Wrong
+within_limits before event = if nat_lt event.core 16 && nat_lt before most_events then Ok event else Err Limit
+
+-- a call whose operands are of 64 bits
+abbrev pub HasWords : Call → Type 0
+HasWords (Signal address) = address < 2 ^ 64
+HasWords (Poll address) = address < 2 ^ 64
+
+-- an event that a line can have: on one of sixteen cores, with numbers of 64 bits
+abbrev pub IsSpellable : Event → Type 0
+IsSpellable event = (event.core < 16) × (event.thread.0 < 2 ^ 64) × HasWords event.call

@@ -1,0 +1,38 @@
+-- The text of a script, and which script, or which fault at which line, a text is read as: the header, a line for each event, and `end`.
+use Rattle.std.specs.Prelude.{ℕ, ◌≤◌, List, [], ◌∷◌, ◌++◌, length, map, codes, Result, Ok}
+use Rattle.std.specs.List.{AllByRecursion}
+use Rattle.machine.specs.declared.call.Event.{Event}
+use Rattle.machine.specs.Spelling.{event_words}
+use Rattle.words.specs.declared.faults.Wrong.{Wrong}
+use Rattle.words.specs.declared.faults.Fault.{Fault}
+use Rattle.words.specs.Reading.{◌>>=◌, ended_at, read_text, as_it_is, whole_lines}
+use Rattle.words.specs.Text.{words_of, lines_of, text_of}
+use Rattle.evtext.specs.Event.{event_at, within_limits, most_events, IsSpellable}
+
+abbrev pub script_header : List (List ℕ)
+script_header = words_of (codes "confine-script 1")
+
+-- the text of a script
+abbrev pub script_text : List Event → List ℕ
+script_text events = text_of (whole_lines script_header (map event_words events))
+
+-- events that a script can have: at most a million, each of which a line can have
+abbrev pub IsScript : List Event → Type 0
+IsScript events = (length events ≤ most_events) × AllByRecursion IsSpellable events
+
+-- a line as an event, after as many events as `before`: its form is tested first, then the limits
+unfoldable pub script_line : ℕ → List (List ℕ) → Result Event Wrong
+script_line before words = do
+  event ← event_at words
+  _ ← ended_at event.1
+  within_limits before event.0
+
+-- a line's event joins those before it
+abbrev pub script_step : List Event → List (List ℕ) → Result (List Event) Wrong
+script_step events words = do
+  event ← script_line (length events) words
+  Ok (events ++ event ∷ [])
+
+-- what a text is read as
+unfoldable pub read_script_of : List ℕ → Result (List Event) Fault
+read_script_of bytes = read_text script_header script_step as_it_is [] (lines_of bytes)

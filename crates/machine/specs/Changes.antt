@@ -1,0 +1,48 @@
+-- Changes of a machine that leave it as it is where the object isn't there or is of another kind: to a notification's word, a thread
+-- and a scheduling context, and to who waits (seL4 manual, "Notifications", "Threads and Execution" and "Scheduling Contexts").
+use Rattle.std.specs.Prelude.{ℕ, List, [], ◌∷◌, ◌++◌, Option, Some, None, option_and_then, slice_get}
+use Rattle.base.specs.declared.ids.ObjId.{ObjId}
+use Rattle.machine.specs.declared.object.Object.{Object}
+use Rattle.machine.specs.declared.object.Object.TheVariants as o
+use Rattle.machine.specs.declared.object.Context.{Context}
+use Rattle.machine.specs.declared.thread.Tcb.{Tcb}
+use Rattle.machine.specs.Machine.{Machine, object_of, queue_of, with_object, with_queue}
+
+-- the word of a notification
+unfoldable pub with_pending : Machine → ObjId → Option ℕ → Machine
+with_pending m id word = by_content (object_of m id) where
+  by_content : Option Object → Machine
+  by_content (Some (o.Notification notification)) = with_object m id (o.Notification (record notification { pending = word }))
+  by_content _ = m
+
+-- a thread
+unfoldable pub with_tcb : Machine → ObjId → Tcb → Machine
+with_tcb m id thread = by_content (object_of m id) where
+  by_content : Option Object → Machine
+  by_content (Some (o.Tcb _)) = with_object m id (o.Tcb thread)
+  by_content _ = m
+
+-- a scheduling context
+unfoldable pub with_context : Machine → ObjId → Context → Machine
+with_context m id context = by_content (object_of m id) where
+  by_content : Option Object → Machine
+  by_content (Some (o.Context _)) = with_object m id (o.Context context)
+  by_content _ = m
+
+-- who waits first at an object
+unfoldable pub first_waiting : Machine → ObjId → Option ObjId
+first_waiting m id = option_and_then (λ threads. slice_get threads 0) (queue_of m id)
+
+-- a thread comes to wait at an object, after those that wait there
+unfoldable pub with_waiting : Machine → ObjId → ObjId → Machine
+with_waiting m id thread = by_queue (queue_of m id) where
+  by_queue : Option (List ObjId) → Machine
+  by_queue (Some threads) = with_queue m id (threads ++ thread ∷ [])
+  by_queue None = m
+
+-- the thread that waits first at an object leaves
+unfoldable pub without_first : Machine → ObjId → Machine
+without_first m id = by_queue (queue_of m id) where
+  by_queue : Option (List ObjId) → Machine
+  by_queue (Some (_ ∷ threads)) = with_queue m id threads
+  by_queue _ = m

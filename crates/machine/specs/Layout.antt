@@ -1,0 +1,66 @@
+-- What a capability table says: the labels, the initial objects with their names and labels, the slots that hold capabilities, the
+-- pairs of the derivation tree, and which thread runs on which context (compare the seL4 manual, "Bootstrapping", and
+-- 'seL4 Enforces Integrity', section 3: the initial state and its labelling).
+use Rattle.std.specs.Prelude.{◌≡◌, ℕ, Bool, List, [], Option, Some, None, slice_get, option_map, find, cond, refl}
+use Rattle.std.specs.Coded.{Coded, code_by, coded×, coded_list, coded_ℕ}
+use Rattle.base.specs.declared.ids.ObjId.{ObjId}
+use Rattle.base.specs.declared.ids.SlotRef.{SlotRef}
+use Rattle.machine.specs.declared.cap.Cap.{Cap}
+use Rattle.machine.specs.declared.object.Object.{Object}
+use Rattle.machine.specs.declared.layout.Initial.{Initial}
+use Rattle.machine.specs.declared.layout.Filled.{Filled}
+use Rattle.machine.specs.declared.layout.Pair.{Pair}
+use Rattle.machine.specs.declared.layout.Binding.{Binding}
+use Rattle.machine.specs.Machine.{same_slot, same_id}
+
+-- labels and objects are numbered from 0 in the order of their lists
+pub record Layout : Type 0 where
+  -- the names of the labels, as bytes
+  pub labels : List (List ℕ)
+  -- the names of the objects, as bytes
+  pub names : List (List ℕ)
+  pub objects : List Initial
+  -- rising by slot
+  pub caps : List Filled
+  -- rising by child
+  pub pairs : List Pair
+  -- rising by thread
+  pub bindings : List Binding
+
+-- a layout is stored as the tuple of its parts
+abbrev pub layout_code : Coded Initial → Coded Filled → Coded Pair → Coded Binding → Coded Layout
+layout_code initial filled pair binding =
+    code_by
+    (List (List ℕ) × (List (List ℕ) × (List Initial × (List Filled × (List Pair × List Binding)))))
+    (coded× (coded_list (coded_list coded_ℕ)) (coded× (coded_list (coded_list coded_ℕ)) (coded× (coded_list initial) (coded× (coded_list filled) (coded× (coded_list pair) (coded_list binding))))))
+    (λ t. (t.labels, (t.names, (t.objects, (t.caps, (t.pairs, t.bindings))))))
+    (λ p. record { labels = p.0; names = p.1.0; objects = p.1.1.0; caps = p.1.1.1.0; pairs = p.1.1.1.1.0; bindings = p.1.1.1.1.1 })
+    (λ _. refl)
+
+-- the table that says nothing
+abbrev pub empty_layout : Layout
+empty_layout = record { labels = []; names = []; objects = []; caps = []; pairs = []; bindings = [] }
+
+-- the object of a number, as it is declared
+unfoldable pub initial_of : Layout → ObjId → Option Initial
+initial_of t id = slice_get t.objects id.0
+
+-- the declared label of an initial object
+unfoldable pub declared_label : Layout → ObjId → Option ℕ
+declared_label t id = option_map (λ initial. initial.label) (initial_of t id)
+
+-- the capability that the table puts into a slot
+unfoldable pub initial_cap : Layout → SlotRef → Option Cap
+initial_cap t slot = option_map (λ filled. filled.cap) (find (λ filled. same_slot filled.slot slot) t.caps)
+
+-- the parent that the table gives a slot
+unfoldable pub initial_parent : Layout → SlotRef → Option SlotRef
+initial_parent t slot = option_map (λ pair. pair.parent) (find (λ pair. same_slot pair.child slot) t.pairs)
+
+-- the context that a thread is bound to
+unfoldable pub bound_context : Layout → ObjId → Option ObjId
+bound_context t thread = option_map (λ binding. binding.context) (find (λ binding. same_id binding.thread thread) t.bindings)
+
+-- the thread that a context is bound to
+unfoldable pub bound_thread : Layout → ObjId → Option ObjId
+bound_thread t context = option_map (λ binding. binding.thread) (find (λ binding. same_id binding.context context) t.bindings)

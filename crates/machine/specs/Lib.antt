@@ -1,0 +1,14 @@
+pub mod Objects
+pub mod Capabilities
+pub mod Machine
+pub mod Layout
+pub mod Bits
+pub mod Refusing
+pub mod Lookup
+pub mod Changes
+pub mod Step
+pub mod Run
+pub mod Boot
+pub mod WellFormed
+pub mod Authority
+pub mod Spelling

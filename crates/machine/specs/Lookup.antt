@@ -1,0 +1,83 @@
+-- Guarded lookup: the slot that an address names in a capability space (seL4 manual, "Capability Address Lookup").
+use Rattle.std.specs.Prelude.{ℕ, zero, suc, Bool, List, [], ◌∷◌, Option, Some, None, Result, Ok, Err, length}
+use Rattle.base.specs.declared.ids.ObjId.{ObjId}
+use Rattle.base.specs.declared.ids.SlotRef.{SlotRef}
+use Rattle.base.specs.declared.refusal.Cause.{Cause}
+use Rattle.base.specs.declared.refusal.Cause.TheVariants as cause
+use Rattle.base.specs.declared.refusal.LookupFailure.{LookupFailure}
+use Rattle.base.specs.declared.refusal.LookupFailure.TheVariants.{InvalidRoot, DepthMismatch, GuardMismatch}
+use Rattle.machine.specs.declared.cap.Cap.{Cap}
+use Rattle.machine.specs.declared.cap.Detail.{Detail}
+use Rattle.machine.specs.declared.cap.Detail.TheVariants as d
+use Rattle.machine.specs.declared.cap.Guard.{Guard}
+use Rattle.machine.specs.declared.object.Object.{Object}
+use Rattle.machine.specs.declared.object.Object.TheVariants as o
+use Rattle.machine.specs.Bits.{bits, number, after, split}
+use Rattle.machine.specs.Machine.{Machine, object_of, cap_of}
+
+-- a CNode as a capability shows it: the bits that an address has to go on with, and how many select a slot
+pub record Level : Type 0 where
+  pub node : ObjId
+  pub guard : List Bool
+  pub radix : ℕ
+
+abbrev pub level_through : ObjId → Guard → Option Object → Option Level
+level_through node guard (Some (o.CNode slots)) = Some (record { node = node; guard = bits guard.size guard.value; radix = slots.radix })
+level_through node guard _ = None
+
+-- the CNode that a capability shows, if it is a CNode's
+abbrev pub level_of_cap : Machine → Option Cap → Option Level
+level_of_cap m None = None
+level_of_cap m (Some held) = by_detail m held.object held.detail where
+  by_detail : Machine → ObjId → Detail → Option Level
+  by_detail m node (d.CNode guard) = level_through node guard (object_of m node)
+  by_detail m node _ = None
+
+-- the CNode whose capability a slot holds
+unfoldable pub level_at : Machine → SlotRef → Option Level
+level_at m slot = level_of_cap m (cap_of m slot)
+
+-- the slot that the string selects in one CNode, and the rest of the string
+unfoldable pub hop : Level → List Bool → Result (SlotRef × List Bool) LookupFailure
+hop level string = select level (after level.guard string) where
+  slot_of : Level → Option (List Bool × List Bool) → Result (SlotRef × List Bool) LookupFailure
+  slot_of level None = Err DepthMismatch
+  slot_of level (Some parts) = Ok (record { holder = level.node; index = number parts.0 }, parts.1)
+
+  select : Level → Option (List Bool) → Result (SlotRef × List Bool) LookupFailure
+  select level None = Err GuardMismatch
+  select level (Some rest) = slot_of level (split level.radix rest)
+
+-- go on at a slot's CNode while bits are left
+abbrev pub onward : (Level → List Bool → Result (SlotRef × List Bool) LookupFailure) → Machine → Result (SlotRef × List Bool) LookupFailure → Result (SlotRef × List Bool) LookupFailure
+onward go m (Err failure) = Err failure
+onward go m (Ok place) = further go place (level_at m place.0) place.1 where
+  further : (Level → List Bool → Result (SlotRef × List Bool) LookupFailure) → SlotRef × List Bool → Option Level → List Bool → Result (SlotRef × List Bool) LookupFailure
+  further go place _ [] = Ok place
+  further go place None (b ∷ bs) = Ok place
+  further go place (Some level) (b ∷ bs) = go level (b ∷ bs)
+
+-- the slot where a lookup from a CNode ends, and the bits that are left, within a number of CNodes
+unfoldable pub walk : ℕ → Machine → Level → List Bool → Result (SlotRef × List Bool) LookupFailure
+walk zero m level string = Err DepthMismatch
+walk (suc most) m level string = onward (λ next rest. walk most m next rest) m (hop level string)
+
+-- the root slot of a thread
+abbrev pub root_of : ObjId → SlotRef
+root_of thread = record { holder = thread; index = 0 }
+
+-- a lookup's end with the number of bits that are left, or its failure as a cause of refusal
+abbrev pub counted : Result (SlotRef × List Bool) LookupFailure → Result (SlotRef × ℕ) Cause
+counted (Ok place) = Ok (place.0, length place.1)
+counted (Err failure) = Err (cause.FailedLookup failure)
+
+-- ordinary lookup: all 64 bits of an address, from the root of a thread; each CNode takes at least one bit, so 64 CNodes suffice
+unfoldable pub lookup_of : Machine → ObjId → ℕ → Result (SlotRef × ℕ) Cause
+lookup_of m thread address = from_root (level_of_root (object_of m thread)) where
+  level_of_root : Option Object → Option Level
+  level_of_root (Some (o.Tcb _)) = level_at m (root_of thread)
+  level_of_root _ = None
+
+  from_root : Option Level → Result (SlotRef × ℕ) Cause
+  from_root None = Err (cause.FailedLookup InvalidRoot)
+  from_root (Some level) = counted (walk 65 m level (bits 64 address))

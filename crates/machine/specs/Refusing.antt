@@ -1,0 +1,8 @@
+-- Conditions in order: the first that fails answers.
+use Rattle.std.specs.Prelude.{Result, Ok, Err}
+use Rattle.base.specs.declared.refusal.Cause.{Cause}
+
+-- what follows where a condition holds
+abbrev pub ◌>>=◌ : {A B : Type 0} → Result A Cause → (A → Result B Cause) → Result B Cause
+◌>>=◌ (Ok a) then_do = then_do a
+◌>>=◌ (Err cause) then_do = Err cause

@@ -1,0 +1,58 @@
+-- How calls, events and what they answer are spelled in the texts of scripts and logs: each is a list of words, which single spaces part.
+use Rattle.std.specs.Prelude.{ℕ, Bool, List, [], ◌∷◌, ◌++◌, codes, slice_index}
+use Rattle.std.specs.Fmt.{decimal}
+use Rattle.std.specs.List.{join_with_byte}
+use Rattle.machine.specs.declared.call.Answer.{Answer}
+use Rattle.machine.specs.declared.call.Answer.TheVariants as answer
+use Rattle.machine.specs.declared.call.Call.{Call}
+use Rattle.machine.specs.declared.call.Call.TheVariants as call
+use Rattle.machine.specs.declared.call.Event.{Event}
+use Rattle.machine.specs.declared.call.Outcome.{Outcome}
+use Rattle.machine.specs.declared.call.Outcome.TheVariants as outcome
+use Rattle.machine.specs.declared.thread.Message.{Message}
+
+-- a call: its name, then its operands
+abbrev pub call_words : Call → List (List ℕ)
+call_words (call.Signal address) = codes "signal" ∷ decimal address ∷ []
+call_words (call.Poll address) = codes "poll" ∷ decimal address ∷ []
+
+-- an event: core, thread, call
+abbrev pub event_words : Event → List (List ℕ)
+event_words event = decimal event.core ∷ decimal event.thread.0 ∷ call_words event.call
+
+-- 1 for yes, 0 for no
+abbrev pub flag_word : Bool → List ℕ
+flag_word Bool.true = codes "1"
+flag_word Bool.false = codes "0"
+
+-- a message: badge, four words, and whether a capability arrived
+abbrev pub message_words : Message → List (List ℕ)
+message_words message =
+    decimal message.badge
+    ∷ decimal (slice_index message.words 0)
+    ∷ decimal (slice_index message.words 1)
+    ∷ decimal (slice_index message.words 2)
+    ∷ decimal (slice_index message.words 3)
+    ∷ flag_word message.capability
+    ∷ []
+
+-- what a call that is done answers
+abbrev pub answer_words : Answer → List (List ℕ)
+answer_words answer.Nothing = codes "done" ∷ []
+answer_words (answer.Word word) = codes "done" ∷ codes "word" ∷ decimal word ∷ []
+answer_words (answer.Message message) = codes "done" ∷ codes "msg" ∷ message_words message
+answer_words (answer.Count count) = codes "done" ∷ codes "count" ∷ decimal count ∷ []
+answer_words answer.Aborted = codes "done" ∷ codes "aborted" ∷ []
+
+abbrev pub outcome_words : Outcome → List (List ℕ)
+outcome_words (outcome.Done answer) = answer_words answer
+outcome_words outcome.Blocked = codes "blocked" ∷ []
+outcome_words (outcome.Refused refusal) = codes "refused" ∷ decimal refusal.code ∷ decimal refusal.detail ∷ []
+
+-- an entry of a log: an event, then `=` and its outcome
+abbrev pub entry_words : Event × Outcome → List (List ℕ)
+entry_words entry = event_words entry.0 ++ codes "=" ∷ outcome_words entry.1
+
+-- words as they are written, single spaces between them
+abbrev pub spelled : List (List ℕ) → List ℕ
+spelled words = join_with_byte 32 words

@@ -1,0 +1,80 @@
+-- The kernel step: what an event answers, and the machine after it. A refusal leaves the machine as it was.
+use Rattle.std.specs.Prelude.{◌≡◌, ℕ, Bool, ◌==◌, Option, Some, None, Result, Ok, Err, if◌then◌else◌}
+use Rattle.base.specs.declared.ids.ObjId.{ObjId}
+use Rattle.base.specs.declared.refusal.Cause.{Cause}
+use Rattle.base.specs.declared.refusal.Cause.TheVariants as cause
+use Rattle.base.specs.Refusals.{refusal_of}
+use Rattle.machine.specs.declared.call.Answer.{Answer}
+use Rattle.machine.specs.declared.call.Call.{Call}
+use Rattle.machine.specs.declared.call.Call.TheVariants as call
+use Rattle.machine.specs.declared.call.Event.{Event}
+use Rattle.machine.specs.declared.call.Outcome.{Outcome}
+use Rattle.machine.specs.declared.call.Outcome.TheVariants.{Done, Refused}
+use Rattle.machine.specs.declared.object.Object.{Object}
+use Rattle.machine.specs.declared.object.Object.TheVariants as o
+use Rattle.machine.specs.declared.object.Share.{Share}
+use Rattle.machine.specs.declared.thread.RunState.{RunState}
+use Rattle.machine.specs.declared.thread.RunState.TheVariants as state
+use Rattle.machine.specs.declared.thread.Tcb.{Tcb}
+use Rattle.machine.specs.Machine.{Machine, object_of}
+use Rattle.machine.specs.Refusing.{◌>>=◌}
+pub mod Find
+pub mod Signal
+pub mod Poll
+use Rattle.machine.specs.Step.Signal.{signal_of}
+use Rattle.machine.specs.Step.Poll.{poll_of}
+
+-- the core, budget and period of a context, if it is one and configured
+abbrev pub share_in : Option Object → Option Share
+share_in (Some (o.Context context)) = context.share
+share_in _ = None
+
+-- the share of a core that a thread runs on
+abbrev pub share_of : Machine → Option ObjId → Option Share
+share_of m None = None
+share_of m (Some context) = share_in (object_of m context)
+
+abbrev pub is_ready : RunState → Bool
+is_ready state.Ready = Bool.true
+is_ready _ = Bool.false
+
+-- the share of a thread that can run
+abbrev pub running_share : Machine → Tcb → Result Share Cause
+running_share m thread = if is_ready thread.state then configured (share_of m thread.context) else Err cause.NotRunnable where
+  configured : Option Share → Result Share Cause
+  configured None = Err cause.NotRunnable
+  configured (Some share) = Ok share
+
+abbrev pub thread_in : Option Object → Result Tcb Cause
+thread_in (Some (o.Tcb thread)) = Ok thread
+thread_in _ = Err cause.NoSuchThread
+
+-- who may make a call: a thread that is there, is ready, and runs on a context that is configured for the event's core
+unfoldable pub admitted : Machine → ℕ → ObjId → Result Share Cause
+admitted m core caller = do
+  thread ← thread_in (object_of m caller)
+  share ← running_share m thread
+  if share.core == core then Ok share else Err cause.WrongCore
+
+-- what a call answers and the machine after it, once its thread may make it
+abbrev pub call_of : Machine → ObjId → Call → Result (Outcome × Machine) Cause
+call_of m caller (call.Signal address) = signal_of m caller address
+call_of m caller (call.Poll address) = poll_of m caller address
+
+-- a refusal leaves the machine as it was
+abbrev pub settled : Machine → Result (Outcome × Machine) Cause → Outcome × Machine
+settled m (Ok made) = made
+settled m (Err cause) = (Refused (refusal_of cause), m)
+
+-- what an event comes to: its thread is admitted, and then makes its call
+unfoldable pub made_by : Machine → Event → Result (Outcome × Machine) Cause
+made_by m event = do
+  _ ← admitted m event.core event.thread
+  call_of m event.thread event.call
+
+unfoldable pub step_of : Machine → Event → Outcome × Machine
+step_of m event = settled m (made_by m event)
+
+-- the step from one machine to another with an outcome
+abbrev pub Step : Machine → Event → Outcome → Machine → Type 0
+Step m event outcome next = step_of m event ≡ (outcome, next)

@@ -1,0 +1,31 @@
+-- What a call finds at an address: a capability to an object of the kind that it wants (seL4 manual, "Capability Address Lookup").
+use Rattle.std.specs.Prelude.{ℕ, Bool, Option, Some, None, Result, Ok, Err, if◌then◌else◌}
+use Rattle.base.specs.declared.ids.ObjId.{ObjId}
+use Rattle.base.specs.declared.refusal.Cause.{Cause}
+use Rattle.base.specs.declared.refusal.Cause.TheVariants as cause
+use Rattle.base.specs.declared.rights.Rights.{Rights}
+use Rattle.machine.specs.declared.cap.Cap.{Cap}
+use Rattle.machine.specs.declared.cap.Badged.{Badged}
+use Rattle.machine.specs.declared.cap.Detail.{Detail}
+use Rattle.machine.specs.declared.cap.Detail.TheVariants as d
+use Rattle.machine.specs.Machine.{Machine, cap_of}
+use Rattle.machine.specs.Lookup.{lookup_of}
+use Rattle.machine.specs.Refusing.{◌>>=◌}
+
+-- the notification of a capability, with the capability's rights and badge
+abbrev pub notification_in : Option Cap → Result (ObjId × Badged) Cause
+notification_in None = Err cause.InvalidCapability
+notification_in (Some held) = by_detail held.object held.detail where
+  by_detail : ObjId → Detail → Result (ObjId × Badged) Cause
+  by_detail object (d.Notification end) = Ok (object, end)
+  by_detail object _ = Err cause.InvalidCapability
+
+-- the notification at an address: a lookup that fails refuses with its cause, an empty slot or another kind as an invalid capability
+unfoldable pub find_notification : Machine → ObjId → ℕ → Result (ObjId × Badged) Cause
+find_notification m caller address = do
+  place ← lookup_of m caller address
+  notification_in (cap_of m place.0)
+
+-- a right that the capability has to have
+abbrev pub permitted : Bool → Result (Unit {0}) Cause
+permitted allowed = if allowed then Ok tt else Err cause.InvalidCapability

@@ -1,0 +1,42 @@
+-- Signal (seL4 manual, "Notifications"): the first thread that waits gets the badge and is ready, else the badge joins the word.
+use Rattle.std.specs.Prelude.{ℕ, Option, Some, None, Result, Ok, unwrap_or}
+use Rattle.std.specs.Int.RustNames.{bit_or}
+use Rattle.base.specs.declared.ids.ObjId.{ObjId}
+use Rattle.base.specs.declared.refusal.Cause.{Cause}
+use Rattle.machine.specs.declared.call.Answer.TheVariants as answer
+use Rattle.machine.specs.declared.call.Outcome.{Outcome}
+use Rattle.machine.specs.declared.call.Outcome.TheVariants.{Done}
+use Rattle.machine.specs.declared.object.Object.{Object}
+use Rattle.machine.specs.declared.object.Object.TheVariants as o
+use Rattle.machine.specs.declared.thread.Inbox.TheVariants as inbox
+use Rattle.machine.specs.declared.thread.RunState.TheVariants as state
+use Rattle.machine.specs.Capabilities.{can_write}
+use Rattle.machine.specs.Changes.{with_pending, with_tcb, first_waiting, without_first}
+use Rattle.machine.specs.Machine.{Machine, object_of}
+use Rattle.machine.specs.Refusing.{◌>>=◌}
+use Rattle.machine.specs.Step.Find.{find_notification, permitted}
+
+-- the word of a notification, if it has one
+abbrev pub pending_in : Option Object → Option ℕ
+pending_in (Some (o.Notification notification)) = notification.pending
+pending_in _ = None
+
+-- a thread that waited gets a word and is ready
+unfoldable pub woken : Machine → ObjId → ℕ → Machine
+woken m thread word = wake (object_of m thread) where
+  wake : Option Object → Machine
+  wake (Some (o.Tcb old)) = with_tcb m thread (record old { state = state.Ready; inbox = inbox.Word word })
+  wake _ = m
+
+-- a notification that was signalled with a badge
+unfoldable pub signalled : Machine → ObjId → ℕ → Machine
+signalled m id badge = by_first (first_waiting m id) where
+  by_first : Option ObjId → Machine
+  by_first (Some thread) = woken (without_first m id) thread badge
+  by_first None = with_pending m id (Some (bit_or badge (unwrap_or (pending_in (object_of m id)) 0)))
+
+unfoldable pub signal_of : Machine → ObjId → ℕ → Result (Outcome × Machine) Cause
+signal_of m caller address = do
+  found ← find_notification m caller address
+  _ ← permitted (can_write found.1.rights)
+  Ok (Done answer.Nothing, signalled m found.0 found.1.badge)

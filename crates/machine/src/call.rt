@@ -1,0 +1,39 @@
+use crate::Message;
+use base::{CoreNo, ObjId, Refusal};
+
+/// A kernel call. Addresses are looked up in the capability space of the thread that calls.
+#[derive(Clone, Copy, PartialEq, Eq, Debug)]
+pub enum Call {
+    /// Signals the notification at the address (seL4 manual, "Notifications").
+    Signal { address: u64 },
+    /// Takes the word of the notification at the address, and doesn't wait.
+    Poll { address: u64 },
+}
+
+/// A call that a thread makes on a core.
+#[derive(Clone, Copy, PartialEq, Eq, Debug)]
+pub struct Event {
+    pub core: CoreNo,
+    pub thread: ObjId,
+    pub call: Call,
+}
+
+/// What a call that is done answers.
+#[derive(Clone, Copy, PartialEq, Eq, Debug)]
+pub enum Answer {
+    Nothing,
+    Word(u64),
+    Message(Message),
+    /// How many objects were made.
+    Count(u64),
+    /// The thread was blocked, and what it waited for went away.
+    Aborted,
+}
+
+/// How a call ends.
+#[derive(Clone, Copy, PartialEq, Eq, Debug)]
+pub enum Outcome {
+    Done(Answer),
+    Blocked,
+    Refused(Refusal),
+}

@@ -1,0 +1,96 @@
+ghost use Rattle.std.specs.Prelude.{◌≡◌};
+ghost use Rattle.machine.specs.Capabilities.{kind_of_detail, gives};
+
+use crate::ObjectKind;
+use base::{Kind, ObjId, Rights};
+
+/// Bits that an address has to begin with: the low `size` bits of `value` (seL4 manual, "CNode
+/// Guards").
+#[derive(Clone, Copy, PartialEq, Eq, Debug)]
+pub struct Guard {
+    /// 0 to 64.
+    pub size: u8,
+    pub value: u64,
+}
+
+/// Rights, and a badge that tells the capability's users apart (seL4 manual, "Badges").
+#[derive(Clone, Copy, PartialEq, Eq, Debug)]
+pub struct Badged {
+    pub rights: Rights,
+    pub badge: u64,
+}
+
+/// What a capability says beside its object, by the object's kind.
+#[derive(Clone, Copy, PartialEq, Eq, Debug)]
+pub enum Detail {
+    Untyped,
+    CNode(Guard),
+    Tcb,
+    Endpoint(Badged),
+    Notification(Badged),
+    Reply,
+    Context,
+    /// A frame's rights.
+    Frame(Rights),
+    Control,
+}
+
+/// A capability.
+#[derive(Clone, Copy, PartialEq, Eq, Debug)]
+pub struct Cap {
+    pub object: ObjId,
+    pub detail: Detail,
+    /// Whether copies of it are its children in the derivation tree.
+    pub original: bool,
+}
+
+impl Detail {
+    /// The kind of object that the capability is for.
+    pub fn kind(&self) -> ObjectKind
+        ensures { result ≡ kind_of_detail self.now }
+    {
+        match self {
+            Detail::Untyped => ObjectKind::Untyped,
+            Detail::CNode(_) => ObjectKind::CNode,
+            Detail::Tcb => ObjectKind::Tcb,
+            Detail::Endpoint(_) => ObjectKind::Endpoint,
+            Detail::Notification(_) => ObjectKind::Notification,
+            Detail::Reply => ObjectKind::Reply,
+            Detail::Context => ObjectKind::Context,
+            Detail::Frame(_) => ObjectKind::Frame,
+            Detail::Control => ObjectKind::Control,
+        }
+    }
+}
+
+impl Cap {
+    /// Whether the capability, in a slot of a CNode, gives this kind of authority over its object.
+    pub fn gives(&self, kind: Kind) -> bool
+        ensures { result ≡ gives self.now.detail kind }
+    {
+        use bitflags::Flags;
+
+        match (self.detail, kind) {
+            (Detail::Untyped | Detail::CNode(_) | Detail::Tcb, Kind::Control) => true,
+            (Detail::Endpoint(_) | Detail::Notification(_) | Detail::Frame(_), Kind::Reset) => true,
+            (Detail::Endpoint(end), Kind::Send) => end.rights.contains(Rights::WRITE),
+            (Detail::Endpoint(end), Kind::Receive) => end.rights.contains(Rights::READ),
+            (Detail::Endpoint(end), Kind::Grant) => {
+                end.rights.contains(Rights::WRITE) && end.rights.contains(Rights::GRANT)
+            }
+            (Detail::Endpoint(end), Kind::Call) => {
+                end.rights.contains(Rights::WRITE)
+                    && (end.rights.contains(Rights::GRANT)
+                        || end.rights.contains(Rights::GRANT_REPLY))
+            }
+            (Detail::Notification(end), Kind::Notify) => end.rights.contains(Rights::WRITE),
+            (Detail::Notification(end), Kind::Await) => end.rights.contains(Rights::READ),
+            (Detail::Frame(rights), Kind::Read) => rights.contains(Rights::READ),
+            (Detail::Frame(rights), Kind::Write) => rights.contains(Rights::WRITE),
+            (Detail::Reply, Kind::Reply) => true,
+            (Detail::Context, Kind::Context) => true,
+            (Detail::Control, Kind::SchedControl) => true,
+            _ => false,
+        }
+    }
+}

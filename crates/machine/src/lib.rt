@@ -1,0 +1,25 @@
+//! The kernel's state as plain data: objects, capabilities, threads, calls and what they answer.
+//!
+//! `specs/` has the definitions that every layer above cites: what contracts see of a state, guarded
+//! lookup, the step of each call, runs, well-formedness, and what a capability table says.
+#![tactic(auto)]
+
+mod call;
+mod cap;
+mod layout;
+mod object;
+mod radix;
+mod spelling;
+#[cfg(test)]
+mod tests;
+mod thread;
+
+pub use call::{Answer, Call, Event, Outcome};
+pub use cap::{Badged, Cap, Detail, Guard};
+pub use layout::{Binding, Filled, Initial, Pair};
+pub use object::{
+    CNode, Context, Control, Endpoint, Frame, Notification, Object, ObjectKind, Reply, ReplyState,
+    Share, Untyped,
+};
+pub use radix::Radix;
+pub use thread::{Inbox, Message, ReceiveSlot, Receiving, RunState, Sending, Tcb};

@@ -1,0 +1,155 @@
+ghost use Rattle.std.specs.Prelude.{◌≡◌, ◌≤◌};
+ghost use Rattle.machine.specs.Objects.{kind_of_object, slot_count, word_count};
+
+use crate::{Radix, Tcb};
+use base::{CoreNo, ObjId};
+
+/// The nine kinds of object (seL4 manual, "Kernel Objects").
+#[derive(Clone, Copy, PartialEq, Eq, PartialOrd, Ord, Debug)]
+pub enum ObjectKind {
+    Untyped,
+    CNode,
+    Tcb,
+    Endpoint,
+    Notification,
+    Reply,
+    Context,
+    Frame,
+    Control,
+}
+
+/// Memory from which objects can be made: `2^bits` bytes from `base` on, of which those below
+/// `watermark` are in use.
+#[derive(Clone, Copy, PartialEq, Eq, Debug)]
+pub struct Untyped {
+    pub base: u64,
+    /// 4 to 47.
+    pub bits: u8,
+    pub watermark: u64,
+}
+
+/// A table of `2^radix` slots, each of which may hold a capability.
+#[derive(Clone, Copy, PartialEq, Eq, Debug)]
+pub struct CNode {
+    pub address: u64,
+    pub radix: Radix,
+}
+
+/// Where threads send and receive messages. Its queue has either senders or receivers.
+#[derive(Clone, Copy, PartialEq, Eq, Debug)]
+pub struct Endpoint {
+    pub address: u64,
+}
+
+/// A word that threads signal and wait for.
+#[derive(Clone, Copy, PartialEq, Eq, Debug)]
+pub struct Notification {
+    pub address: u64,
+    /// The badges signalled since the last poll or wait, or'ed together.
+    pub pending: Option<u64>,
+}
+
+/// What a reply object holds.
+#[derive(Clone, Copy, PartialEq, Eq, Debug)]
+pub enum ReplyState {
+    Free,
+    /// The thread that named it and still waits for a message.
+    Waiting(ObjId),
+    /// The thread that called and waits for an answer.
+    Called(ObjId),
+}
+
+/// What a receiver answers a call with.
+#[derive(Clone, Copy, PartialEq, Eq, Debug)]
+pub struct Reply {
+    pub address: u64,
+    pub state: ReplyState,
+}
+
+/// The share of a core's time that a scheduling context gives: `budget` of every `period`
+/// microseconds, with `1 <= budget <= period <= 3,600,000,000`.
+#[derive(Clone, Copy, PartialEq, Eq, Debug)]
+pub struct Share {
+    pub core: CoreNo,
+    pub budget: u64,
+    pub period: u64,
+}
+
+/// A scheduling context (seL4 manual, "Scheduling Contexts").
+#[derive(Clone, Copy, PartialEq, Eq, Debug)]
+pub struct Context {
+    pub address: u64,
+    /// None until the context is configured.
+    pub share: Option<Share>,
+    /// The thread that runs on it.
+    pub thread: Option<ObjId>,
+}
+
+/// Memory of 512 words of 64 bits each.
+#[derive(Clone, Copy, PartialEq, Eq, Debug)]
+pub struct Frame {
+    pub address: u64,
+}
+
+/// The leave to configure contexts for one core (seL4 manual, "SchedControl").
+#[derive(Clone, Copy, PartialEq, Eq, Debug)]
+pub struct Control {
+    pub core: CoreNo,
+}
+
+/// An object: its address and its content, but for lists.
+///
+/// Queues, slots and the words of frames are parts of the state of their own.
+#[derive(Clone, Copy, PartialEq, Eq, Debug)]
+pub enum Object {
+    Untyped(Untyped),
+    CNode(CNode),
+    Tcb(Tcb),
+    Endpoint(Endpoint),
+    Notification(Notification),
+    Reply(Reply),
+    Context(Context),
+    Frame(Frame),
+    Control(Control),
+}
+
+impl Object {
+    /// The object's kind.
+    pub fn kind(&self) -> ObjectKind
+        ensures { result ≡ kind_of_object self.now }
+    {
+        match self {
+            Object::Untyped(_) => ObjectKind::Untyped,
+            Object::CNode(_) => ObjectKind::CNode,
+            Object::Tcb(_) => ObjectKind::Tcb,
+            Object::Endpoint(_) => ObjectKind::Endpoint,
+            Object::Notification(_) => ObjectKind::Notification,
+            Object::Reply(_) => ObjectKind::Reply,
+            Object::Context(_) => ObjectKind::Context,
+            Object::Frame(_) => ObjectKind::Frame,
+            Object::Control(_) => ObjectKind::Control,
+        }
+    }
+
+    /// How many slots the object has: a CNode `2^radix`, a TCB its root slot alone.
+    pub fn slot_count(&self) -> u64
+        ensures count { result ≡ slot_count self.now }
+        ensures most { result ≤ 4096 }
+    {
+        match self {
+            Object::CNode(node) => node.radix.slots(),
+            Object::Tcb(_) => 1,
+            _ => 0,
+        }
+    }
+
+    /// How many words of memory the object has: a frame 512.
+    pub fn word_count(&self) -> u64
+        ensures { result ≡ word_count self.now }
+    {
+        match self {
+            Object::Frame(_) => 512,
+            _ => 0,
+        }
+    }
+}

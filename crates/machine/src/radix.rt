@@ -1,0 +1,50 @@
+ghost use Rattle.std.specs.Prelude.{◌≡◌, ℕ, ◌<◌, ◌≤◌, ◌^◌, ◌↔◌, IsSome, IfSome};
+
+use std::marker::Model;
+
+/// How many bits of an address a CNode takes to select a slot: 1 to 12. It has `2^radix` slots.
+#[derive(Clone, Copy, PartialEq, Eq, Debug)]
+pub struct Radix {
+    bits: u8,
+}
+
+impl Model for Radix {
+    ghost Value = { ℕ };
+
+    ghost view = { λ radix. radix.bits };
+
+    ghost invariant = { λ radix. (0 < radix.bits) × (radix.bits ≤ 12) };
+
+    ghost inverse = { λ bits. record { bits = bits } };
+}
+
+impl Radix {
+    /// The radix of that many bits.
+    pub fn new(bits: u64) -> Option<Radix>
+        ensures valid { IsSome result ↔ ((0 < bits) × (bits ≤ 12)) }
+        ensures value { IfSome result (λ radix. radix ≡ bits) }
+    {
+        if 0 < bits && bits <= 12 {
+            Some(Radix { bits: bits as u8 })
+        } else {
+            None
+        }
+    }
+
+    /// How many bits.
+    pub fn bits(self) -> u8
+        ensures value { result ≡ self }
+        ensures least { 0 < result }
+        ensures most { result ≤ 12 }
+    {
+        self.bits
+    }
+
+    /// How many slots a CNode of this radix has.
+    pub fn slots(self) -> u64
+        ensures value { result ≡ 2 ^ self }
+        ensures most { result ≤ 4096 }
+    {
+        1 << self.bits
+    }
+}

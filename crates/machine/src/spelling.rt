@@ -1,0 +1,68 @@
+ghost use Rattle.std.specs.Prelude.{Some};
+ghost use Rattle.machine.specs.Spelling.{answer_words, call_words, event_words, message_words, outcome_words, spelled};
+
+use crate::{Answer, Call, Event, Message, Outcome};
+use std::fmt;
+
+impl fmt::Display for Call {
+    ghost output = { λ call. Some (spelled (call_words call)) };
+
+    fn fmt<W: fmt::Write>(&self, f: &mut fmt::Formatter<W>) -> fmt::Result {
+        match self {
+            Call::Signal { address } => write!(f, "signal {address}"),
+            Call::Poll { address } => write!(f, "poll {address}"),
+        }
+    }
+}
+
+impl fmt::Display for Event {
+    ghost output = { λ event. Some (spelled (event_words event)) };
+
+    fn fmt<W: fmt::Write>(&self, f: &mut fmt::Formatter<W>) -> fmt::Result {
+        let core = self.core;
+        let thread = self.thread.0;
+        let call = self.call;
+        write!(f, "{core} {thread} {call}")
+    }
+}
+
+impl fmt::Display for Message {
+    ghost output = { λ message. Some (spelled (message_words message)) };
+
+    fn fmt<W: fmt::Write>(&self, f: &mut fmt::Formatter<W>) -> fmt::Result {
+        let badge = self.badge;
+        let [first, second, third, fourth] = self.words;
+        let capability = if self.capability { "1" } else { "0" };
+        write!(f, "{badge} {first} {second} {third} {fourth} {capability}")
+    }
+}
+
+impl fmt::Display for Answer {
+    ghost output = { λ answer. Some (spelled (answer_words answer)) };
+
+    fn fmt<W: fmt::Write>(&self, f: &mut fmt::Formatter<W>) -> fmt::Result {
+        match self {
+            Answer::Nothing => write!(f, "done"),
+            Answer::Word(word) => write!(f, "done word {word}"),
+            Answer::Message(message) => write!(f, "done msg {message}"),
+            Answer::Count(count) => write!(f, "done count {count}"),
+            Answer::Aborted => write!(f, "done aborted"),
+        }
+    }
+}
+
+impl fmt::Display for Outcome {
+    ghost output = { λ outcome. Some (spelled (outcome_words outcome)) };
+
+    fn fmt<W: fmt::Write>(&self, f: &mut fmt::Formatter<W>) -> fmt::Result {
+        match self {
+            Outcome::Done(answer) => write!(f, "{answer}"),
+            Outcome::Blocked => write!(f, "blocked"),
+            Outcome::Refused(refusal) => {
+                let code = refusal.code;
+                let detail = refusal.detail;
+                write!(f, "refused {code} {detail}")
+            }
+        }
+    }
+}

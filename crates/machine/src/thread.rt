@@ -1,0 +1,76 @@
+use base::ObjId;
+
+/// A message as its receiver gets it.
+#[derive(Clone, Copy, PartialEq, Eq, Debug)]
+pub struct Message {
+    pub badge: u64,
+    pub words: [u64; 4],
+    /// Whether a capability arrived with it.
+    pub capability: bool,
+}
+
+/// What a thread was given and has not fetched yet.
+#[derive(Clone, Copy, PartialEq, Eq, Debug)]
+pub enum Inbox {
+    Empty,
+    Message(Message),
+    /// The word of a notification.
+    Word(u64),
+    /// The thread was blocked, and what it waited for went away.
+    Aborted,
+}
+
+/// What is recorded of a thread that waits to send.
+#[derive(Clone, Copy, PartialEq, Eq, Debug)]
+pub struct Sending {
+    pub endpoint: ObjId,
+    pub badge: u64,
+    /// Whether the capability that it used had the rights Write and Grant.
+    pub grant: bool,
+    pub is_call: bool,
+    /// Whether the capability that it used had Grant or GrantReply.
+    pub can_reply: bool,
+    pub words: [u64; 4],
+    /// The address of the capability that it sends along.
+    pub capability: Option<u64>,
+}
+
+/// Where a receiver takes a capability: the slot that target lookup finds.
+#[derive(Clone, Copy, PartialEq, Eq, Debug)]
+pub struct ReceiveSlot {
+    pub root: u64,
+    pub index: u64,
+    pub depth: u64,
+}
+
+/// What is recorded of a thread that waits to receive.
+#[derive(Clone, Copy, PartialEq, Eq, Debug)]
+pub struct Receiving {
+    pub endpoint: ObjId,
+    pub reply: Option<ObjId>,
+    pub slot: Option<ReceiveSlot>,
+}
+
+/// Whether a thread can run, and what it waits for if it can't (seL4 manual, "Threads and
+/// Execution").
+#[derive(Clone, Copy, PartialEq, Eq, Debug)]
+pub enum RunState {
+    Inactive,
+    Ready,
+    Sending(Sending),
+    Receiving(Receiving),
+    /// At a notification.
+    Waiting(ObjId),
+    /// For the answer through a reply object.
+    Called(ObjId),
+}
+
+/// A thread. Its one slot holds the CNode capability where the lookup of addresses begins.
+#[derive(Clone, Copy, PartialEq, Eq, Debug)]
+pub struct Tcb {
+    pub address: u64,
+    pub state: RunState,
+    pub inbox: Inbox,
+    /// The scheduling context that it runs on.
+    pub context: Option<ObjId>,
+}

@@ -1,0 +1,14 @@
+-- Bytes that pass a test of ASCII alone are text.
+use Rattle.std.proofs.Common.{◌≡◌, ℕ, ◌<◌, Bool, true, List, [], ◌∷◌, zero, suc, lit<}
+use Rattle.std.specs.List.{list_all}
+use Rattle.std.specs.Str.{IsUtf8, IsAscii}
+use Rattle.std.proofs.lemmas.Bool.{and_parts}
+use Rattle.std.proofs.lemmas.Str.{IsUtf8-from_ascii}
+
+IsAscii-from_test : (p : ℕ → Bool) → ((b : ℕ) → p b ≡ true → b < 128) → (bs : List ℕ) → list_all p bs ≡ true → IsAscii bs
+IsAscii-from_test p low [] h i = lit< tt
+IsAscii-from_test p low (b ∷ bs) h zero = low b (and_parts _ _ h).0
+IsAscii-from_test p low (b ∷ bs) h (suc i) = IsAscii-from_test p low bs (and_parts _ _ h).1 i
+
+pub IsUtf8-from_test : (p : ℕ → Bool) → ((b : ℕ) → p b ≡ true → b < 128) → (bs : List ℕ) → list_all p bs ≡ true → IsUtf8 bs
+IsUtf8-from_test p low bs h = IsUtf8-from_ascii bs (IsAscii-from_test p low bs h)

@@ -1,0 +1,5 @@
+pub mod Fault
+pub mod Text
+pub mod Reading
+pub mod Number
+pub mod Name

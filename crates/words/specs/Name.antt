@@ -1,0 +1,30 @@
+-- Names as texts spell them: 1 to 31 lower-case letters, digits and `_`, the first a letter.
+use Rattle.std.specs.Prelude.{ℕ, ◌==◌, ◌&&◌, ◌||◌, Bool, false, nat_lt, List, [], ◌∷◌, length, Option, Some, None, Result, Ok, if◌then◌else◌}
+use Rattle.std.specs.List.{list_all}
+use Rattle.std.specs.Char.{is_ascii_digit, is_ascii_lowercase}
+use Rattle.words.specs.declared.faults.Wrong.{Wrong}
+use Rattle.words.specs.Reading.{◌>>=◌, word_at, or_syntax}
+
+-- a byte that may stand in a name, where 95 is `_`
+abbrev pub is_name_byte : ℕ → Bool
+is_name_byte b = (is_ascii_lowercase b || is_ascii_digit b) || b == 95
+
+-- the first byte is a letter
+abbrev pub starts_with_letter : List ℕ → Bool
+starts_with_letter [] = false
+starts_with_letter (b ∷ bs) = is_ascii_lowercase b
+
+-- a name
+abbrev pub is_name : List ℕ → Bool
+is_name word = (starts_with_letter word && nat_lt (length word) 32) && list_all is_name_byte word
+
+-- the name that a word is
+unfoldable pub name_of : List ℕ → Option (List ℕ)
+name_of word = if is_name word then Some word else None
+
+-- the next word as a name
+unfoldable pub name_at : List (List ℕ) → Result (List ℕ × List (List ℕ)) Wrong
+name_at words = do
+  word ← word_at words
+  name ← or_syntax (name_of word.0)
+  Ok (name, word.1)

@@ -1,0 +1,62 @@
+-- Numbers as texts spell them: decimal without a leading zero, and hexadecimal after `0x` in lower case without one, both below 2 ^ 64.
+use Rattle.std.specs.Prelude.{ℕ, ◌^◌, ◌==◌, ◌&&◌, ◌||◌, not, Bool, true, false, nat_lt, List, [], ◌∷◌, ◌++◌, take, drop, codes, Option, Some, None, Result, Ok, if◌then◌else◌}
+use Rattle.std.specs.List.{list_all}
+use Rattle.std.specs.Char.{is_ascii_digit}
+use Rattle.std.specs.Int.{is_in_range}
+use Rattle.std.specs.Str.{bytes_eq}
+use Rattle.std.specs.Str.Parse.{digits_value}
+use Rattle.std.specs.Fmt.{digits}
+use Rattle.words.specs.declared.faults.Wrong.{Wrong}
+use Rattle.words.specs.Reading.{◌>>=◌, word_at, or_syntax}
+
+-- at least one digit, and no leading zero but for the digit 0 alone
+abbrev pub has_no_leading_zero : List ℕ → Bool
+has_no_leading_zero [] = false
+has_no_leading_zero (digit ∷ []) = true
+has_no_leading_zero (digit ∷ next ∷ digits) = not (digit == 48)
+
+-- the number, where 64 bits hold it
+abbrev pub below_limit : ℕ → Option ℕ
+below_limit n = if nat_lt n (2 ^ 64) then Some n else None
+
+-- decimal digits without a leading zero
+abbrev pub is_decimal : List ℕ → Bool
+is_decimal word = has_no_leading_zero word && list_all is_ascii_digit word
+
+-- the number that a decimal word spells
+unfoldable pub dec_of : List ℕ → Option ℕ
+dec_of word = if is_decimal word then below_limit (digits_value 10 word) else None
+
+-- the next word as a decimal number
+unfoldable pub number_at : List (List ℕ) → Result (ℕ × List (List ℕ)) Wrong
+number_at words = do
+  word ← word_at words
+  number ← or_syntax (dec_of word.0)
+  Ok (number, word.1)
+
+-- the digits 0 to 9 and a to f
+abbrev pub is_hex_digit : ℕ → Bool
+is_hex_digit b = is_in_range 48 57 b || is_in_range 97 102 b
+
+-- hexadecimal digits without a leading zero
+abbrev pub is_hexadecimal : List ℕ → Bool
+is_hexadecimal digits = has_no_leading_zero digits && list_all is_hex_digit digits
+
+-- the number that hexadecimal digits spell
+unfoldable pub hex_digits_of : List ℕ → Option ℕ
+hex_digits_of digits = if is_hexadecimal digits then below_limit (digits_value 16 digits) else None
+
+-- the number that a hexadecimal word spells
+unfoldable pub hex_of : List ℕ → Option ℕ
+hex_of word = if bytes_eq (take 2 word) (codes "0x") then hex_digits_of (drop 2 word) else None
+
+-- how a hexadecimal word spells a number
+abbrev pub hexadecimal : ℕ → List ℕ
+hexadecimal n = codes "0x" ++ digits 16 false n
+
+-- the next word as a hexadecimal number
+unfoldable pub hex_at : List (List ℕ) → Result (ℕ × List (List ℕ)) Wrong
+hex_at words = do
+  word ← word_at words
+  number ← or_syntax (hex_of word.0)
+  Ok (number, word.1)

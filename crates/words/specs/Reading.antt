@@ -1,0 +1,113 @@
+-- Reading as functions on lists: the words of a line are taken one after another, the lines of a text one after another, and the first fault ends it.
+use Rattle.std.specs.Prelude.{◌≡◌, ◌≢◌, ℕ, ◌+◌, List, [], ◌∷◌, ◌++◌, false, Option, Some, None, Result, Ok, Err, if◌then◌else◌, codes}
+use Rattle.words.specs.declared.faults.Wrong.{Wrong}
+use Rattle.words.specs.declared.faults.Wrong.TheVariants.{Syntax}
+use Rattle.words.specs.declared.faults.Cause.{Cause}
+use Rattle.words.specs.declared.faults.Cause.TheVariants.{Memory, Text}
+use Rattle.words.specs.declared.faults.Fault.{Fault}
+use Rattle.words.specs.Fault.{fault_at, no_memory}
+use Rattle.words.specs.Text.{words_of, line_is, Place}
+
+-- one step of reading after another: a fault ends it
+unfoldable pub bind : {E X Y : Type 0} → Result X E → (X → Result Y E) → Result Y E
+bind (Ok x) next = next x
+bind (Err e) next = Err e
+
+infixl 10 ◌>>=◌
+abbrev pub ◌>>=◌ : {E X Y : Type 0} → Result X E → (X → Result Y E) → Result Y E
+step >>= next = bind step next
+
+-- the next word and the words after it
+unfoldable pub word_at : List (List ℕ) → Result (List ℕ × List (List ℕ)) Wrong
+word_at [] = Err Syntax
+word_at (word ∷ words) = Ok (word, words)
+
+-- the line has no word left
+unfoldable pub ended_at : List (List ℕ) → Result (Unit {0}) Wrong
+ended_at [] = Ok tt
+ended_at (word ∷ words) = Err Syntax
+
+-- a value where there is one, else a fault of form
+unfoldable pub or_syntax : {X : Type 0} → Option X → Result X Wrong
+or_syntax (Some x) = Ok x
+or_syntax None = Err Syntax
+
+-- the line that ends a text
+abbrev pub last_line : List (List ℕ)
+last_line = words_of (codes "end")
+
+-- nothing follows the lines that were taken
+unfoldable pub end_at : Place → Result (Unit {0}) Fault
+end_at place = end_of place.lines
+  where
+    end_of : List (Option (List (List ℕ))) → Result (Unit {0}) Fault
+    end_of [] = Ok tt
+    end_of (line ∷ lines) = Err (fault_at (place.taken + 1) Syntax)
+
+-- the next line is the header
+unfoldable pub header_at : List (List ℕ) → Place → Result Place Fault
+header_at header place = header_of place.lines
+  where
+    header_of : List (Option (List (List ℕ))) → Result Place Fault
+    header_of [] = Err (fault_at (place.taken + 1) Syntax)
+    header_of (None ∷ lines) = Err (fault_at (place.taken + 1) Syntax)
+    header_of (Some line ∷ lines) =
+        if line_is line header
+        then Ok (record { taken = place.taken + 1; lines = lines })
+        else Err (fault_at (place.taken + 1) Syntax)
+
+-- a result of one line, with the line's number at its fault
+unfoldable pub at_line : {S T : Type 0} → ℕ → Result S Wrong → (S → Result T Fault) → Result T Fault
+at_line line (Ok s) next = next s
+at_line line (Err wrong) next = Err (fault_at line wrong)
+
+-- the lines up to `end`, each a step of a state; then what the state and the place after `end` give
+unfoldable pub read_lines : {S T : Type 0} → (S → List (List ℕ) → Result S Wrong) → (S → Place → Result T Fault) → ℕ → S → List (Option (List (List ℕ))) → Result T Fault
+read_lines step finish taken s [] = Err (fault_at (taken + 1) Syntax)
+read_lines step finish taken s (None ∷ lines) = Err (fault_at (taken + 1) Syntax)
+read_lines step finish taken s (Some line ∷ lines) =
+    if line_is line last_line
+    then finish s (record { taken = taken + 1; lines = lines })
+    else at_line (taken + 1) (step s line) (λ next. read_lines step finish (taken + 1) next lines)
+
+-- the state after a list of lines, each a step
+unfoldable pub steps : {S : Type 0} → (S → List (List ℕ) → Result S Wrong) → S → List (List (List ℕ)) → Result S Wrong
+steps step s [] = Ok s
+steps step s (line ∷ lines) = bind (step s line) (λ next. steps step next lines)
+
+-- the lines of a whole text, whose body stands between its header and the line `end`
+abbrev pub whole_lines : List (List ℕ) → List (List (List ℕ)) → List (List (List ℕ))
+whole_lines header body = header ∷ (body ++ last_line ∷ [])
+
+-- a line other than the line `end`
+abbrev pub IsNotLast : List (List ℕ) → Type 0
+IsNotLast line = line_is line last_line ≡ false
+
+-- a text that ends with its `end` line gives the state as it is
+unfoldable pub as_it_is : {S : Type 0} → S → Place → Result S Fault
+as_it_is s place = bind (end_at place) (λ _. Ok s)
+
+-- a whole text: its header, its lines, and what they give
+unfoldable pub read_text : {S T : Type 0} → List (List ℕ) → (S → List (List ℕ) → Result S Wrong) → (S → Place → Result T Fault) → S → List (Option (List (List ℕ))) → Result T Fault
+read_text header step finish s lines =
+    bind (header_at header (record { taken = 0; lines = lines })) (λ place. read_lines step finish place.taken s place.lines)
+
+-- a result is just what reading gives, seen by `view`
+abbrev pub Gives : {E X Y : Type 0} → (X → Y) → Result X E → Result Y E → Type 0
+Gives view (Ok x) read = read ≡ Ok (view x)
+Gives view (Err e) read = read ≡ Err e
+
+-- reading stops for this cause: where memory was refused, nothing is said of the text
+abbrev pub StopsBy : {Y : Type 0} → Cause → Result Y Wrong → Type 0
+StopsBy Memory read = Unit {0}
+StopsBy (Text wrong) read = read ≡ Err wrong
+
+-- a result of a call that takes memory is what reading gives
+abbrev pub Makes : {X Y : Type 0} → (X → Y) → Result X Cause → Result Y Wrong → Type 0
+Makes view (Ok x) read = read ≡ Ok (view x)
+Makes view (Err cause) read = StopsBy cause read
+
+-- and of a whole text
+abbrev pub Reads : {X Y : Type 0} → (X → Y) → Result X Fault → Result Y Fault → Type 0
+Reads view (Ok x) read = read ≡ Ok (view x)
+Reads view (Err fault) read = fault ≢ no_memory → read ≡ Err fault

@@ -1,0 +1,48 @@
+-- A text as a list of lines and a line as a list of words: a line ends with a line feed, words are parted by one space.
+use Rattle.std.specs.Prelude.{ℕ, ◌==◌, ◌<◌, Bool, List, [], ◌∷◌, ◌++◌, Option, Some, None}
+use Rattle.std.specs.List.{slice_split, flat_map, join_with_byte, AllByRecursion}
+use Rattle.std.specs.Str.{bytes_eq}
+use Rattle.std.specs.Cmp.Lexicographic.{pointwise}
+
+-- the words of a line: two spaces in a row have an empty word between them
+abbrev pub words_of : List ℕ → List (List ℕ)
+words_of line = slice_split (λ b. b == 32) line
+
+-- the lines between the line feeds: a last part that no line feed ends is no line, and is none at all if it is empty
+abbrev pub lines_of_parts : List (List ℕ) → List (Option (List (List ℕ)))
+lines_of_parts [] = []
+lines_of_parts ([] ∷ []) = []
+lines_of_parts ((b ∷ bs) ∷ []) = None ∷ []
+lines_of_parts (part ∷ next ∷ parts) = Some (words_of part) ∷ lines_of_parts (next ∷ parts)
+
+-- the lines of a text, each as its words, and `None` for a last line that isn't ended
+unfoldable pub lines_of : List ℕ → List (Option (List (List ℕ)))
+lines_of bytes = lines_of_parts (slice_split (λ b. b == 10) bytes)
+
+-- the text of lines of words
+abbrev pub text_of : List (List (List ℕ)) → List ℕ
+text_of lines = flat_map (λ line. join_with_byte 32 line ++ 10 ∷ []) lines
+
+-- a word whose bytes are no spaces and no control characters
+abbrev pub IsPlainWord : List ℕ → Type 0
+IsPlainWord word = AllByRecursion (λ b. 32 < b) word
+
+-- a line of such words, at least one
+abbrev pub IsPlainLine : List (List ℕ) → Type 0
+IsPlainLine [] = ⊥
+IsPlainLine (word ∷ words) = AllByRecursion IsPlainWord (word ∷ words)
+
+-- whether a line has just these words
+abbrev pub line_is : List (List ℕ) → List (List ℕ) → Bool
+line_is line words = pointwise bytes_eq line words
+
+-- where a reader stands: how many lines it has taken, and the lines that are left
+pub record Place : Type 0 where
+  pub taken : ℕ
+  pub lines : List (Option (List (List ℕ)))
+
+-- no ended line comes next
+abbrev pub IsOver : List (Option (List (List ℕ))) → Type 0
+IsOver [] = Unit {0}
+IsOver (None ∷ lines) = Unit {0}
+IsOver (Some line ∷ lines) = ⊥

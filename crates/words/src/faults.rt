@@ -1,0 +1,137 @@
+ghost use Rattle.std.specs.Prelude.{◌≡◌};
+
+use std::alloc::{AllocError, AllocFailed};
+use thiserror::Error;
+
+/// What a line of a text can be refused for. Within a line they are told in the order `Syntax`,
+/// `UnknownName`, `Double`, `WrongKind`, `Limit`, `Misplaced`; `Tree` is found once the text ended.
+#[derive(Clone, Copy, Debug, PartialEq, Eq, Hash, Error)]
+pub enum Wrong {
+    #[error("the line doesn't have its form, or is out of order")]
+    Syntax,
+    #[error("a name is unknown")]
+    UnknownName,
+    #[error("something is declared twice")]
+    Double,
+    #[error("an object is misaligned, or overlaps an earlier one")]
+    Misplaced,
+    #[error("a limit is passed")]
+    Limit,
+    #[error("an object is of the wrong kind")]
+    WrongKind,
+    #[error("a child doesn't follow from its parent")]
+    Tree,
+}
+
+impl Wrong {
+    ghost use Rattle.words.specs.Fault.{number_of};
+
+    /// The number by which reports tell it, 50 to 56.
+    pub fn number(self) -> u64
+        ensures { result ≡ number_of self }
+    {
+        match self {
+            Wrong::Syntax => 50,
+            Wrong::UnknownName => 51,
+            Wrong::Double => 52,
+            Wrong::Misplaced => 53,
+            Wrong::Limit => 54,
+            Wrong::WrongKind => 55,
+            Wrong::Tree => 56,
+        }
+    }
+}
+
+/// Why the reading of a line stopped: memory was refused, or the text is wrong.
+#[derive(Clone, Copy, Debug, PartialEq, Eq, Hash, Error)]
+pub enum Cause {
+    #[error("no memory")]
+    Memory,
+    #[error("{0}")]
+    Text(Wrong),
+}
+
+impl From<Wrong> for Cause {
+    ghost use Rattle.std.specs.Prelude.{◌≡◌};
+    ghost use Rattle.words.specs.declared.faults.Cause.TheVariants.{Text};
+
+    ghost from_gives = { λ wrong cause. cause ≡ Text wrong };
+
+    fn from(wrong: Wrong) -> Cause {
+        Cause::Text(wrong)
+    }
+}
+
+impl From<AllocError> for Cause {
+    ghost use Rattle.std.specs.Prelude.{◌≡◌};
+    ghost use Rattle.words.specs.declared.faults.Cause.TheVariants.{Memory};
+
+    ghost from_gives = { λ _ cause. cause ≡ Memory };
+
+    fn from(_error: AllocError) -> Cause {
+        Cause::Memory
+    }
+}
+
+impl<T: Drop> From<AllocFailed<T>> for Cause {
+    ghost use Rattle.std.specs.Prelude.{◌≡◌};
+    ghost use Rattle.words.specs.declared.faults.Cause.TheVariants.{Memory};
+
+    ghost from_gives = { λ _ cause. cause ≡ Memory };
+
+    fn from(_error: AllocFailed<T>) -> Cause {
+        Cause::Memory
+    }
+}
+
+/// Why a text wasn't read: the number of the fault, 50 to 56, and the line that has it, from 1; or
+/// 40 and line 0 where memory was refused.
+#[derive(Clone, Copy, Debug, PartialEq, Eq, Hash, Error)]
+#[error("line {line}: fault {number}")]
+pub struct Fault {
+    pub number: u64,
+    pub line: u64,
+}
+
+impl Fault {
+    ghost use Rattle.words.specs.Fault.{fault_at, no_memory};
+
+    /// Memory was refused.
+    pub const MEMORY: Fault = Fault {
+        number: 40,
+        line: 0,
+    };
+
+    /// The fault of a line, which is counted from 1.
+    #[tactic(auto, unfolding(crate::specs::Fault::fault_at))]
+    pub fn at(wrong: Wrong, line: u64) -> Fault
+        ensures { result ≡ fault_at line wrong }
+    {
+        Fault {
+            number: wrong.number(),
+            line,
+        }
+    }
+}
+
+impl From<AllocError> for Fault {
+    ghost use Rattle.std.specs.Prelude.{◌≡◌};
+    ghost use Rattle.words.specs.Fault.{no_memory};
+
+    ghost from_gives = { λ _ fault. fault ≡ no_memory };
+
+    fn from(_error: AllocError) -> Fault {
+        Fault::MEMORY
+    }
+}
+
+impl<T: Drop> From<AllocFailed<T>> for Fault {
+    ghost use Rattle.std.specs.Prelude.{◌≡◌};
+    ghost use Rattle.words.specs.Fault.{no_memory};
+
+    ghost from_gives = { λ _ fault. fault ≡ no_memory };
+
+    fn from(_error: AllocFailed<T>) -> Fault {
+        Fault::MEMORY
+    }
+}

@@ -1,0 +1,115 @@
+ghost use Rattle.std.specs.Prelude.{◌≡◌, true, [], ◌∷◌, MatchOption, IfOk};
+ghost use Rattle.words.specs.Text.{words_of, line_is};
+ghost use Rattle.words.specs.Reading.{Gives, word_at, ended_at};
+ghost use Rattle.words.specs.Number.{hex_at, number_at};
+ghost use Rattle.words.specs.Name.{is_name, name_at};
+
+use crate::faults::Wrong;
+use crate::names::name_of;
+use crate::numbers::{decimal_of, hexadecimal_of};
+use crate::split::split_first_at;
+use std::marker::Model;
+
+/// The words of a line, taken one after another. It takes no memory.
+///
+/// After an `Err` it stands at some word of the line.
+#[derive(Drop)]
+pub struct Words<'a> {
+    rest: Option<&'a [u8]>,
+}
+
+impl<'a> Model for Words<'a> {
+    ghost use Rattle.std.specs.Prelude.{List, [], ℕ};
+    ghost use Rattle.std.specs.Option.{option_map_or};
+    ghost use Rattle.words.specs.Text.{words_of};
+
+    ghost Value = { List (List ℕ) };
+
+    ghost view = { λ w. option_map_or (λ rest. words_of rest.now) w.rest [] };
+}
+
+impl<'a> Words<'a> {
+    /// The words of `line`, none of them taken.
+    pub fn new(line: &'a [u8]) -> Words<'a>
+        ensures { result ≡ words_of line.now }
+    {
+        Words { rest: Some(line) }
+    }
+
+    /// The next word, which is empty before a space that follows no word.
+    pub fn next_word(&mut self) -> Option<&'a [u8]>
+        ensures { MatchOption result
+            ((self.old ≡ []) × (self.new ≡ []))
+            (λ word. self.old ≡ word.now ∷ self.new) }
+    {
+        let rest = self.rest?;
+        match split_first_at(b' ', rest) {
+            Some((word, later)) => {
+                self.rest = Some(later);
+                Some(word)
+            }
+            None => {
+                self.rest = None;
+                Some(rest)
+            }
+        }
+    }
+
+    /// Whether the words left are just those of `line`.
+    #[tactic(auto, using(crate::proofs::Splits::same_words, crate::proofs::Splits::never_no_words))]
+    pub fn is(&self, line: &[u8]) -> bool
+        ensures { result ≡ line_is self.now (words_of line.now) }
+    {
+        match self.rest {
+            Some(rest) => rest == line,
+            None => false,
+        }
+    }
+
+    /// The next word.
+    #[tactic(auto, unfolding(crate::specs::Reading::word_at))]
+    pub fn word(&mut self) -> Result<&'a [u8], Wrong>
+        ensures { Gives (λ word. (word.now, self.new)) result (word_at self.old) }
+    {
+        self.next_word().ok_or(Wrong::Syntax)
+    }
+
+    /// Asks that no word is left.
+    #[tactic(auto, using(crate::proofs::Splits::never_ended), unfolding(crate::specs::Reading::ended_at))]
+    pub fn end(&self) -> Result<(), Wrong>
+        ensures { result ≡ ended_at self.now }
+    {
+        match self.rest {
+            Some(_) => Err(Wrong::Syntax),
+            None => Ok(()),
+        }
+    }
+
+    /// The next word as a decimal number.
+    #[tactic(auto, unfolding(crate::specs::Number::number_at, crate::specs::Reading::word_at, crate::specs::Reading::or_syntax, crate::specs::Reading::bind))]
+    pub fn number(&mut self) -> Result<u64, Wrong>
+        ensures { Gives (λ number. (number, self.new)) result (number_at self.old) }
+    {
+        let word = self.word()?;
+        decimal_of(word).ok_or(Wrong::Syntax)
+    }
+
+    /// The next word as a hexadecimal number, `0x` and lower-case digits.
+    #[tactic(auto, unfolding(crate::specs::Number::hex_at, crate::specs::Reading::word_at, crate::specs::Reading::or_syntax, crate::specs::Reading::bind))]
+    pub fn hex(&mut self) -> Result<u64, Wrong>
+        ensures { Gives (λ number. (number, self.new)) result (hex_at self.old) }
+    {
+        let word = self.word()?;
+        hexadecimal_of(word).ok_or(Wrong::Syntax)
+    }
+
+    /// The next word as a name.
+    #[tactic(auto, unfolding(crate::specs::Name::name_at, crate::specs::Reading::word_at, crate::specs::Reading::or_syntax, crate::specs::Reading::bind))]
+    pub fn name(&mut self) -> Result<&'a str, Wrong>
+        ensures exact { Gives (λ name. (name.now, self.new)) result (name_at self.old) }
+        ensures spelled { IfOk result (λ name. is_name name.now ≡ true) }
+    {
+        let word = self.word()?;
+        name_of(word).ok_or(Wrong::Syntax)
+    }
+}

@@ -1,0 +1,43 @@
+ghost use Rattle.std.specs.Prelude.{◌≡◌, true, IfSome};
+ghost use Rattle.std.specs.List.{list_all};
+ghost use Rattle.std.specs.Option.{option_copied};
+ghost use Rattle.words.specs.Name.{is_name, is_name_byte, name_of, starts_with_letter};
+
+use std::str;
+
+/// How many letters, digits and `_` a name has at most.
+const LONGEST_NAME: usize = 31;
+
+/// Whether a word is a name: 1 to 31 of `a-z`, `0-9` and `_`, the first a letter.
+pub fn is_name(word: &[u8]) -> bool
+    ensures { result ≡ is_name word.now }
+{
+    starts_with_letter(word) && word.len() <= LONGEST_NAME && has_name_bytes(word)
+}
+
+/// A word as a name, if it is one.
+#[tactic(auto, using(crate::proofs::NameText::name_is_text), unfolding(crate::specs::Name::name_of))]
+pub fn name_of(word: &[u8]) -> Option<&str>
+    ensures exact { option_copied result ≡ name_of word.now }
+    ensures spelled { IfSome result (λ name. is_name name.now ≡ true) }
+{
+    if !is_name(word) {
+        return None;
+    }
+    str::from_utf8(word).ok()
+}
+
+fn starts_with_letter(word: &[u8]) -> bool
+    ensures { result ≡ starts_with_letter word.now }
+{
+    match word {
+        [] => false,
+        [first, ..] => first.is_ascii_lowercase(),
+    }
+}
+
+fn has_name_bytes(word: &[u8]) -> bool
+    ensures { result ≡ list_all is_name_byte word.now }
+{
+    word.iter().all(|byte| byte.is_ascii_lowercase() || byte.is_ascii_digit() || *byte == b'_')
+}

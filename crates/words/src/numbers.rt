@@ -1,0 +1,77 @@
+ghost use Rattle.std.specs.Prelude.{◌≡◌, ◌^◌, ◌<◌, ℕ, Some, IfSome};
+ghost use Rattle.std.specs.Fmt.{decimal};
+ghost use Rattle.std.specs.List.{list_all};
+ghost use Rattle.std.specs.Char.{is_ascii_digit};
+ghost use Rattle.words.specs.Number.{dec_of, hex_of, hex_digits_of, hexadecimal, is_decimal, is_hexadecimal, is_hex_digit, has_no_leading_zero};
+
+use std::str;
+
+/// The number that a word spells in decimal, where it is below 2^64.
+#[tactic(auto, using(crate::proofs::Decimals::decimal_laws))]
+pub fn decimal_of(word: &[u8]) -> Option<u64>
+    ensures exact { result ≡ dec_of word.now }
+    ensures found { IfSome result (λ n. word.now ≡ decimal n) }
+    ensures only { (n : ℕ) → n < 2 ^ 64 → word.now ≡ decimal n → result ≡ Some n }
+{
+    if !is_decimal(word) {
+        return None;
+    }
+    let text = str::from_utf8(word).ok()?;
+    text.parse().ok()
+}
+
+/// The number that a word spells in hexadecimal, as `0x1f`, where it is below 2^64.
+#[tactic(auto, unfolding(crate::specs::Number::hex_of))]
+pub fn hexadecimal_of(word: &[u8]) -> Option<u64>
+    ensures exact { result ≡ hex_of word.now }
+    ensures found { IfSome result (λ n. word.now ≡ hexadecimal n) }
+    ensures only { (n : ℕ) → n < 2 ^ 64 → word.now ≡ hexadecimal n → result ≡ Some n }
+{
+    hex_digits_of(word.strip_prefix(b"0x")?)
+}
+
+#[tactic(auto, using(crate::proofs::Hexadecimals::hexadecimal_laws))]
+fn hex_digits_of(digits: &[u8]) -> Option<u64>
+    ensures { result ≡ hex_digits_of digits.now }
+{
+    if !is_hexadecimal(digits) {
+        return None;
+    }
+    let text = str::from_utf8(digits).ok()?;
+    u64::from_str_radix(text, 16).ok()
+}
+
+fn is_decimal(word: &[u8]) -> bool
+    ensures { result ≡ is_decimal word.now }
+{
+    has_no_leading_zero(word) && all_digits(word)
+}
+
+fn is_hexadecimal(digits: &[u8]) -> bool
+    ensures { result ≡ is_hexadecimal digits.now }
+{
+    has_no_leading_zero(digits) && all_hex_digits(digits)
+}
+
+fn has_no_leading_zero(digits: &[u8]) -> bool
+    ensures { result ≡ has_no_leading_zero digits.now }
+{
+    match digits {
+        [] => false,
+        [_] => true,
+        [first, ..] => *first != b'0',
+    }
+}
+
+fn all_digits(word: &[u8]) -> bool
+    ensures { result ≡ list_all is_ascii_digit word.now }
+{
+    word.iter().all(|byte| byte.is_ascii_digit())
+}
+
+fn all_hex_digits(word: &[u8]) -> bool
+    ensures { result ≡ list_all is_hex_digit word.now }
+{
+    word.iter()
+        .all(|byte| matches!(byte, b'0'..=b'9' | b'a'..=b'f'))
+}

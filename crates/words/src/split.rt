@@ -1,0 +1,21 @@
+ghost use Rattle.std.specs.Prelude.{◌≡◌, ◌==◌, ℕ, [], ◌∷◌, MatchOption, IfSome, ◌<◌, length, position};
+ghost use Rattle.std.specs.List.{slice_split};
+
+/// What stands before and after the first `byte`, or `None` where there is none.
+#[tactic(auto, using(crate::proofs::Splits::split_round, crate::proofs::Splits::split_nowhere))]
+pub(crate) fn split_first_at(byte: u8, bytes: &[u8]) -> Option<(&[u8], &[u8])>
+    ensures parts { MatchOption result
+        (slice_split (λ b. b == byte) bytes.now ≡ bytes.now ∷ [])
+        (λ parts. slice_split (λ b. b == byte) bytes.now
+        ≡ parts.0.now ∷ slice_split (λ b. b == byte) parts.1.now) }
+    ensures shorter { IfSome result (λ parts. length parts.1.now < length bytes.now) }
+{
+    let at = position_of(byte, bytes)?;
+    Some((&bytes[..at], &bytes[at + 1..]))
+}
+
+fn position_of(byte: u8, bytes: &[u8]) -> Option<usize>
+    ensures { result ≡ position (λ b. b == byte) bytes.now }
+{
+    bytes.iter().position(|b| *b == byte)
+}

@@ -1,0 +1,107 @@
+ghost use Rattle.std.specs.Prelude.{◌≡◌, ◌+◌, ◌∷◌, ℕ, List, map, MatchOption};
+ghost use Rattle.std.specs.List.{AllByRecursion};
+ghost use Rattle.words.specs.Text.{lines_of, text_of, words_of, IsOver, IsPlainLine};
+ghost use Rattle.words.specs.Fault.{fault_at, fault_of};
+ghost use Rattle.words.specs.Reading.{Gives, header_at, end_at};
+
+use crate::faults::{Cause, Fault, Wrong};
+use crate::line::Words;
+use crate::split::split_first_at;
+use std::marker::Model;
+
+/// The lines of a text, taken one after another. It takes no memory.
+#[derive(Drop)]
+pub struct Lines<'a> {
+    rest: &'a [u8],
+    taken: u64,
+}
+
+impl<'a> Model for Lines<'a> {
+    ghost use Rattle.std.specs.Prelude.{◌+◌, ◌^◌, ◌<◌, length};
+    ghost use Rattle.words.specs.Text.{lines_of, Place};
+
+    ghost Value = { Place };
+
+    ghost view = { λ l. record { taken = l.taken; lines = lines_of l.rest.now } };
+
+    ghost invariant = { λ l. l.taken + length l.rest.now < 2 ^ 63 };
+}
+
+impl<'a> Lines<'a> {
+    /// The lines of `text`, none of them taken.
+    #[tactic(auto, using(crate::proofs::TextLaws::spelled, crate::proofs::TextLaws::text_lines))]
+    pub fn new(text: &'a [u8]) -> Lines<'a>
+        ensures exact { result ≡ record { taken = 0; lines = lines_of text.now } }
+        ensures found { (lines : List (List (List ℕ)))
+            → result.lines ≡ map (λ line. Some line) lines → text.now ≡ text_of lines }
+        ensures only { (lines : List (List (List ℕ))) → AllByRecursion IsPlainLine lines
+            → text.now ≡ text_of lines → result.lines ≡ map (λ line. Some line) lines }
+    {
+        Lines {
+            rest: text,
+            taken: 0,
+        }
+    }
+
+    /// The words of the next line, or `None` where no line follows that a line feed ends.
+    #[tactic(auto, using(crate::proofs::Splits::line_first, crate::proofs::Splits::over_nowhere))]
+    pub fn next_line(&mut self) -> Option<Words<'a>>
+        ensures { MatchOption result
+            (IsOver self.old.lines × (self.new ≡ self.old))
+            (λ words. (self.old.lines ≡ Some words ∷ self.new.lines) × (self.new.taken ≡ self.old.taken + 1)) }
+    {
+        let (line, later) = split_first_at(b'\n', self.rest)?;
+        self.rest = later;
+        self.taken += 1;
+        Some(Words::new(line))
+    }
+
+    /// Takes the header, whose words are those of `expected`.
+    #[tactic(auto, unfolding(crate::specs::Reading::header_at))]
+    pub fn header(&mut self, expected: &[u8]) -> Result<(), Fault>
+        ensures { Gives (λ _. self.new) result (header_at (words_of expected.now) self.old) }
+    {
+        match self.next_line() {
+            Some(words) if words.is(expected) => Ok(()),
+            Some(_) => Err(self.here(Wrong::Syntax)),
+            None => Err(self.after(Wrong::Syntax)),
+        }
+    }
+
+    /// Asks that nothing follows the lines that were taken.
+    #[tactic(auto, using(crate::proofs::Splits::end_some, crate::proofs::Splits::end_none))]
+    pub fn end(&self) -> Result<(), Fault>
+        ensures { result ≡ end_at self.now }
+    {
+        if self.rest.is_empty() {
+            Ok(())
+        } else {
+            Err(self.after(Wrong::Syntax))
+        }
+    }
+
+    /// A fault of the line that was taken last.
+    pub fn here(&self, wrong: Wrong) -> Fault
+        ensures { result ≡ fault_at self.now.taken wrong }
+    {
+        Fault::at(wrong, self.taken)
+    }
+
+    /// A fault of the line that comes next, or is missing.
+    pub fn after(&self, wrong: Wrong) -> Fault
+        ensures { result ≡ fault_at (self.now.taken + 1) wrong }
+    {
+        Fault::at(wrong, self.taken + 1)
+    }
+
+    /// What stopped the line that was taken last, as a fault of the text.
+    #[tactic(auto, unfolding(crate::specs::Fault::fault_of))]
+    pub fn stopped(&self, cause: Cause) -> Fault
+        ensures { result ≡ fault_of self.now.taken cause }
+    {
+        match cause {
+            Cause::Memory => Fault::MEMORY,
+            Cause::Text(wrong) => self.here(wrong),
+        }
+    }
+}
