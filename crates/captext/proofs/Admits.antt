@@ -1,0 +1,43 @@
+-- The tests of a capability's line are what the table asks of a capability.
+use Rattle.std.proofs.Common.{◌≡◌, ◌≢◌, ◌&&◌, Bool, true, false, Option, Some, None, refl, arith, option_map}
+use Rattle.base.specs.declared.ids.ObjId.{ObjId}
+use Rattle.machine.specs.declared.cap.Detail.{Detail}
+use Rattle.machine.specs.declared.cap.Detail.TheVariants as d
+use Rattle.machine.specs.declared.layout.Initial.{Initial}
+use Rattle.machine.specs.declared.object.ObjectKind.{ObjectKind}
+use Rattle.machine.specs.declared.object.ObjectKind.TheVariants as kind
+use Rattle.machine.specs.Capabilities.{kind_of_detail}
+use Rattle.machine.specs.Layout.{Layout, initial_of}
+use Rattle.machine.specs.Objects.{kind_of_object}
+use Rattle.table.specs.Building.{may_hold, repeats_untyped, AdmitsCap, is_above_caps, declares_slot, is_fitting}
+use Rattle.table.specs.Rules.{is_tcb, kind_at}
+use Rattle.captext.specs.declared.shapes.Place.{Place}
+use Rattle.captext.specs.declared.shapes.Place.TheVariants as place
+use Rattle.captext.specs.Tables.{may_fill, slot_in, capability}
+
+-- a capability that may be at its place may be in its holder
+held_at : (holder : Option Initial) (at : Place) (target : Option ObjectKind) (detail : Detail) → may_fill (option_map (λ initial. kind_of_object initial.object) holder) at target ≡ true → target ≡ Some (kind_of_detail detail) → may_hold holder detail ≡ true
+held_at holder at target detail fills is = grind arith
+
+may_be_held : (t : Layout) (holder : ObjId) (at : Place) (target : ObjId) (detail : Detail) → may_fill (kind_at t holder) at (kind_at t target) ≡ true → kind_at t target ≡ Some (kind_of_detail detail) → may_hold (initial_of t holder) detail ≡ true
+unfolding kind_at
+may_be_held t holder at target detail fills is = held_at (initial_of t holder) at _ detail fills is
+
+never_repeats : (t : Layout) (target : ObjId) (detail : Detail) → kind_of_detail detail ≢ kind.Untyped → repeats_untyped t (capability target detail) ≡ false
+never_repeats t target d.Untyped typed = absurd (typed refl)
+never_repeats t target (d.CNode _) typed = refl
+never_repeats t target d.Tcb typed = refl
+never_repeats t target (d.Endpoint _) typed = refl
+never_repeats t target (d.Notification _) typed = refl
+never_repeats t target d.Reply typed = refl
+never_repeats t target d.Context typed = refl
+never_repeats t target (d.Frame _) typed = refl
+never_repeats t target d.Control typed = refl
+
+-- the table asks no more
+pub admits_cap :
+    (t : Layout) (holder : ObjId) (at : Place) (target : ObjId) (detail : Detail) → is_above_caps t (slot_in holder at) ≡ true → declares_slot t (slot_in holder at) ≡ true
+    → may_fill (kind_at t holder) at (kind_at t target) ≡ true → is_fitting t (capability target detail) ≡ true → kind_at t target ≡ Some (kind_of_detail detail) → kind_of_detail detail ≢ kind.Untyped
+    → AdmitsCap t (record { slot = slot_in holder at; cap = capability target detail })
+admits_cap t holder at target detail rises within fills fitting is typed =
+    record { rises = rises; slot = within; root = may_be_held t holder at target detail fills is; fits = fitting; once = never_repeats t target detail typed; original = refl }

@@ -1,0 +1,108 @@
+ghost use Rattle.std.specs.Prelude.{◌≡◌, ◌==◌, position, option_map};
+ghost use Rattle.captext.specs.Shapes as shape;
+ghost use Rattle.words.specs.Reading.{Gives};
+
+use base::Rights;
+use words::{Words, Wrong, decimal_of, hexadecimal_of, name_of};
+
+/// A slot of an object.
+#[derive(Clone, Copy, PartialEq, Eq, Debug)]
+pub enum Place {
+    /// A slot of a CNode.
+    Index(u64),
+    /// The root slot of a TCB.
+    Root,
+}
+
+/// A word after the object in a line for a capability.
+#[derive(Clone, Copy, PartialEq, Eq, Debug)]
+pub enum Term {
+    Rights(Rights),
+    Decimal(u64),
+    Hexadecimal(u64),
+}
+
+/// The share of a core as it is written, within the limits or not.
+#[derive(Clone, Copy, PartialEq, Eq, Debug)]
+pub struct ShareTerms {
+    pub core: u64,
+    pub budget: u64,
+    pub period: u64,
+}
+
+#[tactic(auto, unfolding(crate::specs::Shapes::place_of))]
+fn place_of(word: &[u8]) -> Option<Place>
+    ensures { result ≡ shape.place_of word.now }
+{
+    if word == b"root".as_slice() {
+        Some(Place::Root)
+    } else {
+        decimal_of(word).map(Place::Index)
+    }
+}
+
+/// Where the first dot is.
+fn dot_of(word: &[u8]) -> Option<usize>
+    ensures { result ≡ position (λ b. b == 46) word.now }
+{
+    word.iter().position(|byte| *byte == b'.')
+}
+
+/// A slot as it is spelled: its holder's name, a dot, and its place there.
+#[tactic(auto, unfolding(crate::specs::Shapes::slot_of))]
+fn slot_of(word: &[u8]) -> Option<(&str, Place)>
+    ensures { option_map (λ slot. (slot.0.now, slot.1)) result ≡ shape.slot_of word.now }
+{
+    let dot = dot_of(word)?;
+    let name = name_of(&word[..dot])?;
+    let place = place_of(&word[dot + 1..])?;
+    Some((name, place))
+}
+
+/// The next word as a slot.
+#[tactic(auto, unfolding(crate::specs::Shapes::slot_at, words::specs::Reading::word_at, words::specs::Reading::or_syntax, words::specs::Reading::bind))]
+pub fn slot<'a>(words: &mut Words<'a>) -> Result<(&'a str, Place), Wrong>
+    ensures { Gives (λ slot. ((slot.0.now, slot.1), words.new)) result (shape.slot_at words.old) }
+{
+    let word = words.word()?;
+    slot_of(word).ok_or(Wrong::Syntax)
+}
+
+#[tactic(auto, unfolding(crate::specs::Shapes::term_of))]
+fn term_of(word: &[u8]) -> Option<Term>
+    ensures { result ≡ shape.term_of word.now }
+{
+    if let Some(rights) = Rights::from_word(word) {
+        return Some(Term::Rights(rights));
+    }
+    if let Some(number) = decimal_of(word) {
+        return Some(Term::Decimal(number));
+    }
+    hexadecimal_of(word).map(Term::Hexadecimal)
+}
+
+/// One term, and one more if a word is left.
+#[tactic(auto, unfolding(crate::specs::Shapes::terms_from, words::specs::Reading::or_syntax, words::specs::Reading::bind))]
+fn terms_from(one: &[u8], words: &mut Words<'_>) -> Result<(Option<Term>, Option<Term>), Wrong>
+    ensures { result ≡ shape.terms_from one.now words.old }
+{
+    let Some(two) = words.next_word() else {
+        let first = term_of(one).ok_or(Wrong::Syntax)?;
+        return Ok((Some(first), None));
+    };
+    words.end()?;
+    let first = term_of(one).ok_or(Wrong::Syntax)?;
+    let second = term_of(two).ok_or(Wrong::Syntax)?;
+    Ok((Some(first), Some(second)))
+}
+
+/// The words left, which are at most two terms.
+#[tactic(auto, unfolding(crate::specs::Shapes::terms_at))]
+pub fn terms(words: &mut Words<'_>) -> Result<(Option<Term>, Option<Term>), Wrong>
+    ensures { result ≡ shape.terms_at words.old }
+{
+    match words.next_word() {
+        None => Ok((None, None)),
+        Some(one) => terms_from(one, words),
+    }
+}

@@ -1,0 +1,67 @@
+ghost use Rattle.std.specs.Prelude.{◌≡◌};
+ghost use Rattle.captext.specs.Tables as tables;
+ghost use Rattle.machine.specs.Layout.{empty_layout};
+ghost use Rattle.words.specs.Reading.{Makes, Reads};
+
+use crate::caps::{bind_line, cap_line};
+use crate::objects::{cnode_line, context_line, label_line, notification_line, tcb_line};
+use std::alloc::Global;
+use table::Table;
+use words::{Cause, Fault, Lines, Words, Wrong};
+
+/// Reads one line of a table, and adds its part.
+#[tactic(auto, unfolding(crate::specs::Tables::table_line, crate::specs::Tables::line_by, words::specs::Reading::bind))]
+fn table_line(table: &mut Table, words: &mut Words<'_>) -> Result<(), Cause>
+    ensures { Makes (λ _. table.new) result (tables.table_line table.old words.old) }
+{
+    let keyword = words.word()?;
+    if keyword == b"label".as_slice() {
+        label_line(table, words)
+    } else if keyword == b"cnode".as_slice() {
+        cnode_line(table, words)
+    } else if keyword == b"tcb".as_slice() {
+        tcb_line(table, words)
+    } else if keyword == b"notification".as_slice() {
+        notification_line(table, words)
+    } else if keyword == b"context".as_slice() {
+        context_line(table, words)
+    } else if keyword == b"cap".as_slice() {
+        cap_line(table, words)
+    } else if keyword == b"bind".as_slice() {
+        bind_line(table, words)
+    } else {
+        Err(Cause::Text(Wrong::Syntax))
+    }
+}
+
+/// Reads the text of a capability table into an empty one.
+#[tactic(auto, using(words::proofs::ReadingLaws::begins, words::proofs::ReadingLaws::no_beginning, words::proofs::ReadingLaws::goes_on, words::proofs::ReadingLaws::stops_by, words::proofs::ReadingLaws::no_more, words::proofs::ReadingLaws::ends_well, words::proofs::ReadingLaws::ends_badly), unfolding(crate::specs::Tables::read_table_of, words::specs::Reading::bind))]
+fn read_into(table: &mut Table, text: &[u8]) -> Result<(), Fault>
+    requires { table.old ≡ empty_layout }
+    ensures { Reads (λ _. table.new) result (tables.read_table_of text.now) }
+{
+    let mut lines = Lines::new(text);
+    lines.header(b"confine-table 1")?;
+    while let Some(mut words) = lines.next_line() {
+        if words.is(b"end") {
+            return lines.end();
+        }
+        if let Err(cause) = table_line(table, &mut words) {
+            return Err(lines.stopped(cause));
+        }
+    }
+    Err(lines.after(Wrong::Syntax))
+}
+
+/// Reads the text of a capability table.
+///
+/// # Errors
+///
+/// The fault of the first faulty line, or 40 where memory is refused.
+pub fn read_table(alloc: Global, text: &[u8]) -> Result<Table, Fault>
+    ensures exact { Reads (λ table. table) result (tables.read_table_of text.now) }
+{
+    let mut table = Table::new(alloc);
+    read_into(&mut table, text)?;
+    Ok(table)
+}

@@ -1,0 +1,151 @@
+-- A table with a filled slot more keeps the rules.
+use Rattle.std.proofs.Common.{◌≡◌, ◌≢◌, ℕ, ◌<◌, true, false, ◌&&◌, length, get_or, Option, None, Some, refl, sym, ap, ◌∙◌, arith}
+use Rattle.std.proofs.lemmas.Bool.{false≢true, not-true, ltb-true, leb-true, and_parts}
+use Rattle.std.proofs.lemmas.List.Elements.{All-push, All-weaker}
+use Rattle.std.proofs.lemmas.List.Quantifiers.{all_pairs_push}
+use Rattle.std.specs.Ordering.{is_lt, is_eq}
+use Rattle.std.specs.declared.cmp.Ordering.TheVariants.{Less, Equal, Greater}
+use Rattle.std.specs.declared.cmp.Ordering.{Ordering}
+use Rattle.std.proofs.lemmas.Cmp.{tied_itself}
+use Rattle.std.proofs.lemmas.Option.{slice_get_within}
+use Rattle.base.specs.declared.ids.SlotRef.{SlotRef}
+use Rattle.machine.specs.declared.cap.Cap.{Cap}
+use Rattle.machine.specs.declared.cap.Detail.{Detail}
+use Rattle.machine.specs.declared.cap.Detail.TheVariants as d
+use Rattle.machine.specs.declared.layout.Filled.{Filled}
+use Rattle.machine.specs.declared.layout.Initial.{Initial}
+use Rattle.machine.specs.declared.object.Object.{Object}
+use Rattle.machine.specs.declared.object.Object.TheVariants as o
+use Rattle.machine.specs.declared.object.ObjectKind.TheVariants as kind
+use Rattle.machine.specs.Capabilities.{kind_of_detail}
+use Rattle.machine.specs.Layout.{Layout, initial_of}
+use Rattle.machine.specs.Machine.{slot_cmp, slot_total, same_id, id_total}
+use Rattle.machine.specs.Objects.{kind_of_object, slot_count}
+use Rattle.table.specs.Building.{AdmitsCap, declares_slot, is_above_caps, has_index, may_hold, fits, fits_target, is_fitting, is_above_filled, is_for_untyped, has_cap_to, repeats_untyped, with_filled}
+use Rattle.table.specs.Rules.{IsLawful, IsObjectOf, IsCapOf, IsDetailOf, is_tcb, slot_total as table_slots, thread_total}
+use Rattle.table.proofs.LawfulKept.{caps_kept, bindings_kept}
+use Rattle.table.proofs.ListLemmas.{all_from_last, not_any}
+
+detail_fits : (object : Object) (detail : Detail) → fits object detail ≡ true → IsDetailOf object detail
+detail_fits (o.Untyped _) d.Untyped e = tt
+detail_fits (o.CNode node) (d.CNode guard) e = let parts = and_parts _ _ e in (leb-true _ _ parts.0, ltb-true _ _ parts.1)
+detail_fits (o.Tcb _) d.Tcb e = tt
+detail_fits (o.Endpoint _) (d.Endpoint end) e = ltb-true _ _ e
+detail_fits (o.Notification _) (d.Notification end) e = ltb-true _ _ e
+detail_fits (o.Reply _) d.Reply e = tt
+detail_fits (o.Context _) d.Context e = tt
+detail_fits (o.Frame _) (d.Frame rights) e = ltb-true _ _ e
+detail_fits (o.Control _) d.Control e = tt
+detail_fits _ _ e = absurd (false≢true e)
+
+-- a slot that is there has a holder
+pub holder_of : (found : Option Initial) (index : ℕ) → has_index found index ≡ true → (holder : Initial) × (found ≡ Some holder) × (index < slot_count holder.object)
+holder_of None index e = absurd (false≢true e)
+holder_of (Some holder) index e = (holder, refl, ltb-true _ _ e)
+
+-- a capability that fits has an object
+pub target_of : (found : Option Initial) (detail : Detail) → fits_target found detail ≡ true → (target : Initial) × (found ≡ Some target) × IsDetailOf target.object detail
+target_of None detail e = absurd (false≢true e)
+target_of (Some target) detail e = (target, refl, detail_fits target.object detail e)
+
+no_tcb : (object : Object) → is_tcb object ≡ false → kind_of_object object ≡ kind.Tcb → ⊥
+no_tcb (o.Tcb _) e at = false≢true (sym e)
+no_tcb (o.Untyped _) e at = cc
+no_tcb (o.CNode _) e at = cc
+no_tcb (o.Endpoint _) e at = cc
+no_tcb (o.Notification _) e at = cc
+no_tcb (o.Reply _) e at = cc
+no_tcb (o.Context _) e at = cc
+no_tcb (o.Frame _) e at = cc
+no_tcb (o.Control _) e at = cc
+
+-- a capability that fits is for an object with a small number
+pub aimed_low : (t : Layout) (cap : Cap) → IsLawful t → is_fitting t cap ≡ true → cap.object.0 < 281474976710656
+unfolding initial_of is_fitting
+aimed_low t cap h e =
+    let target = target_of _ _ e in
+    let within = slice_get_within t.objects cap.object.0 target.0 target.1 in
+    let few = h.few_objects in
+    omega arith
+
+-- a thread's root slot holds a CNode's capability
+root_holds : (holder : Initial) (detail : Detail) → may_hold (Some holder) detail ≡ true → kind_of_object holder.object ≡ kind.Tcb → kind_of_detail detail ≡ kind.CNode
+root_holds holder (d.CNode _) e at = refl
+root_holds holder d.Untyped e at = absurd (no_tcb holder.object (not-true _ e) at)
+root_holds holder d.Tcb e at = absurd (no_tcb holder.object (not-true _ e) at)
+root_holds holder (d.Endpoint _) e at = absurd (no_tcb holder.object (not-true _ e) at)
+root_holds holder (d.Notification _) e at = absurd (no_tcb holder.object (not-true _ e) at)
+root_holds holder d.Reply e at = absurd (no_tcb holder.object (not-true _ e) at)
+root_holds holder d.Context e at = absurd (no_tcb holder.object (not-true _ e) at)
+root_holds holder (d.Frame _) e at = absurd (no_tcb holder.object (not-true _ e) at)
+root_holds holder d.Control e at = absurd (no_tcb holder.object (not-true _ e) at)
+
+is_less : (r : Ordering) → is_lt r ≡ true → r ≡ Less
+is_less Less e = refl
+is_less Equal e = absurd (false≢true e)
+is_less Greater e = absurd (false≢true e)
+
+-- slots below the last are below the new one
+below_new : (t : Layout) (slot : SlotRef) → IsLawful t → is_above_caps t slot ≡ true → (k : ℕ) (d : Filled) → k < length t.caps → slot_cmp (get_or t.caps k d).slot slot ≡ Less
+unfolding is_above_caps
+below_new t slot h above =
+    all_from_last (λ one other. slot_cmp one.slot other.slot ≡ Less) (λ filled. slot_cmp filled.slot slot ≡ Less)
+    (λ one other less below. slot_total.trans one.slot other.slot slot less below) t.caps h.caps_rise
+    (λ last at. is_less _ (sym (ap (λ found. is_above_filled found slot) at) ∙ above))
+
+untyped_at : (detail : Detail) → kind_of_detail detail ≡ kind.Untyped → is_for_untyped detail ≡ true
+untyped_at d.Untyped e = refl
+untyped_at (d.CNode _) e = cc
+untyped_at d.Tcb e = cc
+untyped_at (d.Endpoint _) e = cc
+untyped_at (d.Notification _) e = cc
+untyped_at d.Reply e = cc
+untyped_at d.Context e = cc
+untyped_at (d.Frame _) e = cc
+untyped_at d.Control e = cc
+
+other_object : (t : Layout) (cap : Cap) → repeats_untyped t cap ≡ false → kind_of_detail cap.detail ≡ kind.Untyped → (k : ℕ) (d : Filled) → k < length t.caps → (get_or t.caps k d).cap.object ≢ cap.object
+unfolding has_cap_to
+other_object t cap once at k d within same =
+    let none : has_cap_to t cap.object ≡ false = sym (ap (λ b. b && has_cap_to t cap.object) (untyped_at cap.detail at)) ∙ once in
+    let missed = not_any (λ filled. same_id filled.cap.object cap.object) t.caps none k d within in
+    false≢true (sym missed ∙ ap (λ id. same_id id cap.object) same ∙ ap is_eq (tied_itself id_total cap.object))
+
+pub lawful_filled : (t : Layout) (filled : Filled) → IsLawful t → AdmitsCap t filled → IsLawful (with_filled t filled)
+unfolding initial_of declares_slot is_fitting table_slots thread_total
+lawful_filled t filled h admits = record {
+  few_labels = h.few_labels;
+  label_names = h.label_names;
+  labels_differ = h.labels_differ;
+  object_names = h.object_names;
+  names_differ = h.names_differ;
+  each_named = h.each_named;
+  few_objects = h.few_objects;
+  few_slots = h.few_slots;
+  few_threads = h.few_threads;
+  objects = All-weaker (IsObjectOf t) (IsObjectOf (with_filled t filled)) (λ i o. record { label = o.label; blank = o.blank; aligned = o.aligned; end = o.end }) t.objects h.objects;
+  objects_apart = h.objects_apart;
+  controls_differ = h.controls_differ;
+  caps =
+      All-push (IsCapOf (with_filled t filled)) t.caps filled (caps_kept t (with_filled t filled) (λ id initial e. e) refl t.caps h.caps)
+      (let holder = holder_of _ _ admits.slot in
+      let target = target_of _ _ admits.fits in
+      record {
+        holder = holder.0;
+        target = target.0;
+        held = holder.1;
+        aimed = target.1;
+        slot = holder.2;
+        root = root_holds holder.0 filled.cap.detail (sym (ap (λ found. may_hold found filled.cap.detail) holder.1) ∙ admits.root);
+        detail = target.2;
+        original = λ _. admits.original;
+      });
+  caps_rise = all_pairs_push (λ one other. slot_cmp one.slot other.slot ≡ Less) t.caps filled h.caps_rise (below_new t filled.slot h admits.rises);
+  untypeds_once =
+      all_pairs_push (λ one other. kind_of_detail other.cap.detail ≡ kind.Untyped → one.cap.object ≢ other.cap.object) t.caps filled h.untypeds_once
+      (λ k d within at. other_object t filled.cap admits.once at k d within);
+  underived = h.underived;
+  bindings = bindings_kept t (with_filled t filled) (λ id initial e. e) t.bindings h.bindings;
+  bindings_rise = h.bindings_rise;
+  contexts_differ = h.contexts_differ;
+}

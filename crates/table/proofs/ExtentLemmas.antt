@@ -1,0 +1,81 @@
+-- How many bytes an object of so many bits takes, and that those of an object below `2^48` are few.
+use Rattle.std.proofs.Common.{◌≡◌, ℕ, ◌+◌, ◌-◌, ◌*◌, ◌%◌, ◌^◌, ◌<◌, ◌≤◌, ◌⊎◌, nat_le, nat_lt, ◌&&◌, ◌||◌, List, [], ◌∷◌, map, Some, None, refl, sym, ap, ◌∙◌, arith, inl, inr}
+use Rattle.std.proofs.lemmas.Bool.{cases_lt}
+use Rattle.std.proofs.Math.Pow.{pow_mono}
+use Rattle.std.proofs.lemmas.Bool.Decides.{nat_tests}
+use Rattle.std.proofs.lemmas.Grind.{one_shifted}
+use Rattle.std.proofs.lemmas.Option.{same_Some, none-some}
+use Rattle.std.specs.List.{list_any}
+use Rattle.machine.specs.declared.layout.Initial.{Initial}
+use Rattle.machine.specs.declared.object.Object.{Object}
+use Rattle.machine.specs.declared.object.Object.TheVariants as o
+use Rattle.machine.specs.Objects.{address_of, size_of, end_of, size_bits}
+use Rattle.table.specs.declared.extent.Extent.{Extent}
+use Rattle.table.specs.Inventory.{extent_of}
+use Rattle.table.specs.Placement.{meets}
+
+pub size_of-bits : (object : Object) (bits : ℕ) → size_bits object ≡ Some bits → size_of object ≡ 2 ^ bits
+size_of-bits (o.Untyped memory) bits e = ap (λ n. 2 ^ n) (same_Some memory.bits bits e)
+size_of-bits (o.CNode node) bits e = ap (λ n. 2 ^ n) (same_Some (node.radix + 5) bits e)
+size_of-bits (o.Tcb _) bits e = ap (λ n. 2 ^ n) (same_Some 10 bits e)
+size_of-bits (o.Endpoint _) bits e = ap (λ n. 2 ^ n) (same_Some 4 bits e)
+size_of-bits (o.Notification _) bits e = ap (λ n. 2 ^ n) (same_Some 5 bits e)
+size_of-bits (o.Reply _) bits e = ap (λ n. 2 ^ n) (same_Some 5 bits e)
+size_of-bits (o.Context _) bits e = ap (λ n. 2 ^ n) (same_Some 8 bits e)
+size_of-bits (o.Frame _) bits e = ap (λ n. 2 ^ n) (same_Some 12 bits e)
+size_of-bits (o.Control _) bits e = absurd (none-some bits e)
+
+pub size_of-none : (object : Object) → size_bits object ≡ None → size_of object ≡ 0
+size_of-none (o.Untyped memory) e = absurd (none-some memory.bits (sym e))
+size_of-none (o.CNode node) e = absurd (none-some (node.radix + 5) (sym e))
+size_of-none (o.Tcb _) e = absurd (none-some 10 (sym e))
+size_of-none (o.Endpoint _) e = absurd (none-some 4 (sym e))
+size_of-none (o.Notification _) e = absurd (none-some 5 (sym e))
+size_of-none (o.Reply _) e = absurd (none-some 5 (sym e))
+size_of-none (o.Context _) e = absurd (none-some 8 (sym e))
+size_of-none (o.Frame _) e = absurd (none-some 12 (sym e))
+size_of-none (o.Control _) e = refl
+
+-- more than 48 bits don't fit below `2^48`
+few_bits : (start bits : ℕ) → start + 2 ^ bits ≤ 281474976710656 → bits ≤ 48
+few_bits start bits h = by (cases_lt 48 bits) where
+  by : (48 < bits) ⊎ (bits ≤ 48) → bits ≤ 48
+  by (inr few) = few
+  by (inl many) = let large : 562949953421312 ≤ 2 ^ bits = pow_mono {i = 49} {j = bits} many in omega (arith, large)
+
+pub small : (object : Object) (bits : ℕ) → size_bits object ≡ Some bits → end_of object ≤ 281474976710656 → bits ≤ 48
+small object bits e h = few_bits (address_of object) bits (let same : size_of object ≡ 2 ^ bits = size_of-bits object bits e in omega (arith, same, h))
+
+pub shifted : (bits : ℕ) → bits ≤ 48 → (1 * 2 ^ bits % 18446744073709551616 ≡ 2 ^ bits) × (2 ^ bits ≤ 281474976710656)
+shifted bits few = ((one_shifted bits 18446744073709551615 refl (omega arith)).0, pow_mono {i = bits} {j = 48} few)
+
+pub few_fit : (object : Object) (bits : ℕ) → size_bits object ≡ Some bits → bits ≤ 48
+    → nat_le (address_of object) (281474976710656 - 1 * 2 ^ bits % 18446744073709551616) ≡ nat_le (end_of object) 281474976710656
+few_fit object bits e few =
+    let size : size_of object ≡ 2 ^ bits = size_of-bits object bits e in
+    let shift : 1 * 2 ^ bits % 18446744073709551616 ≡ 2 ^ bits = (shifted bits few).0 in
+    let below : 2 ^ bits ≤ 281474976710656 = (shifted bits few).1 in
+    rw shift (compared (address_of object) (2 ^ bits) (size_of object) size below) where
+      compared : (start power size : ℕ) → size ≡ power → power ≤ 281474976710656 → nat_le start (281474976710656 - power) ≡ nat_le (start + size) 281474976710656
+      compared start power size e h = grind (arith, nat_tests)
+
+pub many_exceed : (object : Object) (bits : ℕ) → size_bits object ≡ Some bits → 48 < bits → nat_le bits 48 ≡ nat_le (end_of object) 281474976710656
+many_exceed object bits e many =
+    let size : size_of object ≡ 2 ^ bits = size_of-bits object bits e in
+    let large : 562949953421312 ≤ 2 ^ bits = pow_mono {i = 49} {j = bits} many in
+    compared (address_of object) bits (2 ^ bits) (size_of object) size large many where
+      compared : (start bits power size : ℕ) → size ≡ power → 562949953421312 ≤ power → 48 < bits → nat_le bits 48 ≡ nat_le (start + size) 281474976710656
+      compared start bits power size e h many = grind (arith, nat_tests)
+
+-- an object meets the extents of others where it meets the others
+met_extents : (extent : Extent) (object : Object) (objects : List Initial) → extent.start ≡ address_of object → extent.end ≡ end_of object
+    → list_any (λ other. nat_lt other.start extent.end && nat_lt extent.start other.end) (map (λ initial. extent_of initial.object) objects) ≡ list_any (λ initial. meets initial.object object) objects
+met_extents extent object [] start end = refl
+met_extents extent object (initial ∷ objects) start end =
+    λ i. (nat_lt (address_of initial.object) (end i) && nat_lt (start i) (end_of initial.object)) || met_extents extent object objects start end i
+
+pub meets_any-extents : (extent : Extent) (object : Object) (extents : List Extent) (objects : List Initial) → extents ≡ map (λ initial. extent_of initial.object) objects
+    → extent.start ≡ address_of object → extent.end ≡ end_of object
+    → list_any (λ other. nat_lt other.start extent.end && nat_lt extent.start other.end) extents ≡ list_any (λ initial. meets initial.object object) objects
+meets_any-extents extent object extents objects same start end =
+    ap (list_any (λ other. nat_lt other.start extent.end && nat_lt extent.start other.end)) same ∙ met_extents extent object objects start end

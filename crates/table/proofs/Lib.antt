@@ -1,0 +1,9 @@
+pub mod NameLemmas
+pub mod ExtentLemmas
+pub mod ListLemmas
+pub mod LawfulKept
+pub mod LabelAdded
+pub mod ObjectAdded
+pub mod CapAdded
+pub mod BindingAdded
+pub mod SearchLemmas

@@ -1,0 +1,30 @@
+-- Lists that grow at their end: what stays at its place, and what holds of each element and the new one.
+use Rattle.std.proofs.Common.{◌≡◌, ℕ, zero, suc, ◌-◌, ◌<◌, ◌≤◌, ◌⊎◌, Bool, false, List, [], ◌∷◌, ◌++◌, length, get_or, slice_get, Some, All, AllPairs, sym, ◌∙◌, subst, inl, inr, arith}
+use Rattle.std.proofs.lemmas.Bool.{false_from_ne_true, false≢true, cases_lt}
+use Rattle.std.proofs.lemmas.List.Folds.{list_any_at}
+use Rattle.std.proofs.lemmas.Option.{none-some, slice_get-get_or}
+use Rattle.std.specs.List.{list_any}
+
+-- no element passes a test that none passes
+pub not_any : {X : Type 0} (p : X → Bool) (xs : List X) → list_any p xs ≡ false → (k : ℕ) (d : X) → k < length xs → p (get_or xs k d) ≡ false
+not_any p xs none k d within = false_from_ne_true (p (get_or xs k d)) (λ hit. false≢true (sym none ∙ list_any_at p xs k d within hit))
+
+pub slice_get-append_left : {X : Type 0} (xs ys : List X) (i : ℕ) (x : X) → slice_get xs i ≡ Some x → slice_get (xs ++ ys) i ≡ Some x
+slice_get-append_left [] ys i x e = absurd (none-some x e)
+slice_get-append_left (y ∷ xs) ys zero x e = e
+slice_get-append_left (y ∷ xs) ys (suc i) x e = slice_get-append_left xs ys i x e
+
+-- an empty list has no two places
+pub no_pair : {P : Type 0} (i j : ℕ) → i < j → j < 0 → P
+no_pair i j lower within = absurd (omega arith)
+
+-- what holds of the last element of a rising list, and so of each below it, holds of all
+pub all_from_last : {X : Type 0} (R : X → X → Type 0) (P : X → Type 0) → ((x y : X) → R x y → P y → P x) → (xs : List X)
+    → AllPairs R xs → ((x : X) → slice_get xs (length xs - 1) ≡ Some x → P x) → All P xs
+all_from_last R P down xs rising last k d within = by (cases_lt k (length xs - 1)) where
+  at_last : length xs - 1 < length xs → P (get_or xs (length xs - 1) d)
+  at_last lt = last (get_or xs (length xs - 1) d) (slice_get-get_or xs (length xs - 1) d lt)
+
+  by : (k < length xs - 1) ⊎ (length xs - 1 ≤ k) → P (get_or xs k d)
+  by (inl lower) = let lt : length xs - 1 < length xs = omega arith in down _ _ (rising k (length xs - 1) d lower lt) (at_last lt)
+  by (inr upper) = let same : length xs - 1 ≡ k = omega arith in subst (λ i. P (get_or xs i d)) same (at_last (omega arith))

@@ -1,0 +1,7 @@
+-- An object below `2^48` has at most 48 bits.
+use Rattle.std.proofs.Common.{arith, ◌≤◌, sym, ◌∙◌}
+use Rattle.table.proofs.ExtentLemmas.{small}
+use Rattle.table.proofs.extent.Extent.of.Goals as goal
+
+pub overflow_shl-end : goal.overflow_shl-end
+overflow_shl-end c = let few : c.in-Some.bits ≤ 48 = small c.args.object.now c.in-Some.bits (sym c.size_bits.ensures ∙ c.in-Some.is) c.requires in omega (arith, few)

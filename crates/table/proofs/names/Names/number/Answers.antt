@@ -1,0 +1,11 @@
+-- A name's place among the strings is its place among their bytes.
+use Rattle.std.proofs.Common.{◌∙◌, sym, ap, position}
+use Rattle.std.specs.Str.{bytes_eq}
+use Rattle.std.specs.String.{string_bytes}
+use Rattle.table.proofs.NameLemmas.{position-map}
+use Rattle.table.proofs.names.Names.number.Goals as goal
+
+pub returns : goal.returns
+returns c =
+    c.get_index_of.ensures.index ∙ sym (position-map (λ other. bytes_eq c.args.name.now other) string_bytes c.self.inside.set.keys)
+    ∙ ap (position (λ other. bytes_eq c.args.name.now other)) c.self.view_is

@@ -1,0 +1,162 @@
+-- How a capability table is built up: what may be added to it, told by tests that a reader of tables makes, and the table with
+-- that part added (confine's own).
+use Rattle.std.specs.Prelude.{◌≡◌, ℕ, ◌+◌, ◌-◌, ◌^◌, ◌<◌, ◌≤◌, ◌&&◌, ◌||◌, Bool, true, false, not, nat_lt, nat_le, List, [], ◌∷◌, ◌++◌, length, Option, Some, None, slice_get, is_some}
+use Rattle.std.specs.List.{list_any}
+use Rattle.std.specs.Ordering.{is_lt}
+use Rattle.base.specs.declared.ids.ObjId.{ObjId}
+use Rattle.base.specs.declared.ids.SlotRef.{SlotRef}
+use Rattle.machine.specs.declared.cap.Cap.{Cap}
+use Rattle.machine.specs.declared.cap.Detail.{Detail}
+use Rattle.machine.specs.declared.cap.Detail.TheVariants as d
+use Rattle.machine.specs.declared.layout.Binding.{Binding}
+use Rattle.machine.specs.declared.layout.Filled.{Filled}
+use Rattle.machine.specs.declared.layout.Initial.{Initial}
+use Rattle.machine.specs.declared.object.Object.{Object}
+use Rattle.machine.specs.declared.object.Object.TheVariants as o
+use Rattle.machine.specs.declared.object.ObjectKind.TheVariants as kind
+use Rattle.machine.specs.Layout.{Layout, initial_of}
+use Rattle.machine.specs.Machine.{slot_cmp, same_id}
+use Rattle.machine.specs.Objects.{slot_count, end_of}
+use Rattle.table.specs.Names.{label_named, object_named}
+use Rattle.words.specs.Name.{is_name}
+use Rattle.table.specs.Placement.{is_aligned, meets}
+use Rattle.table.specs.Rules.{IsBlank, is_control_of, is_tcb, kind_at, slot_total, thread_total}
+
+-- the tests
+
+-- whether one object more stays within the limits: 4,096 objects, 65,536 slots and 1,024 threads
+unfoldable pub has_room : Layout → Object → Bool
+has_room t object = (nat_lt (length t.objects) 4096 && nat_le (slot_total t + slot_count object) 65536) && (nat_lt (thread_total t) 1024 || not (is_tcb object))
+
+-- whether an object overlaps none of the table's
+unfoldable pub is_free : Layout → Object → Bool
+is_free t object = not (list_any (λ initial. meets initial.object object) t.objects)
+
+-- whether the table has the control of a core
+unfoldable pub has_control : Layout → ℕ → Bool
+has_control t core = list_any (λ initial. is_control_of initial.object core) t.objects
+
+-- whether an object is a control of a core that the table has the control of
+abbrev pub repeats_control : Layout → Object → Bool
+repeats_control t (o.Control control) = has_control t control.core
+repeats_control t _ = false
+
+-- whether an object, if it is there, has a slot of this index
+abbrev pub has_index : Option Initial → ℕ → Bool
+has_index None index = false
+has_index (Some holder) index = nat_lt index (slot_count holder.object)
+
+-- whether the table's objects have a slot
+unfoldable pub declares_slot : Layout → SlotRef → Bool
+declares_slot t slot = has_index (initial_of t slot.holder) slot.index
+
+abbrev pub last_cap : Layout → Option Filled
+last_cap t = slice_get t.caps (length t.caps - 1)
+
+abbrev pub is_above_filled : Option Filled → SlotRef → Bool
+is_above_filled None slot = true
+is_above_filled (Some last) slot = is_lt (slot_cmp last.slot slot)
+
+-- whether a slot is above those that the table fills
+unfoldable pub is_above_caps : Layout → SlotRef → Bool
+is_above_caps t slot = is_above_filled (last_cap t) slot
+
+-- whether a capability may be in a slot of this holder: a thread's root slot takes only a CNode's
+abbrev pub may_hold : Option Initial → Detail → Bool
+may_hold (Some holder) (d.CNode _) = true
+may_hold (Some holder) _ = not (is_tcb holder.object)
+may_hold None _ = false
+
+-- whether a detail fits an object
+abbrev pub fits : Object → Detail → Bool
+fits (o.Untyped _) d.Untyped = true
+fits (o.CNode node) (d.CNode guard) = nat_le (guard.size + node.radix) 64 && nat_lt guard.value (2 ^ guard.size)
+fits (o.Tcb _) d.Tcb = true
+fits (o.Endpoint _) (d.Endpoint end) = nat_lt end.rights.0 16
+fits (o.Notification _) (d.Notification end) = nat_lt end.rights.0 4
+fits (o.Reply _) d.Reply = true
+fits (o.Context _) d.Context = true
+fits (o.Frame _) (d.Frame rights) = nat_lt rights.0 4
+fits (o.Control _) d.Control = true
+fits _ _ = false
+
+abbrev pub fits_target : Option Initial → Detail → Bool
+fits_target None detail = false
+fits_target (Some target) detail = fits target.object detail
+
+-- whether the table has a capability's object, and its detail fits
+unfoldable pub is_fitting : Layout → Cap → Bool
+is_fitting t cap = fits_target (initial_of t cap.object) cap.detail
+
+abbrev pub is_for_untyped : Detail → Bool
+is_for_untyped d.Untyped = true
+is_for_untyped _ = false
+
+-- whether some capability is for an object
+unfoldable pub has_cap_to : Layout → ObjId → Bool
+has_cap_to t object = list_any (λ filled. same_id filled.cap.object object) t.caps
+
+-- whether a capability is for an untyped that has one
+abbrev pub repeats_untyped : Layout → Cap → Bool
+repeats_untyped t cap = is_for_untyped cap.detail && has_cap_to t cap.object
+
+abbrev pub last_binding : Layout → Option Binding
+last_binding t = slice_get t.bindings (length t.bindings - 1)
+
+abbrev pub is_above_bound : Option Binding → ObjId → Bool
+is_above_bound None thread = true
+is_above_bound (Some last) thread = nat_lt last.thread.0 thread.0
+
+-- whether a thread is above those that the table binds
+unfoldable pub is_above_bindings : Layout → ObjId → Bool
+is_above_bindings t thread = is_above_bound (last_binding t) thread
+
+-- whether a context is bound to a thread
+unfoldable pub is_bound : Layout → ObjId → Bool
+is_bound t context = list_any (λ binding. same_id binding.context context) t.bindings
+
+-- what may be added
+
+pub record AdmitsLabel (t : Layout) (name : List ℕ) : Type 0 where
+  pub spelled : is_name name ≡ true
+  pub fresh : is_some (label_named t name) ≡ false
+  pub room : length t.labels < 64
+
+pub record AdmitsObject (t : Layout) (name : List ℕ) (initial : Initial) : Type 0 where
+  pub spelled : is_name name ≡ true
+  pub fresh : is_some (object_named t name) ≡ false
+  pub label : initial.label < length t.labels
+  pub blank : IsBlank initial.object
+  pub controls : repeats_control t initial.object ≡ false
+  pub room : has_room t initial.object ≡ true
+  pub end : end_of initial.object ≤ 2 ^ 48
+  pub aligned : is_aligned initial.object ≡ true
+  pub free : is_free t initial.object ≡ true
+
+pub record AdmitsCap (t : Layout) (filled : Filled) : Type 0 where
+  pub rises : is_above_caps t filled.slot ≡ true
+  pub slot : declares_slot t filled.slot ≡ true
+  pub root : may_hold (initial_of t filled.slot.holder) filled.cap.detail ≡ true
+  pub fits : is_fitting t filled.cap ≡ true
+  pub once : repeats_untyped t filled.cap ≡ false
+  pub original : filled.cap.original ≡ true
+
+pub record AdmitsBinding (t : Layout) (binding : Binding) : Type 0 where
+  pub rises : is_above_bindings t binding.thread ≡ true
+  pub thread : kind_at t binding.thread ≡ Some kind.Tcb
+  pub context : kind_at t binding.context ≡ Some kind.Context
+  pub once : is_bound t binding.context ≡ false
+
+-- the table with one part more, which goes last
+
+abbrev pub with_label : Layout → List ℕ → Layout
+with_label t name = record t { labels = t.labels ++ name ∷ [] }
+
+abbrev pub with_initial : Layout → List ℕ → Initial → Layout
+with_initial t name initial = record t { names = t.names ++ name ∷ []; objects = t.objects ++ initial ∷ [] }
+
+abbrev pub with_filled : Layout → Filled → Layout
+with_filled t filled = record t { caps = t.caps ++ filled ∷ [] }
+
+abbrev pub with_binding : Layout → Binding → Layout
+with_binding t binding = record t { bindings = t.bindings ++ binding ∷ [] }

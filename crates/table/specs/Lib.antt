@@ -1,0 +1,6 @@
+pub mod Names
+pub mod Placement
+pub mod Rules
+pub mod Building
+pub mod Inventory
+pub mod Aims

@@ -1,0 +1,72 @@
+ghost use Rattle.std.specs.Prelude.{◌≡◌, ◌<◌, ◌^◌, ◌++◌, ◌∷◌, [], OnOk, OnErr};
+ghost use Rattle.std.specs.List.{list_any};
+ghost use Rattle.machine.specs.Machine.{same_id};
+
+use base::ObjId;
+use machine::Filled;
+use std::alloc::{AllocError, Global};
+use std::marker::Model;
+
+/// Filled slots, in the order in which they were added.
+#[derive(Drop)]
+pub struct Caps {
+    items: Vec<Filled>,
+    /// For each object up to the last that has one, whether a capability is for it.
+    aimed: Vec<bool>,
+}
+
+impl Model for Caps {
+    ghost use Rattle.std.specs.Prelude.{List};
+    ghost use Rattle.machine.specs.declared.layout.Filled.{Filled};
+    ghost use Rattle.table.specs.Aims.{Marks};
+
+    ghost Value = { List Filled };
+
+    ghost view = { λ caps. caps.items.items };
+
+    ghost invariant = { λ caps. Marks caps.items.items caps.aimed.items };
+}
+
+impl Caps {
+    /// No slots.
+    pub fn new(alloc: Global) -> Caps
+        ensures { result ≡ [] }
+    {
+        Caps {
+            items: Vec::new(alloc),
+            aimed: Vec::new(alloc),
+        }
+    }
+
+    /// The filled slots.
+    pub fn as_slice(&self) -> &[Filled]
+        ensures { result.now ≡ self.now }
+    {
+        self.items.as_slice()
+    }
+
+    /// Whether a capability is for an object.
+    pub fn is_aimed_at(&self, object: ObjId) -> bool
+        ensures { result ≡ list_any (λ filled. same_id filled.cap.object object) self.now }
+    {
+        match self.aimed.get(object.0 as usize) {
+            Some(aimed) => *aimed,
+            None => false,
+        }
+    }
+
+    /// Adds a filled slot.
+    pub fn add(&mut self, filled: Filled) -> Result<(), AllocError>
+        requires { filled.cap.object.0 < 2 ^ 48 }
+        ensures ok { OnOk result (self.new ≡ self.old ++ filled ∷ []) }
+        ensures err { OnErr result (self.new ≡ self.old) }
+    {
+        let object = filled.cap.object.0 as usize;
+        if object >= self.aimed.len() {
+            self.aimed.resize(object + 1, false)?;
+        }
+        self.items.push(filled)?;
+        self.aimed[object] = true;
+        Ok(())
+    }
+}

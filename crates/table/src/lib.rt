@@ -1,0 +1,14 @@
+//! Capability tables: which labels, objects, capabilities and bindings a system starts with.
+//!
+//! A [`Table`] is built up part by part, and keeps the rules of capability tables from the first
+//! part on. A contract sees it as a `Layout`.
+#![tactic(auto)]
+
+mod caps;
+mod extent;
+mod names;
+mod objects;
+mod table;
+
+pub use extent::{is_addressable, is_aligned};
+pub use table::Table;

@@ -1,0 +1,67 @@
+ghost use Rattle.std.specs.Prelude.{◌≡◌, ◌<◌, ◌++◌, ◌∷◌, [], length, slice_get, position, is_some, false, IfSome, OnOk, OnErr};
+ghost use Rattle.std.specs.Option.{option_copied};
+ghost use Rattle.std.specs.Str.{bytes_eq};
+
+use indexmap::IndexSet;
+use std::alloc::{AllocError, Global};
+use std::marker::Model;
+
+/// Distinct names, numbered from 0 in the order in which they were added.
+#[derive(Drop)]
+pub struct Names {
+    alloc: Global,
+    set: IndexSet<String>,
+}
+
+impl Model for Names {
+    ghost use Rattle.std.specs.Prelude.{List, ℕ, map};
+    ghost use Rattle.std.specs.String.{string_bytes};
+
+    ghost Value = { List (List ℕ) };
+
+    ghost view = { λ names. map string_bytes names.set.keys };
+}
+
+impl Names {
+    /// No names.
+    pub fn new(alloc: Global) -> Names
+        ensures { result ≡ [] }
+    {
+        Names {
+            alloc,
+            set: IndexSet::new(alloc),
+        }
+    }
+
+    /// How many names there are.
+    pub fn len(&self) -> usize
+        ensures { result ≡ length self.now }
+    {
+        self.set.len()
+    }
+
+    /// The name of this number.
+    pub fn get(&self, number: usize) -> Option<&str>
+        ensures { option_copied result ≡ slice_get self.now number }
+    {
+        self.set.get_index(number).map(|name| name.as_str())
+    }
+
+    /// The number of a name.
+    pub fn number(&self, name: &str) -> Option<usize>
+        ensures { result ≡ position (λ other. bytes_eq name.now other) self.now }
+    {
+        self.set.get_index_of(name)
+    }
+
+    /// Gives a new name the next number.
+    pub fn add(&mut self, name: &str) -> Result<(), AllocError>
+        requires { is_some (position (λ other. bytes_eq name.now other) self.old) ≡ false }
+        ensures ok { OnOk result (self.new ≡ self.old ++ name.now ∷ []) }
+        ensures err { OnErr result (self.new ≡ self.old) }
+    {
+        let name = String::from_str(self.alloc, name)?;
+        self.set.insert(name)?;
+        Ok(())
+    }
+}

@@ -1,0 +1,144 @@
+ghost use Rattle.std.specs.Prelude.{◌≡◌, ◌≤◌, ◌<◌, ◌+◌, ◌^◌, ◌++◌, ◌∷◌, [], None, length, slice_get, position, is_some, not, nat_lt, ◌&&◌, false, map, vec_len, OnOk, OnErr, if◌then◌else◌};
+ghost use Rattle.std.specs.List.{list_any};
+ghost use Rattle.std.specs.Option.{option_copied};
+ghost use Rattle.std.specs.Str.{bytes_eq};
+ghost use Rattle.std.specs.Vec.{vec_capacity};
+ghost use Rattle.machine.specs.Objects.{end_of, slot_count};
+ghost use Rattle.table.specs.Placement.{meets};
+ghost use Rattle.table.specs.Rules.{is_tcb};
+ghost use Rattle.table.specs.Inventory.{slots_of, threads_of};
+
+use crate::extent::Extent;
+use crate::names::Names;
+use machine::{Initial, Object};
+use std::alloc::{AllocError, Global};
+use std::marker::Model;
+
+/// Objects with their names, numbered from 0 in the order in which they were added.
+#[derive(Drop)]
+pub struct Objects {
+    names: Names,
+    items: Vec<Initial>,
+    /// Where each object lies, close together for the search of overlaps.
+    extents: Vec<Extent>,
+    slots: u64,
+    threads: u64,
+}
+
+impl Model for Objects {
+    ghost use Rattle.std.specs.Prelude.{◌≡◌, length, map};
+    ghost use Rattle.table.specs.Inventory.{Inventory, extent_of, slots_of, threads_of};
+
+    ghost Value = { Inventory };
+
+    ghost view = { λ o. record { names = o.names; objects = o.items.items } };
+
+    ghost invariant = { λ o. record { named : length o.names ≡ length o.items.items; extents : o.extents.items ≡ map (λ initial. extent_of initial.object) o.items.items; slots : o.slots ≡ slots_of o.items.items; threads : o.threads ≡ threads_of o.items.items } };
+}
+
+impl Objects {
+    /// No objects.
+    pub fn new(alloc: Global) -> Objects
+        ensures names { result.names ≡ [] }
+        ensures objects { result.objects ≡ [] }
+    {
+        Objects {
+            names: Names::new(alloc),
+            items: Vec::new(alloc),
+            extents: Vec::new(alloc),
+            slots: 0,
+            threads: 0,
+        }
+    }
+
+    /// The objects, by their numbers.
+    pub fn as_slice(&self) -> &[Initial]
+        ensures objects { result.now ≡ self.now.objects }
+        ensures named { length self.now.names ≡ length self.now.objects }
+    {
+        let _ = &self.names;
+        self.items.as_slice()
+    }
+
+    /// The object of this number.
+    pub fn get(&self, number: u64) -> Option<Initial>
+        ensures { result ≡ slice_get self.now.objects number }
+    {
+        self.items.get(number as usize).copied()
+    }
+
+    /// The name of the object of this number.
+    pub fn name(&self, number: u64) -> Option<&str>
+        ensures { option_copied result ≡ slice_get self.now.names number }
+    {
+        self.names.get(number as usize)
+    }
+
+    /// The number of the object of this name.
+    pub fn number(&self, name: &str) -> Option<u64>
+        ensures { result ≡ position (λ other. bytes_eq name.now other) self.now.names }
+    {
+        self.names.number(name).map(|number| number as u64)
+    }
+
+    /// How many slots the objects have.
+    pub fn slots(&self) -> u64
+        ensures { result ≡ slots_of self.now.objects }
+    {
+        self.slots
+    }
+
+    /// How many of the objects are threads.
+    pub fn threads(&self) -> u64
+        ensures { result ≡ threads_of self.now.objects }
+    {
+        self.threads
+    }
+
+    /// Whether an object overlaps none of these.
+    pub fn is_free(&self, object: &Object) -> bool
+        requires { end_of object.now ≤ 2 ^ 48 }
+        ensures { result ≡ not (list_any (λ initial. meets initial.object object.now) self.now.objects) }
+    {
+        !meets_any(self.extents.as_slice(), Extent::of(object))
+    }
+
+    /// Adds an object under a new name.
+    pub fn add(&mut self, name: &str, initial: Initial) -> Result<(), AllocError>
+        requires fresh { is_some (position (λ other. bytes_eq name.now other) self.old.names) ≡ false }
+        requires end { end_of initial.object ≤ 2 ^ 48 }
+        requires slots { slots_of self.old.objects + slot_count initial.object ≤ 65536 }
+        requires threads { threads_of self.old.objects + (if is_tcb initial.object then 1 else 0) ≤ 1024 }
+        ensures names { OnOk result (self.new.names ≡ self.old.names ++ name.now ∷ []) }
+        ensures objects { OnOk result (self.new.objects ≡ self.old.objects ++ initial ∷ []) }
+        ensures err { OnErr result (self.new ≡ self.old) }
+    {
+        self.items.reserve(1)?;
+        self.extents.reserve(1)?;
+        self.names.add(name)?;
+        push_within(&mut self.items, initial);
+        push_within(&mut self.extents, Extent::of(&initial.object));
+        self.slots += initial.object.slot_count();
+        if let Object::Tcb(_) = initial.object {
+            self.threads += 1;
+        }
+        Ok(())
+    }
+}
+
+/// Whether an extent meets one of these.
+fn meets_any(extents: &[Extent], extent: Extent) -> bool
+    ensures { result ≡ list_any (λ other. nat_lt other.start extent.end && nat_lt extent.start other.end) extents.now }
+{
+    extents.iter().any(|other| other.meets(&extent))
+}
+
+/// Appends an item to a vector that has room for it.
+fn push_within<T: Copy>(items: &mut Vec<T>, item: T)
+    requires { vec_len items.old < vec_capacity items.old }
+    ensures { items.new.items ≡ items.old.items ++ item ∷ [] }
+{
+    if items.push(item).is_err() {
+        unreachable!()
+    }
+}
