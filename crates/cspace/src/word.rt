@@ -1,0 +1,12 @@
+ghost use Rattle.std.specs.Prelude.{◌≡◌, ◌+◌, ◌/◌, ◌%◌, ◌^◌, ◌≤◌};
+
+/// The `size` bits of a word from bit `low` on.
+pub fn field(word: u64, low: u32, size: u32) -> u64
+    requires { low + size ≤ 64 }
+    ensures { result ≡ word / 2 ^ low % 2 ^ size }
+{
+    if size == 0 {
+        return 0;
+    }
+    (word >> low) & (u64::MAX >> (64 - size))
+}

@@ -1,0 +1,76 @@
+-- Where the entry of an object is kept, what it says, and what the store is after a change to one entry.
+use Rattle.std.specs.Prelude.{◌≡◌, ℕ, [], ◌∷◌, ◌++◌, drop, Option, Some, None, option_and_then, slice_get, replicate}
+use Rattle.std.specs.Ordering.{nat_cmp}
+use Rattle.std.specs.BTreeMap as tree
+use Rattle.std.specs.BTreeMap.{BTreeMap}
+use Rattle.slab.specs.Slab as slab
+use Rattle.slab.specs.Slab.{Slab}
+use Rattle.base.specs.declared.ids.ObjId.{ObjId}
+use Rattle.base.specs.declared.ids.SlotRef.{SlotRef}
+use Rattle.machine.specs.declared.cap.Cap.{Cap}
+use Rattle.machine.specs.declared.object.Object.{Object}
+use Rattle.machine.specs.Objects.{slot_count, word_count}
+use Rattle.objects.specs.declared.entry.Entry.{Entry}
+use Rattle.objects.specs.Edits.{edited}
+
+-- where an object's entry is
+abbrev pub place_of : BTreeMap ℕ ℕ → ObjId → Option ℕ
+place_of places id = tree.get nat_cmp places id.0
+
+-- an object's entry
+abbrev pub entry_of : BTreeMap ℕ ℕ → Slab Entry → ObjId → Option Entry
+entry_of places entries id = option_and_then (slab.get entries) (place_of places id)
+
+-- the entries with that at a place changed, if it has one
+abbrev pub changed_at : Slab Entry → (Entry → Entry) → ℕ → Option Entry → Slab Entry
+changed_at entries change place None = entries
+changed_at entries change place (Some entry) = slab.with_value entries place (change entry)
+
+abbrev pub changed : Slab Entry → (Entry → Entry) → Option ℕ → Slab Entry
+changed entries change None = entries
+changed entries change (Some place) = changed_at entries change place (slab.get entries place)
+
+-- the entries after a change to that of one object, if it is present
+abbrev pub with_entry : BTreeMap ℕ ℕ → Slab Entry → ObjId → (Entry → Entry) → Slab Entry
+with_entry places entries id change = changed entries change (place_of places id)
+
+-- the changes to an entry
+
+abbrev pub put_cap_in : ℕ → Cap → Entry → Entry
+put_cap_in index filling entry = record entry { slots = edited (λ slot. record slot { cap = Some filling }) entry.slots index }
+
+abbrev pub set_parent_in : ℕ → SlotRef → Entry → Entry
+set_parent_in index parent entry = record entry { slots = edited (λ slot. record slot { parent = Some parent }) entry.slots index }
+
+abbrev pub replace_in : Object → Entry → Entry
+replace_in object entry = record entry { object = object }
+
+abbrev pub push_in : ObjId → Entry → Entry
+push_in thread entry = record entry { queue = entry.queue ++ thread ∷ [] }
+
+abbrev pub pop_in : Entry → Entry
+pop_in entry = record entry { queue = drop 1 entry.queue }
+
+-- the entry of a new object: its slots are empty, nobody waits at it, and its words are zero
+abbrev pub new_entry : Object → Entry
+new_entry object =
+    record { object = object; slots = replicate (slot_count object) (record { cap = None; parent = None }); queue = []; words = replicate (word_count object) 0 }
+
+-- what a slot of an entry holds
+abbrev pub cap_in : Entry → ℕ → Option Cap
+cap_in entry index = option_and_then (λ slot. slot.cap) (slice_get entry.slots index)
+
+abbrev pub parent_in : Entry → ℕ → Option SlotRef
+parent_in entry index = option_and_then (λ slot. slot.parent) (slice_get entry.slots index)
+
+-- the entry is added under the number, at a place that was empty
+pub record AddsEntry (places places' : BTreeMap ℕ ℕ) (entries entries' : Slab Entry) (number : ℕ) (entry : Entry) : Type 0 where
+  pub place : ℕ
+  pub vacant : slab.get entries place ≡ None
+  pub placed : tree.Updates nat_cmp places places' number (Some place)
+  pub added : slab.Updates entries entries' place (Some entry)
+
+-- each number has the place that it had, and each place its entry
+pub record SameEntries (places places' : BTreeMap ℕ ℕ) (entries entries' : Slab Entry) : Type 0 where
+  pub placed : (number : ℕ) → tree.get nat_cmp places' number ≡ tree.get nat_cmp places number
+  pub kept : (place : ℕ) → slab.get entries' place ≡ slab.get entries place

@@ -1,0 +1,15 @@
+-- The finite map that takes its values from a function, at the keys of a list.
+use Rattle.std.specs.Prelude.{List, [], ◌∷◌, Option, Some, None}
+use Rattle.std.specs.declared.cmp.Ordering.{Ordering}
+use Rattle.std.specs.FinMap as map
+use Rattle.std.specs.FinMap.{FinMap}
+
+-- the map with this at the key, if there is something to put there
+abbrev pub put_some : {K X : Type 0} {R : K → K → Ordering} → FinMap R X → K → Option X → FinMap R X
+put_some m key None = m
+put_some m key (Some value) = map.insert m key value
+
+-- the map that has a function's value at each key of the list where it has one
+abbrev pub tabulate : {K X : Type 0} {R : K → K → Ordering} → (K → Option X) → List K → FinMap R X
+tabulate value [] = map.empty
+tabulate value (key ∷ keys) = put_some (tabulate value keys) key (value key)

@@ -1,0 +1,4 @@
+pub mod Edits
+pub mod Entries
+pub mod Finite
+pub mod State

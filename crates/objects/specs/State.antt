@@ -1,0 +1,44 @@
+-- What contracts see of a `State`, and what is true of each.
+use Rattle.std.specs.Prelude.{◌≡◌, ℕ, ◌<◌, ◌≤◌, ◌^◌, List, [], map, length, Option, Some, None, IsSome, option_map, option_and_then}
+use Rattle.std.specs.List.{flat_map, range_with_len}
+use Rattle.std.specs.Ordering.{nat_cmp}
+use Rattle.std.specs.BTreeMap as tree
+use Rattle.slab.specs.Slab as slab
+use Rattle.base.specs.declared.ids.ObjId.{ObjId}
+use Rattle.base.specs.declared.ids.SlotRef.{SlotRef}
+use Rattle.machine.specs.Machine.{Machine}
+use Rattle.machine.specs.Objects.{slot_count}
+use Rattle.objects.specs.declared.entry.Entry.{Entry}
+use Rattle.objects.specs.declared.state.State.TheInside.{Inside}
+use Rattle.objects.specs.Entries.{entry_of, cap_in, parent_in}
+use Rattle.objects.specs.Finite.{tabulate}
+
+-- the slots of an object
+abbrev pub slots_of : ObjId → Option Entry → List SlotRef
+slots_of id None = []
+slots_of id (Some entry) = map (λ index. record { holder = id; index = index }) (range_with_len 0 (length entry.slots))
+
+-- a machine by the entry of each object, of which this is a list
+abbrev pub machine_from : (ObjId → Option Entry) → List ObjId → ℕ → Machine
+machine_from entry ids next =
+    let slots : List SlotRef = flat_map (λ id. slots_of id (entry id)) ids in
+    record {
+      objects = tabulate (λ id. option_map (λ e. e.object) (entry id)) ids;
+      queues = tabulate (λ id. option_map (λ e. e.queue) (entry id)) ids;
+      words = tabulate (λ id. option_map (λ e. e.words) (entry id)) ids;
+      caps = tabulate (λ slot. option_and_then (λ e. cap_in e slot.index) (entry slot.holder)) slots;
+      parents = tabulate (λ slot. option_and_then (λ e. parent_in e slot.index) (entry slot.holder)) slots;
+      next = next;
+    }
+
+-- the state as a machine
+unfoldable pub machine_of : Inside → Machine
+machine_of s = machine_from (entry_of s.places s.entries) (map (λ number. record { 0 = number }) (tree.keys s.places)) s.next
+
+-- each number in use has a place of its own with an entry, is below the next one, and its object has as many slots as it should
+pub record IsSound (s : Inside) : Type 0 where
+  pub apart : (a b place : ℕ) → tree.get nat_cmp s.places a ≡ Some place → tree.get nat_cmp s.places b ≡ Some place → a ≡ b
+  pub held : (a place : ℕ) → tree.get nat_cmp s.places a ≡ Some place → IsSome (slab.get s.entries place)
+  pub fresh : (a : ℕ) → IsSome (tree.get nat_cmp s.places a) → a < s.next
+  pub bounded : s.next ≤ 2 ^ 48
+  pub sized : (id : ObjId) (entry : Entry) → entry_of s.places s.entries id ≡ Some entry → length entry.slots ≡ slot_count entry.object

@@ -1,0 +1,23 @@
+//! The kernel's state: objects, their slots and the capabilities in these, the derivation tree, and
+//! who waits where.
+//!
+//! A contract sees a `State` as a `Machine`, and each method as one of a machine's look-ups or
+//! changes.
+#![tactic(auto)]
+
+mod entry;
+mod queue;
+mod slots;
+mod state;
+mod store;
+mod words;
+
+pub use base::{
+    Cause, CoreNo, Edge, Kind, Kinds, Label, LookupFailure, ObjId, Refusal, Rights, SlotRef,
+};
+pub use machine::{
+    Answer, Badged, Binding, CNode, Call, Cap, Context, Control, Detail, Endpoint, Event, Filled,
+    Frame, Guard, Inbox, Initial, Message, Notification, Object, ObjectKind, Outcome, Pair, Radix,
+    ReceiveSlot, Receiving, Reply, ReplyState, RunState, Sending, Share, Tcb, Untyped,
+};
+pub use state::State;

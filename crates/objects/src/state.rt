@@ -1,0 +1,206 @@
+use crate::entry::Entry;
+use crate::store;
+use base::{ObjId, SlotRef};
+use machine::{Cap, Context, Notification, Object, Tcb};
+use slab::Slab;
+use std::alloc::{AllocError, Global};
+use std::collections::BTreeMap;
+use std::marker::Model;
+
+/// The kernel's state.
+///
+/// A look-up or a change of one object takes time logarithmic in the number of objects.
+#[derive(Drop)]
+pub struct State {
+    /// From the number of an object to the key of its entry.
+    places: BTreeMap<u64, usize>,
+    entries: Slab<Entry>,
+    next: u64,
+}
+
+impl Model for State {
+    ghost use Rattle.machine.specs.Machine.{Machine, machine_code};
+    ghost use Rattle.base.specs.contracts.ids.ObjId as id;
+    ghost use Rattle.base.specs.contracts.ids.SlotRef as slot;
+    ghost use Rattle.machine.specs.contracts.object.Object as object;
+    ghost use Rattle.machine.specs.contracts.cap.Cap as capability;
+
+    ghost Value = { Machine };
+
+    ghost coded = { machine_code id.the_row.coded slot.the_row.coded object.the_row.coded capability.the_row.coded };
+
+    ghost use Rattle.objects.specs.State.{machine_of, IsSound};
+
+    ghost view = { machine_of };
+
+    ghost invariant = { IsSound };
+}
+
+impl State {
+    ghost use Rattle.std.specs.Prelude.{◌≡◌, ◌<◌, ◌≤◌, ◌^◌, IsTrue, IfOk, OnErr, OnOk, option_copied, option_and_then, slice_get, IsSome, IfSome};
+    ghost use Rattle.machine.specs.Machine.{empty_machine, object_of, cap_of, parent_of, words_of, has_slot, with_new, with_cap, with_parent, with_object};
+    ghost use Rattle.machine.specs.Objects.{slot_count};
+    ghost use Rattle.machine.specs.Changes.{first_waiting, with_pending, with_tcb, with_context, with_waiting, without_first};
+
+    /// A state with no objects.
+    pub fn new(alloc: Global) -> State
+        ensures { result ≡ empty_machine }
+    {
+        State {
+            places: BTreeMap::new(alloc),
+            entries: Slab::new(alloc),
+            next: 0,
+        }
+    }
+
+    /// The number that the next object gets.
+    pub fn next_id(&self) -> u64
+        ensures value { result ≡ self.now.next }
+        ensures bounded { result ≤ 2 ^ 48 }
+    {
+        self.next
+    }
+
+    /// The object of that number, if there is one.
+    pub fn object(&self, id: ObjId) -> Option<&Object>
+        ensures { option_copied result ≡ object_of self.now id }
+    {
+        store::object(&self.places, &self.entries, id)
+    }
+
+    /// The capability in the slot; none where the slot is empty or isn't there.
+    pub fn cap(&self, slot: SlotRef) -> Option<Cap>
+        ensures { result ≡ cap_of self.now slot }
+    {
+        store::cap(&self.places, &self.entries, slot)
+    }
+
+    /// The slot whose capability that in this one was derived from, if it was derived.
+    pub fn parent(&self, slot: SlotRef) -> Option<SlotRef>
+        ensures { result ≡ parent_of self.now slot }
+    {
+        store::parent(&self.places, &self.entries, slot)
+    }
+
+    /// Whether there is such a slot, filled or not.
+    pub fn has_slot(&self, slot: SlotRef) -> bool
+        ensures { result ≡ has_slot self.now slot }
+    {
+        match self.object(slot.holder) {
+            Some(object) => slot.index < object.slot_count(),
+            None => false,
+        }
+    }
+
+    /// The thread that has waited longest at the object, if one waits.
+    pub fn first_waiting(&self, id: ObjId) -> Option<ObjId>
+        ensures { result ≡ first_waiting self.now id }
+    {
+        store::first(&self.places, &self.entries, id)
+    }
+
+    /// A word of a frame's memory, by its index from 0.
+    pub fn word(&self, id: ObjId, index: u64) -> Option<u64>
+        ensures { result ≡ option_and_then (λ words. slice_get words index) (words_of self.now id) }
+    {
+        store::word(&self.places, &self.entries, id, index)
+    }
+
+    /// Adds an object under the next number. Its slots are empty, nobody waits at it, and its words
+    /// are zero.
+    ///
+    /// Fails where memory runs out.
+    pub fn add_object(&mut self, alloc: Global, object: Object) -> Result<ObjId, AllocError>
+        requires { self.old.next < 2 ^ 48 }
+        ensures made { OnOk result (self.new ≡ with_new self.old object) }
+        ensures numbered { IfOk result (λ id. id ≡ record { 0 = self.old.next }) }
+        ensures err { OnErr result (self.new ≡ self.old) }
+    {
+        let number = self.next;
+        store::add(alloc, &mut self.places, &mut self.entries, number, object)?;
+        self.next += 1;
+        Ok(ObjId(number))
+    }
+
+    /// Puts a capability into a slot, in place of what is there.
+    pub fn put_cap(&mut self, slot: SlotRef, cap: Cap)
+        requires { IsTrue (has_slot self.old slot) }
+        ensures { self.new ≡ with_cap self.old slot cap }
+    {
+        store::put_cap(&self.places, &mut self.entries, slot, cap);
+    }
+
+    /// Makes the capability in `slot` a child of that in `parent` in the derivation tree (seL4
+    /// manual, "Capability Derivation Tree").
+    pub fn set_parent(&mut self, slot: SlotRef, parent: SlotRef)
+        requires { IsTrue (has_slot self.old slot) }
+        ensures { self.new ≡ with_parent self.old slot parent }
+    {
+        store::set_parent(&self.places, &mut self.entries, slot, parent);
+    }
+
+    // Sets the object's content, which has as many slots as before.
+    fn replace(&mut self, id: ObjId, object: Object)
+        requires present { IsSome (object_of self.old id) }
+        requires same_slots { IfSome (object_of self.old id) (λ old. slot_count object ≡ slot_count old) }
+        ensures { self.new ≡ with_object self.old id object }
+    {
+        store::replace(&self.places, &mut self.entries, id, object);
+    }
+
+    /// Sets the word of the notification. Does nothing where there is none of that number.
+    #[tactic(auto, unfolding(machine::specs::Changes::with_pending))]
+    pub fn set_pending(&mut self, id: ObjId, pending: Option<u64>)
+        ensures { self.new ≡ with_pending self.old id pending }
+    {
+        if let Some(&Object::Notification(notification)) = self.object(id) {
+            let changed = Notification {
+                pending,
+                ..notification
+            };
+            self.replace(id, Object::Notification(changed));
+        }
+    }
+
+    /// Sets the thread. Does nothing where there is none of that number.
+    #[tactic(auto, unfolding(machine::specs::Changes::with_tcb))]
+    pub fn set_tcb(&mut self, id: ObjId, thread: Tcb)
+        ensures { self.new ≡ with_tcb self.old id thread }
+    {
+        if let Some(Object::Tcb(_)) = self.object(id) {
+            self.replace(id, Object::Tcb(thread));
+        }
+    }
+
+    /// Sets the scheduling context. Does nothing where there is none of that number.
+    #[tactic(auto, unfolding(machine::specs::Changes::with_context))]
+    pub fn set_context(&mut self, id: ObjId, context: Context)
+        ensures { self.new ≡ with_context self.old id context }
+    {
+        if let Some(Object::Context(_)) = self.object(id) {
+            self.replace(id, Object::Context(context));
+        }
+    }
+
+    /// Puts the thread behind those that wait at the object. Does nothing where there is no such
+    /// object.
+    ///
+    /// Fails where memory runs out.
+    pub fn push_waiting(&mut self, id: ObjId, thread: ObjId) -> Result<(), AllocError>
+        ensures ok { OnOk result (self.new ≡ with_waiting self.old id thread) }
+        ensures err { OnErr result (self.new ≡ self.old) }
+    {
+        store::push(&self.places, &mut self.entries, id, thread)
+    }
+
+    /// Takes the thread that has waited longest at the object, if one waits.
+    pub fn pop_waiting(&mut self, id: ObjId) -> Option<ObjId>
+        ensures value { result ≡ first_waiting self.old id }
+        ensures rest { self.new ≡ without_first self.old id }
+    {
+        store::pop(&self.places, &mut self.entries, id)
+    }
+}
+
+#[cfg(test)]
+mod tests;
