@@ -1,0 +1,113 @@
+-- What a capability table has in a slot or binds to a thread is what one of its lists says at one place, and the other way round.
+use Rattle.std.proofs.Common.{◌≡◌, ℕ, suc, zero, ◌<◌, Bool, true, false, cond, List, [], ◌∷◌, length, get_or, Option, None, Some, option_map, refl, sym, ap, ◌∙◌, arith}
+use mathlib.Core.Bool.{false≢true}
+use Rattle.std.specs.declared.cmp.Ordering.{Ordering}
+use Rattle.std.specs.declared.cmp.Ordering.TheVariants.{Less, Equal, Greater}
+use Rattle.std.specs.List.{find, slice_get, AllPairs}
+use Rattle.std.specs.Ordering.{is_eq}
+use Rattle.std.proofs.lemmas.Cmp.{tied_itself}
+use Rattle.std.proofs.lemmas.Option.{none-some, same_Some, slice_get-get_or, slice_get_within, get_or_from_slice_get}
+use Rattle.base.specs.declared.ids.ObjId.{ObjId}
+use Rattle.base.specs.declared.ids.SlotRef.{SlotRef}
+use Rattle.machine.specs.declared.cap.Cap.{Cap}
+use Rattle.machine.specs.declared.layout.Binding.{Binding}
+use Rattle.machine.specs.declared.layout.Filled.{Filled}
+use Rattle.machine.specs.Layout.{Layout, initial_cap, bound_context}
+use Rattle.machine.specs.Machine.{id_cmp, slot_cmp, same_id, same_slot, id_total, slot_total, id_apart, slot_apart}
+use Rattle.table.specs.Rules.{IsLawful}
+
+-- an element that is found: where it is, and that it passes
+pub record FoundAt {X : Type 0} (p : X → Bool) (xs : List X) (x : X) : Type 0 where
+  pub at : ℕ
+  pub here : slice_get xs at ≡ Some x
+  pub passes : p x ≡ true
+
+found_later : {X : Type 0} (p : X → Bool) (y : X) (ys : List X) (x : X) → FoundAt p ys x → FoundAt p (y ∷ ys) x
+found_later p y ys x found = record { at = suc found.at; here = found.here; passes = found.passes }
+
+pub found_at : {X : Type 0} (p : X → Bool) (xs : List X) (x : X) → find p xs ≡ Some x → FoundAt p xs x
+found_at p [] x found = absurd (none-some x found)
+found_at p (y ∷ ys) x found = by (p y) refl found (found_at p ys x) where
+  by : (passes : Bool) → p y ≡ passes → cond passes (Some y) (find p ys) ≡ Some x → (find p ys ≡ Some x → FoundAt p ys x) → FoundAt p (y ∷ ys) x
+  by true passes found later = record { at = 0; here = found; passes = ap p (sym (same_Some y x found)) ∙ passes }
+  by false passes found later = found_later p y ys x (later found)
+
+-- the first that passes is found
+pub found_first : {X : Type 0} (p : X → Bool) (xs : List X) (k : ℕ) (x : X) → slice_get xs k ≡ Some x → p x ≡ true → ((i : ℕ) (y : X) → i < k → slice_get xs i ≡ Some y → p y ≡ false) → find p xs ≡ Some x
+found_first p [] k x here passes before = absurd (none-some x here)
+found_first p (y ∷ ys) zero x here passes before = ap (λ b. cond b (Some y) (find p ys)) (ap p (same_Some y x here) ∙ passes) ∙ here
+found_first p (y ∷ ys) (suc k) x here passes before =
+    ap (λ b. cond b (Some y) (find p ys)) (before 0 y (omega arith) refl) ∙ found_first p ys k x here passes (λ i z lt at. before (suc i) z (omega arith) at)
+
+-- what a loop over a list reads
+pub read_at : {X : Type 0} (items xs : List X) (k : ℕ) (d : X) → items ≡ xs → k < length items → slice_get xs k ≡ Some (get_or items k d)
+read_at items xs k d same lt = ap (λ ys. slice_get ys k) (sym same) ∙ slice_get-get_or items k d lt
+
+-- a fact of each two places of a list
+pub pair_at : {X : Type 0} (R : X → X → Type 0) (xs : List X) (i j : ℕ) (x y : X) → AllPairs R xs → i < j → slice_get xs i ≡ Some x → slice_get xs j ≡ Some y → R x y
+pair_at R xs i j x y all lt at_i at_j = rw (sym (get_or_from_slice_get xs i x x at_i), sym (get_or_from_slice_get xs j y x at_j)) (all i j x lt (slice_get_within xs j y at_j))
+
+tied : (r : Ordering) → is_eq r ≡ true → r ≡ Equal
+tied Equal e = refl
+tied Less e = absurd (false≢true e)
+tied Greater e = absurd (false≢true e)
+
+-- a filled slot stands in the list
+pub record FilledAt (t : Layout) (slot : SlotRef) (held : Cap) : Type 0 where
+  pub at : ℕ
+  pub filled : Filled
+  pub here : slice_get t.caps at ≡ Some filled
+  pub slot_is : filled.slot ≡ slot
+  pub held_is : filled.cap ≡ held
+
+pub filled_at : (t : Layout) (slot : SlotRef) (held : Cap) → initial_cap t slot ≡ Some held → FilledAt t slot held
+unfolding initial_cap
+filled_at t slot held is = by (find (λ filled. same_slot filled.slot slot) t.caps) refl is where
+  by : (found : Option Filled) → find (λ filled. same_slot filled.slot slot) t.caps ≡ found → option_map (λ filled. filled.cap) found ≡ Some held → FilledAt t slot held
+  by None found is = absurd (none-some held is)
+  by (Some filled) found is =
+      let at = found_at (λ filled. same_slot filled.slot slot) t.caps filled found in
+      record { at = at.at; filled = filled; here = at.here; slot_is = slot_apart filled.slot slot (tied (slot_cmp filled.slot slot) at.passes); held_is = same_Some filled.cap held is }
+
+-- and what stands in the list is in the slot
+pub cap_from : (t : Layout) → IsLawful t → (k : ℕ) (filled : Filled) → slice_get t.caps k ≡ Some filled → initial_cap t filled.slot ≡ Some filled.cap
+unfolding initial_cap
+cap_from t lawful k filled here =
+    ap (option_map (λ (f : Filled). f.cap))
+    (found_first (λ (f : Filled). same_slot f.slot filled.slot) t.caps k filled here
+    (ap is_eq (slot_itself filled.slot))
+    (λ i other lt at. ap is_eq (pair_at (λ (one other : Filled). slot_cmp one.slot other.slot ≡ Less) t.caps i k other filled lawful.caps_rise lt at here)))
+  where
+    slot_itself : (slot : SlotRef) → slot_cmp slot slot ≡ Equal
+    slot_itself slot = tied_itself slot_total slot
+
+-- a bound thread stands in the list
+pub record BoundAt (t : Layout) (thread context : ObjId) : Type 0 where
+  pub at : ℕ
+  pub binding : Binding
+  pub here : slice_get t.bindings at ≡ Some binding
+  pub thread_is : binding.thread ≡ thread
+  pub context_is : binding.context ≡ context
+
+pub bound_at : (t : Layout) (thread context : ObjId) → bound_context t thread ≡ Some context → BoundAt t thread context
+unfolding bound_context
+bound_at t thread context is = by (find (λ binding. same_id binding.thread thread) t.bindings) refl is where
+  by : (found : Option Binding) → find (λ binding. same_id binding.thread thread) t.bindings ≡ found → option_map (λ binding. binding.context) found ≡ Some context → BoundAt t thread context
+  by None found is = absurd (none-some context is)
+  by (Some binding) found is =
+      let at = found_at (λ binding. same_id binding.thread thread) t.bindings binding found in
+      record { at = at.at; binding = binding; here = at.here; thread_is = id_apart binding.thread thread (tied (id_cmp binding.thread thread) at.passes); context_is = same_Some binding.context context is }
+
+pub bound_from : (t : Layout) → IsLawful t → (k : ℕ) (binding : Binding) → slice_get t.bindings k ≡ Some binding → bound_context t binding.thread ≡ Some binding.context
+unfolding bound_context
+bound_from t lawful k binding here =
+    ap (option_map (λ (b : Binding). b.context))
+    (found_first (λ (b : Binding). same_id b.thread binding.thread) t.bindings k binding here
+    (ap is_eq (id_itself binding.thread))
+    (λ i other lt at. id_below other.thread binding.thread (pair_at (λ (one other : Binding). one.thread.0 < other.thread.0) t.bindings i k other binding lawful.bindings_rise lt at here)))
+  where
+    id_itself : (id : ObjId) → id_cmp id id ≡ Equal
+    id_itself id = tied_itself id_total id
+
+    id_below : (a b : ObjId) → a.0 < b.0 → same_id a b ≡ false
+    id_below a b lt = grind arith

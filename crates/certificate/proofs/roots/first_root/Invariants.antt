@@ -1,0 +1,10 @@
+-- nothing is broken at the slots so far
+use Rattle.std.proofs.Common.{◌∷◌, [], ℕ, ◌<◌}
+use Rattle.policy.specs.Policy.{allows}
+use Rattle.certificate.specs.Verdict.{a1, a2, a4}
+use Rattle.certificate.specs.Search.{BreaksUnder, IsNone}
+use Rattle.certificate.proofs.TablePlaces.{AtCap, AtBinding}
+use Rattle.certificate.proofs.roots.first_root.Given as goal
+
+abbrev pub invariant-loop-filled : goal.invariant-loop-filled
+invariant-loop-filled l = (k : ℕ) → k < l.filled-index → IsNone (AtCap l.table (allows l.policy) a2 k)

@@ -1,0 +1,53 @@
+ghost use Rattle.std.specs.Prelude.{◌≡◌};
+ghost use Rattle.policy.specs.Policy.{allows};
+ghost use Rattle.certificate.specs.Verdict.{IsAccepted};
+ghost use Rattle.certificate.specs.System.{IsAcceptedSystem};
+
+use policy::Policy;
+use std::marker::Model;
+use table::Table;
+
+/// A capability table and a policy that are accepted: no rule is broken.
+///
+/// Only [`first_check`](crate::first_check) makes one.
+#[derive(Drop)]
+pub struct Accepted<'a> {
+    table: &'a Table,
+    policy: &'a Policy,
+}
+
+impl<'a> Model for Accepted<'a> {
+    ghost use Rattle.certificate.specs.System.{System, IsAcceptedSystem};
+
+    ghost Value = { System };
+
+    ghost view = { λ accepted. record { table = accepted.table.now; policy = accepted.policy.now } };
+
+    ghost invariant = { λ accepted. IsAcceptedSystem (record { table = accepted.table.now; policy = accepted.policy.now }) };
+}
+
+impl<'a> Accepted<'a> {
+    /// These two, which are accepted.
+    pub(crate) fn of(table: &'a Table, policy: &'a Policy) -> Accepted<'a>
+        requires { IsAccepted table.now (allows policy.now) }
+        ensures { result ≡ record { table = table.now; policy = policy.now } }
+    {
+        Accepted { table, policy }
+    }
+
+    /// The table.
+    pub fn table(&self) -> &'a Table
+        ensures table { result.now ≡ self.now.table }
+        ensures accepted { IsAcceptedSystem self.now }
+    {
+        self.table
+    }
+
+    /// The policy.
+    pub fn policy(&self) -> &'a Policy
+        ensures policy { result.now ≡ self.now.policy }
+        ensures accepted { IsAcceptedSystem self.now }
+    {
+        self.policy
+    }
+}

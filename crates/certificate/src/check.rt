@@ -1,0 +1,51 @@
+ghost use Rattle.std.specs.Prelude.{IsOk, IfOk};
+ghost use Rattle.policy.specs.Policy.{allows};
+ghost use Rattle.certificate.specs.Verdict.{Breaks};
+ghost use Rattle.certificate.specs.Search.{FindsLeast};
+ghost use Rattle.certificate.specs.System.{IsVerdict};
+
+use crate::bindings::first_binding;
+use crate::capabilities::first_capability;
+use crate::roots::first_root;
+use crate::subjects::first_disagreement;
+use crate::{Accepted, Denial};
+use base::Refusal;
+use policy::Policy;
+use table::Table;
+
+/// The verdict on a capability table and a policy, by the rules P1, A1, A2 and A4: accepted, or denied
+/// with the first of these rules that is broken and the first place where it is.
+///
+/// # Errors
+///
+/// None: it takes no memory.
+pub fn first_check<'a>(
+    table: &'a Table,
+    policy: &'a Policy,
+) -> Result<Result<Accepted<'a>, Denial>, Refusal>
+    ensures answers { IsOk result }
+    ensures verdict { IfOk result (IsVerdict table.now policy.now) }
+{
+    match first_broken(table, policy) {
+        None => Ok(Ok(Accepted::of(table, policy))),
+        Some(denial) => Ok(Err(denial)),
+    }
+}
+
+fn first_broken(table: &Table, policy: &Policy) -> Option<Denial>
+    ensures { FindsLeast (Breaks table.now (allows policy.now)) result }
+{
+    if let Some(denial) = first_disagreement(policy) {
+        return Some(denial);
+    }
+    if let Some(denial) = first_capability(table, policy) {
+        return Some(denial);
+    }
+    if let Some(denial) = first_root(table, policy) {
+        return Some(denial);
+    }
+    first_binding(table, policy)
+}
+
+#[cfg(test)]
+mod tests;

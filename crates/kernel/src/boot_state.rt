@@ -1,0 +1,69 @@
+ghost use Rattle.std.specs.Prelude.{◌≡◌, IfOk, IfErr};
+ghost use Rattle.base.specs.Refusals.{plain};
+ghost use Rattle.machine.specs.Boot.{IsBoot, bound};
+ghost use Rattle.kernel.specs.Parts.{objects_alone, without_tree};
+
+use base::{ObjId, Refusal};
+use machine::{Context, Object, Tcb};
+use objects::State;
+use std::alloc::{AllocError, Global};
+use table::Table;
+
+/// An initial object with the links that the table's bindings give it.
+fn bound(table: &Table, id: ObjId, object: Object) -> Object
+    ensures { result ≡ bound table.now id object }
+{
+    match object {
+        Object::Tcb(thread) => Object::Tcb(Tcb {
+            context: table.bound_context(id),
+            ..thread
+        }),
+        Object::Context(context) => Object::Context(Context {
+            thread: table.bound_thread(id),
+            ..context
+        }),
+        _ => object,
+    }
+}
+
+/// A state with the table's objects, whose slots are empty.
+fn with_objects(alloc: Global, table: &Table) -> Result<State, AllocError>
+    ensures { IfOk result (IsBoot (objects_alone table.now)) }
+{
+    let mut state = State::new(alloc);
+    let initials = table.objects();
+    for initial in initials {
+        let id = ObjId(state.next_id());
+        state.add_object(alloc, bound(table, id, initial.object))?;
+    }
+    Ok(state)
+}
+
+/// Fills the slots of a state with the table's capabilities.
+fn fill(state: &mut State, table: &Table)
+    requires { IsBoot (objects_alone table.now) state.old }
+    ensures { IsBoot (without_tree table.now) state.new }
+{
+    let caps = table.caps();
+    for filled in caps {
+        state.put_cap(filled.slot, filled.cap);
+    }
+}
+
+/// The boot state of a capability table.
+///
+/// # Errors
+///
+/// 40 where memory is refused.
+pub fn boot(alloc: Global, table: &Table) -> Result<State, Refusal>
+    ensures booted { IfOk result (IsBoot table.now) }
+    ensures refused { IfErr result (λ refusal. refusal ≡ plain 40) }
+{
+    let mut state = with_objects(alloc, table)?;
+    fill(&mut state, table);
+    let pairs = table.pairs();
+    for pair in pairs {
+        state.set_parent(pair.child, pair.parent);
+    }
+    Ok(state)
+}

@@ -1,0 +1,18 @@
+//! The reference kernel: the boot state of a capability table, the step that one event makes, and
+//! runs of events. It knows no label and no policy.
+#![tactic(auto)]
+
+mod admit;
+mod boot_state;
+mod calls;
+mod find;
+mod poll;
+mod runs;
+mod signal;
+
+pub use boot_state::boot;
+pub use calls::step;
+pub use runs::run;
+
+#[cfg(test)]
+mod tests;

@@ -1,0 +1,28 @@
+ghost use Rattle.std.specs.Prelude.{◌≡◌, ◌+◌, ◌≤◌, ◌++◌, List, length, vec_len, vec_capacity, IfErr, IsOk, OnOk, OnErr};
+ghost use Rattle.base.specs.Refusals.{plain};
+ghost use Rattle.machine.specs.declared.call.Outcome.{Outcome as Ended};
+ghost use Rattle.machine.specs.Run.{Run};
+
+use crate::calls::step;
+use base::Refusal;
+use machine::{Event, Outcome};
+use objects::State;
+
+/// Runs a list of events, and appends the outcome of each.
+///
+/// # Errors
+///
+/// 40, where the list of outcomes can't grow by as many as there are events: then no step was made.
+/// A list with room for them is never refused.
+pub fn run(state: &mut State, events: &[Event], outcomes: &mut Vec<Outcome>) -> Result<(), Refusal>
+    ensures ran { OnOk result ((made : List Ended) × (outcomes.new.items ≡ outcomes.old.items ++ made) × Run state.old events.now made state.new) }
+    ensures refused { IfErr result (λ refusal. refusal ≡ plain 40) }
+    ensures kept { OnErr result ((state.new ≡ state.old) × (outcomes.new.items ≡ outcomes.old.items)) }
+    ensures succeeds { vec_len outcomes.old + length events.now ≤ vec_capacity outcomes.old → IsOk result }
+{
+    outcomes.reserve(events.len())?;
+    for event in events {
+        outcomes.push_reserved(step(state, *event));
+    }
+    Ok(())
+}

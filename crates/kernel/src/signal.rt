@@ -1,0 +1,62 @@
+ghost use Rattle.std.specs.Prelude.{◌≡◌};
+ghost use Rattle.kernel.specs.Makes.{Makes};
+ghost use Rattle.machine.specs.Machine.{object_of};
+ghost use Rattle.machine.specs.Step.Signal.{pending_in, signal_of, signalled, woken};
+
+use crate::find::{find_notification, permit};
+use base::{Cause, ObjId, Rights};
+use bitflags::Flags;
+use machine::{Answer, Inbox, Notification, Object, Outcome, RunState, Tcb};
+use objects::State;
+use queues::pop_first;
+
+/// The word of a notification, if it has one.
+pub fn pending(state: &State, id: ObjId) -> Option<u64>
+    ensures { result ≡ pending_in (object_of state.now id) }
+{
+    match state.object(id) {
+        Some(Object::Notification(Notification { pending, .. })) => *pending,
+        _ => None,
+    }
+}
+
+/// Gives a thread that waited a word, and makes it ready.
+#[tactic(auto, unfolding(machine::specs::Step::Signal::woken))]
+fn wake(state: &mut State, thread: ObjId, word: u64)
+    ensures { state.new ≡ woken state.old thread word }
+{
+    if let Some(Object::Tcb(old)) = state.object(thread) {
+        let tcb = Tcb {
+            state: RunState::Ready,
+            inbox: Inbox::Word(word),
+            ..*old
+        };
+        state.set_tcb(thread, tcb);
+    }
+}
+
+/// Signals a notification with a badge.
+#[tactic(auto, unfolding(machine::specs::Step::Signal::signalled))]
+fn notify(state: &mut State, id: ObjId, badge: u64)
+    ensures { state.new ≡ signalled state.old id badge }
+{
+    match pop_first(state, id) {
+        Some(thread) => wake(state, thread, badge),
+        None => {
+            let word = pending(state, id).unwrap_or(0);
+            state.set_pending(id, Some(badge | word));
+        }
+    }
+}
+
+/// Signals the notification at an address: the first thread that waits gets the capability's badge,
+/// else the badge joins the notification's word (seL4 manual, "Notifications").
+#[tactic(auto, unfolding(machine::specs::Step::Signal::signal_of))]
+pub fn signal(state: &mut State, caller: ObjId, address: u64) -> Result<Outcome, Cause>
+    ensures { Makes state.old state.new result (signal_of state.old caller address) }
+{
+    let (notification, end) = find_notification(state, caller, address)?;
+    permit(end.rights.contains(Rights::WRITE))?;
+    notify(state, notification, end.badge);
+    Ok(Outcome::Done(Answer::Nothing))
+}

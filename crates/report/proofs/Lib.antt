@@ -1,0 +1,5 @@
+mod Names
+mod Writing
+mod Stops
+mod Runs
+mod Answering

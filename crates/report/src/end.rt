@@ -1,0 +1,105 @@
+ghost use Rattle.std.specs.Prelude.{◌≡◌, Some};
+ghost use Rattle.std.specs.Option.{option_copied};
+ghost use Rattle.report.specs.Ends.{file_word, message_of, status_of};
+
+use std::fmt;
+
+/// A file that an engine reads.
+#[derive(Clone, Copy, PartialEq, Eq, Debug)]
+pub enum File {
+    Table,
+    Policy,
+    Script,
+}
+
+impl File {
+    /// The word by which reports and messages name it.
+    pub fn as_str(self) -> &'static str
+        ensures { result.now ≡ file_word self }
+    {
+        match self {
+            File::Table => "table",
+            File::Policy => "policy",
+            File::Script => "script",
+        }
+    }
+}
+
+impl fmt::Display for File {
+    ghost output = { λ file. Some (file_word file) };
+
+    fn fmt<W: fmt::Write>(&self, f: &mut fmt::Formatter<W>) -> fmt::Result {
+        f.write_str(self.as_str())
+    }
+}
+
+/// How an engine ends.
+#[derive(Clone, Copy, PartialEq, Eq, Debug)]
+pub enum End {
+    /// The answer was written: 0 for a yes, 1 for a denial, 2 for a text that can't be read.
+    Status(u8),
+    /// Memory was refused, and nothing was written.
+    NoMemory,
+    /// The file couldn't be read, and nothing was written.
+    CannotRead(File),
+    /// The answer couldn't be written, or only a beginning of it.
+    CannotWrite,
+}
+
+impl End {
+    /// The exit status.
+    pub fn status(self) -> u8
+        ensures { result ≡ status_of self }
+    {
+        match self {
+            End::Status(status) => status,
+            End::NoMemory | End::CannotRead(_) | End::CannotWrite => 2,
+        }
+    }
+
+    /// The line for standard error, if there is one.
+    pub fn message(self) -> Option<&'static str>
+        ensures { option_copied result ≡ message_of self }
+    {
+        match self {
+            End::Status(_) => None,
+            End::NoMemory => Some("confine: no memory"),
+            End::CannotRead(File::Table) => Some("confine: cannot read table"),
+            End::CannotRead(File::Policy) => Some("confine: cannot read policy"),
+            End::CannotRead(File::Script) => Some("confine: cannot read script"),
+            End::CannotWrite => Some("confine: cannot write"),
+        }
+    }
+}
+
+#[cfg(test)]
+mod tests {
+    use super::*;
+
+    #[test]
+    fn says_why_it_ends(rt: HostRuntime) {
+        for (end, status, message) in [
+            (End::Status(1), 1, None),
+            (End::NoMemory, 2, Some("confine: no memory")),
+            (
+                End::CannotRead(File::Table),
+                2,
+                Some("confine: cannot read table"),
+            ),
+            (
+                End::CannotRead(File::Policy),
+                2,
+                Some("confine: cannot read policy"),
+            ),
+            (
+                End::CannotRead(File::Script),
+                2,
+                Some("confine: cannot read script"),
+            ),
+            (End::CannotWrite, 2, Some("confine: cannot write")),
+        ] {
+            assert_eq!(rt; end.status(), status);
+            assert_eq!(rt; end.message(), message);
+        }
+    }
+}

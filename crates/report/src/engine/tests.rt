@@ -1,0 +1,214 @@
+ghost use Rattle.std.specs.Prelude.{◌≡◌};
+ghost use Rattle.report.specs.Devices.{failures_of};
+
+use super::*;
+use crate::Counted;
+use std::io::{self, Read, Write};
+
+const TABLE: &str = "\
+confine-table 1
+label a
+label b
+cnode ca a 0x1000 1
+cnode cb b 0x1040 1
+tcb ta a 0x2000 ready
+tcb tb b 0x2400 ready
+notification n b 0x3000
+context xa a 0x4000 1 10 10
+context xb b 0x4100 0 10 10
+cap ca.0 n w 4
+cap cb.0 n r 0
+cap ta.root ca 63 0x0
+cap tb.root cb 63 0x0
+bind ta xa
+bind tb xb
+end
+";
+
+const POLICY: &str = "\
+confine-policy 1
+edge a reset b
+edge a notify b
+edge a space a
+edge a derive a
+edge a runs a
+edge b reset b
+edge b await b
+edge b space b
+edge b derive b
+edge b runs b
+end
+";
+
+/// The policy without its first edge.
+const NARROW_POLICY: &str = "\
+confine-policy 1
+edge a notify b
+edge a space a
+edge a derive a
+edge a runs a
+edge b reset b
+edge b await b
+edge b space b
+edge b derive b
+edge b runs b
+end
+";
+
+const SCRIPT: &str = "\
+confine-script 1
+1 2 signal 0
+0 3 poll 0
+0 3 poll 0
+end
+";
+
+const LOG: &str = "\
+confine-log 1
+1 2 signal 0 = done
+0 3 poll 0 = done word 4
+0 3 poll 0 = done word 0
+end
+";
+
+const DENIAL: &str =
+    "{\"place\":[\"ca.0\",\"reset\",\"b\"],\"rule\":\"A1\",\"verdict\":\"deny\"}\n";
+
+/// Gives its text, or fails at once.
+#[derive(Drop)]
+enum Text<'a> {
+    Good(&'a [u8]),
+    Bad,
+}
+
+impl Read for Text<'_> {
+    fn read(&mut self, buf: &mut [u8]) -> io::Result<usize> {
+        match self {
+            Text::Good(bytes) => bytes.read(buf),
+            Text::Bad => Err(io::Error::other("the device failed")),
+        }
+    }
+}
+
+/// Has room for so many bytes.
+#[derive(Drop)]
+struct Narrow {
+    taken: Vec<u8>,
+    room: usize,
+}
+
+impl Write for Narrow {
+    fn write(&mut self, buf: &[u8]) -> io::Result<usize> {
+        let count = buf.len().min(self.room);
+        self.taken.extend_from_slice(&buf[..count])?;
+        self.room -= count;
+        Ok(count)
+    }
+
+    fn flush(&mut self) -> io::Result<()> {
+        Ok(())
+    }
+}
+
+/// A file that gives the text, or fails.
+fn file(text: Option<&str>) -> Counted<Text<'_>>
+    ensures { failures_of result ≡ 0 }
+{
+    match text {
+        Some(text) => Counted::new(Text::Good(text.as_bytes())),
+        None => Counted::new(Text::Bad),
+    }
+}
+
+/// How the engine ends, and what it wrote into so much room.
+fn ends(
+    alloc: Global,
+    table: Option<&str>,
+    policy: Option<&str>,
+    script: Option<&str>,
+    room: usize,
+) -> (End, Vec<u8>) {
+    let mut out = Counted::new(Narrow {
+        taken: Vec::new(alloc),
+        room,
+    });
+    let end = run(
+        alloc,
+        &mut file(table),
+        &mut file(policy),
+        &mut file(script),
+        &mut out,
+    );
+    (end, out.into_inner().taken)
+}
+
+#[test]
+fn answers_with_a_log_or_a_report(rt: HostRuntime) {
+    let cut = "confine-table 1\nlabel a\n";
+    let loose = "confine-script 1\n1 2 signal 00\nend\n";
+    for (table, policy, script, status, expected) in [
+        (TABLE, POLICY, SCRIPT, 0, LOG),
+        (TABLE, NARROW_POLICY, SCRIPT, 1, DENIAL),
+        (
+            cut,
+            POLICY,
+            SCRIPT,
+            2,
+            "{\"fault\":50,\"file\":\"table\",\"line\":3}\n",
+        ),
+        (
+            TABLE,
+            "confine-policy 1\n",
+            SCRIPT,
+            2,
+            "{\"fault\":50,\"file\":\"policy\",\"line\":2}\n",
+        ),
+        (
+            TABLE,
+            NARROW_POLICY,
+            loose,
+            2,
+            "{\"fault\":50,\"file\":\"script\",\"line\":2}\n",
+        ),
+        (
+            TABLE,
+            POLICY,
+            "confine-script 1\nend\n",
+            0,
+            "confine-log 1\nend\n",
+        ),
+    ] {
+        let (end, written) = ends(rt.alloc(), Some(table), Some(policy), Some(script), 1000);
+        assert!(rt; end == End::Status(status), "{expected}");
+        assert!(rt; written.as_slice() == expected.as_bytes(), "{expected}");
+    }
+}
+
+#[test]
+fn tells_the_first_file_that_fails(rt: HostRuntime) {
+    for (table, policy, script, file) in [
+        (None, None, None, File::Table),
+        (Some(TABLE), None, None, File::Policy),
+        (Some(TABLE), Some(POLICY), None, File::Script),
+    ] {
+        let (end, written) = ends(rt.alloc(), table, policy, script, 1000);
+        assert!(rt; end == End::CannotRead(file), "{file}");
+        assert!(rt; written.is_empty(), "{file}");
+    }
+    let (end, _) = ends(rt.alloc(), Some("confine-table 1\n"), None, None, 1000);
+    assert!(rt; end == End::Status(2));
+}
+
+#[test]
+fn writes_a_beginning_where_there_is_no_room(rt: HostRuntime) {
+    for (policy, expected) in [(POLICY, LOG), (NARROW_POLICY, DENIAL)] {
+        for room in 0..expected.len() {
+            let (end, written) = ends(rt.alloc(), Some(TABLE), Some(policy), Some(SCRIPT), room);
+            assert!(rt; end == End::CannotWrite, "{room}");
+            assert!(rt;
+                written.as_slice() == &expected.as_bytes()[..room],
+                "{room}"
+            );
+        }
+    }
+}

@@ -1,0 +1,97 @@
+ghost use Rattle.std.specs.Prelude.{◌≡◌, IfOk, map, string_bytes, false};
+ghost use Rattle.serde_json.specs.View.{view};
+ghost use Rattle.serde_json.specs.Written.{has_float};
+ghost use Rattle.report.specs.Reports as reports;
+
+use crate::File;
+use serde_json::{Value, json};
+use std::alloc::{AllocError, Global};
+
+/// The report of a text that isn't one of its format: the fault's number, the file, and the line
+/// that has it.
+pub fn fault_report(alloc: Global, fault: u64, file: File, line: u64) -> Result<Vec<u8>, AllocError>
+    ensures { IfOk result (λ report. report.items ≡ reports.fault_report fault file line) }
+{
+    line_of(alloc, &fault_value(alloc, fault, file, line)?)
+}
+
+#[tactic(auto, using(crate::proofs::Names::names_have_no_float))]
+/// The report of a denial: the rule that is broken, and the names at the place that breaks it.
+pub fn denial_report(alloc: Global, rule: &str, place: &[String]) -> Result<Vec<u8>, AllocError>
+    ensures { IfOk result (λ report.
+        report.items ≡ reports.denial_report rule.now (map string_bytes place.now)) }
+{
+    line_of(alloc, &denial_value(alloc, rule, place)?)
+}
+
+fn fault_value(alloc: Global, fault: u64, file: File, line: u64) -> Result<Value, AllocError>
+    ensures { IfOk result (λ value. view value ≡ reports.fault_data fault file line) }
+{
+    json!(in alloc; {"fault": fault, "file": file.as_str(), "line": line})
+}
+
+fn denial_value(alloc: Global, rule: &str, place: &[String]) -> Result<Value, AllocError>
+    ensures { IfOk result (λ value.
+        view value ≡ reports.denial_data rule.now (map string_bytes place.now)) }
+{
+    let names = names_value(alloc, place)?;
+    json!(in alloc; {"place": names, "rule": rule, "verdict": "deny"})
+}
+
+fn names_value(alloc: Global, names: &[String]) -> Result<Value, AllocError>
+    ensures { IfOk result (λ value. view value ≡ reports.names_data (map string_bytes names.now)) }
+{
+    let mut values = Vec::with_capacity(alloc, names.len())?;
+    for name in names {
+        values.push(Value::try_from_str(alloc, name.as_str())?)?;
+    }
+    Ok(Value::Array(values))
+}
+
+/// A value without floats, printed on a line.
+fn line_of(alloc: Global, value: &Value) -> Result<Vec<u8>, AllocError>
+    requires { has_float (view value.now) ≡ false }
+    ensures { IfOk result (λ line. line.items ≡ reports.line_of (view value.now)) }
+{
+    let mut line = value.to_string(alloc)?;
+    line.push('\n')?;
+    Ok(line.into_bytes())
+}
+
+#[cfg(test)]
+mod tests {
+    use super::*;
+    use std::test::Fail;
+
+    #[test]
+    fn reports_a_fault(rt: HostRuntime) -> Result<(), Fail> {
+        let report = fault_report(rt.alloc(), 50, File::Table, 3)?;
+        let expected = "{\"fault\":50,\"file\":\"table\",\"line\":3}\n";
+        assert!(rt; report.as_slice() == expected.as_bytes());
+        Ok(())
+    }
+
+    #[test]
+    fn reports_a_denial(rt: HostRuntime) -> Result<(), Fail> {
+        let mut place = Vec::new(rt.alloc());
+        for (rule, expected) in [
+            (
+                "A1",
+                "{\"place\":[],\"rule\":\"A1\",\"verdict\":\"deny\"}\n",
+            ),
+            (
+                "P6",
+                "{\"place\":[\"ca.0\"],\"rule\":\"P6\",\"verdict\":\"deny\"}\n",
+            ),
+            (
+                "P3",
+                "{\"place\":[\"ca.0\",\"ca.0\"],\"rule\":\"P3\",\"verdict\":\"deny\"}\n",
+            ),
+        ] {
+            let report = denial_report(rt.alloc(), rule, &place)?;
+            assert!(rt; report.as_slice() == expected.as_bytes());
+            place.push(String::from_str(rt.alloc(), "ca.0")?)?;
+        }
+        Ok(())
+    }
+}
