@@ -1,5 +1,5 @@
 -- The tests of a capability's line are what the table asks of a capability.
-use Rattle.std.proofs.Common.{◌≡◌, ◌≢◌, ◌&&◌, Bool, true, false, Option, Some, None, refl, arith, option_map}
+use Rattle.std.proofs.Common.{◌≡◌, ◌≢◌, true, false, Option, Some, refl, arith, option_map}
 use Rattle.base.specs.declared.ids.ObjId.{ObjId}
 use Rattle.machine.specs.declared.cap.Detail.{Detail}
 use Rattle.machine.specs.declared.cap.Detail.TheVariants as d
@@ -10,9 +10,8 @@ use Rattle.machine.specs.Capabilities.{kind_of_detail}
 use Rattle.machine.specs.Layout.{Layout, initial_of}
 use Rattle.machine.specs.Objects.{kind_of_object}
 use Rattle.table.specs.Building.{may_hold, repeats_untyped, AdmitsCap, is_above_caps, declares_slot, is_fitting}
-use Rattle.table.specs.Rules.{is_tcb, kind_at}
+use Rattle.table.specs.Rules.{kind_at}
 use Rattle.captext.specs.declared.shapes.Place.{Place}
-use Rattle.captext.specs.declared.shapes.Place.TheVariants as place
 use Rattle.captext.specs.Tables.{may_fill, slot_in, capability}
 
 -- a capability that may be at its place may be in its holder

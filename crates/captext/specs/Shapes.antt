@@ -1,5 +1,5 @@
 -- Words with parts: slots, and what may follow the object in a line for a capability.
-use Rattle.std.specs.Prelude.{ℕ, ◌+◌, ◌==◌, List, [], ◌∷◌, take, drop, position, codes, Option, Some, None, Result, Ok, Err, option_map, if◌then◌else◌}
+use Rattle.std.specs.Prelude.{ℕ, ◌+◌, ◌==◌, List, [], ◌∷◌, take, drop, position, codes, Option, Some, None, Result, Ok, option_map, if◌then◌else◌}
 use Rattle.std.specs.Str.{bytes_eq}
 use Rattle.base.specs.declared.rights.Rights.{Rights}
 use Rattle.base.specs.Rights.{rights_of_word}
@@ -23,6 +23,7 @@ slot_of word = at_dot (position (λ b. b == 46) word) where
   with_name None _ = None
   with_name (Some name) None = None
   with_name (Some name) (Some at) = Some (name, at)
+
   at_dot : Option ℕ → Option (List ℕ × Place)
   at_dot None = None
   at_dot (Some i) = with_name (name_of (take i word)) (place_of (drop (i + 1) word))
@@ -40,9 +41,11 @@ term_of word = rights_or (rights_of_word word) where
   hexadecimal_or_none : Option ℕ → Option Term
   hexadecimal_or_none None = None
   hexadecimal_or_none (Some n) = Some (term.Hexadecimal n)
+
   decimal_or : Option ℕ → Option Term
   decimal_or None = hexadecimal_or_none (hex_of word)
   decimal_or (Some n) = Some (term.Decimal n)
+
   rights_or : Option Rights → Option Term
   rights_or None = decimal_or (dec_of word)
   rights_or (Some rights) = Some (term.Rights rights)

@@ -110,7 +110,12 @@ fn is_guard(radix: Radix, size: u64, value: u64) -> bool
 
 /// What the capability of a CNode says, where its own slot's index is within its holder or not.
 #[tactic(auto, unfolding(crate::specs::Tables::guarded))]
-fn guarded(radix: Radix, first: Option<Term>, second: Option<Term>, within: bool) -> Result<Detail, Wrong>
+fn guarded(
+    radix: Radix,
+    first: Option<Term>,
+    second: Option<Term>,
+    within: bool,
+) -> Result<Detail, Wrong>
     ensures exact { result ≡ text.guarded radix (text.guard_in first second) within }
     ensures within { OnOk result (within ≡ true) }
     ensures fits { IfOk result (λ detail. fits_radix radix detail ≡ true) }
@@ -136,7 +141,11 @@ fn unguarded(detail: Option<Detail>, within: bool) -> Result<Detail, Wrong>
     ensures given { IfOk result (λ given. detail ≡ Some given) }
 {
     let detail = detail.ok_or(Wrong::WrongKind)?;
-    if within { Ok(detail) } else { Err(Wrong::Limit) }
+    if within {
+        Ok(detail)
+    } else {
+        Err(Wrong::Limit)
+    }
 }
 
 /// What a capability says, by the kind of its object, where its slot's index is within its holder

@@ -204,11 +204,13 @@ fn limited_share(terms: Option<ShareTerms>) -> Result<Option<Share>, Wrong>
     ensures exact { result ≡ text.limited_share terms }
     ensures within { IfOk result IsWithinLimits }
 {
-    let Some(ShareTerms {
-        core,
-        budget,
-        period,
-    }) = terms
+    let Some(
+        ShareTerms {
+            core,
+            budget,
+            period,
+        },
+    ) = terms
     else {
         return Ok(None);
     };

@@ -76,7 +76,19 @@ fn reads_a_policy(rt: HostRuntime) -> Result<(), Fail> {
     assert_eq!(rt; policy.edges().len(), 3);
     let a = Label::new(0).ok_or("a")?;
     let b = Label::new(1).ok_or("b")?;
-    assert!(rt; policy.has(Edge { from: a, kind: Kind::Notify, to: b }));
-    assert!(rt; !policy.has(Edge { from: a, kind: Kind::Await, to: b }));
+    assert!(rt;
+        policy.has(Edge {
+            from: a,
+            kind: Kind::Notify,
+            to: b
+        })
+    );
+    assert!(rt;
+        !policy.has(Edge {
+            from: a,
+            kind: Kind::Await,
+            to: b
+        })
+    );
     Ok(())
 }

@@ -1,8 +1,8 @@
 -- The header begins the reading, or ends it.
-use Rattle.std.proofs.Common.{◌≡◌, [], Ok, Err, codes, sym, ap, ◌∙◌, subst}
+use Rattle.std.proofs.Common.{◌≡◌, [], Ok, codes, sym, ap, ◌∙◌, subst}
 use Rattle.std.proofs.lemmas.Result.{err_from_is_err_and}
 use Rattle.words.specs.Reading.{header_at, as_it_is}
-use Rattle.words.specs.Text.{Place, words_of, lines_of}
+use Rattle.words.specs.Text.{Place, words_of}
 use Rattle.words.proofs.ReadingLaws.{begins, no_beginning}
 use Rattle.captext.specs.Policies.{edge_line, read_policy_of}
 use Rattle.captext.proofs.policies.read_policy.Goals as goal
