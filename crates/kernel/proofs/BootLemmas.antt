@@ -1,6 +1,6 @@
 -- The boot state of a table with one object or one capability more, and which slots a boot state has.
 use Rattle.std.proofs.Common.{◌≡◌, ◌≢◌, ℕ, zero, suc, ◌+◌, ◌<◌, Bool, true, false, cond, List, [], ◌∷◌, ◌++◌, length, get_or, replicate, take, refl, sym, ap, ◌∙◌, arith}
-use Rattle.std.specs.Prelude.{Option, Some, None, option_map, slice_get, nat_lt, IsTrue}
+use Rattle.std.specs.Prelude.{Option, Some, None, option_map, slice_get, IsTrue}
 use Rattle.std.specs.List.{find}
 use Rattle.std.specs.Option.{option_or}
 use Rattle.std.specs.Cmp.{tied_itself}

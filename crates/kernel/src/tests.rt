@@ -120,31 +120,39 @@ fn signals_are_polled(rt: HostRuntime) -> Result<(), Fail> {
 #[test]
 fn calls_are_refused(rt: HostRuntime) -> Result<(), Fail> {
     let mut state = booted(&rt, rt.alloc())?;
-    // no right
-    assert_eq!(rt; step(&mut state, poll(1, SENDER, 0)?), refused(2, 0));
-    assert_eq!(rt; step(&mut state, signal(0, RECEIVER, 0)?), refused(2, 0));
-    // an empty slot
-    assert_eq!(rt; step(&mut state, signal(1, SENDER, 1)?), refused(2, 0));
-    // another kind of object
-    assert!(rt; state.has_slot(slot(SENDER_SPACE, 1)));
+    let refusals = [
+        // no right
+        (poll(1, SENDER, 0)?, refused(2, 0)),
+        (signal(0, RECEIVER, 0)?, refused(2, 0)),
+        // an empty slot
+        (signal(1, SENDER, 1)?, refused(2, 0)),
+        // a guard that differs
+        (poll(0, RECEIVER, 2)?, refused(6, 4)),
+        // another core
+        (signal(0, SENDER, 0)?, refused(33, 0)),
+        // no thread
+        (signal(1, ABSENT, 0)?, refused(34, 0)),
+        (signal(1, SENDER_SPACE, 0)?, refused(34, 0)),
+    ];
+    for (event, outcome) in refusals {
+        assert_eq!(rt; step(&mut state, event), outcome, "{event:?}");
+    }
+    assert_eq!(rt; pending(&state), None);
+    Ok(())
+}
+
+#[test]
+fn other_kinds_are_refused(rt: HostRuntime) -> Result<(), Fail> {
+    let mut state = booted(&rt, rt.alloc())?;
+    let free = slot(SENDER_SPACE, 1);
+    assert!(rt; state.has_slot(free));
     let own_space = Cap {
         object: SENDER_SPACE,
         detail: SPACE,
         original: false,
     };
-    state.put_cap(slot(SENDER_SPACE, 1), own_space);
+    state.put_cap(free, own_space);
     assert_eq!(rt; step(&mut state, signal(1, SENDER, 1)?), refused(2, 0));
-    // a guard that differs
-    assert_eq!(rt; step(&mut state, poll(0, RECEIVER, 2)?), refused(6, 4));
-    // another core
-    assert_eq!(rt; step(&mut state, signal(0, SENDER, 0)?), refused(33, 0));
-    // no thread
-    assert_eq!(rt; step(&mut state, signal(1, ABSENT, 0)?), refused(34, 0));
-    assert_eq!(rt;
-        step(&mut state, signal(1, SENDER_SPACE, 0)?),
-        refused(34, 0)
-    );
-    assert_eq!(rt; pending(&state), None);
     Ok(())
 }
 

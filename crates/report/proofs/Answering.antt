@@ -1,8 +1,9 @@
 -- From an answer that was made and written to what was written.
 use Rattle.std.proofs.Common.{◌≡◌, ℕ, List, Option, None, Some, Result, Ok, Err, IfOk, IsOkAnd, subst}
 use Rattle.std.proofs.lemmas.Result.{IfOk-weaker}
-use Rattle.report.specs.Answers.{Answers, IfCannotWrite, IfKnown, IfStatus, Judges, faulty, judged}
-use Rattle.report.specs.Loading.{IsFaulty, Loads}
+use Rattle.report.specs.Answers.{Answers, Judges, faulty, judged}
+use Rattle.report.specs.Ends.{IfCannotWrite, IfStatus}
+use Rattle.report.specs.Loading.{IfKnown, IsFaulty, Loads}
 use Rattle.report.specs.Reports.{fault_report}
 use Rattle.report.specs.declared.end.File.{File}
 use Rattle.report.specs.declared.load.Loaded.{Loaded}

@@ -6,8 +6,7 @@ use Rattle.captext.specs.Tables.{read_table_of}
 use Rattle.evtext.specs.Script.{read_script_of}
 use Rattle.machine.specs.Layout.{Layout}
 use Rattle.machine.specs.declared.call.Event.{Event}
-use Rattle.report.specs.Answers.{IfKnown}
-use Rattle.report.specs.Loading.{IsFaulty, IsFaultOf, IsStopOf, LoadsAll}
+use Rattle.report.specs.Loading.{IfKnown, IsFaultOf, IsFaulty, IsStopOf, LoadsAll}
 use Rattle.report.specs.declared.end.File.{File}
 use Rattle.report.specs.declared.end.File.TheVariants.{Policy, Script}
 use Rattle.report.specs.declared.load.Stop.{Stop}

@@ -1,5 +1,5 @@
 -- What the program answers to a table, a policy and a script: the text that it writes, and its exit status.
-use Rattle.std.specs.Prelude.{◌≡◌, ◌≢◌, ◌<◌, ℕ, List, Option, IfSome}
+use Rattle.std.specs.Prelude.{◌≡◌, ℕ, List}
 use Rattle.std.specs.List.{zip}
 use Rattle.base.specs.declared.edge.Edge.{Edge}
 use Rattle.certificate.specs.Verdict.{IsAccepted, IsLeastBroken, rule_name}
@@ -15,8 +15,6 @@ use Rattle.policy.specs.Policy.{allows}
 use Rattle.report.specs.Loading.{Loads, IsFaulty}
 use Rattle.report.specs.Places.{place_names}
 use Rattle.report.specs.Reports.{denial_report, fault_report}
-use Rattle.report.specs.declared.end.End.{End}
-use Rattle.report.specs.declared.end.End.TheVariants.{Status, NoMemory, CannotRead, CannotWrite}
 use Rattle.report.specs.declared.end.File.{File}
 use Rattle.words.specs.declared.faults.Fault.{Fault}
 
@@ -41,39 +39,3 @@ pub data Answers (table policy script text : List ℕ) (status : ℕ) : Type 0 w
       → Answers table policy script text status
   judged : (t : Layout) (edges : List Edge) (events : List Event) → Loads table policy script t edges events → Judges t edges events text status
       → Answers table policy script text status
-
--- a fact of the bytes of three files, where they are known
-abbrev pub IfKnown : Option (List ℕ) → Option (List ℕ) → Option (List ℕ) → (List ℕ → List ℕ → List ℕ → Type 0) → Type 0
-IfKnown table policy script P = IfSome table (λ t. IfSome policy (λ p. IfSome script (λ s. P t p s)))
-
--- a device's failure is told exactly where it failed, by its count of failures before and after
-abbrev pub TellsFailure : End → End → ℕ → ℕ → Type 0
-TellsFailure end told old new = (end ≡ told → old < new) × (end ≢ told → new ≡ old)
-
--- a fact for an end whose answer was written
-abbrev pub IfStatus : End → (ℕ → Type 0) → Type 0
-IfStatus (Status status) P = P status
-IfStatus NoMemory P = Unit {0}
-IfStatus (CannotRead file) P = Unit {0}
-IfStatus CannotWrite P = Unit {0}
-
--- a fact for an end before anything was written
-abbrev pub IfUnwritten : End → Type 0 → Type 0
-IfUnwritten (Status status) P = Unit {0}
-IfUnwritten NoMemory P = P
-IfUnwritten (CannotRead file) P = P
-IfUnwritten CannotWrite P = Unit {0}
-
--- a fact for an end whose answer couldn't be written
-abbrev pub IfCannotWrite : End → Type 0 → Type 0
-IfCannotWrite (Status status) P = Unit {0}
-IfCannotWrite NoMemory P = Unit {0}
-IfCannotWrite (CannotRead file) P = Unit {0}
-IfCannotWrite CannotWrite P = P
-
--- an end that blames no file
-abbrev pub BlamesNoFile : End → Type 0
-BlamesNoFile (Status status) = Unit {0}
-BlamesNoFile NoMemory = Unit {0}
-BlamesNoFile (CannotRead file) = ⊥
-BlamesNoFile CannotWrite = Unit {0}

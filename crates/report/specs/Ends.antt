@@ -1,5 +1,5 @@
--- How the program ends: its exit status, and what it says on standard error.
-use Rattle.std.specs.Prelude.{ℕ, List, ◌++◌, codes, Option, Some, None}
+-- How the program ends: its exit status, what it says on standard error, and what an end tells of the devices and of what was written.
+use Rattle.std.specs.Prelude.{◌≡◌, ◌≢◌, ◌<◌, ℕ, List, ◌++◌, codes, Option, Some, None}
 use Rattle.report.specs.declared.end.File.{File}
 use Rattle.report.specs.declared.end.File.TheVariants.{Table, Policy, Script}
 use Rattle.report.specs.declared.end.End.{End}
@@ -24,3 +24,35 @@ status_of (Status status) = status
 status_of NoMemory = 2
 status_of (CannotRead file) = 2
 status_of CannotWrite = 2
+
+-- a device's failure is told exactly where it failed, by its count of failures before and after
+abbrev pub TellsFailure : End → End → ℕ → ℕ → Type 0
+TellsFailure end told old new = (end ≡ told → old < new) × (end ≢ told → new ≡ old)
+
+-- a fact for an end whose answer was written
+abbrev pub IfStatus : End → (ℕ → Type 0) → Type 0
+IfStatus (Status status) P = P status
+IfStatus NoMemory P = Unit {0}
+IfStatus (CannotRead file) P = Unit {0}
+IfStatus CannotWrite P = Unit {0}
+
+-- a fact for an end before anything was written
+abbrev pub IfUnwritten : End → Type 0 → Type 0
+IfUnwritten (Status status) P = Unit {0}
+IfUnwritten NoMemory P = P
+IfUnwritten (CannotRead file) P = P
+IfUnwritten CannotWrite P = Unit {0}
+
+-- a fact for an end whose answer couldn't be written
+abbrev pub IfCannotWrite : End → Type 0 → Type 0
+IfCannotWrite (Status status) P = Unit {0}
+IfCannotWrite NoMemory P = Unit {0}
+IfCannotWrite (CannotRead file) P = Unit {0}
+IfCannotWrite CannotWrite P = P
+
+-- an end that blames no file
+abbrev pub BlamesNoFile : End → Type 0
+BlamesNoFile (Status status) = Unit {0}
+BlamesNoFile NoMemory = Unit {0}
+BlamesNoFile (CannotRead file) = ⊥
+BlamesNoFile CannotWrite = Unit {0}

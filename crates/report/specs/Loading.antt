@@ -1,5 +1,5 @@
 -- What three files hold, and why one of them couldn't be loaded.
-use Rattle.std.specs.Prelude.{◌≡◌, ◌≢◌, ◌<◌, ℕ, List, Result, Ok, Err}
+use Rattle.std.specs.Prelude.{◌≡◌, ◌≢◌, ◌<◌, ℕ, List, Option, IfSome, Result, Ok, Err}
 use Rattle.base.specs.declared.edge.Edge.{Edge}
 use Rattle.captext.specs.Policies.{read_policy_of}
 use Rattle.captext.specs.Tables.{read_table_of}
@@ -12,6 +12,10 @@ use Rattle.report.specs.declared.load.Loaded.{Loaded}
 use Rattle.report.specs.declared.load.Stop.{Stop}
 use Rattle.report.specs.declared.load.Stop.TheVariants as stop
 use Rattle.words.specs.declared.faults.Fault.{Fault}
+
+-- a fact of the bytes of three files, where they are known
+abbrev pub IfKnown : Option (List ℕ) → Option (List ℕ) → Option (List ℕ) → (List ℕ → List ℕ → List ℕ → Type 0) → Type 0
+IfKnown table policy script P = IfSome table (λ t. IfSome policy (λ p. IfSome script (λ s. P t p s)))
 
 -- the bytes of the files are the texts of a table, a policy with its labels, and a script
 pub record Loads (table policy script : List ℕ) (t : Layout) (edges : List Edge) (events : List Event) : Type 0 where

@@ -36,7 +36,7 @@ impl fmt::Display for File {
 /// How an engine ends.
 #[derive(Clone, Copy, PartialEq, Eq, Debug)]
 pub enum End {
-    /// The answer was written: 0 for a yes, 1 for a denial, 2 for a text that can't be read.
+    /// The answer was written: 0 for a yes, 1 for a denial, 2 for a fault of a text.
     Status(u8),
     /// Memory was refused, and nothing was written.
     NoMemory,

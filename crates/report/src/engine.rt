@@ -4,12 +4,15 @@ ghost use Rattle.captext.specs.Policies.{read_policy_of};
 ghost use Rattle.captext.specs.Tables.{read_table_of};
 ghost use Rattle.machine.specs.Layout.{Layout};
 ghost use Rattle.report.specs.Answers as answers;
-ghost use Rattle.report.specs.Answers.{BlamesNoFile, IfCannotWrite, IfKnown, IfStatus, IfUnwritten, TellsFailure};
+ghost use Rattle.report.specs.Ends.{BlamesNoFile, IfCannotWrite, IfStatus, IfUnwritten, TellsFailure};
+ghost use Rattle.report.specs.Loading.{IfKnown};
 ghost use Rattle.report.specs.Devices.{AppendsBeginning};
 ghost use Rattle.report.specs.Reports as reports;
 
 use crate::load::{Loaded, Stop, load};
-use crate::{End, File, Sink, Source, denial_report, fault_report, place_names};
+use crate::places::place_names;
+use crate::reports::{denial_report, fault_report};
+use crate::{End, File, Sink, Source};
 use base::Refusal;
 use captext::Fault;
 use certificate::first_check;

@@ -12,5 +12,3 @@ mod reports;
 pub use device::{Counted, ReadError, Sink, Source, WriteError};
 pub use end::{End, File};
 pub use engine::run;
-pub use places::place_names;
-pub use reports::{denial_report, fault_report};

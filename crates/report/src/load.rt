@@ -3,8 +3,7 @@ ghost use Rattle.captext.specs.Policies.{read_policy_of};
 ghost use Rattle.captext.specs.Tables.{read_table_of};
 ghost use Rattle.evtext.specs.Script.{read_script_of};
 ghost use Rattle.machine.specs.Layout.{Layout};
-ghost use Rattle.report.specs.Loading.{IsDeviceStop, IsStopOf, LoadsAll, LoadsAs, TellsDevice};
-ghost use Rattle.report.specs.Answers.{IfKnown};
+ghost use Rattle.report.specs.Loading.{IfKnown, IsDeviceStop, IsStopOf, LoadsAll, LoadsAs, TellsDevice};
 ghost use Rattle.words.specs.Fault.{no_memory};
 
 use crate::{File, ReadError, Source};

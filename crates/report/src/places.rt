@@ -7,7 +7,11 @@ use std::alloc::{AllocError, Global};
 use table::Table;
 
 /// The names at the place that a denial names.
-pub fn place_names(alloc: Global, table: &Table, denial: &Denial) -> Result<Vec<String>, AllocError>
+pub(crate) fn place_names(
+    alloc: Global,
+    table: &Table,
+    denial: &Denial,
+) -> Result<Vec<String>, AllocError>
     ensures { IfOk result (λ names.
         map string_bytes names.items ≡ places.place_names table.now denial.now) }
 {

@@ -9,7 +9,12 @@ use std::alloc::{AllocError, Global};
 
 /// The report of a text that isn't one of its format: the fault's number, the file, and the line
 /// that has it.
-pub fn fault_report(alloc: Global, fault: u64, file: File, line: u64) -> Result<Vec<u8>, AllocError>
+pub(crate) fn fault_report(
+    alloc: Global,
+    fault: u64,
+    file: File,
+    line: u64,
+) -> Result<Vec<u8>, AllocError>
     ensures { IfOk result (λ report. report.items ≡ reports.fault_report fault file line) }
 {
     line_of(alloc, &fault_value(alloc, fault, file, line)?)
@@ -17,7 +22,11 @@ pub fn fault_report(alloc: Global, fault: u64, file: File, line: u64) -> Result<
 
 #[tactic(auto, using(crate::proofs::Names::names_have_no_float))]
 /// The report of a denial: the rule that is broken, and the names at the place that breaks it.
-pub fn denial_report(alloc: Global, rule: &str, place: &[String]) -> Result<Vec<u8>, AllocError>
+pub(crate) fn denial_report(
+    alloc: Global,
+    rule: &str,
+    place: &[String],
+) -> Result<Vec<u8>, AllocError>
     ensures { IfOk result (λ report.
         report.items ≡ reports.denial_report rule.now (map string_bytes place.now)) }
 {

@@ -1,5 +1,5 @@
 ghost use Rattle.std.specs.Prelude.{◌≡◌, true, Some, IfOk};
-ghost use Rattle.table.specs.Names.{is_name};
+ghost use Rattle.words.specs.Name.{is_name};
 ghost use Rattle.table.specs.Rules.{IsBlank, IsWithinLimits};
 
 use base::{CoreNo, ObjId, Rights, SlotRef};

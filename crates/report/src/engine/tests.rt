@@ -5,74 +5,59 @@ use super::*;
 use crate::Counted;
 use std::io::{self, Read, Write};
 
+/// One thread with a notification of its own.
 const TABLE: &str = "\
 confine-table 1
 label a
-label b
-cnode ca a 0x1000 1
-cnode cb b 0x1040 1
-tcb ta a 0x2000 ready
-tcb tb b 0x2400 ready
-notification n b 0x3000
-context xa a 0x4000 1 10 10
-context xb b 0x4100 0 10 10
-cap ca.0 n w 4
-cap cb.0 n r 0
-cap ta.root ca 63 0x0
-cap tb.root cb 63 0x0
-bind ta xa
-bind tb xb
+cnode c a 0x1000 1
+tcb t a 0x2000 ready
+notification n a 0x3000
+context x a 0x4000 0 10 10
+cap c.0 n rw 4
+cap t.root c 63 0x0
+bind t x
 end
 ";
 
 const POLICY: &str = "\
 confine-policy 1
-edge a reset b
-edge a notify b
+edge a reset a
+edge a notify a
+edge a await a
 edge a space a
 edge a derive a
 edge a runs a
-edge b reset b
-edge b await b
-edge b space b
-edge b derive b
-edge b runs b
 end
 ";
 
 /// The policy without its first edge.
 const NARROW_POLICY: &str = "\
 confine-policy 1
-edge a notify b
+edge a notify a
+edge a await a
 edge a space a
 edge a derive a
 edge a runs a
-edge b reset b
-edge b await b
-edge b space b
-edge b derive b
-edge b runs b
 end
 ";
 
 const SCRIPT: &str = "\
 confine-script 1
-1 2 signal 0
-0 3 poll 0
-0 3 poll 0
+0 1 signal 0
+0 1 poll 0
+0 1 poll 0
 end
 ";
 
 const LOG: &str = "\
 confine-log 1
-1 2 signal 0 = done
-0 3 poll 0 = done word 4
-0 3 poll 0 = done word 0
+0 1 signal 0 = done
+0 1 poll 0 = done word 4
+0 1 poll 0 = done word 0
 end
 ";
 
-const DENIAL: &str =
-    "{\"place\":[\"ca.0\",\"reset\",\"b\"],\"rule\":\"A1\",\"verdict\":\"deny\"}\n";
+const DENIAL: &str = "{\"place\":[\"c.0\",\"reset\",\"a\"],\"rule\":\"A1\",\"verdict\":\"deny\"}\n";
 
 /// Gives its text, or fails at once.
 #[derive(Drop)]
@@ -145,7 +130,7 @@ fn ends(
 #[test]
 fn answers_with_a_log_or_a_report(rt: HostRuntime) {
     let cut = "confine-table 1\nlabel a\n";
-    let loose = "confine-script 1\n1 2 signal 00\nend\n";
+    let loose = "confine-script 1\n0 1 signal 00\nend\n";
     for (table, policy, script, status, expected) in [
         (TABLE, POLICY, SCRIPT, 0, LOG),
         (TABLE, NARROW_POLICY, SCRIPT, 1, DENIAL),
