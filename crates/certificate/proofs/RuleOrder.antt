@@ -21,26 +21,5 @@ module _ (t : Layout) (allowed : EdgeTest) where
     covers (denial.Root slot label) broken = (a2, omega arith, ((refl, tt), broken))
     covers (denial.Binding thread context) broken = (a4, omega arith, ((refl, tt), broken))
 
-  before_a1 : IsNone (BreaksUnder t allowed (p1 ∷ [])) → (k : ℕ) → k < a1 → IsNone (BreaksUnder t allowed (k ∷ []))
-  before_a1 no_p1 = none_more rules 0 0 refl (λ k lt. absurd (omega arith)) no_p1
-
-  before_a2 : IsNone (BreaksUnder t allowed (p1 ∷ [])) → IsNone (BreaksUnder t allowed (a1 ∷ [])) → (k : ℕ) → k < a2 → IsNone (BreaksUnder t allowed (k ∷ []))
-  before_a2 no_p1 no_a1 = none_more rules 1 1 refl (before_a1 no_p1) no_a1
-
-  before_a4 : IsNone (BreaksUnder t allowed (p1 ∷ [])) → IsNone (BreaksUnder t allowed (a1 ∷ [])) → IsNone (BreaksUnder t allowed (a2 ∷ [])) → (k : ℕ) → k < a4 → IsNone (BreaksUnder t allowed (k ∷ []))
-  before_a4 no_p1 no_a1 no_a2 = none_more rules 2 2 refl (before_a2 no_p1 no_a1) no_a2
-
   pub least_of_p1 : (d : Denial) → IsLeast (BreaksUnder t allowed (p1 ∷ [])) d → IsLeast (Breaks t allowed) d
   least_of_p1 d least = least_in_part rules 0 0 refl (omega arith) (λ k lt. absurd (omega arith)) d least
-
-  pub least_of_a1 : IsNone (BreaksUnder t allowed (p1 ∷ [])) → (d : Denial) → IsLeast (BreaksUnder t allowed (a1 ∷ [])) d → IsLeast (Breaks t allowed) d
-  least_of_a1 no_p1 d least = least_in_part rules 1 1 refl (omega arith) (before_a1 no_p1) d least
-
-  pub least_of_a2 : IsNone (BreaksUnder t allowed (p1 ∷ [])) → IsNone (BreaksUnder t allowed (a1 ∷ [])) → (d : Denial) → IsLeast (BreaksUnder t allowed (a2 ∷ [])) d → IsLeast (Breaks t allowed) d
-  least_of_a2 no_p1 no_a1 d least = least_in_part rules 2 2 refl (omega arith) (before_a2 no_p1 no_a1) d least
-
-  pub least_of_a4 : IsNone (BreaksUnder t allowed (p1 ∷ [])) → IsNone (BreaksUnder t allowed (a1 ∷ [])) → IsNone (BreaksUnder t allowed (a2 ∷ [])) → (d : Denial) → IsLeast (BreaksUnder t allowed (a4 ∷ [])) d → IsLeast (Breaks t allowed) d
-  least_of_a4 no_p1 no_a1 no_a2 d least = least_in_part rules 3 3 refl (omega arith) (before_a4 no_p1 no_a1 no_a2) d least
-
-  pub none_of_rules : IsNone (BreaksUnder t allowed (p1 ∷ [])) → IsNone (BreaksUnder t allowed (a1 ∷ [])) → IsNone (BreaksUnder t allowed (a2 ∷ [])) → IsNone (BreaksUnder t allowed (a4 ∷ [])) → IsNone (Breaks t allowed)
-  none_of_rules no_p1 no_a1 no_a2 no_a4 = none_in_parts rules (none_more rules 3 3 refl (before_a4 no_p1 no_a1 no_a2) no_a4)

@@ -46,6 +46,3 @@ fn first_broken(table: &Table, policy: &Policy) -> Option<Denial>
     }
     first_binding(table, policy)
 }
-
-#[cfg(test)]
-mod tests;

@@ -1,13 +1,13 @@
-ghost use Rattle.std.specs.Prelude.{◌≡◌, true, IfOk};
+ghost use Rattle.std.specs.Prelude.{◌≡◌, true};
 ghost use Rattle.words.specs.Name.{is_name};
 ghost use Rattle.table.specs.Rules.{IsBlank};
 
 use super::Table;
 use crate::{is_addressable, is_aligned};
-use base::{CoreNo, Label, ObjId, Rights, SlotRef};
+use base::{CoreNo, Label, ObjId, SlotRef};
 use machine::{
-    Badged, Binding, CNode, Cap, Context, Control, Detail, Endpoint, Filled, Guard, Inbox, Initial,
-    Notification, Object, ObjectKind, Radix, RunState, Share, Tcb, Untyped,
+    Binding, CNode, Cap, Context, Control, Detail, Endpoint, Filled, Guard, Inbox, Initial, Object,
+    ObjectKind, Radix, RunState, Share, Tcb, Untyped,
 };
 use std::alloc::{AllocError, Global};
 use std::process::Abort;
@@ -82,271 +82,124 @@ fn slot(holder: u64, index: u64) -> SlotRef {
     }
 }
 
-// A notification from one label to another, on two cores.
+// A thread `t` with a space of four slots, `c`, which has memory `u` and itself; the thread runs on
+// `x`, and `k` is the control of core 3.
 
-fn add_nodes(rt: &impl Abort, table: &mut Table, a: Label, b: Label) -> Result<(), Fail> {
-    let radix = Radix::new(1).ok_or("radix")?;
-    let first = CNode {
+fn add_holders(rt: &impl Abort, table: &mut Table, label: Label) -> Result<(), Fail> {
+    let radix = Radix::new(2).ok_or("radix")?;
+    let object = Object::CNode(CNode {
         address: 0x1000,
         radix,
-    };
-    let second = CNode {
-        address: 0x1040,
-        radix,
-    };
-    declare(
-        rt,
-        table,
-        "ca",
-        Initial {
-            label: a,
-            object: Object::CNode(first),
-        },
-    )?;
-    declare(
-        rt,
-        table,
-        "cb",
-        Initial {
-            label: b,
-            object: Object::CNode(second),
-        },
-    )?;
-    Ok(())
-}
-
-fn thread(address: u64) -> Object
-    ensures { IsBlank result }
-{
-    Object::Tcb(Tcb {
-        address,
+    });
+    declare(rt, table, "c", Initial { label, object })?;
+    let object = Object::Tcb(Tcb {
+        address: 0x2000,
         state: RunState::Ready,
         inbox: Inbox::Empty,
         context: None,
-    })
+    });
+    declare(rt, table, "t", Initial { label, object })?;
+    Ok(())
 }
 
-fn notification(address: u64) -> Object
-    ensures { IsBlank result }
-{
-    Object::Notification(Notification {
-        address,
-        pending: None,
-    })
-}
-
-fn context(address: u64, core: u64) -> Result<Object, Fail>
-    ensures { IfOk result IsBlank }
-{
-    let core = CoreNo::new(core).ok_or("core")?;
+fn add_others(rt: &impl Abort, table: &mut Table, label: Label) -> Result<(), Fail> {
+    let core = CoreNo::new(3).ok_or("core")?;
     let share = Share {
         core,
         budget: 10,
         period: 10,
     };
-    Ok(Object::Context(Context {
-        address,
+    let object = Object::Context(Context {
+        address: 0x4000,
         share: Some(share),
         thread: None,
-    }))
-}
-
-fn add_objects(rt: &impl Abort, table: &mut Table, a: Label, b: Label) -> Result<(), Fail> {
-    add_nodes(rt, table, a, b)?;
-    declare(
-        rt,
-        table,
-        "ta",
-        Initial {
-            label: a,
-            object: thread(0x2000),
-        },
-    )?;
-    declare(
-        rt,
-        table,
-        "tb",
-        Initial {
-            label: b,
-            object: thread(0x2400),
-        },
-    )?;
-    declare(
-        rt,
-        table,
-        "n",
-        Initial {
-            label: b,
-            object: notification(0x3000),
-        },
-    )?;
-    declare(
-        rt,
-        table,
-        "xa",
-        Initial {
-            label: a,
-            object: context(0x4000, 1)?,
-        },
-    )?;
-    declare(
-        rt,
-        table,
-        "xb",
-        Initial {
-            label: b,
-            object: context(0x4100, 0)?,
-        },
-    )?;
+    });
+    declare(rt, table, "x", Initial { label, object })?;
+    let object = Object::Untyped(Untyped {
+        base: 0x1_0000,
+        bits: 12,
+        watermark: 0x1_0000,
+    });
+    declare(rt, table, "u", Initial { label, object })?;
+    let object = Object::Control(Control { core });
+    declare(rt, table, "k", Initial { label, object })?;
     Ok(())
-}
-
-fn end(rights: Rights, badge: u64) -> Detail {
-    Detail::Notification(Badged { rights, badge })
 }
 
 fn space(size: u8, value: u64) -> Detail {
     Detail::CNode(Guard { size, value })
 }
 
-fn add_caps(rt: &impl Abort, table: &mut Table) -> Result<(), Fail> {
-    fill(rt, table, slot(0, 0), ObjId(4), end(Rights::WRITE, 4))?;
-    fill(rt, table, slot(1, 0), ObjId(4), end(Rights::READ, 0))?;
-    fill(rt, table, slot(2, 0), ObjId(0), space(63, 0))?;
-    fill(rt, table, slot(3, 0), ObjId(1), space(63, 0))?;
-    Ok(())
-}
-
-fn two_cores(rt: &impl Abort, alloc: Global) -> Result<Table, Fail> {
+fn small(rt: &impl Abort, alloc: Global) -> Result<Table, Fail> {
     let mut table = Table::new(alloc);
     declare_label(rt, &mut table, "a")?;
     declare_label(rt, &mut table, "b")?;
     let a = table.label_named("a").ok_or("a")?;
     let b = table.label_named("b").ok_or("b")?;
-    add_objects(rt, &mut table, a, b)?;
-    add_caps(rt, &mut table)?;
-    bind(
-        rt,
-        &mut table,
-        Binding {
-            thread: ObjId(2),
-            context: ObjId(5),
-        },
-    )?;
-    bind(
-        rt,
-        &mut table,
-        Binding {
-            thread: ObjId(3),
-            context: ObjId(6),
-        },
-    )?;
+    add_holders(rt, &mut table, a)?;
+    add_others(rt, &mut table, b)?;
+    fill(rt, &mut table, slot(0, 0), ObjId(3), Detail::Untyped)?;
+    fill(rt, &mut table, slot(0, 1), ObjId(0), space(62, 0))?;
+    fill(rt, &mut table, slot(1, 0), ObjId(0), space(62, 0))?;
+    let thread = ObjId(1);
+    let context = ObjId(2);
+    bind(rt, &mut table, Binding { thread, context })?;
     Ok(table)
 }
 
 #[test]
 fn names(rt: HostRuntime) -> Result<(), Fail> {
-    let table = two_cores(&rt, rt.alloc())?;
+    let table = small(&rt, rt.alloc())?;
     assert_eq!(rt; table.label_count(), 2);
     let b = table.label_named("b").ok_or("b")?;
     assert_eq!(rt; b.number(), 1);
     assert_eq!(rt; table.label_name(b), Some("b"));
-    assert!(rt; table.label_named("n").is_none());
-    assert_eq!(rt; table.object_name(ObjId(4)), Some("n"));
-    assert_eq!(rt; table.object_named("tb"), Some(ObjId(3)));
+    assert!(rt; table.label_named("c").is_none());
+    assert_eq!(rt; table.object_name(ObjId(3)), Some("u"));
+    assert_eq!(rt; table.object_named("x"), Some(ObjId(2)));
     assert!(rt; table.object_named("a").is_none());
     Ok(())
 }
 
 #[test]
 fn objects(rt: HostRuntime) -> Result<(), Fail> {
-    let table = two_cores(&rt, rt.alloc())?;
-    assert_eq!(rt; table.object_count(), 7);
-    assert_eq!(rt; table.objects().len(), 7);
-    assert_eq!(rt; table.slot_count(), 6);
-    assert_eq!(rt; table.thread_count(), 2);
-    let n = table.object(ObjId(4)).ok_or("n")?;
-    assert_eq!(rt; n.label.number(), 1);
-    assert!(rt; matches!(table.kind(ObjId(5)), Some(ObjectKind::Context)));
-    assert!(rt; table.object(ObjId(7)).is_none());
+    let table = small(&rt, rt.alloc())?;
+    assert_eq!(rt; table.object_count(), 5);
+    assert_eq!(rt; table.objects().len(), 5);
+    assert_eq!(rt; table.slot_count(), 5);
+    assert_eq!(rt; table.thread_count(), 1);
+    let memory = table.object(ObjId(3)).ok_or("u")?;
+    assert_eq!(rt; memory.label.number(), 1);
+    assert!(rt; matches!(table.kind(ObjId(2)), Some(ObjectKind::Context)));
+    assert!(rt; table.object(ObjId(5)).is_none());
     Ok(())
 }
 
 #[test]
 fn caps(rt: HostRuntime) -> Result<(), Fail> {
-    let table = two_cores(&rt, rt.alloc())?;
-    assert_eq!(rt; table.caps().len(), 4);
+    let table = small(&rt, rt.alloc())?;
+    assert_eq!(rt; table.caps().len(), 3);
     let last = table.last_cap().ok_or("last")?;
-    assert_eq!(rt; last.slot, slot(3, 0));
-    let second = table.cap(slot(1, 0)).ok_or("second")?;
-    assert_eq!(rt; second.object, ObjId(4));
-    assert!(rt; table.cap(slot(0, 1)).is_none());
+    assert_eq!(rt; last.slot, slot(1, 0));
+    let first = table.cap(slot(0, 0)).ok_or("first")?;
+    assert_eq!(rt; first.object, ObjId(3));
+    assert!(rt; table.cap(slot(0, 2)).is_none());
     assert!(rt; table.pairs().is_empty());
-    assert!(rt; table.parent(slot(2, 0)).is_none());
+    assert!(rt; table.parent(slot(0, 1)).is_none());
     Ok(())
 }
 
 #[test]
 fn bindings(rt: HostRuntime) -> Result<(), Fail> {
-    let table = two_cores(&rt, rt.alloc())?;
-    assert_eq!(rt; table.bindings().len(), 2);
+    let table = small(&rt, rt.alloc())?;
+    assert_eq!(rt; table.bindings().len(), 1);
     let last = table.last_binding().ok_or("last")?;
-    assert_eq!(rt; last.thread, ObjId(3));
-    assert_eq!(rt; table.bound_context(ObjId(2)), Some(ObjId(5)));
-    assert_eq!(rt; table.bound_thread(ObjId(6)), Some(ObjId(3)));
-    assert!(rt; table.is_bound(ObjId(5)));
-    assert!(rt; table.is_above_bindings(ObjId(4)));
+    assert_eq!(rt; last.thread, ObjId(1));
+    assert_eq!(rt; table.bound_context(ObjId(1)), Some(ObjId(2)));
+    assert_eq!(rt; table.bound_thread(ObjId(2)), Some(ObjId(1)));
+    assert!(rt; table.is_bound(ObjId(2)));
+    assert!(rt; table.is_above_bindings(ObjId(2)));
     Ok(())
-}
-
-// What a reader of tables refuses.
-
-// A CNode of four slots (128 bytes), the control of core 3, and memory of 4,096 bytes, to which the
-// CNode's second slot has a capability.
-fn small(rt: &impl Abort, alloc: Global) -> Result<Table, Fail> {
-    let mut table = Table::new(alloc);
-    declare_label(rt, &mut table, "a")?;
-    let label = table.label_named("a").ok_or("a")?;
-    let radix = Radix::new(2).ok_or("radix")?;
-    let core = CoreNo::new(3).ok_or("core")?;
-    let node = CNode {
-        address: 0x1000,
-        radix,
-    };
-    let memory = Untyped {
-        base: 0x1_0000,
-        bits: 12,
-        watermark: 0x1_0000,
-    };
-    declare(
-        rt,
-        &mut table,
-        "c",
-        Initial {
-            label,
-            object: Object::CNode(node),
-        },
-    )?;
-    declare(
-        rt,
-        &mut table,
-        "k",
-        Initial {
-            label,
-            object: Object::Control(Control { core }),
-        },
-    )?;
-    declare(
-        rt,
-        &mut table,
-        "u",
-        Initial {
-            label,
-            object: Object::Untyped(memory),
-        },
-    )?;
-    fill(rt, &mut table, slot(0, 1), ObjId(2), Detail::Untyped)?;
-    Ok(table)
 }
 
 fn endpoint(address: u64) -> Object {
@@ -359,6 +212,7 @@ fn overlaps(rt: &impl Abort, table: &Table, address: u64) -> bool {
     !table.is_free(&object)
 }
 
+// `c` has the 128 bytes from 0x1000 on.
 #[test]
 fn placement(rt: HostRuntime) -> Result<(), Fail> {
     let table = small(&rt, rt.alloc())?;
@@ -398,7 +252,7 @@ fn fits_node(table: &Table, size: u8, value: u64) -> bool {
 #[test]
 fn filling(rt: HostRuntime) -> Result<(), Fail> {
     let table = small(&rt, rt.alloc())?;
-    for (holder, index, there) in [(0, 3, true), (0, 4, false), (1, 0, false), (3, 0, false)] {
+    for (holder, index, there) in [(0, 3, true), (0, 4, false), (1, 1, false), (5, 0, false)] {
         assert_eq!(rt;
             table.declares_slot(slot(holder, index)),
             there,
@@ -408,10 +262,10 @@ fn filling(rt: HostRuntime) -> Result<(), Fail> {
     for (size, value, fits) in [(62, 1, true), (63, 0, false), (1, 2, false), (0, 1, false)] {
         assert_eq!(rt; fits_node(&table, size, value), fits, "{size} {value}");
     }
-    for (index, above) in [(1, false), (2, true)] {
-        assert_eq!(rt; table.is_above_caps(slot(0, index)), above, "{index}");
+    for (index, above) in [(0, false), (1, true)] {
+        assert_eq!(rt; table.is_above_caps(slot(1, index)), above, "{index}");
     }
-    for (object, taken) in [(0, false), (2, true)] {
+    for (object, taken) in [(0, true), (1, false), (3, true)] {
         assert_eq!(rt; table.has_cap_to(ObjId(object)), taken, "{object}");
     }
     Ok(())
