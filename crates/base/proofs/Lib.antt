@@ -1,1 +1,2 @@
 pub mod RightsWords
+pub mod KindNames

@@ -1,25 +1,40 @@
-use Rattle.std.proofs.Common.{◌≡◌, ℕ, zero, suc, ◌<◌, Bool, true, false, cond, List, [], ◌∷◌, Option, Some, refl, arith}
+-- Each way between a set of rights and its word.
+use Rattle.std.proofs.Common.{◌≡◌, ℕ, zero, suc, ◌<◌, ◌↔◌, Bool, true, false, cond, List, [], ◌∷◌, Option, Some, None, refl, sym, ap, ◌∙◌, subst, lit<, arith}
 use Rattle.std.specs.Prelude.{IfSome, bytes_eq}
-use Rattle.std.specs.List.{find}
+use Rattle.std.specs.List.{find, AllByRecursion}
 use Rattle.std.specs.Bool.{Decides}
 use Rattle.std.proofs.lemmas.Slice.Eq.{bytes_eq-Decides}
 use Rattle.base.specs.declared.rights.Rights.{Rights}
-use Rattle.base.specs.Rights.{rights_with, rights_word, all_rights, rights_of_word}
+use Rattle.base.specs.Rights.{rights_with, rights_word, all_rights, rights_of_word, IsRights}
+
+abbrev Names : List ℕ → Rights → Type 0
+Names word rights = (word ≡ rights_word rights) × IsRights rights
 
 -- what is found has the word
-by_test : (word : List ℕ) (first : Rights) (found : Option Rights) (same : Bool) → Decides same (word ≡ rights_word first) → IfSome found (λ rights. word ≡ rights_word rights) → IfSome (cond same (Some first) found) (λ rights. word ≡ rights_word rights)
-by_test word first found true same rest = same.0 refl
-by_test word first found false same rest = rest
+by_test : (word : List ℕ) (first : Rights) (found : Option Rights) (same : Bool) → Decides same (word ≡ rights_word first)
+    → IsRights first → IfSome found (Names word) → IfSome (cond same (Some first) found) (Names word)
+by_test word first found true same is rest = (same.0 refl, is)
+by_test word first found false same is rest = rest
 
-found_word : (word : List ℕ) (sets : List Rights) → IfSome (find (λ rights. bytes_eq word (rights_word rights)) sets) (λ rights. word ≡ rights_word rights)
-found_word word [] = tt
-found_word word (first ∷ rest) =
-    by_test word first _ (bytes_eq word (rights_word first)) (bytes_eq-Decides word (rights_word first)) (found_word word rest)
+found_word : (word : List ℕ) (sets : List Rights) → AllByRecursion IsRights sets
+    → IfSome (find (λ rights. bytes_eq word (rights_word rights)) sets) (Names word)
+found_word word [] are = tt
+found_word word (first ∷ rest) are =
+    by_test word first _ (bytes_eq word (rights_word first)) (bytes_eq-Decides word (rights_word first)) are.0 (found_word word rest are.1)
+
+each_is : AllByRecursion IsRights all_rights
+each_is = (lit< tt, (lit< tt, (lit< tt, (lit< tt, (lit< tt, (lit< tt, (lit< tt, (lit< tt, (lit< tt, (lit< tt, (lit< tt, (lit< tt, (lit< tt, (lit< tt, (lit< tt, (lit< tt, tt))))))))))))))))
+
+named_word : (word : List ℕ) → IfSome (rights_of_word word) (Names word)
+unfolding rights_of_word
+named_word word = found_word word all_rights each_is
 
 -- the set that a word names has that word
 pub rights_word-rights_of_word : (word : List ℕ) → IfSome (rights_of_word word) (λ rights. word ≡ rights_word rights)
-unfolding rights_of_word
-rights_word-rights_of_word word = found_word word all_rights
+rights_word-rights_of_word word = spelled (rights_of_word word) (named_word word) where
+  spelled : (found : Option Rights) → IfSome found (Names word) → IfSome found (λ rights. word ≡ rights_word rights)
+  spelled None names = tt
+  spelled (Some rights) names = names.0
 
 -- the word of a set is read as that set
 pub rights_of_word-rights_word : (n : ℕ) → n < 16 → rights_of_word (rights_word (rights_with n)) ≡ Some (rights_with n)
@@ -41,3 +56,20 @@ rights_of_word-rights_word (suc (suc (suc (suc (suc (suc (suc (suc (suc (suc (su
 rights_of_word-rights_word (suc (suc (suc (suc (suc (suc (suc (suc (suc (suc (suc (suc (suc (suc zero)))))))))))))) below = refl
 rights_of_word-rights_word (suc (suc (suc (suc (suc (suc (suc (suc (suc (suc (suc (suc (suc (suc (suc zero))))))))))))))) below = refl
 rights_of_word-rights_word (suc (suc (suc (suc (suc (suc (suc (suc (suc (suc (suc (suc (suc (suc (suc (suc n)))))))))))))))) below = absurd (omega arith)
+
+-- a word names a set just where it is the word of that set of the four rights
+pub rights_named : (word : List ℕ) (rights : Rights) → rights_of_word word ≡ Some rights
+    → (word ≡ rights_word rights) × IsRights rights
+rights_named word rights is = subst (λ found. IfSome found (Names word)) is (named_word word)
+
+pub rights_again : (rights : Rights) → IsRights rights → rights_of_word (rights_word rights) ≡ Some rights
+rights_again rights is = rights_of_word-rights_word rights.0 is
+
+pub named_iff : (word : List ℕ) (rights : Rights)
+    → (rights_of_word word ≡ Some rights) ↔ ((word ≡ rights_word rights) × IsRights rights)
+named_iff word rights = (rights_named word rights, λ h. ap (λ w. rights_of_word w) h.0 ∙ rights_again rights h.1)
+
+-- different sets have different words
+pub rights_once : (one other : Rights) → IsRights one → IsRights other → rights_word one ≡ rights_word other → one ≡ other
+rights_once one other is_one is_other same =
+    let both : Some one ≡ Some other = sym (rights_again one is_one) ∙ ap (λ w. rights_of_word w) same ∙ rights_again other is_other in cc

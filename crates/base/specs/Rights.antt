@@ -1,6 +1,6 @@
 -- The word of a set of rights, and the set that a word names: the letters of read, write, grant and grant-reply in this order,
 -- or - for none (seL4 manual, "Capability Rights").
-use Rattle.std.specs.Prelude.{ℕ, List, [], ◌∷◌, ◌++◌, codes, Option, bytes_eq, if◌then◌else◌, ◌==◌, map}
+use Rattle.std.specs.Prelude.{ℕ, ◌<◌, List, [], ◌∷◌, ◌++◌, codes, Option, bytes_eq, if◌then◌else◌, ◌==◌, map}
 use Rattle.std.specs.List.{find}
 use Rattle.std.specs.Int.RustNames.{bit_and}
 use Rattle.base.specs.declared.rights.Rights.{Rights}
@@ -8,6 +8,10 @@ use Rattle.base.specs.declared.rights.Rights.{Rights}
 -- the set whose bits are those of a number
 abbrev pub rights_with : ℕ → Rights
 rights_with bits = record { 0 = bits }
+
+-- a set of the four rights, with no further bit
+abbrev pub IsRights : Rights → Type 0
+IsRights rights = rights.0 < 16
 
 -- a letter, if the set has the right that it stands for
 abbrev pub letter_of : Rights → ℕ → List ℕ → List ℕ

@@ -1,6 +1,7 @@
-ghost use Rattle.std.specs.Prelude.{⊤, ◌≡◌, ◌==◌, ℕ, [], ◌∷◌, codes, Some, None, Bool};
+ghost use Rattle.std.specs.Prelude.{⊤, ◌≡◌, ◌==◌, ◌↔◌, ◌<◌, ℕ, List, [], ◌∷◌, codes, Some, None, Bool};
 ghost use Rattle.std.specs.Int.RustNames.{bit_and};
 ghost use Rattle.base.specs.Kinds.{kind_name, kind_named, kind_number, is_structural, is_among};
+ghost use Rattle.base.specs.declared.kind.Kind.{Kind as KindOf};
 
 use bitflags::{Flag, Flags, bitflag_items};
 use std::fmt;
@@ -263,6 +264,17 @@ impl From<Kind> for Kinds {
     }
 }
 
+/// A law about the names of kinds, with nothing to run: a word names a kind just where it is that
+/// kind's name. So different kinds have different names. They have different numbers too, all below
+/// 17.
+pub fn kind_names_are_read_back()
+    ensures named { (word : List ℕ) (kind : KindOf)
+        → (kind_named word ≡ Some kind) ↔ (word ≡ kind_name kind) }
+    ensures once { (one other : KindOf) → kind_name one ≡ kind_name other → one ≡ other }
+    ensures number_once { (one other : KindOf) → kind_number one ≡ kind_number other → one ≡ other }
+    ensures number_below { (kind : KindOf) → kind_number kind < 17 }
+{}
+
 #[cfg(test)]
 mod tests {
     use super::*;
@@ -290,6 +302,7 @@ mod tests {
 
     #[test]
     fn kinds_have_numbers_and_names(rt: HostRuntime) -> Result<(), Fail> {
+        kind_names_are_read_back();
         for (number, name) in NAMES.iter().enumerate() {
             let kind = Kind::from_name(name.as_bytes()).ok_or("no kind")?;
             assert_eq!(rt; kind.number() as usize, number, "of {name}");

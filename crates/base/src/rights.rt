@@ -1,6 +1,7 @@
-ghost use Rattle.std.specs.Prelude.{⊤, ◌≡◌, ◌==◌, ◌<◌, ℕ, List, [], ◌∷◌, codes, Some, IfSome};
+ghost use Rattle.std.specs.Prelude.{⊤, ◌≡◌, ◌==◌, ◌↔◌, ◌<◌, ℕ, List, [], ◌∷◌, codes, Some, None, IfSome};
 ghost use Rattle.std.specs.Int.RustNames.{bit_and};
-ghost use Rattle.base.specs.Rights.{letter_of, rights_with, rights_word, rights_of_word};
+ghost use Rattle.base.specs.Rights.{letter_of, rights_with, rights_word, rights_of_word, IsRights};
+ghost use Rattle.base.specs.declared.rights.Rights.{Rights as Set};
 
 use bitflags::{Flag, Flags, bitflag_items};
 use std::fmt;
@@ -121,10 +122,27 @@ impl fmt::Display for Rights {
 }
 
 /// A law about the words of rights, with nothing to run: what is read from a word is written as
-/// that word, and the word of a set is read as that set.
+/// that word, and the word of a set is read as that set. So a word names a set just where it is the
+/// word of that set of the four rights, and different sets have different words.
 pub fn rights_words_are_read_back()
     ensures written { (word : List ℕ) → IfSome (rights_of_word word) (λ rights. word ≡ rights_word rights) }
     ensures read { (n : ℕ) → n < 16 → rights_of_word (rights_word (rights_with n)) ≡ Some (rights_with n) }
+    ensures named { (word : List ℕ) (rights : Set)
+        → (rights_of_word word ≡ Some rights) ↔ ((word ≡ rights_word rights) × IsRights rights) }
+    ensures once { (one other : Set) → IsRights one → IsRights other
+        → rights_word one ≡ rights_word other → one ≡ other }
+{}
+
+/// Words of rights worked out: the letters stand in their order, each at most once, and `-` alone
+/// stands for no right.
+pub fn worked_rights()
+    ensures none { rights_of_word (codes "-") ≡ Some (rights_with 0) }
+    ensures read_write { rights_of_word (codes "rw") ≡ Some (rights_with 3) }
+    ensures all { rights_of_word (codes "rwgy") ≡ Some (rights_with 15) }
+    ensures turned { rights_of_word (codes "wr") ≡ None }
+    ensures doubled { rights_of_word (codes "rr") ≡ None }
+    ensures mixed { rights_of_word (codes "r-") ≡ None }
+    ensures empty { rights_of_word [] ≡ None }
 {}
 
 #[cfg(test)]
@@ -135,6 +153,7 @@ mod tests {
     #[test]
     fn words_of_rights(rt: HostRuntime) -> Result<(), Fail> {
         rights_words_are_read_back();
+        worked_rights();
         for (word, bits) in [
             ("-", 0),
             ("r", 1),

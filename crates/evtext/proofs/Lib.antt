@@ -1,2 +1,5 @@
 mod Logs
 mod Scripts
+mod EventLines
+mod OneLog
+mod Examples

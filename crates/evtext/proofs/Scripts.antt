@@ -1,5 +1,5 @@
 -- What a script that was read says of its text, and that the text of each script is read back.
-use Rattle.std.proofs.Common.{◌≡◌, ℕ, ◌+◌, ◌<◌, ◌≤◌, ◌^◌, Bool, true, false, cond, nat_lt, ◌&&◌, List, [], ◌∷◌, ◌++◌, length, map, codes, Result, Ok, Err, refl, sym, ap, subst, ◌∙◌, arith, append_assoc, IfOk}
+use Rattle.std.proofs.Common.{◌≡◌, ℕ, ◌+◌, ◌<◌, ◌≤◌, Bool, true, false, cond, nat_lt, ◌&&◌, List, [], ◌∷◌, ◌++◌, length, map, codes, Result, Ok, Err, refl, sym, ap, subst, ◌∙◌, arith, append_assoc, IfOk, IfErr, ◌≢◌}
 use Rattle.std.proofs.lemmas.Bool.{and_parts, and_from, and_right, cond-true}
 use Rattle.std.proofs.lemmas.Bool.Decides.{Decides-ltb}
 use Rattle.std.proofs.lemmas.List.{append-nil, length_push}
@@ -15,12 +15,15 @@ use Rattle.machine.specs.Spelling.{call_words, event_words}
 use Rattle.words.specs.declared.faults.Wrong.{Wrong}
 use Rattle.words.specs.declared.faults.Wrong.TheVariants.{Limit}
 use Rattle.words.specs.declared.faults.Fault.{Fault}
+use Rattle.words.specs.Fault.{fault_at, no_memory}
+use Rattle.words.specs.FirstFault.{IsFirstFault, TellsFirst}
 use Rattle.words.specs.Number.{number_at}
 use Rattle.words.specs.Reading.{bind, last_line, word_at, ended_at, steps, whole_lines, IsNotLast, Reads}
-use Rattle.words.specs.Text.{text_of, IsPlainLine, IsPlainWord}
+use Rattle.words.specs.Text.{lines_of, text_of, IsPlainLine, IsPlainWord}
 use Rattle.words.proofs.WordLaws.{number_then, word_then, ended_then, bind_ok, number_again, plain_decimal}
 use Rattle.words.proofs.TextReading.{whole_text_takes, whole_text_again}
-use Rattle.evtext.specs.Event.{signal_at, poll_at, call_named, call_at, event_at, within_limits, most_events, HasWords, IsSpellable}
+use Rattle.words.proofs.FirstFaults.{faults, refused_for}
+use Rattle.evtext.specs.Event.{signal_at, poll_at, call_named, call_at, event_at, within_limits, most_events, HasNumbers, HasWords, IsSpellable}
 use Rattle.evtext.specs.Script.{read_script_of, script_header, script_line, script_step, script_text, IsScript}
 
 -- reading gives its value
@@ -61,12 +64,11 @@ call_takes words taken h =
     chosen read.word (codes "poll") read.rest _ _ taken h (poll_takes read.rest taken) (λ h. cc)))
 
 -- an event was taken, and these words are left
-record TakesEvent (words : List (List ℕ)) (taken : Event × List (List ℕ)) : Type 0 where
-  words_are : words ≡ event_words taken.0 ++ taken.1
-  thread : taken.0.thread.0 < 2 ^ 64
-  call : HasWords taken.0.call
+pub record TakesEvent (words : List (List ℕ)) (taken : Event × List (List ℕ)) : Type 0 where
+  pub words_are : words ≡ event_words taken.0 ++ taken.1
+  pub numbers : HasNumbers taken.0
 
-event_takes : (words : List (List ℕ)) (taken : Event × List (List ℕ)) → event_at words ≡ Ok taken → TakesEvent words taken
+pub event_takes : (words : List (List ℕ)) (taken : Event × List (List ℕ)) → event_at words ≡ Ok taken → TakesEvent words taken
 unfolding event_at
 event_takes words taken h =
     let core = number_then _ words taken h in
@@ -76,8 +78,7 @@ event_takes words taken h =
     let same : (record { core = core.number; thread = record { 0 = thread.number }; call = call.0.0 }, call.0.1) ≡ taken = cc in
     subst (λ t. TakesEvent words t) same (record {
       words_are = core.words_are ∙ ap (λ w. decimal core.number ∷ w) thread.words_are ∙ ap (λ w. decimal core.number ∷ decimal thread.number ∷ w) takes.words_are;
-      thread = thread.small;
-      call = takes.fits;
+      numbers = (core.small, thread.small, takes.fits);
     })
 
 limits_take : (before : ℕ) (event taken : Event) → within_limits before event ≡ Ok taken → (event ≡ taken) × (event.core < 16) × (before < most_events)
@@ -100,7 +101,7 @@ line_takes before words event h =
     let limits = limits_take before read.0.0 event ended.1 in
     let words_are : words ≡ event_words read.0.0 = takes.words_are ∙ ap (λ w. event_words read.0.0 ++ w) ended.0 ∙ append-nil (event_words read.0.0) in
     subst (λ e. (words ≡ event_words e) × IsSpellable e × (before < most_events)) limits.0
-    (words_are, (limits.1, takes.thread, takes.call), limits.2)
+    (words_are, (limits.1, takes.numbers.1, takes.numbers.2), limits.2)
 
 -- lines that were steps from some events to all: they are the lines of those that came
 record TakesLines (events : List Event) (body : List (List (List ℕ))) (all : List Event) : Type 0 where
@@ -137,22 +138,31 @@ unfolding call_at call_named signal_at poll_at bind word_at
 call_again (Signal address) rest fits = ap (λ r. bind r (λ a. Ok (Signal a.0, a.1))) (number_again address rest fits)
 call_again (Poll address) rest fits = ap (λ r. bind r (λ a. Ok (Poll a.0, a.1))) (number_again address rest fits)
 
-event_again : (event : Event) (rest : List (List ℕ)) → IsSpellable event → event_at (event_words event ++ rest) ≡ Ok (event, rest)
+pub event_again : (event : Event) (rest : List (List ℕ)) → HasNumbers event → event_at (event_words event ++ rest) ≡ Ok (event, rest)
 unfolding event_at bind
 event_again event rest is =
-    let small : event.core < 2 ^ 64 = omega (arith, is.0) in
-    ap (λ r. bind r (λ core. bind (number_at core.1) (λ thread. bind (call_at thread.1) (λ call. event_from core.0 thread.0 call.0 call.1)))) (number_again event.core _ small)
+    ap (λ r. bind r (λ core. bind (number_at core.1) (λ thread. bind (call_at thread.1) (λ call. event_from core.0 thread.0 call.0 call.1)))) (number_again event.core _ is.0)
     ∙ ap (λ r. bind r (λ thread. bind (call_at thread.1) (λ call. event_from event.core thread.0 call.0 call.1))) (number_again event.thread.0 _ is.1)
     ∙ ap (λ r. bind r (λ call. event_from event.core event.thread.0 call.0 call.1)) (call_again event.call rest is.2)
   where
     event_from : ℕ → ℕ → Call → List (List ℕ) → Result (Event × List (List ℕ)) Wrong
     event_from core thread call rest = Ok (record { core = core; thread = record { 0 = thread }; call = call }, rest)
 
-line_again : (before : ℕ) (event : Event) → before < most_events → IsSpellable event → script_line before (event_words event) ≡ Ok event
-unfolding script_line within_limits bind ended_at
-line_again before event few is =
-    let alone : event_at (event_words event) ≡ Ok (event, []) = ap event_at (sym (append-nil (event_words event))) ∙ event_again event [] is in
+-- the line of an event has its form: what is left are the limits
+pub form_again : (before : ℕ) (event : Event) → HasNumbers event → script_line before (event_words event) ≡ within_limits before event
+unfolding script_line bind ended_at
+form_again before event has =
+    let alone : event_at (event_words event) ≡ Ok (event, []) = ap event_at (sym (append-nil (event_words event))) ∙ event_again event [] has in
     ap (λ r. bind r (λ read. bind (ended_at read.1) (λ _. within_limits before read.0))) alone
+
+-- an event of one of sixteen cores has numbers of 64 bits
+numbers : (event : Event) → IsSpellable event → HasNumbers event
+numbers event is = (omega (arith, is.0), is.1, is.2)
+
+line_again : (before : ℕ) (event : Event) → before < most_events → IsSpellable event → script_line before (event_words event) ≡ Ok event
+unfolding within_limits
+line_again before event few is =
+    form_again before event (numbers event is)
     ∙ cond-true _ _ _ (and_from _ _ ((Decides-ltb event.core 16).1 is.0) ((Decides-ltb before most_events).1 few))
 
 lines_again : (events more : List Event) → length events + length more ≤ most_events → AllByRecursion IsSpellable more → steps script_step events (map event_words more) ≡ Ok (events ++ more)
@@ -167,7 +177,7 @@ lines_again events (event ∷ more) few is =
 
 -- its words are plain
 
-plain_bytes : (bytes : List ℕ) → list_all (λ b. nat_lt 32 b) bytes ≡ true → IsPlainWord bytes
+pub plain_bytes : (bytes : List ℕ) → list_all (λ b. nat_lt 32 b) bytes ≡ true → IsPlainWord bytes
 plain_bytes [] h = tt
 plain_bytes (b ∷ bytes) h = let parts = and_parts _ _ h in ((Decides-ltb 32 b).0 parts.0, plain_bytes bytes parts.1)
 
@@ -175,14 +185,13 @@ plain_call : (call : Call) → HasWords call → AllByRecursion IsPlainWord (cal
 plain_call (Signal address) fits = (plain_bytes (codes "signal") refl, (plain_decimal address fits, tt))
 plain_call (Poll address) fits = (plain_bytes (codes "poll") refl, (plain_decimal address fits, tt))
 
-plain_event : (event : Event) → IsSpellable event → IsPlainLine (event_words event)
+pub plain_event : (event : Event) → HasNumbers event → IsPlainLine (event_words event)
 plain_event event is =
-    let small : event.core < 2 ^ 64 = omega (arith, is.0) in
-    (plain_decimal event.core small, (plain_decimal event.thread.0 is.1, plain_call event.call is.2))
+    (plain_decimal event.core is.0, (plain_decimal event.thread.0 is.1, plain_call event.call is.2))
 
 plain_body : (events : List Event) → AllByRecursion IsSpellable events → AllByRecursion IsPlainLine (map event_words events ++ last_line ∷ [])
 plain_body [] is = ((plain_bytes (codes "end") refl, tt), tt)
-plain_body (event ∷ events) is = (plain_event event is.0, plain_body events is.1)
+plain_body (event ∷ events) is = (plain_event event (numbers event is.0), plain_body events is.1)
 
 plain_script : (events : List Event) → AllByRecursion IsSpellable events → AllByRecursion IsPlainLine (whole_lines script_header (map event_words events))
 plain_script events is = ((plain_bytes (codes "confine-script") refl, (plain_bytes (codes "1") refl, tt)), plain_body events is)
@@ -214,3 +223,13 @@ found view (Err fault) bytes exact = tt
 
 pub only : {X : Type 0} (view : X → List Event) (result : Result X Fault) (bytes : List ℕ) → Reads view result (read_script_of bytes) → (events : List Event) → IsScript events → bytes ≡ script_text events → Reads view result (Ok events)
 only view result bytes exact events is text = subst (λ read. Reads view result read) (script_is_read bytes events is text) exact
+
+-- a text that isn't read is refused for its first fault
+pub first_fault : {X : Type 0} (view : X → List Event) (result : Result X Fault) (bytes : List ℕ) → Reads view result (read_script_of bytes) → IfErr result (λ fault. fault ≢ no_memory → TellsFirst script_header script_step [] (lines_of bytes) fault)
+unfolding read_script_of
+first_fault view result bytes exact = faults view script_header script_step [] (lines_of bytes) result exact
+
+pub refused_so : {X : Type 0} (view : X → List Event) (result : Result X Fault) (bytes : List ℕ) → Reads view result (read_script_of bytes) → (line : ℕ) (wrong : Wrong) → IsFirstFault script_header script_step [] (lines_of bytes) line wrong → Reads view result (Err (fault_at line wrong))
+unfolding read_script_of
+refused_so view result bytes exact line wrong first =
+    refused_for view script_header script_step [] (lines_of bytes) result exact line wrong first

@@ -1,9 +1,10 @@
 -- How the words of a line are read as an event: its core, its thread, then a call by its name and operands.
-use Rattle.std.specs.Prelude.{ℕ, ◌<◌, ◌^◌, ◌&&◌, nat_lt, List, codes, Result, Ok, Err, if◌then◌else◌}
+use Rattle.std.specs.Prelude.{◌≡◌, ℕ, ◌<◌, ◌^◌, ◌&&◌, nat_lt, List, codes, Result, Ok, Err, if◌then◌else◌}
 use Rattle.std.specs.Str.{bytes_eq}
 use Rattle.machine.specs.declared.call.Call.{Call}
 use Rattle.machine.specs.declared.call.Call.TheVariants.{Signal, Poll}
 use Rattle.machine.specs.declared.call.Event.{Event}
+use Rattle.machine.specs.Spelling.{event_words}
 use Rattle.words.specs.declared.faults.Wrong.{Wrong}
 use Rattle.words.specs.declared.faults.Wrong.TheVariants.{Syntax, Limit}
 use Rattle.words.specs.Number.{number_at}
@@ -56,3 +57,11 @@ HasWords (Poll address) = address < 2 ^ 64
 -- an event that a line can have: on one of sixteen cores, with numbers of 64 bits
 abbrev pub IsSpellable : Event → Type 0
 IsSpellable event = (event.core < 16) × (event.thread.0 < 2 ^ 64) × HasWords event.call
+
+-- an event whose numbers are of 64 bits, whichever core it names
+abbrev pub HasNumbers : Event → Type 0
+HasNumbers event = (event.core < 2 ^ 64) × (event.thread.0 < 2 ^ 64) × HasWords event.call
+
+-- words that spell an event
+abbrev pub IsEventLine : List (List ℕ) → Event → Type 0
+IsEventLine words event = (words ≡ event_words event) × HasNumbers event

@@ -1,3 +1,4 @@
 pub mod Event
 pub mod Script
 pub mod Log
+pub mod Examples

@@ -1,9 +1,13 @@
 //! The texts of scripts, which are events, and of logs, which are events and what they answered.
 #![tactic(auto)]
 
+mod laws;
 mod line;
 mod log;
 mod script;
+mod worked;
 
+pub use laws::{a_text_is_of_one_log, a_text_is_of_one_script, form_is_tested_before_limits};
 pub use log::write_log;
 pub use script::read_script;
+pub use worked::{worked_logs, worked_scripts};

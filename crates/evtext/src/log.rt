@@ -1,7 +1,8 @@
-ghost use Rattle.std.specs.Prelude.{◌≡◌, length, IfOk, IfErr, string_bytes};
+ghost use Rattle.std.specs.Prelude.{◌≡◌, ◌++◌, length, IfOk, IfErr, OnOk, string_bytes};
 ghost use Rattle.std.specs.List.{zip};
 ghost use Rattle.base.specs.Refusals.{refusal_of};
-ghost use Rattle.evtext.specs.Log.{log_text};
+ghost use Rattle.machine.specs.Spelling.{entry_words};
+ghost use Rattle.evtext.specs.Log.{line_of, log_text};
 
 use base::{Cause, Refusal};
 use machine::{Event, Outcome};
@@ -26,10 +27,18 @@ fn log_string(alloc: Global, events: &[Event], outcomes: &[Outcome]) -> Result<S
 {
     let mut text = String::from_str(alloc, "confine-log 1\n")?;
     for (event, outcome) in events.iter().zip(outcomes) {
-        writeln!(text, "{event} = {outcome}")?;
+        write_entry(&mut text, event, outcome)?;
     }
     text.push_str("end\n")?;
     Ok(text)
+}
+
+#[tactic(auto, using(crate::proofs::Logs::line_of_entry))]
+fn write_entry(text: &mut String, event: &Event, outcome: &Outcome) -> Result<(), AllocError>
+    ensures { OnOk result (string_bytes text.new
+        ≡ string_bytes text.old ++ line_of (entry_words (event.now, outcome.now))) }
+{
+    writeln!(text, "{event} = {outcome}")
 }
 
 #[cfg(test)]

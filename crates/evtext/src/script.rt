@@ -1,7 +1,11 @@
-ghost use Rattle.std.specs.Prelude.{◌≡◌, IfOk, List};
+ghost use Rattle.std.specs.Prelude.{◌≡◌, ◌≢◌, ℕ, IfOk, IfErr, List, []};
 ghost use Rattle.machine.specs.declared.call.Event.{Event};
+ghost use Rattle.words.specs.declared.faults.Wrong.{Wrong};
+ghost use Rattle.words.specs.Fault.{fault_at, no_memory};
+ghost use Rattle.words.specs.FirstFault.{IsFirstFault, TellsFirst};
 ghost use Rattle.words.specs.Reading.{Reads};
-ghost use Rattle.evtext.specs.Script.{read_script_of, script_line, script_text, IsScript};
+ghost use Rattle.words.specs.Text.{lines_of};
+ghost use Rattle.evtext.specs.Script.{read_script_of, script_header, script_line, script_step, script_text, IsScript};
 
 use crate::line::next_event;
 use machine::Event;
@@ -20,13 +24,20 @@ pub fn read_script(alloc: Global, text: &[u8]) -> Result<Vec<Event>, Fault>
         (λ events. IsScript events.items × (text.now ≡ script_text events.items)) }
     ensures only { (script : List Event) → IsScript script → text.now ≡ script_text script
         → Reads (λ events. events.items) result (Ok script) }
+
+    // One that isn't read is refused for its first fault, unless memory was refused.
+    ensures faults { IfErr result (λ fault. fault ≢ no_memory
+        → TellsFirst script_header script_step [] (lines_of text.now) fault) }
+    ensures refused { (line : ℕ) (wrong : Wrong)
+        → IsFirstFault script_header script_step [] (lines_of text.now) line wrong
+        → Reads (λ events. events.items) result (Err (fault_at line wrong)) }
 {
     events_of(alloc, text)
 }
 
 #[tactic(auto, using(words::proofs::ReadingLaws::begins, words::proofs::ReadingLaws::no_beginning, words::proofs::ReadingLaws::goes_on, words::proofs::ReadingLaws::stops, words::proofs::ReadingLaws::no_more, words::proofs::ReadingLaws::ends_well, words::proofs::ReadingLaws::ends_badly), unfolding(crate::specs::Script::read_script_of, words::specs::Reading::bind))]
 fn events_of(alloc: Global, text: &[u8]) -> Result<Vec<Event>, Fault>
-    ensures { Reads (λ events. events.items) result (read_script_of text.now) }
+    ensures exact { Reads (λ events. events.items) result (read_script_of text.now) }
 {
     let mut lines = Lines::new(text);
     lines.header(b"confine-script 1")?;

@@ -19,10 +19,10 @@ abbrev ended : List (List (List ℕ)) → List (Option (List (List ℕ)))
 ended lines = map (λ line. Some line) lines
 
 -- the test of a line is the line's equation
-line_same : (line other : List (List ℕ)) → line_is line other ≡ true → line ≡ other
+pub line_same : (line other : List (List ℕ)) → line_is line other ≡ true → line ≡ other
 line_same line other = (slice_eq-Decides bytes_eq-Decides line other (line_is line other) refl).0
 
-same_line : (line : List (List ℕ)) → line_is line line ≡ true
+pub same_line : (line : List (List ℕ)) → line_is line line ≡ true
 same_line line = (slice_eq-Decides bytes_eq-Decides line line (line_is line line) refl).1 refl
 
 -- the lines up to `end` were read: the body's steps, then the end
@@ -100,7 +100,7 @@ header_takes header place (Some line ∷ lines) h = by_test (line_is line header
         )
     by_test false other failed = cc
 
-header_again : (header : List (List ℕ)) (lines : List (Option (List (List ℕ)))) → header_at header (record { taken = 0; lines = Some header ∷ lines }) ≡ Ok (record { taken = 1; lines = lines })
+pub header_again : (header : List (List ℕ)) (lines : List (Option (List (List ℕ)))) → header_at header (record { taken = 0; lines = Some header ∷ lines }) ≡ Ok (record { taken = 1; lines = lines })
 unfolding header_at
 header_again header lines = cond-true _ _ _ (same_line header)
 

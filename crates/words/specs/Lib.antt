@@ -3,3 +3,4 @@ pub mod Text
 pub mod Reading
 pub mod Number
 pub mod Name
+pub mod FirstFault

@@ -3,6 +3,7 @@
 #![tactic(auto)]
 
 mod faults;
+mod first_fault;
 mod line;
 mod names;
 mod numbers;
@@ -10,9 +11,12 @@ mod split;
 #[cfg(test)]
 mod tests;
 mod text;
+mod worked;
 
 pub use faults::{Cause, Fault, Wrong};
+pub use first_fault::{a_text_is_refused_for_its_first_fault, a_text_that_is_cut_is_refused};
 pub use line::Words;
-pub use names::{is_name, name_of};
-pub use numbers::{decimal_of, hexadecimal_of};
+pub use names::{is_name, name_of, names_are_read_back};
+pub use numbers::{decimal_of, hexadecimal_of, numbers_are_read_back};
 pub use text::Lines;
+pub use worked::{worked_lines, worked_words};

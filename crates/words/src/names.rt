@@ -1,4 +1,4 @@
-ghost use Rattle.std.specs.Prelude.{◌≡◌, true, IfSome};
+ghost use Rattle.std.specs.Prelude.{◌≡◌, ◌↔◌, ℕ, List, true, Some, IfSome};
 ghost use Rattle.std.specs.List.{list_all};
 ghost use Rattle.std.specs.Option.{option_copied};
 ghost use Rattle.words.specs.Name.{is_name, is_name_byte, name_of, starts_with_letter};
@@ -26,6 +26,12 @@ pub fn name_of(word: &[u8]) -> Option<&str>
     }
     str::from_utf8(word).ok()
 }
+
+/// A law about names: a word is read as a name just where it is that name, and a name by its bytes.
+pub fn names_are_read_back()
+    ensures { (word name : List ℕ)
+        → (name_of word ≡ Some name) ↔ ((word ≡ name) × (is_name name ≡ true)) }
+{}
 
 fn starts_with_letter(word: &[u8]) -> bool
     ensures { result ≡ starts_with_letter word.now }

@@ -1,4 +1,4 @@
-ghost use Rattle.std.specs.Prelude.{◌≡◌, ◌^◌, ◌<◌, ℕ, Some, IfSome};
+ghost use Rattle.std.specs.Prelude.{◌≡◌, ◌≢◌, ◌↔◌, ◌^◌, ◌<◌, ℕ, List, Some, IfSome};
 ghost use Rattle.std.specs.Fmt.{decimal};
 ghost use Rattle.std.specs.List.{list_all};
 ghost use Rattle.std.specs.Char.{is_ascii_digit};
@@ -75,3 +75,22 @@ fn all_hex_digits(word: &[u8]) -> bool
     word.iter()
         .all(|byte| matches!(byte, b'0'..=b'9' | b'a'..=b'f'))
 }
+
+/// A law about the words of numbers: a word spells a number in decimal just where it is the number's
+/// decimal word and the number is below 2^64, and alike in hexadecimal. So a number has one word of
+/// each form, different numbers have different words, and no word is of both forms.
+pub fn numbers_are_read_back()
+    ensures decimal { (word : List ℕ) (n : ℕ)
+        → (dec_of word ≡ Some n) ↔ ((word ≡ decimal n) × (n < 2 ^ 64)) }
+    ensures decimal_word { (one other : List ℕ) (n : ℕ)
+        → dec_of one ≡ Some n → dec_of other ≡ Some n → one ≡ other }
+    ensures decimal_once { (one other : ℕ) → one < 2 ^ 64 → other < 2 ^ 64
+        → decimal one ≡ decimal other → one ≡ other }
+    ensures hexadecimal { (word : List ℕ) (n : ℕ)
+        → (hex_of word ≡ Some n) ↔ ((word ≡ hexadecimal n) × (n < 2 ^ 64)) }
+    ensures hexadecimal_word { (one other : List ℕ) (n : ℕ)
+        → hex_of one ≡ Some n → hex_of other ≡ Some n → one ≡ other }
+    ensures hexadecimal_once { (one other : ℕ) → one < 2 ^ 64 → other < 2 ^ 64
+        → hexadecimal one ≡ hexadecimal other → one ≡ other }
+    ensures apart { (one other : ℕ) → one < 2 ^ 64 → decimal one ≢ hexadecimal other }
+{}

@@ -1,4 +1,7 @@
-use crate::{Cause, Fault, Lines, Words, Wrong, decimal_of, hexadecimal_of, is_name, name_of};
+use crate::{
+    Cause, Fault, Lines, Words, Wrong, decimal_of, hexadecimal_of, is_name, name_of,
+    names_are_read_back, numbers_are_read_back, worked_lines, worked_words,
+};
 use std::alloc::AllocError;
 use std::test::Fail;
 
@@ -117,6 +120,14 @@ fn words_are_read_as_numbers_and_names(rt: HostRuntime) {
     assert_eq!(rt; words.number(), Err(Wrong::Syntax));
     assert_eq!(rt; Words::new(b"12").hex(), Err(Wrong::Syntax));
     assert_eq!(rt; Words::new(b"1n").name().err(), Some(Wrong::Syntax));
+}
+
+#[test]
+fn laws_have_nothing_to_run(_rt: HostRuntime) {
+    numbers_are_read_back();
+    names_are_read_back();
+    worked_words();
+    worked_lines();
 }
 
 #[test]

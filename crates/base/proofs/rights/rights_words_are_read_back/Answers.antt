@@ -1,5 +1,5 @@
-use Rattle.base.proofs.RightsWords.{rights_word-rights_of_word, rights_of_word-rights_word}
+use Rattle.base.proofs.RightsWords.{rights_word-rights_of_word, rights_of_word-rights_word, named_iff, rights_once}
 use Rattle.base.proofs.rights.rights_words_are_read_back.Goals as goal
 
 pub returns : goal.returns
-returns c = record { written = rights_word-rights_of_word; read = rights_of_word-rights_word }
+returns c = record { written = rights_word-rights_of_word; read = rights_of_word-rights_word; named = named_iff; once = rights_once }

@@ -19,5 +19,7 @@ unfolding read_script_of
 returns-in_err-header c =
     let p = err_from_is_err_and c.from_residual.result c.from_residual.ensures.1 in
     rw (p.1, p.2)
-    (λ _. no_beginning script_header script_step as_it_is [] (lines_of c.args.text.now) _
-    (sym (ap (λ place. header_at script_header place) c.new-lines.ensures.exact) ∙ c.in_err-header.ensures))
+    (record {
+      exact = λ _. no_beginning script_header script_step as_it_is [] (lines_of c.args.text.now) _
+          (sym (ap (λ place. header_at script_header place) c.new-lines.ensures.exact) ∙ c.in_err-header.ensures);
+    })

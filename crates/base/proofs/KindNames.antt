@@ -1,0 +1,132 @@
+-- Each way between a kind and its name, and between a kind and its number.
+use Rattle.std.proofs.Common.{◌≡◌, ℕ, ◌<◌, ◌==◌, ◌↔◌, Bool, true, false, cond, List, Option, Some, refl, sym, ap, ◌∙◌, subst, lit<}
+use Rattle.std.specs.Prelude.{IfSome, bytes_eq}
+use Rattle.std.specs.Bool.{Decides}
+use Rattle.std.proofs.lemmas.Slice.Eq.{bytes_eq-Decides}
+use Rattle.base.specs.declared.kind.Kind.{Kind}
+use Rattle.base.specs.declared.kind.Kind.TheVariants.{Control, Reset, Send, Receive, Grant, Call, Notify, Await, Read, Write, Reply, Context, SchedControl, Space, Derive, Runs, Holds}
+use Rattle.base.specs.Kinds.{kind_name, kind_named, kind_number}
+
+-- a kind that is found by its name, or one that is found later, has the name
+here : (word : List ℕ) (kind : Kind) (later : Option Kind) → IfSome later (λ other. word ≡ kind_name other)
+    → IfSome (cond (bytes_eq word (kind_name kind)) (Some kind) later) (λ other. word ≡ kind_name other)
+here word kind later rest = by_test (bytes_eq word (kind_name kind)) (bytes_eq-Decides word (kind_name kind)) where
+  by_test : (same : Bool) → Decides same (word ≡ kind_name kind)
+      → IfSome (cond same (Some kind) later) (λ other. word ≡ kind_name other)
+  by_test true same = same.0 refl
+  by_test false other = rest
+
+named_name : (word : List ℕ) → IfSome (kind_named word) (λ kind. word ≡ kind_name kind)
+unfolding kind_named
+named_name word =
+    (here word Control _
+    (here word Reset _
+    (here word Send _
+    (here word Receive _
+    (here word Grant _
+    (here word Call _
+    (here word Notify _
+    (here word Await _
+    (here word Read _
+    (here word Write _
+    (here word Reply _
+    (here word Context _
+    (here word SchedControl _
+    (here word Space _
+    (here word Derive _
+    (here word Runs _
+    (here word Holds _ tt)))))))))))))))))
+
+pub kind_again : (kind : Kind) → kind_named (kind_name kind) ≡ Some kind
+unfolding kind_named
+kind_again Control = refl
+kind_again Reset = refl
+kind_again Send = refl
+kind_again Receive = refl
+kind_again Grant = refl
+kind_again Call = refl
+kind_again Notify = refl
+kind_again Await = refl
+kind_again Read = refl
+kind_again Write = refl
+kind_again Reply = refl
+kind_again Context = refl
+kind_again SchedControl = refl
+kind_again Space = refl
+kind_again Derive = refl
+kind_again Runs = refl
+kind_again Holds = refl
+
+-- a word names a kind just where it is the kind's name
+pub kind_is_named : (word : List ℕ) (kind : Kind) → kind_named word ≡ Some kind → word ≡ kind_name kind
+kind_is_named word kind is = subst (λ found. IfSome found (λ other. word ≡ kind_name other)) is (named_name word)
+
+pub named_iff : (word : List ℕ) (kind : Kind) → (kind_named word ≡ Some kind) ↔ (word ≡ kind_name kind)
+named_iff word kind = (kind_is_named word kind, λ h. ap (λ w. kind_named w) h ∙ kind_again kind)
+
+-- different kinds have different names
+pub kind_once : (one other : Kind) → kind_name one ≡ kind_name other → one ≡ other
+kind_once one other same = let both : Some one ≡ Some other = sym (kind_again one) ∙ ap (λ w. kind_named w) same ∙ kind_again other in cc
+
+-- and different numbers
+numbered : ℕ → Kind
+numbered n =
+    cond (n == 0) Control (
+    cond (n == 1) Reset (
+    cond (n == 2) Send (
+    cond (n == 3) Receive (
+    cond (n == 4) Grant (
+    cond (n == 5) Call (
+    cond (n == 6) Notify (
+    cond (n == 7) Await (
+    cond (n == 8) Read (
+    cond (n == 9) Write (
+    cond (n == 10) Reply (
+    cond (n == 11) Context (
+    cond (n == 12) SchedControl (
+    cond (n == 13) Space (
+    cond (n == 14) Derive (
+    cond (n == 15) Runs (
+    Holds))))))))))))))))
+
+number_again : (kind : Kind) → numbered (kind_number kind) ≡ kind
+unfolding numbered
+number_again Control = refl
+number_again Reset = refl
+number_again Send = refl
+number_again Receive = refl
+number_again Grant = refl
+number_again Call = refl
+number_again Notify = refl
+number_again Await = refl
+number_again Read = refl
+number_again Write = refl
+number_again Reply = refl
+number_again Context = refl
+number_again SchedControl = refl
+number_again Space = refl
+number_again Derive = refl
+number_again Runs = refl
+number_again Holds = refl
+
+pub number_once : (one other : Kind) → kind_number one ≡ kind_number other → one ≡ other
+number_once one other same = sym (number_again one) ∙ ap (λ n. numbered n) same ∙ number_again other
+
+pub number_below : (kind : Kind) → kind_number kind < 17
+number_below Control = lit< tt
+number_below Reset = lit< tt
+number_below Send = lit< tt
+number_below Receive = lit< tt
+number_below Grant = lit< tt
+number_below Call = lit< tt
+number_below Notify = lit< tt
+number_below Await = lit< tt
+number_below Read = lit< tt
+number_below Write = lit< tt
+number_below Reply = lit< tt
+number_below Context = lit< tt
+number_below SchedControl = lit< tt
+number_below Space = lit< tt
+number_below Derive = lit< tt
+number_below Runs = lit< tt
+number_below Holds = lit< tt

@@ -1,0 +1,159 @@
+-- A text is the text of one script, or of one log.
+use Rattle.std.proofs.Common.{◌≡◌, ℕ, ◌<◌, ◌^◌, Bool, true, false, cond, List, [], ◌∷◌, ◌++◌, length, map, codes, Result, Ok, Err, refl, sym, ap, ◌∙◌, arith}
+use Rattle.std.proofs.lemmas.List.{append-nil}
+use Rattle.std.specs.Fmt.{decimal}
+use Rattle.std.specs.List.{AllByRecursion}
+use Rattle.std.specs.Str.{bytes_eq}
+use Rattle.machine.specs.declared.call.Answer.TheVariants as answer
+use Rattle.machine.specs.declared.call.Event.{Event}
+use Rattle.machine.specs.declared.call.Outcome.{Outcome}
+use Rattle.machine.specs.declared.call.Outcome.TheVariants as outcome
+use Rattle.machine.specs.Spelling.{event_words, entry_words, flag_word, message_words, outcome_words}
+use Rattle.words.specs.declared.faults.Wrong.{Wrong}
+use Rattle.words.specs.Number.{number_at}
+use Rattle.words.specs.Reading.{last_line}
+use Rattle.words.specs.Text.{IsPlainLine, IsPlainWord}
+use Rattle.words.proofs.OneText.{one_body, one_by_map}
+use Rattle.words.proofs.TextLaws.{both}
+use Rattle.words.proofs.WordLaws.{number_again, plain_decimal}
+use Rattle.evtext.specs.Event.{event_at, HasNumbers}
+use Rattle.evtext.specs.Log.{log_header, log_text, IsEntry, IsOutcome}
+use Rattle.evtext.specs.Script.{script_header, script_text}
+use Rattle.evtext.proofs.Scripts.{event_again, plain_bytes, plain_event}
+
+-- words that begin with those of an event begin with those of no other
+one_event : (event other : Event) (rest later : List (List ℕ)) → HasNumbers event → HasNumbers other → event_words event ++ rest ≡ event_words other ++ later → (event ≡ other) × (rest ≡ later)
+one_event event other rest later this that same =
+    let read : ◌≡◌ {A = Result (Event × List (List ℕ)) Wrong} (Ok (event, rest)) (Ok (other, later)) = sym (event_again event rest this) ∙ ap event_at same ∙ event_again other later that in
+    let taken : ◌≡◌ {A = Event × List (List ℕ)} (event, rest) (other, later) = cc in
+    (ap (λ (p : Event × List (List ℕ)). p.0) taken, ap (λ (p : Event × List (List ℕ)). p.1) taken)
+
+-- the number of a decimal word
+
+value_of : Result (ℕ × List (List ℕ)) Wrong → ℕ
+value_of (Ok taken) = taken.0
+value_of (Err wrong) = 0
+
+abbrev number_of : List ℕ → ℕ
+number_of word = value_of (number_at (word ∷ []))
+
+number_back : (n : ℕ) → n < 2 ^ 64 → number_of (decimal n) ≡ n
+unfolding value_of
+number_back n small = ap (λ r. value_of r) (number_again n [] small)
+
+-- the outcome that words spell, where they spell one
+outcome_of : List (List ℕ) → Outcome
+outcome_of (first ∷ []) = cond (bytes_eq first (codes "blocked")) outcome.Blocked (outcome.Done answer.Nothing)
+outcome_of (first ∷ second ∷ []) = outcome.Done answer.Aborted
+outcome_of (first ∷ second ∷ third ∷ []) =
+    cond (bytes_eq first (codes "refused")) (outcome.Refused (record { code = number_of second; detail = number_of third }))
+    (cond (bytes_eq second (codes "word")) (outcome.Done (answer.Word (number_of third))) (outcome.Done (answer.Count (number_of third))))
+outcome_of (first ∷ second ∷ badge ∷ a ∷ b ∷ c ∷ d ∷ flag ∷ []) =
+    outcome.Done (answer.Message (record {
+      badge = number_of badge;
+      words = number_of a ∷ number_of b ∷ number_of c ∷ number_of d ∷ [];
+      capability = bytes_eq flag (codes "1");
+    }))
+outcome_of _ = outcome.Blocked
+
+flag_back : (b : Bool) → bytes_eq (flag_word b) (codes "1") ≡ b
+flag_back true = refl
+flag_back false = refl
+
+message_back : (badge : ℕ) (words : List ℕ) (capability : Bool) → badge < 2 ^ 64 → length words ≡ 4 → AllByRecursion (λ word. word < 2 ^ 64) words → outcome_of (outcome_words (outcome.Done (answer.Message (record { badge = badge; words = words; capability = capability })))) ≡ outcome.Done (answer.Message (record { badge = badge; words = words; capability = capability }))
+unfolding outcome_of
+message_back badge [] capability small four all = absurd (omega (arith, four))
+message_back badge (a ∷ []) capability small four all = absurd (omega (arith, four))
+message_back badge (a ∷ b ∷ []) capability small four all = absurd (omega (arith, four))
+message_back badge (a ∷ b ∷ c ∷ []) capability small four all = absurd (omega (arith, four))
+message_back badge (a ∷ b ∷ c ∷ d ∷ []) capability small four all =
+    let first = number_back badge small in
+    let one = number_back a all.0 in
+    let two = number_back b all.1.0 in
+    let three = number_back c all.1.1.0 in
+    let last = number_back d all.1.1.1.0 in
+    let flag = flag_back capability in
+    cc
+message_back badge (a ∷ b ∷ c ∷ d ∷ e ∷ words) capability small four all = absurd (omega (arith, four))
+
+outcome_back : (outcome : Outcome) → IsOutcome outcome → outcome_of (outcome_words outcome) ≡ outcome
+unfolding outcome_of
+outcome_back (outcome.Done answer.Nothing) is = refl
+outcome_back (outcome.Done (answer.Word word)) is = ap (λ n. outcome.Done (answer.Word n)) (number_back word is)
+outcome_back (outcome.Done (answer.Message message)) is =
+    message_back message.badge message.words message.capability is.0 is.1 is.2
+outcome_back (outcome.Done (answer.Count count)) is = ap (λ n. outcome.Done (answer.Count n)) (number_back count is)
+outcome_back (outcome.Done answer.Aborted) is = refl
+outcome_back outcome.Blocked is = refl
+outcome_back (outcome.Refused refusal) is =
+    ap (λ n. outcome.Refused (record { code = n; detail = number_of (decimal refusal.detail) })) (number_back refusal.code is.0)
+    ∙ ap (λ n. outcome.Refused (record { code = refusal.code; detail = n })) (number_back refusal.detail is.1)
+
+-- so the words of an entry are those of no other
+one_entry : (entry other : Event × Outcome) → IsEntry entry → IsEntry other → entry_words entry ≡ entry_words other → entry ≡ other
+one_entry entry other this that same =
+    let parts = one_event entry.0 other.0 (codes "=" ∷ outcome_words entry.1) (codes "=" ∷ outcome_words other.1) this.0 that.0 same in
+    let words : outcome_words entry.1 ≡ outcome_words other.1 = cc in
+    let outcomes : entry.1 ≡ other.1 = sym (outcome_back entry.1 this.1) ∙ ap outcome_of words ∙ outcome_back other.1 that.1 in
+    ap (λ (e : Event). (e, entry.1)) parts.0 ∙ ap (λ (o : Outcome). (other.0, o)) outcomes
+
+one_line : (event other : Event) → HasNumbers event → HasNumbers other → event_words event ≡ event_words other → event ≡ other
+one_line event other this that same =
+    (one_event event other [] [] this that (append-nil (event_words event) ∙ same ∙ sym (append-nil (event_words other)))).0
+
+-- and they are plain
+
+plain_message : (badge : ℕ) (words : List ℕ) (capability : Bool) → badge < 2 ^ 64 → length words ≡ 4 → AllByRecursion (λ word. word < 2 ^ 64) words → AllByRecursion IsPlainWord (message_words (record { badge = badge; words = words; capability = capability }))
+plain_message badge [] capability small four all = absurd (omega (arith, four))
+plain_message badge (a ∷ []) capability small four all = absurd (omega (arith, four))
+plain_message badge (a ∷ b ∷ []) capability small four all = absurd (omega (arith, four))
+plain_message badge (a ∷ b ∷ c ∷ []) capability small four all = absurd (omega (arith, four))
+plain_message badge (a ∷ b ∷ c ∷ d ∷ []) capability small four all =
+    (plain_decimal badge small, (plain_decimal a all.0, (plain_decimal b all.1.0, (plain_decimal c all.1.1.0, (plain_decimal d all.1.1.1.0, (by_flag capability, tt))))))
+  where
+    by_flag : (flag : Bool) → IsPlainWord (flag_word flag)
+    by_flag true = plain_bytes (codes "1") refl
+    by_flag false = plain_bytes (codes "0") refl
+plain_message badge (a ∷ b ∷ c ∷ d ∷ e ∷ words) capability small four all = absurd (omega (arith, four))
+
+plain_outcome : (outcome : Outcome) → IsOutcome outcome → AllByRecursion IsPlainWord (outcome_words outcome)
+plain_outcome (outcome.Done answer.Nothing) is = (plain_bytes (codes "done") refl, tt)
+plain_outcome (outcome.Done (answer.Word word)) is =
+    (plain_bytes (codes "done") refl, (plain_bytes (codes "word") refl, (plain_decimal word is, tt)))
+plain_outcome (outcome.Done (answer.Message message)) is =
+    (plain_bytes (codes "done") refl, (plain_bytes (codes "msg") refl, plain_message message.badge message.words message.capability is.0 is.1 is.2))
+plain_outcome (outcome.Done (answer.Count count)) is =
+    (plain_bytes (codes "done") refl, (plain_bytes (codes "count") refl, (plain_decimal count is, tt)))
+plain_outcome (outcome.Done answer.Aborted) is = (plain_bytes (codes "done") refl, (plain_bytes (codes "aborted") refl, tt))
+plain_outcome outcome.Blocked is = (plain_bytes (codes "blocked") refl, tt)
+plain_outcome (outcome.Refused refusal) is =
+    (plain_bytes (codes "refused") refl, (plain_decimal refusal.code is.0, (plain_decimal refusal.detail is.1, tt)))
+
+plain_entry : (entry : Event × Outcome) → IsEntry entry → IsPlainLine (entry_words entry)
+plain_entry entry is =
+    both IsPlainWord (event_words entry.0) (codes "=" ∷ outcome_words entry.1) (plain_event entry.0 is.0)
+    (plain_bytes (codes "=") refl, plain_outcome entry.1 is.1)
+
+plain_lines : {X : Type 0} (P : X → Type 0) (f : X → List (List ℕ)) → ((x : X) → P x → IsPlainLine (f x)) → (xs : List X) → AllByRecursion P xs → AllByRecursion IsPlainLine (map f xs ++ last_line ∷ [])
+plain_lines P f plain [] all = ((plain_bytes (codes "end") refl, tt), tt)
+plain_lines P f plain (x ∷ xs) all = (plain x all.0, plain_lines P f plain xs all.1)
+
+-- the two laws
+
+pub one_script : (script other : List Event) → AllByRecursion HasNumbers script → AllByRecursion HasNumbers other → script_text script ≡ script_text other → script ≡ other
+one_script script other this that same =
+    one_by_map HasNumbers event_words one_line script other this that
+    (one_body script_header (map event_words script) (map event_words other)
+    (header, plain_lines HasNumbers event_words plain_event script this) (header, plain_lines HasNumbers event_words plain_event other that) same)
+  where
+    header : IsPlainLine script_header
+    header = (plain_bytes (codes "confine-script") refl, (plain_bytes (codes "1") refl, tt))
+
+pub one_log : (log other : List (Event × Outcome)) → AllByRecursion IsEntry log → AllByRecursion IsEntry other → log_text log ≡ log_text other → log ≡ other
+one_log log other this that same =
+    one_by_map IsEntry entry_words one_entry log other this that
+    (one_body log_header (map entry_words log) (map entry_words other)
+    (header, plain_lines IsEntry entry_words plain_entry log this) (header, plain_lines IsEntry entry_words plain_entry other that) same)
+  where
+    header : IsPlainLine log_header
+    header = (plain_bytes (codes "confine-log") refl, (plain_bytes (codes "1") refl, tt))

@@ -1,0 +1,59 @@
+-- The first fault of a text, in the words of its format: a header, lines each a step of a state, the line `end`, and nothing after it.
+-- It is confine's own: a fault is told by the number of its line, from 1, and by what is wrong there.
+use Rattle.std.specs.Prelude.{◌≡◌, ◌≢◌, ℕ, ◌+◌, List, [], ◌∷◌, ◌++◌, length, map, Option, Some, Result, Ok, Err}
+use Rattle.std.specs.List.{AllByRecursion}
+use Rattle.words.specs.declared.faults.Wrong.{Wrong}
+use Rattle.words.specs.declared.faults.Wrong.TheVariants.{Syntax}
+use Rattle.words.specs.declared.faults.Fault.{Fault}
+use Rattle.words.specs.Fault.{fault_at}
+use Rattle.words.specs.Reading.{last_line, steps}
+use Rattle.words.specs.Text.{IsOver}
+
+-- a line, as its words
+abbrev pub Line : Type 0
+Line = List (List ℕ)
+
+-- the lines of a text, `None` for a last one that isn't ended
+abbrev pub TextLines : Type 0
+TextLines = List (Option Line)
+
+-- lines that are ended
+abbrev pub ended : List Line → TextLines
+ended lines = map (λ line. Some line) lines
+
+-- the first line of a text is its header
+abbrev pub BeginsWith : Line → TextLines → Type 0
+BeginsWith header lines = (rest : TextLines) × (lines ≡ Some header ∷ rest)
+
+-- a text begins with its header and these lines, which are good: none is the line `end`, and each is a step of the state before it
+pub record IsGoodUpTo {S : Type 0} (header : Line) (step : S → Line → Result S Wrong) (start : S) (lines : TextLines) (body : List Line) (state : S) (rest : TextLines) : Type 0 where
+  pub lines_are : lines ≡ ended (header ∷ body) ++ rest
+  pub inner : AllByRecursion (λ line. line ≢ last_line) body
+  pub stepped : steps step start body ≡ Ok state
+
+-- a text without a fault: its lines up to `end` are good, and nothing follows
+abbrev pub IsText : {S : Type 0} → Line → (S → Line → Result S Wrong) → S → TextLines → S → Type 0
+IsText header step start lines state =
+    (body : List Line) × IsGoodUpTo header step start lines body state (Some last_line ∷ [])
+
+-- the first fault of a text, which is that of the line with this number
+pub data IsFirstFault {S : Type 0} (header : Line) (step : S → Line → Result S Wrong) (start : S) (lines : TextLines) (number : ℕ) (wrong : Wrong) : Type 0 where
+  -- the first line isn't the header
+  no_header : ¬ BeginsWith header lines → number ≡ 1 → wrong ≡ Syntax → IsFirstFault header step start lines number wrong
+  -- the line after the good ones is missing, or isn't ended
+  no_line :
+      (body : List Line) (state : S) (rest : TextLines) → IsGoodUpTo header step start lines body state rest → IsOver rest
+      → number ≡ length body + 2 → wrong ≡ Syntax → IsFirstFault header step start lines number wrong
+  -- it isn't `end`, and no step of the state after the good ones
+  no_step :
+      (body : List Line) (state : S) (line : Line) (rest : TextLines) → IsGoodUpTo header step start lines body state (Some line ∷ rest)
+      → line ≢ last_line → step state line ≡ Err wrong → number ≡ length body + 2 → IsFirstFault header step start lines number wrong
+  -- the good ones are followed by `end`, and something follows it
+  no_end :
+      (body : List Line) (state : S) (next : Option Line) (rest : TextLines) → IsGoodUpTo header step start lines body state (Some last_line ∷ next ∷ rest)
+      → number ≡ length body + 3 → wrong ≡ Syntax → IsFirstFault header step start lines number wrong
+
+-- a fault tells the first fault of a text
+abbrev pub TellsFirst : {S : Type 0} → Line → (S → Line → Result S Wrong) → S → TextLines → Fault → Type 0
+TellsFirst header step start lines fault =
+    (line : ℕ) × (wrong : Wrong) × (fault ≡ fault_at line wrong) × IsFirstFault header step start lines line wrong
