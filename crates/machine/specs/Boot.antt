@@ -1,19 +1,50 @@
 -- The boot state of a capability table (compare the seL4 manual, "Bootstrapping"; the rule is confine's own).
-use Rattle.std.specs.Prelude.{◌≡◌, ℕ, List, [], Option, Some, None, option_map, length, replicate}
+use Rattle.std.specs.Prelude.{◌≡◌, ℕ, ◌⊎◌, true, List, [], Option, Some, None, option_map, length, replicate, refl}
 use Rattle.base.specs.declared.ids.ObjId.{ObjId}
 use Rattle.base.specs.declared.ids.SlotRef.{SlotRef}
+use Rattle.machine.specs.declared.cap.Cap.{Cap}
 use Rattle.machine.specs.declared.layout.Initial.{Initial}
+use Rattle.machine.specs.declared.object.Frame.{Frame}
+use Rattle.machine.specs.declared.object.Notification.{Notification}
 use Rattle.machine.specs.declared.object.Object.{Object}
 use Rattle.machine.specs.declared.object.Object.TheVariants as o
+use Rattle.machine.specs.declared.object.Reply.{Reply}
+use Rattle.machine.specs.declared.object.ReplyState.TheVariants as reply
+use Rattle.machine.specs.declared.object.Untyped.{Untyped}
+use Rattle.machine.specs.declared.thread.Inbox.TheVariants as inbox
+use Rattle.machine.specs.declared.thread.RunState.TheVariants as run
+use Rattle.machine.specs.declared.thread.Tcb.{Tcb}
 use Rattle.machine.specs.Layout.{Layout, initial_of, initial_cap, initial_parent, bound_context, bound_thread}
 use Rattle.machine.specs.Machine.{Machine, object_of, queue_of, words_of, cap_of, parent_of}
-use Rattle.machine.specs.Objects.{word_count}
+use Rattle.machine.specs.Objects.{kind_of_object, slot_count, word_count, address_of, end_of}
 
 -- an object with the links that the table's bindings give it
 abbrev pub bound : Layout → ObjId → Object → Object
 bound t id (o.Tcb thread) = o.Tcb (record thread { context = bound_context t id })
 bound t id (o.Context context) = o.Context (record context { thread = bound_thread t id })
 bound t id object = object
+
+-- what the binding of an object leaves as it is
+
+pub kind-bound : (t : Layout) (id : ObjId) (object : Object) → kind_of_object (bound t id object) ≡ kind_of_object object
+kind-bound t id (o.Tcb _) = refl
+kind-bound t id (o.Context _) = refl
+kind-bound t id _ = refl
+
+pub slot_count-bound : (t : Layout) (id : ObjId) (object : Object) → slot_count (bound t id object) ≡ slot_count object
+slot_count-bound t id (o.Tcb _) = refl
+slot_count-bound t id (o.Context _) = refl
+slot_count-bound t id _ = refl
+
+pub address-bound : (t : Layout) (id : ObjId) (object : Object) → address_of (bound t id object) ≡ address_of object
+address-bound t id (o.Tcb _) = refl
+address-bound t id (o.Context _) = refl
+address-bound t id _ = refl
+
+pub end-bound : (t : Layout) (id : ObjId) (object : Object) → end_of (bound t id object) ≡ end_of object
+end-bound t id (o.Tcb _) = refl
+end-bound t id (o.Context _) = refl
+end-bound t id _ = refl
 
 -- an initial object as it is at boot
 abbrev pub booted : Layout → ObjId → Option Object
@@ -28,3 +59,28 @@ pub record IsBoot (t : Layout) (m : Machine) : Type 0 where
   pub caps : (slot : SlotRef) → cap_of m slot ≡ initial_cap t slot
   pub parents : (slot : SlotRef) → parent_of m slot ≡ initial_parent t slot
   pub next : m.next ≡ length t.objects
+
+-- what the boot rule says of the machine that a table boots to
+pub record IsFresh (t : Layout) (m : Machine) : Type 0 where
+  -- the watermark of untyped memory is at its base
+  pub watermarks : (id : ObjId) (memory : Untyped) → object_of m id ≡ Some (o.Untyped memory) → memory.watermark ≡ memory.base
+  -- every object has a queue
+  pub has_queue : (id : ObjId) (object : Object) → object_of m id ≡ Some object → (threads : List ObjId) × (queue_of m id ≡ Some threads)
+  -- every queue is empty
+  pub empty_queues : (id : ObjId) (threads : List ObjId) → queue_of m id ≡ Some threads → threads ≡ []
+  -- a thread is ready or inactive
+  pub at_rest : (id : ObjId) (thread : Tcb) → object_of m id ≡ Some (o.Tcb thread) → (thread.state ≡ run.Ready) ⊎ (thread.state ≡ run.Inactive)
+  -- and its state is the one that the table declares
+  pub as_declared :
+      (id : ObjId) (thread : Tcb) → object_of m id ≡ Some (o.Tcb thread)
+      → (initial : Initial) × (declared : Tcb) × (initial_of t id ≡ Some initial) × (initial.object ≡ o.Tcb declared) × (thread.state ≡ declared.state)
+  -- a thread's inbox is empty
+  pub inboxes : (id : ObjId) (thread : Tcb) → object_of m id ≡ Some (o.Tcb thread) → thread.inbox ≡ inbox.Empty
+  -- a notification has no word
+  pub notifications : (id : ObjId) (notification : Notification) → object_of m id ≡ Some (o.Notification notification) → notification.pending ≡ None
+  -- a reply is free
+  pub replies : (id : ObjId) (answer : Reply) → object_of m id ≡ Some (o.Reply answer) → answer.state ≡ reply.Free
+  -- the words of a frame are 512 zeros
+  pub frames : (id : ObjId) (frame : Frame) → object_of m id ≡ Some (o.Frame frame) → words_of m id ≡ Some (replicate 512 0)
+  -- a capability without a parent in the tree is original
+  pub originals : (slot : SlotRef) (held : Cap) → cap_of m slot ≡ Some held → parent_of m slot ≡ None → held.original ≡ true

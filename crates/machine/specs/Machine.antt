@@ -244,6 +244,17 @@ slot_apart a b e = apart a b _ e refl where
   apart a b Less e h = absurd (subst (λ r. T (is_eq r)) (sym e) tt)
   apart a b Greater e h = absurd (subst (λ r. T (is_eq r)) (sym e) tt)
 
+equal_from_tie : (r : Ordering) → is_eq r ≡ true → r ≡ Equal
+equal_from_tie Equal e = refl
+equal_from_tie Less e = absurd (subst T (sym e) tt)
+equal_from_tie Greater e = absurd (subst T (sym e) tt)
+
+pub one_id : (a b : ObjId) → same_id a b ≡ true → a ≡ b
+one_id a b tie = id_apart a b (equal_from_tie (id_cmp a b) tie)
+
+pub one_slot : (a b : SlotRef) → same_slot a b ≡ true → a ≡ b
+one_slot a b tie = slot_apart a b (equal_from_tie (slot_cmp a b) tie)
+
 -- two machines that answer alike are equal
 pub same_machine :
     (m n : Machine) → ((q : ObjId) → object_of m q ≡ object_of n q) → ((q : ObjId) → queue_of m q ≡ queue_of n q) → ((q : ObjId) → words_of m q ≡ words_of n q)

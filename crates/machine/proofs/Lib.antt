@@ -1,0 +1,16 @@
+pub mod SeenLaws
+pub mod StepLaws
+pub mod IdLemmas
+pub mod PrimitiveLemmas
+pub mod FindLemmas
+pub mod AdmitLemmas
+pub mod SignalLemmas
+pub mod PollLemmas
+pub mod RefusalLemmas
+pub mod EventLemmas
+pub mod OutlineLemmas
+pub mod LinkLemmas
+pub mod WakeLemmas
+pub mod FormedLemmas
+pub mod NamedLemmas
+pub mod AuthorityLemmas

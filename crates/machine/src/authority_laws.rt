@@ -1,0 +1,35 @@
+ghost use Rattle.std.specs.Prelude.{◌≡◌, ℕ, true, false};
+ghost use Rattle.base.specs.declared.kind.Kind.{Kind};
+ghost use Rattle.base.specs.Kinds.{is_structural};
+ghost use Rattle.machine.specs.declared.cap.Badged.{Badged};
+ghost use Rattle.machine.specs.declared.cap.Detail.{Detail};
+ghost use Rattle.machine.specs.declared.cap.Detail.TheVariants as d;
+ghost use Rattle.machine.specs.declared.cap.Guard.{Guard};
+ghost use Rattle.machine.specs.Authority.{HasAuthority};
+ghost use Rattle.machine.specs.Capabilities.{gives};
+ghost use Rattle.machine.specs.Layout.{Layout};
+ghost use Rattle.machine.specs.Machine.{Machine};
+ghost use Rattle.machine.specs.Narrower.{HasMoreCaps, IsNarrower};
+
+/// A law: a capability with fewer rights gives no kind of authority that one with more doesn't give;
+/// badges and guards don't matter; and every capability in a CNode gives at least one kind of
+/// authority that is no mere structure.
+pub fn rights_alone_decide_kinds()
+    ensures fewer { (few many : Detail) (k : Kind)
+        → IsNarrower few many
+        → gives few k ≡ true
+        → gives many k ≡ true }
+    ensures badges { (end : Badged) (badge : ℕ) (k : Kind)
+        → (gives (d.Endpoint (record end { badge = badge })) k ≡ gives (d.Endpoint end) k)
+        × (gives (d.Notification (record end { badge = badge })) k ≡ gives (d.Notification end) k) }
+    ensures guards { (one other : Guard) (k : Kind) → gives (d.CNode one) k ≡ gives (d.CNode other) k }
+    ensures some { (detail : Detail) → (k : Kind) × (is_structural k ≡ false) × (gives detail k ≡ true) }
+{}
+
+/// A law: a machine with more capabilities holds no less authority.
+pub fn authority_grows_with_capabilities()
+    ensures { (t : Layout) (m more : Machine) (from : ℕ) (k : Kind) (to : ℕ)
+        → HasMoreCaps m more
+        → HasAuthority t m from k to
+        → HasAuthority t more from k to }
+{}
