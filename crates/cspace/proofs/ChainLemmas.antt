@@ -28,7 +28,7 @@ after-some (false ∷ bs) (false ∷ cs) rest e = ap (λ s. false ∷ s) (after-
 after-some (true ∷ bs) (false ∷ cs) rest e = cc
 after-some (false ∷ bs) (true ∷ cs) rest e = cc
 
-after-begins : (beginning string : List Bool) → BeginsWith string beginning → (rest : List Bool) × (after beginning string ≡ Some rest) × (beginning ++ rest ≡ string)
+pub after-begins : (beginning string : List Bool) → BeginsWith string beginning → (rest : List Bool) × (after beginning string ≡ Some rest) × (beginning ++ rest ≡ string)
 after-begins beginning string h = (h.0, ap (after beginning) (sym h.1) ∙ after-append beginning h.0, h.1)
 
 after-none : (beginning string : List Bool) → (BeginsWith string beginning → ⊥) → after beginning string ≡ None
@@ -42,7 +42,7 @@ after-none beginning string apart = by_result (after beginning string) refl wher
 with_first : (b : Bool) (size : ℕ) (string : List Bool) (parts : List Bool × List Bool) → split size string ≡ Some parts → split (suc size) (b ∷ string) ≡ Some (b ∷ parts.0, parts.1)
 with_first b size string parts e = rw e refl
 
-split-append : (size : ℕ) (first rest : List Bool) → length first ≡ size → split size (first ++ rest) ≡ Some (first, rest)
+pub split-append : (size : ℕ) (first rest : List Bool) → length first ≡ size → split size (first ++ rest) ≡ Some (first, rest)
 split-append zero [] rest e = refl
 split-append zero (b ∷ bs) rest e = absurd (omega arith)
 split-append (suc size) [] rest e = absurd (omega arith)
@@ -68,12 +68,12 @@ split-is (suc size) (b ∷ bs) = longer (split size bs) refl (split-is size bs) 
 
 -- hops
 
-hop-link : (link : Link) (rest : List Bool) → IsWhole link → hop link.level (taken link ++ rest) ≡ Ok (selected link, rest)
+pub hop-link : (link : Link) (rest : List Bool) → IsWhole link → hop link.level (taken link ++ rest) ≡ Ok (selected link, rest)
 hop-link link rest whole =
     let begun : after link.level.guard (taken link ++ rest) ≡ Some (link.index ++ rest) = rw append_assoc (after-append link.level.guard (link.index ++ rest)) in
     hop-slot link.level (taken link ++ rest) (link.index ++ rest) (link.index, rest) begun (split-append link.level.radix link.index rest whole)
 
-hop-hinders : (failure : LookupFailure) (level : Level) (rest : List Bool) → Hinders failure level rest → hop level rest ≡ Err failure
+pub hop-hinders : (failure : LookupFailure) (level : Level) (rest : List Bool) → Hinders failure level rest → hop level rest ≡ Err failure
 hop-hinders GuardMismatch level rest h = hop-apart level rest (after-none level.guard rest h)
 hop-hinders DepthMismatch level rest h =
     let begun = after-begins level.guard rest h.0 in
@@ -196,7 +196,7 @@ ends-walk (suc most) m from string takes radix some fuel =
     ends-step most m from string takes radix some (λ next rest r shorter s. let enough : length rest < most = omega arith in ends-walk most m next rest takes r s enough)
 
 -- each CNode on a chain takes bits
-leads-radix : (m : Machine) (from to : Level) (links : List Link) → TakesBits m → 0 < from.radix → Leads m from links to → 0 < to.radix
+pub leads-radix : (m : Machine) (from to : Level) (links : List Link) → TakesBits m → 0 < from.radix → Leads m from links to → 0 < to.radix
 leads-radix m from to [] takes radix leads = subst (λ (level : Level). 0 < level.radix) leads radix
 leads-radix m from to (link ∷ links) takes radix leads = leads-radix m leads.0 to links takes (takes (selected link) leads.0 leads.1.held) leads.2
 

@@ -4,3 +4,7 @@ pub mod WalkLemmas
 pub mod RootLemmas
 pub mod ChainLemmas
 pub mod LookupLemmas
+pub mod UniqueLemmas
+pub mod RadixLemmas
+pub mod EndLemmas
+pub mod Examples

@@ -1,14 +1,20 @@
-ghost use Rattle.std.specs.Prelude.{◌≡◌, ℕ, ◌↔◌, ◌⊎◌, Ok, Err};
+ghost use Rattle.std.specs.Prelude.{◌≡◌, ℕ, ◌↔◌, ◌⊎◌, Ok, Err, Some, None, Bool, List, ◌++◌, length};
 ghost use Rattle.base.specs.declared.ids.ObjId.{ObjId as Id};
 ghost use Rattle.base.specs.declared.ids.SlotRef.{SlotRef as Slot};
 ghost use Rattle.base.specs.declared.refusal.Cause.TheVariants.{FailedLookup};
 ghost use Rattle.base.specs.declared.refusal.LookupFailure.{LookupFailure as Failure};
-ghost use Rattle.machine.specs.Machine.{Machine};
-ghost use Rattle.machine.specs.Lookup.{lookup_of};
-ghost use Rattle.cspace.specs.Chain.{Finds, Fails, TakesBits};
+ghost use Rattle.base.specs.declared.refusal.LookupFailure.TheVariants.{MissingCapability};
+ghost use Rattle.machine.specs.Bits.{bits};
+ghost use Rattle.machine.specs.Lookup.{Level, lookup_of};
+ghost use Rattle.machine.specs.Machine.{Machine, cap_of};
+ghost use Rattle.cspace.specs.Chain.{Link, Leads, IsWhole, spelled, taken, selected, Resolves, Misses, Finds, Fails, TakesBits};
+ghost use Rattle.cspace.specs.Roots.{root_level};
 
 /// A law: a lookup ends just where a chain of CNode capabilities does whose guards and indices,
-/// joined, are a beginning of the address. So it ends in one way only.
+/// joined, are a beginning of the address. So it ends in one way only, and by one chain.
+///
+/// Some clauses need that each CNode takes a bit, `TakesBits`. Every [`State`](objects::State) does
+/// so, and [`resolve`](crate::resolve) says the same of it without that premise.
 pub fn lookup_follows_a_chain()
     ensures found { (m : Machine) (thread : Id) (address : ℕ) (slot : Slot) (left : ℕ)
         → TakesBits m
@@ -20,4 +26,17 @@ pub fn lookup_follows_a_chain()
         → TakesBits m
         → ((slot : Slot) × (left : ℕ) × Finds m thread address slot left)
         ⊎ ((failure : Failure) × Fails m thread address failure) }
+    ensures unique { (m : Machine) (from : Level) (string : List Bool) (slot other : Slot) (rest remainder : List Bool)
+        → TakesBits m → (a : Resolves m from string slot rest) (b : Resolves m from string other remainder)
+        → (a.links ≡ b.links) × (a.last ≡ b.last) × (slot ≡ other) × (rest ≡ remainder) }
+    ensures unique_failure { (m : Machine) (from : Level) (string : List Bool) (failure other : Failure)
+        → (a : Misses m from string failure) (b : Misses m from string other)
+        → (a.links ≡ b.links) × (a.to ≡ b.to) × (a.rest ≡ b.rest) × (failure ≡ other) }
+    ensures never_both { (m : Machine) (from : Level) (string : List Bool) (slot : Slot) (rest : List Bool) (failure : Failure)
+        → Resolves m from string slot rest → ¬ Misses m from string failure }
+    ensures never_missing { (m : Machine) (thread : Id) (address : ℕ) → ¬ Fails m thread address MissingCapability }
+    ensures empty_found { (m : Machine) (thread : Id) (address : ℕ) (root : Level) (links : List Link) (last : Link) (rest : List Bool)
+        → root_level m thread ≡ Some root → Leads m root links last.level → IsWhole last
+        → spelled links ++ (taken last ++ rest) ≡ bits 64 address → cap_of m (selected last) ≡ None
+        → Finds m thread address (selected last) (length rest) }
 {}

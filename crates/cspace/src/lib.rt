@@ -5,6 +5,8 @@ mod chain;
 mod level;
 mod walk;
 mod word;
+mod worked;
 
 pub use chain::lookup_follows_a_chain;
 pub use walk::{lookup, resolve};
+pub use worked::worked_lookups;

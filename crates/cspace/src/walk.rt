@@ -1,9 +1,14 @@
-ghost use Rattle.std.specs.Prelude.{◌≡◌, ℕ, ◌<◌, ◌≤◌, IfOk, IfErr, IsErrAnd};
+ghost use Rattle.std.specs.Prelude.{◌≡◌, ◌≢◌, ℕ, ◌<◌, ◌≤◌, ◌↔◌, ◌⊎◌, IfOk, IfErr, IsErrAnd};
 ghost use Rattle.std.specs.Option.{option_map};
+ghost use Rattle.base.specs.declared.ids.SlotRef.{SlotRef as Slot};
+ghost use Rattle.base.specs.declared.refusal.Cause.TheVariants.{FailedLookup};
+ghost use Rattle.base.specs.declared.refusal.LookupFailure.{LookupFailure as Failure};
+ghost use Rattle.base.specs.declared.refusal.LookupFailure.TheVariants.{MissingCapability};
 ghost use Rattle.base.specs.Refusals.{refusal_of};
 ghost use Rattle.machine.specs.Bits.{bits};
 ghost use Rattle.machine.specs.Lookup.{level_at, walk, lookup_of};
 ghost use Rattle.cspace.specs.Strings.{level_shown, place_shown};
+ghost use Rattle.cspace.specs.Chain.{Finds, Fails};
 ghost use Rattle.cspace.specs.Roots.{root_level};
 
 use crate::level::Level;
@@ -69,10 +74,21 @@ fn walk(
 /// left there (seL4 manual, "Capability Address Lookup"). The slot may be empty.
 ///
 /// It fails with an invalid root where the number is no thread's or the thread's root holds no CNode
-/// capability, and with a guard or depth mismatch where a CNode on the way selects no slot.
+/// capability, and with a guard or depth mismatch where a CNode on the way selects no slot. It finds
+/// a slot exactly where a chain of CNode capabilities ends whose guards and indices, joined, begin the
+/// address, and there is one such chain.
 pub fn resolve(state: &State, thread: ObjId, address: u64) -> Result<(SlotRef, u32), Cause>
-    ensures { result ≡ lookup_of state.now thread address }
+    ensures value { result ≡ lookup_of state.now thread address }
+    ensures found { (slot : Slot) (left : ℕ) → (result ≡ Ok (slot, left)) ↔ Finds state.now thread address slot left }
+    ensures failed { (failure : Failure) → (result ≡ Err (FailedLookup failure)) ↔ Fails state.now thread address failure }
+    ensures either { ((slot : Slot) × (left : ℕ) × Finds state.now thread address slot left)
+        ⊎ ((failure : Failure) × Fails state.now thread address failure) }
+    ensures unique { (slot other : Slot) (left remainder : ℕ)
+        → (a : Finds state.now thread address slot left) (b : Finds state.now thread address other remainder)
+        → (a.root ≡ b.root) × (a.resolves.links ≡ b.resolves.links) × (a.resolves.last ≡ b.resolves.last) × (a.rest ≡ b.rest) }
+    ensures never_missing { result ≢ Err (FailedLookup MissingCapability) }
 {
+    state.cnodes_take_bits();
     let Some(root) = root_level(state, thread) else {
         return Err(Cause::FailedLookup(LookupFailure::InvalidRoot));
     };
@@ -82,9 +98,12 @@ pub fn resolve(state: &State, thread: ObjId, address: u64) -> Result<(SlotRef, u
 /// The same as [`resolve`], but a failure is a refusal as it is written: code 6, with the detail of
 /// the failure.
 pub fn lookup(state: &State, thread: ObjId, address: u64) -> Result<(SlotRef, u32), Refusal>
-    ensures found { IfOk result (λ place. lookup_of state.now thread address ≡ Ok place) }
-    ensures refused { IfErr result (λ refusal.
+    ensures value { IfOk result (λ place. lookup_of state.now thread address ≡ Ok place) }
+    ensures refusal { IfErr result (λ refusal.
         IsErrAnd (lookup_of state.now thread address) (λ cause. refusal ≡ refusal_of cause)) }
+    ensures found { (slot : Slot) (left : ℕ) → (result ≡ Ok (slot, left)) ↔ Finds state.now thread address slot left }
+    ensures failed { (failure : Failure)
+        → (result ≡ Err (refusal_of (FailedLookup failure))) ↔ Fails state.now thread address failure }
 {
     Ok(resolve(state, thread, address)?)
 }

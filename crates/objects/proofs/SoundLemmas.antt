@@ -20,16 +20,13 @@ use Rattle.objects.specs.declared.entry.Entry.{Entry}
 use Rattle.objects.specs.declared.state.State.TheInside.{Inside}
 use Rattle.machine.specs.Changes.{first_waiting, with_waiting, without_first}
 use Rattle.objects.specs.Entries.{place_of, entry_of, with_entry, put_cap_in, set_parent_in, replace_in, push_in, pop_in, new_entry, AddsEntry, SameEntries}
-use Rattle.objects.specs.State.{machine_of, IsSound}
+use Rattle.objects.specs.Radices.{HasRadix}
+use Rattle.objects.specs.State.{machine_of, IsSized, IsSound}
 use Rattle.objects.proofs.EditLemmas.{length_edited}
 use Rattle.objects.proofs.FiniteLemmas.{same_from_tie}
 use Rattle.objects.proofs.EntryLemmas.{some-none, placed_other, entry_of-with_entry, entry_of-added, entry_of-same, is_some-changed}
 use Rattle.objects.proofs.StateLemmas.{Tells, tells-machine_of, next-machine_of, same_from_tells, object_at, queue_at}
 use Rattle.objects.proofs.ChangeLemmas.{tells-put_cap, tells-set_parent, tells-replace, tells-queue, tells-same, tells-new, unchanged}
-
--- the object has as many slots as it should
-abbrev pub IsSized : Entry → Type 0
-IsSized entry = length entry.slots ≡ slot_count entry.object
 
 -- the state with the entry of one object changed
 abbrev pub with_changed : Inside → ObjId → (Entry → Entry) → Inside
@@ -62,7 +59,7 @@ found_slot s sound slot has = by_entry (entry_of s.places s.entries slot.holder)
   by_entry (Some e) is =
       let some : object_of (machine_of s) slot.holder ≡ Some e.object = (tells-machine_of s).objects slot.holder ∙ ap object_at is in
       let within : slot.index < slot_count e.object = ltb-true slot.index (slot_count e.object) (rw some at has) in
-      let sized : length e.slots ≡ slot_count e.object = sound.sized slot.holder e is in
+      let sized : length e.slots ≡ slot_count e.object = (sound.sized slot.holder e is).0 in
       (e, is, omega arith)
 
 next-with_cap : (m : Machine) (slot : SlotRef) (filling : Cap) → (with_cap m slot filling).next ≡ m.next
@@ -78,7 +75,7 @@ put_cap_gives s sound slot filling has =
     (next-machine_of s' ∙ sym (next-with_cap (machine_of s) slot filling ∙ next-machine_of s))
 
 pub IsSound-put_cap : (s : Inside) → IsSound s → (slot : SlotRef) (filling : Cap) → IsSound (with_changed s slot.holder (put_cap_in slot.index filling))
-IsSound-put_cap s sound slot filling = IsSound-changed s sound slot.holder (put_cap_in slot.index filling) (λ e is sized. length_edited _ e.slots slot.index ∙ sized)
+IsSound-put_cap s sound slot filling = IsSound-changed s sound slot.holder (put_cap_in slot.index filling) (λ e is sized. (length_edited _ e.slots slot.index ∙ sized.0, sized.1))
 
 -- who waits first, and the words
 
@@ -140,8 +137,8 @@ number_unused : (s : Inside) → IsSound s → (o : Option ℕ) → tree.get nat
 number_unused s sound None is = refl
 number_unused s sound (Some place) is = let below : s.next < s.next = sound.fresh s.next (ap is_some is) in absurd (omega arith)
 
-pub IsSound-added : (s : Inside) → IsSound s → s.next < 2 ^ 48 → (object : Object) (places : BTreeMap ℕ ℕ) (entries : Slab Entry) → AddsEntry s.places places s.entries entries s.next (new_entry object) → IsSound (record { places = places; entries = entries; next = s.next + 1 })
-IsSound-added s sound room object places entries adds =
+pub IsSound-added : (s : Inside) → IsSound s → s.next < 2 ^ 48 → (object : Object) → HasRadix object → (places : BTreeMap ℕ ℕ) (entries : Slab Entry) → AddsEntry s.places places s.entries entries s.next (new_entry object) → IsSound (record { places = places; entries = entries; next = s.next + 1 })
+IsSound-added s sound room object radix places entries adds =
     record {
       apart = λ a b place here there. elim (cases_eq a s.next) [
         | inl first ↦ elim (cases_eq b s.next) [
@@ -176,7 +173,7 @@ IsSound-added s sound room object places entries adds =
     held_after a place is (inr apart) (inr number) = ap is_some (adds.added.others place apart) ∙ sound.held a place (before a number ∙ is)
 
     sized_after : (q : ObjId) (entry : Entry) (tie : Bool) → cond tie (Some (new_entry object)) (entry_of s.places s.entries q) ≡ Some entry → IsSized entry
-    sized_after q entry true is = subst IsSized (same_Some (new_entry object) entry is) (length-replicate (slot_count object) _)
+    sized_after q entry true is = subst IsSized (same_Some (new_entry object) entry is) (length-replicate (slot_count object) _, radix)
     sized_after q entry false is = sound.sized q entry is
 
 next-with_new : (m : Machine) (object : Object) → (with_new m object).next ≡ m.next + 1
@@ -195,10 +192,20 @@ added_gives s sound object places entries adds =
     (rw (next-machine_of s) vacant))
     (next-machine_of s' ∙ sym (next-with_new (machine_of s) object ∙ ap (λ n. n + 1) (next-machine_of s)))
 
+-- each object that the machine has is an entry's, so a CNode has a radix
+
+pub HasRadix-machine_of : (s : Inside) → IsSound s → (id : ObjId) (object : Object) → object_of (machine_of s) id ≡ Some object → HasRadix object
+HasRadix-machine_of s sound id object present = by_entry (entry_of s.places s.entries id) refl where
+  by_entry : (o : Option Entry) → entry_of s.places s.entries id ≡ o → HasRadix object
+  by_entry None is = let none : object_of (machine_of s) id ≡ None = (tells-machine_of s).objects id ∙ ap object_at is in cc
+  by_entry (Some e) is =
+      let some : object_of (machine_of s) id ≡ Some e.object = (tells-machine_of s).objects id ∙ ap object_at is in
+      subst HasRadix (same_Some e.object object (sym some ∙ present)) (sound.sized id e is).1
+
 -- a parent is set
 
 pub IsSound-set_parent : (s : Inside) → IsSound s → (slot parent : SlotRef) → IsSound (with_changed s slot.holder (set_parent_in slot.index parent))
-IsSound-set_parent s sound slot parent = IsSound-changed s sound slot.holder (set_parent_in slot.index parent) (λ e is sized. length_edited _ e.slots slot.index ∙ sized)
+IsSound-set_parent s sound slot parent = IsSound-changed s sound slot.holder (set_parent_in slot.index parent) (λ e is sized. (length_edited _ e.slots slot.index ∙ sized.0, sized.1))
 
 next-with_parent : (m : Machine) (slot parent : SlotRef) → (with_parent m slot parent).next ≡ m.next
 unfolding with_parent
@@ -221,12 +228,12 @@ found_entry s id some = by_entry (entry_of s.places s.entries id) refl where
   by_entry None is = absurd (some-none (object_of (machine_of s) id) some ((tells-machine_of s).objects id ∙ ap object_at is))
   by_entry (Some e) is = (e, is)
 
-pub IsSound-replace : (s : Inside) → IsSound s → (id : ObjId) (object : Object) → IfSome (object_of (machine_of s) id) (λ old. slot_count object ≡ slot_count old) → IsSound (with_changed s id (replace_in object))
-IsSound-replace s sound id object same =
+pub IsSound-replace : (s : Inside) → IsSound s → (id : ObjId) (object : Object) → HasRadix object → IfSome (object_of (machine_of s) id) (λ old. slot_count object ≡ slot_count old) → IsSound (with_changed s id (replace_in object))
+IsSound-replace s sound id object radix same =
     IsSound-changed s sound id (replace_in object) (λ e is sized.
     let found : object_of (machine_of s) id ≡ Some e.object = (tells-machine_of s).objects id ∙ ap object_at is in
     let count : slot_count object ≡ slot_count e.object = rw found at same in
-    sized ∙ sym count)
+    (sized.0 ∙ sym count, radix))
 
 next-with_object : (m : Machine) (id : ObjId) (object : Object) → (with_object m id object).next ≡ m.next
 unfolding with_object

@@ -1,4 +1,5 @@
 pub mod Edits
 pub mod Entries
 pub mod Finite
+pub mod Radices
 pub mod State

@@ -12,6 +12,7 @@ use Rattle.objects.specs.declared.entry.Entry.{Entry}
 use Rattle.objects.specs.declared.state.State.TheInside.{Inside}
 use Rattle.objects.specs.Entries.{entry_of, cap_in, parent_in}
 use Rattle.objects.specs.Finite.{tabulate}
+use Rattle.objects.specs.Radices.{HasRadix}
 
 -- the slots of an object
 abbrev pub slots_of : ObjId → Option Entry → List SlotRef
@@ -35,10 +36,15 @@ machine_from entry ids next =
 unfoldable pub machine_of : Inside → Machine
 machine_of s = machine_from (entry_of s.places s.entries) (map (λ number. record { 0 = number }) (tree.keys s.places)) s.next
 
--- each number in use has a place of its own with an entry, is below the next one, and its object has as many slots as it should
+-- an entry has as many slots as its object should, and a CNode has a radix
+abbrev pub IsSized : Entry → Type 0
+IsSized entry = (length entry.slots ≡ slot_count entry.object) × HasRadix entry.object
+
+-- each number in use has a place of its own with an entry and is below the next one, its object has as many slots as it should, and a
+-- CNode has a radix
 pub record IsSound (s : Inside) : Type 0 where
   pub apart : (a b place : ℕ) → tree.get nat_cmp s.places a ≡ Some place → tree.get nat_cmp s.places b ≡ Some place → a ≡ b
   pub held : (a place : ℕ) → tree.get nat_cmp s.places a ≡ Some place → IsSome (slab.get s.entries place)
   pub fresh : (a : ℕ) → IsSome (tree.get nat_cmp s.places a) → a < s.next
   pub bounded : s.next ≤ 2 ^ 48
-  pub sized : (id : ObjId) (entry : Entry) → entry_of s.places s.entries id ≡ Some entry → length entry.slots ≡ slot_count entry.object
+  pub sized : (id : ObjId) (entry : Entry) → entry_of s.places s.entries id ≡ Some entry → IsSized entry

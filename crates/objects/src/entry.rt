@@ -1,3 +1,5 @@
+ghost use Rattle.objects.specs.Radices.{HasRadix};
+
 use crate::queue::Queue;
 use crate::slots::Slots;
 use crate::words::Words;
@@ -11,4 +13,13 @@ pub struct Entry {
     /// Who waits at it.
     pub queue: Queue,
     pub words: Words,
+}
+
+/// A CNode takes 1 to 12 bits of an address, as the type of its radix says.
+pub fn cnode_takes_bits(object: &Object)
+    ensures { HasRadix object.now }
+{
+    if let Object::CNode(node) = object {
+        let _ = node.radix.bits();
+    }
 }

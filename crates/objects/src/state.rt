@@ -1,4 +1,4 @@
-use crate::entry::Entry;
+use crate::entry::{Entry, cnode_takes_bits};
 use crate::store;
 use base::{ObjId, SlotRef};
 use machine::{Cap, Context, Notification, Object, Tcb};
@@ -37,6 +37,9 @@ impl Model for State {
 }
 
 impl State {
+    ghost use Rattle.base.specs.declared.ids.ObjId.{ObjId as Id};
+    ghost use Rattle.machine.specs.declared.object.CNode.{CNode};
+    ghost use Rattle.machine.specs.declared.object.Object.TheVariants as o;
     ghost use Rattle.std.specs.Prelude.{◌≡◌, ◌<◌, ◌≤◌, ◌^◌, IsTrue, IfOk, OnErr, OnOk, option_copied, option_and_then, slice_get, IsSome, IfSome};
     ghost use Rattle.machine.specs.Machine.{empty_machine, object_of, cap_of, parent_of, words_of, has_slot, with_new, with_cap, with_parent, with_object};
     ghost use Rattle.machine.specs.Objects.{slot_count};
@@ -59,6 +62,14 @@ impl State {
         ensures bounded { result ≤ 2 ^ 48 }
     {
         self.next
+    }
+
+    /// Each CNode takes 1 to 12 bits of an address to select a slot.
+    pub fn cnodes_take_bits(&self)
+        ensures { (id : Id) (node : CNode) → object_of self.now id ≡ Some (o.CNode node)
+            → (0 < node.radix) × (node.radix ≤ 12) }
+    {
+        let _ = &self.next;
     }
 
     /// The object of that number, if there is one.
@@ -116,6 +127,7 @@ impl State {
         ensures numbered { IfOk result (λ id. id ≡ record { 0 = self.old.next }) }
         ensures err { OnErr result (self.new ≡ self.old) }
     {
+        cnode_takes_bits(&object);
         let number = self.next;
         store::add(alloc, &mut self.places, &mut self.entries, number, object)?;
         self.next += 1;
@@ -145,6 +157,7 @@ impl State {
         requires same_slots { IfSome (object_of self.old id) (λ old. slot_count object ≡ slot_count old) }
         ensures { self.new ≡ with_object self.old id object }
     {
+        cnode_takes_bits(&object);
         store::replace(&self.places, &mut self.entries, id, object);
     }
 

@@ -9,6 +9,7 @@ use objects::State;
 
 /// Takes the first of the threads that wait at an object, and says which it was. The others stay in
 /// their order.
+#[tactic(auto, using(crate::proofs::Waiting::nobody_leaves))]
 pub fn pop_first(state: &mut State, id: ObjId) -> Option<ObjId>
     ensures first { result ≡ first_waiting state.old id }
     ensures rest { state.new ≡ without_first state.old id }

@@ -1,5 +1,6 @@
 -- Each way a lookup ends, from the walk's and the chain's.
 use Rattle.cspace.proofs.LookupLemmas.{finds, found, fails, failed, ends}
+use Rattle.cspace.proofs.EndLemmas.{unique, unique_failure, never_both, never_missing, empty_found}
 use Rattle.cspace.proofs.chain.lookup_follows_a_chain.Goals as goal
 
 pub returns-clause-found : goal.returns-clause-found
@@ -10,3 +11,18 @@ returns-clause-failed c = λ m thread address failure takes. (fails m thread add
 
 pub returns-clause-either : goal.returns-clause-either
 returns-clause-either c = ends
+
+pub returns-clause-unique : goal.returns-clause-unique
+returns-clause-unique c = unique
+
+pub returns-clause-unique_failure : goal.returns-clause-unique_failure
+returns-clause-unique_failure c = unique_failure
+
+pub returns-clause-never_both : goal.returns-clause-never_both
+returns-clause-never_both c = never_both
+
+pub returns-clause-never_missing : goal.returns-clause-never_missing
+returns-clause-never_missing c = never_missing
+
+pub returns-clause-empty_found : goal.returns-clause-empty_found
+returns-clause-empty_found c = empty_found

@@ -1,14 +1,41 @@
--- A lookup is a walk from the thread's root.
-use Rattle.std.proofs.Common.{sym, ap, ◌∙◌, arith}
-use Rattle.machine.specs.Lookup.{counted}
+-- A lookup is a walk from the thread's root, and ends where the chain does.
+use Rattle.std.proofs.Common.{◌≡◌, sym, ap, ◌∙◌, arith, Err}
+use Rattle.base.specs.declared.refusal.Cause.TheVariants.{FailedLookup}
+use Rattle.base.specs.declared.refusal.LookupFailure.TheVariants.{InvalidRoot}
+use Rattle.machine.specs.Lookup.{counted, lookup_of}
 use Rattle.cspace.specs.Strings.{level_shown}
 use Rattle.cspace.proofs.RootLemmas.{lookup_of-none, lookup_of-some, counted-shown, failed-cases}
+use Rattle.cspace.proofs.RadixLemmas.{takes_bits}
+use Rattle.cspace.proofs.LookupLemmas.{ends}
+use Rattle.cspace.proofs.EndLemmas.{found_where, failed_where, one_way, not_missing}
 use Rattle.cspace.proofs.walk.resolve.Goals as goal
 
 pub returns-in_default : goal.returns-in_default
-returns-in_default c = sym (lookup_of-none c.args.state.now c.args.thread c.args.address (sym c.in_default.ensures))
+returns-in_default c =
+    let m = c.args.state.now in
+    let takes = takes_bits m c.cnodes_take_bits.ensures in
+    let value : Err (FailedLookup InvalidRoot) ≡ lookup_of m c.args.thread c.args.address = sym (lookup_of-none m c.args.thread c.args.address (sym c.in_default.ensures)) in
+    record {
+      value = value;
+      found = found_where m c.args.thread c.args.address _ takes value;
+      failed = failed_where m c.args.thread c.args.address _ takes value;
+      either = ends m c.args.thread c.args.address takes;
+      unique = λ slot other left remainder. one_way m c.args.thread c.args.address slot other left remainder takes;
+      never_missing = not_missing m c.args.thread c.args.address _ takes value;
+    }
 
 pub returns : goal.returns
 returns c =
+    let m = c.args.state.now in
+    let takes = takes_bits m c.cnodes_take_bits.ensures in
+    let value : c.map_err.result ≡ lookup_of m c.args.thread c.args.address =
     failed-cases c.walk.result c.map_err.result c.map_err.ensures.cases ∙ sym (counted-shown c.args.address c.walk.result) ∙ ap counted (c.walk.ensures 65 (omega arith))
-    ∙ sym (lookup_of-some c.args.state.now c.args.thread c.args.address (level_shown c.in-Some.root) (sym c.in-Some.ensures))
+    ∙ sym (lookup_of-some m c.args.thread c.args.address (level_shown c.in-Some.root) (sym c.in-Some.ensures)) in
+    record {
+      value = value;
+      found = found_where m c.args.thread c.args.address _ takes value;
+      failed = failed_where m c.args.thread c.args.address _ takes value;
+      either = ends m c.args.thread c.args.address takes;
+      unique = λ slot other left remainder. one_way m c.args.thread c.args.address slot other left remainder takes;
+      never_missing = not_missing m c.args.thread c.args.address _ takes value;
+    }

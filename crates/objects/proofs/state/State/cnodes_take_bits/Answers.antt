@@ -1,0 +1,6 @@
+use Rattle.machine.specs.declared.object.Object.TheVariants as o
+use Rattle.objects.proofs.SoundLemmas.{HasRadix-machine_of}
+use Rattle.objects.proofs.state.State.cnodes_take_bits.Goals as goal
+
+pub returns : goal.returns
+returns c = λ id node present. HasRadix-machine_of c.self.inside c.self.invariant id (o.CNode node) (rw c.self.view_is present)
