@@ -1,12 +1,11 @@
 -- The boot state of a table with one object or one capability more, and which slots a boot state has.
-use Rattle.std.proofs.Common.{◌≡◌, ◌≢◌, ℕ, zero, suc, ◌+◌, ◌<◌, Bool, true, false, cond, List, [], ◌∷◌, ◌++◌, length, get_or, replicate, take, refl, sym, ap, ◌∙◌, arith}
+use Rattle.std.proofs.Common.{◌≡◌, ◌≢◌, ℕ, zero, suc, ◌+◌, ◌<◌, Bool, true, false, cond, List, [], ◌∷◌, ◌++◌, length, get_or, replicate, take, refl, sym, ap, subst, ◌∙◌, arith}
 use Rattle.std.specs.Prelude.{Option, Some, None, option_map, slice_get, IsTrue}
 use Rattle.std.specs.List.{find}
 use Rattle.std.specs.Option.{option_or}
 use Rattle.std.specs.Cmp.{tied_itself}
 use Rattle.std.specs.Ordering.{is_eq}
-use Rattle.std.specs.declared.cmp.Ordering.{Ordering}
-use Rattle.std.specs.declared.cmp.Ordering.TheVariants.{Less, Equal, Greater}
+use Rattle.std.specs.declared.cmp.Ordering.TheVariants.{Less}
 use Rattle.std.proofs.lemmas.Bool.{false≢true, lt-ltb}
 use Rattle.std.proofs.lemmas.Cmp.{eq_by_cmp_equiv}
 use Rattle.std.proofs.lemmas.List.{length_push, length-take-le, take_more, get_or-take}
@@ -16,26 +15,20 @@ use Rattle.base.specs.declared.ids.SlotRef.{SlotRef}
 use Rattle.machine.specs.declared.cap.Cap.{Cap}
 use Rattle.machine.specs.declared.layout.Filled.{Filled}
 use Rattle.machine.specs.declared.layout.Initial.{Initial}
+use Rattle.machine.specs.declared.layout.Pair.{Pair}
 use Rattle.machine.specs.declared.object.Object.{Object}
 use Rattle.machine.specs.declared.object.Object.TheVariants as o
-use Rattle.machine.specs.Boot.{IsBoot, bound, booted}
+use Rattle.machine.specs.Boot.{IsBoot, bound, booted, slot_count-bound}
 use Rattle.machine.specs.Layout.{Layout, initial_of, initial_cap, initial_parent, bound_context, bound_thread}
-use Rattle.machine.specs.Machine.{Machine, id_apart, id_total, same_id, slot_apart, slot_cmp, slot_total, same_slot, empty_machine, object_of, has_slot, with_new, with_cap}
+use Rattle.machine.specs.Machine.{Machine, id_total, one_id, one_slot, same_id, slot_cmp, slot_total, same_slot, empty_machine, object_of, has_slot, with_new, with_cap}
 use Rattle.machine.specs.Machine.{object_of-empty, queue_of-empty, words_of-empty, cap_of-empty, parent_of-empty}
 use Rattle.machine.specs.Machine.{object_of-with_new, queue_of-with_new, words_of-with_new, cap_of-with_new, parent_of-with_new}
 use Rattle.machine.specs.Machine.{object_of-with_cap, queue_of-with_cap, words_of-with_cap, cap_of-with_cap, parent_of-with_cap}
 use Rattle.machine.specs.Objects.{slot_count, word_count}
 use Rattle.table.specs.Rules.{IsLawful, IsCapOf}
+use Rattle.kernel.specs.Parts.{without_tree}
 
--- ids and slots that tie are equal
-
-equal_from_tie : (r : Ordering) → is_eq r ≡ true → r ≡ Equal
-equal_from_tie Equal tie = refl
-equal_from_tie Less tie = absurd (false≢true tie)
-equal_from_tie Greater tie = absurd (false≢true tie)
-
-same_from_id_tie : (q id : ObjId) → same_id q id ≡ true → q ≡ id
-same_from_id_tie q id tie = id_apart q id (equal_from_tie _ tie)
+-- ids that don't tie differ
 
 apart_ids : (q id : ObjId) → same_id q id ≡ false → q.0 ≢ id.0
 apart_ids q id tie same = let is : q ≡ id = ap (λ n. record { 0 = n }) same in false≢true (sym tie ∙ ap (λ k. same_id k id) is ∙ ap is_eq (tied_itself id_total id))
@@ -91,7 +84,7 @@ booted-last t initial id last q = by_tie (same_id q id) refl where
 
   by_tie : (tie : Bool) → same_id q id ≡ tie → cond tie (Some (bound t id initial.object)) (booted t q) ≡ booted (with_last_object t initial) q
   by_tie true e =
-      let is : q ≡ id = same_from_id_tie q id e in
+      let is : q ≡ id = one_id q id e in
       let at : slice_get (t.objects ++ initial ∷ []) q.0 ≡ Some initial = ap (slice_get (t.objects ++ initial ∷ [])) (ap (λ k. k.0) is ∙ last) ∙ slice_get-last t.objects initial in
       ap (λ k. Some (bound t k initial.object)) (sym is) ∙ ap (object_at t q) (sym at)
   by_tie false e = ap (object_at t q) (sym (slice_get-not_last t.objects initial q.0 (λ same. apart_ids q id e (same ∙ sym last))))
@@ -114,9 +107,6 @@ boot-object t m initial boot =
       next = ap (λ n. n + 1) boot.next ∙ sym (length_push t.objects initial);
     }
 
-same_from_slot_tie : (q slot : SlotRef) → same_slot q slot ≡ true → q ≡ slot
-same_from_slot_tie q slot tie = slot_apart q slot (equal_from_tie _ tie)
-
 cap-last : (t : Layout) (filled d : Filled) → ((k : ℕ) → k < length t.caps → slot_cmp (get_or t.caps k d).slot filled.slot ≡ Less) → (q : SlotRef)
     → cond (same_slot q filled.slot) (Some filled.cap) (initial_cap t q) ≡ initial_cap (with_last_cap t filled) q
 unfolding initial_cap
@@ -136,7 +126,7 @@ cap-last t filled d rising q = by_tie (same_slot q filled.slot) refl where
 
   by_tie : (tie : Bool) → same_slot q filled.slot ≡ tie → cond tie (Some filled.cap) (initial_cap t q) ≡ initial_cap (with_last_cap t filled) q
   by_tie true e =
-      let is : q ≡ filled.slot = same_from_slot_tie q filled.slot e in
+      let is : q ≡ filled.slot = one_slot q filled.slot e in
       let none : find at t.caps ≡ None = find-missing at t.caps d (λ k within. ap (λ slot. same_slot (get_or t.caps k d).slot slot) is ∙ ap is_eq (rising k within)) in
       let here : same_slot filled.slot q ≡ true = (eq_by_cmp_equiv slot_total).symm filled.slot q ∙ e in
       sym (ap cap_in (find-append at t.caps (filled ∷ []) ∙ ap (λ found. option_or found (find at (filled ∷ []))) none ∙ ap last here))
@@ -158,17 +148,6 @@ boot-cap t m filled d boot rising =
       parents = λ q. parent_of-with_cap m slot held q ∙ boot.parents q;
       next = boot.next;
     }
-
-slot_count-bound : (t : Layout) (id : ObjId) (object : Object) → slot_count (bound t id object) ≡ slot_count object
-slot_count-bound t id (o.Untyped _) = refl
-slot_count-bound t id (o.CNode _) = refl
-slot_count-bound t id (o.Tcb _) = refl
-slot_count-bound t id (o.Endpoint _) = refl
-slot_count-bound t id (o.Notification _) = refl
-slot_count-bound t id (o.Reply _) = refl
-slot_count-bound t id (o.Context _) = refl
-slot_count-bound t id (o.Frame _) = refl
-slot_count-bound t id (o.Control _) = refl
 
 -- the boot state has the slots that the table declares
 boot-has_slot : (t : Layout) (m : Machine) (slot : SlotRef) (holder : Initial) → IsBoot t m → initial_of t slot.holder ≡ Some holder → slot.index < slot_count holder.object → IsTrue (has_slot m slot)
@@ -197,3 +176,7 @@ boot-filled t m caps i d lawful same within boot next is =
     (boot-cap (record t { caps = take i t.caps; pairs = [] }) m filled d boot (λ k lower. below k (omega (arith, length-take-le i t.caps (omega arith))))) where
       below : (k : ℕ) → k < i → slot_cmp (get_or (take i t.caps) k d).slot (get_or t.caps i d).slot ≡ Less
       below k lower = rw (get_or-take i t.caps k d lower) (lawful.caps_rise k i d lower (rw (← same) within))
+
+-- a table without its tree, which is empty, boots to the same state
+pub boot-tree : (t : Layout) (m : Machine) → IsLawful t → IsBoot (without_tree t) m → IsBoot t m
+boot-tree t m lawful boot = let P : List Pair → Type 0 = λ pairs. IsBoot (record t { pairs = pairs }) m in subst P (sym lawful.underived) boot

@@ -1,13 +1,14 @@
 ghost use Rattle.std.specs.Prelude.{◌≡◌, IfOk, IfErr};
 ghost use Rattle.base.specs.Refusals.{plain};
-ghost use Rattle.machine.specs.Boot.{IsBoot, bound};
+ghost use Rattle.machine.specs.Boot.{IsBoot, IsFresh, bound};
+ghost use Rattle.machine.specs.WellFormed.{IsWellFormed};
 ghost use Rattle.kernel.specs.Parts.{objects_alone, without_tree};
 
 use base::{ObjId, Refusal};
 use machine::{Context, Object, Tcb};
 use objects::State;
 use std::alloc::{AllocError, Global};
-use table::Table;
+use table::{Table, boot_states_are_well_formed};
 
 /// An initial object with the links that the table's bindings give it.
 fn bound(table: &Table, id: ObjId, object: Object) -> Object
@@ -50,13 +51,18 @@ fn fill(state: &mut State, table: &Table)
     }
 }
 
-/// The boot state of a capability table.
+/// The boot state of a capability table. It is well formed, and as the boot rule says: nothing is made
+/// of untyped memory, nobody waits or has received anything, each thread is ready or inactive as it
+/// was declared, no notification has a word, replies are free, frames are zero, and a capability
+/// without a parent is original.
 ///
 /// # Errors
 ///
 /// 40 where memory is refused.
 pub fn boot(alloc: Global, table: &Table) -> Result<State, Refusal>
     ensures booted { IfOk result (IsBoot table.now) }
+    ensures well_formed { IfOk result IsWellFormed }
+    ensures fresh { IfOk result (IsFresh table.now) }
     ensures refused { IfErr result (λ refusal. refusal ≡ plain 40) }
 {
     let mut state = with_objects(alloc, table)?;
@@ -65,5 +71,6 @@ pub fn boot(alloc: Global, table: &Table) -> Result<State, Refusal>
     for pair in pairs {
         state.set_parent(pair.child, pair.parent);
     }
+    boot_states_are_well_formed();
     Ok(state)
 }

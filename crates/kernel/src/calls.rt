@@ -1,17 +1,21 @@
+ghost use Rattle.std.specs.Prelude.{◌≡◌, IfOk};
 ghost use Rattle.kernel.specs.Makes.{Makes};
+ghost use Rattle.machine.specs.Outcomes.{IsRefused};
 ghost use Rattle.machine.specs.Step.{Step, made_by};
+ghost use Rattle.machine.specs.WellFormed.{IsWellFormed};
 
 use crate::admit::admit;
 use crate::poll::poll;
 use crate::signal::signal;
 use base::{Cause, Refusal};
-use machine::{Call, Event, Outcome};
+use machine::{Call, Event, Outcome, steps_keep_machines_well_formed};
 use objects::State;
 
 /// Makes the call of an event, once its thread is admitted.
 #[tactic(auto, unfolding(machine::specs::Step::made_by))]
 fn make(state: &mut State, event: Event) -> Result<Outcome, Cause>
-    ensures { Makes state.old state.new result (made_by state.old event) }
+    ensures makes { Makes state.old state.new result (made_by state.old event) }
+    ensures done { IfOk result (λ outcome. ¬ (IsRefused outcome)) }
 {
     admit(state, event.core, event.thread)?;
     match event.call {
@@ -24,8 +28,12 @@ fn make(state: &mut State, event: Event) -> Result<Outcome, Cause>
 /// as it was. No memory is taken.
 #[tactic(auto, unfolding(machine::specs::Step::step_of))]
 pub fn step(state: &mut State, event: Event) -> Outcome
-    ensures { Step state.old event result state.new }
+    ensures stepped { Step state.old event result state.new }
+    ensures refusals { IsRefused result → state.new ≡ state.old }
+    ensures well_formed { IsWellFormed state.old → IsWellFormed state.new }
 {
+    // A law, so that the state stays well formed.
+    steps_keep_machines_well_formed();
     match make(state, event) {
         Ok(outcome) => outcome,
         Err(cause) => Outcome::Refused(Refusal::from(cause)),

@@ -1,4 +1,6 @@
+ghost use Rattle.std.specs.Prelude.{IfOk};
 ghost use Rattle.kernel.specs.Makes.{Makes};
+ghost use Rattle.machine.specs.Outcomes.{IsRefused};
 ghost use Rattle.machine.specs.Step.Poll.{poll_of};
 
 use crate::find::{find_notification, permit};
@@ -12,7 +14,8 @@ use objects::State;
 /// "Notifications").
 #[tactic(auto, unfolding(machine::specs::Step::Poll::poll_of))]
 pub fn poll(state: &mut State, caller: ObjId, address: u64) -> Result<Outcome, Cause>
-    ensures { Makes state.old state.new result (poll_of state.old caller address) }
+    ensures makes { Makes state.old state.new result (poll_of state.old caller address) }
+    ensures done { IfOk result (λ outcome. ¬ (IsRefused outcome)) }
 {
     let (notification, end) = find_notification(state, caller, address)?;
     permit(end.rights.contains(Rights::READ))?;

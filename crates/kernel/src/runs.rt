@@ -2,6 +2,7 @@ ghost use Rattle.std.specs.Prelude.{◌≡◌, ◌+◌, ◌≤◌, ◌++◌, Lis
 ghost use Rattle.base.specs.Refusals.{plain};
 ghost use Rattle.machine.specs.declared.call.Outcome.{Outcome as Ended};
 ghost use Rattle.machine.specs.Run.{Run};
+ghost use Rattle.machine.specs.WellFormed.{IsWellFormed};
 
 use crate::calls::step;
 use base::Refusal;
@@ -16,6 +17,9 @@ use objects::State;
 /// A list with room for them is never refused.
 pub fn run(state: &mut State, events: &[Event], outcomes: &mut Vec<Outcome>) -> Result<(), Refusal>
     ensures ran { OnOk result ((made : List Ended) × (outcomes.new.items ≡ outcomes.old.items ++ made) × Run state.old events.now made state.new) }
+    ensures counted { OnOk result (length outcomes.new.items ≡ length outcomes.old.items + length events.now) }
+    ensures appends { (made : List Ended) × (outcomes.new.items ≡ outcomes.old.items ++ made) }
+    ensures well_formed { IsWellFormed state.old → IsWellFormed state.new }
     ensures refused { IfErr result (λ refusal. refusal ≡ plain 40) }
     ensures kept { OnErr result ((state.new ≡ state.old) × (outcomes.new.items ≡ outcomes.old.items)) }
     ensures succeeds { vec_len outcomes.old + length events.now ≤ vec_capacity outcomes.old → IsOk result }

@@ -1,6 +1,7 @@
-ghost use Rattle.std.specs.Prelude.{◌≡◌};
+ghost use Rattle.std.specs.Prelude.{◌≡◌, IfOk};
 ghost use Rattle.kernel.specs.Makes.{Makes};
 ghost use Rattle.machine.specs.Machine.{object_of};
+ghost use Rattle.machine.specs.Outcomes.{IsRefused};
 ghost use Rattle.machine.specs.Step.Signal.{pending_in, signal_of, signalled, woken};
 
 use crate::find::{find_notification, permit};
@@ -53,7 +54,8 @@ fn notify(state: &mut State, id: ObjId, badge: u64)
 /// else the badge joins the notification's word (seL4 manual, "Notifications").
 #[tactic(auto, unfolding(machine::specs::Step::Signal::signal_of))]
 pub fn signal(state: &mut State, caller: ObjId, address: u64) -> Result<Outcome, Cause>
-    ensures { Makes state.old state.new result (signal_of state.old caller address) }
+    ensures makes { Makes state.old state.new result (signal_of state.old caller address) }
+    ensures done { IfOk result (λ outcome. ¬ (IsRefused outcome)) }
 {
     let (notification, end) = find_notification(state, caller, address)?;
     permit(end.rights.contains(Rights::WRITE))?;

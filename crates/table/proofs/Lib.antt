@@ -7,3 +7,8 @@ pub mod ObjectAdded
 pub mod CapAdded
 pub mod BindingAdded
 pub mod SearchLemmas
+pub mod BootParts
+pub mod BootSlots
+pub mod BootLinks
+pub mod BootNumbers
+pub mod BootFresh

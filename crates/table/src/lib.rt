@@ -4,11 +4,13 @@
 //! part on. A contract sees it as a `Layout`.
 #![tactic(auto)]
 
+mod boot_law;
 mod caps;
 mod extent;
 mod names;
 mod objects;
 mod table;
 
+pub use boot_law::boot_states_are_well_formed;
 pub use extent::{is_addressable, is_aligned};
 pub use table::Table;

@@ -1,0 +1,66 @@
+-- The slots of a boot state fit: each is in its holder, and its capability is for an object of the kind that it says.
+use Rattle.std.proofs.Common.{◌≡◌, sym, ap, ◌∙◌, refl}
+use Rattle.std.specs.Prelude.{Some, option_map}
+use Rattle.std.proofs.lemmas.Option.{same_Some}
+use Rattle.base.specs.declared.ids.SlotRef.{SlotRef}
+use Rattle.machine.specs.declared.cap.Cap.{Cap}
+use Rattle.machine.specs.declared.cap.Detail.{Detail}
+use Rattle.machine.specs.declared.cap.Detail.TheVariants as d
+use Rattle.machine.specs.declared.layout.Initial.{Initial}
+use Rattle.machine.specs.declared.object.Object.{Object}
+use Rattle.machine.specs.declared.object.Object.TheVariants as o
+use Rattle.base.specs.declared.ids.ObjId.{ObjId}
+use Rattle.machine.specs.Boot.{IsBoot, bound, kind-bound, slot_count-bound}
+use Rattle.machine.specs.Capabilities.{kind_of_detail}
+use Rattle.machine.specs.Layout.{Layout, initial_of}
+use Rattle.machine.specs.Machine.{Machine, cap_of}
+use Rattle.machine.specs.Objects.{kind_of_object}
+use Rattle.machine.specs.WellFormed.{SlotsFit, Descends, child, further, kind_of}
+use Rattle.table.specs.Rules.{IsLawful, IsDetailOf}
+use Rattle.table.proofs.BootParts.{declared-present, cap-law, parentless}
+
+-- a detail that fits an object is of the object's kind
+kind-detail : (object : Object) (detail : Detail) → IsDetailOf object detail → kind_of_object object ≡ kind_of_detail detail
+kind-detail (o.Untyped _) d.Untyped fits = refl
+kind-detail (o.CNode _) (d.CNode _) fits = refl
+kind-detail (o.Tcb _) d.Tcb fits = refl
+kind-detail (o.Endpoint _) (d.Endpoint _) fits = refl
+kind-detail (o.Notification _) (d.Notification _) fits = refl
+kind-detail (o.Reply _) d.Reply fits = refl
+kind-detail (o.Context _) d.Context fits = refl
+kind-detail (o.Frame _) (d.Frame _) fits = refl
+kind-detail (o.Control _) d.Control fits = refl
+kind-detail _ _ fits = absurd fits
+
+-- a declared object has its kind
+pub kind-present : (t : Layout) (m : Machine) (id : ObjId) (initial : Initial) → IsBoot t m → initial_of t id ≡ Some initial → kind_of m id ≡ Some (kind_of_object initial.object)
+kind-present t m id initial boot at =
+    ap (option_map kind_of_object) (declared-present t m id initial boot at) ∙ ap (λ found. Some found) (kind-bound t id initial.object)
+
+-- the object of a capability is of the kind that the capability says
+pub kind-aimed : (t : Layout) (m : Machine) (slot : SlotRef) (held : Cap) → IsLawful t → IsBoot t m → cap_of m slot ≡ Some held → kind_of m held.object ≡ Some (kind_of_detail held.detail)
+kind-aimed t m slot held lawful boot filled =
+    let law = cap-law t m slot held lawful boot filled in
+    kind-present t m held.object law.target boot law.aimed ∙ ap (λ found. Some found) (kind-detail law.target.object held.detail law.detail)
+
+-- no slot descends from any
+undescended : (t : Layout) (m : Machine) (slot above : SlotRef) → IsLawful t → IsBoot t m → Descends m slot above → ⊥
+undescended t m slot above lawful boot (child joined) = parentless t m _ _ lawful boot joined
+undescended t m slot above lawful boot (further joined rest) = parentless t m _ _ lawful boot joined
+
+pub boot-slots : (t : Layout) (m : Machine) → IsLawful t → IsBoot t m → SlotsFit m
+boot-slots t m lawful boot = record {
+  holder =
+      λ slot held filled.
+      let law = cap-law t m slot held lawful boot filled in
+      (bound t slot.holder law.holder.object, declared-present t m slot.holder law.holder boot law.held, rw slot_count-bound law.slot);
+  object = λ slot held filled. kind-aimed t m slot held lawful boot filled;
+  root =
+      λ slot held filled of_thread.
+      let law = cap-law t m slot held lawful boot filled in
+      law.root (same_Some _ _ (sym (kind-present t m slot.holder law.holder boot law.held) ∙ of_thread));
+  child_filled = λ slot parent joined. absurd (parentless t m slot parent lawful boot joined);
+  parent_filled = λ slot parent joined. absurd (parentless t m slot parent lawful boot joined);
+  acyclic = λ slot descends. undescended t m slot slot lawful boot descends;
+  kin = λ slot parent below above joined _ _. absurd (parentless t m slot parent lawful boot joined);
+}
