@@ -13,7 +13,7 @@ use Rattle.machine.specs.declared.cap.Cap.{Cap}
 use Rattle.machine.specs.declared.layout.Binding.{Binding}
 use Rattle.machine.specs.declared.layout.Filled.{Filled}
 use Rattle.machine.specs.Layout.{Layout, initial_cap, bound_context}
-use Rattle.machine.specs.Machine.{id_cmp, slot_cmp, same_id, same_slot, id_total, slot_total, id_apart, slot_apart}
+use Rattle.machine.specs.Machine.{id_cmp, slot_cmp, same_id, same_slot, id_total, slot_total, one_id, one_slot}
 use Rattle.table.specs.Rules.{IsLawful}
 
 -- an element that is found: where it is, and that it passes
@@ -47,11 +47,6 @@ read_at items xs k d same lt = ap (λ ys. slice_get ys k) (sym same) ∙ slice_g
 pub pair_at : {X : Type 0} (R : X → X → Type 0) (xs : List X) (i j : ℕ) (x y : X) → AllPairs R xs → i < j → slice_get xs i ≡ Some x → slice_get xs j ≡ Some y → R x y
 pair_at R xs i j x y all lt at_i at_j = rw (sym (get_or_from_slice_get xs i x x at_i), sym (get_or_from_slice_get xs j y x at_j)) (all i j x lt (slice_get_within xs j y at_j))
 
-tied : (r : Ordering) → is_eq r ≡ true → r ≡ Equal
-tied Equal e = refl
-tied Less e = absurd (false≢true e)
-tied Greater e = absurd (false≢true e)
-
 -- a filled slot stands in the list
 pub record FilledAt (t : Layout) (slot : SlotRef) (held : Cap) : Type 0 where
   pub at : ℕ
@@ -67,7 +62,7 @@ filled_at t slot held is = by (find (λ filled. same_slot filled.slot slot) t.ca
   by None found is = absurd (none-some held is)
   by (Some filled) found is =
       let at = found_at (λ filled. same_slot filled.slot slot) t.caps filled found in
-      record { at = at.at; filled = filled; here = at.here; slot_is = slot_apart filled.slot slot (tied (slot_cmp filled.slot slot) at.passes); held_is = same_Some filled.cap held is }
+      record { at = at.at; filled = filled; here = at.here; slot_is = one_slot filled.slot slot at.passes; held_is = same_Some filled.cap held is }
 
 -- and what stands in the list is in the slot
 pub cap_from : (t : Layout) → IsLawful t → (k : ℕ) (filled : Filled) → slice_get t.caps k ≡ Some filled → initial_cap t filled.slot ≡ Some filled.cap
@@ -96,7 +91,7 @@ bound_at t thread context is = by (find (λ binding. same_id binding.thread thre
   by None found is = absurd (none-some context is)
   by (Some binding) found is =
       let at = found_at (λ binding. same_id binding.thread thread) t.bindings binding found in
-      record { at = at.at; binding = binding; here = at.here; thread_is = id_apart binding.thread thread (tied (id_cmp binding.thread thread) at.passes); context_is = same_Some binding.context context is }
+      record { at = at.at; binding = binding; here = at.here; thread_is = one_id binding.thread thread at.passes; context_is = same_Some binding.context context is }
 
 pub bound_from : (t : Layout) → IsLawful t → (k : ℕ) (binding : Binding) → slice_get t.bindings k ≡ Some binding → bound_context t binding.thread ≡ Some binding.context
 unfolding bound_context

@@ -1,3 +1,11 @@
 pub mod Verdict
 pub mod Search
 pub mod System
+pub mod Confined
+pub mod Shrinks
+pub mod Allowed
+pub mod Budgets
+pub mod Safe
+pub mod OfTable
+pub mod Invariant
+pub mod Counterexamples

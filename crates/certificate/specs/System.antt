@@ -1,9 +1,10 @@
--- A system is a capability table and a policy; the verdict on it (confine's own).
+-- A system is a capability table and a policy; the verdict on it, and what an accepted one keeps (confine's own).
 use Rattle.std.specs.Prelude.{◌≡◌, List, Result, Ok, Err}
 use Rattle.base.specs.declared.edge.Edge.{Edge}
 use Rattle.machine.specs.Layout.{Layout}
 use Rattle.policy.specs.Policy.{allows}
 use Rattle.certificate.specs.declared.denial.Denial.{Denial}
+use Rattle.certificate.specs.Safe.{IsSafe}
 use Rattle.certificate.specs.Verdict.{IsAccepted, IsLeastBroken}
 
 pub record System : Type 0 where
@@ -11,8 +12,10 @@ pub record System : Type 0 where
   -- its edges
   pub policy : List Edge
 
-abbrev pub IsAcceptedSystem : System → Type 0
-IsAcceptedSystem system = IsAccepted system.table (allows system.policy)
+-- no rule is broken, and every run is safe
+pub record IsAcceptedSystem (system : System) : Type 0 where
+  pub verdict : IsAccepted system.table (allows system.policy)
+  pub safe : IsSafe system.table (allows system.policy)
 
 -- accepted, if nothing is broken, as this table with this policy; else denied with the least place where a rule is broken
 abbrev pub IsVerdict : Layout → List Edge → Result System Denial → Type 0

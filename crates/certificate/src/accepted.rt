@@ -1,13 +1,16 @@
 ghost use Rattle.std.specs.Prelude.{◌≡◌};
 ghost use Rattle.policy.specs.Policy.{allows};
-ghost use Rattle.certificate.specs.Verdict.{IsAccepted};
+ghost use Rattle.certificate.specs.Safe.{IsSafe};
 ghost use Rattle.certificate.specs.System.{IsAcceptedSystem};
+ghost use Rattle.certificate.specs.Verdict.{IsAccepted};
 
+use crate::safe::accepted_systems_are_safe;
 use policy::Policy;
 use std::marker::Model;
 use table::Table;
 
-/// A capability table and a policy that are accepted: no rule is broken.
+/// A capability table and a policy that are accepted: no rule is broken, and every run from the table's
+/// boot state is safe.
 ///
 /// Only [`first_check`](crate::first_check) makes one.
 #[derive(Drop)]
@@ -26,12 +29,24 @@ impl<'a> Model for Accepted<'a> {
     ghost invariant = { λ accepted. IsAcceptedSystem (record { table = accepted.table.now; policy = accepted.policy.now }) };
 }
 
+// The headline for this table and this policy.
+fn are_safe(table: &Table, policy: &Policy)
+    requires { IsAccepted table.now (allows policy.now) }
+    ensures { IsSafe table.now (allows policy.now) }
+{
+    table.caps();
+    policy.edges();
+    accepted_systems_are_safe();
+}
+
 impl<'a> Accepted<'a> {
     /// These two, which are accepted.
     pub(crate) fn of(table: &'a Table, policy: &'a Policy) -> Accepted<'a>
         requires { IsAccepted table.now (allows policy.now) }
-        ensures { result ≡ record { table = table.now; policy = policy.now } }
+        ensures system { result ≡ record { table = table.now; policy = policy.now } }
+        ensures safe { IsSafe table.now (allows policy.now) }
     {
+        are_safe(table, policy);
         Accepted { table, policy }
     }
 

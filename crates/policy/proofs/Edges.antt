@@ -1,5 +1,5 @@
 -- What a search among rising edges finds, and what an insert of an edge does to what they allow.
-use Rattle.std.proofs.Common.{◌≡◌, ℕ, ◌-◌, Bool, true, false, ◌&&◌, ◌||◌, ◌==◌, List, [], ◌∷◌, ◌++◌, length, get_or, Result, Ok, Err, IfErr, OnOk, refl, sym, ap, ◌∙◌, inl, inr, arith}
+use Rattle.std.proofs.Common.{◌≡◌, ℕ, ◌<◌, ◌-◌, Bool, true, false, ◌&&◌, ◌||◌, ◌==◌, List, [], ◌∷◌, ◌++◌, length, get_or, Result, Ok, Err, IfErr, OnOk, refl, sym, ap, ◌∙◌, inl, inr, arith}
 use mathlib.Core.Bool.{false≢true}
 use Rattle.std.specs.declared.cmp.Ordering.TheVariants.{Less}
 use Rattle.std.specs.Ordering.{is_eq}
@@ -13,7 +13,7 @@ use Rattle.std.proofs.lemmas.Option.{slice_get-get_or}
 use Rattle.base.specs.declared.kind.Kind.{Kind}
 use Rattle.base.specs.declared.edge.Edge.{Edge}
 use Rattle.base.specs.Kinds.{kind_number}
-use Rattle.policy.specs.Policy.{edge_cmp, IsRising, IsGap, IsAboveLast, allows, is_edge}
+use Rattle.policy.specs.Policy.{edge_cmp, IsRising, IsGap, IsAboveLast, JoinsLabels, allows, is_edge}
 use Rattle.policy.proofs.Order.{edge_total, is_edge-edge_cmp}
 use Rattle.policy.proofs.Rising.{list_any-insert, comparisons_rise, below_from_last, rising-insert}
 
@@ -88,3 +88,23 @@ allows_present edges edge here from kind to = by_test (is_edge from kind to edge
     by_test : (same : Bool) → is_edge from kind to edge ≡ same → allows edges from kind to ≡ (same || allows edges from kind to)
     by_test true same = sym (same_edge edges edge from kind to same) ∙ here
     by_test false same = refl
+
+-- the edges join labels that there are
+
+pub no_labels : JoinsLabels []
+unfolding allows
+no_labels from kind to e = absurd (false≢true e)
+
+joined : (edge : Edge) (from to : ℕ) (kind : Kind) → edge.from < 64 → edge.to < 64 → is_edge from kind to edge ≡ true → (from < 64) × (to < 64)
+joined edge from to kind low high e =
+    let parts = and_parts (edge.from == from) _ e in
+    let ends = and_parts (kind_number edge.kind == kind_number kind) (edge.to == to) parts.1 in
+    let starts : edge.from ≡ from = eqb-true edge.from from parts.0 in
+    let goes : edge.to ≡ to = eqb-true edge.to to ends.1 in
+    (omega (arith, low, starts), omega (arith, high, goes))
+
+pub labels_added : (edges : List Edge) (edge : Edge) (at : ℕ) → edge.from < 64 → edge.to < 64 → JoinsLabels edges → JoinsLabels (insert edges at edge)
+labels_added edges edge at low high old from kind to here = by_edge (is_edge from kind to edge) refl where
+  by_edge : (is : Bool) → is_edge from kind to edge ≡ is → (from < 64) × (to < 64)
+  by_edge true e = joined edge from to kind low high e
+  by_edge false e = old from kind to (sym (ap (λ b. b || allows edges from kind to) e) ∙ sym (allows-insert edges edge at from kind to) ∙ here)

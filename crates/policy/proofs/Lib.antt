@@ -1,3 +1,4 @@
 pub mod Order
 pub mod Rising
 pub mod Edges
+pub mod Needs

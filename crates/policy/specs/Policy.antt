@@ -1,6 +1,6 @@
 -- A policy as the rising list of its edges: the order of edges, and which edges a policy allows
 -- ('seL4 Enforces Integrity', section 3, where a policy is a graph of labels).
-use Rattle.std.specs.Prelude.{◌≡◌, ℕ, ◌≤◌, ◌-◌, Bool, ◌&&◌, ◌==◌, List, length, Option, IfSome, slice_get}
+use Rattle.std.specs.Prelude.{◌≡◌, ℕ, ◌≤◌, ◌<◌, ◌-◌, Bool, true, ◌&&◌, ◌==◌, List, length, Option, IfSome, slice_get}
 use Rattle.std.specs.declared.cmp.Ordering.{Ordering}
 use Rattle.std.specs.declared.cmp.Ordering.TheVariants.{Less, Greater}
 use Rattle.std.specs.Ordering.{nat_cmp, on, then_cmp}
@@ -25,6 +25,15 @@ is_edge from kind to edge = (edge.from == from) && ((kind_number edge.kind == ki
 -- whether the edge from this label, of this kind, to that label is among them
 unfoldable pub allows : List Edge → ℕ → Kind → ℕ → Bool
 allows edges from kind to = list_any (is_edge from kind to) edges
+
+-- each edge joins two of the 64 labels that there can be
+abbrev pub JoinsLabels : List Edge → Type 0
+JoinsLabels edges = (from : ℕ) (kind : Kind) (to : ℕ) → allows edges from kind to ≡ true → (from < 64) × (to < 64)
+
+-- what every policy keeps
+pub record IsPolicy (edges : List Edge) : Type 0 where
+  pub rising : IsRising edges
+  pub labels : JoinsLabels edges
 
 abbrev pub last_edge : List Edge → Option Edge
 last_edge edges = slice_get edges (length edges - 1)

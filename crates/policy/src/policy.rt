@@ -1,8 +1,8 @@
-ghost use Rattle.std.specs.Prelude.{◌≡◌, ℕ, ◌||◌, true, List, [], ◌∷◌, ◌++◌, IsOk, OnOk, OnErr, IfErr};
+ghost use Rattle.std.specs.Prelude.{◌≡◌, ℕ, ◌<◌, ◌||◌, true, List, [], ◌∷◌, ◌++◌, IsOk, OnOk, OnErr, IfErr};
 ghost use Rattle.base.specs.declared.edge.Edge.{Edge};
 ghost use Rattle.base.specs.declared.kind.Kind.{Kind};
 ghost use Rattle.base.specs.Refusals.{out_of_memory};
-ghost use Rattle.policy.specs.Policy.{IsRising, IsGap, IsAboveLast, allows, is_edge, last_edge};
+ghost use Rattle.policy.specs.Policy.{IsRising, IsPolicy, IsGap, IsAboveLast, JoinsLabels, allows, is_edge, last_edge};
 
 use base::{Edge, Refusal};
 use std::alloc::Global;
@@ -22,7 +22,7 @@ impl Model for Policy {
 
     ghost view = { λ policy. policy.edges.items };
 
-    ghost invariant = { λ policy. IsRising policy.edges.items };
+    ghost invariant = { λ policy. IsPolicy policy.edges.items };
 }
 
 impl Policy {
@@ -50,6 +50,7 @@ impl Policy {
         ensures err { OnErr result (self.new ≡ self.old) }
         ensures memory { IfErr result (λ refusal. refusal ≡ out_of_memory) }
     {
+        joins_labels(&edge);
         if let Err(at) = self.search(&edge) {
             self.edges.insert(at, edge)?;
         }
@@ -67,7 +68,7 @@ impl Policy {
     fn search(&self, edge: &Edge) -> Result<usize, usize>
         ensures found { OnOk result (allows self.now edge.now.from edge.now.kind edge.now.to ≡ true) }
         ensures gap { IfErr result (λ at. IsGap self.now edge.now at) }
-        ensures rising { IsRising self.now }
+        ensures policy { IsPolicy self.now }
     {
         match self.edges.last() {
             Some(last) if last < edge => Err(self.edges.len()),
@@ -79,6 +80,7 @@ impl Policy {
     pub fn edges(&self) -> &[Edge]
         ensures all { result.now ≡ self.now }
         ensures rising { IsRising self.now }
+        ensures labels { JoinsLabels self.now }
     {
         &self.edges
     }
@@ -89,6 +91,15 @@ impl Policy {
     {
         self.edges.last().copied()
     }
+}
+
+// An edge joins two labels, which are below 64.
+fn joins_labels(edge: &Edge)
+    ensures from { edge.now.from < 64 }
+    ensures to { edge.now.to < 64 }
+{
+    edge.from.number();
+    edge.to.number();
 }
 
 #[cfg(test)]

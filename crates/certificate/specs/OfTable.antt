@@ -1,0 +1,26 @@
+-- What every state of a run from a table's boot state keeps of the table: each object has a label, and initial objects stay what and
+-- where they were declared ('seL4 Enforces Integrity', section 3: the labelling of a state; confine's own for made objects).
+use Rattle.std.specs.Prelude.{◌≡◌, ℕ, ◌≤◌, ◌<◌, Some, length}
+use Rattle.base.specs.declared.ids.ObjId.{ObjId}
+use Rattle.machine.specs.declared.layout.Initial.{Initial}
+use Rattle.machine.specs.declared.object.Object.{Object}
+use Rattle.machine.specs.declared.object.Object.TheVariants as o
+use Rattle.machine.specs.declared.object.Untyped.{Untyped}
+use Rattle.machine.specs.Authority.{label_at, label_of}
+use Rattle.machine.specs.Layout.{Layout, initial_of}
+use Rattle.machine.specs.Machine.{Machine, object_of}
+use Rattle.machine.specs.Objects.{kind_of_object, address_of, end_of}
+
+pub record IsOfTable (t : Layout) (m : Machine) : Type 0 where
+  -- each object that is there has a label
+  pub labelled : (id : ObjId) (object : Object) → object_of m id ≡ Some object → (label : ℕ) × (label_of t m id ≡ Some label)
+  -- an initial object keeps its kind and its address
+  pub initial :
+      (id : ObjId) (object : Object) (declared : Initial) → object_of m id ≡ Some object → initial_of t id ≡ Some declared
+      → (kind_of_object object ≡ kind_of_object declared.object) × (address_of object ≡ address_of declared.object)
+  -- what is made of untyped memory gets the label of that memory, wherever in its range it lies
+  pub ranged :
+      (id : ObjId) (memory : Untyped) (label address : ℕ) → object_of m id ≡ Some (o.Untyped memory) → label_of t m id ≡ Some label
+      → memory.base ≤ address → address < end_of (o.Untyped memory) → label_at t address ≡ Some label
+  -- made objects have numbers above those of the initial ones
+  pub counted : length t.objects ≤ m.next

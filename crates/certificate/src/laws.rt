@@ -1,0 +1,86 @@
+ghost use Rattle.std.specs.Prelude.{◌≡◌, ◌≢◌, ℕ, ◌<◌, List, Some, length};
+ghost use Rattle.base.specs.declared.ids.ObjId.{ObjId as Id};
+ghost use Rattle.base.specs.declared.ids.SlotRef.{SlotRef as Slot};
+ghost use Rattle.machine.specs.declared.call.Event.{Event};
+ghost use Rattle.machine.specs.declared.cap.Cap.{Cap};
+ghost use Rattle.machine.specs.declared.object.Context.{Context};
+ghost use Rattle.machine.specs.declared.object.Notification.{Notification};
+ghost use Rattle.machine.specs.declared.object.Object.{Object};
+ghost use Rattle.machine.specs.declared.object.Object.TheVariants as o;
+ghost use Rattle.machine.specs.declared.object.ObjectKind.TheVariants as kind;
+ghost use Rattle.machine.specs.Authority.{label_of};
+ghost use Rattle.machine.specs.Layout.{Layout};
+ghost use Rattle.machine.specs.Machine.{Machine, object_of, queue_of, with_cap, with_object, with_parent};
+ghost use Rattle.machine.specs.WellFormed.{kind_of};
+ghost use Rattle.policy.specs.Domain.{EdgeTest};
+ghost use Rattle.policy.specs.Full.{IsFull};
+ghost use Rattle.policy.specs.Needed.{subjects_agree};
+ghost use Rattle.certificate.specs.Allowed.{IsAllowedStep};
+ghost use Rattle.certificate.specs.Confined.{IsConfined};
+ghost use Rattle.certificate.specs.Counterexamples.{UnallowedSignal, UnsafeWithout};
+ghost use Rattle.certificate.specs.Shrinks.{Shrinks};
+
+/// A law: an object doesn't shrink whose pending word changes, whose core, budget or period changes, or
+/// at which more threads wait than before.
+pub fn gains_are_no_shrinking()
+    ensures word { (m next : Machine) (id : Id) (old new : Notification)
+        → object_of m id ≡ Some (o.Notification old)
+        → object_of next id ≡ Some (o.Notification new)
+        → new.pending ≢ old.pending
+        → ¬ Shrinks m next id }
+    ensures budget { (m next : Machine) (id : Id) (old new : Context)
+        → object_of m id ≡ Some (o.Context old)
+        → object_of next id ≡ Some (o.Context new)
+        → new.share ≢ old.share
+        → ¬ Shrinks m next id }
+    ensures member { (m next : Machine) (id : Id) (object : Object) (old new : List Id)
+        → object_of next id ≡ Some object
+        → queue_of m id ≡ Some old
+        → queue_of next id ≡ Some new
+        → length old < length new
+        → ¬ Shrinks m next id }
+{}
+
+/// A law: each reason of authority counts. There is a confined state that isn't confined any more once
+/// a slot of a CNode, a thread's root slot, the derivation tree, or an object's link is changed, and
+/// nothing else.
+pub fn each_reason_of_authority_counts()
+    ensures capability { (t : Layout) × (allowed : EdgeTest) × (m : Machine) × (slot : Slot) × (held : Cap)
+        × (kind_of m slot.holder ≡ Some kind.CNode)
+        × IsConfined t allowed m
+        × ¬ IsConfined t allowed (with_cap m slot held) }
+    ensures root { (t : Layout) × (allowed : EdgeTest) × (m : Machine) × (slot : Slot) × (held : Cap)
+        × (kind_of m slot.holder ≡ Some kind.Tcb)
+        × IsConfined t allowed m
+        × ¬ IsConfined t allowed (with_cap m slot held) }
+    ensures pair { (t : Layout) × (allowed : EdgeTest) × (m : Machine) × (slot : Slot) × (parent : Slot)
+        × IsConfined t allowed m
+        × ¬ IsConfined t allowed (with_parent m slot parent) }
+    ensures link { (t : Layout) × (allowed : EdgeTest) × (m : Machine) × (id : Id) × (object : Object)
+        × IsConfined t allowed m
+        × ¬ IsConfined t allowed (with_object m id object) }
+{}
+
+/// A law: a signal needs authority. No step is allowed that changes the word of a notification on
+/// whose label the caller's label doesn't have full authority; and there is a signal that is done,
+/// from the boot state of a lawful table, and isn't allowed by a policy without the edge for it.
+pub fn a_signal_needs_authority()
+    ensures word { (t : Layout) (allowed : EdgeTest) (m next : Machine) (event : Event)
+        → (id : Id) (old new : Notification) (caller label : ℕ)
+        → object_of m id ≡ Some (o.Notification old)
+        → object_of next id ≡ Some (o.Notification new)
+        → new.pending ≢ old.pending
+        → label_of t m event.thread ≡ Some caller
+        → label_of t m id ≡ Some label
+        → label_of t next id ≡ Some label
+        → ¬ IsFull allowed caller label
+        → ¬ IsAllowedStep t allowed m event next }
+    ensures signal { UnallowedSignal }
+{}
+
+/// A law: safety needs that labels of one domain may do the same (the rule P1). There is a system
+/// whose policy obeys all other rules of closed policies and whose boot state is confined, and which
+/// isn't safe.
+pub fn safety_needs_agreeing_subjects()
+    ensures { UnsafeWithout subjects_agree }
+{}

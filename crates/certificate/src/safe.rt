@@ -1,0 +1,27 @@
+ghost use Rattle.std.specs.Prelude.{List};
+ghost use Rattle.base.specs.declared.edge.Edge.{Edge};
+ghost use Rattle.machine.specs.Layout.{Layout};
+ghost use Rattle.policy.specs.Policy.{JoinsLabels, allows};
+ghost use Rattle.table.specs.Rules.{IsLawful};
+ghost use Rattle.certificate.specs.Safe.{IsSafe};
+ghost use Rattle.certificate.specs.Verdict.{IsAccepted};
+
+use machine::{a_step_does_its_call_or_is_refused, steps_keep_machines_well_formed};
+use table::boot_states_are_well_formed;
+
+/// The headline as a law: where a capability table and a policy are accepted, then after every list
+/// of kernel calls by any threads in any interleaving every capability lies within the policy; no
+/// step changes an object of a label on which its caller's label has no modifying authority; and a
+/// context's configured budget or period changes only by a caller whose label has the policy's
+/// SchedControl edge.
+pub fn accepted_systems_are_safe()
+    ensures { (t : Layout) (edges : List Edge)
+        → IsLawful t
+        → JoinsLabels edges
+        → IsAccepted t (allows edges)
+        → IsSafe t (allows edges) }
+{
+    steps_keep_machines_well_formed();
+    a_step_does_its_call_or_is_refused();
+    boot_states_are_well_formed();
+}

@@ -1,0 +1,213 @@
+-- For each rule of closed policies a policy that breaks it alone.
+use Rattle.std.proofs.Common.{◌≡◌, ◌≢◌, ℕ, ◌==◌, inl, inr, Bool, true, false, refl, sym, ◌∙◌, ◌+◌}
+use mathlib.Core.Bool.{false≢true}
+use Rattle.base.specs.declared.kind.Kind.{Kind}
+use Rattle.base.specs.declared.kind.Kind.TheVariants.{Control, Reset, Receive, Grant, Call, Reply, Context, Space, Derive, Runs, Holds}
+use Rattle.base.specs.Kinds.{is_structural}
+use Rattle.policy.specs.Closed.{ControlGivesAll, GrantShares, DeriveInDomain, DeriveByGrant, ContextRuns, ReplyHolds, IsClosed}
+use Rattle.policy.specs.Domain.{EdgeTest, IsInDomain, SubjectsAgree}
+use Rattle.policy.specs.Needed.{Rule, subjects_agree, control_gives_all, grant_shares, derive_in_domain, derive_by_grant, context_runs, reply_holds, Obeys, BreaksOnly}
+
+-- whether all edges of a kind are there, or none
+abbrev Lacks : EdgeTest → Kind → Type 0
+Lacks test k = (a b : ℕ) → test a k b ≡ false
+
+abbrev HasAll : EdgeTest → Kind → Type 0
+HasAll test k = (a b : ℕ) → test a k b ≡ true
+
+not_both : {b : Bool} → b ≡ true → b ≡ false → ⊥
+not_both t f = false≢true (sym f ∙ t)
+
+-- rules that a policy obeys since it lacks a kind, or has all of it
+
+outside : (test : EdgeTest) → Lacks test Space → Lacks test Control → (a x : ℕ) → IsInDomain test a x → ⊥
+outside test space control a x (inl e) = not_both e (space a x)
+outside test space control a x (inr e) = not_both e (control a x)
+
+no_domain_agrees : (test : EdgeTest) → Lacks test Space → Lacks test Control → SubjectsAgree test
+no_domain_agrees test space control a b domain kind of_use to = absurd (outside test space control a b domain)
+
+no_control : (test : EdgeTest) → Lacks test Control → ControlGivesAll test
+no_control test lacks = record { space = λ a b e. absurd (not_both e (lacks a b)); kinds = λ a b e kind of_use other. absurd (not_both e (lacks a b)) }
+
+no_grant : (test : EdgeTest) → Lacks test Grant → GrantShares test
+no_grant test lacks a b may kind of_use to e = absurd (not_both may.grants (lacks a may.endpoint))
+
+no_domain_derives : (test : EdgeTest) → Lacks test Space → Lacks test Control → DeriveInDomain test
+no_domain_derives test space control a x y one other = absurd (outside test space control a x one)
+
+all_derive : (test : EdgeTest) → HasAll test Derive → DeriveInDomain test
+all_derive test all a x y one other = all x y
+
+all_derive_by_grant : (test : EdgeTest) → HasAll test Derive → DeriveByGrant test
+all_derive_by_grant test all = record { granted = λ a b x y may one other. all x y; derived = λ x y z one other. all x z }
+
+no_context : (test : EdgeTest) → Lacks test Context → ContextRuns test
+no_context test lacks a s e = absurd (not_both e (lacks a s))
+
+no_reply : (test : EdgeTest) → Lacks test Reply → ReplyHolds test
+no_reply test lacks = record { server = λ b r e. absurd (not_both e (lacks b r)); caller = λ b r c endpoint e calls receives. absurd (not_both e (lacks b r)) }
+
+-- the policies
+
+-- one label may do what another of its domain may not
+abbrev apart : EdgeTest
+apart a Reset to = a == 0
+apart a Space to = true
+apart a Derive to = true
+apart a _ to = false
+
+breaks_subjects : BreaksOnly subjects_agree
+breaks_subjects = record { test = apart; others = others; broken = λ agree. false≢true (sym (agree 0 1 (inl refl) Reset refl 0)) } where
+  others : (other : Rule) → other ≢ subjects_agree → Obeys apart other
+  others subjects_agree differ = absurd (differ refl)
+  others control_gives_all differ = no_control apart (λ a b. refl)
+  others grant_shares differ = no_grant apart (λ a b. refl)
+  others derive_in_domain differ = all_derive apart (λ a b. refl)
+  others derive_by_grant differ = all_derive_by_grant apart (λ a b. refl)
+  others context_runs differ = no_context apart (λ a b. refl)
+  others reply_holds differ = no_reply apart (λ a b. refl)
+
+-- control gives space and nothing else
+abbrev weak_control : EdgeTest
+weak_control a Control to = true
+weak_control a Space to = true
+weak_control a Derive to = true
+weak_control a _ to = false
+
+weak_agrees : SubjectsAgree weak_control
+weak_agrees a b domain Control of_use to = refl
+weak_agrees a b domain Space of_use to = refl
+weak_agrees a b domain Derive of_use to = refl
+weak_agrees a b domain _ of_use to = refl
+
+breaks_control : BreaksOnly control_gives_all
+breaks_control = record { test = weak_control; others = others; broken = λ gives. false≢true (gives.kinds 0 0 refl Reset refl (λ e. cc)) } where
+  others : (other : Rule) → other ≢ control_gives_all → Obeys weak_control other
+  others subjects_agree differ = weak_agrees
+  others control_gives_all differ = absurd (differ refl)
+  others grant_shares differ = no_grant weak_control (λ a b. refl)
+  others derive_in_domain differ = all_derive weak_control (λ a b. refl)
+  others derive_by_grant differ = all_derive_by_grant weak_control (λ a b. refl)
+  others context_runs differ = no_context weak_control (λ a b. refl)
+  others reply_holds differ = no_reply weak_control (λ a b. refl)
+
+-- all grant to all, and one may do what the others may not
+abbrev unshared : EdgeTest
+unshared a Grant to = true
+unshared a Receive to = true
+unshared a Reset to = a == 0
+unshared a _ to = false
+
+breaks_grant : BreaksOnly grant_shares
+breaks_grant = record { test = unshared; others = others; broken = λ shares. false≢true (shares 0 1 (record { endpoint = 0; grants = refl; receives = refl }) Reset refl 0 refl) } where
+  others : (other : Rule) → other ≢ grant_shares → Obeys unshared other
+  others subjects_agree differ = no_domain_agrees unshared (λ a b. refl) (λ a b. refl)
+  others control_gives_all differ = no_control unshared (λ a b. refl)
+  others grant_shares differ = absurd (differ refl)
+  others derive_in_domain differ = no_domain_derives unshared (λ a b. refl) (λ a b. refl)
+  others derive_by_grant differ =
+      record { granted = λ a b x y may one other. absurd (outside unshared (λ c d. refl) (λ c d. refl) a x one); derived = λ x y z one other. absurd (false≢true one) }
+  others context_runs differ = no_context unshared (λ a b. refl)
+  others reply_holds differ = no_reply unshared (λ a b. refl)
+
+-- all are in one domain, and nothing may be derived
+abbrev underived : EdgeTest
+underived a Space to = true
+underived a _ to = false
+
+underived_agrees : SubjectsAgree underived
+underived_agrees a b domain Space of_use to = refl
+underived_agrees a b domain _ of_use to = refl
+
+breaks_derive : BreaksOnly derive_in_domain
+breaks_derive = record { test = underived; others = others; broken = λ derives. false≢true (derives 0 0 0 (inl refl) (inl refl)) } where
+  others : (other : Rule) → other ≢ derive_in_domain → Obeys underived other
+  others subjects_agree differ = underived_agrees
+  others control_gives_all differ = no_control underived (λ a b. refl)
+  others grant_shares differ = no_grant underived (λ a b. refl)
+  others derive_in_domain differ = absurd (differ refl)
+  others derive_by_grant differ = record { granted = λ a b x y may one other. absurd (false≢true may.grants); derived = λ x y z one other. absurd (false≢true one) }
+  others context_runs differ = no_context underived (λ a b. refl)
+  others reply_holds differ = no_reply underived (λ a b. refl)
+
+-- two steps of derivation, and not both in one
+abbrev no_chain : EdgeTest
+no_chain a Derive to = to == a + 1
+no_chain a _ to = false
+
+breaks_derive_by_grant : BreaksOnly derive_by_grant
+breaks_derive_by_grant = record { test = no_chain; others = others; broken = λ derives. false≢true (derives.derived 0 1 2 refl refl) } where
+  others : (other : Rule) → other ≢ derive_by_grant → Obeys no_chain other
+  others subjects_agree differ = no_domain_agrees no_chain (λ a b. refl) (λ a b. refl)
+  others control_gives_all differ = no_control no_chain (λ a b. refl)
+  others grant_shares differ = no_grant no_chain (λ a b. refl)
+  others derive_in_domain differ = no_domain_derives no_chain (λ a b. refl) (λ a b. refl)
+  others derive_by_grant differ = absurd (differ refl)
+  others context_runs differ = no_context no_chain (λ a b. refl)
+  others reply_holds differ = no_reply no_chain (λ a b. refl)
+
+-- contexts that nobody may run on
+abbrev unrunnable : EdgeTest
+unrunnable a Context to = true
+unrunnable a _ to = false
+
+breaks_context : BreaksOnly context_runs
+breaks_context = record { test = unrunnable; others = others; broken = λ runs. false≢true (runs 0 0 refl) } where
+  others : (other : Rule) → other ≢ context_runs → Obeys unrunnable other
+  others subjects_agree differ = no_domain_agrees unrunnable (λ a b. refl) (λ a b. refl)
+  others control_gives_all differ = no_control unrunnable (λ a b. refl)
+  others grant_shares differ = no_grant unrunnable (λ a b. refl)
+  others derive_in_domain differ = no_domain_derives unrunnable (λ a b. refl) (λ a b. refl)
+  others derive_by_grant differ = record { granted = λ a b x y may one other. absurd (false≢true may.grants); derived = λ x y z one other. absurd (false≢true one) }
+  others context_runs differ = absurd (differ refl)
+  others reply_holds differ = no_reply unrunnable (λ a b. refl)
+
+-- replies that hold nobody
+abbrev unheld : EdgeTest
+unheld a Reply to = true
+unheld a _ to = false
+
+breaks_reply : BreaksOnly reply_holds
+breaks_reply = record { test = unheld; others = others; broken = λ holds. false≢true (holds.server 0 0 refl) } where
+  others : (other : Rule) → other ≢ reply_holds → Obeys unheld other
+  others subjects_agree differ = no_domain_agrees unheld (λ a b. refl) (λ a b. refl)
+  others control_gives_all differ = no_control unheld (λ a b. refl)
+  others grant_shares differ = no_grant unheld (λ a b. refl)
+  others derive_in_domain differ = no_domain_derives unheld (λ a b. refl) (λ a b. refl)
+  others derive_by_grant differ = record { granted = λ a b x y may one other. absurd (false≢true may.grants); derived = λ x y z one other. absurd (false≢true one) }
+  others context_runs differ = no_context unheld (λ a b. refl)
+  others reply_holds differ = absurd (differ refl)
+
+pub needed : (rule : Rule) → BreaksOnly rule
+needed subjects_agree = breaks_subjects
+needed control_gives_all = breaks_control
+needed grant_shares = breaks_grant
+needed derive_in_domain = breaks_derive
+needed derive_by_grant = breaks_derive_by_grant
+needed context_runs = breaks_context
+needed reply_holds = breaks_reply
+
+-- a closed policy obeys each rule, and one that obeys each is closed
+
+pub obeys_each : (test : EdgeTest) → IsClosed test → (rule : Rule) → Obeys test rule
+obeys_each test closed subjects_agree = closed.subjects_agree
+obeys_each test closed control_gives_all = closed.control_gives_all
+obeys_each test closed grant_shares = closed.grant_shares
+obeys_each test closed derive_in_domain = closed.derive_in_domain
+obeys_each test closed derive_by_grant = closed.derive_by_grant
+obeys_each test closed context_runs = closed.context_runs
+obeys_each test closed reply_holds = closed.reply_holds
+
+-- the policy with every edge
+pub full_closed : IsClosed (λ from kind to. true)
+full_closed =
+    record {
+      subjects_agree = λ a b domain kind of_use to. refl;
+      control_gives_all = record { space = λ a b e. refl; kinds = λ a b e kind of_use other. refl };
+      grant_shares = λ a b may kind of_use to e. refl;
+      derive_in_domain = λ a x y one other. refl;
+      derive_by_grant = record { granted = λ a b x y may one other. refl; derived = λ x y z one other. refl };
+      context_runs = λ a s e. refl;
+      reply_holds = record { server = λ b r e. refl; caller = λ b r c endpoint e calls receives. refl };
+    }

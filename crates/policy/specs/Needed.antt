@@ -1,0 +1,29 @@
+-- The rules of closed policies one by one, and that each is needed: there is a policy that keeps all of the others and not that one
+-- (the rules are confine's own).
+use Rattle.std.specs.Prelude.{◌≢◌}
+use Rattle.policy.specs.Closed.{ControlGivesAll, GrantShares, DeriveInDomain, DeriveByGrant, ContextRuns, ReplyHolds}
+use Rattle.policy.specs.Domain.{EdgeTest, SubjectsAgree}
+
+pub data Rule : Type 0 where
+  subjects_agree : Rule
+  control_gives_all : Rule
+  grant_shares : Rule
+  derive_in_domain : Rule
+  derive_by_grant : Rule
+  context_runs : Rule
+  reply_holds : Rule
+
+abbrev pub Obeys : EdgeTest → Rule → Type 0
+Obeys test subjects_agree = SubjectsAgree test
+Obeys test control_gives_all = ControlGivesAll test
+Obeys test grant_shares = GrantShares test
+Obeys test derive_in_domain = DeriveInDomain test
+Obeys test derive_by_grant = DeriveByGrant test
+Obeys test context_runs = ContextRuns test
+Obeys test reply_holds = ReplyHolds test
+
+-- a policy that breaks the rule and no other
+pub record BreaksOnly (rule : Rule) : Type 0 where
+  pub test : EdgeTest
+  pub others : (other : Rule) → other ≢ rule → Obeys test other
+  pub broken : Obeys test rule → ⊥
