@@ -19,3 +19,4 @@ pub mod BootState
 pub mod SmallSystem
 pub mod Unallowed
 pub mod Unsafe
+pub mod Outsides

@@ -9,3 +9,4 @@ pub mod Safe
 pub mod OfTable
 pub mod Invariant
 pub mod Counterexamples
+pub mod Outside

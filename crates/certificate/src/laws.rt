@@ -1,4 +1,4 @@
-ghost use Rattle.std.specs.Prelude.{◌≡◌, ◌≢◌, ℕ, ◌<◌, List, Some, length};
+ghost use Rattle.std.specs.Prelude.{◌≡◌, ◌≢◌, ◌↔◌, ℕ, ◌<◌, List, Some, length};
 ghost use Rattle.base.specs.declared.ids.ObjId.{ObjId as Id};
 ghost use Rattle.base.specs.declared.ids.SlotRef.{SlotRef as Slot};
 ghost use Rattle.machine.specs.declared.call.Event.{Event};
@@ -18,6 +18,7 @@ ghost use Rattle.policy.specs.Needed.{subjects_agree};
 ghost use Rattle.certificate.specs.Allowed.{IsAllowedStep};
 ghost use Rattle.certificate.specs.Confined.{IsConfined};
 ghost use Rattle.certificate.specs.Counterexamples.{UnallowedSignal, UnsafeWithout};
+ghost use Rattle.certificate.specs.Outside.{Excess, Exceeds};
 ghost use Rattle.certificate.specs.Shrinks.{Shrinks};
 
 /// A law: an object doesn't shrink whose pending word changes, whose core, budget or period changes, or
@@ -83,4 +84,11 @@ pub fn a_signal_needs_authority()
 /// isn't safe.
 pub fn safety_needs_agreeing_subjects()
     ensures { UnsafeWithout subjects_agree }
+{}
+
+/// A law: a state is confined exactly where no authority lies outside the policy at any place of the
+/// rules A1 to A6.
+pub fn confined_states_have_nothing_outside()
+    ensures { (t : Layout) (allowed : EdgeTest) (m : Machine)
+        → IsConfined t allowed m ↔ ((place : Excess) → ¬ Exceeds t allowed m place) }
 {}
