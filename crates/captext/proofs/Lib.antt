@@ -1,1 +1,4 @@
 mod Admits
+pub mod SlotLaws
+mod StepLaws
+mod PolicyLaws

@@ -1,3 +1,5 @@
 pub mod Shapes
+pub mod Spelling
 pub mod Tables
 pub mod Policies
+pub mod PolicyText

@@ -5,10 +5,12 @@ mod caps;
 mod objects;
 mod policies;
 mod shapes;
+mod spelling;
 mod tables;
 #[cfg(test)]
 mod tests;
 
-pub use policies::read_policy;
+pub use policies::{policies_are_read_back, read_policy, worked_policies};
+pub use spelling::{slots_are_read_back, terms_are_read_back, worked_slots};
 pub use tables::read_table;
 pub use words::{Fault, Lines};

@@ -1,5 +1,11 @@
-ghost use Rattle.std.specs.Prelude.{◌≡◌, codes};
+ghost use Rattle.std.specs.Prelude.{◌≡◌, ◌↔◌, ◌<◌, ℕ, List, [], ◌∷◌, length, codes, Some, Ok, Err, IfOk};
+ghost use Rattle.base.specs.declared.edge.Edge.{Edge as EdgeOf};
+ghost use Rattle.base.specs.declared.kind.Kind.TheVariants.{Reset, SchedControl};
 ghost use Rattle.captext.specs.Policies as policies;
+ghost use Rattle.captext.specs.PolicyText.{label_name, policy_text, IsPolicyOf};
+ghost use Rattle.machine.specs.Layout.{Layout};
+ghost use Rattle.table.specs.Names.{label_named};
+ghost use Rattle.table.specs.Rules.{IsLawful};
 ghost use Rattle.words.specs.Reading.{Gives, Makes, Reads};
 
 use base::{Edge, Kind, Label};
@@ -89,9 +95,23 @@ fn edge_line(table: &Table, policy: &mut Policy, words: &mut Words<'_>) -> Resul
 /// # Errors
 ///
 /// The fault of the first faulty line, or 40 where memory is refused.
-#[tactic(auto, using(words::proofs::ReadingLaws::begins, words::proofs::ReadingLaws::no_beginning, words::proofs::ReadingLaws::goes_on, words::proofs::ReadingLaws::stops_by, words::proofs::ReadingLaws::no_more, words::proofs::ReadingLaws::ends_well, words::proofs::ReadingLaws::ends_badly), unfolding(crate::specs::Policies::read_policy_of, words::specs::Reading::bind))]
 pub fn read_policy(alloc: Global, text: &[u8], table: &Table) -> Result<Policy, Fault>
     ensures exact { Reads (λ policy. policy) result (policies.read_policy_of table.now text.now) }
+
+    // A text that is read is the policy's, and the text of each policy for the table is read as it.
+    ensures found { IfOk result
+        (λ policy. IsPolicyOf table.now policy × (text.now ≡ policy_text table.now policy)) }
+    ensures only { (edges : List EdgeOf) → IsPolicyOf table.now edges
+        → text.now ≡ policy_text table.now edges → Reads (λ policy. policy) result (Ok edges) }
+{
+    // That no two labels have one name is a rule of the table's own, which it tells with its objects.
+    let _ = table.objects();
+    edges_of(alloc, text, table)
+}
+
+#[tactic(auto, using(words::proofs::ReadingLaws::begins, words::proofs::ReadingLaws::no_beginning, words::proofs::ReadingLaws::goes_on, words::proofs::ReadingLaws::stops_by, words::proofs::ReadingLaws::no_more, words::proofs::ReadingLaws::ends_well, words::proofs::ReadingLaws::ends_badly), unfolding(crate::specs::Policies::read_policy_of, words::specs::Reading::bind))]
+fn edges_of(alloc: Global, text: &[u8], table: &Table) -> Result<Policy, Fault>
+    ensures { Reads (λ policy. policy) result (policies.read_policy_of table.now text.now) }
 {
     let mut lines = Lines::new(text);
     lines.header(b"confine-policy 1")?;
@@ -107,3 +127,43 @@ pub fn read_policy(alloc: Global, text: &[u8], table: &Table) -> Result<Policy, 
     }
     Err(lines.after(Wrong::Syntax))
 }
+
+/// A law about the texts of policies for a table: a name is read as a label just where it is that
+/// label's own, and a text as a policy just where it is that policy's text. So different policies
+/// have different texts.
+pub fn policies_are_read_back()
+    ensures label { (t : Layout) (name : List ℕ) (label : ℕ) → IsLawful t
+        → (label_named t name ≡ Some label) ↔ ((name ≡ label_name t label) × (label < length t.labels)) }
+    ensures named { (t : Layout) (text : List ℕ) (edges : List EdgeOf) → IsLawful t
+        → (policies.read_policy_of t text ≡ Ok edges)
+        ↔ (IsPolicyOf t edges × (text ≡ policy_text t edges)) }
+    ensures once { (t : Layout) (one other : List EdgeOf) → IsLawful t
+        → IsPolicyOf t one → IsPolicyOf t other → policy_text t one ≡ policy_text t other → one ≡ other }
+{}
+
+/// Texts of policies worked out, for a table with the labels a and b.
+pub fn worked_policies()
+    ensures empty { (t : Layout) → policy_text t [] ≡ codes "confine-policy 1\nend\n" }
+    ensures edges { (t : Layout) → t.labels ≡ codes "a" ∷ codes "b" ∷ []
+        → policy_text t (record { from = 0; kind = Reset; to = 1 } ∷ record { from = 1; kind = SchedControl; to = 0 } ∷ [])
+        ≡ codes "confine-policy 1\nedge a reset b\nedge b schedcontrol a\nend\n" }
+    ensures read { (t : Layout) → t.labels ≡ codes "a" ∷ codes "b" ∷ []
+        → policies.read_policy_of t (codes "confine-policy 1\nedge a reset b\nend\n")
+        ≡ Ok (record { from = 0; kind = Reset; to = 1 } ∷ []) }
+    ensures falling { (t : Layout) → t.labels ≡ codes "a" ∷ codes "b" ∷ []
+        → policies.read_policy_of t (codes "confine-policy 1\nedge a notify b\nedge a reset b\nend\n")
+        ≡ Err (record { number = 50; line = 3 }) }
+    ensures twice { (t : Layout) → t.labels ≡ codes "a" ∷ codes "b" ∷ []
+        → policies.read_policy_of t (codes "confine-policy 1\nedge a reset b\nedge a reset b\nend\n")
+        ≡ Err (record { number = 50; line = 3 }) }
+    ensures unknown_kind { (t : Layout) → t.labels ≡ codes "a" ∷ codes "b" ∷ []
+        → policies.read_policy_of t (codes "confine-policy 1\nedge a own b\nend\n")
+        ≡ Err (record { number = 50; line = 2 }) }
+    ensures unknown_label { (t : Layout) → t.labels ≡ codes "a" ∷ codes "b" ∷ []
+        → policies.read_policy_of t (codes "confine-policy 1\nedge a reset c\nend\n")
+        ≡ Err (record { number = 51; line = 2 }) }
+    ensures no_end { (t : Layout) → policies.read_policy_of t (codes "confine-policy 1\n")
+        ≡ Err (record { number = 50; line = 2 }) }
+    ensures after_end { (t : Layout) → policies.read_policy_of t (codes "confine-policy 1\nend\nend\n")
+        ≡ Err (record { number = 50; line = 3 }) }
+{}

@@ -2,7 +2,7 @@
 use Rattle.std.proofs.Common.{◌≡◌, length}
 use Rattle.words.specs.Reading.{read_lines, as_it_is}
 use Rattle.captext.specs.Policies.{edge_line, read_policy_of}
-use Rattle.captext.proofs.policies.read_policy.Given as goal
+use Rattle.captext.proofs.policies.edges_of.Given as goal
 
 abbrev pub invariant-loop-words : goal.invariant-loop-words
 invariant-loop-words l = read_lines (edge_line l.table) as_it_is l.lines.taken l.policy l.lines.lines ≡ read_policy_of l.table l.text

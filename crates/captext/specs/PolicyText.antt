@@ -1,0 +1,33 @@
+-- The text of a policy for the labels of a table: a header, a line `edge FROM KIND TO` for each edge, and `end` (confine's own;
+-- the edges are those of 'seL4 Enforces Integrity', section 3).
+use Rattle.std.specs.Prelude.{ℕ, ◌<◌, List, [], ◌∷◌, map, length, codes, slice_index_or}
+use Rattle.std.specs.List.{AllByRecursion}
+use Rattle.base.specs.declared.edge.Edge.{Edge}
+use Rattle.base.specs.Kinds.{kind_name}
+use Rattle.machine.specs.Layout.{Layout}
+use Rattle.policy.specs.Policy.{IsRising}
+use Rattle.words.specs.Reading.{whole_lines}
+use Rattle.words.specs.Text.{words_of, text_of}
+
+abbrev pub policy_header : List (List ℕ)
+policy_header = words_of (codes "confine-policy 1")
+
+-- the name of a label of the table
+abbrev pub label_name : Layout → ℕ → List ℕ
+label_name t label = slice_index_or t.labels label []
+
+-- the line of an edge
+abbrev pub edge_words : Layout → Edge → List (List ℕ)
+edge_words t edge = codes "edge" ∷ label_name t edge.from ∷ kind_name edge.kind ∷ label_name t edge.to ∷ []
+
+-- the text of a policy
+abbrev pub policy_text : Layout → List Edge → List ℕ
+policy_text t edges = text_of (whole_lines policy_header (map (edge_words t) edges))
+
+-- an edge between labels of the table
+abbrev pub IsEdgeOf : Layout → Edge → Type 0
+IsEdgeOf t edge = (edge.from < length t.labels) × (edge.to < length t.labels)
+
+-- the edges of a policy for the table: they rise, and each is between labels of the table
+abbrev pub IsPolicyOf : Layout → List Edge → Type 0
+IsPolicyOf t edges = IsRising edges × AllByRecursion (IsEdgeOf t) edges

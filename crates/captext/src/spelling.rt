@@ -1,0 +1,56 @@
+ghost use Rattle.std.specs.Prelude.{◌≡◌, ◌↔◌, ℕ, List, codes, Some, None, true};
+ghost use Rattle.words.specs.Name.{is_name};
+ghost use Rattle.captext.specs.Shapes.{slot_of, term_of};
+ghost use Rattle.captext.specs.Spelling.{place_word, slot_word, term_word, IsPlace, IsTerm};
+ghost use Rattle.captext.specs.declared.shapes.Place.{Place as PlaceOf};
+ghost use Rattle.captext.specs.declared.shapes.Place.TheVariants as place;
+ghost use Rattle.captext.specs.declared.shapes.Term.{Term as TermOf};
+
+/// A law about the words of slots: a word is read as a slot just where it is that slot's word, the
+/// holder's name being a name and the index below 2^64. So different slots have different words.
+pub fn slots_are_read_back()
+    ensures named { (word name : List ℕ) (at : PlaceOf) → (slot_of word ≡ Some (name, at))
+        ↔ ((word ≡ slot_word name at) × (is_name name ≡ true) × IsPlace at) }
+    ensures once { (name other_name : List ℕ) (at other : PlaceOf)
+        → is_name name ≡ true → IsPlace at → is_name other_name ≡ true → IsPlace other
+        → slot_word name at ≡ slot_word other_name other → (name ≡ other_name) × (at ≡ other) }
+{}
+
+/// A law about the words that may follow the object in a line for a capability: a word is read as a
+/// term just where it is that term's word. So no word is at once of two of the forms rights, decimal
+/// and hexadecimal number, and different terms have different words.
+pub fn terms_are_read_back()
+    ensures named { (word : List ℕ) (term : TermOf)
+        → (term_of word ≡ Some term) ↔ ((word ≡ term_word term) × IsTerm term) }
+    ensures once { (one other : TermOf) → IsTerm one → IsTerm other
+        → term_word one ≡ term_word other → one ≡ other }
+{}
+
+/// Words worked out: which spell a slot.
+pub fn worked_slots()
+    ensures first { slot_of (codes "c.0") ≡ Some (codes "c", place.Index 0) }
+    ensures tenth { slot_of (codes "c.10") ≡ Some (codes "c", place.Index 10) }
+    ensures root { slot_of (codes "t.root") ≡ Some (codes "t", place.Root) }
+    ensures leading_zero { slot_of (codes "c.01") ≡ None }
+    ensures hexadecimal { slot_of (codes "c.0x1") ≡ None }
+    ensures root_in_capitals { slot_of (codes "t.Root") ≡ None }
+    ensures no_place { slot_of (codes "c.") ≡ None }
+    ensures no_name { slot_of (codes ".1") ≡ None }
+    ensures no_dot { slot_of (codes "c1") ≡ None }
+    ensures two_dots { slot_of (codes "c.1.2") ≡ None }
+{}
+
+#[cfg(test)]
+mod tests {
+    use super::*;
+    use crate::{policies_are_read_back, worked_policies};
+
+    #[test]
+    fn laws_have_nothing_to_run(_rt: HostRuntime) {
+        slots_are_read_back();
+        terms_are_read_back();
+        worked_slots();
+        policies_are_read_back();
+        worked_policies();
+    }
+}
