@@ -2,3 +2,12 @@ mod Admits
 pub mod SlotLaws
 mod StepLaws
 mod PolicyLaws
+mod NameLaws
+mod TableLines
+mod LineLaws
+mod ObjectLines
+mod CapLines
+mod CapTexts
+mod BindLines
+mod TableLaws
+mod Examples

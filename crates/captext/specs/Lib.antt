@@ -3,3 +3,5 @@ pub mod Spelling
 pub mod Tables
 pub mod Policies
 pub mod PolicyText
+pub mod TableText
+pub mod Worked

@@ -1,12 +1,15 @@
-ghost use Rattle.std.specs.Prelude.{◌≡◌};
+ghost use Rattle.std.specs.Prelude.{◌≡◌, ◌↔◌, ℕ, List, Ok, IfOk};
 ghost use Rattle.captext.specs.Tables as tables;
-ghost use Rattle.machine.specs.Layout.{empty_layout};
+ghost use Rattle.captext.specs.TableText.{table_text, IsBrought, IsLineOf};
+ghost use Rattle.machine.specs.Layout.{Layout, empty_layout};
+ghost use Rattle.table.specs.Parts.{Part};
+ghost use Rattle.table.specs.Rules.{IsLawful};
 ghost use Rattle.words.specs.Reading.{Makes, Reads};
 
 use crate::caps::{bind_line, cap_line};
 use crate::objects::{cnode_line, context_line, label_line, notification_line, tcb_line};
 use std::alloc::Global;
-use table::Table;
+use table::{Table, lawful_tables_are_built_up};
 use words::{Cause, Fault, Lines, Words, Wrong};
 
 /// Reads one line of a table, and adds its part.
@@ -53,6 +56,14 @@ fn read_into(table: &mut Table, text: &[u8]) -> Result<(), Fault>
     Err(lines.after(Wrong::Syntax))
 }
 
+fn table_of(alloc: Global, text: &[u8]) -> Result<Table, Fault>
+    ensures { Reads (λ table. table) result (tables.read_table_of text.now) }
+{
+    let mut table = Table::new(alloc);
+    read_into(&mut table, text)?;
+    Ok(table)
+}
+
 /// Reads the text of a capability table.
 ///
 /// # Errors
@@ -60,8 +71,30 @@ fn read_into(table: &mut Table, text: &[u8]) -> Result<(), Fault>
 /// The fault of the first faulty line, or 40 where memory is refused.
 pub fn read_table(alloc: Global, text: &[u8]) -> Result<Table, Fault>
     ensures exact { Reads (λ table. table) result (tables.read_table_of text.now) }
+
+    // A text that is read is the table's, and each table's text is read as that table.
+    ensures found { IfOk result (λ table. IsBrought table × (text.now ≡ table_text table)) }
+    ensures only { (t : Layout) → IsLawful t → IsBrought t → text.now ≡ table_text t
+        → Reads (λ table. table) result (Ok t) }
 {
-    let mut table = Table::new(alloc);
-    read_into(&mut table, text)?;
-    Ok(table)
+    tables_are_read_back();
+    table_of(alloc, text)
+}
+
+/// A law about a line of a table that keeps the rules so far: it is read just where it is the line of
+/// a part that the table takes next, and then adds that part.
+pub fn lines_are_read_back()
+    ensures { (t : Layout) (words : List (List ℕ)) (next : Layout) → IsLawful t → IsBrought t
+        → (tables.table_line t words ≡ Ok next) ↔ ((part : Part) × IsLineOf t words next part) }
+{}
+
+/// A law: a text is read as a table just where the table keeps the rules, is one of those that are
+/// brought so far, and the text is its text. So different tables have different texts.
+pub fn tables_are_read_back()
+    ensures named { (bytes : List ℕ) (t : Layout) → (tables.read_table_of bytes ≡ Ok t)
+        ↔ (IsLawful t × IsBrought t × (bytes ≡ table_text t)) }
+    ensures once { (one other : Layout) → IsLawful one → IsBrought one
+        → IsLawful other → IsBrought other → table_text one ≡ table_text other → one ≡ other }
+{
+    lawful_tables_are_built_up();
 }

@@ -231,3 +231,35 @@ notification n b 0x3000
     }
     Ok(())
 }
+
+#[test]
+fn the_last_slot_of_the_largest_cnode_is_checked(rt: HostRuntime) -> Result<(), Fail> {
+    let table = "\
+confine-table 1
+label a
+label b
+cnode c a 0x20000 12
+notification m a 0x3000
+notification n b 0x3020
+cap c.0 m rw 0
+cap c.4094 m w 0
+cap c.4095 n w 0
+end
+";
+    let edges = "\
+confine-policy 1
+edge a reset a
+edge a reset b
+edge a notify a
+";
+    let lacking = format!(in rt.alloc(); "{edges}edge a await a\nend\n")?;
+    let files = Files {
+        table,
+        policy: &lacking,
+        ..ONE_LABEL
+    };
+    denied(&rt, files, "A1", "c.4095 notify b")?;
+
+    let whole = format!(in rt.alloc(); "{edges}edge a notify b\nedge a await a\nend\n")?;
+    answers(&rt, files.with(File::Policy, &whole), &[])
+}

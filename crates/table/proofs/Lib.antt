@@ -12,3 +12,9 @@ pub mod BootSlots
 pub mod BootLinks
 pub mod BootNumbers
 pub mod BootFresh
+pub mod FrontLemmas
+pub mod LabelRemoved
+pub mod ObjectRemoved
+pub mod CapRemoved
+pub mod BindingRemoved
+pub mod BuiltUp

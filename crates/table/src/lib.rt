@@ -7,10 +7,12 @@
 mod boot_law;
 mod caps;
 mod extent;
+mod laws;
 mod names;
 mod objects;
 mod table;
 
 pub use boot_law::boot_states_are_well_formed;
 pub use extent::{is_addressable, is_aligned};
+pub use laws::lawful_tables_are_built_up;
 pub use table::Table;

@@ -1,0 +1,254 @@
+-- The line of a filled slot that the table takes next is read, and its words are plain.
+use Rattle.std.proofs.Common.{All, ◌≡◌, ℕ, ◌+◌, ◌^◌, ◌<◌, ◌≤◌, Bool, true, false, cond, List, [], ◌∷◌, ◌++◌, length, codes, option_map, Option, Some, None, Ok, refl, sym, ap, subst, ◌∙◌, arith, lit<}
+use Rattle.std.specs.List.{AllByRecursion}
+use Rattle.std.proofs.lemmas.Bool.{cond-true, and_parts, and_from, ltb-true, leb-true, false≢true}
+use Rattle.std.proofs.lemmas.Option.{slice_get_within, get_or_from_slice_get}
+use Rattle.std.proofs.Math.Pow.{pow_mono}
+use Rattle.base.specs.declared.ids.ObjId.{ObjId}
+use Rattle.base.specs.declared.ids.SlotRef.{SlotRef}
+use Rattle.base.specs.declared.rights.Rights.{Rights}
+use Rattle.base.specs.Rights.{letter_of, rights_word}
+use Rattle.machine.specs.declared.cap.Detail.{Detail}
+use Rattle.machine.specs.declared.cap.Detail.TheVariants as d
+use Rattle.machine.specs.declared.cap.Guard.{Guard}
+use Rattle.machine.specs.declared.layout.Filled.{Filled}
+use Rattle.machine.specs.declared.layout.Initial.{Initial}
+use Rattle.machine.specs.declared.object.Object.{Object}
+use Rattle.machine.specs.declared.object.Object.TheVariants as o
+use Rattle.machine.specs.declared.object.ObjectKind.{ObjectKind}
+use Rattle.machine.specs.declared.object.ObjectKind.TheVariants as kind
+use Rattle.machine.specs.declared.thread.Tcb.{Tcb}
+use Rattle.machine.specs.Layout.{Layout, initial_of}
+use Rattle.machine.specs.Objects.{kind_of_object, slot_count}
+use Rattle.table.specs.Building.{AdmitsCap, declares_slot, fits, fits_target, has_index, is_above_caps, is_fitting, may_hold, with_filled}
+use Rattle.table.specs.Names.{object_named}
+use Rattle.table.specs.Parts.{BeforePairs}
+use Rattle.table.specs.Rules.{IsBlank, IsLawful, kind_at}
+use Rattle.words.specs.Name.{is_name, name_at}
+use Rattle.words.specs.Reading.{bind}
+use Rattle.words.specs.Text.{IsPlainLine, IsPlainWord}
+use Rattle.words.proofs.TextLaws.{both}
+use Rattle.words.proofs.WordLaws.{name_again, plain_decimal, plain_hexadecimal, plain_name}
+use Rattle.captext.specs.declared.shapes.Place.{Place}
+use Rattle.captext.specs.declared.shapes.Place.TheVariants as place
+use Rattle.captext.specs.declared.shapes.Term.{Term}
+use Rattle.captext.specs.declared.shapes.Term.TheVariants as term
+use Rattle.captext.specs.Shapes.{slot_at, terms_at}
+use Rattle.captext.specs.Spelling.{place_word, slot_word, term_word, IsPlace, IsTerm}
+use Rattle.captext.specs.Tables.{takes_caps, slot_in, fits_holder, fits_place, may_fill, guarded, unguarded, limited_detail, detail_for, capability, filled, cap_line}
+use Rattle.captext.specs.TableText.{object_name, place_in, slot_name, detail_words, cap_words, IsBroughtObject, HasWordBadge}
+use Rattle.captext.proofs.CapLines.{slot_at_again, two_again, option_words, IsOptionTerm, detail_by, detail_is}
+use Rattle.captext.proofs.LineLaws.{caps_again, plain_bytes}
+use Rattle.captext.proofs.NameLaws.{object_again, is_object_name}
+
+abbrev terms_of : Detail → Option Term × Option Term
+terms_of (d.CNode guard) = (Some (term.Decimal guard.size), Some (term.Hexadecimal guard.value))
+terms_of (d.Endpoint end) = (Some (term.Rights end.rights), Some (term.Decimal end.badge))
+terms_of (d.Notification end) = (Some (term.Rights end.rights), Some (term.Decimal end.badge))
+terms_of (d.Frame rights) = (Some (term.Rights rights), None)
+terms_of _ = (None, None)
+
+words_of_terms : (detail : Detail) → detail_words detail ≡ option_words (terms_of detail).0 ++ option_words (terms_of detail).1
+words_of_terms d.Untyped = refl
+words_of_terms (d.CNode _) = refl
+words_of_terms d.Tcb = refl
+words_of_terms (d.Endpoint _) = refl
+words_of_terms (d.Notification _) = refl
+words_of_terms d.Reply = refl
+words_of_terms d.Context = refl
+words_of_terms (d.Frame _) = refl
+words_of_terms d.Control = refl
+
+abbrev ReadsDetail : Object → Detail → Type 0
+ReadsDetail object detail =
+    (terms_at (detail_words detail) ≡ Ok (terms_of detail)) × (limited_detail object (terms_of detail).0 (terms_of detail).1 true ≡ Ok detail) × IsOptionTerm (terms_of detail).0 × IsOptionTerm (terms_of detail).1
+
+detail_again : (object : Object) (detail : Detail) → IsBroughtObject object → fits object detail ≡ true → HasWordBadge detail → ReadsDetail object detail
+unfolding limited_detail guarded unguarded terms_at
+detail_again (o.Untyped _) detail brought fitting badge = absurd brought
+detail_again (o.Endpoint _) detail brought fitting badge = absurd brought
+detail_again (o.Reply _) detail brought fitting badge = absurd brought
+detail_again (o.Frame _) detail brought fitting badge = absurd brought
+detail_again (o.Control _) detail brought fitting badge = absurd brought
+detail_again (o.CNode node) (d.CNode guard) brought fitting badge =
+    let parts = and_parts _ _ fitting in
+    let few : guard.size + node.radix ≤ 64 = leb-true _ _ parts.0 in
+    let low : guard.value < 2 ^ guard.size = ltb-true _ _ parts.1 in
+    let powers : 2 ^ guard.size ≤ 2 ^ 64 = pow_mono {i = guard.size} {j = 64} (omega arith) in
+    let size : guard.size < 2 ^ 64 = omega arith in
+    let value : guard.value < 2 ^ 64 = omega arith in
+    (two_again (term.Decimal guard.size) (term.Hexadecimal guard.value) size value, cond-true _ _ _ fitting, size, value)
+detail_again (o.Tcb _) d.Tcb brought fitting badge = (refl, refl, tt, tt)
+detail_again (o.Notification _) (d.Notification end) brought fitting badge =
+    let plain : end.rights.0 < 4 = ltb-true _ _ fitting in
+    let rights : end.rights.0 < 16 = omega arith in
+    (two_again (term.Rights end.rights) (term.Decimal end.badge) rights badge, ap (λ test. unguarded (cond test (Some (d.Notification end)) None) true) fitting, rights, badge)
+detail_again (o.Context _) d.Context brought fitting badge = (refl, refl, tt, tt)
+detail_again _ _ brought fitting badge = absurd (false≢true fitting)
+
+-- what is found is there
+
+some_holder : (found : Option Initial) (index : ℕ) → has_index found index ≡ true → (holder : Initial) × (found ≡ Some holder) × (index < slot_count holder.object)
+some_holder None index h = absurd (false≢true h)
+some_holder (Some holder) index h = (holder, refl, ltb-true _ _ h)
+
+some_target : (found : Option Initial) (detail : Detail) → fits_target found detail ≡ true → (target : Initial) × (found ≡ Some target) × (fits target.object detail ≡ true)
+some_target None detail h = absurd (false≢true h)
+some_target (Some target) detail h = (target, refl, h)
+
+-- the slot of an object with slots has a place there
+abbrev HasPlace : Object → SlotRef → Type 0
+HasPlace object slot =
+    let holder : Option ObjectKind = Some (kind_of_object object) in
+    let at = place_in holder slot.index in
+    IsPlace at × (slot_in slot.holder at ≡ slot) × (fits_holder holder at ≡ true)
+
+place_again : (object : Object) (slot : SlotRef) → IsBlank object → slot.index < slot_count object → HasPlace object slot
+place_again (o.CNode node) slot blank within =
+    let few = blank.1 in
+    let powers : 2 ^ node.radix ≤ 2 ^ 12 = pow_mono {i = node.radix} {j = 12} few in
+    (omega arith, refl, refl)
+place_again (o.Tcb _) slot blank within =
+    let first : 0 ≡ slot.index = omega arith in
+    (tt, ap (λ (index : ℕ). record { holder = slot.holder; index = index }) first, refl)
+place_again (o.Untyped _) slot blank within = absurd (omega arith)
+place_again (o.Endpoint _) slot blank within = absurd (omega arith)
+place_again (o.Notification _) slot blank within = absurd (omega arith)
+place_again (o.Reply _) slot blank within = absurd (omega arith)
+place_again (o.Context _) slot blank within = absurd (omega arith)
+place_again (o.Frame _) slot blank within = absurd (omega arith)
+place_again (o.Control _) slot blank within = absurd (omega arith)
+
+-- a thread's root slot takes the capability of a CNode alone
+cnode_target : (target : Object) (guard : Guard) → fits target (d.CNode guard) ≡ true → kind_of_object target ≡ kind.CNode
+cnode_target (o.CNode _) guard h = refl
+cnode_target _ guard h = absurd (false≢true h)
+
+root_takes : (label : ℕ) (thread : Tcb) (target : Object) (detail : Detail) → may_hold (Some (record { label = label; object = o.Tcb thread })) detail ≡ true → fits target detail ≡ true → fits_place place.Root (Some (kind_of_object target)) ≡ true
+root_takes label thread target (d.CNode guard) holds fitting = ap (λ k. fits_place place.Root (Some k)) (cnode_target target guard fitting)
+root_takes label thread target _ holds fitting = absurd (false≢true holds)
+
+place_fits : (label : ℕ) (holder target : Object) (index : ℕ) (detail : Detail) → may_hold (Some (record { label = label; object = holder })) detail ≡ true → fits target detail ≡ true
+    → fits_place (place_in (Some (kind_of_object holder)) index) (Some (kind_of_object target)) ≡ true
+place_fits label (o.Tcb thread) target index detail holds fitting = root_takes label thread target detail holds fitting
+place_fits label _ target index detail holds fitting = refl
+
+-- the steps of the line one after another
+cap_line_is :
+    (t : Layout) (line rest more : List (List ℕ)) (name other : List ℕ) (at : Place) (holder target : ObjId) (terms : Option Term × Option Term) (detail : Detail)
+    → slot_at line ≡ Ok ((name, at), rest) → name_at rest ≡ Ok (other, more) → terms_at more ≡ Ok terms → takes_caps t ≡ true
+    → object_named t name ≡ Some holder → is_above_caps t (slot_in holder at) ≡ true → object_named t other ≡ Some target
+    → may_fill (kind_at t holder) at (kind_at t target) ≡ true → detail_for t target terms (declares_slot t (slot_in holder at)) ≡ Ok detail
+    → cap_line t line ≡ Ok (with_filled t (record { slot = slot_in holder at; cap = capability target detail }))
+unfolding cap_line filled bind
+cap_line_is t line rest more name other at holder target terms detail slot named spelled now held rising aimed fills told =
+    rw (slot, named, spelled, held, and_from _ _ now rising, aimed, fills, told) refl
+
+-- what a slot and a capability that the table takes have to do with its objects
+record Places (t : Layout) (filled : Filled) : Type 0 where
+  holder : filled.slot.holder.0 < length t.names
+  target : filled.cap.object.0 < length t.names
+  is : IsPlace (place_in (kind_at t filled.slot.holder) filled.slot.index)
+  slot : slot_in filled.slot.holder (place_in (kind_at t filled.slot.holder) filled.slot.index) ≡ filled.slot
+  fills : may_fill (kind_at t filled.slot.holder) (place_in (kind_at t filled.slot.holder) filled.slot.index) (kind_at t filled.cap.object) ≡ true
+  told : detail_for t filled.cap.object (terms_of filled.cap.detail) true ≡ Ok filled.cap.detail
+  reads : terms_at (detail_words filled.cap.detail) ≡ Ok (terms_of filled.cap.detail)
+  first : IsOptionTerm (terms_of filled.cap.detail).0
+  second : IsOptionTerm (terms_of filled.cap.detail).1
+
+abbrev IsBroughtTable : Layout → Type 0
+IsBroughtTable t = All (λ initial. IsBroughtObject initial.object) t.objects
+
+places : (t : Layout) (filled : Filled) → IsLawful t → IsBroughtTable t → AdmitsCap t filled → HasWordBadge filled.cap.detail → Places t filled
+unfolding initial_of kind_at declares_slot is_fitting detail_by
+places t filled lawful brought admits badge =
+    let id = filled.slot.holder in
+    let to = filled.cap.object in
+    let detail = filled.cap.detail in
+    let each = lawful.each_named in
+    let holder = some_holder (initial_of t id) filled.slot.index admits.slot in
+    let target = some_target (initial_of t to) detail admits.fits in
+    let held : id.0 < length t.objects = slice_get_within t.objects id.0 holder.0 holder.1 in
+    let aimed : to.0 < length t.objects = slice_get_within t.objects to.0 target.0 target.1 in
+    let blank : IsBlank holder.0.object = subst (λ (i : Initial). IsBlank i.object) (get_or_from_slice_get t.objects id.0 holder.0 holder.0 holder.1) (lawful.objects id.0 holder.0 held).blank in
+    let here : IsBroughtObject target.0.object = subst (λ (i : Initial). IsBroughtObject i.object) (get_or_from_slice_get t.objects to.0 target.0 target.0 target.1) (brought to.0 target.0 aimed) in
+    let kind_held : kind_at t id ≡ Some (kind_of_object holder.0.object) = ap (option_map (λ (i : Initial). kind_of_object i.object)) holder.1 in
+    let kind_aimed : kind_at t to ≡ Some (kind_of_object target.0.object) = ap (option_map (λ (i : Initial). kind_of_object i.object)) target.1 in
+    let there : place_in (kind_at t id) filled.slot.index ≡ place_in (Some (kind_of_object holder.0.object)) filled.slot.index = ap (λ k. place_in k filled.slot.index) kind_held in
+    let placed = place_again holder.0.object filled.slot blank holder.2 in
+    let root : may_hold (Some holder.0) detail ≡ true = ap (λ found. may_hold found detail) (sym holder.1) ∙ admits.root in
+    let reads = detail_again target.0.object detail here target.2 badge in
+    record {
+      holder = omega arith;
+      target = omega arith;
+      is = subst IsPlace (sym there) placed.0;
+      slot = ap (slot_in id) there ∙ placed.1;
+      fills = (λ i. may_fill (kind_held i) (there i) (kind_aimed i)) ∙ and_from _ _ placed.2 (place_fits holder.0.label holder.0.object target.0.object filled.slot.index detail root target.2);
+      told = detail_is t to (terms_of detail) true ∙ ap (detail_by (terms_of detail) true) target.1 ∙ reads.1;
+      reads = reads.0;
+      first = reads.2;
+      second = reads.3;
+    }
+
+pub cap_line_again : (t : Layout) (filled : Filled) → IsLawful t → IsBroughtTable t → BeforePairs t → AdmitsCap t filled → HasWordBadge filled.cap.detail
+    → cap_line t (slot_name t filled.slot ∷ object_name t filled.cap.object ∷ detail_words filled.cap.detail) ≡ Ok (with_filled t filled)
+cap_line_again t filled lawful brought now admits badge =
+    let id = filled.slot.holder in
+    let to = filled.cap.object in
+    let detail = filled.cap.detail in
+    let p = places t filled lawful brought admits badge in
+    let at : Place = place_in (kind_at t id) filled.slot.index in
+    let within : declares_slot t (slot_in id at) ≡ true = ap (declares_slot t) p.slot ∙ admits.slot in
+    let same : (record { slot = slot_in id at; cap = capability to detail }) ≡ filled = (λ i. record { slot = p.slot i; cap = record { object = to; detail = detail; original = sym admits.original i } }) in
+    cap_line_is t (slot_name t filled.slot ∷ object_name t to ∷ detail_words detail) (object_name t to ∷ detail_words detail) (detail_words detail) (object_name t id) (object_name t to) at id to (terms_of detail) detail
+    (slot_at_again (object_name t id) at (object_name t to ∷ detail_words detail) (is_object_name t id lawful p.holder) p.is)
+    (name_again (object_name t to) (detail_words detail) (is_object_name t to lawful p.target))
+    p.reads
+    (caps_again t now)
+    (object_again t id lawful p.holder)
+    (ap (is_above_caps t) p.slot ∙ admits.rises)
+    (object_again t to lawful p.target)
+    p.fills
+    (ap (detail_for t to (terms_of detail)) within ∙ p.told)
+    ∙ ap (λ (f : Filled). Ok (with_filled t f)) same
+
+-- its words are plain
+
+plain_cond : (test : Bool) (one other : List ℕ) → IsPlainWord one → IsPlainWord other → IsPlainWord (cond test one other)
+plain_cond true one other h k = h
+plain_cond false one other h k = k
+
+plain_rights : (rights : Rights) → IsPlainWord (rights_word rights)
+plain_rights rights =
+    plain_cond _ (codes "-") _ (plain_bytes (codes "-") refl)
+    (both (λ b. 32 < b) _ _ (both (λ b. 32 < b) _ _ (both (λ b. 32 < b) _ _ (letter 1 (codes "r") (plain_bytes (codes "r") refl)) (letter 2 (codes "w") (plain_bytes (codes "w") refl))) (letter 4 (codes "g") (plain_bytes (codes "g") refl))) (letter 8 (codes "y") (plain_bytes (codes "y") refl)))
+  where
+    letter : (right : ℕ) (word : List ℕ) → IsPlainWord word → IsPlainWord (letter_of rights right word)
+    letter right word plain = plain_cond _ word [] plain tt
+
+plain_term : (t : Term) → IsTerm t → IsPlainWord (term_word t)
+plain_term (term.Rights rights) is = plain_rights rights
+plain_term (term.Decimal n) is = plain_decimal n is
+plain_term (term.Hexadecimal n) is = plain_hexadecimal n is
+
+plain_option : (t : Option Term) → IsOptionTerm t → AllByRecursion IsPlainWord (option_words t)
+plain_option None is = tt
+plain_option (Some t) is = (plain_term t is, tt)
+
+plain_place : (at : Place) → IsPlace at → IsPlainWord (place_word at)
+plain_place (place.Index index) is = plain_decimal index is
+plain_place place.Root is = plain_bytes (codes "root") refl
+
+plain_slot : (name : List ℕ) (at : Place) → is_name name ≡ true → IsPlace at → IsPlainWord (slot_word name at)
+plain_slot name at is place = both (λ b. 32 < b) name _ (plain_name name is) (lit< tt, plain_place at place)
+
+pub cap_plain : (t : Layout) (filled : Filled) → IsLawful t → IsBroughtTable t → AdmitsCap t filled → HasWordBadge filled.cap.detail → IsPlainLine (cap_words t filled)
+cap_plain t filled lawful brought admits badge =
+    let p = places t filled lawful brought admits badge in
+    let terms = both IsPlainWord (option_words (terms_of filled.cap.detail).0) (option_words (terms_of filled.cap.detail).1) (plain_option _ p.first) (plain_option _ p.second) in (
+      plain_bytes (codes "cap") refl,
+      (
+        plain_slot (object_name t filled.slot.holder) (place_in (kind_at t filled.slot.holder) filled.slot.index) (is_object_name t filled.slot.holder lawful p.holder) p.is,
+        (plain_name (object_name t filled.cap.object) (is_object_name t filled.cap.object lawful p.target), subst (AllByRecursion IsPlainWord) (sym (words_of_terms filled.cap.detail)) terms),
+      ),
+    )

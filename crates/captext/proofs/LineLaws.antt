@@ -1,0 +1,60 @@
+-- What the steps of a table's line say where it was read: the words it has, the tests it passed, and the part it adds.
+use Rattle.std.proofs.Common.{◌≡◌, ℕ, true, nat_lt, List, [], ◌∷◌, Option, Some, None, Result, Ok, refl, ap, ◌∙◌}
+use Rattle.std.specs.List.{list_all}
+use Rattle.std.proofs.lemmas.Bool.{and_parts, and_from, ltb-true}
+use Rattle.machine.specs.Layout.{Layout}
+use Rattle.table.specs.Parts.{Part, BeforePairs, BeforeCaps, BeforeObjects}
+use Rattle.words.specs.declared.faults.Wrong.{Wrong}
+use Rattle.words.specs.Reading.{bind, or_syntax}
+use Rattle.words.specs.Text.{IsPlainWord}
+use Rattle.captext.specs.Tables.{is_nil, takes_caps, takes_objects, takes_labels}
+use Rattle.captext.specs.TableText.{IsLineOf}
+
+-- a line was read: it adds a part
+abbrev pub TakesPart : Layout → List (List ℕ) → Layout → Type 0
+TakesPart t words next = (part : Part) × IsLineOf t words next part
+
+-- a word and the words after it
+pub then_words : {word : List ℕ} {words rest more : List (List ℕ)} → words ≡ word ∷ rest → rest ≡ more → words ≡ word ∷ more
+then_words {word} first later = first ∙ ap (λ ws. word ∷ ws) later
+
+-- a word spelled a value, and reading went on with it
+pub spelled_then : {V Y : Type 0} (o : Option V) (f : V → Result Y Wrong) (y : Y) → bind (or_syntax o) f ≡ Ok y → (v : V) × (o ≡ Some v) × (f v ≡ Ok y)
+unfolding bind or_syntax
+spelled_then (Some v) f y h = (v, refl, h)
+spelled_then None f y h = cc
+
+pub same_ok : {X : Type 0} (x y : X) → ◌≡◌ {A = Result X Wrong} (Ok x) (Ok y) → x ≡ y
+same_ok x y h = cc
+
+-- the sections that have not begun
+
+nil_takes : {X : Type 0} (xs : List X) → is_nil xs ≡ true → xs ≡ []
+nil_takes [] h = refl
+nil_takes (x ∷ xs) h = cc
+
+nil_again : {X : Type 0} (xs : List X) → xs ≡ [] → is_nil xs ≡ true
+nil_again xs none = ap is_nil none
+
+pub caps_take : (t : Layout) → takes_caps t ≡ true → BeforePairs t
+caps_take t h = let parts = and_parts _ _ h in (nil_takes t.pairs parts.0, nil_takes t.bindings parts.1)
+
+pub objects_take : (t : Layout) → takes_objects t ≡ true → BeforeCaps t
+objects_take t h = let parts = and_parts _ _ h in (nil_takes t.caps parts.0, caps_take t parts.1)
+
+pub labels_take : (t : Layout) → takes_labels t ≡ true → BeforeObjects t
+labels_take t h = let parts = and_parts _ _ h in (nil_takes t.objects parts.0, objects_take t parts.1)
+
+pub caps_again : (t : Layout) → BeforePairs t → takes_caps t ≡ true
+caps_again t now = and_from _ _ (nil_again t.pairs now.0) (nil_again t.bindings now.1)
+
+pub objects_again : (t : Layout) → BeforeCaps t → takes_objects t ≡ true
+objects_again t now = and_from _ _ (nil_again t.caps now.0) (caps_again t now.1)
+
+pub labels_again : (t : Layout) → BeforeObjects t → takes_labels t ≡ true
+labels_again t now = and_from _ _ (nil_again t.objects now.0) (objects_again t now.1)
+
+-- bytes above the space are those of a plain word
+pub plain_bytes : (bytes : List ℕ) → list_all (λ b. nat_lt 32 b) bytes ≡ true → IsPlainWord bytes
+plain_bytes [] h = tt
+plain_bytes (b ∷ bytes) h = let parts = and_parts _ _ h in (ltb-true 32 b parts.0, plain_bytes bytes parts.1)

@@ -1,0 +1,177 @@
+-- The text of a capability table: a header, a line for each label, object, filled slot, pair of the derivation tree and binding, and
+-- `end` (confine's own; what it says is a system's initial state, seL4 manual, "Bootstrapping").
+use Rattle.std.specs.Prelude.{⊤, ◌≡◌, ℕ, ◌<◌, ◌^◌, List, [], ◌∷◌, ◌++◌, map, codes, Option, Some, None, slice_index_or, All}
+use Rattle.std.specs.Fmt.{decimal}
+use Rattle.std.specs.List.{zip}
+use Rattle.base.specs.declared.ids.ObjId.{ObjId}
+use Rattle.base.specs.declared.ids.SlotRef.{SlotRef}
+use Rattle.base.specs.Rights.{rights_word}
+use Rattle.machine.specs.declared.cap.Detail.{Detail}
+use Rattle.machine.specs.declared.cap.Detail.TheVariants as d
+use Rattle.machine.specs.declared.layout.Binding.{Binding}
+use Rattle.machine.specs.declared.layout.Filled.{Filled}
+use Rattle.machine.specs.declared.layout.Initial.{Initial}
+use Rattle.machine.specs.declared.layout.Pair.{Pair}
+use Rattle.machine.specs.declared.object.Object.{Object}
+use Rattle.machine.specs.declared.object.Object.TheVariants as o
+use Rattle.machine.specs.declared.object.ObjectKind.{ObjectKind}
+use Rattle.machine.specs.declared.object.ObjectKind.TheVariants as kind
+use Rattle.machine.specs.declared.object.Share.{Share}
+use Rattle.machine.specs.declared.thread.RunState.{RunState}
+use Rattle.machine.specs.declared.thread.RunState.TheVariants as run
+use Rattle.machine.specs.Layout.{Layout}
+use Rattle.table.specs.Parts.{Part, LabelPart, ObjectPart, CapPart, BindingPart, Admits, ComesNow, with_part}
+use Rattle.table.specs.Rules.{kind_at}
+use Rattle.words.specs.Number.{hexadecimal}
+use Rattle.words.specs.Reading.{whole_lines}
+use Rattle.words.specs.Text.{words_of, text_of}
+use Rattle.captext.specs.declared.shapes.Place.{Place}
+use Rattle.captext.specs.declared.shapes.Place.TheVariants as place
+use Rattle.captext.specs.PolicyText.{label_name}
+use Rattle.captext.specs.Spelling.{slot_word}
+
+abbrev pub table_header : List (List ℕ)
+table_header = words_of (codes "confine-table 1")
+
+-- the name of an object of the table
+abbrev pub object_name : Layout → ObjId → List ℕ
+object_name t id = slice_index_or t.names id.0 []
+
+-- label NAME
+abbrev pub label_words : List ℕ → List (List ℕ)
+label_words name = codes "label" ∷ name ∷ []
+
+-- the word that begins the line of an object
+abbrev pub kind_word : Object → List ℕ
+kind_word (o.Untyped _) = codes "untyped"
+kind_word (o.CNode _) = codes "cnode"
+kind_word (o.Tcb _) = codes "tcb"
+kind_word (o.Endpoint _) = codes "endpoint"
+kind_word (o.Notification _) = codes "notification"
+kind_word (o.Reply _) = codes "reply"
+kind_word (o.Context _) = codes "context"
+kind_word (o.Frame _) = codes "frame"
+kind_word (o.Control _) = codes "control"
+
+-- how a thread starts: ready, or else inactive
+abbrev pub start_word : RunState → List ℕ
+start_word run.Ready = codes "ready"
+start_word _ = codes "inactive"
+
+-- CORE BUDGET PERIOD, or `-` for none
+abbrev pub share_words : Option Share → List (List ℕ)
+share_words None = codes "-" ∷ []
+share_words (Some share) = decimal share.core ∷ decimal share.budget ∷ decimal share.period ∷ []
+
+-- where an object lies and what else its kind needs
+abbrev pub content_words : Object → List (List ℕ)
+content_words (o.Untyped memory) = hexadecimal memory.base ∷ decimal memory.bits ∷ []
+content_words (o.CNode node) = hexadecimal node.address ∷ decimal node.radix ∷ []
+content_words (o.Tcb thread) = hexadecimal thread.address ∷ start_word thread.state ∷ []
+content_words (o.Endpoint endpoint) = hexadecimal endpoint.address ∷ []
+content_words (o.Notification notification) = hexadecimal notification.address ∷ []
+content_words (o.Reply reply) = hexadecimal reply.address ∷ []
+content_words (o.Context context) = hexadecimal context.address ∷ share_words context.share
+content_words (o.Frame frame) = hexadecimal frame.address ∷ []
+content_words (o.Control control) = decimal control.core ∷ []
+
+-- KIND NAME LABEL and its content
+abbrev pub object_words : Layout → List ℕ → Initial → List (List ℕ)
+object_words t name initial = kind_word initial.object ∷ name ∷ label_name t initial.label ∷ content_words initial.object
+
+-- a slot's place in a holder of this kind: a thread has its root slot alone
+abbrev pub place_in : Option ObjectKind → ℕ → Place
+place_in (Some kind.Tcb) index = place.Root
+place_in _ index = place.Index index
+
+-- NAME.DEC or NAME.root
+abbrev pub slot_name : Layout → SlotRef → List ℕ
+slot_name t slot = slot_word (object_name t slot.holder) (place_in (kind_at t slot.holder) slot.index)
+
+-- what a capability says beside its object
+abbrev pub detail_words : Detail → List (List ℕ)
+detail_words (d.CNode guard) = decimal guard.size ∷ hexadecimal guard.value ∷ []
+detail_words (d.Endpoint end) = rights_word end.rights ∷ decimal end.badge ∷ []
+detail_words (d.Notification end) = rights_word end.rights ∷ decimal end.badge ∷ []
+detail_words (d.Frame rights) = rights_word rights ∷ []
+detail_words _ = []
+
+-- cap SLOT NAME and what the capability says
+abbrev pub cap_words : Layout → Filled → List (List ℕ)
+cap_words t filled = codes "cap" ∷ slot_name t filled.slot ∷ object_name t filled.cap.object ∷ detail_words filled.cap.detail
+
+-- child SLOT SLOT
+abbrev pub pair_words : Layout → Pair → List (List ℕ)
+pair_words t pair = codes "child" ∷ slot_name t pair.parent ∷ slot_name t pair.child ∷ []
+
+-- bind NAME NAME
+abbrev pub binding_words : Layout → Binding → List (List ℕ)
+binding_words t binding = codes "bind" ∷ object_name t binding.thread ∷ object_name t binding.context ∷ []
+
+-- the line of a part
+abbrev pub part_words : Layout → Part → List (List ℕ)
+part_words t (LabelPart name) = label_words name
+part_words t (ObjectPart name initial) = object_words t name initial
+part_words t (CapPart filled) = cap_words t filled
+part_words t (BindingPart binding) = binding_words t binding
+
+-- the sections
+
+abbrev pub label_lines : Layout → List (List (List ℕ))
+label_lines t = map label_words t.labels
+
+abbrev pub object_lines : Layout → List (List (List ℕ))
+object_lines t = map (λ named. object_words t named.0 named.1) (zip t.names t.objects)
+
+abbrev pub cap_lines : Layout → List (List (List ℕ))
+cap_lines t = map (cap_words t) t.caps
+
+abbrev pub pair_lines : Layout → List (List (List ℕ))
+pair_lines t = map (pair_words t) t.pairs
+
+abbrev pub binding_lines : Layout → List (List (List ℕ))
+binding_lines t = map (binding_words t) t.bindings
+
+-- the lines between the header and `end`
+abbrev pub table_lines : Layout → List (List (List ℕ))
+table_lines t = label_lines t ++ (object_lines t ++ (cap_lines t ++ (pair_lines t ++ binding_lines t)))
+
+-- the text of a capability table
+abbrev pub table_text : Layout → List ℕ
+table_text t = text_of (whole_lines table_header (table_lines t))
+
+-- the tables that have been brought so far
+
+-- an object of a kind whose lines are read
+abbrev pub IsBroughtObject : Object → Type 0
+IsBroughtObject (o.CNode _) = ⊤
+IsBroughtObject (o.Tcb _) = ⊤
+IsBroughtObject (o.Notification _) = ⊤
+IsBroughtObject (o.Context _) = ⊤
+IsBroughtObject _ = ⊥
+
+-- a badge is a word of 64 bits
+abbrev pub HasWordBadge : Detail → Type 0
+HasWordBadge (d.Endpoint end) = end.badge < 2 ^ 64
+HasWordBadge (d.Notification end) = end.badge < 2 ^ 64
+HasWordBadge _ = ⊤
+
+-- a part that is brought
+abbrev pub IsBroughtPart : Part → Type 0
+IsBroughtPart (LabelPart _) = ⊤
+IsBroughtPart (ObjectPart _ initial) = IsBroughtObject initial.object
+IsBroughtPart (CapPart filled) = HasWordBadge filled.cap.detail
+IsBroughtPart (BindingPart _) = ⊤
+
+-- every object is a CNode, a thread, a notification or a scheduling context, and badges are words
+pub record IsBrought (t : Layout) : Type 0 where
+  pub objects : All (λ initial. IsBroughtObject initial.object) t.objects
+  pub badges : All (λ filled. HasWordBadge filled.cap.detail) t.caps
+
+-- a line adds a part: the table takes the part next, and the line is that part's
+pub record IsLineOf (t : Layout) (words : List (List ℕ)) (next : Layout) (part : Part) : Type 0 where
+  pub now : ComesNow t part
+  pub admits : Admits t part
+  pub brought : IsBroughtPart part
+  pub words_are : words ≡ part_words t part
+  pub grown : with_part t part ≡ next
