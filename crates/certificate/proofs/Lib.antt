@@ -20,3 +20,7 @@ pub mod SmallSystem
 pub mod Unallowed
 pub mod Unsafe
 pub mod Outsides
+pub mod OneVerdict
+pub mod AllPlaces
+pub mod Telling
+pub mod SomeVerdict

@@ -1,17 +1,17 @@
 -- The least broken place, found part by part: a property that splits into parts, each of which comes before the next, has its least
 -- place in the first part that has one.
-use Rattle.std.proofs.Common.{◌≡◌, ℕ, ◌+◌, ◌<◌, List, [], ◌∷◌, ◌++◌, ◌⊎◌, refl, sym, ap, ◌∙◌, subst, inl, inr, arith}
+use Rattle.std.proofs.Common.{◌≡◌, ℕ, ◌+◌, ◌<◌, List, [], ◌∷◌, ◌++◌, ◌⊎◌, sym, ap, ◌∙◌, subst, inl, inr, arith}
 use mathlib.Core.Bool.{false≢true}
 use Rattle.std.specs.declared.cmp.Ordering.{Ordering}
-use Rattle.std.specs.declared.cmp.Ordering.TheVariants.{Less, Equal, Greater}
+use Rattle.std.specs.declared.cmp.Ordering.TheVariants.{Less}
 use Rattle.std.specs.Ordering.{nat_cmp, ordering_then, is_lt}
 use Rattle.std.specs.Cmp.Lexicographic.{slice_cmp}
 use Rattle.std.proofs.lemmas.Bool.{cases_order}
 use Rattle.machine.specs.Layout.{Layout}
 use Rattle.policy.specs.Domain.{EdgeTest}
 use Rattle.certificate.specs.declared.denial.Denial.{Denial}
-use Rattle.certificate.specs.Verdict.{Breaks, IsLeast, ComesBefore, place_of}
-use Rattle.certificate.specs.Search.{Begins, BreaksUnder, IsNone, FindsLeast}
+use Rattle.certificate.specs.Verdict.{IsLeast, ComesBefore, place_of}
+use Rattle.certificate.specs.Search.{Begins, BreaksUnder, IsNone}
 
 -- what comes first decides
 pub decided : (x y : ℕ) (rest : Ordering) → ordering_then (nat_cmp x y) rest ≡ Less → (x < y) ⊎ ((x ≡ y) × (rest ≡ Less))

@@ -1,12 +1,12 @@
 -- The least broken place is one of the first rule that is broken.
-use Rattle.std.proofs.Common.{◌≡◌, ℕ, ◌<◌, [], ◌∷◌, refl, arith}
+use Rattle.std.proofs.Common.{ℕ, ◌<◌, [], ◌∷◌, refl, arith}
 use Rattle.machine.specs.Layout.{Layout}
 use Rattle.policy.specs.Domain.{EdgeTest}
 use Rattle.certificate.specs.declared.denial.Denial.{Denial}
 use Rattle.certificate.specs.declared.denial.Denial.TheVariants as denial
 use Rattle.certificate.specs.Verdict.{Breaks, IsLeast, place_of, p1, a1, a2, a4}
-use Rattle.certificate.specs.Search.{Begins, BreaksUnder, IsNone}
-use Rattle.certificate.proofs.Places.{Splits, apart, none_more, none_in_parts, least_in_part}
+use Rattle.certificate.specs.Search.{BreaksUnder}
+use Rattle.certificate.proofs.Places.{Splits, apart, least_in_part}
 
 module _ (t : Layout) (allowed : EdgeTest) where
   rules : Splits (Breaks t allowed) 4 (λ k. BreaksUnder t allowed (k ∷ []))

@@ -1,14 +1,14 @@
 -- P1: the broken places of this rule by the labels and the kind that they name, from left to right.
-use Rattle.std.proofs.Common.{◌≡◌, ◌≢◌, ℕ, ◌<◌, Bool, true, false, not, List, [], ◌∷◌, refl, sym, ap, ◌∙◌, subst, arith}
-use mathlib.Core.Bool.{false≢true, beq}
+use Rattle.std.proofs.Common.{◌≡◌, ◌≢◌, ℕ, ◌<◌, true, false, [], ◌∷◌, refl, sym, ap, ◌∙◌, subst, arith}
+use mathlib.Core.Bool.{false≢true}
 use Rattle.base.specs.declared.kind.Kind.{Kind}
 use Rattle.base.specs.Kinds.{kind_number, is_structural}
 use Rattle.machine.specs.Layout.{Layout}
 use Rattle.policy.specs.Domain.{EdgeTest, IsInDomain}
 use Rattle.certificate.specs.declared.denial.Denial.{Denial}
 use Rattle.certificate.specs.declared.denial.Denial.TheVariants as denial
-use Rattle.certificate.specs.Verdict.{SubjectsDisagree, Breaks, IsLeast, place_of, p1}
-use Rattle.certificate.specs.Search.{Begins, BreaksUnder, IsNone, FindsLeast}
+use Rattle.certificate.specs.Verdict.{Breaks, IsLeast, place_of, p1}
+use Rattle.certificate.specs.Search.{Begins, BreaksUnder, IsNone}
 use Rattle.certificate.proofs.Places.{Splits, splits_by_next, least_alone}
 use Rattle.certificate.proofs.KindNumbers.{kind_number_below, same_kind}
 
@@ -77,11 +77,3 @@ disagree_at t allowed a b kind l below_a below_b below_l domain of_use differ =
         differ = differ;
       },
     )
-
--- what a test of two answers tells
-
-pub told_apart : (a b : Bool) → not (beq a b) ≡ true → a ≢ b
-told_apart a b = grind arith
-
-pub told_alike : (a b : Bool) → not (beq a b) ≡ false → a ≡ b
-told_alike a b = grind arith

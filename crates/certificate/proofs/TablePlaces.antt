@@ -25,7 +25,7 @@ use Rattle.certificate.specs.Verdict.{Breaks, IsLeast, place_of, a1, a2, a4}
 use Rattle.certificate.specs.Search.{Begins, BreaksUnder, IsNone}
 use Rattle.certificate.proofs.Places.{Splits, splits_by_next, apart, begins_front, decided, not_before}
 use Rattle.certificate.proofs.KindNumbers.{kind_number_below, same_kind}
-use Rattle.certificate.proofs.Lookups.{FilledAt, filled_at, BoundAt, bound_at, pair_at}
+use Rattle.certificate.proofs.Lookups.{filled_at, bound_at, pair_at}
 
 -- a broken place of a rule on slots, at the slot of a place in the list
 abbrev pub AtCap : Layout → EdgeTest → ℕ → ℕ → Denial → Type 0

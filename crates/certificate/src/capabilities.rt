@@ -1,4 +1,5 @@
-ghost use Rattle.std.specs.Prelude.{◌≡◌, ◌∷◌, [], Some};
+ghost use Rattle.std.specs.Prelude.{◌≡◌, ◌↔◌, ◌∷◌, [], Some, true, false, IsTrue};
+ghost use Rattle.machine.specs.Capabilities.{gives};
 ghost use Rattle.machine.specs.Layout.{initial_cap};
 ghost use Rattle.policy.specs.Policy.{allows};
 ghost use Rattle.certificate.specs.Verdict.{a1};
@@ -7,7 +8,7 @@ ghost use Rattle.certificate.specs.Search.{BreaksUnder, FindsLeast};
 use crate::Denial;
 use crate::labels::label_of;
 use base::{Edge, Kind};
-use machine::{Filled, ObjectKind};
+use machine::{Cap, Filled, ObjectKind};
 use policy::Policy;
 use table::Table;
 
@@ -39,7 +40,7 @@ fn capability_excess(table: &Table, policy: &Policy, filled: &Filled) -> Option<
             kind,
             to: label,
         };
-        if filled.cap.gives(kind) && !policy.has(edge) {
+        if exceeds(policy, &filled.cap, edge) {
             return Some(Denial::Capability {
                 slot: filled.slot,
                 kind,
@@ -48,4 +49,11 @@ fn capability_excess(table: &Table, policy: &Policy, filled: &Filled) -> Option<
         }
     }
     None
+}
+
+// Whether a capability gives the kind of authority of an edge that the policy doesn't have.
+fn exceeds(policy: &Policy, cap: &Cap, edge: Edge) -> bool
+    ensures { IsTrue result ↔ (gives cap.now.detail edge.kind ≡ true) × (allows policy.now edge.from edge.kind edge.to ≡ false) }
+{
+    cap.gives(edge.kind) && !policy.has(edge)
 }

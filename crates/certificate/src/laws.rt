@@ -1,4 +1,5 @@
-ghost use Rattle.std.specs.Prelude.{◌≡◌, ◌≢◌, ◌↔◌, ℕ, ◌<◌, List, Some, length};
+ghost use Rattle.std.specs.Prelude.{◌≡◌, ◌≢◌, ◌↔◌, ℕ, ◌<◌, List, Result, Some, length};
+ghost use Rattle.base.specs.declared.edge.Edge.{Edge};
 ghost use Rattle.base.specs.declared.ids.ObjId.{ObjId as Id};
 ghost use Rattle.base.specs.declared.ids.SlotRef.{SlotRef as Slot};
 ghost use Rattle.machine.specs.declared.call.Event.{Event};
@@ -15,11 +16,13 @@ ghost use Rattle.machine.specs.WellFormed.{kind_of};
 ghost use Rattle.policy.specs.Domain.{EdgeTest};
 ghost use Rattle.policy.specs.Full.{IsFull};
 ghost use Rattle.policy.specs.Needed.{subjects_agree};
+ghost use Rattle.certificate.specs.declared.denial.Denial.{Denial};
 ghost use Rattle.certificate.specs.Allowed.{IsAllowedStep};
 ghost use Rattle.certificate.specs.Confined.{IsConfined};
 ghost use Rattle.certificate.specs.Counterexamples.{UnallowedSignal, UnsafeWithout};
 ghost use Rattle.certificate.specs.Outside.{Excess, Exceeds};
 ghost use Rattle.certificate.specs.Shrinks.{Shrinks};
+ghost use Rattle.certificate.specs.System.{IsVerdict, System};
 
 /// A law: an object doesn't shrink whose pending word changes, whose core, budget or period changes, or
 /// at which more threads wait than before.
@@ -91,4 +94,14 @@ pub fn safety_needs_agreeing_subjects()
 pub fn confined_states_have_nothing_outside()
     ensures { (t : Layout) (allowed : EdgeTest) (m : Machine)
         → IsConfined t allowed m ↔ ((place : Excess) → ¬ Exceeds t allowed m place) }
+{}
+
+/// A law: on each capability table with each policy there is a verdict, and only one. So where a rule
+/// is broken there is a first place where one is.
+pub fn a_system_has_one_verdict()
+    ensures some { (t : Layout) (edges : List Edge) → (verdict : Result System Denial) × IsVerdict t edges verdict }
+    ensures one { (t : Layout) (edges : List Edge) (verdict other : Result System Denial)
+        → IsVerdict t edges verdict
+        → IsVerdict t edges other
+        → verdict ≡ other }
 {}

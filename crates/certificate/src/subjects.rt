@@ -1,4 +1,4 @@
-ghost use Rattle.std.specs.Prelude.{◌≡◌, ◌<◌, ◌↔◌, ◌∷◌, [], IsTrue};
+ghost use Rattle.std.specs.Prelude.{◌≡◌, ◌≢◌, ◌<◌, ◌↔◌, ◌∷◌, [], IsTrue};
 ghost use Rattle.base.specs.Kinds.{kind_number};
 ghost use Rattle.machine.specs.Layout.{Layout};
 ghost use Rattle.policy.specs.Policy.{allows};
@@ -67,17 +67,7 @@ fn disagreement_in(policy: &Policy, subject: Label, other: Label, kind: Kind) ->
     }
     for number in 0..Label::COUNT {
         let target = Label::new(number).unwrap();
-        let subject_has = policy.has(Edge {
-            from: subject,
-            kind,
-            to: target,
-        });
-        let other_has = policy.has(Edge {
-            from: other,
-            kind,
-            to: target,
-        });
-        if subject_has != other_has {
+        if differ(policy, subject, other, kind, target) {
             return Some(Denial::SubjectsDisagree {
                 subject,
                 other,
@@ -87,6 +77,23 @@ fn disagreement_in(policy: &Policy, subject: Label, other: Label, kind: Kind) ->
         }
     }
     None
+}
+
+// Whether only one of two labels has an edge of this kind to a target.
+fn differ(policy: &Policy, subject: Label, other: Label, kind: Kind, target: Label) -> bool
+    ensures { IsTrue result ↔ (allows policy.now subject kind target ≢ allows policy.now other kind target) }
+{
+    let subject_has = policy.has(Edge {
+        from: subject,
+        kind,
+        to: target,
+    });
+    let other_has = policy.has(Edge {
+        from: other,
+        kind,
+        to: target,
+    });
+    subject_has != other_has
 }
 
 // Whether `other` is in the domain of `subject`.

@@ -1,5 +1,5 @@
 -- the least broken place is at the first that has one
-use Rattle.std.proofs.Common.{◌<◌, length, refl, ap, arith}
+use Rattle.std.proofs.Common.{length, refl, ap, arith}
 use Rattle.std.proofs.lemmas.Option.{slice_get_within}
 use Rattle.policy.specs.Policy.{allows}
 use Rattle.certificate.proofs.Lookups.{read_at, bound_from}

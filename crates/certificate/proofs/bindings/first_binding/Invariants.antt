@@ -1,9 +1,8 @@
 -- nothing is broken at the bindings so far
-use Rattle.std.proofs.Common.{◌∷◌, [], ℕ, ◌<◌}
+use Rattle.std.proofs.Common.{ℕ, ◌<◌}
 use Rattle.policy.specs.Policy.{allows}
-use Rattle.certificate.specs.Verdict.{a1, a2, a4}
-use Rattle.certificate.specs.Search.{BreaksUnder, IsNone}
-use Rattle.certificate.proofs.TablePlaces.{AtCap, AtBinding}
+use Rattle.certificate.specs.Search.{IsNone}
+use Rattle.certificate.proofs.TablePlaces.{AtBinding}
 use Rattle.certificate.proofs.bindings.first_binding.Given as goal
 
 abbrev pub invariant-loop-binding : goal.invariant-loop-binding

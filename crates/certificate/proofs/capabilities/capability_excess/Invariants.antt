@@ -1,9 +1,8 @@
 -- nothing is broken at the kinds so far
 use Rattle.std.proofs.Common.{◌∷◌, [], ℕ, ◌<◌}
 use Rattle.policy.specs.Policy.{allows}
-use Rattle.certificate.specs.Verdict.{a1, a2, a4}
+use Rattle.certificate.specs.Verdict.{a1}
 use Rattle.certificate.specs.Search.{BreaksUnder, IsNone}
-use Rattle.certificate.proofs.TablePlaces.{AtCap, AtBinding}
 use Rattle.certificate.proofs.capabilities.capability_excess.Given as goal
 
 abbrev pub invariant-loop-kind : goal.invariant-loop-kind

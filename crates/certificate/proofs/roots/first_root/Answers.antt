@@ -1,8 +1,8 @@
 -- the least broken place is at the first that has one
-use Rattle.std.proofs.Common.{◌<◌, length, refl, ap, arith}
+use Rattle.std.proofs.Common.{length, refl, ap, arith}
 use Rattle.std.proofs.lemmas.Option.{slice_get_within}
 use Rattle.policy.specs.Policy.{allows}
-use Rattle.certificate.specs.Verdict.{a1, a2}
+use Rattle.certificate.specs.Verdict.{a2}
 use Rattle.certificate.proofs.Lookups.{read_at, cap_from}
 use Rattle.certificate.proofs.Places.{none_more, none_in_parts, least_in_part}
 use Rattle.certificate.proofs.TablePlaces.{roots, cap_least, cap_none}

@@ -1,9 +1,9 @@
 -- nothing is broken at the slots so far
-use Rattle.std.proofs.Common.{◌∷◌, [], ℕ, ◌<◌}
+use Rattle.std.proofs.Common.{ℕ, ◌<◌}
 use Rattle.policy.specs.Policy.{allows}
-use Rattle.certificate.specs.Verdict.{a1, a2, a4}
-use Rattle.certificate.specs.Search.{BreaksUnder, IsNone}
-use Rattle.certificate.proofs.TablePlaces.{AtCap, AtBinding}
+use Rattle.certificate.specs.Verdict.{a2}
+use Rattle.certificate.specs.Search.{IsNone}
+use Rattle.certificate.proofs.TablePlaces.{AtCap}
 use Rattle.certificate.proofs.roots.first_root.Given as goal
 
 abbrev pub invariant-loop-filled : goal.invariant-loop-filled

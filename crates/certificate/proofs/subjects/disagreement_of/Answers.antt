@@ -1,5 +1,5 @@
 -- the least broken place is the first that is met
-use Rattle.std.proofs.Common.{◌≡◌, ◌<◌, arith, rules}
+use Rattle.std.proofs.Common.{◌≡◌, arith, rules}
 use Rattle.policy.specs.Policy.{allows}
 use Rattle.certificate.proofs.Places.{none_more, none_in_parts, least_in_part}
 use Rattle.certificate.proofs.SubjectPlaces.{others}

@@ -1,6 +1,5 @@
 -- nothing is broken at the labels so far
 use Rattle.std.proofs.Common.{◌∷◌, [], ℕ, ◌<◌}
-use Rattle.base.specs.Kinds.{kind_number}
 use Rattle.machine.specs.Layout.{Layout}
 use Rattle.policy.specs.Policy.{allows}
 use Rattle.certificate.specs.Verdict.{p1}

@@ -1,10 +1,9 @@
 -- the least broken place is at the first kind that has one
-use Rattle.std.proofs.Common.{◌≡◌, ◌<◌, arith, rules}
-use Rattle.base.specs.Kinds.{kind_number}
+use Rattle.std.proofs.Common.{arith}
 use Rattle.policy.specs.Policy.{allows}
 use Rattle.certificate.proofs.Places.{none_more, none_in_parts, least_in_part}
 use Rattle.certificate.proofs.KindNumbers.{number_at}
-use Rattle.certificate.proofs.SubjectPlaces.{kinds, not_in_domain}
+use Rattle.certificate.proofs.SubjectPlaces.{kinds}
 use Rattle.certificate.proofs.subjects.disagreement_with.Goals as goal
 
 pub returns-in-Some : goal.returns-in-Some
