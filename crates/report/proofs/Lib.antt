@@ -3,3 +3,10 @@ mod Writing
 mod Stops
 mod Runs
 mod Answering
+mod Booting
+mod FunctionOfFiles
+mod OnLiterals
+mod TwoCores
+mod Accepting
+mod TwoCoresRun
+mod TwoCoresAnswers

@@ -1,5 +1,5 @@
 -- Runs and their logs.
-use Rattle.std.proofs.Common.{◌≡◌, ℕ, List, [], ◌∷◌, length, IfOk, Result, ap, refl, suc}
+use Rattle.std.proofs.Common.{◌≡◌, List, [], ◌∷◌, length, ap, refl, suc}
 use Rattle.machine.specs.Machine.{Machine}
 use Rattle.machine.specs.Run.{Run}
 use Rattle.machine.specs.declared.call.Event.{Event}

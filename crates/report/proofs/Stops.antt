@@ -1,17 +1,15 @@
 -- A stop of the second or the third file, after those before it were loaded.
-use Rattle.std.proofs.Common.{◌≡◌, ℕ, List, Option, None, Some, IfSome, Result, Ok, Err, subst, sym}
+use Rattle.std.proofs.Common.{◌≡◌, ℕ, List, Option, None, Some, IfSome, Ok, Err, subst, sym}
 use Rattle.base.specs.declared.edge.Edge.{Edge}
 use Rattle.captext.specs.Policies.{read_policy_of}
 use Rattle.captext.specs.Tables.{read_table_of}
 use Rattle.evtext.specs.Script.{read_script_of}
 use Rattle.machine.specs.Layout.{Layout}
-use Rattle.machine.specs.declared.call.Event.{Event}
 use Rattle.report.specs.Loading.{IfKnown, IsFaultOf, IsFaulty, IsStopOf, LoadsAll}
 use Rattle.report.specs.declared.end.File.{File}
 use Rattle.report.specs.declared.end.File.TheVariants.{Policy, Script}
 use Rattle.report.specs.declared.load.Stop.{Stop}
 use Rattle.report.specs.declared.load.Stop.TheVariants as stop
-use Rattle.words.specs.declared.faults.Fault.{Fault}
 
 stop_at_policy : (table policy script : List ℕ) (t : Layout) (why : Stop) → read_table_of table ≡ Ok t → IsStopOf Policy why → IsFaultOf why (read_policy_of t policy)
     → LoadsAll table policy script (Err why)

@@ -4,3 +4,4 @@ pub mod Reports
 pub mod Places
 pub mod Loading
 pub mod Answers
+pub mod TwoCores

@@ -2,7 +2,9 @@ ghost use Rattle.std.specs.Prelude.{◌≡◌, ◌≢◌, ◌^◌, ◌<◌, ℕ,
 ghost use Rattle.std.specs.Io.KnownBytes.{Appends};
 ghost use Rattle.captext.specs.Policies.{read_policy_of};
 ghost use Rattle.captext.specs.Tables.{read_table_of};
+ghost use Rattle.certificate.specs.Verdict.{IsAccepted, IsLeastBroken};
 ghost use Rattle.machine.specs.Layout.{Layout};
+ghost use Rattle.policy.specs.Policy.{allows};
 ghost use Rattle.report.specs.Answers as answers;
 ghost use Rattle.report.specs.Ends.{BlamesNoFile, IfCannotWrite, IfStatus, IfUnwritten, TellsFailure};
 ghost use Rattle.report.specs.Loading.{IfKnown};
@@ -15,7 +17,7 @@ use crate::reports::{denial_report, fault_report};
 use crate::{End, File, Sink, Source};
 use base::Refusal;
 use captext::Fault;
-use certificate::first_check;
+use certificate::{Denial, first_check};
 use evtext::write_log;
 use kernel::boot;
 use machine::Event;
@@ -130,19 +132,31 @@ fn judge(alloc: Global, loaded: &Loaded) -> Result<Answer, NoMemory>
         answer.text.items answer.status) }
 {
     match first_check(&loaded.table, &loaded.policy) {
-        Ok(Ok(_)) => Ok(Answer {
-            text: log_of_run(alloc, &loaded.table, &loaded.events)?,
-            status: 0,
-        }),
-        Ok(Err(denial)) => {
-            let place = place_names(alloc, &loaded.table, &denial)?;
-            Ok(Answer {
-                text: denial_report(alloc, denial.rule(), &place)?,
-                status: 1,
-            })
-        }
+        Ok(Ok(_)) => accepted(alloc, loaded),
+        Ok(Err(denial)) => denied(alloc, loaded, &denial),
         Err(refusal) => Err(NoMemory::from(refusal)),
     }
+}
+
+/// The answer where the table and the policy are accepted: the log of the script's run.
+fn accepted(alloc: Global, loaded: &Loaded) -> Result<Answer, NoMemory>
+    requires { IsAccepted loaded.now.table (allows loaded.now.policy) }
+    ensures { IfOk result (λ answer. answers.Judges loaded.now.table loaded.now.policy loaded.now.events.items
+        answer.text.items answer.status) }
+{
+    let text = log_of_run(alloc, &loaded.table, &loaded.events)?;
+    Ok(Answer { text, status: 0 })
+}
+
+/// The answer where they are denied: the rule that is broken, and where.
+fn denied(alloc: Global, loaded: &Loaded, denial: &Denial) -> Result<Answer, NoMemory>
+    requires { IsLeastBroken loaded.now.table (allows loaded.now.policy) denial.now }
+    ensures { IfOk result (λ answer. answers.Judges loaded.now.table loaded.now.policy loaded.now.events.items
+        answer.text.items answer.status) }
+{
+    let place = place_names(alloc, &loaded.table, denial)?;
+    let text = denial_report(alloc, denial.rule(), &place)?;
+    Ok(Answer { text, status: 1 })
 }
 
 /// The log of a run of the events from the boot state of the table.

@@ -5,6 +5,8 @@
 mod device;
 mod end;
 mod engine;
+mod examples;
+mod laws;
 mod load;
 mod places;
 mod reports;
@@ -12,3 +14,5 @@ mod reports;
 pub use device::{Counted, ReadError, Sink, Source, WriteError};
 pub use end::{End, File};
 pub use engine::run;
+pub use examples::two_cores_answers;
+pub use laws::an_answer_is_a_function_of_the_files;
