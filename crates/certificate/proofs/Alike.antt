@@ -1,19 +1,18 @@
 -- Changes that keep labels and authority: each object keeps its kind, its address and its budget, and has no link that it didn't have.
-use Rattle.std.proofs.Common.{◌≡◌, ℕ, ◌⊎◌, inl, inr, ◌≤◌, ◌<◌, Bool, true, false, Option, Some, None, option_map, option_and_then, refl, sym, ap, subst, ◌∙◌, nat_lt, length, if◌then◌else◌}
-use Rattle.std.proofs.lemmas.Option.{none-some, same_Some}
+use Rattle.std.proofs.Common.{◌≡◌, ℕ, ◌≤◌, true, Option, Some, option_map, option_and_then, refl, sym, ap, subst, ◌∙◌, nat_lt, length, if◌then◌else◌}
+use Rattle.std.proofs.lemmas.Option.{same_Some}
 use Rattle.base.specs.declared.ids.ObjId.{ObjId}
-use Rattle.base.specs.declared.ids.SlotRef.{SlotRef}
 use Rattle.base.specs.declared.kind.Kind.{Kind}
 use Rattle.machine.specs.declared.object.Context.{Context}
 use Rattle.machine.specs.declared.object.Object.{Object}
 use Rattle.machine.specs.declared.object.Object.TheVariants as o
 use Rattle.machine.specs.declared.object.Untyped.{Untyped}
-use Rattle.machine.specs.Authority.{HasAuthority, label_at, label_of, links}
+use Rattle.machine.specs.Authority.{label_at, label_of, links}
 use Rattle.machine.specs.Authority.HasAuthority.{by_cap, by_root, by_pair, by_link}
 use Rattle.machine.specs.Effects.Primitives.{KeepsSlots}
-use Rattle.machine.specs.Layout.{Layout, declared_label, initial_of}
-use Rattle.machine.specs.Machine.{Machine, object_of, cap_of, parent_of}
-use Rattle.machine.specs.Objects.{kind_of_object, address_of, end_of}
+use Rattle.machine.specs.Layout.{Layout, declared_label}
+use Rattle.machine.specs.Machine.{Machine, object_of}
+use Rattle.machine.specs.Objects.{kind_of_object, address_of}
 use Rattle.machine.specs.WellFormed.{kind_of}
 use Rattle.policy.specs.Domain.{EdgeTest}
 use Rattle.certificate.specs.Confined.{IsConfined}

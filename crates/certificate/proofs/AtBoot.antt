@@ -1,5 +1,5 @@
 -- The boot state of an accepted table is confined, and belongs to the table.
-use Rattle.std.proofs.Common.{◌≡◌, ◌≢◌, ℕ, ◌+◌, ◌≤◌, ◌<◌, ◌⊎◌, inl, inr, Bool, true, false, cond, ◌&&◌, List, [], ◌∷◌, length, Option, Some, None, option_map, option_and_then, refl, sym, ap, subst, ◌∙◌, arith, nat_le, nat_lt, slice_get, All, if◌then◌else◌}
+use Rattle.std.proofs.Common.{◌≡◌, ℕ, ◌≤◌, ◌<◌, Bool, true, false, ◌&&◌, List, length, Option, Some, None, option_map, option_and_then, refl, sym, ap, subst, ◌∙◌, arith, nat_le, nat_lt, slice_get, if◌then◌else◌}
 use mathlib.Core.Bool.{false≢true}
 use Rattle.std.proofs.lemmas.Option.{none-some, same_Some, slice_get_within, get_or_from_slice_get}
 use Rattle.std.proofs.lemmas.Bool.Decides.{Decides-ltb}
@@ -11,20 +11,18 @@ use Rattle.base.specs.declared.kind.Kind.{Kind}
 use Rattle.base.specs.declared.kind.Kind.TheVariants as authority
 use Rattle.machine.specs.declared.layout.Initial.{Initial}
 use Rattle.machine.specs.declared.layout.Pair.{Pair}
-use Rattle.machine.specs.declared.object.Context.{Context}
 use Rattle.machine.specs.declared.object.Object.{Object}
 use Rattle.machine.specs.declared.object.Object.TheVariants as o
-use Rattle.machine.specs.declared.object.ObjectKind.{ObjectKind}
 use Rattle.machine.specs.declared.object.Reply.{Reply}
 use Rattle.machine.specs.declared.object.ReplyState.TheVariants as reply
 use Rattle.machine.specs.declared.object.Untyped.{Untyped}
 use Rattle.machine.specs.declared.thread.RunState.{RunState}
 use Rattle.machine.specs.declared.thread.RunState.TheVariants as state
 use Rattle.machine.specs.declared.thread.Tcb.{Tcb}
-use Rattle.machine.specs.Authority.{HasAuthority, has_memory_at, holds_thread, label_at, label_of, links, names_reply, state_links}
+use Rattle.machine.specs.Authority.{has_memory_at, holds_thread, label_at, label_of, links, names_reply, state_links}
 use Rattle.machine.specs.Authority.HasAuthority.{by_cap, by_root, by_pair, by_link}
 use Rattle.machine.specs.Boot.{IsBoot, address-bound, bound, booted, kind-bound}
-use Rattle.machine.specs.Layout.{Layout, initial_of, declared_label, initial_cap, initial_parent, bound_context}
+use Rattle.machine.specs.Layout.{Layout, initial_of, declared_label, initial_parent, bound_context}
 use Rattle.machine.specs.Machine.{Machine, object_of, one_id, same_slot}
 use Rattle.machine.specs.Objects.{kind_of_object, address_of, end_of}
 use Rattle.machine.specs.WellFormed.{kind_of}
@@ -221,9 +219,10 @@ boot_of_table t m lawful boot =
       labelled = λ id object at. let declared = declared_at t m boot id object at in (declared.initial.label, boot_label t m boot id ∙ label_declared t id declared.initial declared.declares);
       initial = λ id object initial at is.
           let declared = declared_at t m boot id object at in
-          let same : declared.initial ≡ initial = same_Some declared.initial initial (sym declared.declares ∙ is) in
-          ( ap kind_of_object declared.object_is ∙ kind-bound t id declared.initial.object ∙ ap (λ (i : Initial). kind_of_object i.object) same,
-            ap address_of declared.object_is ∙ address-bound t id declared.initial.object ∙ ap (λ (i : Initial). address_of i.object) same );
+          let same : declared.initial ≡ initial = same_Some declared.initial initial (sym declared.declares ∙ is) in (
+            ap kind_of_object declared.object_is ∙ kind-bound t id declared.initial.object ∙ ap (λ (i : Initial). kind_of_object i.object) same,
+            ap address_of declared.object_is ∙ address-bound t id declared.initial.object ∙ ap (λ (i : Initial). address_of i.object) same,
+          );
       ranged = λ id memory label address at is above below.
           let declared = declared_at t m boot id (o.Untyped memory) at in
           let same : declared.initial.label ≡ label = same_Some declared.initial.label label (sym (boot_label t m boot id ∙ label_declared t id declared.initial declared.declares) ∙ is) in

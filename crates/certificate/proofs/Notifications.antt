@@ -1,9 +1,9 @@
 -- Signal and Poll within a caller's authority: the notification that is found is one that its label may notify or await, and who
 -- waits there awaits it by a recorded edge.
-use Rattle.std.proofs.Common.{◌≡◌, ℕ, ◌⊎◌, inl, inr, Bool, true, false, cond, List, [], ◌∷◌, Option, Some, None, option_map, refl, sym, ap, subst, ◌∙◌, arith, Ok, Contains}
+use Rattle.std.proofs.Common.{◌≡◌, ℕ, Bool, true, false, cond, List, ◌∷◌, Some, refl, sym, ap, subst, ◌∙◌, arith}
 use Rattle.std.specs.Ordering.{is_eq}
 use Rattle.std.proofs.lemmas.Cmp.{tied_itself}
-use Rattle.std.proofs.lemmas.Option.{none-some, same_Some}
+use Rattle.std.proofs.lemmas.Option.{same_Some}
 use Rattle.base.specs.declared.ids.ObjId.{ObjId}
 use Rattle.base.specs.declared.ids.SlotRef.{SlotRef}
 use Rattle.base.specs.declared.kind.Kind.{Kind}
@@ -14,7 +14,6 @@ use Rattle.machine.specs.declared.cap.Detail.TheVariants as d
 use Rattle.machine.specs.declared.object.Notification.{Notification}
 use Rattle.machine.specs.declared.object.Object.{Object}
 use Rattle.machine.specs.declared.object.Object.TheVariants as o
-use Rattle.machine.specs.declared.object.ObjectKind.{ObjectKind}
 use Rattle.machine.specs.declared.object.ObjectKind.TheVariants as kind
 use Rattle.machine.specs.declared.thread.Inbox.{Inbox}
 use Rattle.machine.specs.declared.thread.RunState.{RunState}
@@ -24,14 +23,12 @@ use Rattle.machine.specs.Authority.{label_of, links, state_links}
 use Rattle.machine.specs.Authority.HasAuthority.{by_link}
 use Rattle.machine.specs.Capabilities.{gives}
 use Rattle.machine.specs.Effects.Finds.{FindsNotification}
-use Rattle.machine.specs.Effects.Primitives.{Sets, Wakes, KeepsSlots}
+use Rattle.machine.specs.Effects.Primitives.{Sets, Wakes}
 use Rattle.machine.specs.Layout.{Layout}
-use Rattle.machine.specs.Machine.{Machine, object_of, queue_of, words_of, cap_of, one_id, same_id, id_total}
-use Rattle.machine.specs.Objects.{kind_of_object}
+use Rattle.machine.specs.Machine.{Machine, object_of, queue_of, one_id, same_id, id_total}
 use Rattle.machine.specs.WellFormed.{kind_of, WaitsAt, WaitsAtKind}
 use Rattle.policy.specs.Domain.{EdgeTest, SubjectsAgree}
-use Rattle.certificate.specs.Invariant.{IsSound, IsWithin}
-use Rattle.certificate.specs.Shrinks.{IsSame}
+use Rattle.certificate.specs.Invariant.{IsSound}
 use Rattle.certificate.proofs.Alike.{Resembles, IsAlike, as_it_was, changed, AllAlike}
 use Rattle.certificate.proofs.Reach.{lookup_within, held_within, target_label}
 

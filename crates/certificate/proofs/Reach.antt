@@ -1,12 +1,11 @@
 -- Confinement through lookup: what a thread finds at an address is held in the domain of its label, so that the label has the
 -- authority that the capability gives.
-use Rattle.std.proofs.Common.{◌≡◌, ℕ, zero, suc, ◌⊎◌, inl, inr, Bool, true, false, List, [], ◌∷◌, Option, Some, None, option_map, Result, Ok, Err, refl, sym, ap, subst, ◌∙◌, arith}
+use Rattle.std.proofs.Common.{◌≡◌, ℕ, zero, suc, inl, inr, Bool, true, false, List, [], ◌∷◌, Option, Some, None, option_map, Result, Ok, Err, refl, sym, ap, subst, ◌∙◌, arith}
 use Rattle.std.proofs.lemmas.Option.{none-some}
 use Rattle.base.specs.declared.ids.ObjId.{ObjId}
 use Rattle.base.specs.declared.ids.SlotRef.{SlotRef}
 use Rattle.base.specs.declared.kind.Kind.{Kind}
 use Rattle.base.specs.declared.kind.Kind.TheVariants as authority
-use Rattle.base.specs.declared.refusal.Cause.{Cause}
 use Rattle.base.specs.declared.refusal.Cause.TheVariants as cause
 use Rattle.base.specs.declared.refusal.LookupFailure.{LookupFailure}
 use Rattle.base.specs.declared.refusal.LookupFailure.TheVariants.{InvalidRoot}
@@ -19,17 +18,16 @@ use Rattle.machine.specs.declared.object.Object.{Object}
 use Rattle.machine.specs.declared.object.Object.TheVariants as o
 use Rattle.machine.specs.declared.object.ObjectKind.TheVariants as kind
 use Rattle.machine.specs.declared.thread.Tcb.{Tcb}
-use Rattle.machine.specs.declared.object.ObjectKind.{ObjectKind}
 use Rattle.machine.specs.Objects.{kind_of_object}
 use Rattle.machine.specs.Bits.{bits}
-use Rattle.machine.specs.Authority.{HasAuthority, label_of}
+use Rattle.machine.specs.Authority.{label_of}
 use Rattle.machine.specs.Authority.HasAuthority.{by_cap, by_root}
 use Rattle.machine.specs.Capabilities.{gives, kind_of_detail}
 use Rattle.machine.specs.Layout.{Layout}
 use Rattle.machine.specs.Lookup.{Level, level_at, level_of_cap, level_through, hop, walk, onward, root_of, lookup_of, counted}
 use Rattle.machine.specs.Machine.{Machine, object_of, cap_of}
 use Rattle.machine.specs.WellFormed.{kind_of}
-use Rattle.policy.specs.Domain.{EdgeTest, IsInDomain, SubjectsAgree}
+use Rattle.policy.specs.Domain.{EdgeTest, SubjectsAgree}
 use Rattle.certificate.specs.Invariant.{IsSound, IsWithin}
 
 -- a CNode that a slot shows is that of the slot's capability

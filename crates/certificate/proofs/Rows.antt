@@ -1,5 +1,5 @@
 -- What the rows of Signal and Poll do lies within the authority of their caller's label.
-use Rattle.std.proofs.Common.{◌≡◌, ℕ, ◌⊎◌, inl, inr, Bool, true, false, cond, List, ◌∷◌, Some, refl, sym, ap, ◌∙◌}
+use Rattle.std.proofs.Common.{◌≡◌, ℕ, ◌⊎◌, inl, inr, Bool, true, false, cond, Some, refl, ap, ◌∙◌}
 use Rattle.base.specs.declared.ids.ObjId.{ObjId}
 use Rattle.base.specs.declared.kind.Kind.TheVariants as authority
 use Rattle.machine.specs.declared.call.Outcome.{Outcome}
@@ -12,7 +12,7 @@ use Rattle.machine.specs.Effects.Poll.{PollDoes}
 use Rattle.machine.specs.Effects.Primitives.{Sets, Wakes}
 use Rattle.machine.specs.Effects.Signal.{SignalDoes, WakesFirst, JoinsWord}
 use Rattle.machine.specs.Layout.{Layout}
-use Rattle.machine.specs.Machine.{Machine, object_of, queue_of, cap_of, one_id, same_id}
+use Rattle.machine.specs.Machine.{Machine, object_of, queue_of, one_id, same_id}
 use Rattle.machine.specs.WellFormed.{kind_of}
 use Rattle.policy.specs.Domain.{EdgeTest, SubjectsAgree}
 use Rattle.policy.specs.Full.{IsFull}
@@ -20,9 +20,9 @@ use Rattle.policy.specs.Full.IsFull.{modifies, notifies}
 use Rattle.certificate.specs.Allowed.{MayChange}
 use Rattle.certificate.specs.Invariant.{IsSound}
 use Rattle.certificate.specs.Shrinks.{IsSame}
-use Rattle.certificate.proofs.Alike.{AllAlike, alike_keeps}
+use Rattle.certificate.proofs.Alike.{alike_keeps}
 use Rattle.certificate.proofs.Keeps.{Acts, Keeps}
-use Rattle.certificate.proofs.Notifications.{Awaits, IsOpen, found_open, first_awaits, awaits_edge, word_resembles, woken_resembles, set_alike, wake_alike}
+use Rattle.certificate.proofs.Notifications.{found_open, first_awaits, awaits_edge, word_resembles, woken_resembles, set_alike, wake_alike}
 
 -- an object on which the label has full authority is set
 set_acts_at : (t : Layout) (allowed : EdgeTest) (a : ℕ) (m next : Machine) (id : ObjId) (new : Object) (label : ℕ) → label_of t m id ≡ Some label → IsFull allowed a label → Sets m id new next → (q : ObjId) (same : Bool) → same_id q id ≡ same → IsSame m next q ⊎ MayChange t allowed a m next q

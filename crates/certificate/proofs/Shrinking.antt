@@ -1,5 +1,5 @@
 -- Shrinking twice is shrinking, and so is staying the same before or after.
-use Rattle.std.proofs.Common.{◌≡◌, ℕ, ◌⊎◌, inl, inr, List, [], ◌∷◌, Option, Some, None, refl, sym, ap, subst, ◌∙◌}
+use Rattle.std.proofs.Common.{◌≡◌, ◌⊎◌, inl, inr, List, Option, None, sym, ap, subst, ◌∙◌}
 use Rattle.std.proofs.lemmas.Option.{none-some, same_Some}
 use Rattle.base.specs.declared.ids.ObjId.{ObjId}
 use Rattle.machine.specs.declared.cap.Cap.{Cap}
@@ -7,10 +7,8 @@ use Rattle.machine.specs.declared.object.Context.{Context}
 use Rattle.machine.specs.declared.object.Object.{Object}
 use Rattle.machine.specs.declared.object.Object.TheVariants as o
 use Rattle.machine.specs.declared.object.Reply.{Reply}
-use Rattle.machine.specs.declared.object.ReplyState.TheVariants as reply
-use Rattle.machine.specs.declared.thread.RunState.{RunState}
 use Rattle.machine.specs.declared.thread.Tcb.{Tcb}
-use Rattle.machine.specs.Machine.{Machine, object_of, queue_of, words_of, cap_of}
+use Rattle.machine.specs.Machine.{Machine}
 use Rattle.certificate.specs.Shrinks.{HasLess, IsBlocked, IsPart, IsSame, Lessens, LosesLink, Shrinks, Stops}
 use Rattle.certificate.specs.Shrinks.Lessens.{as_it_was, released, freed, unbound}
 use Rattle.certificate.specs.Shrinks.IsPart.{ended, stayed, left}

@@ -2,8 +2,6 @@
 use Rattle.std.proofs.Common.{◌≡◌, ℕ, ◌<◌, inl, inr, Bool, true, false, List, refl, sym, ◌∙◌}
 use mathlib.Core.Bool.{false≢true}
 use Rattle.base.specs.declared.edge.Edge.{Edge}
-use Rattle.base.specs.declared.kind.Kind.{Kind}
-use Rattle.base.specs.Kinds.{is_structural}
 use Rattle.machine.specs.Layout.{Layout}
 use Rattle.policy.specs.Domain.{IsInDomain, SubjectsAgree}
 use Rattle.policy.specs.Policy.{allows, JoinsLabels}

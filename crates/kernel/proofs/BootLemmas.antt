@@ -17,7 +17,6 @@ use Rattle.machine.specs.declared.layout.Filled.{Filled}
 use Rattle.machine.specs.declared.layout.Initial.{Initial}
 use Rattle.machine.specs.declared.layout.Pair.{Pair}
 use Rattle.machine.specs.declared.object.Object.{Object}
-use Rattle.machine.specs.declared.object.Object.TheVariants as o
 use Rattle.machine.specs.Boot.{IsBoot, bound, booted, slot_count-bound}
 use Rattle.machine.specs.Layout.{Layout, initial_of, initial_cap, initial_parent, bound_context, bound_thread}
 use Rattle.machine.specs.Machine.{Machine, id_total, one_id, one_slot, same_id, slot_cmp, slot_total, same_slot, empty_machine, object_of, has_slot, with_new, with_cap}

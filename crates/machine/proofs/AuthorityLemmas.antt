@@ -1,6 +1,6 @@
 -- Authority grows with rights and with capabilities.
-use Rattle.std.proofs.Common.{◌≡◌, ℕ, Bool, true, false, ◌&&◌, ◌||◌, Option, Some, option_map, option_and_then, refl, sym, ap, ◌∙◌, length, nat_lt, if◌then◌else◌}
-use Rattle.std.proofs.lemmas.Bool.{and_from, and_parts, or_cases}
+use Rattle.std.proofs.Common.{◌≡◌, ℕ, Bool, true, false, ◌&&◌, ◌||◌, option_map, option_and_then, refl, ap, ◌∙◌, length, nat_lt, if◌then◌else◌}
+use Rattle.std.proofs.lemmas.Bool.{and_from, and_parts}
 use Rattle.base.specs.declared.ids.ObjId.{ObjId}
 use Rattle.base.specs.declared.kind.Kind.{Kind}
 use Rattle.base.specs.declared.kind.Kind.TheVariants as authority
@@ -13,7 +13,7 @@ use Rattle.machine.specs.declared.cap.Guard.{Guard}
 use Rattle.machine.specs.declared.object.Object.{Object}
 use Rattle.machine.specs.Authority.{HasAuthority, label_at, label_of}
 use Rattle.machine.specs.Authority.HasAuthority.{by_cap, by_root, by_pair, by_link}
-use Rattle.machine.specs.Capabilities.{can_read, can_write, can_grant, can_grant_reply, gives}
+use Rattle.machine.specs.Capabilities.{gives}
 use Rattle.machine.specs.Layout.{Layout, declared_label}
 use Rattle.machine.specs.Machine.{Machine, object_of}
 use Rattle.machine.specs.Narrower.{HasFewer, HasMoreCaps, IsNarrower}

@@ -1,6 +1,6 @@
 -- The label of an object, and the authority that a machine holds: edges from label to label, read off its capabilities, its
 -- derivation tree and the links between its objects ('seL4 Enforces Integrity', sections 3 and 4, "Authority" and "Policy").
-use Rattle.std.specs.Prelude.{◌≡◌, ℕ, ◌≤◌, ◌<◌, Bool, true, false, ◌&&◌, ◌||◌, nat_lt, nat_le, List, Option, Some, None, length, find, option_and_then, option_map, if◌then◌else◌}
+use Rattle.std.specs.Prelude.{◌≡◌, ℕ, Bool, true, false, ◌&&◌, nat_lt, nat_le, Option, Some, None, length, find, option_and_then, option_map, if◌then◌else◌}
 use Rattle.base.specs.declared.ids.ObjId.{ObjId}
 use Rattle.base.specs.declared.ids.SlotRef.{SlotRef}
 use Rattle.base.specs.declared.kind.Kind.{Kind}

@@ -1,6 +1,6 @@
 -- What a capability says by itself: the kind of object that it is for, and the kinds of authority that it gives from a slot of a
 -- CNode ('seL4 Enforces Integrity', section 3, "Authority", with the kinds of this profile).
-use Rattle.std.specs.Prelude.{ℕ, Bool, true, false, ◌&&◌, ◌||◌, ◌==◌}
+use Rattle.std.specs.Prelude.{Bool, true, false, ◌&&◌, ◌||◌, ◌==◌}
 use Rattle.std.specs.Int.RustNames.{bit_and}
 use Rattle.base.specs.declared.kind.Kind.{Kind}
 use Rattle.base.specs.declared.kind.Kind.TheVariants as authority

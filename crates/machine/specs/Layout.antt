@@ -1,12 +1,11 @@
 -- What a capability table says: the labels, the initial objects with their names and labels, the slots that hold capabilities, the
 -- pairs of the derivation tree, and which thread runs on which context (compare the seL4 manual, "Bootstrapping", and
 -- 'seL4 Enforces Integrity', section 3: the initial state and its labelling).
-use Rattle.std.specs.Prelude.{◌≡◌, ℕ, Bool, List, [], Option, Some, None, slice_get, option_map, find, cond, refl}
+use Rattle.std.specs.Prelude.{ℕ, List, [], Option, slice_get, option_map, find, refl}
 use Rattle.std.specs.Coded.{Coded, code_by, coded×, coded_list, coded_ℕ}
 use Rattle.base.specs.declared.ids.ObjId.{ObjId}
 use Rattle.base.specs.declared.ids.SlotRef.{SlotRef}
 use Rattle.machine.specs.declared.cap.Cap.{Cap}
-use Rattle.machine.specs.declared.object.Object.{Object}
 use Rattle.machine.specs.declared.layout.Initial.{Initial}
 use Rattle.machine.specs.declared.layout.Filled.{Filled}
 use Rattle.machine.specs.declared.layout.Pair.{Pair}

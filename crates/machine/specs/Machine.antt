@@ -1,6 +1,6 @@
 -- The kernel's state as contracts see it: its objects, who waits at each, the words of frames, the capabilities in slots, the
 -- derivation tree, and the number of the next object; with the look-ups and the changes that the definitions above are made of.
-use Rattle.std.specs.Prelude.{◌≡◌, ℕ, ◌+◌, Bool, true, false, cond, List, [], ◌∷◌, ◌++◌, Option, Some, None, replicate, refl, ◌==◌, ◌&&◌, nat_lt, option_map, if◌then◌else◌}
+use Rattle.std.specs.Prelude.{◌≡◌, ℕ, ◌+◌, Bool, true, false, cond, List, [], Option, Some, None, replicate, refl, nat_lt}
 use Rattle.std.proofs.Common.{T, sym, ap, subst}
 use Rattle.std.specs.Coded.{Coded, code_by, coded×, coded_list, coded_ℕ}
 use Rattle.std.specs.Ordering.{nat_cmp, then_cmp, on, eq_by_cmp, ordering_then, is_eq}

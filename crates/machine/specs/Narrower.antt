@@ -1,6 +1,6 @@
 -- Capabilities that differ in rights, badge or guard alone, and machines that differ in capabilities alone: how authority grows with
 -- them ('seL4 Enforces Integrity', section 3, "Authority").
-use Rattle.std.specs.Prelude.{◌≡◌, ℕ, true, Some}
+use Rattle.std.specs.Prelude.{◌≡◌, true, Some}
 use Rattle.base.specs.declared.ids.ObjId.{ObjId}
 use Rattle.base.specs.declared.ids.SlotRef.{SlotRef}
 use Rattle.base.specs.declared.rights.Rights.{Rights}

@@ -1,6 +1,6 @@
 -- What an object's content says by itself: its kind, its sizes and its range of addresses (seL4 manual, "Kernel Objects";
 -- the sizes are confine's own).
-use Rattle.std.specs.Prelude.{ℕ, ◌+◌, ◌^◌, ◌<◌, ◌≤◌, Option, Some, None}
+use Rattle.std.specs.Prelude.{ℕ, ◌+◌, ◌^◌, Option, Some, None}
 use Rattle.machine.specs.declared.object.Object.{Object}
 use Rattle.machine.specs.declared.object.Object.TheVariants as o
 use Rattle.machine.specs.declared.object.ObjectKind.{ObjectKind}

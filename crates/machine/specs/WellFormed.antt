@@ -1,6 +1,6 @@
 -- Well-formed machines: what the slots, the links between objects and the numbers and ranges of objects keep, for all nine kinds
 -- (seL4 manual, "Capability Spaces", "Capability Derivation Tree", "Untyped Memory" and "Scheduling Contexts").
-use Rattle.std.specs.Prelude.{◌≡◌, ◌≢◌, ℕ, ◌+◌, ◌<◌, ◌≤◌, ◌⊎◌, Bool, true, false, List, [], ◌∷◌, Option, Some, None, Contains, AllPairs, option_map}
+use Rattle.std.specs.Prelude.{◌≡◌, ◌≢◌, ℕ, ◌<◌, ◌≤◌, ◌⊎◌, List, Option, Some, Contains, AllPairs, option_map}
 use Rattle.base.specs.declared.ids.ObjId.{ObjId}
 use Rattle.base.specs.declared.ids.SlotRef.{SlotRef}
 use Rattle.machine.specs.declared.cap.Cap.{Cap}
@@ -9,7 +9,6 @@ use Rattle.machine.specs.declared.object.Object.{Object}
 use Rattle.machine.specs.declared.object.Object.TheVariants as o
 use Rattle.machine.specs.declared.object.ObjectKind.{ObjectKind}
 use Rattle.machine.specs.declared.object.ObjectKind.TheVariants as kind
-use Rattle.machine.specs.declared.object.ReplyState.{ReplyState}
 use Rattle.machine.specs.declared.object.ReplyState.TheVariants as reply
 use Rattle.machine.specs.declared.object.Untyped.{Untyped}
 use Rattle.machine.specs.declared.thread.RunState.{RunState}
@@ -17,7 +16,7 @@ use Rattle.machine.specs.declared.thread.RunState.TheVariants as state
 use Rattle.machine.specs.declared.thread.Tcb.{Tcb}
 use Rattle.machine.specs.Capabilities.{kind_of_detail}
 use Rattle.machine.specs.Machine.{Machine, object_of, queue_of, cap_of, parent_of}
-use Rattle.machine.specs.Objects.{kind_of_object, slot_count, address_of, size_of, end_of}
+use Rattle.machine.specs.Objects.{kind_of_object, slot_count, address_of, end_of}
 
 -- the kind of an object, if it is present
 abbrev pub kind_of : Machine → ObjId → Option ObjectKind

@@ -2,8 +2,7 @@
 use Rattle.std.proofs.Common.{◌≡◌, ◌≢◌, ℕ, ◌==◌, inl, inr, Bool, true, false, refl, sym, ◌∙◌, ◌+◌}
 use mathlib.Core.Bool.{false≢true}
 use Rattle.base.specs.declared.kind.Kind.{Kind}
-use Rattle.base.specs.declared.kind.Kind.TheVariants.{Control, Reset, Receive, Grant, Call, Reply, Context, Space, Derive, Runs, Holds}
-use Rattle.base.specs.Kinds.{is_structural}
+use Rattle.base.specs.declared.kind.Kind.TheVariants.{Control, Reset, Receive, Grant, Reply, Context, Space, Derive}
 use Rattle.policy.specs.Closed.{ControlGivesAll, GrantShares, DeriveInDomain, DeriveByGrant, ContextRuns, ReplyHolds, IsClosed}
 use Rattle.policy.specs.Domain.{EdgeTest, IsInDomain, SubjectsAgree}
 use Rattle.policy.specs.Needed.{Rule, subjects_agree, control_gives_all, grant_shares, derive_in_domain, derive_by_grant, context_runs, reply_holds, Obeys, BreaksOnly}

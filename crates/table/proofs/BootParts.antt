@@ -14,16 +14,13 @@ use Rattle.machine.specs.declared.layout.Binding.{Binding}
 use Rattle.machine.specs.declared.layout.Filled.{Filled}
 use Rattle.machine.specs.declared.layout.Initial.{Initial}
 use Rattle.machine.specs.declared.layout.Pair.{Pair}
-use Rattle.machine.specs.declared.object.Context.{Context}
 use Rattle.machine.specs.declared.object.Object.{Object}
 use Rattle.machine.specs.declared.object.Object.TheVariants as o
 use Rattle.machine.specs.declared.object.ReplyState.TheVariants as reply
 use Rattle.machine.specs.declared.thread.Inbox.TheVariants as inbox
-use Rattle.machine.specs.declared.thread.Tcb.{Tcb}
 use Rattle.machine.specs.Boot.{IsBoot, bound}
 use Rattle.machine.specs.Layout.{Layout, initial_of, initial_cap, initial_parent, bound_context, bound_thread}
 use Rattle.machine.specs.Machine.{Machine, object_of, cap_of, parent_of, one_id, one_slot, same_id, same_slot, id_total}
-use Rattle.machine.specs.Objects.{kind_of_object, address_of, end_of}
 use Rattle.table.specs.Rules.{IsLawful, IsAtRest, IsBlank, IsObjectOf, IsCapOf, IsBindingOf}
 
 -- look-ups

@@ -1,5 +1,5 @@
 -- Poll (seL4 manual, "Notifications"): answers the word and takes it, or answers 0 where there is none.
-use Rattle.std.specs.Prelude.{ℕ, Option, None, Result, Ok, unwrap_or}
+use Rattle.std.specs.Prelude.{ℕ, None, Result, Ok, unwrap_or}
 use Rattle.base.specs.declared.ids.ObjId.{ObjId}
 use Rattle.base.specs.declared.refusal.Cause.{Cause}
 use Rattle.machine.specs.declared.call.Answer.TheVariants as answer
