@@ -5,7 +5,11 @@
 #[cfg(test)]
 mod admission;
 #[cfg(test)]
+mod beginnings;
+#[cfg(test)]
 mod counts;
+#[cfg(test)]
+mod damages;
 #[cfg(test)]
 mod denials;
 #[cfg(test)]
@@ -18,6 +22,10 @@ mod limits;
 mod lookups;
 #[cfg(test)]
 mod policy_faults;
+#[cfg(test)]
+mod radixes;
+#[cfg(test)]
+mod ring;
 #[cfg(test)]
 mod script_faults;
 #[cfg(test)]

@@ -1,0 +1,87 @@
+//! A table's bindings, damaged.
+use super::{Place, tells_table_damages};
+use std::test::Fail;
+
+const BINDINGS: &[Place] = &[
+    Place {
+        old: "bind t x\n",
+        good: &["", "bind t x\n"],
+        faulty: &[
+            (50, 13, "bind\n"),
+            (50, 13, "bind t\n"),
+            (50, 13, "bind t x x\n"),
+            (50, 13, "bind t x 1\n"),
+            (50, 13, "t x\n"),
+            (50, 13, "bind  t x\n"),
+            (50, 13, "bind t  x\n"),
+            (50, 13, "bind t x \n"),
+            (50, 13, " bind t x\n"),
+            (50, 13, "bind\tt x\n"),
+            (50, 13, "bind t x\r\n"),
+            (50, 13, "bind t x"),
+            (50, 13, "Bind t x\n"),
+            (50, 13, "binds t x\n"),
+            (50, 13, "bind T x\n"),
+            (50, 13, "bind t X\n"),
+            (50, 13, "bind 1 x\n"),
+            (50, 13, "bind t 4\n"),
+            (50, 13, "bind t.root x\n"),
+            (50, 13, "bind t x.0\n"),
+            (50, 13, "bind t -\n"),
+            (50, 13, "bind t \0\n"),
+            (50, 13, "bind é x\n"),
+            (50, 13, "bind v x x\n"),
+            (50, 14, "bind t x\nbind t x\n"),
+            (50, 14, "bind t x\nbind t y\n"),
+            (50, 14, "bind t x\nbind t nobody\n"),
+            (50, 14, "bind t x\nbind c y\n"),
+            (50, 14, "bind t x\nbind c x\n"),
+            (51, 13, "bind v x\n"),
+            (51, 13, "bind a x\n"),
+            (51, 13, "bind t v\n"),
+            (51, 13, "bind t a\n"),
+            (51, 13, "bind n v\n"),
+            (51, 14, "bind t x\nbind nobody x\n"),
+            (52, 14, "bind t x\nbind u x\n"),
+            (52, 14, "bind t x\nbind n x\n"),
+            (52, 14, "bind t x\nbind x x\n"),
+            // The next line is `bind u y`.
+            (50, 14, "bind u x\n"),
+            (52, 14, "bind t y\n"),
+            (55, 13, "bind c x\n"),
+            (55, 13, "bind n x\n"),
+            (55, 13, "bind x x\n"),
+            (55, 13, "bind x t\n"),
+            (55, 13, "bind t c\n"),
+            (55, 13, "bind t t\n"),
+            (55, 13, "bind t u\n"),
+            (55, 13, "bind t n\n"),
+        ],
+    },
+    Place {
+        old: "bind u y\n",
+        good: &["", "bind u y\n"],
+        faulty: &[
+            (50, 14, "bind t y\n"),
+            (50, 14, "bind t x\n"),
+            (50, 14, "bind c n\n"),
+            (51, 14, "bind v x\n"),
+            (51, 14, "bind n nobody\n"),
+            (52, 14, "bind u x\n"),
+            (52, 14, "bind y x\n"),
+            (55, 14, "bind n y\n"),
+            (55, 14, "bind y y\n"),
+            (55, 14, "bind u t\n"),
+            (50, 15, "bind u y\n\n"),
+            (50, 15, "bind u y\nbind u y\n"),
+            (52, 15, "bind u y\nbind n y\n"),
+            (55, 15, "bind u y\nbind n c\n"),
+            (51, 15, "bind u y\nbind v w\n"),
+        ],
+    },
+];
+
+#[test]
+fn bindings(rt: HostRuntime) -> Result<(), Fail> {
+    tells_table_damages(&rt, BINDINGS)
+}
