@@ -15,14 +15,19 @@ use Rattle.captext.specs.declared.shapes.Place.{Place}
 use Rattle.captext.specs.Tables.{may_fill, slot_in, capability}
 
 -- a capability that may be at its place may be in its holder
-held_at : (holder : Option Initial) (at : Place) (target : Option ObjectKind) (detail : Detail) → may_fill (option_map (λ initial. kind_of_object initial.object) holder) at target ≡ true → target ≡ Some (kind_of_detail detail) → may_hold holder detail ≡ true
+held_at : (holder : Option Initial) (at : Place) (target : Option ObjectKind) (detail : Detail)
+    → may_fill (option_map (λ initial. kind_of_object initial.object) holder) at target ≡ true
+    → target ≡ Some (kind_of_detail detail) → may_hold holder detail ≡ true
 held_at holder at target detail fills is = grind arith
 
-may_be_held : (t : Layout) (holder : ObjId) (at : Place) (target : ObjId) (detail : Detail) → may_fill (kind_at t holder) at (kind_at t target) ≡ true → kind_at t target ≡ Some (kind_of_detail detail) → may_hold (initial_of t holder) detail ≡ true
+may_be_held : (t : Layout) (holder : ObjId) (at : Place) (target : ObjId) (detail : Detail)
+    → may_fill (kind_at t holder) at (kind_at t target) ≡ true → kind_at t target ≡ Some (kind_of_detail detail)
+    → may_hold (initial_of t holder) detail ≡ true
 unfolding kind_at
 may_be_held t holder at target detail fills is = held_at (initial_of t holder) at _ detail fills is
 
-never_repeats : (t : Layout) (target : ObjId) (detail : Detail) → kind_of_detail detail ≢ kind.Untyped → repeats_untyped t (capability target detail) ≡ false
+never_repeats : (t : Layout) (target : ObjId) (detail : Detail) → kind_of_detail detail ≢ kind.Untyped
+    → repeats_untyped t (capability target detail) ≡ false
 never_repeats t target d.Untyped typed = absurd (typed refl)
 never_repeats t target (d.CNode _) typed = refl
 never_repeats t target d.Tcb typed = refl
@@ -35,8 +40,17 @@ never_repeats t target d.Control typed = refl
 
 -- the table asks no more
 pub admits_cap :
-    (t : Layout) (holder : ObjId) (at : Place) (target : ObjId) (detail : Detail) → is_above_caps t (slot_in holder at) ≡ true → declares_slot t (slot_in holder at) ≡ true
-    → may_fill (kind_at t holder) at (kind_at t target) ≡ true → is_fitting t (capability target detail) ≡ true → kind_at t target ≡ Some (kind_of_detail detail) → kind_of_detail detail ≢ kind.Untyped
+    (t : Layout) (holder : ObjId) (at : Place) (target : ObjId) (detail : Detail) → is_above_caps t (slot_in holder at) ≡ true
+    → declares_slot t (slot_in holder at) ≡ true
+    → may_fill (kind_at t holder) at (kind_at t target) ≡ true → is_fitting t (capability target detail) ≡ true
+    → kind_at t target ≡ Some (kind_of_detail detail) → kind_of_detail detail ≢ kind.Untyped
     → AdmitsCap t (record { slot = slot_in holder at; cap = capability target detail })
 admits_cap t holder at target detail rises within fills fitting is typed =
-    record { rises = rises; slot = within; root = may_be_held t holder at target detail fills is; fits = fitting; once = never_repeats t target detail typed; original = refl }
+    record {
+      rises = rises;
+      slot = within;
+      root = may_be_held t holder at target detail fills is;
+      fits = fitting;
+      once = never_repeats t target detail typed;
+      original = refl;
+    }

@@ -22,11 +22,13 @@ use Rattle.captext.proofs.LineLaws.{TakesPart, then_words, same_ok}
 use Rattle.captext.proofs.NameLaws.{object_takes, object_again, is_object_name}
 use Rattle.captext.proofs.StepLaws.{demand_then, value_then}
 
-kinds_take : (thread context : Option ObjectKind) → is_thread_and_context thread context ≡ true → (thread ≡ Some kind.Tcb) × (context ≡ Some kind.Context)
+kinds_take : (thread context : Option ObjectKind) → is_thread_and_context thread context ≡ true
+    → (thread ≡ Some kind.Tcb) × (context ≡ Some kind.Context)
 kinds_take (Some kind.Tcb) (Some kind.Context) h = (refl, refl)
 kinds_take _ _ h = absurd (false≢true h)
 
-pub bind_line_takes : (t : Layout) (words : List (List ℕ)) (next : Layout) → bind_line t words ≡ Ok next → TakesPart t (codes "bind" ∷ words) next
+pub bind_line_takes : (t : Layout) (words : List (List ℕ)) (next : Layout) → bind_line t words ≡ Ok next
+    → TakesPart t (codes "bind" ∷ words) next
 unfolding bind_line
 bind_line_takes t words next h =
     let first = name_then _ words next h in
@@ -46,7 +48,9 @@ bind_line_takes t words next h =
         now = tt;
         admits = record { rises = rising; thread = are.0; context = are.1; once = not-true _ once.0 };
         brought = tt;
-        words_are = ap (λ ws. codes "bind" ∷ ws) (then_words (first.words_are ∙ ap (λ w. w ∷ first.rest) one.1) (then_words (second.words_are ∙ ap (λ w. w ∷ second.rest) other.1) ended.0));
+        words_are = ap (λ ws. codes "bind" ∷ ws)
+            (then_words (first.words_are ∙ ap (λ w. w ∷ first.rest) one.1)
+            (then_words (second.words_are ∙ ap (λ w. w ∷ second.rest) other.1) ended.0));
         grown = same_ok _ _ kinds.1;
       },
     )
@@ -55,17 +59,20 @@ bind_line_takes t words next h =
 pub has_name : (t : Layout) (id : ObjId) (kind : ObjectKind) → IsLawful t → kind_at t id ≡ Some kind → id.0 < length t.names
 unfolding kind_at initial_of
 has_name t id kind lawful h = by (initial_of t id) refl h where
-  by : (found : Option Initial) → initial_of t id ≡ found → option_map (λ (initial : Initial). kind_of_object initial.object) found ≡ Some kind → id.0 < length t.names
+  by : (found : Option Initial) → initial_of t id ≡ found
+      → option_map (λ (initial : Initial). kind_of_object initial.object) found ≡ Some kind → id.0 < length t.names
   by None at h = absurd (none-some kind h)
   by (Some initial) at h = let within = slice_get_within t.objects id.0 initial at in let each = lawful.each_named in omega arith
 
-pub bind_line_again : (t : Layout) (binding : Binding) → IsLawful t → AdmitsBinding t binding → bind_line t (object_name t binding.thread ∷ object_name t binding.context ∷ []) ≡ Ok (with_binding t binding)
+pub bind_line_again : (t : Layout) (binding : Binding) → IsLawful t → AdmitsBinding t binding
+    → bind_line t (object_name t binding.thread ∷ object_name t binding.context ∷ []) ≡ Ok (with_binding t binding)
 unfolding bind_line bind ended_at
 bind_line_again t binding lawful admits =
     let thread = has_name t binding.thread kind.Tcb lawful admits.thread in
     let context = has_name t binding.context kind.Context lawful admits.context in
     rw (
-      name_again (object_name t binding.thread) (object_name t binding.context ∷ []) (is_object_name t binding.thread lawful thread),
+      name_again (object_name t binding.thread) (object_name t binding.context ∷ [])
+          (is_object_name t binding.thread lawful thread),
       name_again (object_name t binding.context) [] (is_object_name t binding.context lawful context),
       object_again t binding.thread lawful thread,
       object_again t binding.context lawful context,

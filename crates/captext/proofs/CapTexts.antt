@@ -61,9 +61,12 @@ words_of_terms d.Control = refl
 
 abbrev ReadsDetail : Object → Detail → Type 0
 ReadsDetail object detail =
-    (terms_at (detail_words detail) ≡ Ok (terms_of detail)) × (limited_detail object (terms_of detail).0 (terms_of detail).1 true ≡ Ok detail) × IsOptionTerm (terms_of detail).0 × IsOptionTerm (terms_of detail).1
+    (terms_at (detail_words detail) ≡ Ok (terms_of detail))
+    × (limited_detail object (terms_of detail).0 (terms_of detail).1 true ≡ Ok detail) × IsOptionTerm (terms_of detail).0
+    × IsOptionTerm (terms_of detail).1
 
-detail_again : (object : Object) (detail : Detail) → IsBroughtObject object → fits object detail ≡ true → HasWordBadge detail → ReadsDetail object detail
+detail_again : (object : Object) (detail : Detail) → IsBroughtObject object → fits object detail ≡ true → HasWordBadge detail
+    → ReadsDetail object detail
 unfolding limited_detail guarded unguarded terms_at
 detail_again (o.Untyped _) detail brought fitting badge = absurd brought
 detail_again (o.Endpoint _) detail brought fitting badge = absurd brought
@@ -81,18 +84,24 @@ detail_again (o.CNode node) (d.CNode guard) brought fitting badge =
 detail_again (o.Tcb _) d.Tcb brought fitting badge = (refl, refl, tt, tt)
 detail_again (o.Notification _) (d.Notification end) brought fitting badge =
     let plain : end.rights.0 < 4 = ltb-true _ _ fitting in
-    let rights : end.rights.0 < 16 = omega arith in
-    (two_again (term.Rights end.rights) (term.Decimal end.badge) rights badge, ap (λ test. unguarded (cond test (Some (d.Notification end)) None) true) fitting, rights, badge)
+    let rights : end.rights.0 < 16 = omega arith in (
+      two_again (term.Rights end.rights) (term.Decimal end.badge) rights badge,
+      ap (λ test. unguarded (cond test (Some (d.Notification end)) None) true) fitting,
+      rights,
+      badge,
+    )
 detail_again (o.Context _) d.Context brought fitting badge = (refl, refl, tt, tt)
 detail_again _ _ brought fitting badge = absurd (false≢true fitting)
 
 -- what is found is there
 
-some_holder : (found : Option Initial) (index : ℕ) → has_index found index ≡ true → (holder : Initial) × (found ≡ Some holder) × (index < slot_count holder.object)
+some_holder : (found : Option Initial) (index : ℕ) → has_index found index ≡ true
+    → (holder : Initial) × (found ≡ Some holder) × (index < slot_count holder.object)
 some_holder None index h = absurd (false≢true h)
 some_holder (Some holder) index h = (holder, refl, ltb-true _ _ h)
 
-some_target : (found : Option Initial) (detail : Detail) → fits_target found detail ≡ true → (target : Initial) × (found ≡ Some target) × (fits target.object detail ≡ true)
+some_target : (found : Option Initial) (detail : Detail) → fits_target found detail ≡ true
+    → (target : Initial) × (found ≡ Some target) × (fits target.object detail ≡ true)
 some_target None detail h = absurd (false≢true h)
 some_target (Some target) detail h = (target, refl, h)
 
@@ -124,21 +133,27 @@ cnode_target : (target : Object) (guard : Guard) → fits target (d.CNode guard)
 cnode_target (o.CNode _) guard h = refl
 cnode_target _ guard h = absurd (false≢true h)
 
-root_takes : (label : ℕ) (thread : Tcb) (target : Object) (detail : Detail) → may_hold (Some (record { label = label; object = o.Tcb thread })) detail ≡ true → fits target detail ≡ true → fits_place place.Root (Some (kind_of_object target)) ≡ true
-root_takes label thread target (d.CNode guard) holds fitting = ap (λ k. fits_place place.Root (Some k)) (cnode_target target guard fitting)
+root_takes : (label : ℕ) (thread : Tcb) (target : Object) (detail : Detail)
+    → may_hold (Some (record { label = label; object = o.Tcb thread })) detail ≡ true → fits target detail ≡ true
+    → fits_place place.Root (Some (kind_of_object target)) ≡ true
+root_takes label thread target (d.CNode guard) holds fitting =
+    ap (λ k. fits_place place.Root (Some k)) (cnode_target target guard fitting)
 root_takes label thread target _ holds fitting = absurd (false≢true holds)
 
-place_fits : (label : ℕ) (holder target : Object) (index : ℕ) (detail : Detail) → may_hold (Some (record { label = label; object = holder })) detail ≡ true → fits target detail ≡ true
+place_fits : (label : ℕ) (holder target : Object) (index : ℕ) (detail : Detail)
+    → may_hold (Some (record { label = label; object = holder })) detail ≡ true → fits target detail ≡ true
     → fits_place (place_in (Some (kind_of_object holder)) index) (Some (kind_of_object target)) ≡ true
 place_fits label (o.Tcb thread) target index detail holds fitting = root_takes label thread target detail holds fitting
 place_fits label _ target index detail holds fitting = refl
 
 -- the steps of the line one after another
 cap_line_is :
-    (t : Layout) (line rest more : List (List ℕ)) (name other : List ℕ) (at : Place) (holder target : ObjId) (terms : Option Term × Option Term) (detail : Detail)
+    (t : Layout) (line rest more : List (List ℕ)) (name other : List ℕ) (at : Place) (holder target : ObjId)
+    (terms : Option Term × Option Term) (detail : Detail)
     → slot_at line ≡ Ok ((name, at), rest) → name_at rest ≡ Ok (other, more) → terms_at more ≡ Ok terms → takes_caps t ≡ true
     → object_named t name ≡ Some holder → is_above_caps t (slot_in holder at) ≡ true → object_named t other ≡ Some target
-    → may_fill (kind_at t holder) at (kind_at t target) ≡ true → detail_for t target terms (declares_slot t (slot_in holder at)) ≡ Ok detail
+    → may_fill (kind_at t holder) at (kind_at t target) ≡ true
+    → detail_for t target terms (declares_slot t (slot_in holder at)) ≡ Ok detail
     → cap_line t line ≡ Ok (with_filled t (record { slot = slot_in holder at; cap = capability target detail }))
 unfolding cap_line filled bind
 cap_line_is t line rest more name other at holder target terms detail slot named spelled now held rising aimed fills told =
@@ -150,7 +165,9 @@ record Places (t : Layout) (filled : Filled) : Type 0 where
   target : filled.cap.object.0 < length t.names
   is : IsPlace (place_in (kind_at t filled.slot.holder) filled.slot.index)
   slot : slot_in filled.slot.holder (place_in (kind_at t filled.slot.holder) filled.slot.index) ≡ filled.slot
-  fills : may_fill (kind_at t filled.slot.holder) (place_in (kind_at t filled.slot.holder) filled.slot.index) (kind_at t filled.cap.object) ≡ true
+  fills : may_fill (kind_at t filled.slot.holder) (place_in (kind_at t filled.slot.holder) filled.slot.index)
+      (kind_at t filled.cap.object)
+      ≡ true
   told : detail_for t filled.cap.object (terms_of filled.cap.detail) true ≡ Ok filled.cap.detail
   reads : terms_at (detail_words filled.cap.detail) ≡ Ok (terms_of filled.cap.detail)
   first : IsOptionTerm (terms_of filled.cap.detail).0
@@ -159,7 +176,8 @@ record Places (t : Layout) (filled : Filled) : Type 0 where
 abbrev IsBroughtTable : Layout → Type 0
 IsBroughtTable t = All (λ initial. IsBroughtObject initial.object) t.objects
 
-places : (t : Layout) (filled : Filled) → IsLawful t → IsBroughtTable t → AdmitsCap t filled → HasWordBadge filled.cap.detail → Places t filled
+places : (t : Layout) (filled : Filled) → IsLawful t → IsBroughtTable t → AdmitsCap t filled → HasWordBadge filled.cap.detail
+    → Places t filled
 unfolding initial_of kind_at declares_slot is_fitting detail_by
 places t filled lawful brought admits badge =
     let id = filled.slot.holder in
@@ -170,11 +188,18 @@ places t filled lawful brought admits badge =
     let target = some_target (initial_of t to) detail admits.fits in
     let held : id.0 < length t.objects = slice_get_within t.objects id.0 holder.0 holder.1 in
     let aimed : to.0 < length t.objects = slice_get_within t.objects to.0 target.0 target.1 in
-    let blank : IsBlank holder.0.object = subst (λ (i : Initial). IsBlank i.object) (get_or_from_slice_get t.objects id.0 holder.0 holder.0 holder.1) (lawful.objects id.0 holder.0 held).blank in
-    let here : IsBroughtObject target.0.object = subst (λ (i : Initial). IsBroughtObject i.object) (get_or_from_slice_get t.objects to.0 target.0 target.0 target.1) (brought to.0 target.0 aimed) in
-    let kind_held : kind_at t id ≡ Some (kind_of_object holder.0.object) = ap (option_map (λ (i : Initial). kind_of_object i.object)) holder.1 in
-    let kind_aimed : kind_at t to ≡ Some (kind_of_object target.0.object) = ap (option_map (λ (i : Initial). kind_of_object i.object)) target.1 in
-    let there : place_in (kind_at t id) filled.slot.index ≡ place_in (Some (kind_of_object holder.0.object)) filled.slot.index = ap (λ k. place_in k filled.slot.index) kind_held in
+    let blank : IsBlank holder.0.object =
+    subst (λ (i : Initial). IsBlank i.object) (get_or_from_slice_get t.objects id.0 holder.0 holder.0 holder.1)
+    (lawful.objects id.0 holder.0 held).blank in
+    let here : IsBroughtObject target.0.object =
+    subst (λ (i : Initial). IsBroughtObject i.object) (get_or_from_slice_get t.objects to.0 target.0 target.0 target.1)
+    (brought to.0 target.0 aimed) in
+    let kind_held : kind_at t id ≡ Some (kind_of_object holder.0.object) =
+    ap (option_map (λ (i : Initial). kind_of_object i.object)) holder.1 in
+    let kind_aimed : kind_at t to ≡ Some (kind_of_object target.0.object) =
+    ap (option_map (λ (i : Initial). kind_of_object i.object)) target.1 in
+    let there : place_in (kind_at t id) filled.slot.index ≡ place_in (Some (kind_of_object holder.0.object)) filled.slot.index =
+    ap (λ k. place_in k filled.slot.index) kind_held in
     let placed = place_again holder.0.object filled.slot blank holder.2 in
     let root : may_hold (Some holder.0) detail ≡ true = ap (λ found. may_hold found detail) (sym holder.1) ∙ admits.root in
     let reads = detail_again target.0.object detail here target.2 badge in
@@ -183,15 +208,19 @@ places t filled lawful brought admits badge =
       target = omega arith;
       is = subst IsPlace (sym there) placed.0;
       slot = ap (slot_in id) there ∙ placed.1;
-      fills = (λ i. may_fill (kind_held i) (there i) (kind_aimed i)) ∙ and_from _ _ placed.2 (place_fits holder.0.label holder.0.object target.0.object filled.slot.index detail root target.2);
+      fills = (λ i. may_fill (kind_held i) (there i) (kind_aimed i))
+          ∙ and_from _ _ placed.2
+          (place_fits holder.0.label holder.0.object target.0.object filled.slot.index detail root target.2);
       told = detail_is t to (terms_of detail) true ∙ ap (detail_by (terms_of detail) true) target.1 ∙ reads.1;
       reads = reads.0;
       first = reads.2;
       second = reads.3;
     }
 
-pub cap_line_again : (t : Layout) (filled : Filled) → IsLawful t → IsBroughtTable t → BeforePairs t → AdmitsCap t filled → HasWordBadge filled.cap.detail
-    → cap_line t (slot_name t filled.slot ∷ object_name t filled.cap.object ∷ detail_words filled.cap.detail) ≡ Ok (with_filled t filled)
+pub cap_line_again : (t : Layout) (filled : Filled) → IsLawful t → IsBroughtTable t → BeforePairs t → AdmitsCap t filled
+    → HasWordBadge filled.cap.detail
+    → cap_line t (slot_name t filled.slot ∷ object_name t filled.cap.object ∷ detail_words filled.cap.detail)
+    ≡ Ok (with_filled t filled)
 cap_line_again t filled lawful brought now admits badge =
     let id = filled.slot.holder in
     let to = filled.cap.object in
@@ -199,8 +228,10 @@ cap_line_again t filled lawful brought now admits badge =
     let p = places t filled lawful brought admits badge in
     let at : Place = place_in (kind_at t id) filled.slot.index in
     let within : declares_slot t (slot_in id at) ≡ true = ap (declares_slot t) p.slot ∙ admits.slot in
-    let same : (record { slot = slot_in id at; cap = capability to detail }) ≡ filled = (λ i. record { slot = p.slot i; cap = record { object = to; detail = detail; original = sym admits.original i } }) in
-    cap_line_is t (slot_name t filled.slot ∷ object_name t to ∷ detail_words detail) (object_name t to ∷ detail_words detail) (detail_words detail) (object_name t id) (object_name t to) at id to (terms_of detail) detail
+    let same : (record { slot = slot_in id at; cap = capability to detail }) ≡ filled =
+    (λ i. record { slot = p.slot i; cap = record { object = to; detail = detail; original = sym admits.original i } }) in
+    cap_line_is t (slot_name t filled.slot ∷ object_name t to ∷ detail_words detail) (object_name t to ∷ detail_words detail)
+    (detail_words detail) (object_name t id) (object_name t to) at id to (terms_of detail) detail
     (slot_at_again (object_name t id) at (object_name t to ∷ detail_words detail) (is_object_name t id lawful p.holder) p.is)
     (name_again (object_name t to) (detail_words detail) (is_object_name t to lawful p.target))
     p.reads
@@ -221,7 +252,12 @@ plain_cond false one other h k = k
 plain_rights : (rights : Rights) → IsPlainWord (rights_word rights)
 plain_rights rights =
     plain_cond _ (codes "-") _ (plain_bytes (codes "-") refl)
-    (both (λ b. 32 < b) _ _ (both (λ b. 32 < b) _ _ (both (λ b. 32 < b) _ _ (letter 1 (codes "r") (plain_bytes (codes "r") refl)) (letter 2 (codes "w") (plain_bytes (codes "w") refl))) (letter 4 (codes "g") (plain_bytes (codes "g") refl))) (letter 8 (codes "y") (plain_bytes (codes "y") refl)))
+    (both (λ b. 32 < b) _ _
+    (both (λ b. 32 < b) _ _
+    (both (λ b. 32 < b) _ _ (letter 1 (codes "r") (plain_bytes (codes "r") refl))
+    (letter 2 (codes "w") (plain_bytes (codes "w") refl)))
+    (letter 4 (codes "g") (plain_bytes (codes "g") refl)))
+    (letter 8 (codes "y") (plain_bytes (codes "y") refl)))
   where
     letter : (right : ℕ) (word : List ℕ) → IsPlainWord word → IsPlainWord (letter_of rights right word)
     letter right word plain = plain_cond _ word [] plain tt
@@ -242,13 +278,20 @@ plain_place place.Root is = plain_bytes (codes "root") refl
 plain_slot : (name : List ℕ) (at : Place) → is_name name ≡ true → IsPlace at → IsPlainWord (slot_word name at)
 plain_slot name at is place = both (λ b. 32 < b) name _ (plain_name name is) (lit< tt, plain_place at place)
 
-pub cap_plain : (t : Layout) (filled : Filled) → IsLawful t → IsBroughtTable t → AdmitsCap t filled → HasWordBadge filled.cap.detail → IsPlainLine (cap_words t filled)
+pub cap_plain : (t : Layout) (filled : Filled) → IsLawful t → IsBroughtTable t → AdmitsCap t filled
+    → HasWordBadge filled.cap.detail → IsPlainLine (cap_words t filled)
 cap_plain t filled lawful brought admits badge =
     let p = places t filled lawful brought admits badge in
-    let terms = both IsPlainWord (option_words (terms_of filled.cap.detail).0) (option_words (terms_of filled.cap.detail).1) (plain_option _ p.first) (plain_option _ p.second) in (
+    let terms =
+    both IsPlainWord (option_words (terms_of filled.cap.detail).0) (option_words (terms_of filled.cap.detail).1)
+    (plain_option _ p.first) (plain_option _ p.second) in (
       plain_bytes (codes "cap") refl,
       (
-        plain_slot (object_name t filled.slot.holder) (place_in (kind_at t filled.slot.holder) filled.slot.index) (is_object_name t filled.slot.holder lawful p.holder) p.is,
-        (plain_name (object_name t filled.cap.object) (is_object_name t filled.cap.object lawful p.target), subst (AllByRecursion IsPlainWord) (sym (words_of_terms filled.cap.detail)) terms),
+        plain_slot (object_name t filled.slot.holder) (place_in (kind_at t filled.slot.holder) filled.slot.index)
+            (is_object_name t filled.slot.holder lawful p.holder) p.is,
+        (
+          plain_name (object_name t filled.cap.object) (is_object_name t filled.cap.object lawful p.target),
+          subst (AllByRecursion IsPlainWord) (sym (words_of_terms filled.cap.detail)) terms,
+        ),
       ),
     )

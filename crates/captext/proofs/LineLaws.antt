@@ -19,7 +19,8 @@ pub then_words : {word : List ℕ} {words rest more : List (List ℕ)} → words
 then_words {word} first later = first ∙ ap (λ ws. word ∷ ws) later
 
 -- a word spelled a value, and reading went on with it
-pub spelled_then : {V Y : Type 0} (o : Option V) (f : V → Result Y Wrong) (y : Y) → bind (or_syntax o) f ≡ Ok y → (v : V) × (o ≡ Some v) × (f v ≡ Ok y)
+pub spelled_then : {V Y : Type 0} (o : Option V) (f : V → Result Y Wrong) (y : Y) → bind (or_syntax o) f ≡ Ok y
+    → (v : V) × (o ≡ Some v) × (f v ≡ Ok y)
 unfolding bind or_syntax
 spelled_then (Some v) f y h = (v, refl, h)
 spelled_then None f y h = cc

@@ -1,5 +1,5 @@
 -- What has a name's number has that name, and where names differ the number of a name is found by it.
-use Rattle.std.proofs.Common.{◌≡◌, ◌≢◌, ℕ, ◌<◌, Bool, true, false, not, cond, nat_lt, List, [], length, get_or, position, option_map, Option, Some, None, AllPairs, refl, sym, ap, ◌∙◌, arith}
+use Rattle.std.proofs.Common.{◌≡◌, ◌≢◌, ◌↔◌, ℕ, ◌<◌, Bool, true, false, not, cond, nat_lt, List, [], length, get_or, position, option_map, Option, Some, None, AllPairs, refl, sym, ap, ◌∙◌, arith}
 use Rattle.std.specs.Bool.{Decides}
 use Rattle.std.specs.List.{position_or_len}
 use Rattle.std.specs.Str.{bytes_eq}
@@ -15,38 +15,56 @@ use Rattle.words.specs.Name.{is_name}
 use Rattle.captext.specs.PolicyText.{label_name}
 use Rattle.captext.specs.TableText.{object_name}
 
-found_at : (names : List (List ℕ)) (name : List ℕ) (k : ℕ) → position (λ other. bytes_eq name other) names ≡ Some k → (k < length names) × (name ≡ get_or names k [])
+-- the place at which a name is found has that name
+found_at : (names : List (List ℕ)) (name : List ℕ) (k : ℕ) → position (λ other. bytes_eq name other) names ≡ Some k
+    → (k < length names) × (name ≡ get_or names k [])
 found_at names name k h =
     let found = position-Some (λ other. bytes_eq name other) names k [] h in
     (found.0, (bytes_eq-Decides name (get_or names k [])).0 found.1)
 
-again_at : (names : List (List ℕ)) (k : ℕ) → AllPairs ◌≢◌ names → k < length names → position (λ other. bytes_eq (get_or names k []) other) names ≡ Some k
+-- and where no two names are the same, a name is found at its own place
+again_at : (names : List (List ℕ)) (k : ℕ) → AllPairs ◌≢◌ names → k < length names
+    → position (λ other. bytes_eq (get_or names k []) other) names ≡ Some k
 again_at names k apart within =
     let name = get_or names k [] in
     let here : not (bytes_eq name name) ≡ false = ap (λ b. not b) ((bytes_eq-Decides name name).1 refl) in
-    let before : (j : ℕ) → j < k → not (bytes_eq name (get_or names j [])) ≡ true = λ j below. differs j below (bytes_eq name (get_or names j [])) (bytes_eq-Decides name (get_or names j [])) in
-    let first : position_or_len (λ other. bytes_eq name other) names ≡ k = prefix_len_is (λ other. not (bytes_eq name other)) names k [] (omega arith) before (λ _. here) in
+    let before : (j : ℕ) → j < k → not (bytes_eq name (get_or names j [])) ≡ true =
+    λ j below. differs j below (bytes_eq name (get_or names j [])) (bytes_eq-Decides name (get_or names j [])) in
+    let first : position_or_len (λ other. bytes_eq name other) names ≡ k =
+    prefix_len_is (λ other. not (bytes_eq name other)) names k [] (omega arith) before (λ _. here) in
     ap (λ n. cond (nat_lt n (length names)) (Some n) None) first ∙ cond-true _ _ _ (lt-ltb k (length names) within)
   where
     differs : (j : ℕ) → j < k → (same : Bool) → Decides same (get_or names k [] ≡ get_or names j []) → not same ≡ true
     differs j below true same = absurd (apart j k [] below within (sym (same.0 refl)))
     differs j below false same = refl
 
-pub label_takes : (t : Layout) (name : List ℕ) (label : ℕ) → label_named t name ≡ Some label → (label < length t.labels) × (name ≡ label_name t label)
+pub label_takes : (t : Layout) (name : List ℕ) (label : ℕ) → label_named t name ≡ Some label
+    → (label < length t.labels) × (name ≡ label_name t label)
 unfolding label_named
 label_takes t name label h = found_at t.labels name label h
 
-pub label_again : (t : Layout) (label : ℕ) → IsLawful t → label < length t.labels → label_named t (label_name t label) ≡ Some label
+pub label_again : (t : Layout) (label : ℕ) → IsLawful t → label < length t.labels
+    → label_named t (label_name t label) ≡ Some label
 unfolding label_named
 label_again t label lawful within = again_at t.labels label lawful.labels_differ within
+
+-- a name is a label's number just where it is that label's name
+pub label_iff : (t : Layout) (name : List ℕ) (label : ℕ) → IsLawful t
+    → (label_named t name ≡ Some label) ↔ ((name ≡ label_name t label) × (label < length t.labels))
+label_iff t name label lawful = (
+  λ h. let taken = label_takes t name label h in (taken.1, taken.0),
+  λ h. ap (label_named t) h.0 ∙ label_again t label lawful h.1,
+)
 
 pub is_label_name : (t : Layout) (label : ℕ) → IsLawful t → label < length t.labels → is_name (label_name t label) ≡ true
 is_label_name t label lawful within = lawful.label_names label [] within
 
-pub object_takes : (t : Layout) (name : List ℕ) (id : ObjId) → object_named t name ≡ Some id → (id.0 < length t.names) × (name ≡ object_name t id)
+pub object_takes : (t : Layout) (name : List ℕ) (id : ObjId) → object_named t name ≡ Some id
+    → (id.0 < length t.names) × (name ≡ object_name t id)
 unfolding object_named
 object_takes t name id h = by (position (λ other. bytes_eq name other) t.names) refl h where
-  by : (place : Option ℕ) → position (λ other. bytes_eq name other) t.names ≡ place → option_map (λ number. record { 0 = number }) place ≡ Some id → (id.0 < length t.names) × (name ≡ object_name t id)
+  by : (place : Option ℕ) → position (λ other. bytes_eq name other) t.names ≡ place
+      → option_map (λ number. record { 0 = number }) place ≡ Some id → (id.0 < length t.names) × (name ≡ object_name t id)
   by None at h = cc
   by (Some k) at h =
       let same : k ≡ id.0 = cc in
@@ -54,7 +72,8 @@ object_takes t name id h = by (position (λ other. bytes_eq name other) t.names)
 
 pub object_again : (t : Layout) (id : ObjId) → IsLawful t → id.0 < length t.names → object_named t (object_name t id) ≡ Some id
 unfolding object_named
-object_again t id lawful within = ap (option_map (λ number. record { 0 = number })) (again_at t.names id.0 lawful.names_differ within)
+object_again t id lawful within =
+    ap (option_map (λ number. record { 0 = number })) (again_at t.names id.0 lawful.names_differ within)
 
 pub is_object_name : (t : Layout) (id : ObjId) → IsLawful t → id.0 < length t.names → is_name (object_name t id) ≡ true
 is_object_name t id lawful within = lawful.object_names id.0 [] within

@@ -1,18 +1,15 @@
 -- What a policy that was read says of its text, and that the text of each policy is read back.
-use Rattle.std.proofs.Common.{◌≡◌, ℕ, ◌-◌, ◌<◌, ◌==◌, ◌&&◌, ◌||◌, ◌↔◌, Bool, true, false, not, cond, nat_lt, List, [], ◌∷◌, ◌++◌, map, length, get_or, codes, Option, Some, None, Result, Ok, Err, IfOk, IfSome, refl, sym, ap, subst, ◌∙◌, arith, append_assoc}
+use Rattle.std.proofs.Common.{◌≡◌, ◌≢◌, ℕ, ◌-◌, ◌==◌, ◌&&◌, ◌||◌, ◌↔◌, Bool, true, false, not, nat_lt, List, [], ◌∷◌, ◌++◌, map, length, codes, Option, Some, None, Result, Ok, Err, IfOk, IfErr, IfSome, refl, sym, ap, subst, ◌∙◌, arith, append_assoc}
 use Rattle.std.specs.declared.cmp.Ordering.TheVariants.{Less, Equal, Greater}
 use Rattle.std.specs.declared.cmp.Ordering.{Ordering}
 use Rattle.std.specs.Bool.{Decides}
-use Rattle.std.specs.List.{AllByRecursion, list_all, position_or_len}
+use Rattle.std.specs.List.{AllByRecursion}
 use Rattle.std.specs.Ordering.{is_lt, nat_cmp, ordering_then}
 use Rattle.std.specs.List.Sorted.{IsStrictlySortedBy}
 use Rattle.std.specs.Prelude.{bytes_eq}
-use Rattle.std.proofs.lemmas.Bool.{and_parts, cond-true}
-use Rattle.std.proofs.lemmas.Bool.Decides.{Decides-ltb, nat_tests}
+use Rattle.std.proofs.lemmas.Bool.Decides.{nat_tests}
 use Rattle.std.proofs.lemmas.List.{append-nil, length_push, get_or_push}
 use Rattle.std.proofs.lemmas.Option.{slice_get-get_or}
-use Rattle.std.proofs.lemmas.List.Quantifiers.{position-Some}
-use Rattle.std.proofs.lemmas.List.Sums.{prefix_len_is}
 use Rattle.std.proofs.lemmas.Slice.Eq.{bytes_eq-Decides}
 use Rattle.base.specs.declared.edge.Edge.{Edge}
 use Rattle.base.specs.declared.kind.Kind.{Kind}
@@ -27,14 +24,19 @@ use Rattle.table.specs.Rules.{IsLawful}
 use Rattle.words.specs.declared.faults.Fault.{Fault}
 use Rattle.words.specs.declared.faults.Wrong.{Wrong}
 use Rattle.words.specs.declared.faults.Wrong.TheVariants as wrong
+use Rattle.words.specs.Fault.{fault_at, no_memory}
+use Rattle.words.specs.FirstFault.{IsFirstFault, TellsFirst}
 use Rattle.words.specs.Name.{is_name}
 use Rattle.words.specs.Reading.{bind, last_line, word_at, ended_at, or_syntax, steps, whole_lines, IsNotLast, Reads}
-use Rattle.words.specs.Text.{text_of, IsPlainLine, IsPlainWord}
+use Rattle.words.specs.Text.{lines_of, text_of, IsPlainLine}
+use Rattle.words.proofs.FirstFaults.{faults, refused_for}
 use Rattle.words.proofs.WordLaws.{name_then, ended_then, bind_ok, name_again, plain_name}
 use Rattle.words.proofs.TextReading.{whole_text_takes, whole_text_again}
 use Rattle.captext.specs.Tables.{demand}
 use Rattle.captext.specs.Policies.{kind_at, keyword_at, may_follow, follows, with_edge, edge_line, read_policy_of}
 use Rattle.captext.specs.PolicyText.{policy_header, label_name, edge_words, policy_text, IsEdgeOf, IsPolicyOf}
+use Rattle.captext.proofs.LineLaws.{plain_bytes}
+use Rattle.captext.proofs.NameLaws.{label_takes, label_again, is_label_name}
 use Rattle.captext.proofs.StepLaws.{demand_then, value_then}
 
 -- the words of a line
@@ -57,47 +59,21 @@ record ReadsKind {Y : Type 0} (f : Kind × List (List ℕ) → Result Y Wrong) (
   words_are : words ≡ kind_name kind ∷ rest
   goes_on : f (kind, rest) ≡ Ok y
 
-kind_then : {Y : Type 0} (f : Kind × List (List ℕ) → Result Y Wrong) (words : List (List ℕ)) (y : Y) → bind (kind_at words) f ≡ Ok y
+kind_then : {Y : Type 0} (f : Kind × List (List ℕ) → Result Y Wrong) (words : List (List ℕ)) (y : Y)
+    → bind (kind_at words) f ≡ Ok y
     → ReadsKind f words y
 unfolding kind_at bind word_at or_syntax
 kind_then f [] y h = cc
 kind_then f (word ∷ rest) y h = by_kind (kind_named word) refl h where
   by_kind : (found : Option Kind) → kind_named word ≡ found → bind (bind (or_syntax found) (λ kind. Ok (kind, rest))) f ≡ Ok y
       → ReadsKind f (word ∷ rest) y
-  by_kind (Some kind) is h = record { kind = kind; rest = rest; words_are = ap (λ w. w ∷ rest) (kind_is_named word kind is); goes_on = h }
+  by_kind (Some kind) is h = record {
+    kind = kind;
+    rest = rest;
+    words_are = ap (λ w. w ∷ rest) (kind_is_named word kind is);
+    goes_on = h;
+  }
   by_kind None is h = cc
-
--- labels and their names
-
--- a name that a label has is the label's
-label_takes : (t : Layout) (name : List ℕ) (label : ℕ) → label_named t name ≡ Some label
-    → (label < length t.labels) × (name ≡ label_name t label)
-unfolding label_named
-label_takes t name label h =
-    let found = position-Some (λ other. bytes_eq name other) t.labels label [] h in
-    (found.0, (bytes_eq-Decides name (label_name t label)).0 found.1)
-
--- the name of a label is no other label's
-label_again : (t : Layout) (label : ℕ) → IsLawful t → label < length t.labels → label_named t (label_name t label) ≡ Some label
-unfolding label_named
-label_again t label lawful within =
-    let name = label_name t label in
-    let here : not (bytes_eq name (get_or t.labels label [])) ≡ false = ap (λ b. not b) ((bytes_eq-Decides name name).1 refl) in
-    let before : (k : ℕ) → k < label → not (bytes_eq name (get_or t.labels k [])) ≡ true =
-    λ k below. differs k below (bytes_eq name (get_or t.labels k [])) (bytes_eq-Decides name (get_or t.labels k [])) in
-    let first : position_or_len (λ other. bytes_eq name other) t.labels ≡ label = prefix_len_is (λ other. not (bytes_eq name other)) t.labels label [] (omega arith) before (λ _. here) in
-    ap (λ n. cond (nat_lt n (length t.labels)) (Some n) None) first ∙ cond-true _ _ _ ((Decides-ltb label (length t.labels)).1 within)
-  where
-    differs : (k : ℕ) → k < label → (same : Bool) → Decides same (label_name t label ≡ get_or t.labels k []) → not same ≡ true
-    differs k below true same = absurd (lawful.labels_differ k label [] below within (sym (same.0 refl)))
-    differs k below false same = refl
-
-pub label_iff : (t : Layout) (name : List ℕ) (label : ℕ) → IsLawful t
-    → (label_named t name ≡ Some label) ↔ ((name ≡ label_name t label) × (label < length t.labels))
-label_iff t name label lawful = (
-  λ h. let taken = label_takes t name label h in (taken.1, taken.0),
-  λ h. ap (λ n. label_named t n) h.0 ∙ label_again t label lawful h.1,
-)
 
 -- reading gives its edges
 
@@ -143,7 +119,8 @@ line_takes t edges words next h =
     let other = label_takes t second.name to.0 to.1 in
     record {
       edge = edge;
-      words_are = edge_line_is t edge first.name second.name words key.0 first.rest kind.rest second.rest key.1 first.words_are one.1 kind.words_are second.words_are other.1 ended.0;
+      words_are = edge_line_is t edge first.name second.name words key.0 first.rest kind.rest second.rest
+          key.1 first.words_are one.1 kind.words_are second.words_are other.1 ended.0;
       within = (one.0, other.0);
       above = joins.0;
       grown = joins.1;
@@ -178,7 +155,9 @@ unfolding IsStrictlySortedBy
 joins edges edge more above later = record { above = over (last_edge edges) above; rising = (rest, later.rising) }
   where
     rest : AllByRecursion (λ other. edge_cmp edge other ≡ Less) more
-    rest = subst (λ last. IfSome last (λ last. AllByRecursion (λ other. edge_cmp last other ≡ Less) more)) (last_push edges edge) later.above
+    rest =
+        subst (λ last. IfSome last (λ last. AllByRecursion (λ other. edge_cmp last other ≡ Less) more))
+        (last_push edges edge) later.above
 
     over : (last : Option Edge) → follows last edge ≡ true
         → IfSome last (λ last. AllByRecursion (λ other. edge_cmp last other ≡ Less) (edge ∷ more))
@@ -215,18 +194,16 @@ lines_take t edges (line ∷ body) all h =
       all_are = later.all_are ∙ ap (λ es. es ++ later.more) taken.grown ∙ append_assoc edges (taken.edge ∷ []) later.more;
       body_is = ap (λ l. l ∷ body) taken.words_are ∙ ap (λ b. edge_words t taken.edge ∷ b) later.body_is;
       within = (taken.within, later.within);
-      continues = joins edges taken.edge later.more taken.above (subst (λ es. Continues es later.more) taken.grown later.continues);
+      continues = joins edges taken.edge later.more taken.above
+          (subst (λ es. Continues es later.more) taken.grown later.continues);
     }
 
 -- and its edges are read back
 
-plain_bytes : (bytes : List ℕ) → list_all (λ b. nat_lt 32 b) bytes ≡ true → IsPlainWord bytes
-plain_bytes [] h = tt
-plain_bytes (b ∷ bytes) h = let parts = and_parts _ _ h in ((Decides-ltb 32 b).0 parts.0, plain_bytes bytes parts.1)
-
 keyword_again : (keyword : List ℕ) (rest : List (List ℕ)) → keyword_at keyword (keyword ∷ rest) ≡ Ok rest
 unfolding keyword_at bind word_at
-keyword_again keyword rest = ap (λ test. bind (demand test wrong.Syntax) (λ _. Ok rest)) ((bytes_eq-Decides keyword keyword).1 refl)
+keyword_again keyword rest =
+    ap (λ test. bind (demand test wrong.Syntax) (λ _. Ok rest)) ((bytes_eq-Decides keyword keyword).1 refl)
 
 kind_at_again : (kind : Kind) (rest : List (List ℕ)) → kind_at (kind_name kind ∷ rest) ≡ Ok (kind, rest)
 unfolding kind_at bind word_at or_syntax
@@ -236,18 +213,16 @@ kind_at_again kind rest = ap (λ found. bind (or_syntax found) (λ k. Ok (k, res
 passes : (last : Option Edge) (edge : Edge) → IfSome last (λ l. edge_cmp l edge ≡ Less)
     → (may_follow last edge.from edge.kind ≡ true) × (follows last edge ≡ true)
 passes None edge above = (refl, refl)
-passes (Some last) edge less = (in_order last.from edge.from (kind_number last.kind) (kind_number edge.kind) last.to edge.to less, ap is_lt less)
+passes (Some last) edge less =
+    (in_order last.from edge.from (kind_number last.kind) (kind_number edge.kind) last.to edge.to less, ap is_lt less)
   where
     in_order : (a b c d e f : ℕ) → ordering_then (nat_cmp a b) (ordering_then (nat_cmp c d) (nat_cmp e f)) ≡ Less
         → (nat_lt a b || ((a == b) && not (nat_lt d c))) ≡ true
     in_order a b c d e f h = grind (arith, nat_tests)
 
--- the name of a label is a name
-is_label_name : (t : Layout) (label : ℕ) → IsLawful t → label < length t.labels → is_name (label_name t label) ≡ true
-is_label_name t label lawful within = lawful.label_names label [] within
-
 line_again : (t : Layout) (edges : List Edge) (edge : Edge) → IsLawful t → IsEdgeOf t edge
-    → IfSome (last_edge edges) (λ last. edge_cmp last edge ≡ Less) → edge_line t edges (edge_words t edge) ≡ Ok (edges ++ edge ∷ [])
+    → IfSome (last_edge edges) (λ last. edge_cmp last edge ≡ Less)
+    → edge_line t edges (edge_words t edge) ≡ Ok (edges ++ edge ∷ [])
 unfolding edge_line with_edge bind ended_at
 line_again t edges edge lawful within above =
     let from = label_name t edge.from in
@@ -269,7 +244,8 @@ lines_again t edges [] lawful within continues = ap (λ es. Ok es) (sym (append-
 lines_again t edges (edge ∷ more) lawful within continues =
     let above : IfSome (last_edge edges) (λ last. edge_cmp last edge ≡ Less) = first (last_edge edges) continues.above in
     let later : Continues (edges ++ edge ∷ []) more = record {
-      above = subst (λ last. IfSome last (λ last. AllByRecursion (λ other. edge_cmp last other ≡ Less) more)) (sym (last_push edges edge)) continues.rising.0;
+      above = subst (λ last. IfSome last (λ last. AllByRecursion (λ other. edge_cmp last other ≡ Less) more))
+          (sym (last_push edges edge)) continues.rising.0;
       rising = continues.rising.1;
     } in
     ap (λ r. bind r (λ next. steps (edge_line t) next (map (edge_words t) more))) (line_again t edges edge lawful within.0 above)
@@ -316,7 +292,8 @@ plain_body t (edge ∷ edges) lawful within = (plain_edge t edge lawful within.0
 
 plain_policy : (t : Layout) (edges : List Edge) → IsLawful t → AllByRecursion (IsEdgeOf t) edges
     → AllByRecursion IsPlainLine (whole_lines policy_header (map (edge_words t) edges))
-plain_policy t edges lawful within = ((plain_bytes (codes "confine-policy") refl, (plain_bytes (codes "1") refl, tt)), plain_body t edges lawful within)
+plain_policy t edges lawful within =
+    ((plain_bytes (codes "confine-policy") refl, (plain_bytes (codes "1") refl, tt)), plain_body t edges lawful within)
 
 -- none of its lines is the last
 none_last : (t : Layout) (edges : List Edge) → AllByRecursion IsNotLast (map (edge_words t) edges)
@@ -354,7 +331,22 @@ found t (Err fault) bytes exact = tt
 pub only : (t : Layout) (result : Result (List Edge) Fault) (bytes : List ℕ) → IsLawful t
     → Reads (λ edges. edges) result (read_policy_of t bytes) → (edges : List Edge) → IsPolicyOf t edges
     → bytes ≡ policy_text t edges → Reads (λ edges. edges) result (Ok edges)
-only t result bytes lawful exact edges is text = subst (λ read. Reads (λ edges. edges) result read) (policy_is_read t bytes edges lawful is text) exact
+only t result bytes lawful exact edges is text =
+    subst (λ read. Reads (λ edges. edges) result read) (policy_is_read t bytes edges lawful is text) exact
+
+pub first_fault : (t : Layout) (result : Result (List Edge) Fault) (bytes : List ℕ)
+    → Reads (λ edges. edges) result (read_policy_of t bytes)
+    → IfErr result (λ fault. fault ≢ no_memory → TellsFirst policy_header (edge_line t) [] (lines_of bytes) fault)
+unfolding read_policy_of
+first_fault t result bytes exact = faults (λ edges. edges) policy_header (edge_line t) [] (lines_of bytes) result exact
+
+pub refused_so : (t : Layout) (result : Result (List Edge) Fault) (bytes : List ℕ)
+    → Reads (λ edges. edges) result (read_policy_of t bytes)
+    → (line : ℕ) (wrong : Wrong) → IsFirstFault policy_header (edge_line t) [] (lines_of bytes) line wrong
+    → Reads (λ edges. edges) result (Err (fault_at line wrong))
+unfolding read_policy_of
+refused_so t result bytes exact line wrong first =
+    refused_for (λ edges. edges) policy_header (edge_line t) [] (lines_of bytes) result exact line wrong first
 
 pub policy_iff : (t : Layout) (bytes : List ℕ) (edges : List Edge) → IsLawful t
     → (read_policy_of t bytes ≡ Ok edges) ↔ (IsPolicyOf t edges × (bytes ≡ policy_text t edges))

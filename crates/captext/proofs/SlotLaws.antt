@@ -44,7 +44,8 @@ rights_first (suc (suc (suc (suc (suc (suc (suc (suc (suc (suc (suc (suc zero)))
 rights_first (suc (suc (suc (suc (suc (suc (suc (suc (suc (suc (suc (suc (suc zero))))))))))))) below = refl
 rights_first (suc (suc (suc (suc (suc (suc (suc (suc (suc (suc (suc (suc (suc (suc zero)))))))))))))) below = refl
 rights_first (suc (suc (suc (suc (suc (suc (suc (suc (suc (suc (suc (suc (suc (suc (suc zero))))))))))))))) below = refl
-rights_first (suc (suc (suc (suc (suc (suc (suc (suc (suc (suc (suc (suc (suc (suc (suc (suc n)))))))))))))))) below = absurd (omega arith)
+rights_first (suc (suc (suc (suc (suc (suc (suc (suc (suc (suc (suc (suc (suc (suc (suc (suc n)))))))))))))))) below =
+    absurd (omega arith)
 
 no_rights : (word : List ℕ) → is_ascii_digit (get_or word 0 0) ≡ true → rights_of_word word ≡ None
 no_rights word digit = by_found (rights_of_word word) refl where
@@ -52,7 +53,9 @@ no_rights word digit = by_found (rights_of_word word) refl where
   by_found None is = refl
   by_found (Some rights) is =
       let named = rights_named word rights is in
-      let first : is_ascii_digit (get_or word 0 0) ≡ false = ap (λ w. is_ascii_digit (get_or w 0 0)) named.0 ∙ rights_first rights.0 named.1 in cc
+      let first : is_ascii_digit (get_or word 0 0) ≡ false =
+      ap (λ w. is_ascii_digit (get_or w 0 0)) named.0 ∙ rights_first rights.0 named.1 in
+      cc
 
 -- which term a word is, by what it is as rights, in decimal and in hexadecimal
 of_hexadecimal : Option ℕ → Option Term
@@ -72,14 +75,17 @@ unfolding term_of of_forms of_decimal of_hexadecimal
 term_is word = refl
 
 forms_take : (word : List ℕ) (rights : Option Rights) (dec hex : Option ℕ) (term : Term)
-    → rights_of_word word ≡ rights → dec_of word ≡ dec → hex_of word ≡ hex → of_forms hex dec rights ≡ Some term → (word ≡ term_word term) × IsTerm term
+    → rights_of_word word ≡ rights → dec_of word ≡ dec → hex_of word ≡ hex → of_forms hex dec rights ≡ Some term
+    → (word ≡ term_word term) × IsTerm term
 unfolding of_forms of_decimal of_hexadecimal
 forms_take word (Some rights) dec hex t is_rights is_dec is_hex h =
-    let same : term.Rights rights ≡ t = cc in subst (λ t. (word ≡ term_word t) × IsTerm t) same (rights_named word rights is_rights)
+    let same : term.Rights rights ≡ t = cc in
+    subst (λ t. (word ≡ term_word t) × IsTerm t) same (rights_named word rights is_rights)
 forms_take word None (Some n) hex t is_rights is_dec is_hex h =
     let same : term.Decimal n ≡ t = cc in subst (λ t. (word ≡ term_word t) × IsTerm t) same ((decimal_iff word n).0 is_dec)
 forms_take word None None (Some n) t is_rights is_dec is_hex h =
-    let same : term.Hexadecimal n ≡ t = cc in subst (λ t. (word ≡ term_word t) × IsTerm t) same ((hexadecimal_iff word n).0 is_hex)
+    let same : term.Hexadecimal n ≡ t = cc in
+    subst (λ t. (word ≡ term_word t) × IsTerm t) same ((hexadecimal_iff word n).0 is_hex)
 forms_take word None None None t is_rights is_dec is_hex h = cc
 
 -- a term that is read has that word
@@ -89,12 +95,14 @@ term_takes word t h = forms_take word (rights_of_word word) (dec_of word) (hex_o
 -- a term's word is read as that term
 pub term_again : (term : Term) → IsTerm term → term_of (term_word term) ≡ Some term
 unfolding of_forms of_decimal of_hexadecimal
-term_again (term.Rights rights) is = term_is _ ∙ ap (λ r. of_forms (hex_of (rights_word rights)) (dec_of (rights_word rights)) r) (rights_again rights is)
+term_again (term.Rights rights) is =
+    term_is _ ∙ ap (λ r. of_forms (hex_of (rights_word rights)) (dec_of (rights_word rights)) r) (rights_again rights is)
 term_again (term.Decimal n) is =
     term_is _ ∙ ap (λ r. of_forms (hex_of (decimal n)) (dec_of (decimal n)) r) (no_rights (decimal n) (decimal_first n is))
     ∙ ap (λ d. of_decimal (hex_of (decimal n)) d) ((decimal_iff (decimal n) n).1 (refl, is))
 term_again (term.Hexadecimal n) is =
-    term_is _ ∙ ap (λ r. of_forms (hex_of (hexadecimal n)) (dec_of (hexadecimal n)) r) (no_rights (hexadecimal n) (hexadecimal_first n))
+    term_is _
+    ∙ ap (λ r. of_forms (hex_of (hexadecimal n)) (dec_of (hexadecimal n)) r) (no_rights (hexadecimal n) (hexadecimal_first n))
     ∙ ap (λ d. of_decimal (hex_of (hexadecimal n)) d) (hexadecimal_no_decimal n)
     ∙ ap (λ h. of_hexadecimal h) ((hexadecimal_iff (hexadecimal n) n).1 (refl, is))
 
@@ -113,7 +121,8 @@ place_takes : (word : List ℕ) (at : Place) → place_of word ≡ Some at → (
 unfolding place_of
 place_takes word at h = by_test (bytes_eq word (codes "root")) (bytes_eq-Decides word (codes "root")) h where
   by_number : (n : Option ℕ) → dec_of word ≡ n → option_map place.Index n ≡ Some at → (word ≡ place_word at) × IsPlace at
-  by_number (Some n) is h = let same : place.Index n ≡ at = cc in subst (λ p. (word ≡ place_word p) × IsPlace p) same ((decimal_iff word n).0 is)
+  by_number (Some n) is h =
+      let same : place.Index n ≡ at = cc in subst (λ p. (word ≡ place_word p) × IsPlace p) same ((decimal_iff word n).0 is)
   by_number None is h = cc
 
   by_test : (same : Bool) → Decides same (word ≡ codes "root")
@@ -125,7 +134,8 @@ place_again : (at : Place) → IsPlace at → place_of (place_word at) ≡ Some 
 unfolding place_of
 place_again place.Root is = refl
 place_again (place.Index index) is =
-    cond-false _ _ _ (no_root (bytes_eq (decimal index) (codes "root")) (bytes_eq-Decides (decimal index) (codes "root"))) ∙ ap (λ n. option_map place.Index n) ((decimal_iff (decimal index) index).1 (refl, is))
+    cond-false _ _ _ (no_root (bytes_eq (decimal index) (codes "root")) (bytes_eq-Decides (decimal index) (codes "root")))
+    ∙ ap (λ n. option_map place.Index n) ((decimal_iff (decimal index) index).1 (refl, is))
   where
     no_root : (same : Bool) → Decides same (decimal index ≡ codes "root") → same ≡ false
     no_root false other = refl
@@ -170,7 +180,9 @@ first_dot : (name rest : List ℕ) → AllByRecursion (λ b. (b == 46) ≡ false
     → position_or_len (λ b. b == 46) (name ++ 46 ∷ rest) ≡ length name
 first_dot [] rest h = refl
 first_dot (b ∷ bs) rest h =
-    ap (λ t. cond (not t) (1 + position_or_len (λ b. b == 46) (bs ++ 46 ∷ rest)) 0) h.0 ∙ ap (λ n. 1 + n) (first_dot bs rest h.1) ∙ omega arith
+    ap (λ t. cond (not t) (1 + position_or_len (λ b. b == 46) (bs ++ 46 ∷ rest)) 0) h.0
+    ∙ ap (λ n. 1 + n) (first_dot bs rest h.1)
+    ∙ omega arith
 
 dot_at : (name rest : List ℕ) → AllByRecursion (λ b. (b == 46) ≡ false) name
     → position (λ b. b == 46) (name ++ 46 ∷ rest) ≡ Some (length name)
@@ -202,7 +214,8 @@ slot_takes word name at h = by_dot (position (λ b. b == 46) word) refl (sym (sl
   by_dot : (dot : Option ℕ) → position (λ b. b == 46) word ≡ dot → at_dot word dot ≡ Some (name, at) → IsSlot word name at
   by_dot None is h = cc
   by_dot (Some i) is h =
-      subst (λ w. IsSlot w name at) (sym (dotted word i is)) (parts_take (take i word) (drop (i + 1) word) _ _ (name, at) refl refl h)
+      subst (λ w. IsSlot w name at) (sym (dotted word i is))
+      (parts_take (take i word) (drop (i + 1) word) _ _ (name, at) refl refl h)
 
 -- a slot's word is read as that slot
 pub slot_again : (name : List ℕ) (at : Place) → is_name name ≡ true → IsPlace at → slot_of (slot_word name at) ≡ Some (name, at)
@@ -228,6 +241,7 @@ pub slot_once : (name other_name : List ℕ) (at other : Place) → is_name name
 slot_once name other_name at other is place other_is other_place same =
     let this = slot_again name at is place in
     let that = slot_again other_name other other_is other_place in
-    let found : ◌≡◌ {A = Option (List ℕ × Place)} (Some (name, at)) (Some (other_name, other)) = sym this ∙ ap (λ w. slot_of w) same ∙ that in
+    let found : ◌≡◌ {A = Option (List ℕ × Place)} (Some (name, at)) (Some (other_name, other)) =
+    sym this ∙ ap (λ w. slot_of w) same ∙ that in
     let slots : ◌≡◌ {A = List ℕ × Place} (name, at) (other_name, other) = cc in
     (ap (λ (s : List ℕ × Place). s.0) slots, ap (λ (s : List ℕ × Place). s.1) slots)

@@ -1,5 +1,5 @@
 -- What a table that was read says of its text, and that the text of each table is read back.
-use Rattle.std.proofs.Common.{◌≡◌, ◌↔◌, ℕ, ◌<◌, ◌≤◌, ◌^◌, Bool, true, false, cond, List, [], ◌∷◌, ◌++◌, codes, Option, Some, None, Result, Ok, Err, IfOk, refl, sym, ap, subst, ◌∙◌, arith, append_assoc}
+use Rattle.std.proofs.Common.{◌≡◌, ◌≢◌, ◌↔◌, ℕ, ◌<◌, ◌≤◌, ◌^◌, Bool, true, false, cond, List, [], ◌∷◌, ◌++◌, codes, Option, Some, None, Result, Ok, Err, IfOk, IfErr, refl, sym, ap, subst, ◌∙◌, arith, append_assoc}
 use Rattle.std.specs.Bool.{Decides}
 use Rattle.std.specs.List.{AllByRecursion}
 use Rattle.std.specs.Str.{bytes_eq}
@@ -21,8 +21,11 @@ use Rattle.table.specs.Parts.{Part, LabelPart, ObjectPart, CapPart, BindingPart,
 use Rattle.table.specs.Rules.{IsAtRest, IsBlank, IsLawful, IsWithinLimits}
 use Rattle.words.specs.declared.faults.Fault.{Fault}
 use Rattle.words.specs.declared.faults.Wrong.{Wrong}
+use Rattle.words.specs.Fault.{fault_at, no_memory}
+use Rattle.words.specs.FirstFault.{IsFirstFault, TellsFirst}
 use Rattle.words.specs.Reading.{bind, last_line, word_at, steps, whole_lines, IsNotLast, Reads}
-use Rattle.words.specs.Text.{text_of, IsPlainLine, IsPlainWord}
+use Rattle.words.specs.Text.{lines_of, text_of, IsPlainLine, IsPlainWord}
+use Rattle.words.proofs.FirstFaults.{faults, refused_for}
 use Rattle.words.proofs.TextLaws.{both}
 use Rattle.words.proofs.TextReading.{whole_text_takes, whole_text_again}
 use Rattle.words.proofs.WordLaws.{bind_ok, word_then, plain_decimal, plain_hexadecimal, plain_name}
@@ -39,14 +42,17 @@ use Rattle.captext.proofs.TableLines.{part_more}
 
 -- a line that is read is the line of a part
 
-chosen : (t next : Layout) (keyword key : List ℕ) (words : List (List ℕ)) (here other : Result Layout Wrong) → cond (bytes_eq keyword key) here other ≡ Ok next
-    → (here ≡ Ok next → TakesPart t (key ∷ words) next) → (other ≡ Ok next → TakesPart t (keyword ∷ words) next) → TakesPart t (keyword ∷ words) next
+chosen : (t next : Layout) (keyword key : List ℕ) (words : List (List ℕ)) (here other : Result Layout Wrong)
+    → cond (bytes_eq keyword key) here other ≡ Ok next
+    → (here ≡ Ok next → TakesPart t (key ∷ words) next) → (other ≡ Ok next → TakesPart t (keyword ∷ words) next)
+    → TakesPart t (keyword ∷ words) next
 chosen t next keyword key words here other h this that = by (bytes_eq keyword key) (bytes_eq-Decides keyword key) h where
   by : (same : Bool) → Decides same (keyword ≡ key) → cond same here other ≡ Ok next → TakesPart t (keyword ∷ words) next
   by true same h = subst (λ k. TakesPart t (k ∷ words) next) (sym (same.0 refl)) (this h)
   by false same h = that h
 
-line_by_takes : (t next : Layout) (keyword : List ℕ) (words : List (List ℕ)) → line_by keyword t words ≡ Ok next → TakesPart t (keyword ∷ words) next
+line_by_takes : (t next : Layout) (keyword : List ℕ) (words : List (List ℕ)) → line_by keyword t words ≡ Ok next
+    → TakesPart t (keyword ∷ words) next
 unfolding line_by
 line_by_takes t next keyword words h =
     chosen t next keyword (codes "label") words _ _ h (label_line_takes t words next) (λ h.
@@ -66,28 +72,36 @@ line_takes t words next h =
 
 -- and the line of a part is read
 
-object_line_again : (t : Layout) (name : List ℕ) (label : ℕ) (object : Object) → IsLawful t → BeforeCaps t → AdmitsObject t name (record { label = label; object = object }) → IsBroughtObject object
-    → table_line t (object_words t name (record { label = label; object = object })) ≡ Ok (with_initial t name (record { label = label; object = object }))
+object_line_again : (t : Layout) (name : List ℕ) (label : ℕ) (object : Object) → IsLawful t → BeforeCaps t
+    → AdmitsObject t name (record { label = label; object = object }) → IsBroughtObject object
+    → table_line t (object_words t name (record { label = label; object = object }))
+    ≡ Ok (with_initial t name (record { label = label; object = object }))
 unfolding table_line line_by bind word_at
 object_line_again t name label (o.CNode node) lawful now admits brought = cnode_line_again t name label node lawful now admits
 object_line_again t name label (o.Tcb thread) lawful now admits brought = tcb_line_again t name label thread lawful now admits
-object_line_again t name label (o.Notification notification) lawful now admits brought = notification_line_again t name label notification lawful now admits
-object_line_again t name label (o.Context context) lawful now admits brought = context_line_again t name label context lawful now admits
+object_line_again t name label (o.Notification notification) lawful now admits brought =
+    notification_line_again t name label notification lawful now admits
+object_line_again t name label (o.Context context) lawful now admits brought =
+    context_line_again t name label context lawful now admits
 object_line_again t name label _ lawful now admits brought = absurd brought
 
-line_again : (t : Layout) (part : Part) → IsLawful t → IsBrought t → ComesNow t part → Admits t part → IsBroughtPart part → table_line t (part_words t part) ≡ Ok (with_part t part)
+line_again : (t : Layout) (part : Part) → IsLawful t → IsBrought t → ComesNow t part → Admits t part → IsBroughtPart part
+    → table_line t (part_words t part) ≡ Ok (with_part t part)
 unfolding table_line line_by bind word_at
 line_again t (LabelPart name) lawful brought now admits here = label_line_again t name now admits
-line_again t (ObjectPart name initial) lawful brought now admits here = object_line_again t name initial.label initial.object lawful now admits here
+line_again t (ObjectPart name initial) lawful brought now admits here =
+    object_line_again t name initial.label initial.object lawful now admits here
 line_again t (CapPart filled) lawful brought now admits here = cap_line_again t filled lawful brought.objects now admits here
 line_again t (BindingPart binding) lawful brought now admits here = bind_line_again t binding lawful admits
 
 -- so a line is read just where it is the line of a part that the table takes next
 
-pub line_iff : (t : Layout) (words : List (List ℕ)) (next : Layout) → IsLawful t → IsBrought t → (table_line t words ≡ Ok next) ↔ ((part : Part) × IsLineOf t words next part)
+pub line_iff : (t : Layout) (words : List (List ℕ)) (next : Layout) → IsLawful t → IsBrought t
+    → (table_line t words ≡ Ok next) ↔ ((part : Part) × IsLineOf t words next part)
 line_iff t words next lawful brought = (line_takes t words next, again) where
   again : (part : Part) × IsLineOf t words next part → table_line t words ≡ Ok next
-  again (part, is) = ap (table_line t) is.words_are ∙ line_again t part lawful brought is.now is.admits is.brought ∙ ap (λ u. Ok u) is.grown
+  again (part, is) =
+      ap (table_line t) is.words_are ∙ line_again t part lawful brought is.now is.admits is.brought ∙ ap (λ u. Ok u) is.grown
 
 -- the words of a part's line are plain, and it is not the last line
 
@@ -104,7 +118,8 @@ plain_start run.Ready rests = plain_bytes (codes "ready") refl
 plain_start run.Inactive rests = plain_bytes (codes "inactive") refl
 plain_start _ rests = absurd rests
 
-plain_content : (object : Object) → IsBroughtObject object → IsBlank object → end_of object ≤ 2 ^ 48 → AllByRecursion IsPlainWord (content_words object)
+plain_content : (object : Object) → IsBroughtObject object → IsBlank object → end_of object ≤ 2 ^ 48
+    → AllByRecursion IsPlainWord (content_words object)
 plain_content (o.CNode node) brought blank end =
     let address : node.address < 2 ^ 64 = omega arith in
     let radix : node.radix < 2 ^ 64 = omega arith in
@@ -127,22 +142,36 @@ plain_kind (o.Notification _) brought = plain_bytes (codes "notification") refl
 plain_kind (o.Context _) brought = plain_bytes (codes "context") refl
 plain_kind _ brought = absurd brought
 
-plain_part : (t : Layout) (part : Part) → IsLawful t → IsBrought t → Admits t part → IsBroughtPart part → IsPlainLine (part_words t part)
-plain_part t (LabelPart name) lawful brought admits here = (plain_bytes (codes "label") refl, (plain_name name admits.spelled, tt))
+plain_part : (t : Layout) (part : Part) → IsLawful t → IsBrought t → Admits t part → IsBroughtPart part
+    → IsPlainLine (part_words t part)
+plain_part t (LabelPart name) lawful brought admits here =
+    (plain_bytes (codes "label") refl, (plain_name name admits.spelled, tt))
 plain_part t (ObjectPart name initial) lawful brought admits here = (
   plain_kind initial.object here,
-  (plain_name name admits.spelled, (plain_name (label_name t initial.label) (is_label_name t initial.label lawful admits.label), plain_content initial.object here admits.blank admits.end)),
+  (
+    plain_name name admits.spelled,
+    (
+      plain_name (label_name t initial.label) (is_label_name t initial.label lawful admits.label),
+      plain_content initial.object here admits.blank admits.end,
+    ),
+  ),
 )
 plain_part t (CapPart filled) lawful brought admits here = cap_plain t filled lawful brought.objects admits here
 plain_part t (BindingPart binding) lawful brought admits here = (
   plain_bytes (codes "bind") refl,
   (
-    plain_name (object_name t binding.thread) (is_object_name t binding.thread lawful (has_name t binding.thread kind.Tcb lawful admits.thread)),
-    (plain_name (object_name t binding.context) (is_object_name t binding.context lawful (has_name t binding.context kind.Context lawful admits.context)), tt),
+    plain_name (object_name t binding.thread)
+        (is_object_name t binding.thread lawful (has_name t binding.thread kind.Tcb lawful admits.thread)),
+    (
+      plain_name (object_name t binding.context)
+          (is_object_name t binding.context lawful (has_name t binding.context kind.Context lawful admits.context)),
+      tt,
+    ),
   ),
 )
 
-object_not_last : (t : Layout) (name : List ℕ) (label : ℕ) (object : Object) → IsNotLast (object_words t name (record { label = label; object = object }))
+object_not_last : (t : Layout) (name : List ℕ) (label : ℕ) (object : Object)
+    → IsNotLast (object_words t name (record { label = label; object = object }))
 object_not_last t name label (o.Untyped _) = refl
 object_not_last t name label (o.CNode _) = refl
 object_not_last t name label (o.Tcb _) = refl
@@ -162,23 +191,36 @@ not_last t (BindingPart binding) = refl
 -- tables that are brought, with and without their last part
 
 brought_empty : IsBrought empty_layout
-brought_empty = record { objects = All-nil (λ (initial : Initial). IsBroughtObject initial.object); badges = All-nil (λ (filled : Filled). HasWordBadge filled.cap.detail) }
+brought_empty = record {
+  objects = All-nil (λ (initial : Initial). IsBroughtObject initial.object);
+  badges = All-nil (λ (filled : Filled). HasWordBadge filled.cap.detail);
+}
 
 brought_more : (t : Layout) (part : Part) → IsBrought t → IsBroughtPart part → IsBrought (with_part t part)
 brought_more t (LabelPart name) brought here = record { objects = brought.objects; badges = brought.badges }
 brought_more t (ObjectPart name initial) brought here =
-    record { objects = All-push (λ (initial : Initial). IsBroughtObject initial.object) t.objects initial brought.objects here; badges = brought.badges }
+    record {
+      objects = All-push (λ (initial : Initial). IsBroughtObject initial.object) t.objects initial brought.objects here;
+      badges = brought.badges;
+    }
 brought_more t (CapPart filled) brought here =
-    record { objects = brought.objects; badges = All-push (λ (filled : Filled). HasWordBadge filled.cap.detail) t.caps filled brought.badges here }
+    record {
+      objects = brought.objects;
+      badges = All-push (λ (filled : Filled). HasWordBadge filled.cap.detail) t.caps filled brought.badges here;
+    }
 brought_more t (BindingPart binding) brought here = record { objects = brought.objects; badges = brought.badges }
 
 brought_front : (t : Layout) (part : Part) → IsBrought (with_part t part) → IsBrought t × IsBroughtPart part
 brought_front t (LabelPart name) brought = (record { objects = brought.objects; badges = brought.badges }, tt)
 brought_front t (ObjectPart name initial) brought =
-    let each = All-pop (λ (initial : Initial). IsBroughtObject initial.object) (t.objects ++ initial ∷ []) t.objects (Some initial) refl brought.objects in
+    let each =
+    All-pop (λ (initial : Initial). IsBroughtObject initial.object) (t.objects ++ initial ∷ []) t.objects
+    (Some initial) refl brought.objects in
     (record { objects = each.0; badges = brought.badges }, each.1)
 brought_front t (CapPart filled) brought =
-    let each = All-pop (λ (filled : Filled). HasWordBadge filled.cap.detail) (t.caps ++ filled ∷ []) t.caps (Some filled) refl brought.badges in
+    let each =
+    All-pop (λ (filled : Filled). HasWordBadge filled.cap.detail) (t.caps ++ filled ∷ []) t.caps
+    (Some filled) refl brought.badges in
     (record { objects = brought.objects; badges = each.0 }, each.1)
 brought_front t (BindingPart binding) brought = (record { objects = brought.objects; badges = brought.badges }, tt)
 
@@ -193,10 +235,16 @@ record TakesLines (lines : List (List (List ℕ))) (all : Layout) : Type 0 where
   brought : IsBrought all
   lines_are : table_lines all ≡ lines
 
-lines_take : BuildLaw → (t : Layout) (front body : List (List (List ℕ))) (all : Layout) → TakesLines front t → steps table_line t body ≡ Ok all → TakesLines (front ++ body) all
+lines_take : BuildLaw → (t : Layout) (front body : List (List (List ℕ))) (all : Layout) → TakesLines front t
+    → steps table_line t body ≡ Ok all → TakesLines (front ++ body) all
 unfolding steps
 lines_take law t front [] all so_far h =
-    let same : t ≡ all = cc in subst (λ u. TakesLines (front ++ []) u) same (record { built = so_far.built; brought = so_far.brought; lines_are = so_far.lines_are ∙ sym (append-nil front) })
+    let same : t ≡ all = cc in
+    subst (λ u. TakesLines (front ++ []) u) same (record {
+      built = so_far.built;
+      brought = so_far.brought;
+      lines_are = so_far.lines_are ∙ sym (append-nil front);
+    })
 lines_take law t front (line ∷ body) all so_far h =
     let stepped = bind_ok (table_line t line) (λ next. steps table_line next body) all h in
     let takes = line_takes t line stepped.0 stepped.1 in
@@ -205,8 +253,13 @@ lines_take law t front (line ∷ body) all so_far h =
     part_more t takes.0 lawful.each_named takes.1.now ∙ (λ i. so_far.lines_are i ++ sym takes.1.words_are i ∷ []) in
     let next : TakesLines (front ++ line ∷ []) stepped.0 =
     subst (λ u. TakesLines (front ++ line ∷ []) u) takes.1.grown
-    (record { built = more takes.0 so_far.built takes.1.now takes.1.admits; brought = brought_more t takes.0 so_far.brought takes.1.brought; lines_are = lines }) in
-    subst (λ ls. TakesLines ls all) (append_assoc front (line ∷ []) body) (lines_take law stepped.0 (front ++ line ∷ []) body all next stepped.2)
+    (record {
+      built = more takes.0 so_far.built takes.1.now takes.1.admits;
+      brought = brought_more t takes.0 so_far.brought takes.1.brought;
+      lines_are = lines;
+    }) in
+    subst (λ ls. TakesLines ls all) (append_assoc front (line ∷ []) body)
+    (lines_take law stepped.0 (front ++ line ∷ []) body all next stepped.2)
 
 -- and the lines of a table are read
 
@@ -215,7 +268,8 @@ record ReadsLines (t : Layout) : Type 0 where
   plain : AllByRecursion IsPlainLine (table_lines t)
   none_last : AllByRecursion IsNotLast (table_lines t)
 
-steps_push : (s t : Layout) (lines : List (List (List ℕ))) (line : List (List ℕ)) → steps table_line s lines ≡ Ok t → steps table_line s (lines ++ line ∷ []) ≡ table_line t line
+steps_push : (s t : Layout) (lines : List (List (List ℕ))) (line : List (List ℕ)) → steps table_line s lines ≡ Ok t
+    → steps table_line s (lines ++ line ∷ []) ≡ table_line t line
 unfolding steps bind
 steps_push s t [] line h = let same : s ≡ t = cc in bind_itself (table_line s line) ∙ ap (λ u. table_line u line) same where
   bind_itself : (r : Result Layout Wrong) → bind r (λ next. Ok next) ≡ r
@@ -234,45 +288,80 @@ lines_again law (more {t} part built now admits) brought =
     let reads = lines_again law built front.0 in
     let lines = part_more t part lawful.each_named now in
     record {
-      stepped = ap (λ ls. steps table_line empty_layout ls) lines ∙ steps_push empty_layout t (table_lines t) (part_words t part) reads.stepped ∙ line_again t part lawful front.0 now admits front.1;
-      plain = subst (AllByRecursion IsPlainLine) (sym lines) (both IsPlainLine (table_lines t) (part_words t part ∷ []) reads.plain (plain_part t part lawful front.0 admits front.1, tt));
-      none_last = subst (AllByRecursion IsNotLast) (sym lines) (both IsNotLast (table_lines t) (part_words t part ∷ []) reads.none_last (not_last t part, tt));
+      stepped = ap (λ ls. steps table_line empty_layout ls) lines
+          ∙ steps_push empty_layout t (table_lines t) (part_words t part) reads.stepped
+          ∙ line_again t part lawful front.0 now admits front.1;
+      plain = subst (AllByRecursion IsPlainLine) (sym lines)
+          (both IsPlainLine (table_lines t)
+          (part_words t part ∷ []) reads.plain (plain_part t part lawful front.0 admits front.1, tt));
+      none_last = subst (AllByRecursion IsNotLast) (sym lines)
+          (both IsNotLast (table_lines t) (part_words t part ∷ []) reads.none_last (not_last t part, tt));
     }
 
 -- the two laws
 
-pub read_is_table : BuildLaw → (bytes : List ℕ) (t : Layout) → read_table_of bytes ≡ Ok t → IsLawful t × IsBrought t × (bytes ≡ table_text t)
+pub read_is_table : BuildLaw → (bytes : List ℕ) (t : Layout) → read_table_of bytes ≡ Ok t
+    → IsLawful t × IsBrought t × (bytes ≡ table_text t)
 unfolding read_table_of
 read_is_table law bytes t h =
     let text = whole_text_takes table_header table_line empty_layout t bytes h in
-    let lines = lines_take law empty_layout [] text.0 t (record { built = none; brought = brought_empty; lines_are = refl }) text.2 in
+    let lines =
+    lines_take law empty_layout [] text.0 t (record { built = none; brought = brought_empty; lines_are = refl }) text.2 in
     ((law t).1 lines.built, lines.brought, text.1 ∙ ap (λ body. text_of (whole_lines table_header body)) (sym lines.lines_are))
 
-pub table_is_read : BuildLaw → (bytes : List ℕ) (t : Layout) → IsLawful t → IsBrought t → bytes ≡ table_text t → read_table_of bytes ≡ Ok t
+pub table_is_read : BuildLaw → (bytes : List ℕ) (t : Layout) → IsLawful t → IsBrought t → bytes ≡ table_text t
+    → read_table_of bytes ≡ Ok t
 unfolding read_table_of
 table_is_read law bytes t lawful brought text =
     let lines = lines_again law ((law t).0 lawful) brought in
     let last : AllByRecursion IsPlainLine (last_line ∷ []) = ((plain_bytes (codes "end") refl, tt), tt) in
-    let plain : AllByRecursion IsPlainLine (whole_lines table_header (table_lines t)) =
-    ((plain_bytes (codes "confine-table") refl, (plain_bytes (codes "1") refl, tt)), both IsPlainLine (table_lines t) (last_line ∷ []) lines.plain last) in
+    let plain : AllByRecursion IsPlainLine (whole_lines table_header (table_lines t)) = (
+      (plain_bytes (codes "confine-table") refl, (plain_bytes (codes "1") refl, tt)),
+      both IsPlainLine (table_lines t) (last_line ∷ []) lines.plain last,
+    ) in
     whole_text_again table_header table_line empty_layout t (table_lines t) bytes plain lines.none_last lines.stepped text
 
-pub table_iff : BuildLaw → (bytes : List ℕ) (t : Layout) → (read_table_of bytes ≡ Ok t) ↔ (IsLawful t × IsBrought t × (bytes ≡ table_text t))
+pub table_iff : BuildLaw → (bytes : List ℕ) (t : Layout)
+    → (read_table_of bytes ≡ Ok t) ↔ (IsLawful t × IsBrought t × (bytes ≡ table_text t))
 table_iff law bytes t = (read_is_table law bytes t, λ h. table_is_read law bytes t h.0 h.1 h.2)
 
 -- different tables have different texts
-pub table_once : BuildLaw → (one other : Layout) → IsLawful one → IsBrought one → IsLawful other → IsBrought other → table_text one ≡ table_text other → one ≡ other
+pub table_once : BuildLaw → (one other : Layout) → IsLawful one → IsBrought one → IsLawful other → IsBrought other
+    → table_text one ≡ table_text other → one ≡ other
 table_once law one other is_one brought is_other brought_other same =
-    let both : ◌≡◌ {A = Result Layout Fault} (Ok one) (Ok other) = sym (table_is_read law (table_text one) one is_one brought refl) ∙ table_is_read law (table_text one) other is_other brought_other same in cc
+    let both : ◌≡◌ {A = Result Layout Fault} (Ok one) (Ok other) =
+    sym (table_is_read law (table_text one) one is_one brought refl)
+    ∙ table_is_read law (table_text one) other is_other brought_other same in
+    cc
 
 -- and of what reads as a text does
 
 abbrev pub TextLaw : Type 0
 TextLaw = (bytes : List ℕ) (t : Layout) → (read_table_of bytes ≡ Ok t) ↔ (IsLawful t × IsBrought t × (bytes ≡ table_text t))
 
-pub found : {X : Type 0} (view : X → Layout) (result : Result X Fault) (bytes : List ℕ) → TextLaw → Reads view result (read_table_of bytes) → IfOk result (λ x. IsBrought (view x) × (bytes ≡ table_text (view x)))
+pub found : {X : Type 0} (view : X → Layout) (result : Result X Fault) (bytes : List ℕ) → TextLaw
+    → Reads view result (read_table_of bytes) → IfOk result (λ x. IsBrought (view x) × (bytes ≡ table_text (view x)))
 found view (Ok x) bytes law exact = let read = (law bytes (view x)).0 exact in (read.1, read.2)
 found view (Err fault) bytes law exact = tt
 
-pub only : {X : Type 0} (view : X → Layout) (result : Result X Fault) (bytes : List ℕ) → TextLaw → Reads view result (read_table_of bytes) → (t : Layout) → IsLawful t → IsBrought t → bytes ≡ table_text t → Reads view result (Ok t)
-only view result bytes law exact t lawful brought text = subst (λ read. Reads view result read) ((law bytes t).1 (lawful, brought, text)) exact
+pub only : {X : Type 0} (view : X → Layout) (result : Result X Fault) (bytes : List ℕ) → TextLaw
+    → Reads view result (read_table_of bytes) → (t : Layout) → IsLawful t → IsBrought t → bytes ≡ table_text t
+    → Reads view result (Ok t)
+only view result bytes law exact t lawful brought text =
+    subst (λ read. Reads view result read) ((law bytes t).1 (lawful, brought, text)) exact
+
+-- a text that isn't read is refused for its first fault
+
+pub first_fault : {X : Type 0} (view : X → Layout) (result : Result X Fault) (bytes : List ℕ)
+    → Reads view result (read_table_of bytes)
+    → IfErr result (λ fault. fault ≢ no_memory → TellsFirst table_header table_line empty_layout (lines_of bytes) fault)
+unfolding read_table_of
+first_fault view result bytes exact = faults view table_header table_line empty_layout (lines_of bytes) result exact
+
+pub refused_so : {X : Type 0} (view : X → Layout) (result : Result X Fault) (bytes : List ℕ)
+    → Reads view result (read_table_of bytes)
+    → (line : ℕ) (wrong : Wrong) → IsFirstFault table_header table_line empty_layout (lines_of bytes) line wrong
+    → Reads view result (Err (fault_at line wrong))
+unfolding read_table_of
+refused_so view result bytes exact line wrong first =
+    refused_for view table_header table_line empty_layout (lines_of bytes) result exact line wrong first

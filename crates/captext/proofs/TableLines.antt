@@ -12,7 +12,8 @@ use Rattle.table.specs.Parts.{Part, LabelPart, ObjectPart, CapPart, BindingPart,
 use Rattle.table.specs.Rules.{kind_at}
 use Rattle.captext.specs.TableText.{label_words, object_words, cap_words, pair_words, binding_words, part_words, object_lines, cap_lines, pair_lines, binding_lines, table_lines}
 
-zip_push : {X Y : Type 0} (xs : List X) (ys : List Y) (x : X) (y : Y) → length xs ≡ length ys → zip (xs ++ x ∷ []) (ys ++ y ∷ []) ≡ zip xs ys ++ (x, y) ∷ []
+zip_push : {X Y : Type 0} (xs : List X) (ys : List Y) (x : X) (y : Y) → length xs ≡ length ys
+    → zip (xs ++ x ∷ []) (ys ++ y ∷ []) ≡ zip xs ys ++ (x, y) ∷ []
 zip_push [] [] x y same = refl
 zip_push [] (b ∷ ys) x y same = absurd (omega arith)
 zip_push (a ∷ xs) [] x y same = absurd (omega arith)
@@ -23,53 +24,76 @@ zip_nil [] = refl
 zip_nil (x ∷ xs) = refl
 
 -- where a section grows and nothing follows it
-grown : {X : Type 0} (section longer : List X) (x : X) (after before : List X) → longer ≡ section ++ x ∷ [] → after ≡ [] → before ≡ [] → longer ++ after ≡ (section ++ before) ++ x ∷ []
+grown : {X : Type 0} (section longer : List X) (x : X) (after before : List X) → longer ≡ section ++ x ∷ [] → after ≡ []
+    → before ≡ [] → longer ++ after ≡ (section ++ before) ++ x ∷ []
 grown section longer x after before grows none_after none_before =
-    ap (λ rest. longer ++ rest) none_after ∙ append-nil longer ∙ grows ∙ ap (λ all. all ++ x ∷ []) (sym (append-nil section) ∙ ap (λ rest. section ++ rest) (sym none_before))
+    ap (λ rest. longer ++ rest) none_after
+    ∙ append-nil longer
+    ∙ grows
+    ∙ ap (λ all. all ++ x ∷ []) (sym (append-nil section) ∙ ap (λ rest. section ++ rest) (sym none_before))
 
 -- sections that have not begun
 
 after_caps : (t : Layout) → BeforePairs t → pair_lines t ++ binding_lines t ≡ []
-after_caps t empty = ap (λ (pairs : List Pair). map (pair_words t) pairs ++ binding_lines t) empty.0 ∙ ap (λ (bindings : List Binding). map (binding_words t) bindings) empty.1
+after_caps t empty =
+    ap (λ (pairs : List Pair). map (pair_words t) pairs ++ binding_lines t) empty.0
+    ∙ ap (λ (bindings : List Binding). map (binding_words t) bindings) empty.1
 
 after_objects : (t : Layout) → BeforeCaps t → cap_lines t ++ (pair_lines t ++ binding_lines t) ≡ []
-after_objects t empty = ap (λ (caps : List Filled). map (cap_words t) caps ++ (pair_lines t ++ binding_lines t)) empty.0 ∙ after_caps t empty.1
+after_objects t empty =
+    ap (λ (caps : List Filled). map (cap_words t) caps ++ (pair_lines t ++ binding_lines t)) empty.0 ∙ after_caps t empty.1
 
 after_labels : (t : Layout) → BeforeObjects t → object_lines t ++ (cap_lines t ++ (pair_lines t ++ binding_lines t)) ≡ []
 after_labels t empty =
-    ap (λ (objects : List Initial). map (λ (named : List ℕ × Initial). object_words t named.0 named.1) (zip t.names objects) ++ (cap_lines t ++ (pair_lines t ++ binding_lines t))) empty.0
-    ∙ ap (λ (named : List (List ℕ × Initial)). map (λ (named : List ℕ × Initial). object_words t named.0 named.1) named ++ (cap_lines t ++ (pair_lines t ++ binding_lines t))) (zip_nil t.names)
+    let line : List ℕ × Initial → List (List ℕ) = λ named. object_words t named.0 named.1 in
+    let after = cap_lines t ++ (pair_lines t ++ binding_lines t) in
+    ap (λ (objects : List Initial). map line (zip t.names objects) ++ after) empty.0
+    ∙ ap (λ (named : List (List ℕ × Initial)). map line named ++ after) (zip_nil t.names)
     ∙ after_objects t empty.1
 
-label_more : (t : Layout) (name : List ℕ) → BeforeObjects t → table_lines (with_label t name) ≡ table_lines t ++ label_words name ∷ []
+label_more : (t : Layout) (name : List ℕ) → BeforeObjects t
+    → table_lines (with_label t name) ≡ table_lines t ++ label_words name ∷ []
 label_more t name empty =
-    grown (map label_words t.labels) (map label_words (t.labels ++ name ∷ [])) (label_words name) _ _ (map_push label_words t.labels name) (after_labels (with_label t name) empty) (after_labels t empty)
+    grown (map label_words t.labels) (map label_words (t.labels ++ name ∷ [])) (label_words name) _ _
+    (map_push label_words t.labels name) (after_labels (with_label t name) empty) (after_labels t empty)
 
-object_more : (t : Layout) (name : List ℕ) (initial : Initial) → length t.names ≡ length t.objects → BeforeCaps t → table_lines (with_initial t name initial) ≡ table_lines t ++ object_words t name initial ∷ []
+object_more : (t : Layout) (name : List ℕ) (initial : Initial) → length t.names ≡ length t.objects → BeforeCaps t
+    → table_lines (with_initial t name initial) ≡ table_lines t ++ object_words t name initial ∷ []
 object_more t name initial each empty =
     let f : List ℕ × Initial → List (List ℕ) = λ named. object_words t named.0 named.1 in
-    let longer : map f (zip (t.names ++ name ∷ []) (t.objects ++ initial ∷ [])) ≡ map f (zip t.names t.objects) ++ object_words t name initial ∷ [] = ap (map f) (zip_push t.names t.objects name initial each) ∙ map_push f (zip t.names t.objects) (name, initial) in
-    ap (λ rest. map label_words t.labels ++ rest) (grown (object_lines t) (map f (zip (t.names ++ name ∷ []) (t.objects ++ initial ∷ []))) (object_words t name initial) _ _ longer (after_objects (with_initial t name initial) empty) (after_objects t empty))
+    let longer : map f (zip (t.names ++ name ∷ []) (t.objects ++ initial ∷ []))
+    ≡ map f (zip t.names t.objects) ++ object_words t name initial ∷ [] =
+    ap (map f) (zip_push t.names t.objects name initial each) ∙ map_push f (zip t.names t.objects) (name, initial) in
+    ap (λ rest. map label_words t.labels ++ rest)
+    (grown (object_lines t) (map f (zip (t.names ++ name ∷ []) (t.objects ++ initial ∷ [])))
+    (object_words t name initial) _ _ longer (after_objects (with_initial t name initial) empty) (after_objects t empty))
     ∙ sym (append_assoc (map label_words t.labels) _ (object_words t name initial ∷ []))
 
-cap_more : (t : Layout) (filled : Filled) → BeforePairs t → table_lines (with_filled t filled) ≡ table_lines t ++ cap_words t filled ∷ []
+cap_more : (t : Layout) (filled : Filled) → BeforePairs t
+    → table_lines (with_filled t filled) ≡ table_lines t ++ cap_words t filled ∷ []
 unfolding kind_at initial_of
 cap_more t filled empty =
-    ap (λ rest. map label_words t.labels ++ (object_lines t ++ rest)) (grown (cap_lines t) (map (cap_words t) (t.caps ++ filled ∷ [])) (cap_words t filled) _ _ (map_push (cap_words t) t.caps filled) (after_caps (with_filled t filled) empty) (after_caps t empty))
+    ap (λ rest. map label_words t.labels ++ (object_lines t ++ rest))
+    (grown (cap_lines t) (map (cap_words t) (t.caps ++ filled ∷ [])) (cap_words t filled) _ _
+    (map_push (cap_words t) t.caps filled) (after_caps (with_filled t filled) empty) (after_caps t empty))
     ∙ ap (λ rest. map label_words t.labels ++ rest) (sym (append_assoc (object_lines t) _ (cap_words t filled ∷ [])))
     ∙ sym (append_assoc (map label_words t.labels) _ (cap_words t filled ∷ []))
 
-binding_more : (t : Layout) (binding : Binding) → table_lines (with_binding t binding) ≡ table_lines t ++ binding_words t binding ∷ []
+binding_more : (t : Layout) (binding : Binding)
+    → table_lines (with_binding t binding) ≡ table_lines t ++ binding_words t binding ∷ []
 unfolding kind_at initial_of
 binding_more t binding =
     let line = binding_words t binding ∷ [] in
-    ap (λ rest. map label_words t.labels ++ (object_lines t ++ (cap_lines t ++ (pair_lines t ++ rest)))) (map_push (binding_words t) t.bindings binding)
-    ∙ ap (λ rest. map label_words t.labels ++ (object_lines t ++ (cap_lines t ++ rest))) (sym (append_assoc (pair_lines t) (binding_lines t) line))
+    ap (λ rest. map label_words t.labels ++ (object_lines t ++ (cap_lines t ++ (pair_lines t ++ rest))))
+    (map_push (binding_words t) t.bindings binding)
+    ∙ ap (λ rest. map label_words t.labels ++ (object_lines t ++ (cap_lines t ++ rest)))
+    (sym (append_assoc (pair_lines t) (binding_lines t) line))
     ∙ ap (λ rest. map label_words t.labels ++ (object_lines t ++ rest)) (sym (append_assoc (cap_lines t) _ line))
     ∙ ap (λ rest. map label_words t.labels ++ rest) (sym (append_assoc (object_lines t) _ line))
     ∙ sym (append_assoc (map label_words t.labels) _ line)
 
-pub part_more : (t : Layout) (part : Part) → length t.names ≡ length t.objects → ComesNow t part → table_lines (with_part t part) ≡ table_lines t ++ part_words t part ∷ []
+pub part_more : (t : Layout) (part : Part) → length t.names ≡ length t.objects → ComesNow t part
+    → table_lines (with_part t part) ≡ table_lines t ++ part_words t part ∷ []
 part_more t (LabelPart name) each now = label_more t name now
 part_more t (ObjectPart name initial) each now = object_more t name initial each now
 part_more t (CapPart filled) each now = cap_more t filled now

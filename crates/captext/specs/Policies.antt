@@ -33,7 +33,8 @@ keyword_at keyword words = do
 -- whether an edge from this label of this kind may come after the last one, by these two entries
 abbrev pub may_follow : Option Edge → ℕ → Kind → Bool
 may_follow None from kind = true
-may_follow (Some last) from kind = nat_lt last.from from || ((last.from == from) && not (nat_lt (kind_number kind) (kind_number last.kind)))
+may_follow (Some last) from kind =
+    nat_lt last.from from || ((last.from == from) && not (nat_lt (kind_number kind) (kind_number last.kind)))
 
 -- whether an edge rises above the last one
 abbrev pub follows : Option Edge → Edge → Bool

@@ -1,5 +1,5 @@
--- The text of a capability table: a header, a line for each label, object, filled slot, pair of the derivation tree and binding, and
--- `end` (confine's own; what it says is a system's initial state, seL4 manual, "Bootstrapping").
+-- The text of a capability table: a header, a line for each label, object, filled slot, pair of the derivation tree and binding,
+-- and `end` (confine's own; what it says is a system's initial state, seL4 manual, "Bootstrapping").
 use Rattle.std.specs.Prelude.{⊤, ◌≡◌, ℕ, ◌<◌, ◌^◌, List, [], ◌∷◌, ◌++◌, map, codes, Option, Some, None, slice_index_or, All}
 use Rattle.std.specs.Fmt.{decimal}
 use Rattle.std.specs.List.{zip}

@@ -110,7 +110,9 @@ cnode_line t words = do
 
 -- the run state that a table may give a thread
 unfoldable pub start_of : List ℕ → Option RunState
-start_of word = if bytes_eq word (codes "ready") then Some run.Ready else (if bytes_eq word (codes "inactive") then Some run.Inactive else None)
+start_of word =
+    if bytes_eq word (codes "ready") then Some run.Ready else
+    (if bytes_eq word (codes "inactive") then Some run.Inactive else None)
 
 -- tcb NAME LABEL HEX START
 unfoldable pub tcb_line : Layout → List (List ℕ) → Result Layout Wrong
@@ -156,12 +158,16 @@ share_at words = do
   if bytes_eq first.0 (codes "-") then unshared first.1 else shared first.0 first.1
 
 abbrev pub is_share : ShareTerms → Bool
-is_share terms = (nat_lt terms.core 16 && nat_le 1 terms.budget) && (nat_le terms.budget terms.period && nat_le terms.period 3600000000)
+is_share terms =
+    (nat_lt terms.core 16 && nat_le 1 terms.budget) && (nat_le terms.budget terms.period && nat_le terms.period 3600000000)
 
 -- a share within the limits
 unfoldable pub limited_share : Option ShareTerms → Result (Option Share) Wrong
 limited_share None = Ok None
-limited_share (Some terms) = if is_share terms then Ok (Some (record { core = terms.core; budget = terms.budget; period = terms.period })) else Err wrong.Limit
+limited_share (Some terms) =
+    if is_share terms
+    then Ok (Some (record { core = terms.core; budget = terms.budget; period = terms.period }))
+    else Err wrong.Limit
 
 -- context NAME LABEL HEX SHARE
 unfoldable pub context_line : Layout → List (List ℕ) → Result Layout Wrong
@@ -237,7 +243,8 @@ fits_radix radix _ = false
 -- what the capability of a CNode says, where its own slot's index is within its holder or not
 unfoldable pub guarded : ℕ → Option Guard → Bool → Result Detail Wrong
 guarded radix None within = Err wrong.WrongKind
-guarded radix (Some guard) within = if within && is_guard radix guard.size guard.value then Ok (d.CNode guard) else Err wrong.Limit
+guarded radix (Some guard) within =
+    if within && is_guard radix guard.size guard.value then Ok (d.CNode guard) else Err wrong.Limit
 
 -- what another capability says, alike
 unfoldable pub unguarded : Option Detail → Bool → Result Detail Wrong

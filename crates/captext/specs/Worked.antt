@@ -85,17 +85,22 @@ abbrev pub nine_kinds : Layout
 nine_kinds = record {
   labels = codes "a" ∷ [];
   names =
-      codes "c" ∷ codes "t" ∷ codes "x" ∷ codes "u" ∷ codes "k" ∷ codes "e" ∷ codes "n" ∷ codes "p" ∷ codes "f" ∷ codes "y" ∷ codes "s" ∷ [];
+      codes "c" ∷ codes "t" ∷ codes "x" ∷ codes "u" ∷ codes "k" ∷ codes "e"
+      ∷ codes "n" ∷ codes "p" ∷ codes "f" ∷ codes "y" ∷ codes "s" ∷ [];
   objects =
       labelled 0 (cnode 0x2000 3) ∷ labelled 0 (thread 0x4000 run.Ready) ∷ labelled 0 (context 0x5000 (share_of 0 10 10))
-      ∷ labelled 0 (o.Untyped (record { base = 0x1000; bits = 12; watermark = 0x1000 })) ∷ labelled 0 (o.Control (record { core = 0 }))
+      ∷ labelled 0 (o.Untyped (record { base = 0x1000; bits = 12; watermark = 0x1000 }))
+      ∷ labelled 0 (o.Control (record { core = 0 }))
       ∷ labelled 0 (o.Endpoint (record { address = 0x3000 })) ∷ labelled 0 (notification 0x3100)
-      ∷ labelled 0 (o.Reply (record { address = 0x3020; state = reply.Free })) ∷ labelled 0 (o.Frame (record { address = 0x6000 }))
+      ∷ labelled 0 (o.Reply (record { address = 0x3020; state = reply.Free }))
+      ∷ labelled 0 (o.Frame (record { address = 0x6000 }))
       ∷ labelled 0 (context 0x5100 None) ∷ labelled 0 (thread 0x4400 run.Inactive) ∷ [];
   caps =
-      filled (slot 0 0) 3 d.Untyped ∷ filled (slot 0 1) 0 (guarded 61) ∷ filled (slot 0 2) 4 d.Control ∷ filled (slot 0 3) 2 d.Context
+      filled (slot 0 0) 3 d.Untyped ∷ filled (slot 0 1) 0 (guarded 61)
+      ∷ filled (slot 0 2) 4 d.Control ∷ filled (slot 0 3) 2 d.Context
       ∷ filled (slot 0 4) 5 (d.Endpoint (record { rights = record { 0 = 15 }; badge = 0 })) ∷ filled (slot 0 5) 7 d.Reply
-      ∷ filled (slot 0 6) 8 (d.Frame (record { 0 = 3 })) ∷ filled (slot 0 7) 6 (badged 0 3) ∷ filled (slot 1 0) 0 (guarded 61) ∷ [];
+      ∷ filled (slot 0 6) 8 (d.Frame (record { 0 = 3 })) ∷ filled (slot 0 7) 6 (badged 0 3)
+      ∷ filled (slot 1 0) 0 (guarded 61) ∷ [];
   pairs = record { parent = slot 0 1; child = slot 1 0 } ∷ [];
   bindings = bound 1 2 ∷ [];
 }

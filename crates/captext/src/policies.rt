@@ -1,12 +1,16 @@
-ghost use Rattle.std.specs.Prelude.{◌≡◌, ◌↔◌, ◌<◌, ℕ, List, [], ◌∷◌, length, codes, Some, Ok, Err, IfOk};
+ghost use Rattle.std.specs.Prelude.{◌≡◌, ◌≢◌, ◌↔◌, ◌<◌, ℕ, List, [], ◌∷◌, length, codes, Some, Ok, Err, IfOk, IfErr};
 ghost use Rattle.base.specs.declared.edge.Edge.{Edge as EdgeOf};
 ghost use Rattle.base.specs.declared.kind.Kind.TheVariants.{Reset, SchedControl};
 ghost use Rattle.captext.specs.Policies as policies;
-ghost use Rattle.captext.specs.PolicyText.{label_name, policy_text, IsPolicyOf};
+ghost use Rattle.captext.specs.PolicyText.{label_name, policy_header, policy_text, IsPolicyOf};
 ghost use Rattle.machine.specs.Layout.{Layout};
 ghost use Rattle.table.specs.Names.{label_named};
 ghost use Rattle.table.specs.Rules.{IsLawful};
+ghost use Rattle.words.specs.declared.faults.Wrong.{Wrong};
+ghost use Rattle.words.specs.Fault.{fault_at, no_memory};
+ghost use Rattle.words.specs.FirstFault.{IsFirstFault, TellsFirst};
 ghost use Rattle.words.specs.Reading.{Gives, Makes, Reads};
+ghost use Rattle.words.specs.Text.{lines_of};
 
 use base::{Edge, Kind, Label};
 use policy::Policy;
@@ -103,12 +107,20 @@ pub fn read_policy(alloc: Global, text: &[u8], table: &Table) -> Result<Policy, 
         (λ policy. IsPolicyOf table.now policy × (text.now ≡ policy_text table.now policy)) }
     ensures only { (edges : List EdgeOf) → IsPolicyOf table.now edges
         → text.now ≡ policy_text table.now edges → Reads (λ policy. policy) result (Ok edges) }
+
+    // One that isn't read is refused for its first fault, unless memory was refused.
+    ensures faults { IfErr result (λ fault. fault ≢ no_memory
+        → TellsFirst policy_header (policies.edge_line table.now) [] (lines_of text.now) fault) }
+    ensures refused { (line : ℕ) (wrong : Wrong)
+        → IsFirstFault policy_header (policies.edge_line table.now) [] (lines_of text.now) line wrong
+        → Reads (λ policy. policy) result (Err (fault_at line wrong)) }
 {
     // That no two labels have one name is a rule of the table's own, which it tells with its objects.
     let _ = table.objects();
     edges_of(alloc, text, table)
 }
 
+/// Reads the text of a policy, by the definition alone.
 #[tactic(auto, using(words::proofs::ReadingLaws::begins, words::proofs::ReadingLaws::no_beginning, words::proofs::ReadingLaws::goes_on, words::proofs::ReadingLaws::stops_by, words::proofs::ReadingLaws::no_more, words::proofs::ReadingLaws::ends_well, words::proofs::ReadingLaws::ends_badly), unfolding(crate::specs::Policies::read_policy_of, words::specs::Reading::bind))]
 fn edges_of(alloc: Global, text: &[u8], table: &Table) -> Result<Policy, Fault>
     ensures { Reads (λ policy. policy) result (policies.read_policy_of table.now text.now) }

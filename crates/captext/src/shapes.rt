@@ -30,6 +30,7 @@ pub struct ShareTerms {
     pub period: u64,
 }
 
+/// A place as it is spelled: an index in decimal, or `root`.
 #[tactic(auto, unfolding(crate::specs::Shapes::place_of))]
 fn place_of(word: &[u8]) -> Option<Place>
     ensures { result ≡ shape.place_of word.now }
@@ -68,6 +69,7 @@ pub fn slot<'a>(words: &mut Words<'a>) -> Result<(&'a str, Place), Wrong>
     slot_of(word).ok_or(Wrong::Syntax)
 }
 
+/// A word as rights, or as a number.
 #[tactic(auto, unfolding(crate::specs::Shapes::term_of))]
 fn term_of(word: &[u8]) -> Option<Term>
     ensures { result ≡ shape.term_of word.now }

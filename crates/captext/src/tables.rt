@@ -1,10 +1,14 @@
-ghost use Rattle.std.specs.Prelude.{◌≡◌, ◌↔◌, ℕ, List, Ok, IfOk};
+ghost use Rattle.std.specs.Prelude.{◌≡◌, ◌≢◌, ◌↔◌, ℕ, List, Ok, Err, IfOk, IfErr};
 ghost use Rattle.captext.specs.Tables as tables;
-ghost use Rattle.captext.specs.TableText.{table_text, IsBrought, IsLineOf};
+ghost use Rattle.captext.specs.TableText.{table_header, table_text, IsBrought, IsLineOf};
 ghost use Rattle.machine.specs.Layout.{Layout, empty_layout};
 ghost use Rattle.table.specs.Parts.{Part};
 ghost use Rattle.table.specs.Rules.{IsLawful};
+ghost use Rattle.words.specs.declared.faults.Wrong.{Wrong};
+ghost use Rattle.words.specs.Fault.{fault_at, no_memory};
+ghost use Rattle.words.specs.FirstFault.{IsFirstFault, TellsFirst};
 ghost use Rattle.words.specs.Reading.{Makes, Reads};
+ghost use Rattle.words.specs.Text.{lines_of};
 
 use crate::caps::{bind_line, cap_line};
 use crate::objects::{cnode_line, context_line, label_line, notification_line, tcb_line};
@@ -56,6 +60,7 @@ fn read_into(table: &mut Table, text: &[u8]) -> Result<(), Fault>
     Err(lines.after(Wrong::Syntax))
 }
 
+/// Reads the text of a capability table, by the definition alone.
 fn table_of(alloc: Global, text: &[u8]) -> Result<Table, Fault>
     ensures { Reads (λ table. table) result (tables.read_table_of text.now) }
 {
@@ -76,6 +81,13 @@ pub fn read_table(alloc: Global, text: &[u8]) -> Result<Table, Fault>
     ensures found { IfOk result (λ table. IsBrought table × (text.now ≡ table_text table)) }
     ensures only { (t : Layout) → IsLawful t → IsBrought t → text.now ≡ table_text t
         → Reads (λ table. table) result (Ok t) }
+
+    // One that isn't read is refused for its first fault, unless memory was refused.
+    ensures faults { IfErr result (λ fault. fault ≢ no_memory
+        → TellsFirst table_header tables.table_line empty_layout (lines_of text.now) fault) }
+    ensures refused { (line : ℕ) (wrong : Wrong)
+        → IsFirstFault table_header tables.table_line empty_layout (lines_of text.now) line wrong
+        → Reads (λ table. table) result (Err (fault_at line wrong)) }
 {
     tables_are_read_back();
     table_of(alloc, text)

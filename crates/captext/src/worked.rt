@@ -1,4 +1,4 @@
-ghost use Rattle.std.specs.Prelude.{◌≡◌, codes, Ok};
+ghost use Rattle.std.specs.Prelude.{◌≡◌, ◌++◌, codes, Ok};
 ghost use Rattle.captext.specs.Tables.{read_table_of};
 ghost use Rattle.captext.specs.TableText.{table_text};
 ghost use Rattle.captext.specs.Worked.{two_cores, two_cores_text, nine_kinds, nine_kinds_text, IsFaulty};
@@ -36,7 +36,8 @@ pub fn worked_tables()
     ensures doubled_object { IsFaulty
         (codes "confine-table 1\nlabel a\nnotification n a 0x0\nnotification n a 0x20\nend\n") 52 4 }
     ensures bound_twice { IsFaulty
-        (codes "confine-table 1\nlabel a\ntcb t a 0x0 ready\ntcb u a 0x400 ready\ncontext x a 0x800 -\nbind t x\nbind u x\nend\n") 52 7 }
+        (codes "confine-table 1\nlabel a\ntcb t a 0x0 ready\ntcb u a 0x400 ready\n"
+        ++ codes "context x a 0x800 -\nbind t x\nbind u x\nend\n") 52 7 }
 
     // 53: places in memory.
     ensures misaligned { IsFaulty (codes "confine-table 1\nlabel a\nnotification n a 0x10\nend\n") 53 3 }

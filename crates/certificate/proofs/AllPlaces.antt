@@ -52,7 +52,9 @@ in_below zero k lt = absurd (omega arith)
 in_below (suc n) k lt = elim (cases_order k n) [ inl same ↦ inl same | inr (inl less) ↦ inr (in_below n k less) | inr (inr more) ↦ absurd (omega arith) ]
 
 in_kinds : (kind : Kind) → IsIn kind all_kinds
-in_kinds kind = in_slice all_kinds (kind_number kind) kind (slice_get-get_or all_kinds (kind_number kind) kind (kind_number_below kind) ∙ ap Some (at_number kind kind))
+in_kinds kind =
+    in_slice all_kinds (kind_number kind) kind
+    (slice_get-get_or all_kinds (kind_number kind) kind (kind_number_below kind) ∙ ap Some (at_number kind kind))
 
 -- the denial of a label, if there is one
 labelled : (ℕ → Denial) → Option ℕ → List Denial
@@ -146,5 +148,7 @@ covers t allowed (denial.Root slot label) broken =
 covers t allowed (denial.Binding thread context) broken =
     let d : Denial = denial.Binding thread context in
     let at = bound_at t thread context broken.bound in
-    let same : d ≡ denial.Binding at.binding.thread at.binding.context = λ i. denial.Binding (sym at.thread_is i) (sym at.context_is i) in
-    in_places_of_bindings t d (in_each bindings_at t.bindings at.binding d (in_slice t.bindings at.at at.binding at.here) (inl same))
+    let same : d ≡ denial.Binding at.binding.thread at.binding.context =
+    λ i. denial.Binding (sym at.thread_is i) (sym at.context_is i) in
+    in_places_of_bindings t d
+    (in_each bindings_at t.bindings at.binding d (in_slice t.bindings at.at at.binding at.here) (inl same))

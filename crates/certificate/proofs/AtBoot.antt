@@ -1,4 +1,4 @@
--- The boot state of an accepted table is confined, and belongs to the table.
+-- What the boot state of a table has of it: kinds, labels, links and the derivation tree; and that it belongs to the table.
 use Rattle.std.proofs.Common.{◌≡◌, ℕ, ◌≤◌, ◌<◌, Bool, true, false, ◌&&◌, List, length, Option, Some, None, option_map, option_and_then, refl, sym, ap, subst, ◌∙◌, arith, nat_le, nat_lt, slice_get, if◌then◌else◌}
 use mathlib.Core.Bool.{false≢true}
 use Rattle.std.proofs.lemmas.Option.{none-some, same_Some, slice_get_within, get_or_from_slice_get}
@@ -19,21 +19,16 @@ use Rattle.machine.specs.declared.object.Untyped.{Untyped}
 use Rattle.machine.specs.declared.thread.RunState.{RunState}
 use Rattle.machine.specs.declared.thread.RunState.TheVariants as state
 use Rattle.machine.specs.declared.thread.Tcb.{Tcb}
-use Rattle.machine.specs.Authority.{has_memory_at, holds_thread, label_at, label_of, links, names_reply, state_links}
-use Rattle.machine.specs.Authority.HasAuthority.{by_cap, by_root, by_pair, by_link}
+use Rattle.machine.specs.Authority.{has_memory_at, holds_thread, label_at, label_of, links, state_links}
 use Rattle.machine.specs.Boot.{IsBoot, address-bound, bound, booted, kind-bound}
 use Rattle.machine.specs.Layout.{Layout, initial_of, declared_label, initial_parent, bound_context}
-use Rattle.machine.specs.Machine.{Machine, object_of, one_id, same_slot}
+use Rattle.machine.specs.Machine.{Machine, object_of, same_slot}
 use Rattle.machine.specs.Objects.{kind_of_object, address_of, end_of}
 use Rattle.machine.specs.WellFormed.{kind_of}
-use Rattle.policy.specs.Domain.{EdgeTest}
 use Rattle.table.specs.Placement.{IsApart, Lies}
 use Rattle.table.specs.Rules.{IsLawful, IsObjectOf, IsBlank, IsAtRest, kind_at}
-use Rattle.certificate.specs.declared.denial.Denial.{Denial}
-use Rattle.certificate.specs.declared.denial.Denial.TheVariants as denial
-use Rattle.certificate.specs.Confined.{IsConfined}
 use Rattle.certificate.specs.OfTable.{IsOfTable}
-use Rattle.certificate.specs.Verdict.{Breaks, IsAccepted}
+use Rattle.certificate.proofs.Links.{link_names}
 use Rattle.certificate.proofs.Lookups.{found_first, pair_at}
 
 -- a booted object is a declared one with its links
@@ -42,9 +37,13 @@ pub record Declared (t : Layout) (id : ObjId) (object : Object) : Type 0 where
   pub declares : initial_of t id ≡ Some initial
   pub object_is : object ≡ bound t id initial.object
 
-pub declared_at : (t : Layout) (m : Machine) → IsBoot t m → (id : ObjId) (object : Object) → object_of m id ≡ Some object → Declared t id object
+pub declared_at :
+    (t : Layout) (m : Machine) → IsBoot t m → (id : ObjId) (object : Object) → object_of m id ≡ Some object
+    → Declared t id object
 declared_at t m boot id object at = by_initial (initial_of t id) refl (sym (boot.objects id) ∙ at) where
-  by_initial : (initial : Option Initial) → initial_of t id ≡ initial → option_map (λ (i : Initial). bound t id i.object) (initial_of t id) ≡ Some object → Declared t id object
+  by_initial :
+      (initial : Option Initial) → initial_of t id ≡ initial
+      → option_map (λ (i : Initial). bound t id i.object) (initial_of t id) ≡ Some object → Declared t id object
   by_initial None is e = absurd (none-some object (sym (ap (option_map (λ (i : Initial). bound t id i.object)) is) ∙ e))
   by_initial (Some initial) is e =
       record { initial = initial; declares = is; object_is = sym (same_Some (bound t id initial.object) object (sym (ap (option_map (λ (i : Initial). bound t id i.object)) is) ∙ e)) }
@@ -54,7 +53,10 @@ declared_at t m boot id object at = by_initial (initial_of t id) refl (sym (boot
 pub boot_kind : (t : Layout) (m : Machine) → IsBoot t m → (id : ObjId) → kind_of m id ≡ kind_at t id
 unfolding kind_at
 boot_kind t m boot id = ap (option_map kind_of_object) (boot.objects id) ∙ by_initial (initial_of t id) where
-  by_initial : (initial : Option Initial) → option_map kind_of_object (option_map (λ (i : Initial). bound t id i.object) initial) ≡ option_map (λ (i : Initial). kind_of_object i.object) initial
+  by_initial :
+      (initial : Option Initial)
+      → option_map kind_of_object (option_map (λ (i : Initial). bound t id i.object) initial) ≡ option_map
+      (λ (i : Initial). kind_of_object i.object) initial
   by_initial None = refl
   by_initial (Some initial) = ap Some (kind-bound t id initial.object)
 
@@ -66,26 +68,27 @@ pub boot_label : (t : Layout) (m : Machine) → IsBoot t m → (id : ObjId) → 
 unfolding label_of declared_label
 boot_label t m boot id = ap labelled (boot.objects id) ∙ by_initial (initial_of t id) refl where
   labelled : Option Object → Option ℕ
-  labelled = option_and_then (λ (object : Object). if nat_lt id.0 (length t.objects) then declared_label t id else label_at t (address_of object))
+  labelled =
+      option_and_then
+      (λ (object : Object). if nat_lt id.0 (length t.objects) then declared_label t id else label_at t (address_of object))
 
-  by_initial : (initial : Option Initial) → initial_of t id ≡ initial → labelled (booted t id) ≡ option_map (λ (i : Initial). i.label) (initial_of t id)
+  by_initial :
+      (initial : Option Initial) → initial_of t id ≡ initial
+      → labelled (booted t id) ≡ option_map (λ (i : Initial). i.label) (initial_of t id)
   by_initial None e = rw e refl
   by_initial (Some initial) e =
-      let below : nat_lt id.0 (length t.objects) ≡ true = (Decides-ltb id.0 (length t.objects)).1 (initial_below t id initial e) in
+      let below : nat_lt id.0 (length t.objects) ≡ true =
+      (Decides-ltb id.0 (length t.objects)).1 (initial_below t id initial e) in
       rw (e, below) refl
 
 -- the table
 
-initial_lawful : (t : Layout) → IsLawful t → (id : ObjId) (initial : Initial) → initial_of t id ≡ Some initial → IsObjectOf t initial
+initial_lawful :
+    (t : Layout) → IsLawful t → (id : ObjId) (initial : Initial) → initial_of t id ≡ Some initial → IsObjectOf t initial
 unfolding initial_of
-initial_lawful t lawful id initial e = subst (IsObjectOf t) (get_or_from_slice_get t.objects id.0 initial initial e) (lawful.objects id.0 initial (slice_get_within t.objects id.0 initial e))
-
--- what is accepted has no edge that the policy lacks
-has_edge : (t : Layout) (allowed : EdgeTest) → IsAccepted t allowed → (from : ℕ) (k : Kind) (to : ℕ) (place : Denial) → (allowed from k to ≡ false → Breaks t allowed place) → allowed from k to ≡ true
-has_edge t allowed accepted from k to place breaks = by_test (allowed from k to) refl where
-  by_test : (edge : Bool) → allowed from k to ≡ edge → allowed from k to ≡ true
-  by_test true e = e
-  by_test false e = absurd (accepted place (breaks e))
+initial_lawful t lawful id initial e =
+    subst (IsObjectOf t) (get_or_from_slice_get t.objects id.0 initial initial e)
+    (lawful.objects id.0 initial (slice_get_within t.objects id.0 initial e))
 
 -- at rest a thread has no recorded rights
 rest_links : (run : RunState) (k : Kind) (end : ObjId) → IsAtRest run → state_links run k end ≡ false
@@ -96,24 +99,24 @@ rest_links (state.Receiving _) k end rest = absurd rest
 rest_links (state.Waiting _) k end rest = absurd rest
 rest_links (state.Called _) k end rest = absurd rest
 
-named : (link : Option ObjId) (end : ObjId) → names_reply link end ≡ true → link ≡ Some end
-named None end e = cc
-named (Some id) end e = ap Some (one_id id end e)
-
 -- a booted object's links are those of its binding
-record IsBinding (t : Layout) (id end : ObjId) (k : Kind) : Type 0 where
-  runs : k ≡ authority.Runs
-  bound_to : bound_context t id ≡ Some end
+pub record IsBinding (t : Layout) (id end : ObjId) (k : Kind) : Type 0 where
+  pub runs : k ≡ authority.Runs
+  pub bound_to : bound_context t id ≡ Some end
 
-thread_link : (t : Layout) (id : ObjId) (thread : Tcb) (k : Kind) (end : ObjId) → IsAtRest thread.state → links (bound t id (o.Tcb thread)) k end ≡ true → IsBinding t id end k
-thread_link t id thread authority.Runs end rest e = record { runs = refl; bound_to = named (bound_context t id) end e }
+thread_link :
+    (t : Layout) (id : ObjId) (thread : Tcb) (k : Kind) (end : ObjId) → IsAtRest thread.state
+    → links (bound t id (o.Tcb thread)) k end ≡ true → IsBinding t id end k
+thread_link t id thread authority.Runs end rest e = record { runs = refl; bound_to = link_names (bound_context t id) end e }
 thread_link t id thread k end rest e = absurd (false≢true (sym (rest_links thread.state k end rest) ∙ e))
 
 free_link : (answers : Reply) (k : Kind) (end : ObjId) → answers.state ≡ reply.Free → links (o.Reply answers) k end ≡ false
 free_link answers authority.Holds end free = ap (λ held. holds_thread held end) free
 free_link answers _ end free = refl
 
-boot_link : (t : Layout) (id : ObjId) (object : Object) (k : Kind) (end : ObjId) → IsBlank object → links (bound t id object) k end ≡ true → IsBinding t id end k
+boot_link :
+    (t : Layout) (id : ObjId) (object : Object) (k : Kind) (end : ObjId) → IsBlank object
+    → links (bound t id object) k end ≡ true → IsBinding t id end k
 boot_link t id (o.Tcb thread) k end blank e = thread_link t id thread k end blank.0 e
 boot_link t id (o.Reply answers) k end blank e = absurd (false≢true (sym (free_link answers k end blank) ∙ e))
 boot_link t id (o.Untyped _) k end blank e = cc
@@ -125,65 +128,47 @@ boot_link t id (o.Frame _) k end blank e = cc
 boot_link t id (o.Control _) k end blank e = cc
 
 -- no capability is derived from another
-no_parent : (t : Layout) → IsLawful t → (slot parent : SlotRef) → initial_parent t slot ≡ Some parent → ⊥
+pub no_parent : (t : Layout) → IsLawful t → (slot parent : SlotRef) → initial_parent t slot ≡ Some parent → ⊥
 unfolding initial_parent
-no_parent t lawful slot parent e = none-some parent (sym (ap (λ (pairs : List Pair). option_map (λ (pair : Pair). pair.parent) (find (λ (pair : Pair). same_slot pair.child slot) pairs)) lawful.underived) ∙ e)
+no_parent t lawful slot parent e =
+    none-some parent
+    (sym (ap (λ (pairs : List Pair). option_map (λ (pair : Pair). pair.parent) (find (λ (pair : Pair). same_slot pair.child slot) pairs)) lawful.underived) ∙ e)
 
-link_edge :
-    (t : Layout) (allowed : EdgeTest) (m : Machine) → IsLawful t → IsAccepted t allowed → IsBoot t m → (from : ℕ) (k : Kind) (to : ℕ) (id end : ObjId) → IsBinding t id end k
-    → declared_label t id ≡ Some from → declared_label t end ≡ Some to → allowed from k to ≡ true
-link_edge t allowed m lawful accepted boot from k to id end binding source target =
-    subst (λ x. allowed from x to ≡ true) (sym binding.runs)
-    (has_edge t allowed accepted from authority.Runs to (denial.Binding id end) (λ missing. record { from = from; to = to; bound = binding.bound_to; source = source; target = target; missing = missing }))
-
-pub boot_confined : (t : Layout) (allowed : EdgeTest) (m : Machine) → IsLawful t → IsAccepted t allowed → IsBoot t m → IsConfined t allowed m
-boot_confined t allowed m lawful accepted boot from k to (by_cap slot held filled node given source target) =
-    has_edge t allowed accepted from k to (denial.Capability slot k to) (λ missing.
-    record {
-      held = held;
-      from = from;
-      filled = sym (boot.caps slot) ∙ filled;
-      holder = sym (boot_kind t m boot slot.holder) ∙ node;
-      given = given;
-      source = sym (boot_label t m boot slot.holder) ∙ source;
-      target = sym (boot_label t m boot held.object) ∙ target;
-      missing = missing;
-    })
-boot_confined t allowed m lawful accepted boot from k to (by_root slot held filled thread source target) =
-    has_edge t allowed accepted from authority.Space to (denial.Root slot to) (λ missing.
-    record {
-      held = held;
-      from = from;
-      filled = sym (boot.caps slot) ∙ filled;
-      holder = sym (boot_kind t m boot slot.holder) ∙ thread;
-      source = sym (boot_label t m boot slot.holder) ∙ source;
-      target = sym (boot_label t m boot held.object) ∙ target;
-      missing = missing;
-    })
-boot_confined t allowed m lawful accepted boot from k to (by_pair slot parent derived source target) = absurd (no_parent t lawful slot parent (sym (boot.parents slot) ∙ derived))
-boot_confined t allowed m lawful accepted boot from k to (by_link id end object at linked source target) =
+-- what a booted object is linked to is bound to it
+pub bound_link :
+    (t : Layout) (m : Machine) → IsLawful t → IsBoot t m → (id end : ObjId) (object : Object) (k : Kind)
+    → object_of m id ≡ Some object → links object k end ≡ true → IsBinding t id end k
+bound_link t m lawful boot id end object k at linked =
     let declared = declared_at t m boot id object at in
     let blank = (initial_lawful t lawful id declared.initial declared.declares).blank in
-    link_edge t allowed m lawful accepted boot from k to id end (boot_link t id declared.initial.object k end blank (ap (λ x. links x k end) (sym declared.object_is) ∙ linked))
-    (sym (boot_label t m boot id) ∙ source) (sym (boot_label t m boot end) ∙ target)
+    boot_link t id declared.initial.object k end blank (ap (λ x. links x k end) (sym declared.object_is) ∙ linked)
 
 -- untyped memory that has an address
-memory_at : (address : ℕ) (initial : Initial) (memory : Untyped) → initial.object ≡ o.Untyped memory → memory.base ≤ address → address < end_of (o.Untyped memory) → has_memory_at address initial ≡ true
+memory_at :
+    (address : ℕ) (initial : Initial) (memory : Untyped) → initial.object ≡ o.Untyped memory → memory.base ≤ address
+    → address < end_of (o.Untyped memory) → has_memory_at address initial ≡ true
 memory_at address initial memory is above below =
     let first : nat_le memory.base address ≡ true = le-leb memory.base address above in
     let second : nat_lt address (end_of (o.Untyped memory)) ≡ true = (Decides-ltb address (end_of (o.Untyped memory))).1 below in
     rw is (and_from _ _ first second)
 
-lies_by : (address : ℕ) (initial : Initial) (object : Object) → initial.object ≡ object → has_memory_at address initial ≡ true → Lies initial.object address
+lies_by :
+    (address : ℕ) (initial : Initial) (object : Object) → initial.object ≡ object → has_memory_at address initial ≡ true
+    → Lies initial.object address
 lies_by address initial (o.Untyped memory) is e =
-    let seen : has_memory_at address initial ≡ (nat_le memory.base address && nat_lt address (end_of (o.Untyped memory))) = rw is refl in
+    let seen : has_memory_at address initial ≡ (nat_le memory.base address && nat_lt address (end_of (o.Untyped memory))) =
+    rw is refl in
     let parts = and_parts (nat_le memory.base address) (nat_lt address (end_of (o.Untyped memory))) (sym seen ∙ e) in
-    subst (λ (x : Object). Lies x address) (sym is) (leb-true memory.base address parts.0, (Decides-ltb address (end_of (o.Untyped memory))).0 parts.1)
-lies_by address initial _ is e = let seen : has_memory_at address initial ≡ false = rw is refl in absurd (false≢true (sym seen ∙ e))
+    subst (λ (x : Object). Lies x address) (sym is)
+    (leb-true memory.base address parts.0, (Decides-ltb address (end_of (o.Untyped memory))).0 parts.1)
+lies_by address initial _ is e =
+    let seen : has_memory_at address initial ≡ false = rw is refl in absurd (false≢true (sym seen ∙ e))
 
 -- the label of untyped memory is that of the initial untyped whose range has the address, and there is no other
 pub boot_ranged :
-    (t : Layout) → IsLawful t → (id : ObjId) (initial : Initial) (memory : Untyped) (address : ℕ) → initial_of t id ≡ Some initial → initial.object ≡ o.Untyped memory → memory.base ≤ address → address < end_of (o.Untyped memory)
+    (t : Layout) → IsLawful t → (id : ObjId) (initial : Initial) (memory : Untyped) (address : ℕ)
+    → initial_of t id ≡ Some initial → initial.object ≡ o.Untyped memory → memory.base ≤ address
+    → address < end_of (o.Untyped memory)
     → label_at t address ≡ Some initial.label
 unfolding label_at initial_of
 boot_ranged t lawful id initial memory address declares is above below =
@@ -193,12 +178,17 @@ boot_ranged t lawful id initial memory address declares is above below =
     lies : Lies initial.object address
     lies = subst (λ (x : Object). Lies x address) (sym is) (above, below)
 
-    no_other : (i : ℕ) (other : Initial) → i < id.0 → slice_get t.objects i ≡ Some other → (has : Bool) → has_memory_at address other ≡ has → has_memory_at address other ≡ false
+    no_other :
+        (i : ℕ) (other : Initial) → i < id.0 → slice_get t.objects i ≡ Some other → (has : Bool)
+        → has_memory_at address other ≡ has → has_memory_at address other ≡ false
     no_other i other lt at false e = e
     no_other i other lt at true e =
-        absurd (pair_at (λ (one two : Initial). IsApart one.object two.object) t.objects i id.0 other initial lawful.objects_apart lt at declares address (lies_by address other other.object refl e) lies)
+        absurd
+        (pair_at (λ (one two : Initial). IsApart one.object two.object) t.objects i id.0 other initial lawful.objects_apart lt at declares address (lies_by address other other.object refl e) lies)
 
-bound_memory : (t : Layout) (id : ObjId) (object : Object) (memory : Untyped) → o.Untyped memory ≡ bound t id object → object ≡ o.Untyped memory
+bound_memory :
+    (t : Layout) (id : ObjId) (object : Object) (memory : Untyped) → o.Untyped memory ≡ bound t id object
+    → object ≡ o.Untyped memory
 bound_memory t id (o.Untyped _) memory e = sym e
 bound_memory t id (o.Tcb _) memory e = cc
 bound_memory t id (o.Context _) memory e = cc
@@ -209,7 +199,8 @@ bound_memory t id (o.Reply _) memory e = cc
 bound_memory t id (o.Frame _) memory e = cc
 bound_memory t id (o.Control _) memory e = cc
 
-label_declared : (t : Layout) (id : ObjId) (initial : Initial) → initial_of t id ≡ Some initial → declared_label t id ≡ Some initial.label
+label_declared :
+    (t : Layout) (id : ObjId) (initial : Initial) → initial_of t id ≡ Some initial → declared_label t id ≡ Some initial.label
 unfolding declared_label
 label_declared t id initial e = ap (option_map (λ (i : Initial). i.label)) e
 
@@ -220,12 +211,18 @@ boot_of_table t m lawful boot =
       initial = λ id object initial at is.
           let declared = declared_at t m boot id object at in
           let same : declared.initial ≡ initial = same_Some declared.initial initial (sym declared.declares ∙ is) in (
-            ap kind_of_object declared.object_is ∙ kind-bound t id declared.initial.object ∙ ap (λ (i : Initial). kind_of_object i.object) same,
-            ap address_of declared.object_is ∙ address-bound t id declared.initial.object ∙ ap (λ (i : Initial). address_of i.object) same,
+            ap kind_of_object declared.object_is ∙ kind-bound t id declared.initial.object
+                ∙ ap (λ (i : Initial). kind_of_object i.object) same,
+            ap address_of declared.object_is ∙ address-bound t id declared.initial.object
+                ∙ ap (λ (i : Initial). address_of i.object) same,
           );
       ranged = λ id memory label address at is above below.
           let declared = declared_at t m boot id (o.Untyped memory) at in
-          let same : declared.initial.label ≡ label = same_Some declared.initial.label label (sym (boot_label t m boot id ∙ label_declared t id declared.initial declared.declares) ∙ is) in
-          boot_ranged t lawful id declared.initial memory address declared.declares (bound_memory t id declared.initial.object memory declared.object_is) above below ∙ ap Some same;
+          let same : declared.initial.label ≡ label =
+          same_Some declared.initial.label label
+          (sym (boot_label t m boot id ∙ label_declared t id declared.initial declared.declares) ∙ is) in
+          boot_ranged t lawful id declared.initial memory address declared.declares
+          (bound_memory t id declared.initial.object memory declared.object_is) above below
+          ∙ ap Some same;
       counted = let e = boot.next in omega (arith, e);
     }

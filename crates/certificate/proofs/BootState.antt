@@ -2,9 +2,7 @@
 use Rattle.std.proofs.Common.{◌≡◌, ◌≢◌, ℕ, zero, suc, ◌+◌, Bool, true, false, cond, List, [], ◌∷◌, length, replicate, refl, sym, ap, ◌∙◌, arith}
 use Rattle.std.specs.Prelude.{Option, Some, None, option_map, slice_get}
 use Rattle.std.specs.List.{find}
-use Rattle.std.specs.Cmp.{tied_itself}
 use Rattle.std.specs.FinMap as map
-use Rattle.std.specs.Ordering.{is_eq}
 use Rattle.std.proofs.lemmas.Cmp.{eq_by_cmp_equiv}
 use Rattle.base.specs.declared.ids.ObjId.{ObjId}
 use Rattle.base.specs.declared.ids.SlotRef.{SlotRef}
@@ -16,6 +14,7 @@ use Rattle.machine.specs.Boot.{IsBoot, bound, booted}
 use Rattle.machine.specs.Layout.{Layout, initial_of, initial_cap, initial_parent}
 use Rattle.machine.specs.Machine.{Machine, id_cmp, slot_cmp, id_total, slot_total, same_id, same_slot, object_of, queue_of, words_of, cap_of, parent_of}
 use Rattle.machine.specs.Objects.{word_count}
+use Rattle.certificate.proofs.Links.{id_itself}
 
 abbrev id : ℕ → ObjId
 id n = record { 0 = n }
@@ -24,9 +23,6 @@ id n = record { 0 = n }
 numbered : {X : Type 0} → (ObjId → Initial → X) → ℕ → List Initial → List (ObjId × X)
 numbered f n [] = []
 numbered f n (initial ∷ more) = (id n, f (id n) initial) ∷ numbered f (n + 1) more
-
-same_itself : (a : ObjId) → same_id a a ≡ true
-same_itself a = ap is_eq (tied_itself id_total a)
 
 apart_ids : (a b : ObjId) → a.0 ≢ b.0 → same_id a b ≡ false
 apart_ids a b apart = grind arith
@@ -39,11 +35,12 @@ numbered_at f n k [] q at = refl
 numbered_at f n zero (initial ∷ more) q at =
     let number : q.0 ≡ n = omega arith in
     let here : q ≡ id n = ap id number in
-    let found : same_id q (id n) ≡ true = ap (λ (x : ObjId). same_id x (id n)) here ∙ same_itself (id n) in
+    let found : same_id q (id n) ≡ true = ap (λ (x : ObjId). same_id x (id n)) here ∙ id_itself (id n) in
     ap (λ b. cond b (Some (f (id n) initial)) (map.find id_cmp q (numbered f (n + 1) more))) found
     ∙ ap (λ (x : ObjId). Some (f x initial)) (sym here)
 numbered_at f n (suc k) (initial ∷ more) q at =
-    ap (λ b. cond b (Some (f (id n) initial)) (map.find id_cmp q (numbered f (n + 1) more))) (apart_ids q (id n) (λ same. omega arith))
+    ap (λ b. cond b (Some (f (id n) initial)) (map.find id_cmp q (numbered f (n + 1) more)))
+    (apart_ids q (id n) (λ same. omega arith))
     ∙ numbered_at f (n + 1) k more q (omega arith)
 
 -- what is listed by slots
@@ -67,7 +64,8 @@ listed_at key value (x ∷ xs) q =
     by true rest = refl
     by false rest = rest
 
-option_map_twice : {A B C : Type 0} (f : B → C) (g : A → B) (x : Option A) → option_map (λ a. f (g a)) x ≡ option_map f (option_map g x)
+option_map_twice :
+    {A B C : Type 0} (f : B → C) (g : A → B) (x : Option A) → option_map (λ a. f (g a)) x ≡ option_map f (option_map g x)
 option_map_twice f g None = refl
 option_map_twice f g (Some a) = refl
 

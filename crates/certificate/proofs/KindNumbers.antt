@@ -37,4 +37,5 @@ pub same_kind : (a b : Kind) → kind_number a ≡ kind_number b → a ≡ b
 same_kind a b same = sym (at_number a a) ∙ ap (λ n. get_or all_kinds n a) same ∙ at_number b a
 
 pub number_at : (k : ℕ) (d : Kind) → k < 17 → kind_number (get_or all_kinds k d) ≡ k
-number_at k d lt = sym (get_or-map kind_number all_kinds k d (kind_number d) lt) ∙ get_or-range_with_len 0 17 k (kind_number d) lt ∙ zero-add k
+number_at k d lt =
+    sym (get_or-map kind_number all_kinds k d (kind_number d) lt) ∙ get_or-range_with_len 0 17 k (kind_number d) lt ∙ zero-add k

@@ -2,6 +2,7 @@ pub mod Places
 pub mod KindNumbers
 pub mod SubjectPlaces
 pub mod Lookups
+pub mod Links
 pub mod TablePlaces
 pub mod RuleOrder
 pub mod Reach
@@ -20,6 +21,8 @@ pub mod SmallSystem
 pub mod Unallowed
 pub mod Unsafe
 pub mod Outsides
+pub mod BootPlaces
+pub mod NoBudget
 pub mod OneVerdict
 pub mod AllPlaces
 pub mod Telling

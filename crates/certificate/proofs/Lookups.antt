@@ -26,24 +26,35 @@ found_later p y ys x found = record { at = suc found.at; here = found.here; pass
 pub found_at : {X : Type 0} (p : X → Bool) (xs : List X) (x : X) → find p xs ≡ Some x → FoundAt p xs x
 found_at p [] x found = absurd (none-some x found)
 found_at p (y ∷ ys) x found = by (p y) refl found (found_at p ys x) where
-  by : (passes : Bool) → p y ≡ passes → cond passes (Some y) (find p ys) ≡ Some x → (find p ys ≡ Some x → FoundAt p ys x) → FoundAt p (y ∷ ys) x
+  by :
+      (passes : Bool) → p y ≡ passes → cond passes (Some y) (find p ys) ≡ Some x → (find p ys ≡ Some x → FoundAt p ys x)
+      → FoundAt p (y ∷ ys) x
   by true passes found later = record { at = 0; here = found; passes = ap p (sym (same_Some y x found)) ∙ passes }
   by false passes found later = found_later p y ys x (later found)
 
 -- the first that passes is found
-pub found_first : {X : Type 0} (p : X → Bool) (xs : List X) (k : ℕ) (x : X) → slice_get xs k ≡ Some x → p x ≡ true → ((i : ℕ) (y : X) → i < k → slice_get xs i ≡ Some y → p y ≡ false) → find p xs ≡ Some x
+pub found_first :
+    {X : Type 0} (p : X → Bool) (xs : List X) (k : ℕ) (x : X) → slice_get xs k ≡ Some x → p x ≡ true
+    → ((i : ℕ) (y : X) → i < k → slice_get xs i ≡ Some y → p y ≡ false) → find p xs ≡ Some x
 found_first p [] k x here passes before = absurd (none-some x here)
-found_first p (y ∷ ys) zero x here passes before = ap (λ b. cond b (Some y) (find p ys)) (ap p (same_Some y x here) ∙ passes) ∙ here
+found_first p (y ∷ ys) zero x here passes before =
+    ap (λ b. cond b (Some y) (find p ys)) (ap p (same_Some y x here) ∙ passes) ∙ here
 found_first p (y ∷ ys) (suc k) x here passes before =
-    ap (λ b. cond b (Some y) (find p ys)) (before 0 y (omega arith) refl) ∙ found_first p ys k x here passes (λ i z lt at. before (suc i) z (omega arith) at)
+    ap (λ b. cond b (Some y) (find p ys)) (before 0 y (omega arith) refl)
+    ∙ found_first p ys k x here passes (λ i z lt at. before (suc i) z (omega arith) at)
 
 -- what a loop over a list reads
-pub read_at : {X : Type 0} (items xs : List X) (k : ℕ) (d : X) → items ≡ xs → k < length items → slice_get xs k ≡ Some (get_or items k d)
+pub read_at :
+    {X : Type 0} (items xs : List X) (k : ℕ) (d : X) → items ≡ xs → k < length items → slice_get xs k ≡ Some (get_or items k d)
 read_at items xs k d same lt = ap (λ ys. slice_get ys k) (sym same) ∙ slice_get-get_or items k d lt
 
 -- a fact of each two places of a list
-pub pair_at : {X : Type 0} (R : X → X → Type 0) (xs : List X) (i j : ℕ) (x y : X) → AllPairs R xs → i < j → slice_get xs i ≡ Some x → slice_get xs j ≡ Some y → R x y
-pair_at R xs i j x y all lt at_i at_j = rw (sym (get_or_from_slice_get xs i x x at_i), sym (get_or_from_slice_get xs j y x at_j)) (all i j x lt (slice_get_within xs j y at_j))
+pub pair_at :
+    {X : Type 0} (R : X → X → Type 0) (xs : List X) (i j : ℕ) (x y : X) → AllPairs R xs → i < j → slice_get xs i ≡ Some x
+    → slice_get xs j ≡ Some y → R x y
+pair_at R xs i j x y all lt at_i at_j =
+    rw (sym (get_or_from_slice_get xs i x x at_i), sym (get_or_from_slice_get xs j y x at_j))
+    (all i j x lt (slice_get_within xs j y at_j))
 
 -- a filled slot stands in the list
 pub record FilledAt (t : Layout) (slot : SlotRef) (held : Cap) : Type 0 where
@@ -56,14 +67,18 @@ pub record FilledAt (t : Layout) (slot : SlotRef) (held : Cap) : Type 0 where
 pub filled_at : (t : Layout) (slot : SlotRef) (held : Cap) → initial_cap t slot ≡ Some held → FilledAt t slot held
 unfolding initial_cap
 filled_at t slot held is = by (find (λ filled. same_slot filled.slot slot) t.caps) refl is where
-  by : (found : Option Filled) → find (λ filled. same_slot filled.slot slot) t.caps ≡ found → option_map (λ filled. filled.cap) found ≡ Some held → FilledAt t slot held
+  by :
+      (found : Option Filled) → find (λ filled. same_slot filled.slot slot) t.caps ≡ found
+      → option_map (λ filled. filled.cap) found ≡ Some held → FilledAt t slot held
   by None found is = absurd (none-some held is)
   by (Some filled) found is =
       let at = found_at (λ filled. same_slot filled.slot slot) t.caps filled found in
       record { at = at.at; filled = filled; here = at.here; slot_is = one_slot filled.slot slot at.passes; held_is = same_Some filled.cap held is }
 
 -- and what stands in the list is in the slot
-pub cap_from : (t : Layout) → IsLawful t → (k : ℕ) (filled : Filled) → slice_get t.caps k ≡ Some filled → initial_cap t filled.slot ≡ Some filled.cap
+pub cap_from :
+    (t : Layout) → IsLawful t → (k : ℕ) (filled : Filled) → slice_get t.caps k ≡ Some filled
+    → initial_cap t filled.slot ≡ Some filled.cap
 unfolding initial_cap
 cap_from t lawful k filled here =
     ap (option_map (λ (f : Filled). f.cap))
@@ -85,13 +100,17 @@ pub record BoundAt (t : Layout) (thread context : ObjId) : Type 0 where
 pub bound_at : (t : Layout) (thread context : ObjId) → bound_context t thread ≡ Some context → BoundAt t thread context
 unfolding bound_context
 bound_at t thread context is = by (find (λ binding. same_id binding.thread thread) t.bindings) refl is where
-  by : (found : Option Binding) → find (λ binding. same_id binding.thread thread) t.bindings ≡ found → option_map (λ binding. binding.context) found ≡ Some context → BoundAt t thread context
+  by :
+      (found : Option Binding) → find (λ binding. same_id binding.thread thread) t.bindings ≡ found
+      → option_map (λ binding. binding.context) found ≡ Some context → BoundAt t thread context
   by None found is = absurd (none-some context is)
   by (Some binding) found is =
       let at = found_at (λ binding. same_id binding.thread thread) t.bindings binding found in
       record { at = at.at; binding = binding; here = at.here; thread_is = one_id binding.thread thread at.passes; context_is = same_Some binding.context context is }
 
-pub bound_from : (t : Layout) → IsLawful t → (k : ℕ) (binding : Binding) → slice_get t.bindings k ≡ Some binding → bound_context t binding.thread ≡ Some binding.context
+pub bound_from :
+    (t : Layout) → IsLawful t → (k : ℕ) (binding : Binding) → slice_get t.bindings k ≡ Some binding
+    → bound_context t binding.thread ≡ Some binding.context
 unfolding bound_context
 bound_from t lawful k binding here =
     ap (option_map (λ (b : Binding). b.context))

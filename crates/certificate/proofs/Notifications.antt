@@ -1,8 +1,6 @@
 -- Signal and Poll within a caller's authority: the notification that is found is one that its label may notify or await, and who
 -- waits there awaits it by a recorded edge.
 use Rattle.std.proofs.Common.{◌≡◌, ℕ, Bool, true, false, cond, List, ◌∷◌, Some, refl, sym, ap, subst, ◌∙◌, arith}
-use Rattle.std.specs.Ordering.{is_eq}
-use Rattle.std.proofs.lemmas.Cmp.{tied_itself}
 use Rattle.std.proofs.lemmas.Option.{same_Some}
 use Rattle.base.specs.declared.ids.ObjId.{ObjId}
 use Rattle.base.specs.declared.ids.SlotRef.{SlotRef}
@@ -25,11 +23,12 @@ use Rattle.machine.specs.Capabilities.{gives}
 use Rattle.machine.specs.Effects.Finds.{FindsNotification}
 use Rattle.machine.specs.Effects.Primitives.{Sets, Wakes}
 use Rattle.machine.specs.Layout.{Layout}
-use Rattle.machine.specs.Machine.{Machine, object_of, queue_of, one_id, same_id, id_total}
+use Rattle.machine.specs.Machine.{Machine, object_of, queue_of, one_id, same_id}
 use Rattle.machine.specs.WellFormed.{kind_of, WaitsAt, WaitsAtKind}
 use Rattle.policy.specs.Domain.{EdgeTest, SubjectsAgree}
 use Rattle.certificate.specs.Invariant.{IsSound}
 use Rattle.certificate.proofs.Alike.{Resembles, IsAlike, as_it_was, changed, AllAlike}
+use Rattle.certificate.proofs.Links.{id_itself}
 use Rattle.certificate.proofs.Reach.{lookup_within, held_within, target_label}
 
 -- what a found notification is: it has a label, and the caller's label has the edges that the capability gives
@@ -40,7 +39,8 @@ pub record IsOpen (t : Layout) (allowed : EdgeTest) (m : Machine) (a : ℕ) (id 
   pub edge : (k : Kind) → gives (d.Notification end) k ≡ true → is_structural k ≡ false → allowed a k label ≡ true
 
 pub found_open :
-    (t : Layout) (allowed : EdgeTest) (m : Machine) → IsSound t allowed m → SubjectsAgree allowed → (caller : ObjId) (a address : ℕ) (id : ObjId) (end : Badged) → label_of t m caller ≡ Some a
+    (t : Layout) (allowed : EdgeTest) (m : Machine) → IsSound t allowed m → SubjectsAgree allowed
+    → (caller : ObjId) (a address : ℕ) (id : ObjId) (end : Badged) → label_of t m caller ≡ Some a
     → FindsNotification m caller address id end → IsOpen t allowed m a id end
 found_open t allowed m sound agree caller a address id end labelled found =
     let slot : SlotRef = found.finds.slot in
@@ -52,10 +52,6 @@ found_open t allowed m sound agree caller a address id end labelled found =
       labelled = ap (label_of t m) (sym found.object) ∙ to.1;
       edge = λ k given of_use. held_within t allowed m sound agree a slot found.held k to.0 within found.finds.holds (ap (λ x. gives x k) found.detail ∙ given) of_use to.1;
     }
-
--- an id passes the test with itself
-pub id_itself : (id : ObjId) → same_id id id ≡ true
-id_itself id = ap is_eq (tied_itself id_total id)
 
 -- a notification whose word changes resembles what it was
 pub word_resembles : (old new : Notification) → new.address ≡ old.address → Resembles (o.Notification old) (o.Notification new)
@@ -69,11 +65,14 @@ word_resembles old new same =
     }
 
 -- a thread that waited and is ready resembles what it was: it keeps its context, and all else it had is gone
-woken_links : (old : Tcb) (inbox : Inbox) (k : Kind) (end : ObjId) → links (o.Tcb (record old { state = state.Ready; inbox = inbox })) k end ≡ true → links (o.Tcb old) k end ≡ true
+woken_links :
+    (old : Tcb) (inbox : Inbox) (k : Kind) (end : ObjId)
+    → links (o.Tcb (record old { state = state.Ready; inbox = inbox })) k end ≡ true → links (o.Tcb old) k end ≡ true
 woken_links old inbox authority.Runs end e = e
 woken_links old inbox _ end e = cc
 
-pub woken_resembles : (old : Tcb) (inbox : Inbox) → Resembles (o.Tcb old) (o.Tcb (record old { state = state.Ready; inbox = inbox }))
+pub woken_resembles :
+    (old : Tcb) (inbox : Inbox) → Resembles (o.Tcb old) (o.Tcb (record old { state = state.Ready; inbox = inbox }))
 woken_resembles old inbox =
     record {
       kind = refl;
@@ -84,23 +83,37 @@ woken_resembles old inbox =
     }
 
 -- one object's content changes so
-set_alike_at : (m next : Machine) (id : ObjId) (old new : Object) → object_of m id ≡ Some old → Resembles old new → Sets m id new next → (q : ObjId) (same : Bool) → same_id q id ≡ same → IsAlike m next q
+set_alike_at :
+    (m next : Machine) (id : ObjId) (old new : Object) → object_of m id ≡ Some old → Resembles old new → Sets m id new next
+    → (q : ObjId) (same : Bool) → same_id q id ≡ same → IsAlike m next q
 set_alike_at m next id old new was like sets q true tied =
     let here : q ≡ id = one_id q id tied in
     changed old new (ap (object_of m) here ∙ was) (sets.objects q ∙ ap (λ b. cond b (Some new) (object_of m q)) tied) like
-set_alike_at m next id old new was like sets q false apart = as_it_was (sets.objects q ∙ ap (λ b. cond b (Some new) (object_of m q)) apart)
+set_alike_at m next id old new was like sets q false apart =
+    as_it_was (sets.objects q ∙ ap (λ b. cond b (Some new) (object_of m q)) apart)
 
-pub set_alike : (m next : Machine) (id : ObjId) (old new : Object) → object_of m id ≡ Some old → Resembles old new → Sets m id new next → AllAlike m next
-set_alike m next id old new was like sets = record { rest = sets.rest; objects = λ q. set_alike_at m next id old new was like sets q (same_id q id) refl }
+pub set_alike :
+    (m next : Machine) (id : ObjId) (old new : Object) → object_of m id ≡ Some old → Resembles old new → Sets m id new next
+    → AllAlike m next
+set_alike m next id old new was like sets =
+    record { rest = sets.rest; objects = λ q. set_alike_at m next id old new was like sets q (same_id q id) refl }
 
-wake_alike_at : (m next : Machine) (id first : ObjId) (old new : Tcb) → object_of m first ≡ Some (o.Tcb old) → Resembles (o.Tcb old) (o.Tcb new) → Wakes m id first new next → (q : ObjId) (same : Bool) → same_id q first ≡ same → IsAlike m next q
+wake_alike_at :
+    (m next : Machine) (id first : ObjId) (old new : Tcb) → object_of m first ≡ Some (o.Tcb old)
+    → Resembles (o.Tcb old) (o.Tcb new) → Wakes m id first new next → (q : ObjId) (same : Bool) → same_id q first ≡ same
+    → IsAlike m next q
 wake_alike_at m next id first old new was like wakes q true tied =
     let here : q ≡ first = one_id q first tied in
-    changed (o.Tcb old) (o.Tcb new) (ap (object_of m) here ∙ was) (wakes.objects q ∙ ap (λ b. cond b (Some (o.Tcb new)) (object_of m q)) tied) like
-wake_alike_at m next id first old new was like wakes q false apart = as_it_was (wakes.objects q ∙ ap (λ b. cond b (Some (o.Tcb new)) (object_of m q)) apart)
+    changed (o.Tcb old) (o.Tcb new) (ap (object_of m) here ∙ was)
+    (wakes.objects q ∙ ap (λ b. cond b (Some (o.Tcb new)) (object_of m q)) tied) like
+wake_alike_at m next id first old new was like wakes q false apart =
+    as_it_was (wakes.objects q ∙ ap (λ b. cond b (Some (o.Tcb new)) (object_of m q)) apart)
 
-pub wake_alike : (m next : Machine) (id first : ObjId) (old new : Tcb) → object_of m first ≡ Some (o.Tcb old) → Resembles (o.Tcb old) (o.Tcb new) → Wakes m id first new next → AllAlike m next
-wake_alike m next id first old new was like wakes = record { rest = wakes.rest; objects = λ q. wake_alike_at m next id first old new was like wakes q (same_id q first) refl }
+pub wake_alike :
+    (m next : Machine) (id first : ObjId) (old new : Tcb) → object_of m first ≡ Some (o.Tcb old)
+    → Resembles (o.Tcb old) (o.Tcb new) → Wakes m id first new next → AllAlike m next
+wake_alike m next id first old new was like wakes =
+    record { rest = wakes.rest; objects = λ q. wake_alike_at m next id first old new was like wakes q (same_id q first) refl }
 
 -- who stands in a notification's queue waits there
 pub record Awaits (m : Machine) (id thread : ObjId) (tcb : Tcb) : Type 0 where
@@ -116,7 +129,8 @@ waits_by_kind state.Ready id at fits = absurd fits
 waits_by_kind (state.Called _) id at fits = absurd fits
 
 pub first_awaits :
-    (t : Layout) (allowed : EdgeTest) (m : Machine) → IsSound t allowed m → (id first : ObjId) (others : List ObjId) → kind_of m id ≡ Some kind.Notification → queue_of m id ≡ Some (first ∷ others)
+    (t : Layout) (allowed : EdgeTest) (m : Machine) → IsSound t allowed m → (id first : ObjId) (others : List ObjId)
+    → kind_of m id ≡ Some kind.Notification → queue_of m id ≡ Some (first ∷ others)
     → (tcb : Tcb) × Awaits m id first tcb
 first_awaits t allowed m sound id first others is queued =
     let q = sound.well_formed.links.queued id (first ∷ others) first queued (0, omega arith, refl) in
@@ -125,7 +139,9 @@ first_awaits t allowed m sound id first others is queued =
 
 -- the label of a thread that waits at a notification has the edge of kind await
 pub awaits_edge :
-    (t : Layout) (allowed : EdgeTest) (m : Machine) → IsSound t allowed m → (id thread : ObjId) (tcb : Tcb) (from to : ℕ) → Awaits m id thread tcb → label_of t m thread ≡ Some from → label_of t m id ≡ Some to
+    (t : Layout) (allowed : EdgeTest) (m : Machine) → IsSound t allowed m → (id thread : ObjId) (tcb : Tcb) (from to : ℕ)
+    → Awaits m id thread tcb → label_of t m thread ≡ Some from → label_of t m id ≡ Some to
     → allowed from authority.Await to ≡ true
 awaits_edge t allowed m sound id thread tcb from to awaits source target =
-    sound.confined from authority.Await to (by_link thread id (o.Tcb tcb) awaits.there (ap (λ run. state_links run authority.Await id) awaits.waits ∙ id_itself id) source target)
+    sound.confined from authority.Await to
+    (by_link thread id (o.Tcb tcb) awaits.there (ap (λ run. state_links run authority.Await id) awaits.waits ∙ id_itself id) source target)

@@ -26,7 +26,8 @@ named : ℕ → List ℕ → Denial
 named zero (subject ∷ other ∷ kind ∷ target ∷ []) = denial.SubjectsDisagree subject other (get_or all_kinds kind Control) target
 named (suc zero) (holder ∷ index ∷ kind ∷ label ∷ []) =
     denial.Capability (record { holder = record { 0 = holder }; index = index }) (get_or all_kinds kind Control) label
-named (suc (suc zero)) (holder ∷ index ∷ label ∷ []) = denial.Root (record { holder = record { 0 = holder }; index = index }) label
+named (suc (suc zero)) (holder ∷ index ∷ label ∷ []) =
+    denial.Root (record { holder = record { 0 = holder }; index = index }) label
 named (suc (suc (suc rule))) (thread ∷ context ∷ []) = denial.Binding (record { 0 = thread }) (record { 0 = context })
 named _ _ = denial.Binding (record { 0 = 0 }) (record { 0 = 0 })
 
@@ -36,7 +37,8 @@ denial_at (rule ∷ names) = named rule names
 
 at_place : (d : Denial) → denial_at (place_of d) ≡ d
 unfolding denial_at named
-at_place (denial.SubjectsDisagree subject other kind target) = λ i. denial.SubjectsDisagree subject other (at_number kind Control i) target
+at_place (denial.SubjectsDisagree subject other kind target) =
+    λ i. denial.SubjectsDisagree subject other (at_number kind Control i) target
 at_place (denial.Capability slot kind label) = λ i. denial.Capability slot (at_number kind Control i) label
 at_place (denial.Root slot label) = refl
 at_place (denial.Binding thread context) = refl
@@ -50,9 +52,12 @@ one_least P d e least other = compared (slice_cmp nat_cmp (place_of d) (place_of
   compared : (order : Ordering) → slice_cmp nat_cmp (place_of d) (place_of e) ≡ order → d ≡ e
   compared Less is = absurd (other.first d least.has is)
   compared Equal is = same_place d e (slice_cmp-IsAntisymmetric nat_cmp-IsAntisymmetric (place_of d) (place_of e) is)
-  compared Greater is = absurd (least.first e other.has (nat_list_cmp_total.antisymm (place_of e) (place_of d) ∙ ap ordering_reverse is))
+  compared Greater is =
+      absurd (least.first e other.has (nat_list_cmp_total.antisymm (place_of e) (place_of d) ∙ ap ordering_reverse is))
 
-pub one_verdict : (t : Layout) (edges : List Edge) (verdict other : Result System Denial) → IsVerdict t edges verdict → IsVerdict t edges other → verdict ≡ other
+pub one_verdict :
+    (t : Layout) (edges : List Edge) (verdict other : Result System Denial) → IsVerdict t edges verdict
+    → IsVerdict t edges other → verdict ≡ other
 one_verdict t edges (Ok accepted) (Ok again) is same = ap Ok (is.0 ∙ sym same.0)
 one_verdict t edges (Ok accepted) (Err d) is least = absurd (is.1 d least.has)
 one_verdict t edges (Err d) (Ok accepted) least is = absurd (is.1 d least.has)

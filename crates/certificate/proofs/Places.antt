@@ -1,5 +1,5 @@
--- The least broken place, found part by part: a property that splits into parts, each of which comes before the next, has its least
--- place in the first part that has one.
+-- The least broken place, found part by part: a property that splits into parts, each of which comes before the next, has its
+-- least place in the first part that has one.
 use Rattle.std.proofs.Common.{◌≡◌, ℕ, ◌+◌, ◌<◌, List, [], ◌∷◌, ◌++◌, ◌⊎◌, sym, ap, ◌∙◌, subst, inl, inr, arith}
 use mathlib.Core.Bool.{false≢true}
 use Rattle.std.specs.declared.cmp.Ordering.{Ordering}
@@ -18,7 +18,9 @@ pub decided : (x y : ℕ) (rest : Ordering) → ordering_then (nat_cmp x y) rest
 decided x y rest less = grind (arith, less)
 
 -- of two lists that begin alike, the one that goes on with the smaller number comes first
-pub apart : (beginning xs ys : List ℕ) (i j : ℕ) → i < j → Begins (beginning ++ i ∷ []) xs → Begins (beginning ++ j ∷ []) ys → slice_cmp nat_cmp ys xs ≡ Less → ⊥
+pub apart :
+    (beginning xs ys : List ℕ) (i j : ℕ) → i < j → Begins (beginning ++ i ∷ []) xs → Begins (beginning ++ j ∷ []) ys
+    → slice_cmp nat_cmp ys xs ≡ Less → ⊥
 apart [] [] ys i j lt left right less = absurd left
 apart [] (x ∷ xs) [] i j lt left right less = absurd right
 apart [] (x ∷ xs) (y ∷ ys) i j lt left right less = elim (decided y x _ less) [ inl before ↦ omega (arith, left.0, right.0) | inr same ↦ omega (arith, left.0, right.0, same.0) ]
@@ -39,7 +41,8 @@ pub record Splits (P : Denial → Type 0) (count : ℕ) (Part : ℕ → Denial �
 
 module _ {P : Denial → Type 0} {count : ℕ} {Part : ℕ → Denial → Type 0} (splits : Splits P count Part) where
   -- one part more, whose number is also known otherwise
-  pub none_more : (i j : ℕ) → j ≡ i → ((k : ℕ) → k < i → IsNone (Part k)) → IsNone (Part j) → (k : ℕ) → k < i + 1 → IsNone (Part k)
+  pub none_more :
+      (i j : ℕ) → j ≡ i → ((k : ℕ) → k < i → IsNone (Part k)) → IsNone (Part j) → (k : ℕ) → k < i + 1 → IsNone (Part k)
   none_more i j same before here k lt =
       elim (cases_order k i) [
         | inl last ↦ subst (λ (n : ℕ). IsNone (Part n)) (same ∙ sym last) here
@@ -50,7 +53,9 @@ module _ {P : Denial → Type 0} {count : ℕ} {Part : ℕ → Denial → Type 0
   pub none_in_parts : ((k : ℕ) → k < count → IsNone (Part k)) → IsNone P
   none_in_parts none denial has = let part = splits.covers denial has in none part.0 part.1 denial part.2
 
-  pub least_in_part : (i j : ℕ) → j ≡ i → i < count → ((k : ℕ) → k < i → IsNone (Part k)) → (denial : Denial) → IsLeast (Part j) denial → IsLeast P denial
+  pub least_in_part :
+      (i j : ℕ) → j ≡ i → i < count → ((k : ℕ) → k < i → IsNone (Part k)) → (denial : Denial) → IsLeast (Part j) denial
+      → IsLeast P denial
   least_in_part i j same lt none denial least = record {
     has = splits.within i denial lt (subst (λ (n : ℕ). Part n denial) same least.has);
     first = λ other has before.
@@ -64,7 +69,8 @@ module _ {P : Denial → Type 0} {count : ℕ} {Part : ℕ → Denial → Type 0
 
 -- broken places that begin alike are split by the number that follows
 pub splits_by_next :
-    (t : Layout) (allowed : EdgeTest) (beginning : List ℕ) (count : ℕ) → ((denial : Denial) → BreaksUnder t allowed beginning denial → (k : ℕ) × (k < count) × Begins (beginning ++ k ∷ []) (place_of denial))
+    (t : Layout) (allowed : EdgeTest) (beginning : List ℕ) (count : ℕ) →
+    ((denial : Denial) → BreaksUnder t allowed beginning denial → (k : ℕ) × (k < count) × Begins (beginning ++ k ∷ []) (place_of denial))
     → Splits (BreaksUnder t allowed beginning) count (λ k. BreaksUnder t allowed (beginning ++ k ∷ []))
 splits_by_next t allowed beginning count next = record {
   covers = λ denial broken. let found = next denial broken in (found.0, found.1, (found.2, broken.1));
@@ -80,7 +86,9 @@ not_before (b ∷ bs) [] h less = h
 not_before (b ∷ bs) (y ∷ ys) h less = elim (decided y b _ less) [ inl before ↦ omega (arith, h.0) | inr same ↦ not_before bs ys h.1 same.1 ]
 
 -- where all of a place is given, it is the only one
-pub least_alone : (t : Layout) (allowed : EdgeTest) (beginning : List ℕ) (denial : Denial) → place_of denial ≡ beginning → BreaksUnder t allowed beginning denial → IsLeast (BreaksUnder t allowed beginning) denial
+pub least_alone :
+    (t : Layout) (allowed : EdgeTest) (beginning : List ℕ) (denial : Denial) → place_of denial ≡ beginning
+    → BreaksUnder t allowed beginning denial → IsLeast (BreaksUnder t allowed beginning) denial
 least_alone t allowed beginning denial same broken = record {
   has = broken;
   first = λ other under before. not_before beginning (place_of other) under.0 (subst (λ (place : List ℕ). slice_cmp nat_cmp (place_of other) place ≡ Less) same before);

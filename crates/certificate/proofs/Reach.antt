@@ -39,7 +39,9 @@ pub record Shows (m : Machine) (slot : SlotRef) (node : ObjId) : Type 0 where
   pub object : held.object ≡ node
   pub is_node : kind_of m node ≡ Some kind.CNode
 
-through : (m : Machine) (node : ObjId) (guard : Guard) (level : Level) (object : Option Object) → object_of m node ≡ object → level_through node guard object ≡ Some level → (node ≡ level.node) × (kind_of m node ≡ Some kind.CNode)
+through :
+    (m : Machine) (node : ObjId) (guard : Guard) (level : Level) (object : Option Object) → object_of m node ≡ object
+    → level_through node guard object ≡ Some level → (node ≡ level.node) × (kind_of m node ≡ Some kind.CNode)
 through m node guard level None is e = cc
 through m node guard level (Some (o.CNode slots)) is e =
     let same : node ≡ level.node = cc in
@@ -56,9 +58,12 @@ through m node guard level (Some (o.Control _)) is e = cc
 pub shows : (m : Machine) (slot : SlotRef) (level : Level) → level_at m slot ≡ Some level → Shows m slot level.node
 unfolding level_at
 shows m slot level e = by_cap (cap_of m slot) refl e where
-  by_detail : (held : Cap) (detail : Detail) → cap_of m slot ≡ Some held → held.detail ≡ detail → level_of_cap m (Some held) ≡ Some level → Shows m slot level.node
+  by_detail :
+      (held : Cap) (detail : Detail) → cap_of m slot ≡ Some held → held.detail ≡ detail
+      → level_of_cap m (Some held) ≡ Some level → Shows m slot level.node
   by_detail held (d.CNode guard) filled is e =
-      let seen : level_through held.object guard (object_of m held.object) ≡ Some level = ap (λ x. level_of_cap m (Some (record held { detail = x }))) (sym is) ∙ e in
+      let seen : level_through held.object guard (object_of m held.object) ≡ Some level =
+      ap (λ x. level_of_cap m (Some (record held { detail = x }))) (sym is) ∙ e in
       let parts = through m held.object guard level (object_of m held.object) refl seen in
       record { held = held; guard = guard; filled = filled; detail = is; object = parts.0; is_node = subst (λ n. kind_of m n ≡ Some kind.CNode) parts.0 parts.1 }
   by_detail held d.Untyped filled is e = cc
@@ -76,20 +81,30 @@ shows m slot level e = by_cap (cap_of m slot) refl e where
 
 -- the label has what a capability gives that is held within its domain
 pub held_within :
-    (t : Layout) (allowed : EdgeTest) (m : Machine) → IsSound t allowed m → SubjectsAgree allowed → (a : ℕ) (slot : SlotRef) (held : Cap) (k : Kind) (to : ℕ) → IsWithin t allowed m a slot.holder
-    → cap_of m slot ≡ Some held → gives held.detail k ≡ true → is_structural k ≡ false → label_of t m held.object ≡ Some to → allowed a k to ≡ true
+    (t : Layout) (allowed : EdgeTest) (m : Machine) → IsSound t allowed m → SubjectsAgree allowed
+    → (a : ℕ) (slot : SlotRef) (held : Cap) (k : Kind) (to : ℕ) → IsWithin t allowed m a slot.holder
+    → cap_of m slot ≡ Some held → gives held.detail k ≡ true → is_structural k ≡ false → label_of t m held.object ≡ Some to
+    → allowed a k to ≡ true
 held_within t allowed m sound agree a slot held k to within filled given of_use labelled =
-    agree a within.label within.domain k of_use to ∙ sound.confined within.label k to (by_cap slot held filled within.is_node given within.labelled labelled)
+    agree a within.label within.domain k of_use to
+    ∙ sound.confined within.label k to (by_cap slot held filled within.is_node given within.labelled labelled)
 
 -- the object of a capability has a label
-pub target_label : (t : Layout) (allowed : EdgeTest) (m : Machine) → IsSound t allowed m → (slot : SlotRef) (held : Cap) → cap_of m slot ≡ Some held → (label : ℕ) × (label_of t m held.object ≡ Some label)
+pub target_label :
+    (t : Layout) (allowed : EdgeTest) (m : Machine) → IsSound t allowed m → (slot : SlotRef) (held : Cap)
+    → cap_of m slot ≡ Some held → (label : ℕ) × (label_of t m held.object ≡ Some label)
 target_label t allowed m sound slot held filled = by_object (object_of m held.object) refl where
   by_object : (object : Option Object) → object_of m held.object ≡ object → (label : ℕ) × (label_of t m held.object ≡ Some label)
-  by_object None is = absurd (none-some (kind_of_detail held.detail) (sym (ap (option_map kind_of_object) is) ∙ sound.well_formed.slots.object slot held filled))
+  by_object None is =
+      absurd
+      (none-some (kind_of_detail held.detail) (sym (ap (option_map kind_of_object) is) ∙ sound.well_formed.slots.object slot held filled))
   by_object (Some object) is = sound.of_table.labelled held.object object is
 
 -- a CNode that is shown by a slot in the domain is in the domain
-pub shown_within : (t : Layout) (allowed : EdgeTest) (m : Machine) → IsSound t allowed m → SubjectsAgree allowed → (a : ℕ) (slot : SlotRef) (level : Level) → IsWithin t allowed m a slot.holder → level_at m slot ≡ Some level → IsWithin t allowed m a level.node
+pub shown_within :
+    (t : Layout) (allowed : EdgeTest) (m : Machine) → IsSound t allowed m → SubjectsAgree allowed
+    → (a : ℕ) (slot : SlotRef) (level : Level) → IsWithin t allowed m a slot.holder → level_at m slot ≡ Some level
+    → IsWithin t allowed m a level.node
 shown_within t allowed m sound agree a slot level within at =
     let s = shows m slot level at in
     let to = target_label t allowed m sound slot s.held s.filled in
@@ -102,41 +117,55 @@ shown_within t allowed m sound agree a slot level within at =
     }
 
 -- the slot that a hop selects is one of its CNode's
-hop_stays : (level : Level) (string : List Bool) (place : SlotRef × List Bool) → hop level string ≡ Ok place → place.0.holder ≡ level.node
+hop_stays :
+    (level : Level) (string : List Bool) (place : SlotRef × List Bool) → hop level string ≡ Ok place
+    → place.0.holder ≡ level.node
 unfolding hop
 hop_stays level string place e = grind (arith, e)
 
 -- where a walk ends, the slot is in the domain
 pub walk_within :
-    (t : Layout) (allowed : EdgeTest) (m : Machine) → IsSound t allowed m → SubjectsAgree allowed → (a most : ℕ) (level : Level) (string : List Bool) (place : SlotRef × List Bool) → IsWithin t allowed m a level.node
+    (t : Layout) (allowed : EdgeTest) (m : Machine) → IsSound t allowed m → SubjectsAgree allowed
+    → (a most : ℕ) (level : Level) (string : List Bool) (place : SlotRef × List Bool) → IsWithin t allowed m a level.node
     → walk most m level string ≡ Ok place → IsWithin t allowed m a place.0.holder
 unfolding walk
 walk_within t allowed m sound agree a zero level string place within e = cc
 walk_within t allowed m sound agree a (suc most) level string place within e =
-    by_hop (λ (next : Level) (rest : List Bool) inside onward. walk_within t allowed m sound agree a most next rest place inside onward) (hop level string) refl e
+    by_hop
+    (λ (next : Level) (rest : List Bool) inside onward. walk_within t allowed m sound agree a most next rest place inside onward)
+    (hop level string) refl e
   where
     GoesOn : Type 0
-    GoesOn = (next : Level) (rest : List Bool) → IsWithin t allowed m a next.node → walk most m next rest ≡ Ok place → IsWithin t allowed m a place.0.holder
+    GoesOn =
+        (next : Level) (rest : List Bool) → IsWithin t allowed m a next.node → walk most m next rest ≡ Ok place
+        → IsWithin t allowed m a place.0.holder
 
     ends : (slot : SlotRef) (rest : List Bool) → slot.holder ≡ level.node → slot ≡ place.0 → IsWithin t allowed m a place.0.holder
     ends slot rest stays same = subst (λ n. IsWithin t allowed m a n) (sym stays ∙ ap (λ (s : SlotRef). s.holder) same) within
 
-    by_rest : GoesOn → (slot : SlotRef) (rest : List Bool) → slot.holder ≡ level.node → (next : Option Level) → level_at m slot ≡ next → onward (λ l r. walk most m l r) m (Ok (slot, rest)) ≡ Ok place → IsWithin t allowed m a place.0.holder
+    by_rest :
+        GoesOn → (slot : SlotRef) (rest : List Bool) → slot.holder ≡ level.node → (next : Option Level) → level_at m slot ≡ next
+        → onward (λ l r. walk most m l r) m (Ok (slot, rest)) ≡ Ok place → IsWithin t allowed m a place.0.holder
     by_rest go slot [] stays next at e = ends slot [] stays cc
     by_rest go slot (b ∷ bs) stays None at e =
         let stopped : onward (λ l r. walk most m l r) m (Ok (slot, b ∷ bs)) ≡ Ok (slot, b ∷ bs) = rw at refl in
         ends slot (b ∷ bs) stays cc
     by_rest go slot (b ∷ bs) stays (Some next) at e =
         let goes : onward (λ l r. walk most m l r) m (Ok (slot, b ∷ bs)) ≡ walk most m next (b ∷ bs) = rw at refl in
-        go next (b ∷ bs) (shown_within t allowed m sound agree a slot next (subst (λ n. IsWithin t allowed m a n) (sym stays) within) at) (sym goes ∙ e)
+        go next (b ∷ bs)
+        (shown_within t allowed m sound agree a slot next (subst (λ n. IsWithin t allowed m a n) (sym stays) within) at)
+        (sym goes ∙ e)
 
-    by_hop : GoesOn → (hopped : Result (SlotRef × List Bool) LookupFailure) → hop level string ≡ hopped → onward (λ l r. walk most m l r) m hopped ≡ Ok place → IsWithin t allowed m a place.0.holder
+    by_hop :
+        GoesOn → (hopped : Result (SlotRef × List Bool) LookupFailure) → hop level string ≡ hopped
+        → onward (λ l r. walk most m l r) m hopped ≡ Ok place → IsWithin t allowed m a place.0.holder
     by_hop go (Err failure) h e = cc
     by_hop go (Ok (slot, rest)) h e = by_rest go slot rest (hop_stays level string (slot, rest) h) (level_at m slot) refl e
 
 -- the CNode at a thread's root is in the domain of the thread's label
 pub root_within :
-    (t : Layout) (allowed : EdgeTest) (m : Machine) → IsSound t allowed m → (caller : ObjId) (a : ℕ) (level : Level) → kind_of m caller ≡ Some kind.Tcb → label_of t m caller ≡ Some a
+    (t : Layout) (allowed : EdgeTest) (m : Machine) → IsSound t allowed m → (caller : ObjId) (a : ℕ) (level : Level)
+    → kind_of m caller ≡ Some kind.Tcb → label_of t m caller ≡ Some a
     → level_at m (root_of caller) ≡ Some level → IsWithin t allowed m a level.node
 root_within t allowed m sound caller a level thread labelled at =
     let s = shows m (root_of caller) level at in
@@ -150,21 +179,28 @@ root_within t allowed m sound caller a level thread labelled at =
 
 -- what a thread finds is held in the domain of its label
 pub lookup_within :
-    (t : Layout) (allowed : EdgeTest) (m : Machine) → IsSound t allowed m → SubjectsAgree allowed → (caller : ObjId) (a address : ℕ) (place : SlotRef × ℕ) → label_of t m caller ≡ Some a
+    (t : Layout) (allowed : EdgeTest) (m : Machine) → IsSound t allowed m → SubjectsAgree allowed
+    → (caller : ObjId) (a address : ℕ) (place : SlotRef × ℕ) → label_of t m caller ≡ Some a
     → lookup_of m caller address ≡ Ok place → IsWithin t allowed m a place.0.holder
 unfolding lookup_of
 lookup_within t allowed m sound agree caller a address place labelled e = by_caller (object_of m caller) refl where
-  by_walk : (level : Level) → IsWithin t allowed m a level.node → (end : Result (SlotRef × List Bool) LookupFailure) → walk 65 m level (bits 64 address) ≡ end → counted end ≡ Ok place → IsWithin t allowed m a place.0.holder
+  by_walk :
+      (level : Level) → IsWithin t allowed m a level.node → (end : Result (SlotRef × List Bool) LookupFailure)
+      → walk 65 m level (bits 64 address) ≡ end → counted end ≡ Ok place → IsWithin t allowed m a place.0.holder
   by_walk level within (Err failure) h e = cc
   by_walk level within (Ok (slot, rest)) h e =
       let same : slot ≡ place.0 = cc in
-      subst (λ (s : SlotRef). IsWithin t allowed m a s.holder) same (walk_within t allowed m sound agree a 65 level (bits 64 address) (slot, rest) within h)
+      subst (λ (s : SlotRef). IsWithin t allowed m a s.holder) same
+      (walk_within t allowed m sound agree a 65 level (bits 64 address) (slot, rest) within h)
 
-  by_root : (tcb : Tcb) → object_of m caller ≡ Some (o.Tcb tcb) → (root : Option Level) → level_at m (root_of caller) ≡ root → IsWithin t allowed m a place.0.holder
+  by_root :
+      (tcb : Tcb) → object_of m caller ≡ Some (o.Tcb tcb) → (root : Option Level) → level_at m (root_of caller) ≡ root
+      → IsWithin t allowed m a place.0.holder
   by_root tcb is None at = let failed : lookup_of m caller address ≡ Err (cause.FailedLookup InvalidRoot) = rw (is, at) refl in cc
   by_root tcb is (Some level) at =
       let ends : lookup_of m caller address ≡ counted (walk 65 m level (bits 64 address)) = rw (is, at) refl in
-      by_walk level (root_within t allowed m sound caller a level (ap (option_map kind_of_object) is) labelled at) (walk 65 m level (bits 64 address)) refl (sym ends ∙ e)
+      by_walk level (root_within t allowed m sound caller a level (ap (option_map kind_of_object) is) labelled at)
+      (walk 65 m level (bits 64 address)) refl (sym ends ∙ e)
 
   by_caller : (object : Option Object) → object_of m caller ≡ object → IsWithin t allowed m a place.0.holder
   by_caller (Some (o.Tcb tcb)) is = by_root tcb is (level_at m (root_of caller)) refl

@@ -19,7 +19,8 @@ use Rattle.table.specs.Rules.{kind_at}
 use Rattle.certificate.specs.declared.denial.Denial.TheVariants as denial
 use Rattle.certificate.specs.Confined.{IsConfined}
 use Rattle.certificate.specs.Verdict.{IsAccepted}
-use Rattle.certificate.proofs.AtBoot.{boot_confined, boot_kind, boot_label}
+use Rattle.certificate.proofs.AtBoot.{boot_kind, boot_label}
+use Rattle.certificate.proofs.BootPlaces.{boot_confined}
 use Rattle.certificate.proofs.BootState.{boot_state, boot_state_is}
 use Rattle.certificate.proofs.SmallSystem.{id, slot, thread, space_cap, signal_cap, no_edges, system, bare, bare_lawful}
 
@@ -40,7 +41,7 @@ abbrev pub m : Machine
 m = boot_state bare
 
 pub confined : IsConfined bare no_edges m
-confined = boot_confined bare no_edges m bare_lawful accepted (boot_state_is bare)
+confined = boot_confined bare no_edges m bare_lawful (boot_state_is bare) accepted
 
 pub node_kind : kind_of m (id 0) ≡ Some kind.CNode
 unfolding bare system initial_of kind_at

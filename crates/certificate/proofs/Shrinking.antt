@@ -14,7 +14,7 @@ use Rattle.certificate.specs.Shrinks.Lessens.{as_it_was, released, freed, unboun
 use Rattle.certificate.specs.Shrinks.IsPart.{ended, stayed, left}
 use Rattle.certificate.specs.Shrinks.Stops.{goes_on, aborted, halted}
 
-same_tcb : (a b : Tcb) → o.Tcb a ≡ o.Tcb b → a ≡ b
+pub same_tcb : (a b : Tcb) → o.Tcb a ≡ o.Tcb b → a ≡ b
 same_tcb a b e = cc
 
 same_reply : (a b : Reply) → o.Reply a ≡ o.Reply b → a ≡ b
@@ -50,19 +50,27 @@ lessens_lessens a b c (as_it_was same) more = subst (λ (x : Object). Lessens x 
 lessens_lessens a b c first (as_it_was same) = subst (λ (x : Object). Lessens a x) (sym same) first
 lessens_lessens a b c (released was is x y address stops context) (released was' is' x' y' address' stops' context') =
     let same : was' ≡ is = same_tcb was' is (sym x' ∙ y) in
-    released was is' x y' (address' ∙ ap (λ (t : Tcb). t.address) same ∙ address) (stops_stops was is is' stops (subst (λ (t : Tcb). Stops t is') same stops'))
+    released was is' x y' (address' ∙ ap (λ (t : Tcb). t.address) same ∙ address)
+    (stops_stops was is is' stops (subst (λ (t : Tcb). Stops t is') same stops'))
     (loses_loses was.context is.context is'.context context (subst (λ (t : Tcb). LosesLink t.context is'.context) same context'))
 lessens_lessens a b c (freed was is x y address free) (freed was' is' x' y' address' free') =
     let same : was' ≡ is = same_reply was' is (sym x' ∙ y) in freed was is' x y' (address' ∙ ap (λ (t : Reply). t.address) same ∙ address) free'
 lessens_lessens a b c (unbound was is x y address share thread) (unbound was' is' x' y' address' share' thread') =
     let same : was' ≡ is = same_context was' is (sym x' ∙ y) in
-    unbound was is' x y' (address' ∙ ap (λ (t : Context). t.address) same ∙ address) (share' ∙ ap (λ (t : Context). t.share) same ∙ share) thread'
-lessens_lessens a b c (released was is x y address stops context) (freed was' is' x' y' address' free') = let e : o.Tcb is ≡ o.Reply was' = sym y ∙ x' in cc
-lessens_lessens a b c (released was is x y address stops context) (unbound was' is' x' y' address' share' thread') = let e : o.Tcb is ≡ o.Context was' = sym y ∙ x' in cc
-lessens_lessens a b c (freed was is x y address free) (released was' is' x' y' address' stops' context') = let e : o.Reply is ≡ o.Tcb was' = sym y ∙ x' in cc
-lessens_lessens a b c (freed was is x y address free) (unbound was' is' x' y' address' share' thread') = let e : o.Reply is ≡ o.Context was' = sym y ∙ x' in cc
-lessens_lessens a b c (unbound was is x y address share thread) (released was' is' x' y' address' stops' context') = let e : o.Context is ≡ o.Tcb was' = sym y ∙ x' in cc
-lessens_lessens a b c (unbound was is x y address share thread) (freed was' is' x' y' address' free') = let e : o.Context is ≡ o.Reply was' = sym y ∙ x' in cc
+    unbound was is' x y' (address' ∙ ap (λ (t : Context). t.address) same ∙ address)
+    (share' ∙ ap (λ (t : Context). t.share) same ∙ share) thread'
+lessens_lessens a b c (released was is x y address stops context) (freed was' is' x' y' address' free') =
+    let e : o.Tcb is ≡ o.Reply was' = sym y ∙ x' in cc
+lessens_lessens a b c (released was is x y address stops context) (unbound was' is' x' y' address' share' thread') =
+    let e : o.Tcb is ≡ o.Context was' = sym y ∙ x' in cc
+lessens_lessens a b c (freed was is x y address free) (released was' is' x' y' address' stops' context') =
+    let e : o.Reply is ≡ o.Tcb was' = sym y ∙ x' in cc
+lessens_lessens a b c (freed was is x y address free) (unbound was' is' x' y' address' share' thread') =
+    let e : o.Reply is ≡ o.Context was' = sym y ∙ x' in cc
+lessens_lessens a b c (unbound was is x y address share thread) (released was' is' x' y' address' stops' context') =
+    let e : o.Context is ≡ o.Tcb was' = sym y ∙ x' in cc
+lessens_lessens a b c (unbound was is x y address share thread) (freed was' is' x' y' address' free') =
+    let e : o.Context is ≡ o.Reply was' = sym y ∙ x' in cc
 
 lost_lost : (a b c : Option Cap) → (b ≡ a) ⊎ (b ≡ None) → (c ≡ b) ⊎ (c ≡ None) → (c ≡ a) ⊎ (c ≡ None)
 lost_lost a b c (inl one) (inl two) = inl (two ∙ one)

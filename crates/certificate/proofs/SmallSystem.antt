@@ -1,5 +1,5 @@
--- A small system whose slots and bindings are open: a CNode of label 1, a thread of label 0, a notification of label 2, and a scheduling
--- context of label 0 for core 0.
+-- A small system whose slots and bindings are open: a CNode of label 1, a thread of label 0, a notification of label 2, and a
+-- scheduling context of label 0 for core 0.
 use Rattle.std.proofs.Common.{◌≡◌, ◌≢◌, ℕ, ◌<◌, Bool, true, false, not, ◌&&◌, nat_lt, List, [], ◌∷◌, get_or, Option, Some, None, refl, sym, ap, ◌∙◌, arith, lit<, lit≤}
 use Rattle.std.specs.Prelude.{codes}
 use Rattle.std.specs.List.{All, AllPairs, list_all}
@@ -49,7 +49,8 @@ abbrev pub notification : Option ℕ → Object
 notification word = o.Notification (record { address = 0x3000; pending = word })
 
 abbrev pub context : Option ObjId → Object
-context runner = o.Context (record { address = 0x4000; share = Some (record { core = 0; budget = 10; period = 10 }); thread = runner })
+context runner =
+    o.Context (record { address = 0x4000; share = Some (record { core = 0; budget = 10; period = 10 }); thread = runner })
 
 -- a capability to the CNode, before whose bit an address has 63 zeros
 abbrev pub space_cap : Cap
@@ -103,9 +104,11 @@ less Less e = refl
 less Equal e = absurd (false≢true e)
 less Greater e = absurd (false≢true e)
 
-names_differ : (names : List (List ℕ)) → pairs_test (λ a b. not (bytes_eq a b)) names ≡ true → AllPairs (λ one other. one ≢ other) names
+names_differ :
+    (names : List (List ℕ)) → pairs_test (λ a b. not (bytes_eq a b)) names ≡ true → AllPairs (λ one other. one ≢ other) names
 names_differ names e = λ i j d below within same.
-    false≢true (sym (unless _ (pairs_pass (λ a b. not (bytes_eq a b)) names e i j d below within)) ∙ (bytes_eq-Decides _ _).1 same)
+    false≢true
+    (sym (unless _ (pairs_pass (λ a b. not (bytes_eq a b)) names e i j d below within)) ∙ (bytes_eq-Decides _ _).1 same)
 
 apart_from_meets : (one other : Object) → meets one other ≡ false → IsApart one other
 apart_from_meets one other e address a b =
@@ -173,7 +176,8 @@ filled place held = record { slot = place; cap = held }
 
 -- the slots are filled so that the thread finds the notification at the address 0, and the thread runs on the context
 unfoldable pub signalling : Layout
-signalling = system (filled (slot 0 0) signal_cap ∷ filled (slot 1 0) space_cap ∷ []) (record { thread = id 1; context = id 3 } ∷ [])
+signalling =
+    system (filled (slot 0 0) signal_cap ∷ filled (slot 1 0) space_cap ∷ []) (record { thread = id 1; context = id 3 } ∷ [])
 
 signal_fits : IsCapOf signalling (filled (slot 0 0) signal_cap)
 unfolding signalling system initial_of initial_parent
@@ -203,7 +207,8 @@ space_fits = record {
 
 no_untyped : All (λ filled. kind_of_detail filled.cap.detail ≢ kind.Untyped) signalling.caps
 unfolding signalling system
-no_untyped = All-from_recursion (λ filled. kind_of_detail filled.cap.detail ≢ kind.Untyped) signalling.caps ((λ e. cc), ((λ e. cc), tt))
+no_untyped =
+    All-from_recursion (λ filled. kind_of_detail filled.cap.detail ≢ kind.Untyped) signalling.caps ((λ e. cc), ((λ e. cc), tt))
 
 pub signalling_lawful : IsLawful signalling
 unfolding signalling system initial_of kind_at pairs_test

@@ -1,4 +1,5 @@
--- There is a verdict: of the places where a rule can be broken, of which there are finitely many, the least that is broken, if one is.
+-- There is a verdict: of the places where a rule can be broken, of which there are finitely many, the least that is broken, if
+-- one is.
 use Rattle.std.proofs.Common.{◌≡◌, List, [], ◌∷◌, Result, Ok, Err, ◌⊎◌, inl, inr, refl, subst}
 use Rattle.std.specs.declared.cmp.Ordering.{Ordering}
 use Rattle.std.specs.declared.cmp.Ordering.TheVariants.{Less, Equal, Greater}
@@ -28,7 +29,9 @@ module _ (P : Denial → Type 0) where
     first : (other : Denial) → IsIn other ds → P other → ComesBefore other least → ⊥
 
   -- one denial more
-  first_of : (d : Denial) (ds : List Denial) → Told (P d) → NoneOf ds ⊎ ((least : Denial) × LeastOf ds least) → NoneOf (d ∷ ds) ⊎ ((least : Denial) × LeastOf (d ∷ ds) least)
+  first_of :
+      (d : Denial) (ds : List Denial) → Told (P d) → NoneOf ds ⊎ ((least : Denial) × LeastOf ds least)
+      → NoneOf (d ∷ ds) ⊎ ((least : Denial) × LeastOf (d ∷ ds) least)
   unfolding NoneOf
   first_of d ds (inr fails) (inl none) = inl (λ other at has. elim at [ inl same ↦ fails (subst P same has) | inr later ↦ none other later has ])
   first_of d ds (inr fails) (inr (least, is)) = inr (
@@ -52,7 +55,9 @@ module _ (P : Denial → Type 0) where
       first = λ other at has before. elim at [ inl same ↦ after (subst (λ x. ComesBefore x least) same before) | inr later ↦ is.first other later has before ];
     }
 
-    compared : (order : Ordering) → slice_cmp nat_cmp (place_of d) (place_of least) ≡ order → NoneOf (d ∷ ds) ⊎ ((least : Denial) × LeastOf (d ∷ ds) least)
+    compared :
+        (order : Ordering) → slice_cmp nat_cmp (place_of d) (place_of least) ≡ order
+        → NoneOf (d ∷ ds) ⊎ ((least : Denial) × LeastOf (d ∷ ds) least)
     compared Less less = inr (
       d,
       record {

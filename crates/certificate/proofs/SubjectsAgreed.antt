@@ -12,15 +12,26 @@ known : (edges : List Edge) → JoinsLabels edges → (a b : ℕ) → IsInDomain
 known edges joins a b (inl space) = joins a _ b space
 known edges joins a b (inr control) = joins a _ b control
 
-pub subjects_agree : (t : Layout) (edges : List Edge) → JoinsLabels edges → IsAccepted t (allows edges) → SubjectsAgree (allows edges)
-subjects_agree t edges joins accepted a b domain kind of_use to = by_edges (allows edges a kind to) (allows edges b kind to) refl refl where
-  disagree : to < 64 → (allows edges a kind to ≡ allows edges b kind to → ⊥) → ⊥
-  disagree below differ =
-      let both = known edges joins a b domain in
-      accepted (denial.SubjectsDisagree a b kind to) (record { subject_known = both.0; other_known = both.1; target_known = below; domain = domain; of_use = of_use; differ = differ })
+pub subjects_agree :
+    (t : Layout) (edges : List Edge) → JoinsLabels edges → IsAccepted t (allows edges) → SubjectsAgree (allows edges)
+subjects_agree t edges joins accepted a b domain kind of_use to =
+    by_edges (allows edges a kind to) (allows edges b kind to) refl refl where
+      disagree : to < 64 → (allows edges a kind to ≡ allows edges b kind to → ⊥) → ⊥
+      disagree below differ =
+          let both = known edges joins a b domain in
+          accepted (denial.SubjectsDisagree a b kind to) (record {
+            subject_known = both.0;
+            other_known = both.1;
+            target_known = below;
+            domain = domain;
+            of_use = of_use;
+            differ = differ;
+          })
 
-  by_edges : (one other : Bool) → allows edges a kind to ≡ one → allows edges b kind to ≡ other → allows edges a kind to ≡ allows edges b kind to
-  by_edges true true x y = x ∙ sym y
-  by_edges false false x y = x ∙ sym y
-  by_edges true false x y = absurd (disagree (joins a kind to x).1 (λ same. false≢true (sym y ∙ sym same ∙ x)))
-  by_edges false true x y = absurd (disagree (joins b kind to y).1 (λ same. false≢true (sym x ∙ same ∙ y)))
+      by_edges :
+          (one other : Bool) → allows edges a kind to ≡ one → allows edges b kind to ≡ other
+          → allows edges a kind to ≡ allows edges b kind to
+      by_edges true true x y = x ∙ sym y
+      by_edges false false x y = x ∙ sym y
+      by_edges true false x y = absurd (disagree (joins a kind to x).1 (λ same. false≢true (sym y ∙ sym same ∙ x)))
+      by_edges false true x y = absurd (disagree (joins b kind to y).1 (λ same. false≢true (sym x ∙ same ∙ y)))

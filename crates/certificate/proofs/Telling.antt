@@ -67,7 +67,8 @@ told_value None x told = inr (λ is. none-some x is)
 told_value (Some y) x told = told_as (λ same. ap Some same) (λ is. same_Some y x is) (told y)
 
 told_id : (id other : ObjId) → Told (id ≡ other)
-told_id id other = told_as (λ same. ap (λ n. record { 0 = n }) same) (λ same. ap (λ (i : ObjId). i.0) same) (told_same id.0 other.0)
+told_id id other =
+    told_as (λ same. ap (λ n. record { 0 = n }) same) (λ same. ap (λ (i : ObjId). i.0) same) (told_same id.0 other.0)
 
 is_cnode : ObjectKind → Bool
 is_cnode object.CNode = true
@@ -90,16 +91,34 @@ told_tcb _ = inr (λ is. false≢true (ap is_tcb is))
 told_disagreement : (allowed : EdgeTest) (a b : ℕ) (kind : Kind) (l : ℕ) → Told (SubjectsDisagree allowed a b kind l)
 told_disagreement allowed a b kind l =
     told_as
-    (λ all. record { subject_known = all.0; other_known = all.1.0; target_known = all.1.1.0; domain = all.1.1.1.0; of_use = all.1.1.1.1.0; differ = all.1.1.1.1.1 })
+    (λ all. record {
+      subject_known = all.0;
+      other_known = all.1.0;
+      target_known = all.1.1.0;
+      domain = all.1.1.1.0;
+      of_use = all.1.1.1.1.0;
+      differ = all.1.1.1.1.1;
+    })
     (λ broken. (broken.subject_known, (broken.other_known, (broken.target_known, (broken.domain, (broken.of_use, broken.differ))))))
     (told_both (told_less a 64) (told_both (told_less b 64) (told_both (told_less l 64)
     (told_both (told_either (told_true (allowed a authority.Space b)) (told_true (allowed a authority.Control b)))
     (told_both (told_false (is_structural kind)) (told_different (allowed a kind l) (allowed b kind l)))))))
 
-told_capability : (t : Layout) (allowed : EdgeTest) (slot : SlotRef) (kind : Kind) (label : ℕ) → Told (CapabilityExceeds t allowed slot kind label)
+told_capability :
+    (t : Layout) (allowed : EdgeTest) (slot : SlotRef) (kind : Kind) (label : ℕ)
+    → Told (CapabilityExceeds t allowed slot kind label)
 told_capability t allowed slot kind label =
     told_as
-    (λ (held, filled, (from, source, (holder, (given, (target, missing))))). record { held = held; from = from; filled = filled; holder = holder; given = given; source = source; target = target; missing = missing })
+    (λ (held, filled, (from, source, (holder, (given, (target, missing))))). record {
+      held = held;
+      from = from;
+      filled = filled;
+      holder = holder;
+      given = given;
+      source = source;
+      target = target;
+      missing = missing;
+    })
     (λ broken. (broken.held, broken.filled, (broken.from, broken.source, (broken.holder, (broken.given, (broken.target, broken.missing))))))
     (told_of (initial_cap t slot) _ (λ held. told_of (declared_label t slot.holder) _ (λ from.
     told_both (told_value (kind_at t slot.holder) object.CNode told_cnode)
@@ -109,7 +128,15 @@ told_capability t allowed slot kind label =
 told_root : (t : Layout) (allowed : EdgeTest) (slot : SlotRef) (label : ℕ) → Told (RootExceeds t allowed slot label)
 told_root t allowed slot label =
     told_as
-    (λ (held, filled, (from, source, (holder, (target, missing)))). record { held = held; from = from; filled = filled; holder = holder; source = source; target = target; missing = missing })
+    (λ (held, filled, (from, source, (holder, (target, missing)))). record {
+      held = held;
+      from = from;
+      filled = filled;
+      holder = holder;
+      source = source;
+      target = target;
+      missing = missing;
+    })
     (λ broken. (broken.held, broken.filled, (broken.from, broken.source, (broken.holder, (broken.target, broken.missing)))))
     (told_of (initial_cap t slot) _ (λ held. told_of (declared_label t slot.holder) _ (λ from.
     told_both (told_value (kind_at t slot.holder) object.Tcb told_tcb)
@@ -118,10 +145,18 @@ told_root t allowed slot label =
 told_binding : (t : Layout) (allowed : EdgeTest) (thread context : ObjId) → Told (BindingExceeds t allowed thread context)
 told_binding t allowed thread context =
     told_as
-    (λ (from, source, (to, target, (bound, missing))). record { from = from; to = to; bound = bound; source = source; target = target; missing = missing })
+    (λ (from, source, (to, target, (bound, missing))). record {
+      from = from;
+      to = to;
+      bound = bound;
+      source = source;
+      target = target;
+      missing = missing;
+    })
     (λ broken. (broken.from, broken.source, (broken.to, broken.target, (broken.bound, broken.missing))))
     (told_of (declared_label t thread) _ (λ from. told_of (declared_label t context) _ (λ to.
-    told_both (told_value (bound_context t thread) context (λ other. told_id other context)) (told_false (allowed from authority.Runs to)))))
+    told_both (told_value (bound_context t thread) context (λ other. told_id other context))
+    (told_false (allowed from authority.Runs to)))))
 
 pub told : (t : Layout) (allowed : EdgeTest) (d : Denial) → Told (Breaks t allowed d)
 told t allowed (denial.SubjectsDisagree a b kind l) = told_disagreement allowed a b kind l

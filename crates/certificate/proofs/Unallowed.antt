@@ -1,7 +1,7 @@
 -- A signal from a label without authority over the notification's is not allowed.
 use Rattle.std.proofs.Common.{◌≡◌, ◌≢◌, ℕ, ◌⊎◌, inl, inr, true, false, [], Some, None, Ok, refl, sym, subst, ◌∙◌, arith}
 use Rattle.std.proofs.lemmas.Bool.{false≢true}
-use Rattle.std.proofs.lemmas.Option.{same_Some}
+use Rattle.std.proofs.lemmas.Option.{none-some, same_Some}
 use Rattle.base.specs.declared.ids.ObjId.{ObjId}
 use Rattle.base.specs.declared.kind.Kind.{Kind}
 use Rattle.base.specs.declared.kind.Kind.TheVariants as authority
@@ -11,6 +11,7 @@ use Rattle.machine.specs.declared.call.Call.TheVariants.{Signal}
 use Rattle.machine.specs.declared.call.Event.{Event}
 use Rattle.machine.specs.declared.call.Outcome.TheVariants.{Done}
 use Rattle.machine.specs.declared.object.Notification.{Notification}
+use Rattle.machine.specs.declared.object.Object.{Object}
 use Rattle.machine.specs.declared.object.Object.TheVariants as o
 use Rattle.machine.specs.Authority.{label_of}
 use Rattle.machine.specs.Boot.{IsBoot}
@@ -35,10 +36,10 @@ use Rattle.certificate.proofs.SmallSystem.{id, slot, node, thread, notification,
 -- a change of a notification's word, without full authority
 
 labelled_so :
-    (t : Layout) (m next : Machine) (id : ObjId) (label other : ℕ) → label_of t m id ≡ Some label → label_of t next id ≡ Some label
-    → IsLabelled t m next id other → other ≡ label
-labelled_so t m next id label other before after (inl was) = same_Some other label (sym was ∙ before)
-labelled_so t m next id label other before after (inr is) = same_Some other label (sym is ∙ after)
+    (t : Layout) (m next : Machine) (id : ObjId) (object : Object) (label other : ℕ) → object_of m id ≡ Some object
+    → label_of t m id ≡ Some label → IsLabelled t m next id other → other ≡ label
+labelled_so t m next id object label other was labelled (inl before) = same_Some other label (sym before ∙ labelled)
+labelled_so t m next id object label other was labelled (inr made) = absurd (none-some object (sym made.0 ∙ was))
 
 no_authority :
     (allowed : EdgeTest) (caller label : ℕ) (m next : Machine) (id : ObjId) → ¬ IsFull allowed caller label → ¬ Shrinks m next id
@@ -49,16 +50,17 @@ no_authority allowed caller label m next id not_full grows (inr cut) = grows cut
 pub word_unallowed :
     (t : Layout) (allowed : EdgeTest) (m next : Machine) (event : Event) (id : ObjId) (old new : Notification) (caller label : ℕ)
     → object_of m id ≡ Some (o.Notification old) → object_of next id ≡ Some (o.Notification new) → new.pending ≢ old.pending
-    → label_of t m event.thread ≡ Some caller → label_of t m id ≡ Some label → label_of t next id ≡ Some label
+    → label_of t m event.thread ≡ Some caller → label_of t m id ≡ Some label
     → ¬ IsFull allowed caller label → ¬ IsAllowedStep t allowed m event next
-word_unallowed t allowed m next event id old new caller label was is differ calls before after not_full every = by (every id) where
+word_unallowed t allowed m next event id old new caller label was is differ calls labelled not_full every = by (every id) where
   by : IsSame m next id ⊎ IsModified t allowed m next event.thread id → ⊥
   by (inl same) =
       let content : Some (o.Notification new) ≡ Some (o.Notification old) = sym is ∙ same.content ∙ was in
       differ (cc)
   by (inr modified) =
       let who : modified.caller ≡ caller = same_Some modified.caller caller (sym modified.calls ∙ calls) in
-      let what : modified.may.label ≡ label = labelled_so t m next id label modified.may.label before after modified.may.labelled in
+      let what : modified.may.label ≡ label =
+      labelled_so t m next id (o.Notification old) label modified.may.label was labelled modified.may.labelled in
       let may = subst (λ a. MayModify allowed a modified.may.label m next id) who modified.may.may in
       no_authority allowed caller label m next id not_full (word_grows m next id old new was is differ)
       (subst (λ l. MayModify allowed caller l m next id) what may)
@@ -73,14 +75,17 @@ of_use authority.Holds e = absurd (false≢true e)
 of_use _ e = refl
 
 pub structural_not_full :
-    (allowed : EdgeTest) (a l : ℕ) → l ≢ a → ((k : Kind) (to : ℕ) → is_structural k ≡ false → allowed a k to ≡ false) → ¬ IsFull allowed a l
+    (allowed : EdgeTest) (a l : ℕ) → l ≢ a → ((k : Kind) (to : ℕ) → is_structural k ≡ false → allowed a k to ≡ false)
+    → ¬ IsFull allowed a l
 structural_not_full allowed a l other lacks (own same) = other same
 structural_not_full allowed a l other lacks (modifies k modifying e) = false≢true (sym (lacks k l (of_use k modifying)) ∙ e)
 structural_not_full allowed a l other lacks (sends endpoint e _) = false≢true (sym (lacks authority.Send endpoint refl) ∙ e)
 structural_not_full allowed a l other lacks (receives endpoint e _) = false≢true (sym (lacks authority.Receive endpoint refl) ∙ e)
 structural_not_full allowed a l other lacks (notifies end e _) = false≢true (sym (lacks authority.Notify end refl) ∙ e)
-structural_not_full allowed a l other lacks (links endpoint receiver e _ _) = false≢true (sym (lacks authority.Send endpoint refl) ∙ e)
-structural_not_full allowed a l other lacks (grants endpoint receiver e _ _) = false≢true (sym (lacks authority.Grant endpoint refl) ∙ e)
+structural_not_full allowed a l other lacks (links endpoint receiver e _ _) =
+    false≢true (sym (lacks authority.Send endpoint refl) ∙ e)
+structural_not_full allowed a l other lacks (grants endpoint receiver e _ _) =
+    false≢true (sym (lacks authority.Grant endpoint refl) ∙ e)
 structural_not_full allowed a l other lacks (replies reply e _) = false≢true (sym (lacks authority.Reply reply refl) ∙ e)
 
 -- the boot state of the small system, and what a signal does there
@@ -144,10 +149,6 @@ module _ (m : Machine) (boot : IsBoot signalling m) where
   unfolding signalling system initial_of declared_label
   notification_label = boot_label signalling m boot (id 2)
 
-  label_after : label_of signalling after_signal (id 2) ≡ Some 2
-  unfolding signalling system initial_of declared_label label_of
-  label_after = rw pending refl
-
   -- a policy that allows it has an edge from label 0 that isn't structural
   pub signal_unallowed :
       (allowed : EdgeTest) → ((k : Kind) (to : ℕ) → is_structural k ≡ false → allowed 0 k to ≡ false)
@@ -157,8 +158,9 @@ module _ (m : Machine) (boot : IsBoot signalling m) where
       let old : Notification = record { address = 0x3000; pending = None } in
       let new : Notification = record { address = 0x3000; pending = Some 1 } in
       let not_full = structural_not_full allowed 0 2 (λ same. absurd (omega arith)) lacks in
-      word_unallowed signalling allowed m after_signal signal (id 2) old new 0 2 silent pending (λ same. cc) caller_label notification_label
-      label_after not_full
+      word_unallowed signalling allowed m after_signal signal (id 2) old new 0 2 silent pending
+      (λ same. cc) caller_label notification_label
+      not_full
 
 pub unallowed_signal : UnallowedSignal
 unfolding signal

@@ -1,5 +1,5 @@
--- A system that isn't safe since labels of one domain may do different things: the thread's label has the CNode's label as its space,
--- and no edge of that label.
+-- A system that isn't safe since labels of one domain may do different things: the thread's label has the CNode's label as its
+-- space, and no edge of that label.
 use Rattle.std.proofs.Common.{◌≡◌, ◌≢◌, ℕ, zero, suc, ◌<◌, ◌⊎◌, inl, inr, Bool, true, false, ◌||◌, List, [], ◌∷◌, Some, None, refl, sym, ap, ◌∙◌, arith, lit<}
 use Rattle.std.specs.Prelude.{slice_get}
 use Rattle.std.specs.List.{AllByRecursion, list_any}
@@ -194,7 +194,8 @@ module _ (m : Machine) (boot : IsBoot signalling m) where
 
   by_space :
       (q : SlotRef) (held : Cap) (from to : ℕ) → IsFilled q held → kind_of m q.holder ≡ Some kind.Tcb
-      → label_of signalling m q.holder ≡ Some from → label_of signalling m held.object ≡ Some to → allows edges from Space to ≡ true
+      → label_of signalling m q.holder ≡ Some from → label_of signalling m held.object ≡ Some to
+      → allows edges from Space to ≡ true
   unfolding signalling system initial_of declared_label kind_at allows
   by_space q held from to (inl here) is_thread source target =
       let is_node = kind_is q.holder (id 0) (ap (λ (s : SlotRef). s.holder) here.0) in
@@ -213,7 +214,8 @@ module _ (m : Machine) (boot : IsBoot signalling m) where
   unlinked object is k end same none linked = false≢true (sym none ∙ ap (λ x. links x k end) (sym same) ∙ linked)
 
   by_object :
-      (n : ℕ) (object : Object) (from : ℕ) (k : Kind) (to : ℕ) (end : ObjId) → object_of m (id n) ≡ Some object → links object k end ≡ true
+      (n : ℕ) (object : Object) (from : ℕ) (k : Kind) (to : ℕ) (end : ObjId) → object_of m (id n) ≡ Some object
+      → links object k end ≡ true
       → label_of signalling m (id n) ≡ Some from → label_of signalling m end ≡ Some to → allows edges from k to ≡ true
   unfolding signalling system initial_of bound_context bound_thread declared_label allows
   by_object zero object from k to end at linked source target =

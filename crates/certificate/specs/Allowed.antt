@@ -1,19 +1,19 @@
 -- Allowed steps: which objects a step may change, by the label of the thread that makes it
 -- ('seL4 Enforces Integrity', section 4, the integrity of each object).
-use Rattle.std.specs.Prelude.{◌≡◌, ℕ, ◌⊎◌, Some}
+use Rattle.std.specs.Prelude.{◌≡◌, ℕ, ◌⊎◌, Some, None}
 use Rattle.base.specs.declared.ids.ObjId.{ObjId}
 use Rattle.machine.specs.declared.call.Event.{Event}
 use Rattle.machine.specs.Authority.{label_of}
 use Rattle.machine.specs.Layout.{Layout}
-use Rattle.machine.specs.Machine.{Machine}
+use Rattle.machine.specs.Machine.{Machine, object_of}
 use Rattle.policy.specs.Cut.{IsCut}
 use Rattle.policy.specs.Domain.{EdgeTest}
 use Rattle.policy.specs.Full.{IsFull}
 use Rattle.certificate.specs.Shrinks.{IsSame, Shrinks}
 
--- the label of an object that is there before or after
+-- the label of an object that is there before, or of one that is made
 abbrev pub IsLabelled : Layout → Machine → Machine → ObjId → ℕ → Type 0
-IsLabelled t m next id label = (label_of t m id ≡ Some label) ⊎ (label_of t next id ≡ Some label)
+IsLabelled t m next id label = (label_of t m id ≡ Some label) ⊎ ((object_of m id ≡ None) × (label_of t next id ≡ Some label))
 
 -- modifying authority of a label over an object's label: full, or cut where the object only shrinks
 abbrev pub MayModify : EdgeTest → ℕ → ℕ → Machine → Machine → ObjId → Type 0

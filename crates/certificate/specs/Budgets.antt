@@ -49,4 +49,5 @@ pub record MayConfigure (t : Layout) (allowed : EdgeTest) (m : Machine) (event :
 -- a context that is there before and after a step keeps its core, budget and period, unless the caller may configure it
 abbrev pub KeepsBudgets : Layout → EdgeTest → Machine → Event → Machine → Type 0
 KeepsBudgets t allowed m event next =
-    (id : ObjId) (old new : Context) → object_of m id ≡ Some (o.Context old) → object_of next id ≡ Some (o.Context new) → (new.share ≡ old.share) ⊎ MayConfigure t allowed m event id
+    (id : ObjId) (old new : Context) → object_of m id ≡ Some (o.Context old) → object_of next id ≡ Some (o.Context new)
+    → (new.share ≡ old.share) ⊎ MayConfigure t allowed m event id

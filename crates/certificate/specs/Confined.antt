@@ -1,5 +1,5 @@
--- Confined states: all authority that a machine holds lies within a policy ('seL4 Enforces Integrity', section 3, where the policy
--- has to allow all authority of a state).
+-- Confined states: all authority that a machine holds lies within a policy ('seL4 Enforces Integrity', section 3, where the
+-- policy has to allow all authority of a state).
 use Rattle.std.specs.Prelude.{◌≡◌, ℕ, true}
 use Rattle.base.specs.declared.kind.Kind.{Kind}
 use Rattle.machine.specs.Authority.{HasAuthority}

@@ -22,8 +22,8 @@ use Rattle.certificate.specs.Allowed.{IsAllowedStep}
 use Rattle.certificate.specs.Confined.{IsConfined}
 use Rattle.certificate.specs.Safe.{IsSafe}
 
--- from the boot state of a lawful table a thread signals a notification, and the signal is done; a policy lacks the edge of kind notify
--- from the thread's label to the notification's, and doesn't allow the step
+-- from the boot state of a lawful table a thread signals a notification, and the signal is done; a policy lacks the edge of
+-- kind notify from the thread's label to the notification's, and doesn't allow the step
 pub record UnallowedSignal : Type 0 where
   pub t : Layout
   pub allowed : EdgeTest
@@ -45,8 +45,8 @@ pub record UnallowedSignal : Type 0 where
   pub missing : allowed caller authority.Notify label ≡ false
   pub not_allowed : ¬ IsAllowedStep t allowed m event next
 
--- a lawful table and a policy that obeys every rule of closed policies but one; the table's boot state is confined, and the system
--- isn't safe
+-- a lawful table and a policy that obeys every rule of closed policies but one; the table's boot state is confined, and the
+-- system isn't safe
 pub record UnsafeWithout (rule : Rule) : Type 0 where
   pub t : Layout
   pub edges : List Edge

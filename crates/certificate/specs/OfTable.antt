@@ -1,5 +1,6 @@
--- What every state of a run from a table's boot state keeps of the table: each object has a label, and initial objects stay what and
--- where they were declared ('seL4 Enforces Integrity', section 3: the labelling of a state; confine's own for made objects).
+-- What every state of a run from a table's boot state keeps of the table: each object has a label, and initial objects stay
+-- what and where they were declared ('seL4 Enforces Integrity', section 3: the labelling of a state; confine's own for made
+-- objects).
 use Rattle.std.specs.Prelude.{◌≡◌, ℕ, ◌≤◌, ◌<◌, Some, length}
 use Rattle.base.specs.declared.ids.ObjId.{ObjId}
 use Rattle.machine.specs.declared.layout.Initial.{Initial}
@@ -20,7 +21,8 @@ pub record IsOfTable (t : Layout) (m : Machine) : Type 0 where
       → (kind_of_object object ≡ kind_of_object declared.object) × (address_of object ≡ address_of declared.object)
   -- what is made of untyped memory gets the label of that memory, wherever in its range it lies
   pub ranged :
-      (id : ObjId) (memory : Untyped) (label address : ℕ) → object_of m id ≡ Some (o.Untyped memory) → label_of t m id ≡ Some label
+      (id : ObjId) (memory : Untyped) (label address : ℕ) → object_of m id ≡ Some (o.Untyped memory)
+      → label_of t m id ≡ Some label
       → memory.base ≤ address → address < end_of (o.Untyped memory) → label_at t address ≡ Some label
   -- made objects have numbers above those of the initial ones
   pub counted : length t.objects ≤ m.next

@@ -1,6 +1,6 @@
 -- What of a state's authority lies outside a policy, rule by rule and place by place, and the first of these places
 -- (compare 'seL4 Enforces Integrity', section 3; the order of rules and places is confine's own).
-use Rattle.std.specs.Prelude.{◌≡◌, ◌≢◌, ℕ, true, false, List, [], ◌∷◌, Some}
+use Rattle.std.specs.Prelude.{◌≡◌, ◌≢◌, ℕ, true, false, List, [], ◌∷◌, Option, Some, None}
 use Rattle.std.specs.declared.cmp.Ordering.TheVariants.{Less}
 use Rattle.std.specs.Ordering.{nat_cmp}
 use Rattle.std.specs.Cmp.Lexicographic.{slice_cmp}
@@ -20,6 +20,8 @@ use Rattle.machine.specs.Layout.{Layout}
 use Rattle.machine.specs.Machine.{Machine, object_of, cap_of, parent_of}
 use Rattle.machine.specs.WellFormed.{kind_of}
 use Rattle.policy.specs.Domain.{EdgeTest}
+use Rattle.certificate.specs.declared.denial.Denial.{Denial}
+use Rattle.certificate.specs.declared.denial.Denial.TheVariants as denial
 
 -- a place where authority may lie outside, by the rules A1 to A6
 pub data Excess : Type 0 where
@@ -37,7 +39,9 @@ pub data Excess : Type 0 where
   recorded : ObjId → Kind → ℕ → Excess
 
 -- A1
-pub record CapabilityOutside (t : Layout) (allowed : EdgeTest) (m : Machine) (slot : SlotRef) (k : Kind) (label : ℕ) : Type 0 where
+pub record CapabilityOutside
+    (t : Layout) (allowed : EdgeTest) (m : Machine) (slot : SlotRef) (k : Kind) (label : ℕ)
+    : Type 0 where
   pub held : Cap
   pub from : ℕ
   pub filled : cap_of m slot ≡ Some held
@@ -116,6 +120,13 @@ excess_place (pair child parent) = 3 ∷ child.holder.0 ∷ child.index ∷ pare
 excess_place (binding thread context) = 4 ∷ thread.0 ∷ context.0 ∷ []
 excess_place (holding reply thread) = 5 ∷ reply.0 ∷ thread.0 ∷ []
 excess_place (recorded thread k label) = 6 ∷ thread.0 ∷ kind_number k ∷ label ∷ []
+
+-- where a denial by A1, A2 or A4 says that authority lies outside
+abbrev pub excess_of : Denial → Option Excess
+excess_of (denial.SubjectsDisagree subject other k target) = None
+excess_of (denial.Capability slot k label) = Some (capability slot k label)
+excess_of (denial.Root slot label) = Some (root slot label)
+excess_of (denial.Binding thread context) = Some (binding thread context)
 
 -- the first place where a state's authority lies outside the policy
 pub record IsOutside (t : Layout) (allowed : EdgeTest) (m : Machine) (least : Excess) : Type 0 where

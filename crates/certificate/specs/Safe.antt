@@ -27,11 +27,15 @@ StaysConfined t allowed = (m : Machine) → IsReached t m → IsConfined t allow
 
 -- no step changes an object of a label on which its caller's label has no modifying authority
 abbrev pub KeepsIntegrity : Layout → EdgeTest → Type 0
-KeepsIntegrity t allowed = (m next : Machine) (event : Event) (outcome : Outcome) → IsReached t m → Step m event outcome next → IsAllowedStep t allowed m event next
+KeepsIntegrity t allowed =
+    (m next : Machine) (event : Event) (outcome : Outcome) → IsReached t m → Step m event outcome next
+    → IsAllowedStep t allowed m event next
 
 -- a context's configured budget or period changes only by a caller whose label has the policy's SchedControl edge
 abbrev pub GuardsBudgets : Layout → EdgeTest → Type 0
-GuardsBudgets t allowed = (m next : Machine) (event : Event) (outcome : Outcome) → IsReached t m → Step m event outcome next → KeepsBudgets t allowed m event next
+GuardsBudgets t allowed =
+    (m next : Machine) (event : Event) (outcome : Outcome) → IsReached t m → Step m event outcome next
+    → KeepsBudgets t allowed m event next
 
 pub record IsSafe (t : Layout) (allowed : EdgeTest) : Type 0 where
   pub confined : StaysConfined t allowed

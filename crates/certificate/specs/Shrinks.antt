@@ -43,12 +43,16 @@ pub data Lessens (old new : Object) : Type 0 where
   as_it_was : new ≡ old → Lessens old new
   -- a thread loses its wait, its context, or both
   released :
-      (was is : Tcb) → old ≡ o.Tcb was → new ≡ o.Tcb is → is.address ≡ was.address → Stops was is → LosesLink was.context is.context → Lessens old new
+      (was is : Tcb) → old ≡ o.Tcb was → new ≡ o.Tcb is → is.address ≡ was.address → Stops was is
+      → LosesLink was.context is.context → Lessens old new
   -- a reply loses its thread
-  freed : (was is : Reply) → old ≡ o.Reply was → new ≡ o.Reply is → is.address ≡ was.address → is.state ≡ reply.Free → Lessens old new
+  freed :
+      (was is : Reply) → old ≡ o.Reply was → new ≡ o.Reply is → is.address ≡ was.address → is.state ≡ reply.Free
+      → Lessens old new
   -- a scheduling context loses its thread
   unbound :
-      (was is : Context) → old ≡ o.Context was → new ≡ o.Context is → is.address ≡ was.address → is.share ≡ was.share → is.thread ≡ None → Lessens old new
+      (was is : Context) → old ≡ o.Context was → new ≡ o.Context is → is.address ≡ was.address → is.share ≡ was.share
+      → is.thread ≡ None → Lessens old new
 
 -- some of the members of a list, in their order
 pub data IsPart : List ObjId → List ObjId → Type 0 where

@@ -27,7 +27,9 @@ pub fn first_capability(table: &Table, policy: &Policy) -> Option<Denial>
 // The least place in this slot.
 fn capability_excess(table: &Table, policy: &Policy, filled: &Filled) -> Option<Denial>
     requires { initial_cap table.now filled.now.slot ≡ Some filled.now.cap }
-    ensures { FindsLeast (BreaksUnder table.now (allows policy.now) (a1 ∷ filled.now.slot.holder.0 ∷ filled.now.slot.index ∷ [])) result }
+    ensures { FindsLeast
+        (BreaksUnder table.now (allows policy.now) (a1 ∷ filled.now.slot.holder.0 ∷ filled.now.slot.index ∷ []))
+        result }
 {
     if table.kind(filled.slot.holder) != Some(ObjectKind::CNode) {
         return None;

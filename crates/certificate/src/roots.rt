@@ -26,7 +26,9 @@ pub fn first_root(table: &Table, policy: &Policy) -> Option<Denial>
 // The place of this slot, if A2 is broken there.
 fn root_excess(table: &Table, policy: &Policy, filled: &Filled) -> Option<Denial>
     requires { initial_cap table.now filled.now.slot ≡ Some filled.now.cap }
-    ensures { FindsLeast (BreaksUnder table.now (allows policy.now) (a2 ∷ filled.now.slot.holder.0 ∷ filled.now.slot.index ∷ [])) result }
+    ensures { FindsLeast
+        (BreaksUnder table.now (allows policy.now) (a2 ∷ filled.now.slot.holder.0 ∷ filled.now.slot.index ∷ []))
+        result }
 {
     if table.kind(filled.slot.holder) != Some(ObjectKind::Tcb) {
         return None;

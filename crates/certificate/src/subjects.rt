@@ -60,7 +60,8 @@ fn disagreement_in(policy: &Policy, subject: Label, other: Label, kind: Kind) ->
     requires subject_known { subject < 64 }
     requires other_known { other < 64 }
     requires domain { IsInDomain (allows policy.now) subject other }
-    ensures { (t : Layout) → FindsLeast (BreaksUnder t (allows policy.now) (p1 ∷ subject ∷ other ∷ kind_number kind ∷ [])) result }
+    ensures { (t : Layout)
+        → FindsLeast (BreaksUnder t (allows policy.now) (p1 ∷ subject ∷ other ∷ kind_number kind ∷ [])) result }
 {
     if kind.is_structural() {
         return None;

@@ -1,6 +1,9 @@
 //! The program `confine`: its command line, its files and its exit status.
 #![tactic(auto)]
 
+ghost use Rattle.std.specs.Prelude.{◌≡◌};
+ghost use Rattle.report.specs.Ends.{status_of};
+
 mod files;
 mod request;
 
@@ -55,7 +58,9 @@ fn serve<R: Files + Print + AllocGlobal>(rt: &R, request: Request<'_>) -> End {
 
 /// Says on standard error why there is no answer, where there is none; gives the exit status. That
 /// standard error can't be written to changes nothing.
-fn tell<R: Eprint>(rt: &R, end: End) -> u8 {
+fn tell<R: Eprint>(rt: &R, end: End) -> u8
+    ensures { result ≡ status_of end }
+{
     if let Some(message) = end.message() {
         let _ = rt.eprintln(message);
     }
@@ -63,7 +68,9 @@ fn tell<R: Eprint>(rt: &R, end: End) -> u8 {
 }
 
 /// Says on standard error how the program is used; gives the exit status.
-fn misuse<R: Eprint, D: std::fmt::Display + Drop>(rt: &R, text: D) -> u8 {
+fn misuse<R: Eprint, D: std::fmt::Display + Drop>(rt: &R, text: D) -> u8
+    ensures { result ≡ 2 }
+{
     let _ = rt.eprint(text);
     2
 }

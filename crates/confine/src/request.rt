@@ -1,3 +1,7 @@
+ghost use Rattle.std.specs.Prelude.{◌≡◌, IfSome, Some, codes};
+ghost use Rattle.clap.specs.Matches.{found_of, subcommand_name_of};
+ghost use Rattle.confine.specs.Requests.{IsRun};
+
 use clap::error::ErrorKind;
 use clap::{Arg, ArgAction, ArgMatches, Command, Error};
 use std::alloc::{AllocError, Global};
@@ -18,44 +22,94 @@ const ABOUT: &str =
 const ABOUT_RUN: &str =
     "Checks a table against a policy, runs a script of kernel calls and prints its log";
 
+const TABLE: &str = "\
+The objects, the capabilities and who holds them. Its lines, between `confine-table 1` and
+`end`, in this order:
+
+  label NAME
+  cnode NAME LABEL ADDRESS RADIX                  2^RADIX slots
+  tcb NAME LABEL ADDRESS ready                    a thread; or `inactive`
+  notification NAME LABEL ADDRESS
+  context NAME LABEL ADDRESS CORE BUDGET PERIOD   microseconds; or `-` for the three
+  cap CNODE.SLOT NOTIFICATION RIGHTS BADGE        RIGHTS: `r`, `w`, `rw` or `-`
+  cap CNODE.SLOT CNODE GUARDBITS GUARD
+  cap CNODE.SLOT TCB                              or a context
+  cap TCB.root CNODE GUARDBITS GUARD              where the thread finds its capabilities
+  bind TCB CONTEXT                                what the thread runs on
+
+Objects, of all four kinds, are numbered from 0 in the order of their lines. ADDRESS and GUARD
+are 0x and lower-case hexadecimal, all other numbers decimal. `cap` and `bind` lines rise by
+number.";
+
+const POLICY: &str = "\
+What each label may do to which others. Its lines, between `confine-policy 1` and `end`, rise
+by label, kind and label:
+
+  edge LABEL KIND LABEL
+
+The kinds, rising: control, reset, send, receive, grant, call, notify, await, read, write,
+reply, context, schedcontrol, space, derive, runs, holds.";
+
+const SCRIPT: &str = "\
+The kernel calls. Its lines, between `confine-script 1` and `end`, where THREAD is the number
+of an object:
+
+  CORE THREAD signal ADDRESS
+  CORE THREAD poll ADDRESS";
+
 const EXAMPLE: &str = "\
-Example: two threads, each on a core of its own. `ta` may signal the notification `n`, `tb` may take
-its word. Objects are numbered from 0 in the table's order, so that `ta` is 2 and `tb` is 3.
+Example, to be pasted into a shell: a thread `main` signals a bell, and polls it twice.
 
-  table                            policy               script
-    confine-table 1                  confine-policy 1     confine-script 1
-    label a                          edge a reset b       1 2 signal 0
-    label b                          edge a notify b      0 3 poll 0
-    cnode ca a 0x1000 1              edge a space a       0 3 poll 0
-    cnode cb b 0x1040 1              edge a derive a      end
-    tcb ta a 0x2000 ready            edge a runs a
-    tcb tb b 0x2400 ready            edge b reset b
-    notification n b 0x3000          edge b await b
-    context xa a 0x4000 1 10 10      edge b space b
-    context xb b 0x4100 0 10 10      edge b derive b
-    cap ca.0 n w 4                   edge b runs b
-    cap cb.0 n r 0                   end
-    cap ta.root ca 63 0x0
-    cap tb.root cb 63 0x0
-    bind ta xa
-    bind tb xb
-    end
+cat >table <<'.'
+confine-table 1
+label app
+label bell
+cnode space app 0x1000 2
+tcb main app 0x2000 ready
+notification ring bell 0x3000
+context share app 0x4000 0 10 10
+cap space.0 ring rw 1
+cap main.root space 62 0x0
+bind main share
+end
+.
+cat >policy <<'.'
+confine-policy 1
+edge app reset bell
+edge app notify bell
+edge app await bell
+edge app space app
+edge app runs app
+end
+.
+cat >script <<'.'
+confine-script 1
+0 1 signal 0
+0 1 poll 0
+0 1 poll 0
+end
+.
+confine run table policy script
 
-`confine run table policy script` prints the log, and ends with status 0:
+It prints the log, and ends with status 0:
 
-    confine-log 1
-    1 2 signal 0 = done
-    0 3 poll 0 = done word 4
-    0 3 poll 0 = done word 0
-    end
+confine-log 1
+0 1 signal 0 = done
+0 1 poll 0 = done word 1
+0 1 poll 0 = done word 0
+end
 
-Without the policy's first edge it runs nothing, and ends with status 1:
+`main` is object 1. From its root, 62 zero bits of an address lead to `space`, and the last two select
+one of its four slots. So address 0 is slot 0, which holds a capability to read and to write `ring`,
+with badge 1. The first poll takes the word that the signal left; the second finds none.
 
-    {\"place\":[\"ca.0\",\"reset\",\"b\"],\"rule\":\"A1\",\"verdict\":\"deny\"}
+Without the line `edge app await bell` nothing runs, and it ends with status 1:
+
+{\"place\":[\"space.0\",\"await\",\"bell\"],\"rule\":\"A1\",\"verdict\":\"deny\"}
 
 With a table that stops after its second line it ends with status 2:
 
-    {\"fault\":50,\"file\":\"table\",\"line\":3}
+{\"fault\":50,\"file\":\"table\",\"line\":3}
 ";
 
 /// Reads the command line; an `Err` is for its user, and so is a request for help.
@@ -68,22 +122,32 @@ pub fn read_request<'a>(alloc: Global, words: &'a [String]) -> Result<Request<'a
     }
 }
 
-fn request_of<'a>(matches: &ArgMatches<'a>) -> Option<Request<'a>> {
+// What the subcommand asks for.
+fn request_of<'a>(matches: &ArgMatches<'a>) -> Option<Request<'a>>
+    ensures { IfSome result (λ request. subcommand_name_of matches.now ≡ Some (codes "run")) }
+{
     match matches.subcommand()? {
-        ("run", files) => Some(Request::Run {
-            table: files.get_str("table")?,
-            policy: files.get_str("policy")?,
-            script: files.get_str("script")?,
-        }),
+        ("run", files) => run_of(files),
         _ => None,
     }
+}
+
+// A run, where all three files are named.
+fn run_of<'a>(files: &ArgMatches<'a>) -> Option<Request<'a>>
+    ensures { IsRun (found_of files.now) result }
+{
+    Some(Request::Run {
+        table: files.get_str("table")?,
+        policy: files.get_str("policy")?,
+        script: files.get_str("script")?,
+    })
 }
 
 fn command<'a>(alloc: Global) -> Result<Command<'a>, AllocError> {
     Command::new(alloc, "confine")
         .bin_name("confine")?
         .about(ABOUT)
-        .after_help("`confine run --help` shows a whole example.")
+        .after_help(EXAMPLE)
         .subcommand_required(true)
         .subcommand(run_command(alloc)?)
 }
@@ -92,24 +156,9 @@ fn run_command<'a>(alloc: Global) -> Result<Command<'a>, AllocError> {
     Command::new(alloc, "run")
         .about(ABOUT_RUN)
         .after_help(EXAMPLE)
-        .arg(file(
-            alloc,
-            "table",
-            "TABLE",
-            "The objects, the capabilities and who holds them",
-        ))?
-        .arg(file(
-            alloc,
-            "policy",
-            "POLICY",
-            "What each label may do to which others",
-        ))?
-        .arg(file(
-            alloc,
-            "script",
-            "SCRIPT",
-            "The kernel calls: a core, a thread and a call each",
-        ))
+        .arg(file(alloc, "table", "TABLE", TABLE))?
+        .arg(file(alloc, "policy", "POLICY", POLICY))?
+        .arg(file(alloc, "script", "SCRIPT", SCRIPT))
 }
 
 fn file<'a>(alloc: Global, id: &'a str, name: &'a str, help: &'a str) -> Arg<'a> {

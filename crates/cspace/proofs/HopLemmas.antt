@@ -8,12 +8,15 @@ pub hop-apart : (level : Level) (string : List Bool) → after level.guard strin
 unfolding hop
 hop-apart level string e = rw e refl
 
-pub hop-deep : (level : Level) (string rest : List Bool) → after level.guard string ≡ Some rest → split level.radix rest ≡ None → hop level string ≡ Err DepthMismatch
+pub hop-deep :
+    (level : Level) (string rest : List Bool) → after level.guard string ≡ Some rest → split level.radix rest ≡ None
+    → hop level string ≡ Err DepthMismatch
 unfolding hop
 hop-deep level string rest e f = rw (e, f) refl
 
 pub hop-slot :
-    (level : Level) (string rest : List Bool) (parts : List Bool × List Bool) → after level.guard string ≡ Some rest → split level.radix rest ≡ Some parts
+    (level : Level) (string rest : List Bool) (parts : List Bool × List Bool) → after level.guard string ≡ Some rest
+    → split level.radix rest ≡ Some parts
     → hop level string ≡ Ok (record { holder = level.node; index = number parts.0 }, parts.1)
 unfolding hop
 hop-slot level string rest parts e f = rw (e, f) refl

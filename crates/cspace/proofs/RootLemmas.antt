@@ -18,18 +18,26 @@ use Rattle.cspace.specs.Strings.{place_shown}
 use Rattle.cspace.proofs.BitLemmas.{length-bits}
 
 -- a thread without a root
-pub lookup_of-none : (m : Machine) (thread : ObjId) (address : ℕ) → root_level m thread ≡ None → lookup_of m thread address ≡ Err (cause.FailedLookup InvalidRoot)
+pub lookup_of-none :
+    (m : Machine) (thread : ObjId) (address : ℕ) → root_level m thread ≡ None
+    → lookup_of m thread address ≡ Err (cause.FailedLookup InvalidRoot)
 unfolding lookup_of
 lookup_of-none m thread address e = by_object (object_of m thread) refl e where
-  by_object : (object : Option Object) → object_of m thread ≡ object → level_of_root m thread object ≡ None → lookup_of m thread address ≡ Err (cause.FailedLookup InvalidRoot)
+  by_object :
+      (object : Option Object) → object_of m thread ≡ object → level_of_root m thread object ≡ None
+      → lookup_of m thread address ≡ Err (cause.FailedLookup InvalidRoot)
   by_object (Some (o.Tcb thread')) p none = rw (p, none) refl
   by_object _ p none = rw p refl
 
 -- a thread with a root
-pub lookup_of-some : (m : Machine) (thread : ObjId) (address : ℕ) (level : Level) → root_level m thread ≡ Some level → lookup_of m thread address ≡ counted (walk 65 m level (bits 64 address))
+pub lookup_of-some :
+    (m : Machine) (thread : ObjId) (address : ℕ) (level : Level) → root_level m thread ≡ Some level
+    → lookup_of m thread address ≡ counted (walk 65 m level (bits 64 address))
 unfolding lookup_of
 lookup_of-some m thread address level e = by_object (object_of m thread) refl e where
-  by_object : (object : Option Object) → object_of m thread ≡ object → level_of_root m thread object ≡ Some level → lookup_of m thread address ≡ counted (walk 65 m level (bits 64 address))
+  by_object :
+      (object : Option Object) → object_of m thread ≡ object → level_of_root m thread object ≡ Some level
+      → lookup_of m thread address ≡ counted (walk 65 m level (bits 64 address))
   by_object (Some (o.Tcb thread')) p some = rw (p, some) refl
   by_object _ p some = cc
 
@@ -44,7 +52,8 @@ counted-shown address (Ok place) = ap (λ left. Ok (place.0, left)) (length-bits
 counted-shown address (Err failure) = refl
 
 pub failed-cases :
-    (end : Result (SlotRef × ℕ) LookupFailure) (r : Result (SlotRef × ℕ) Cause) → MatchResult end (λ place. r ≡ Ok place) (λ failure. IsErrAnd r (λ d. d ≡ cause.FailedLookup failure))
+    (end : Result (SlotRef × ℕ) LookupFailure) (r : Result (SlotRef × ℕ) Cause)
+    → MatchResult end (λ place. r ≡ Ok place) (λ failure. IsErrAnd r (λ d. d ≡ cause.FailedLookup failure))
     → r ≡ failed end
 failed-cases (Ok place) r h = h
 failed-cases (Err failure) r h = let p = err_from_is_err_and r h in p.1 ∙ ap (λ c. Err c) p.2

@@ -1,4 +1,5 @@
--- Guarded lookup by chains of CNode capabilities: guards and indices, joined, are a beginning of the address (seL4 manual, "Capability Address Lookup").
+-- Guarded lookup by chains of CNode capabilities: guards and indices, joined, are a beginning of the address (seL4 manual,
+-- "Capability Address Lookup").
 use Rattle.std.specs.Prelude.{◌≡◌, ℕ, ◌+◌, ◌<◌, ◌⊎◌, Bool, List, [], ◌∷◌, ◌++◌, length, Some, None}
 use Rattle.std.specs.List.{flat_map}
 use Rattle.base.specs.declared.ids.ObjId.{ObjId}
@@ -54,7 +55,8 @@ pub record Resolves (m : Machine) (from : Level) (string : List Bool) (slot : Sl
 abbrev pub BeginsWith : List Bool → List Bool → Type 0
 BeginsWith string beginning = (rest : List Bool) × (beginning ++ rest ≡ string)
 
--- why a lookup cannot go on at a CNode: the guard is no beginning of the rest, or it is, and guard and radix are longer than the rest
+-- why a lookup cannot go on at a CNode: the guard is no beginning of the rest, or it is, and guard and radix are longer than the
+-- rest
 abbrev pub Hinders : LookupFailure → Level → List Bool → Type 0
 Hinders GuardMismatch level rest = ¬ BeginsWith rest level.guard
 Hinders DepthMismatch level rest = BeginsWith rest level.guard × (length rest < length level.guard + level.radix)

@@ -31,12 +31,19 @@ cnode_cap node size value = record { object = id node; detail = d.CNode (record 
 
 -- a thread, 0, a CNode of 16 slots, 1, a CNode of 4,096 slots, 2, a thread without a root, 3, and a notification, 4
 abbrev pub objects : Machine
-objects = with_new (with_new (with_new (with_new (with_new empty_machine (a_thread 0x4000)) (a_cnode 0x2000 4)) (a_cnode 0x20000 12)) (a_thread 0x4400)) (a_notification 0x8000)
+objects =
+    with_new
+    (with_new (with_new (with_new (with_new empty_machine (a_thread 0x4000)) (a_cnode 0x2000 4)) (a_cnode 0x20000 12))
+    (a_thread 0x4400))
+    (a_notification 0x8000)
 
--- the thread's root is the first CNode; its slots 7 and 9 lead to the second, slot 8 to the notification, and the others are empty
+-- the thread's root is the first CNode; its slots 7 and 9 lead to the second, slot 8 to the notification, and the others are
+-- empty
 abbrev pub space : Machine
 space =
     let rooted : Machine = with_cap objects (slot 0 0) (cnode_cap 1 10 0b10_1010_1010) in
     let seventh : Machine = with_cap rooted (slot 1 7) (cnode_cap 2 45 0) in
-    let eighth : Machine = with_cap seventh (slot 1 8) (record { object = id 4; detail = d.Notification (record { rights = record { 0 = 3 }; badge = 0 }); original = true }) in
+    let eighth : Machine =
+    with_cap seventh (slot 1 8)
+    (record { object = id 4; detail = d.Notification (record { rights = record { 0 = 3 }; badge = 0 }); original = true }) in
     with_cap eighth (slot 1 9) (cnode_cap 2 38 0x12_3456_7890)

@@ -35,7 +35,8 @@ pub fn lookup_follows_a_chain()
     ensures never_both { (m : Machine) (from : Level) (string : List Bool) (slot : Slot) (rest : List Bool) (failure : Failure)
         → Resolves m from string slot rest → ¬ Misses m from string failure }
     ensures never_missing { (m : Machine) (thread : Id) (address : ℕ) → ¬ Fails m thread address MissingCapability }
-    ensures empty_found { (m : Machine) (thread : Id) (address : ℕ) (root : Level) (links : List Link) (last : Link) (rest : List Bool)
+    ensures empty_found { (m : Machine) (thread : Id) (address : ℕ) (root : Level)
+        (links : List Link) (last : Link) (rest : List Bool)
         → root_level m thread ≡ Some root → Leads m root links last.level → IsWhole last
         → spelled links ++ (taken last ++ rest) ≡ bits 64 address → cap_of m (selected last) ≡ None
         → Finds m thread address (selected last) (length rest) }

@@ -1,5 +1,6 @@
 mod Logs
-mod Scripts
+mod EventWords
 mod EventLines
+mod Scripts
 mod OneLog
 mod Examples

@@ -14,7 +14,8 @@ use Rattle.words.specs.Text.{text_of}
 use Rattle.evtext.specs.Log.{line_of, log_header, log_text}
 
 -- words after words: a space stands between them
-spelled-append : (word : List ℕ) (words : List (List ℕ)) (next : List ℕ) (others : List (List ℕ)) → spelled ((word ∷ words) ++ next ∷ others) ≡ spelled (word ∷ words) ++ 32 ∷ spelled (next ∷ others)
+spelled-append : (word : List ℕ) (words : List (List ℕ)) (next : List ℕ) (others : List (List ℕ))
+    → spelled ((word ∷ words) ++ next ∷ others) ≡ spelled (word ∷ words) ++ 32 ∷ spelled (next ∷ others)
 spelled-append word [] next others = refl
 spelled-append word (second ∷ words) next others =
     ap (λ rest. word ++ 32 ∷ rest) (spelled-append second words next others)
@@ -31,26 +32,44 @@ spelled-equals outcome.Blocked = refl
 spelled-equals (outcome.Refused refusal) = refl
 
 -- the line of an entry: its event, ` = `, and its outcome
-pub line_of_entry : (event : Event) (outcome : Outcome) → spelled (event_words event) ++ (32 ∷ 61 ∷ 32 ∷ (spelled (outcome_words outcome) ++ 10 ∷ [])) ≡ line_of (entry_words (event, outcome))
+pub line_of_entry : (event : Event) (outcome : Outcome)
+    → spelled (event_words event) ++ (32 ∷ 61 ∷ 32 ∷ (spelled (outcome_words outcome) ++ 10 ∷ []))
+    ≡ line_of (entry_words (event, outcome))
 line_of_entry event outcome =
     sym (append_assoc (spelled (event_words event)) (32 ∷ 61 ∷ 32 ∷ spelled (outcome_words outcome)) (10 ∷ []))
     ∙ ap (λ rest. (spelled (event_words event) ++ 32 ∷ rest) ++ 10 ∷ []) (sym (spelled-equals outcome))
-    ∙ ap (λ line. line ++ 10 ∷ []) (sym (spelled-append (decimal event.core) (decimal event.thread.0 ∷ call_words event.call) (codes "=") (outcome_words outcome)))
+    ∙ ap (λ line. line ++ 10 ∷ [])
+    (sym (spelled-append (decimal event.core) (decimal event.thread.0 ∷ call_words event.call)
+    (codes "=") (outcome_words outcome)))
 
 -- the lines so far, and one more
-pub lines_more : (events : List Event) (outcomes : List Outcome) (n : ℕ) (event : Event) (outcome : Outcome) (text : List ℕ) → n < length events → n < length outcomes → ((d : Event) → event ≡ get_or events n d) → ((d : Outcome) → outcome ≡ get_or outcomes n d) → text ≡ text_of (log_header ∷ map entry_words (take n (zip events outcomes))) → text ++ line_of (entry_words (event, outcome)) ≡ text_of (log_header ∷ map entry_words (take (n + 1) (zip events outcomes)))
+pub lines_more : (events : List Event) (outcomes : List Outcome) (n : ℕ) (event : Event) (outcome : Outcome) (text : List ℕ)
+    → n < length events → n < length outcomes → ((d : Event) → event ≡ get_or events n d)
+    → ((d : Outcome) → outcome ≡ get_or outcomes n d)
+    → text ≡ text_of (log_header ∷ map entry_words (take n (zip events outcomes)))
+    → text ++ line_of (entry_words (event, outcome)) ≡ text_of (log_header ∷ map entry_words (take (n + 1) (zip events outcomes)))
 lines_more events outcomes n event outcome text more_events more_outcomes is_event is_outcome so_far =
     let entry : Event × Outcome = (event, outcome) in
-    let here : get_or (zip events outcomes) n entry ≡ entry = get_or-zip events outcomes n entry more_events more_outcomes ∙ ap (λ (e : Event). (e, get_or outcomes n outcome)) (sym (is_event event)) ∙ ap (λ (o : Outcome). (event, o)) (sym (is_outcome outcome)) in
-    let grown : take (n + 1) (zip events outcomes) ≡ take n (zip events outcomes) ++ entry ∷ [] = take_more (zip events outcomes) n entry (omega (arith, length-zip events outcomes)) ∙ ap (λ e. take n (zip events outcomes) ++ e ∷ []) here in
+    let here : get_or (zip events outcomes) n entry ≡ entry =
+    get_or-zip events outcomes n entry more_events more_outcomes
+    ∙ ap (λ (e : Event). (e, get_or outcomes n outcome)) (sym (is_event event))
+    ∙ ap (λ (o : Outcome). (event, o)) (sym (is_outcome outcome)) in
+    let grown : take (n + 1) (zip events outcomes) ≡ take n (zip events outcomes) ++ entry ∷ [] =
+    take_more (zip events outcomes) n entry (omega (arith, length-zip events outcomes))
+    ∙ ap (λ e. take n (zip events outcomes) ++ e ∷ []) here in
     ap (λ bytes. bytes ++ line_of (entry_words entry)) so_far
-    ∙ flat_map_more (λ line. spelled line ++ 10 ∷ []) (spelled log_header ++ 10 ∷ []) (map entry_words (take n (zip events outcomes))) (entry_words entry)
+    ∙ flat_map_more (λ line. spelled line ++ 10 ∷ []) (spelled log_header ++ 10 ∷ [])
+    (map entry_words (take n (zip events outcomes))) (entry_words entry)
     ∙ ap (λ lines. text_of (log_header ∷ lines)) (sym (map-append entry_words (take n (zip events outcomes)) (entry ∷ [])))
     ∙ ap (λ entries. text_of (log_header ∷ map entry_words entries)) (sym grown)
 
 -- the last line ends the lines of all entries
-pub lines_all : (events : List Event) (outcomes : List Outcome) (n : ℕ) (text : List ℕ) → n ≡ min (length events) (length outcomes) → text ≡ text_of (log_header ∷ map entry_words (take n (zip events outcomes))) → text ++ codes "end\n" ≡ log_text (zip events outcomes)
+pub lines_all : (events : List Event) (outcomes : List Outcome) (n : ℕ) (text : List ℕ)
+    → n ≡ min (length events) (length outcomes) → text ≡ text_of (log_header ∷ map entry_words (take n (zip events outcomes)))
+    → text ++ codes "end\n" ≡ log_text (zip events outcomes)
 lines_all events outcomes n text all so_far =
     ap (λ bytes. bytes ++ codes "end\n") so_far
-    ∙ ap (λ entries. text_of (log_header ∷ map entry_words entries) ++ codes "end\n") (take_all n (zip events outcomes) (omega (arith, length-zip events outcomes)))
-    ∙ flat_map_more (λ line. spelled line ++ 10 ∷ []) (spelled log_header ++ 10 ∷ []) (map entry_words (zip events outcomes)) last_line
+    ∙ ap (λ entries. text_of (log_header ∷ map entry_words entries) ++ codes "end\n")
+    (take_all n (zip events outcomes) (omega (arith, length-zip events outcomes)))
+    ∙ flat_map_more (λ line. spelled line ++ 10 ∷ []) (spelled log_header ++ 10 ∷ [])
+    (map entry_words (zip events outcomes)) last_line

@@ -11,20 +11,22 @@ use Rattle.machine.specs.declared.call.Outcome.TheVariants as outcome
 use Rattle.machine.specs.Spelling.{event_words, entry_words, flag_word, message_words, outcome_words}
 use Rattle.words.specs.declared.faults.Wrong.{Wrong}
 use Rattle.words.specs.Number.{number_at}
-use Rattle.words.specs.Reading.{last_line}
 use Rattle.words.specs.Text.{IsPlainLine, IsPlainWord}
 use Rattle.words.proofs.OneText.{one_body, one_by_map}
 use Rattle.words.proofs.TextLaws.{both}
-use Rattle.words.proofs.WordLaws.{number_again, plain_decimal}
+use Rattle.words.proofs.WordLaws.{number_again, plain_bytes, plain_decimal, plain_lines}
 use Rattle.evtext.specs.Event.{event_at, HasNumbers}
 use Rattle.evtext.specs.Log.{log_header, log_text, IsEntry, IsOutcome}
 use Rattle.evtext.specs.Script.{script_header, script_text}
-use Rattle.evtext.proofs.Scripts.{event_again, plain_bytes, plain_event}
+use Rattle.evtext.proofs.EventWords.{event_again, plain_event}
+use Rattle.evtext.proofs.Scripts.{plain_header}
 
 -- words that begin with those of an event begin with those of no other
-one_event : (event other : Event) (rest later : List (List ℕ)) → HasNumbers event → HasNumbers other → event_words event ++ rest ≡ event_words other ++ later → (event ≡ other) × (rest ≡ later)
+one_event : (event other : Event) (rest later : List (List ℕ)) → HasNumbers event → HasNumbers other
+    → event_words event ++ rest ≡ event_words other ++ later → (event ≡ other) × (rest ≡ later)
 one_event event other rest later this that same =
-    let read : ◌≡◌ {A = Result (Event × List (List ℕ)) Wrong} (Ok (event, rest)) (Ok (other, later)) = sym (event_again event rest this) ∙ ap event_at same ∙ event_again other later that in
+    let read : ◌≡◌ {A = Result (Event × List (List ℕ)) Wrong} (Ok (event, rest)) (Ok (other, later)) =
+    sym (event_again event rest this) ∙ ap event_at same ∙ event_again other later that in
     let taken : ◌≡◌ {A = Event × List (List ℕ)} (event, rest) (other, later) = cc in
     (ap (λ (p : Event × List (List ℕ)). p.0) taken, ap (λ (p : Event × List (List ℕ)). p.1) taken)
 
@@ -47,7 +49,8 @@ outcome_of (first ∷ []) = cond (bytes_eq first (codes "blocked")) outcome.Bloc
 outcome_of (first ∷ second ∷ []) = outcome.Done answer.Aborted
 outcome_of (first ∷ second ∷ third ∷ []) =
     cond (bytes_eq first (codes "refused")) (outcome.Refused (record { code = number_of second; detail = number_of third }))
-    (cond (bytes_eq second (codes "word")) (outcome.Done (answer.Word (number_of third))) (outcome.Done (answer.Count (number_of third))))
+    (cond (bytes_eq second (codes "word")) (outcome.Done (answer.Word (number_of third)))
+    (outcome.Done (answer.Count (number_of third))))
 outcome_of (first ∷ second ∷ badge ∷ a ∷ b ∷ c ∷ d ∷ flag ∷ []) =
     outcome.Done (answer.Message (record {
       badge = number_of badge;
@@ -60,7 +63,13 @@ flag_back : (b : Bool) → bytes_eq (flag_word b) (codes "1") ≡ b
 flag_back true = refl
 flag_back false = refl
 
-message_back : (badge : ℕ) (words : List ℕ) (capability : Bool) → badge < 2 ^ 64 → length words ≡ 4 → AllByRecursion (λ word. word < 2 ^ 64) words → outcome_of (outcome_words (outcome.Done (answer.Message (record { badge = badge; words = words; capability = capability })))) ≡ outcome.Done (answer.Message (record { badge = badge; words = words; capability = capability }))
+message_back : (badge : ℕ) (words : List ℕ) (capability : Bool) → badge < 2 ^ 64 → length words ≡ 4
+    → AllByRecursion (λ word. word < 2 ^ 64) words
+    → outcome_of (outcome_words (outcome.Done (answer.Message (record {
+      badge = badge;
+      words = words;
+      capability = capability;
+    })))) ≡ outcome.Done (answer.Message (record { badge = badge; words = words; capability = capability }))
 unfolding outcome_of
 message_back badge [] capability small four all = absurd (omega (arith, four))
 message_back badge (a ∷ []) capability small four all = absurd (omega (arith, four))
@@ -90,9 +99,11 @@ outcome_back (outcome.Refused refusal) is =
     ∙ ap (λ n. outcome.Refused (record { code = refusal.code; detail = n })) (number_back refusal.detail is.1)
 
 -- so the words of an entry are those of no other
-one_entry : (entry other : Event × Outcome) → IsEntry entry → IsEntry other → entry_words entry ≡ entry_words other → entry ≡ other
+one_entry : (entry other : Event × Outcome) → IsEntry entry → IsEntry other → entry_words entry ≡ entry_words other
+    → entry ≡ other
 one_entry entry other this that same =
-    let parts = one_event entry.0 other.0 (codes "=" ∷ outcome_words entry.1) (codes "=" ∷ outcome_words other.1) this.0 that.0 same in
+    let parts = one_event entry.0 other.0 (codes "=" ∷ outcome_words entry.1)
+    (codes "=" ∷ outcome_words other.1) this.0 that.0 same in
     let words : outcome_words entry.1 ≡ outcome_words other.1 = cc in
     let outcomes : entry.1 ≡ other.1 = sym (outcome_back entry.1 this.1) ∙ ap outcome_of words ∙ outcome_back other.1 that.1 in
     ap (λ (e : Event). (e, entry.1)) parts.0 ∙ ap (λ (o : Outcome). (other.0, o)) outcomes
@@ -103,13 +114,17 @@ one_line event other this that same =
 
 -- and they are plain
 
-plain_message : (badge : ℕ) (words : List ℕ) (capability : Bool) → badge < 2 ^ 64 → length words ≡ 4 → AllByRecursion (λ word. word < 2 ^ 64) words → AllByRecursion IsPlainWord (message_words (record { badge = badge; words = words; capability = capability }))
+plain_message : (badge : ℕ) (words : List ℕ) (capability : Bool) → badge < 2 ^ 64 → length words ≡ 4
+    → AllByRecursion (λ word. word < 2 ^ 64) words
+    → AllByRecursion IsPlainWord (message_words (record { badge = badge; words = words; capability = capability }))
 plain_message badge [] capability small four all = absurd (omega (arith, four))
 plain_message badge (a ∷ []) capability small four all = absurd (omega (arith, four))
 plain_message badge (a ∷ b ∷ []) capability small four all = absurd (omega (arith, four))
 plain_message badge (a ∷ b ∷ c ∷ []) capability small four all = absurd (omega (arith, four))
 plain_message badge (a ∷ b ∷ c ∷ d ∷ []) capability small four all =
-    (plain_decimal badge small, (plain_decimal a all.0, (plain_decimal b all.1.0, (plain_decimal c all.1.1.0, (plain_decimal d all.1.1.1.0, (by_flag capability, tt))))))
+    let last : AllByRecursion IsPlainWord (decimal c ∷ decimal d ∷ flag_word capability ∷ []) =
+    (plain_decimal c all.1.1.0, (plain_decimal d all.1.1.1.0, (by_flag capability, tt))) in
+    (plain_decimal badge small, (plain_decimal a all.0, (plain_decimal b all.1.0, last)))
   where
     by_flag : (flag : Bool) → IsPlainWord (flag_word flag)
     by_flag true = plain_bytes (codes "1") refl
@@ -121,7 +136,8 @@ plain_outcome (outcome.Done answer.Nothing) is = (plain_bytes (codes "done") ref
 plain_outcome (outcome.Done (answer.Word word)) is =
     (plain_bytes (codes "done") refl, (plain_bytes (codes "word") refl, (plain_decimal word is, tt)))
 plain_outcome (outcome.Done (answer.Message message)) is =
-    (plain_bytes (codes "done") refl, (plain_bytes (codes "msg") refl, plain_message message.badge message.words message.capability is.0 is.1 is.2))
+    let words = plain_message message.badge message.words message.capability is.0 is.1 is.2 in
+    (plain_bytes (codes "done") refl, (plain_bytes (codes "msg") refl, words))
 plain_outcome (outcome.Done (answer.Count count)) is =
     (plain_bytes (codes "done") refl, (plain_bytes (codes "count") refl, (plain_decimal count is, tt)))
 plain_outcome (outcome.Done answer.Aborted) is = (plain_bytes (codes "done") refl, (plain_bytes (codes "aborted") refl, tt))
@@ -134,26 +150,23 @@ plain_entry entry is =
     both IsPlainWord (event_words entry.0) (codes "=" ∷ outcome_words entry.1) (plain_event entry.0 is.0)
     (plain_bytes (codes "=") refl, plain_outcome entry.1 is.1)
 
-plain_lines : {X : Type 0} (P : X → Type 0) (f : X → List (List ℕ)) → ((x : X) → P x → IsPlainLine (f x)) → (xs : List X) → AllByRecursion P xs → AllByRecursion IsPlainLine (map f xs ++ last_line ∷ [])
-plain_lines P f plain [] all = ((plain_bytes (codes "end") refl, tt), tt)
-plain_lines P f plain (x ∷ xs) all = (plain x all.0, plain_lines P f plain xs all.1)
-
 -- the two laws
 
-pub one_script : (script other : List Event) → AllByRecursion HasNumbers script → AllByRecursion HasNumbers other → script_text script ≡ script_text other → script ≡ other
+pub one_script : (script other : List Event) → AllByRecursion HasNumbers script → AllByRecursion HasNumbers other
+    → script_text script ≡ script_text other → script ≡ other
 one_script script other this that same =
     one_by_map HasNumbers event_words one_line script other this that
     (one_body script_header (map event_words script) (map event_words other)
-    (header, plain_lines HasNumbers event_words plain_event script this) (header, plain_lines HasNumbers event_words plain_event other that) same)
-  where
-    header : IsPlainLine script_header
-    header = (plain_bytes (codes "confine-script") refl, (plain_bytes (codes "1") refl, tt))
+    (plain_header, plain_lines HasNumbers event_words plain_event script this)
+    (plain_header, plain_lines HasNumbers event_words plain_event other that) same)
 
-pub one_log : (log other : List (Event × Outcome)) → AllByRecursion IsEntry log → AllByRecursion IsEntry other → log_text log ≡ log_text other → log ≡ other
+pub one_log : (log other : List (Event × Outcome)) → AllByRecursion IsEntry log → AllByRecursion IsEntry other
+    → log_text log ≡ log_text other → log ≡ other
 one_log log other this that same =
     one_by_map IsEntry entry_words one_entry log other this that
     (one_body log_header (map entry_words log) (map entry_words other)
-    (header, plain_lines IsEntry entry_words plain_entry log this) (header, plain_lines IsEntry entry_words plain_entry other that) same)
+    (header, plain_lines IsEntry entry_words plain_entry log this)
+    (header, plain_lines IsEntry entry_words plain_entry other that) same)
   where
     header : IsPlainLine log_header
     header = (plain_bytes (codes "confine-log") refl, (plain_bytes (codes "1") refl, tt))

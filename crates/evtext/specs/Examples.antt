@@ -1,4 +1,5 @@
--- Worked texts: the script and the log of the example of two cores, and what scripts with a fault are refused with. It is confine's own.
+-- Worked texts: the script and the log of the example of two cores, and what scripts with a fault are refused with. They are
+-- confine's own.
 use Rattle.std.specs.Prelude.{ℕ, true, false, List, [], ◌∷◌, ◌++◌, codes, Result, Err}
 use Rattle.machine.specs.declared.call.Answer.TheVariants.{Nothing, Word, Message, Count, Aborted}
 use Rattle.machine.specs.declared.call.Call.TheVariants.{Signal, Poll}

@@ -1,4 +1,4 @@
--- The text of a script, and which script, or which fault at which line, a text is read as: the header, a line for each event, and `end`.
+-- The text of a script, and which script, or which fault at which line, a text is read as: the header, a line for each event, `end`.
 use Rattle.std.specs.Prelude.{ℕ, ◌≤◌, List, [], ◌∷◌, ◌++◌, length, map, codes, Result, Ok}
 use Rattle.std.specs.List.{AllByRecursion}
 use Rattle.machine.specs.declared.call.Event.{Event}

@@ -35,7 +35,7 @@ pub fn read_script(alloc: Global, text: &[u8]) -> Result<Vec<Event>, Fault>
     events_of(alloc, text)
 }
 
-#[tactic(auto, using(words::proofs::ReadingLaws::begins, words::proofs::ReadingLaws::no_beginning, words::proofs::ReadingLaws::goes_on, words::proofs::ReadingLaws::stops, words::proofs::ReadingLaws::no_more, words::proofs::ReadingLaws::ends_well, words::proofs::ReadingLaws::ends_badly), unfolding(crate::specs::Script::read_script_of, words::specs::Reading::bind))]
+#[tactic(auto, using(words::proofs::ReadingLaws::loop_laws), unfolding(crate::specs::Script::read_script_of, words::specs::Reading::bind))]
 fn events_of(alloc: Global, text: &[u8]) -> Result<Vec<Event>, Fault>
     ensures exact { Reads (λ events. events.items) result (read_script_of text.now) }
 {

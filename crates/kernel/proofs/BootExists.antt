@@ -19,14 +19,20 @@ append_nothing [] = refl
 append_nothing (x ∷ xs) = ap (λ list. x ∷ list) (append_nothing xs)
 
 -- a table with objects more
-objects_boot : (t : Layout) (more : List Initial) (m : Machine) → IsBoot t m → (n : Machine) × IsBoot (record t { objects = t.objects ++ more }) n
+objects_boot : (t : Layout) (more : List Initial) (m : Machine) → IsBoot t m
+    → (n : Machine) × IsBoot (record t { objects = t.objects ++ more }) n
 objects_boot t [] m boot = (m, subst (λ objects. IsBoot (record t { objects = objects }) m) (sym (append_nothing t.objects)) boot)
 objects_boot t (initial ∷ more) m boot =
-    let rest = objects_boot (with_last_object t initial) more (with_new m (bound t (record { 0 = m.next }) initial.object)) (boot-object t m initial boot) in
-    (rest.0, subst (λ objects. IsBoot (record t { objects = objects }) rest.0) (append_assoc t.objects (initial ∷ []) more) rest.1)
+    let rest =
+    objects_boot (with_last_object t initial) more (with_new m (bound t (record { 0 = m.next }) initial.object))
+    (boot-object t m initial boot) in (
+      rest.0,
+      subst (λ objects. IsBoot (record t { objects = objects }) rest.0) (append_assoc t.objects (initial ∷ []) more) rest.1,
+    )
 
 -- the first of a list that is at a place
-first_there : {X Y : Type 0} (f : X → Y) (here there : Bool) (x : X) (found : Option X) → here ≡ there → cond here (Some (f x)) (option_map f found) ≡ option_map f (cond there (Some x) found)
+first_there : {X Y : Type 0} (f : X → Y) (here there : Bool) (x : X) (found : Option X) → here ≡ there
+    → cond here (Some (f x)) (option_map f found) ≡ option_map f (cond there (Some x) found)
 first_there f here true x found same = ap (λ b. cond b (Some (f x)) (option_map f found)) same
 first_there f here false x found same = ap (λ b. cond b (Some (f x)) (option_map f found)) same
 
@@ -34,7 +40,8 @@ same_turned : (a b : SlotRef) → same_slot a b ≡ same_slot b a
 same_turned = (eq_by_cmp_equiv slot_total).symm
 
 -- a table with capabilities
-caps_boot : (t : Layout) (caps : List Filled) (m : Machine) → IsBoot (record t { caps = [] }) m → (n : Machine) × IsBoot (record t { caps = caps }) n
+caps_boot : (t : Layout) (caps : List Filled) (m : Machine) → IsBoot (record t { caps = [] }) m
+    → (n : Machine) × IsBoot (record t { caps = caps }) n
 unfolding initial_of initial_cap initial_parent bound_context bound_thread with_cap
 caps_boot t [] m boot = (m, boot)
 caps_boot t (filled ∷ more) m boot =
@@ -50,14 +57,16 @@ caps_boot t (filled ∷ more) m boot =
         words = λ q. words_of-with_cap n slot held q ∙ rest.1.words q;
         caps =
             λ q. cap_of-with_cap n slot held q ∙ ap (cond (same_slot q slot) (Some held)) (rest.1.caps q)
-            ∙ first_there (λ (other : Filled). other.cap) (same_slot q slot) (same_slot slot q) filled (find (λ other. same_slot other.slot q) more) (same_turned q slot);
+            ∙ first_there (λ (other : Filled). other.cap) (same_slot q slot) (same_slot slot q) filled
+            (find (λ other. same_slot other.slot q) more) (same_turned q slot);
         parents = λ q. parent_of-with_cap n slot held q ∙ rest.1.parents q;
         next = rest.1.next;
       },
     )
 
 -- a table with a derivation tree
-pairs_boot : (t : Layout) (pairs : List Pair) (m : Machine) → IsBoot (record t { pairs = [] }) m → (n : Machine) × IsBoot (record t { pairs = pairs }) n
+pairs_boot : (t : Layout) (pairs : List Pair) (m : Machine) → IsBoot (record t { pairs = [] }) m
+    → (n : Machine) × IsBoot (record t { pairs = pairs }) n
 unfolding initial_of initial_cap initial_parent bound_context bound_thread with_parent
 pairs_boot t [] m boot = (m, boot)
 pairs_boot t (pair ∷ more) m boot =
@@ -73,7 +82,8 @@ pairs_boot t (pair ∷ more) m boot =
         caps = λ q. cap_of-with_parent n slot above q ∙ rest.1.caps q;
         parents =
             λ q. parent_of-with_parent n slot above q ∙ ap (cond (same_slot q slot) (Some above)) (rest.1.parents q)
-            ∙ first_there (λ (other : Pair). other.parent) (same_slot q slot) (same_slot slot q) pair (find (λ other. same_slot other.child q) more) (same_turned q slot);
+            ∙ first_there (λ (other : Pair). other.parent) (same_slot q slot) (same_slot slot q) pair
+            (find (λ other. same_slot other.child q) more) (same_turned q slot);
         next = rest.1.next;
       },
     )

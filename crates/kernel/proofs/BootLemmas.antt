@@ -30,7 +30,9 @@ use Rattle.kernel.specs.Parts.{without_tree}
 -- ids that don't tie differ
 
 apart_ids : (q id : ObjId) → same_id q id ≡ false → q.0 ≢ id.0
-apart_ids q id tie same = let is : q ≡ id = ap (λ n. record { 0 = n }) same in false≢true (sym tie ∙ ap (λ k. same_id k id) is ∙ ap is_eq (tied_itself id_total id))
+apart_ids q id tie same =
+    let is : q ≡ id = ap (λ n. record { 0 = n }) same in
+    false≢true (sym tie ∙ ap (λ k. same_id k id) is ∙ ap is_eq (tied_itself id_total id))
 
 -- a list with one element more
 
@@ -44,11 +46,14 @@ slice_get-not_last [] x (suc k) apart = refl
 slice_get-not_last (y ∷ xs) x zero apart = refl
 slice_get-not_last (y ∷ xs) x (suc k) apart = slice_get-not_last xs x k (λ same. apart (ap suc same))
 
-find-missing : {X : Type 0} (p : X → Bool) (xs : List X) (d : X) → ((k : ℕ) → k < length xs → p (get_or xs k d) ≡ false) → find p xs ≡ None
+find-missing : {X : Type 0} (p : X → Bool) (xs : List X) (d : X) → ((k : ℕ) → k < length xs → p (get_or xs k d) ≡ false)
+    → find p xs ≡ None
 find-missing p [] d none = refl
-find-missing p (x ∷ xs) d none = ap (λ b. cond b (Some x) (find p xs)) (none 0 (omega arith)) ∙ find-missing p xs d (λ k within. none (suc k) (omega arith))
+find-missing p (x ∷ xs) d none =
+    ap (λ b. cond b (Some x) (find p xs)) (none 0 (omega arith)) ∙ find-missing p xs d (λ k within. none (suc k) (omega arith))
 
-map-cond : {A B : Type 0} (f : A → B) (b : Bool) (x : A) (found : Option A) → cond b (Some (f x)) (option_map f found) ≡ option_map f (cond b (Some x) found)
+map-cond : {A B : Type 0} (f : A → B) (b : Bool) (x : A) (found : Option A)
+    → cond b (Some (f x)) (option_map f found) ≡ option_map f (cond b (Some x) found)
 map-cond f true x found = refl
 map-cond f false x found = refl
 
@@ -81,32 +86,43 @@ booted-last t initial id last q = by_tie (same_id q id) refl where
   object_at : Layout → ObjId → Option Initial → Option Object
   object_at t q found = option_map (λ initial. bound t q initial.object) found
 
-  by_tie : (tie : Bool) → same_id q id ≡ tie → cond tie (Some (bound t id initial.object)) (booted t q) ≡ booted (with_last_object t initial) q
+  by_tie : (tie : Bool) → same_id q id ≡ tie
+      → cond tie (Some (bound t id initial.object)) (booted t q) ≡ booted (with_last_object t initial) q
   by_tie true e =
       let is : q ≡ id = one_id q id e in
-      let at : slice_get (t.objects ++ initial ∷ []) q.0 ≡ Some initial = ap (slice_get (t.objects ++ initial ∷ [])) (ap (λ k. k.0) is ∙ last) ∙ slice_get-last t.objects initial in
+      let at : slice_get (t.objects ++ initial ∷ []) q.0 ≡ Some initial =
+      ap (slice_get (t.objects ++ initial ∷ [])) (ap (λ k. k.0) is ∙ last) ∙ slice_get-last t.objects initial in
       ap (λ k. Some (bound t k initial.object)) (sym is) ∙ ap (object_at t q) (sym at)
-  by_tie false e = ap (object_at t q) (sym (slice_get-not_last t.objects initial q.0 (λ same. apart_ids q id e (same ∙ sym last))))
+  by_tie false e =
+      ap (object_at t q) (sym (slice_get-not_last t.objects initial q.0 (λ same. apart_ids q id e (same ∙ sym last))))
 
-pub boot-object : (t : Layout) (m : Machine) (initial : Initial) → IsBoot t m → IsBoot (with_last_object t initial) (with_new m (bound t (record { 0 = m.next }) initial.object))
+pub boot-object : (t : Layout) (m : Machine) (initial : Initial) → IsBoot t m
+    → IsBoot (with_last_object t initial) (with_new m (bound t (record { 0 = m.next }) initial.object))
 unfolding initial_cap initial_parent with_new
 boot-object t m initial boot =
     let id : ObjId = record { 0 = m.next } in
     let object : Object = bound t id initial.object in
-    let now : (q : ObjId) → cond (same_id q id) (Some object) (booted t q) ≡ booted (with_last_object t initial) q = booted-last t initial id boot.next in
+    let now : (q : ObjId) → cond (same_id q id) (Some object) (booted t q) ≡ booted (with_last_object t initial) q =
+    booted-last t initial id boot.next in
     record {
       objects = λ q. object_of-with_new m object q ∙ ap (cond (same_id q id) (Some object)) (boot.objects q) ∙ now q;
       queues =
-          λ q. queue_of-with_new m object q ∙ ap (cond (same_id q id) (Some [])) (boot.queues q) ∙ map-cond (λ _. []) (same_id q id) object (booted t q) ∙ ap (option_map (λ _. [])) (now q);
+          λ q. queue_of-with_new m object q
+          ∙ ap (cond (same_id q id) (Some [])) (boot.queues q)
+          ∙ map-cond (λ _. []) (same_id q id) object (booted t q)
+          ∙ ap (option_map (λ _. [])) (now q);
       words =
-          λ q. words_of-with_new m object q ∙ ap (cond (same_id q id) (Some (replicate (word_count object) 0))) (boot.words q) ∙ map-cond (λ made. replicate (word_count made) 0) (same_id q id) object (booted t q)
+          λ q. words_of-with_new m object q
+          ∙ ap (cond (same_id q id) (Some (replicate (word_count object) 0))) (boot.words q)
+          ∙ map-cond (λ made. replicate (word_count made) 0) (same_id q id) object (booted t q)
           ∙ ap (option_map (λ made. replicate (word_count made) 0)) (now q);
       caps = λ q. cap_of-with_new m object q ∙ boot.caps q;
       parents = λ q. parent_of-with_new m object q ∙ boot.parents q;
       next = ap (λ n. n + 1) boot.next ∙ sym (length_push t.objects initial);
     }
 
-cap-last : (t : Layout) (filled d : Filled) → ((k : ℕ) → k < length t.caps → slot_cmp (get_or t.caps k d).slot filled.slot ≡ Less) → (q : SlotRef)
+cap-last : (t : Layout) (filled d : Filled) → ((k : ℕ) → k < length t.caps → slot_cmp (get_or t.caps k d).slot filled.slot ≡ Less)
+    → (q : SlotRef)
     → cond (same_slot q filled.slot) (Some filled.cap) (initial_cap t q) ≡ initial_cap (with_last_cap t filled) q
 unfolding initial_cap
 cap-last t filled d rising q = by_tie (same_slot q filled.slot) refl where
@@ -123,17 +139,25 @@ cap-last t filled d rising q = by_tie (same_slot q filled.slot) refl where
   or-none None = refl
   or-none (Some x) = refl
 
-  by_tie : (tie : Bool) → same_slot q filled.slot ≡ tie → cond tie (Some filled.cap) (initial_cap t q) ≡ initial_cap (with_last_cap t filled) q
+  by_tie : (tie : Bool) → same_slot q filled.slot ≡ tie
+      → cond tie (Some filled.cap) (initial_cap t q) ≡ initial_cap (with_last_cap t filled) q
   by_tie true e =
       let is : q ≡ filled.slot = one_slot q filled.slot e in
-      let none : find at t.caps ≡ None = find-missing at t.caps d (λ k within. ap (λ slot. same_slot (get_or t.caps k d).slot slot) is ∙ ap is_eq (rising k within)) in
+      let none : find at t.caps ≡ None =
+      find-missing at t.caps d
+      (λ k within. ap (λ slot. same_slot (get_or t.caps k d).slot slot) is ∙ ap is_eq (rising k within)) in
       let here : same_slot filled.slot q ≡ true = (eq_by_cmp_equiv slot_total).symm filled.slot q ∙ e in
-      sym (ap cap_in (find-append at t.caps (filled ∷ []) ∙ ap (λ found. option_or found (find at (filled ∷ []))) none ∙ ap last here))
+      sym
+      (ap cap_in (find-append at t.caps (filled ∷ []) ∙ ap (λ found. option_or found (find at (filled ∷ []))) none
+      ∙ ap last here))
   by_tie false e =
       let elsewhere : same_slot filled.slot q ≡ false = (eq_by_cmp_equiv slot_total).symm filled.slot q ∙ e in
-      sym (ap cap_in (find-append at t.caps (filled ∷ []) ∙ ap (λ tie. option_or (find at t.caps) (last tie)) elsewhere ∙ sym (or-none (find at t.caps))))
+      sym
+      (ap cap_in (find-append at t.caps (filled ∷ []) ∙ ap (λ tie. option_or (find at t.caps) (last tie)) elsewhere
+      ∙ sym (or-none (find at t.caps))))
 
-boot-cap : (t : Layout) (m : Machine) (filled d : Filled) → IsBoot t m → ((k : ℕ) → k < length t.caps → slot_cmp (get_or t.caps k d).slot filled.slot ≡ Less)
+boot-cap : (t : Layout) (m : Machine) (filled d : Filled) → IsBoot t m
+    → ((k : ℕ) → k < length t.caps → slot_cmp (get_or t.caps k d).slot filled.slot ≡ Less)
     → IsBoot (with_last_cap t filled) (with_cap m filled.slot filled.cap)
 unfolding initial_of initial_parent bound_context bound_thread with_cap
 boot-cap t m filled d boot rising =
@@ -143,20 +167,25 @@ boot-cap t m filled d boot rising =
       objects = λ q. object_of-with_cap m slot held q ∙ boot.objects q;
       queues = λ q. queue_of-with_cap m slot held q ∙ boot.queues q;
       words = λ q. words_of-with_cap m slot held q ∙ boot.words q;
-      caps = λ q. cap_of-with_cap m slot held q ∙ ap (cond (same_slot q slot) (Some held)) (boot.caps q) ∙ cap-last t filled d rising q;
+      caps = λ q. cap_of-with_cap m slot held q
+          ∙ ap (cond (same_slot q slot) (Some held)) (boot.caps q)
+          ∙ cap-last t filled d rising q;
       parents = λ q. parent_of-with_cap m slot held q ∙ boot.parents q;
       next = boot.next;
     }
 
 -- the boot state has the slots that the table declares
-boot-has_slot : (t : Layout) (m : Machine) (slot : SlotRef) (holder : Initial) → IsBoot t m → initial_of t slot.holder ≡ Some holder → slot.index < slot_count holder.object → IsTrue (has_slot m slot)
+boot-has_slot : (t : Layout) (m : Machine) (slot : SlotRef) (holder : Initial) → IsBoot t m
+    → initial_of t slot.holder ≡ Some holder → slot.index < slot_count holder.object → IsTrue (has_slot m slot)
 boot-has_slot t m slot holder boot held within =
-    let at : object_of m slot.holder ≡ Some (bound t slot.holder holder.object) = boot.objects slot.holder ∙ ap (option_map (λ initial. bound t slot.holder initial.object)) held in
+    let at : object_of m slot.holder ≡ Some (bound t slot.holder holder.object) =
+    boot.objects slot.holder ∙ ap (option_map (λ initial. bound t slot.holder initial.object)) held in
     rw (at, slot_count-bound t slot.holder holder.object) (lt-ltb slot.index (slot_count holder.object) within)
 
 -- each slot that the table fills is there
 pub boot-has_filled :
-    (t : Layout) (m : Machine) (caps : List Filled) (n i : ℕ) (d : Filled) → IsLawful t → caps ≡ t.caps → i < length caps → IsBoot (record t { caps = take n t.caps; pairs = [] }) m
+    (t : Layout) (m : Machine) (caps : List Filled) (n i : ℕ) (d : Filled) → IsLawful t → caps ≡ t.caps → i < length caps
+    → IsBoot (record t { caps = take n t.caps; pairs = [] }) m
     → IsTrue (has_slot m (get_or caps i d).slot)
 unfolding initial_of
 boot-has_filled t m caps n i d lawful same within boot =
@@ -165,17 +194,22 @@ boot-has_filled t m caps n i d lawful same within boot =
 
 -- one slot more is filled
 pub boot-filled :
-    (t : Layout) (m : Machine) (caps : List Filled) (i : ℕ) (d : Filled) → IsLawful t → caps ≡ t.caps → i < length caps → IsBoot (record t { caps = take i t.caps; pairs = [] }) m
-    → (next : Machine) → next ≡ with_cap m (get_or caps i d).slot (get_or caps i d).cap → IsBoot (record t { caps = take (i + 1) t.caps; pairs = [] }) next
+    (t : Layout) (m : Machine) (caps : List Filled) (i : ℕ) (d : Filled) → IsLawful t → caps ≡ t.caps → i < length caps
+    → IsBoot (record t { caps = take i t.caps; pairs = [] }) m
+    → (next : Machine) → next ≡ with_cap m (get_or caps i d).slot (get_or caps i d).cap
+    → IsBoot (record t { caps = take (i + 1) t.caps; pairs = [] }) next
 boot-filled t m caps i d lawful same within boot next is =
     let in_table : i < length t.caps = rw (← same) within in
     let filled : Filled = get_or t.caps i d in
-    let put : next ≡ with_cap m filled.slot filled.cap = is ∙ ap (λ list. with_cap m (get_or list i d).slot (get_or list i d).cap) same in
+    let put : next ≡ with_cap m filled.slot filled.cap =
+    is ∙ ap (λ list. with_cap m (get_or list i d).slot (get_or list i d).cap) same in
     rw (put, take_more t.caps i d in_table)
-    (boot-cap (record t { caps = take i t.caps; pairs = [] }) m filled d boot (λ k lower. below k (omega (arith, length-take-le i t.caps (omega arith))))) where
+    (boot-cap (record t { caps = take i t.caps; pairs = [] }) m filled d boot
+    (λ k lower. below k (omega (arith, length-take-le i t.caps (omega arith))))) where
       below : (k : ℕ) → k < i → slot_cmp (get_or (take i t.caps) k d).slot (get_or t.caps i d).slot ≡ Less
       below k lower = rw (get_or-take i t.caps k d lower) (lawful.caps_rise k i d lower (rw (← same) within))
 
 -- a table without its tree, which is empty, boots to the same state
 pub boot-tree : (t : Layout) (m : Machine) → IsLawful t → IsBoot (without_tree t) m → IsBoot t m
-boot-tree t m lawful boot = let P : List Pair → Type 0 = λ pairs. IsBoot (record t { pairs = pairs }) m in subst P (sym lawful.underived) boot
+boot-tree t m lawful boot =
+    let P : List Pair → Type 0 = λ pairs. IsBoot (record t { pairs = pairs }) m in subst P (sym lawful.underived) boot

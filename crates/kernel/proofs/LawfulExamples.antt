@@ -55,9 +55,11 @@ less Less e = refl
 less Equal e = absurd (false≢true e)
 less Greater e = absurd (false≢true e)
 
-names_differ : (names : List (List ℕ)) → pairs_test (λ a b. not (bytes_eq a b)) names ≡ true → AllPairs (λ one other. one ≢ other) names
+names_differ : (names : List (List ℕ)) → pairs_test (λ a b. not (bytes_eq a b)) names ≡ true
+    → AllPairs (λ one other. one ≢ other) names
 names_differ names e = λ i j d below within same.
-    false≢true (sym (unless _ (pairs_pass (λ a b. not (bytes_eq a b)) names e i j d below within)) ∙ (bytes_eq-Decides _ _).1 same)
+    false≢true
+    (sym (unless _ (pairs_pass (λ a b. not (bytes_eq a b)) names e i j d below within)) ∙ (bytes_eq-Decides _ _).1 same)
 
 apart_from_meets : (one other : Object) → meets one other ≡ false → IsApart one other
 apart_from_meets one other e address a b =
@@ -65,9 +67,11 @@ apart_from_meets one other e address a b =
     let second : nat_lt (address_of other) (end_of one) ≡ true = lt-ltb (address_of other) (end_of one) (omega arith) in
     false≢true (sym e ∙ ap (λ t. t && nat_lt (address_of other) (end_of one)) first ∙ second)
 
-all_apart : (initials : List Initial) → pairs_test (λ a b. not (meets a.object b.object)) initials ≡ true → AllPairs (λ one other. IsApart one.object other.object) initials
+all_apart : (initials : List Initial) → pairs_test (λ a b. not (meets a.object b.object)) initials ≡ true
+    → AllPairs (λ one other. IsApart one.object other.object) initials
 all_apart initials e = λ i j d below within.
-    apart_from_meets (get_or initials i d).object (get_or initials j d).object (unless _ (pairs_pass (λ a b. not (meets a.object b.object)) initials e i j d below within))
+    apart_from_meets (get_or initials i d).object (get_or initials j d).object
+    (unless _ (pairs_pass (λ a b. not (meets a.object b.object)) initials e i j d below within))
 
 abbrev NoControl : Initial → Type 0
 NoControl initial = (core : ℕ) → is_control_of initial.object core ≡ false
@@ -77,37 +81,61 @@ no_controls :
     → AllPairs (λ one other. (core : ℕ) → is_control_of one.object core ≡ true → is_control_of other.object core ≡ false) initials
 no_controls initials none = λ i j d below within core _. All-from_recursion NoControl initials none j d within core
 
-caps_rise : (caps : List Filled) → pairs_test (λ a b. is_lt (slot_cmp a.slot b.slot)) caps ≡ true → AllPairs (λ one other. slot_cmp one.slot other.slot ≡ Less) caps
+caps_rise : (caps : List Filled) → pairs_test (λ a b. is_lt (slot_cmp a.slot b.slot)) caps ≡ true
+    → AllPairs (λ one other. slot_cmp one.slot other.slot ≡ Less) caps
 caps_rise caps e = λ i j d below within. less _ (pairs_pass (λ a b. is_lt (slot_cmp a.slot b.slot)) caps e i j d below within)
 
 abbrev NoUntyped : Filled → Type 0
 NoUntyped filled = kind_of_detail filled.cap.detail ≢ kind.Untyped
 
-no_untypeds : (caps : List Filled) → AllByRecursion NoUntyped caps → AllPairs (λ one other. kind_of_detail other.cap.detail ≡ kind.Untyped → one.cap.object ≢ other.cap.object) caps
+no_untypeds : (caps : List Filled) → AllByRecursion NoUntyped caps
+    → AllPairs (λ one other. kind_of_detail other.cap.detail ≡ kind.Untyped → one.cap.object ≢ other.cap.object) caps
 no_untypeds caps none = λ i j d below within untyped. absurd (All-from_recursion NoUntyped caps none j d within untyped)
 
-rising : (bindings : List Binding) → pairs_test (λ a b. nat_lt a.thread.0 b.thread.0) bindings ≡ true → AllPairs (λ one other. one.thread.0 < other.thread.0) bindings
-rising bindings e = λ i j d below within. ltb-true _ _ (pairs_pass (λ a b. nat_lt a.thread.0 b.thread.0) bindings e i j d below within)
+rising : (bindings : List Binding) → pairs_test (λ a b. nat_lt a.thread.0 b.thread.0) bindings ≡ true
+    → AllPairs (λ one other. one.thread.0 < other.thread.0) bindings
+rising bindings e =
+    λ i j d below within. ltb-true _ _ (pairs_pass (λ a b. nat_lt a.thread.0 b.thread.0) bindings e i j d below within)
 
-once_each : (bindings : List Binding) → pairs_test (λ a b. not (a.context.0 == b.context.0)) bindings ≡ true → AllPairs (λ one other. one.context ≢ other.context) bindings
+once_each : (bindings : List Binding) → pairs_test (λ a b. not (a.context.0 == b.context.0)) bindings ≡ true
+    → AllPairs (λ one other. one.context ≢ other.context) bindings
 once_each bindings e = λ i j d below within same.
-    eqb-false _ _ (unless _ (pairs_pass (λ a b. not (a.context.0 == b.context.0)) bindings e i j d below within)) (ap (λ k. k.0) same)
+    eqb-false _ _ (unless _ (pairs_pass (λ a b. not (a.context.0 == b.context.0)) bindings e i j d below within))
+    (ap (λ k. k.0) same)
 
 -- the lines of the tables
 
 cnode_of :
-    (t : Layout) (label address : ℕ) → label < length t.labels → is_aligned (cnode label address 1).object ≡ true → end_of (cnode label address 1).object ≤ 2 ^ 48 → IsObjectOf t (cnode label address 1)
-cnode_of t label address known aligned below = record { label = known; blank = (lit< tt, lit≤ tt); aligned = aligned; end = below }
+    (t : Layout) (label address : ℕ) → label < length t.labels → is_aligned (cnode label address 1).object ≡ true
+    → end_of (cnode label address 1).object ≤ 2 ^ 48 → IsObjectOf t (cnode label address 1)
+cnode_of t label address known aligned below = record {
+  label = known;
+  blank = (lit< tt, lit≤ tt);
+  aligned = aligned;
+  end = below;
+}
 
 thread_of :
-    (t : Layout) (label address : ℕ) (starts : RunState) → IsAtRest starts → label < length t.labels → is_aligned (thread label address starts).object ≡ true
+    (t : Layout) (label address : ℕ) (starts : RunState) → IsAtRest starts → label < length t.labels
+    → is_aligned (thread label address starts).object ≡ true
     → end_of (thread label address starts).object ≤ 2 ^ 48 → IsObjectOf t (thread label address starts)
-thread_of t label address starts rests known aligned below = record { label = known; blank = (rests, refl, refl); aligned = aligned; end = below }
+thread_of t label address starts rests known aligned below = record {
+  label = known;
+  blank = (rests, refl, refl);
+  aligned = aligned;
+  end = below;
+}
 
 context_of :
-    (t : Layout) (label address : ℕ) (share : Option Share) → IsWithinLimits share → label < length t.labels → is_aligned (context label address share).object ≡ true
+    (t : Layout) (label address : ℕ) (share : Option Share) → IsWithinLimits share → label < length t.labels
+    → is_aligned (context label address share).object ≡ true
     → end_of (context label address share).object ≤ 2 ^ 48 → IsObjectOf t (context label address share)
-context_of t label address share within known aligned below = record { label = known; blank = (within, refl); aligned = aligned; end = below }
+context_of t label address share within known aligned below = record {
+  label = known;
+  blank = (within, refl);
+  aligned = aligned;
+  end = below;
+}
 
 pub two_cores_lawful : IsLawful two_cores
 unfolding two_cores initial_of initial_parent kind_at slot_total thread_total pairs_test
@@ -144,18 +172,55 @@ two_cores_lawful = record {
         ),
       );
   objects_apart = all_apart two_cores.objects refl;
-  controls_differ = no_controls two_cores.objects ((λ _. refl), ((λ _. refl), ((λ _. refl), ((λ _. refl), ((λ _. refl), ((λ _. refl), ((λ _. refl), tt)))))));
+  controls_differ = no_controls two_cores.objects
+      ((λ _. refl), ((λ _. refl), ((λ _. refl), ((λ _. refl), ((λ _. refl), ((λ _. refl), ((λ _. refl), tt)))))));
   caps =
       All-from_recursion
       (IsCapOf two_cores)
       two_cores.caps (
-        record { holder = cnode 0 0x1000 1; target = notification 1 0x3000; held = refl; aimed = refl; slot = lit< tt; root = λ e. cc; detail = lit< tt; original = λ _. refl },
+        record {
+          holder = cnode 0 0x1000 1;
+          target = notification 1 0x3000;
+          held = refl;
+          aimed = refl;
+          slot = lit< tt;
+          root = λ e. cc;
+          detail = lit< tt;
+          original = λ _. refl;
+        },
         (
-          record { holder = cnode 1 0x1040 1; target = notification 1 0x3000; held = refl; aimed = refl; slot = lit< tt; root = λ e. cc; detail = lit< tt; original = λ _. refl },
+          record {
+            holder = cnode 1 0x1040 1;
+            target = notification 1 0x3000;
+            held = refl;
+            aimed = refl;
+            slot = lit< tt;
+            root = λ e. cc;
+            detail = lit< tt;
+            original = λ _. refl;
+          },
           (
-            record { holder = thread 0 0x2000 state.Ready; target = cnode 0 0x1000 1; held = refl; aimed = refl; slot = lit< tt; root = λ _. refl; detail = (lit≤ tt, lit< tt); original = λ _. refl },
+            record {
+              holder = thread 0 0x2000 state.Ready;
+              target = cnode 0 0x1000 1;
+              held = refl;
+              aimed = refl;
+              slot = lit< tt;
+              root = λ _. refl;
+              detail = (lit≤ tt, lit< tt);
+              original = λ _. refl;
+            },
             (
-              record { holder = thread 1 0x2400 state.Ready; target = cnode 1 0x1040 1; held = refl; aimed = refl; slot = lit< tt; root = λ _. refl; detail = (lit≤ tt, lit< tt); original = λ _. refl },
+              record {
+                holder = thread 1 0x2400 state.Ready;
+                target = cnode 1 0x1040 1;
+                held = refl;
+                aimed = refl;
+                slot = lit< tt;
+                root = λ _. refl;
+                detail = (lit≤ tt, lit< tt);
+                original = λ _. refl;
+              },
               tt,
             ),
           ),
@@ -164,7 +229,8 @@ two_cores_lawful = record {
   caps_rise = caps_rise two_cores.caps refl;
   untypeds_once = no_untypeds two_cores.caps ((λ e. cc), ((λ e. cc), ((λ e. cc), ((λ e. cc), tt))));
   underived = refl;
-  bindings = All-from_recursion (IsBindingOf two_cores) two_cores.bindings (record { thread = refl; context = refl }, (record { thread = refl; context = refl }, tt));
+  bindings = All-from_recursion (IsBindingOf two_cores) two_cores.bindings
+      (record { thread = refl; context = refl }, (record { thread = refl; context = refl }, tt));
   bindings_rise = rising two_cores.bindings refl;
   contexts_differ = once_each two_cores.bindings refl;
 }
@@ -215,14 +281,43 @@ stuck_lawful = record {
   objects_apart = all_apart stuck.objects refl;
   controls_differ =
       no_controls
-      stuck.objects
-      ((λ _. refl), ((λ _. refl), ((λ _. refl), ((λ _. refl), ((λ _. refl), ((λ _. refl), ((λ _. refl), ((λ _. refl), ((λ _. refl), ((λ _. refl), tt))))))))));
+      stuck.objects (
+        (λ _. refl),
+        (
+          (λ _. refl),
+          (
+            (λ _. refl),
+            ((λ _. refl), ((λ _. refl), ((λ _. refl), ((λ _. refl), ((λ _. refl), ((λ _. refl), ((λ _. refl), tt))))))),
+          ),
+        ),
+      );
   caps =
       All-from_recursion
       (IsCapOf stuck)
       stuck.caps (
-        record { holder = cnode 0 0x1000 1; target = cnode 0 0x1000 1; held = refl; aimed = refl; slot = lit< tt; root = λ e. cc; detail = (lit≤ tt, lit< tt); original = λ _. refl },
-        (record { holder = thread 0 0x2000 state.Ready; target = cnode 0 0x1000 1; held = refl; aimed = refl; slot = lit< tt; root = λ _. refl; detail = (lit≤ tt, lit< tt); original = λ _. refl }, tt),
+        record {
+          holder = cnode 0 0x1000 1;
+          target = cnode 0 0x1000 1;
+          held = refl;
+          aimed = refl;
+          slot = lit< tt;
+          root = λ e. cc;
+          detail = (lit≤ tt, lit< tt);
+          original = λ _. refl;
+        },
+        (
+          record {
+            holder = thread 0 0x2000 state.Ready;
+            target = cnode 0 0x1000 1;
+            held = refl;
+            aimed = refl;
+            slot = lit< tt;
+            root = λ _. refl;
+            detail = (lit≤ tt, lit< tt);
+            original = λ _. refl;
+          },
+          tt,
+        ),
       );
   caps_rise = caps_rise stuck.caps refl;
   untypeds_once = no_untypeds stuck.caps ((λ e. cc), ((λ e. cc), tt));
@@ -230,8 +325,13 @@ stuck_lawful = record {
   bindings =
       All-from_recursion
       (IsBindingOf stuck)
-      stuck.bindings
-      (record { thread = refl; context = refl }, (record { thread = refl; context = refl }, (record { thread = refl; context = refl }, (record { thread = refl; context = refl }, tt))));
+      stuck.bindings (
+        record { thread = refl; context = refl },
+        (
+          record { thread = refl; context = refl },
+          (record { thread = refl; context = refl }, (record { thread = refl; context = refl }, tt)),
+        ),
+      );
   bindings_rise = rising stuck.bindings refl;
   contexts_differ = once_each stuck.bindings refl;
 }

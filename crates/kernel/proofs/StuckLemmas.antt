@@ -102,11 +102,15 @@ module _ (m : Machine) (boot : IsBoot stuck m) where
 
   pub too_few_bits : Step m (poll 0 1 0) (refused 6 3) m
   unfolding find_notification lookup_of level_at walk hop slot node thread
-  too_few_bits = not_polled m 0 1 0 share admits_lost (cause.FailedLookup DepthMismatch) (rw (lost, root, space_object, back, space_object) refl)
+  too_few_bits =
+      not_polled m 0 1 0 share admits_lost (cause.FailedLookup DepthMismatch)
+      (rw (lost, root, space_object, back, space_object) refl)
 
   pub another_guard : Step m (poll 0 1 1) (refused 6 4) m
   unfolding find_notification lookup_of level_at walk hop slot node thread
-  another_guard = not_polled m 0 1 1 share admits_lost (cause.FailedLookup GuardMismatch) (rw (lost, root, space_object, back, space_object) refl)
+  another_guard =
+      not_polled m 0 1 1 share admits_lost (cause.FailedLookup GuardMismatch)
+      (rw (lost, root, space_object, back, space_object) refl)
 
   pub empty_slot : Step m (poll 0 1 2) (refused 2 0) m
   unfolding find_notification lookup_of level_at walk hop slot node thread

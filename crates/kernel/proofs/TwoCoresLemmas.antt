@@ -43,8 +43,8 @@ runs address core thread = o.Context (record { address = address; share = Some (
 notified : Option ℕ → Object
 notified word = o.Notification (record { address = 0x3000; pending = word })
 
--- the machine is that of two cores, where thread 3 is in a state and was given something, threads wait at the notification, and a word
--- is pending or none
+-- the machine is that of two cores, where thread 3 is in a state and was given something, threads wait at the notification, and
+-- a word is pending or none
 pub record IsTwoCores (m : Machine) (now : RunState) (given : Inbox) (threads : List ObjId) (word : Option ℕ) : Type 0 where
   sender_space : object_of m (id 0) ≡ Some (node 0x1000)
   receiver_space : object_of m (id 1) ≡ Some (node 0x1040)
@@ -80,13 +80,15 @@ boot_is_two_cores m boot = record {
   receiver_root = boot.caps (slot 3 0);
 }
 
-module _ (m : Machine) (now : RunState) (given : Inbox) (threads : List ObjId) (word : Option ℕ) (is : IsTwoCores m now given threads word) where
+module _ (m : Machine) (now : RunState) (given : Inbox) (threads : List ObjId) (word : Option ℕ)
+    (is : IsTwoCores m now given threads word) where
   -- only the word changes
   pub new_word : (new : Option ℕ) → IsTwoCores (with_pending m (id 4) new) now given threads new
   unfolding with_pending notified
   new_word new =
       let object : Object = notified new in
-      let at : (q : ObjId) → object_of (with_object m (id 4) object) q ≡ cond (same_id q (id 4)) (Some object) (object_of m q) = object_of-with_object m (id 4) object in
+      let at : (q : ObjId) → object_of (with_object m (id 4) object) q ≡ cond (same_id q (id 4)) (Some object) (object_of m q) =
+      object_of-with_object m (id 4) object in
       rw (is.notification)
       (record {
         sender_space = at (id 0) ∙ is.sender_space;
@@ -110,7 +112,8 @@ module _ (m : Machine) (now : RunState) (given : Inbox) (threads : List ObjId) (
   unfolding with_tcb
   new_receiver next got =
       let object : Object = o.Tcb (receiver next got) in
-      let at : (q : ObjId) → object_of (with_object m (id 3) object) q ≡ cond (same_id q (id 3)) (Some object) (object_of m q) = object_of-with_object m (id 3) object in
+      let at : (q : ObjId) → object_of (with_object m (id 3) object) q ≡ cond (same_id q (id 3)) (Some object) (object_of m q) =
+      object_of-with_object m (id 3) object in
       rw (is.receiving)
       (record {
         sender_space = at (id 0) ∙ is.sender_space;
@@ -152,7 +155,8 @@ module _ (m : Machine) (now : RunState) (given : Inbox) (threads : List ObjId) (
   unfolding with_waiting
   one_more thread = rw (is.waiting) (new_queue (threads ++ thread ∷ []))
 
-  pub one_less : (first : ObjId) (others : List ObjId) → threads ≡ first ∷ others → IsTwoCores (without_first m (id 4)) now given others word
+  pub one_less : (first : ObjId) (others : List ObjId) → threads ≡ first ∷ others
+      → IsTwoCores (without_first m (id 4)) now given others word
   unfolding without_first
   one_less first others front = rw (is.waiting, front) (new_queue others)
 
@@ -179,18 +183,22 @@ module _ (m : Machine) (now : RunState) (given : Inbox) (threads : List ObjId) (
 
   -- who waits first is woken
   pub wakes :
-      (others : List ObjId) → threads ≡ id 3 ∷ others → Step m (signal 1 2 0) done (with_tcb (without_first m (id 4)) (id 3) (receiver state.Ready (inbox.Word 4)))
+      (others : List ObjId) → threads ≡ id 3 ∷ others
+      → Step m (signal 1 2 0) done (with_tcb (without_first m (id 4)) (id 3) (receiver state.Ready (inbox.Word 4)))
   unfolding signalled first_waiting woken
   wakes others front =
-      let left : object_of (without_first m (id 4)) (id 3) ≡ Some (o.Tcb (receiver now given)) = (one_less (id 3) others front).receiving in
-      let same : signalled m (id 4) 4 ≡ with_tcb (without_first m (id 4)) (id 3) (receiver state.Ready (inbox.Word 4)) = rw (is.waiting, front, left) refl in
+      let left : object_of (without_first m (id 4)) (id 3) ≡ Some (o.Tcb (receiver now given)) =
+      (one_less (id 3) others front).receiving in
+      let same : signalled m (id 4) 4 ≡ with_tcb (without_first m (id 4)) (id 3) (receiver state.Ready (inbox.Word 4)) =
+      rw (is.waiting, front, left) refl in
       subst (Step m (signal 1 2 0) done) same signalling
 
   -- else the badge joins the word
   pub joins : threads ≡ [] → Step m (signal 1 2 0) done (with_pending m (id 4) (Some (bit_or 4 (unwrap_or word 0))))
   unfolding signalled first_waiting notified
   joins nobody =
-      let same : signalled m (id 4) 4 ≡ with_pending m (id 4) (Some (bit_or 4 (unwrap_or word 0))) = rw (is.waiting, nobody, is.notification) refl in
+      let same : signalled m (id 4) 4 ≡ with_pending m (id 4) (Some (bit_or 4 (unwrap_or word 0))) =
+      rw (is.waiting, nobody, is.notification) refl in
       subst (Step m (signal 1 2 0) done) same signalling
 
   pub sender_may_not_poll : Step m (poll 1 2 0) (refused 2 0) m
@@ -217,7 +225,8 @@ module _ (m : Machine) (now : RunState) (given : Inbox) (threads : List ObjId) (
   by_nothing = not_admitted m (poll 0 99 0) cause.NoSuchThread (rw (is.absent) refl)
 
 -- thread 3 calls, where it is ready
-module _ (m : Machine) (given : Inbox) (threads : List ObjId) (word : Option ℕ) (is : IsTwoCores m state.Ready given threads word) where
+module _ (m : Machine) (given : Inbox) (threads : List ObjId) (word : Option ℕ)
+    (is : IsTwoCores m state.Ready given threads word) where
   admits_receiver : admitted m 0 (id 3) ≡ Ok (share 0)
   unfolding admitted runs share
   admits_receiver = rw (is.receiving, is.receiver_context) refl

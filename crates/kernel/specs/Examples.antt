@@ -1,5 +1,6 @@
--- Worked examples: two small systems written out as capability tables, and what calls answer from their boot states. The tables and
--- answers are confine's own, read off the seL4 manual, "Notifications", "Capability Address Lookup" and "Scheduling Contexts".
+-- Worked examples: two small systems written out as capability tables, and what calls answer from their boot states. The tables
+-- and answers are confine's own, read off the seL4 manual, "Notifications", "Capability Address Lookup" and
+-- "Scheduling Contexts".
 use Rattle.std.specs.Prelude.{ℕ, Bool, List, [], ◌∷◌, Option, Some, None, map, codes}
 use Rattle.base.specs.declared.ids.ObjId.{ObjId}
 use Rattle.machine.specs.declared.call.Answer.TheVariants as answer
@@ -33,20 +34,25 @@ abbrev pub cnode : ℕ → ℕ → ℕ → Initial
 cnode label address radix = record { label = label; object = o.CNode (record { address = address; radix = radix }) }
 
 abbrev pub thread : ℕ → ℕ → RunState → Initial
-thread label address starts = record { label = label; object = o.Tcb (record { address = address; state = starts; inbox = inbox.Empty; context = None }) }
+thread label address starts =
+    record { label = label; object = o.Tcb (record { address = address; state = starts; inbox = inbox.Empty; context = None }) }
 
 abbrev pub notification : ℕ → ℕ → Initial
 notification label address = record { label = label; object = o.Notification (record { address = address; pending = None }) }
 
 abbrev pub context : ℕ → ℕ → Option Share → Initial
-context label address share = record { label = label; object = o.Context (record { address = address; share = share; thread = None }) }
+context label address share =
+    record { label = label; object = o.Context (record { address = address; share = share; thread = None }) }
 
 -- 10 of every 10 microseconds of a core
 abbrev pub all_of : ℕ → Option Share
 all_of core = Some (record { core = core; budget = 10; period = 10 })
 
 abbrev pub filled : ℕ → ℕ → ℕ → Detail → Filled
-filled holder index object detail = record { slot = record { holder = id holder; index = index }; cap = record { object = id object; detail = detail; original = Bool.true } }
+filled holder index object detail = record {
+  slot = record { holder = id holder; index = index };
+  cap = record { object = id object; detail = detail; original = Bool.true };
+}
 
 -- a capability to a notification that may be polled, and one that may be signalled
 abbrev pub reading : ℕ → Detail
@@ -79,8 +85,8 @@ word value = outcome.Done (answer.Word value)
 abbrev pub refused : ℕ → ℕ → Outcome
 refused code detail = outcome.Refused (record { code = code; detail = detail })
 
--- a notification from one label to another: the thread 2 of label a, on core 1, may signal the notification 4 of label b with badge
--- 4, and the thread 3 of label b, on core 0, may take its word. Each finds it at the address 0
+-- a notification from one label to another: the thread 2 of label a, on core 1, may signal the notification 4 of label b with
+-- badge 4, and the thread 3 of label b, on core 0, may take its word. Each finds it at the address 0
 unfoldable pub two_cores : Layout
 two_cores = record {
   labels = codes "a" ∷ codes "b" ∷ [];
@@ -107,9 +113,9 @@ receiver now given = record { address = 0x2400; state = now; inbox = given; cont
 unfoldable pub with_receiver_waiting : Machine → Machine
 with_receiver_waiting m = with_waiting (with_tcb m (id 3) (receiver (state.Waiting (id 4)) inbox.Empty)) (id 4) (id 3)
 
--- five threads of which none finds a notification on core 0: thread 1 has a space of two slots of which the first leads back to it
--- and the second is empty, with one bit of an address behind them; thread 2 has no space; thread 3 is inactive, thread 4 has no
--- context, and the context of thread 5 is not configured
+-- five threads of which none finds a notification on core 0: thread 1 has a space of two slots of which the first leads back to
+-- it and the second is empty, with one bit of an address behind them; thread 2 has no space; thread 3 is inactive, thread 4 has
+-- no context, and the context of thread 5 is not configured
 unfoldable pub stuck : Layout
 stuck = record {
   labels = codes "a" ∷ [];

@@ -16,7 +16,9 @@ use objects::State;
 /// 40, where the list of outcomes can't grow by as many as there are events: then no step was made.
 /// A list with room for them is never refused.
 pub fn run(state: &mut State, events: &[Event], outcomes: &mut Vec<Outcome>) -> Result<(), Refusal>
-    ensures ran { OnOk result ((made : List Ended) × (outcomes.new.items ≡ outcomes.old.items ++ made) × Run state.old events.now made state.new) }
+    ensures ran { OnOk result ((made : List Ended)
+        × (outcomes.new.items ≡ outcomes.old.items ++ made)
+        × Run state.old events.now made state.new) }
     ensures counted { OnOk result (length outcomes.new.items ≡ length outcomes.old.items + length events.now) }
     ensures appends { (made : List Ended) × (outcomes.new.items ≡ outcomes.old.items ++ made) }
     ensures well_formed { IsWellFormed state.old → IsWellFormed state.new }

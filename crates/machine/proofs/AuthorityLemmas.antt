@@ -1,5 +1,6 @@
 -- Authority grows with rights and with capabilities.
-use Rattle.std.proofs.Common.{◌≡◌, ℕ, Bool, true, false, ◌&&◌, ◌||◌, option_map, option_and_then, refl, ap, ◌∙◌, length, nat_lt, if◌then◌else◌}
+use Rattle.std.proofs.Common.{◌≡◌, ℕ, Bool, true, false, ◌&&◌, ◌||◌, option_map, option_and_then, refl, ap, ◌∙◌, length, nat_lt}
+use Rattle.std.proofs.Common.{if◌then◌else◌}
 use Rattle.std.proofs.lemmas.Bool.{and_from, and_parts}
 use Rattle.base.specs.declared.ids.ObjId.{ObjId}
 use Rattle.base.specs.declared.kind.Kind.{Kind}
@@ -31,7 +32,9 @@ one_of false true c d one two e = by_first c where
   by_first false = two refl
 one_of false false c d one two e = cc
 
-pub endpoint_fewer : (few many : Badged) → HasFewer few.rights many.rights → (k : Kind) → gives (d.Endpoint few) k ≡ true → gives (d.Endpoint many) k ≡ true
+pub endpoint_fewer :
+    (few many : Badged) → HasFewer few.rights many.rights → (k : Kind) → gives (d.Endpoint few) k ≡ true
+    → gives (d.Endpoint many) k ≡ true
 endpoint_fewer few many fewer authority.Reset e = refl
 endpoint_fewer few many fewer authority.Send e = fewer.write e
 endpoint_fewer few many fewer authority.Receive e = fewer.read e
@@ -39,13 +42,16 @@ endpoint_fewer few many fewer authority.Grant e = both _ _ _ _ fewer.write fewer
 endpoint_fewer few many fewer authority.Call e = both _ _ _ _ fewer.write (one_of _ _ _ _ fewer.grant fewer.grant_reply) e
 endpoint_fewer few many fewer _ e = cc
 
-pub notification_fewer : (few many : Badged) → HasFewer few.rights many.rights → (k : Kind) → gives (d.Notification few) k ≡ true → gives (d.Notification many) k ≡ true
+pub notification_fewer :
+    (few many : Badged) → HasFewer few.rights many.rights → (k : Kind) → gives (d.Notification few) k ≡ true
+    → gives (d.Notification many) k ≡ true
 notification_fewer few many fewer authority.Reset e = refl
 notification_fewer few many fewer authority.Notify e = fewer.write e
 notification_fewer few many fewer authority.Await e = fewer.read e
 notification_fewer few many fewer _ e = cc
 
-pub frame_fewer : (few many : Rights) → HasFewer few many → (k : Kind) → gives (d.Frame few) k ≡ true → gives (d.Frame many) k ≡ true
+pub frame_fewer :
+    (few many : Rights) → HasFewer few many → (k : Kind) → gives (d.Frame few) k ≡ true → gives (d.Frame many) k ≡ true
 frame_fewer few many fewer authority.Reset e = refl
 frame_fewer few many fewer authority.Read e = fewer.read e
 frame_fewer few many fewer authority.Write e = fewer.write e
@@ -67,11 +73,13 @@ gives_fewer d.Context d.Context k narrow e = e
 gives_fewer d.Control d.Control k narrow e = e
 gives_fewer _ _ k narrow e = absurd narrow
 
-pub endpoint_badge : (end : Badged) (badge : ℕ) (k : Kind) → gives (d.Endpoint (record end { badge = badge })) k ≡ gives (d.Endpoint end) k
+pub endpoint_badge :
+    (end : Badged) (badge : ℕ) (k : Kind) → gives (d.Endpoint (record end { badge = badge })) k ≡ gives (d.Endpoint end) k
 endpoint_badge end badge authority.Reset = refl
 endpoint_badge end badge _ = refl
 
-pub notification_badge : (end : Badged) (badge : ℕ) (k : Kind) → gives (d.Notification (record end { badge = badge })) k ≡ gives (d.Notification end) k
+pub notification_badge :
+    (end : Badged) (badge : ℕ) (k : Kind) → gives (d.Notification (record end { badge = badge })) k ≡ gives (d.Notification end) k
 notification_badge end badge authority.Reset = refl
 notification_badge end badge _ = refl
 
@@ -88,19 +96,32 @@ gives_some d.Control = (authority.SchedControl, refl, refl)
 
 -- machines with the same objects have the same kinds and labels
 
-same_kind : (m more : Machine) → ((id : ObjId) → object_of more id ≡ object_of m id) → (id : ObjId) → kind_of more id ≡ kind_of m id
+same_kind :
+    (m more : Machine) → ((id : ObjId) → object_of more id ≡ object_of m id) → (id : ObjId) → kind_of more id ≡ kind_of m id
 same_kind m more objects id = ap (option_map kind_of_object) (objects id)
 
-same_label : (t : Layout) (m more : Machine) → ((id : ObjId) → object_of more id ≡ object_of m id) → (id : ObjId) → label_of t more id ≡ label_of t m id
+same_label :
+    (t : Layout) (m more : Machine) → ((id : ObjId) → object_of more id ≡ object_of m id) → (id : ObjId)
+    → label_of t more id ≡ label_of t m id
 unfolding label_of
-same_label t m more objects id = ap (option_and_then (λ (object : Object). if nat_lt id.0 (length t.objects) then declared_label t id else label_at t (address_of object))) (objects id)
+same_label t m more objects id =
+    ap
+    (option_and_then
+    (λ (object : Object). if nat_lt id.0 (length t.objects) then declared_label t id else label_at t (address_of object)))
+    (objects id)
 
-pub authority_grows : (t : Layout) (m more : Machine) (from : ℕ) (k : Kind) (to : ℕ) → HasMoreCaps m more → HasAuthority t m from k to → HasAuthority t more from k to
+pub authority_grows :
+    (t : Layout) (m more : Machine) (from : ℕ) (k : Kind) (to : ℕ) → HasMoreCaps m more → HasAuthority t m from k to
+    → HasAuthority t more from k to
 authority_grows t m more from k to has (by_cap slot held filled node given source target) =
-    by_cap slot held (has.caps slot held filled) (same_kind m more has.objects slot.holder ∙ node) given (same_label t m more has.objects slot.holder ∙ source) (same_label t m more has.objects held.object ∙ target)
+    by_cap slot held (has.caps slot held filled) (same_kind m more has.objects slot.holder ∙ node) given
+    (same_label t m more has.objects slot.holder ∙ source) (same_label t m more has.objects held.object ∙ target)
 authority_grows t m more from k to has (by_root slot held filled thread source target) =
-    by_root slot held (has.caps slot held filled) (same_kind m more has.objects slot.holder ∙ thread) (same_label t m more has.objects slot.holder ∙ source) (same_label t m more has.objects held.object ∙ target)
+    by_root slot held (has.caps slot held filled) (same_kind m more has.objects slot.holder ∙ thread)
+    (same_label t m more has.objects slot.holder ∙ source) (same_label t m more has.objects held.object ∙ target)
 authority_grows t m more from k to has (by_pair slot parent derived source target) =
-    by_pair slot parent (has.parents slot ∙ derived) (same_label t m more has.objects parent.holder ∙ source) (same_label t m more has.objects slot.holder ∙ target)
+    by_pair slot parent (has.parents slot ∙ derived) (same_label t m more has.objects parent.holder ∙ source)
+    (same_label t m more has.objects slot.holder ∙ target)
 authority_grows t m more from k to has (by_link id end object at linked source target) =
-    by_link id end object (has.objects id ∙ at) linked (same_label t m more has.objects id ∙ source) (same_label t m more has.objects end ∙ target)
+    by_link id end object (has.objects id ∙ at) linked (same_label t m more has.objects id ∙ source)
+    (same_label t m more has.objects end ∙ target)

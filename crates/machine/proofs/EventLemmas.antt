@@ -15,9 +15,9 @@ use Rattle.machine.specs.Machine.{Machine}
 use Rattle.machine.specs.Step.{Step, step_of, settled, made_by, call_of, admitted}
 use Rattle.machine.specs.WellFormed.{IsWellFormed}
 use Rattle.machine.proofs.AdmitLemmas.{may_call, is_admitted, may_not_call, not_admitted}
-use Rattle.machine.proofs.FindLemmas.{both_done}
+use Rattle.machine.proofs.ConditionLemmas.{both_done, first_refused}
 use Rattle.machine.proofs.PollLemmas.{poll_does, does_poll}
-use Rattle.machine.proofs.RefusalLemmas.{first_refused, signal_refused, refused_signal, poll_refused, refused_poll}
+use Rattle.machine.proofs.RefusalLemmas.{signal_refused, refused_signal, poll_refused, refused_poll}
 use Rattle.machine.proofs.SignalLemmas.{signal_does, does_signal}
 
 pub call_does :
@@ -38,7 +38,10 @@ pub event_does :
 unfolding made_by
 event_does m event outcome next formed e =
     let admits = both_done (admitted m event.core event.thread) _ (outcome, next) e in
-    record { may = (may_call m event.core event.thread admits.0 admits.1).0; does = call_does m event.thread event.call outcome next formed admits.2 }
+    record {
+      may = (may_call m event.core event.thread admits.0 admits.1).0;
+      does = call_does m event.thread event.call outcome next formed admits.2;
+    }
 
 pub does_event :
     (m : Machine) (event : Event) (outcome : Outcome) (next : Machine) → EventDoes m event outcome next
@@ -61,10 +64,12 @@ pub event_refused : (m : Machine) (event : Event) (why : Cause) → made_by m ev
 unfolding made_by
 event_refused m event why e = by_admission (first_refused (admitted m event.core event.thread) _ why e) where
   by_admission :
-      (admitted m event.core event.thread ≡ Err why) ⊎ ((share : Share) × (admitted m event.core event.thread ≡ Ok share) × (call_of m event.thread event.call ≡ Err why))
+      (admitted m event.core event.thread ≡ Err why)
+      ⊎ ((share : Share) × (admitted m event.core event.thread ≡ Ok share) × (call_of m event.thread event.call ≡ Err why))
       → WhyRefused m event why
   by_admission (inl refused) = inl (may_not_call m event.core event.thread why refused)
-  by_admission (inr made) = inr ((may_call m event.core event.thread made.0 made.1).0, call_refused m event.thread event.call why made.2)
+  by_admission (inr made) =
+      inr ((may_call m event.core event.thread made.0 made.1).0, call_refused m event.thread event.call why made.2)
 
 pub refused_event : (m : Machine) (event : Event) (why : Cause) → WhyRefused m event why → made_by m event ≡ Err why
 unfolding made_by
@@ -79,13 +84,21 @@ unfolding step_of
 step_does m event outcome next formed step = by_made (made_by m event) refl where
   by_made : (made : Result (Outcome × Machine) Cause) → made_by m event ≡ made → StepDoes m event outcome next
   by_made (Ok made) e =
-      let same : made ≡ (outcome, next) = sym (ap (settled m) e) ∙ step in inl (event_does m event outcome next formed (e ∙ ap (λ p. Ok p) same))
+      let same : made ≡ (outcome, next) = sym (ap (settled m) e) ∙ step in
+      inl (event_does m event outcome next formed (e ∙ ap (λ p. Ok p) same))
   by_made (Err why) e =
       let same : (Refused (refusal_of why), m) ≡ (outcome, next) = sym (ap (settled m) e) ∙ step in
-      inr (record { cause = why; why = event_refused m event why e; answers = sym (ap (λ p. p.0) same); same = sym (ap (λ p. p.1) same) })
+      inr
+      (record {
+        cause = why;
+        why = event_refused m event why e;
+        answers = sym (ap (λ p. p.0) same);
+        same = sym (ap (λ p. p.1) same);
+      })
 
 pub does_step :
     (m : Machine) (event : Event) (outcome : Outcome) (next : Machine) → StepDoes m event outcome next → Step m event outcome next
 unfolding step_of
 does_step m event outcome next (inl done) = rw (does_event m event outcome next done) refl
-does_step m event outcome next (inr refused) = rw (refused_event m event refused.cause refused.why, refused.answers, refused.same) refl
+does_step m event outcome next (inr refused) =
+    rw (refused_event m event refused.cause refused.why, refused.answers, refused.same) refl

@@ -1,8 +1,7 @@
 -- What finding a notification means.
 use Rattle.std.proofs.Common.{◌≡◌, ℕ, Bool, true, false, refl, sym, ap, ◌∙◌}
-use Rattle.std.specs.Prelude.{Option, Some, None, Result, Ok, Err, option_map}
+use Rattle.std.specs.Prelude.{Option, Some, None, Ok, option_map}
 use Rattle.base.specs.declared.ids.ObjId.{ObjId}
-use Rattle.base.specs.declared.refusal.Cause.{Cause}
 use Rattle.machine.specs.declared.cap.Badged.{Badged}
 use Rattle.machine.specs.declared.cap.Cap.{Cap}
 use Rattle.machine.specs.declared.cap.Detail.{Detail}
@@ -16,19 +15,9 @@ use Rattle.machine.specs.Effects.Finds.{FindsNotification}
 use Rattle.machine.specs.Lookup.{lookup_of}
 use Rattle.machine.specs.Machine.{Machine, object_of, cap_of}
 use Rattle.machine.specs.Objects.{kind_of_object}
-use Rattle.machine.specs.Refusing.{◌>>=◌}
 use Rattle.machine.specs.Step.Find.{find_notification, notification_in, permitted}
 use Rattle.machine.specs.WellFormed.{IsWellFormed, kind_of}
-
--- what follows a condition came about where the condition held
-pub both_done :
-    {A B : Type 0} (r : Result A Cause) (then_do : A → Result B Cause) (b : B) → ◌>>=◌ r then_do ≡ Ok b
-    → (a : A) × (r ≡ Ok a) × (then_do a ≡ Ok b)
-both_done (Ok a) then_do b e = (a, refl, e)
-both_done (Err cause) then_do b e = cc
-
-pub same_ok : {A : Type 0} {a b : A} → ◌≡◌ {A = Result A Cause} (Ok a) (Ok b) → a ≡ b
-same_ok e = cc
+use Rattle.machine.proofs.ConditionLemmas.{both_done}
 
 pub is_permitted : (allowed : Bool) (u : Unit {0}) → permitted allowed ≡ Ok u → allowed ≡ true
 is_permitted true u e = refl
@@ -53,7 +42,12 @@ unfolding find_notification
 finds m caller address id end e =
     let looked = both_done (lookup_of m caller address) (λ place. notification_in (cap_of m place.0)) (id, end) e in
     let held = notification_held (cap_of m (looked.0).0) (id, end) looked.2 in
-    record { held = held.0; finds = record { slot = (looked.0).0; left = (looked.0).1; ends = looked.1; holds = held.1 }; object = held.2; detail = held.3 }
+    record {
+      held = held.0;
+      finds = record { slot = (looked.0).0; left = (looked.0).1; ends = looked.1; holds = held.1 };
+      object = held.2;
+      detail = held.3;
+    }
 
 pub found :
     (m : Machine) (caller : ObjId) (address : ℕ) (id : ObjId) (end : Badged) → FindsNotification m caller address id end
@@ -70,8 +64,11 @@ notification_of_kind (Some (o.Notification notification)) e = (notification, ref
 notification_of_kind _ e = cc
 
 pub found_notification :
-    (m : Machine) (caller : ObjId) (address : ℕ) (id : ObjId) (end : Badged) → IsWellFormed m → FindsNotification m caller address id end
+    (m : Machine) (caller : ObjId) (address : ℕ) (id : ObjId) (end : Badged) → IsWellFormed m
+    → FindsNotification m caller address id end
     → (notification : Notification) × (object_of m id ≡ Some (o.Notification notification))
 found_notification m caller address id end formed h =
-    let is : kind_of m h.held.object ≡ Some (kind_of_detail h.held.detail) = formed.slots.object h.finds.slot h.held h.finds.holds in
-    notification_of_kind (object_of m id) (ap (kind_of m) (sym h.object) ∙ is ∙ ap (λ detail. Some (kind_of_detail detail)) h.detail)
+    let is : kind_of m h.held.object ≡ Some (kind_of_detail h.held.detail) =
+    formed.slots.object h.finds.slot h.held h.finds.holds in
+    notification_of_kind (object_of m id)
+    (ap (kind_of m) (sym h.object) ∙ is ∙ ap (λ detail. Some (kind_of_detail detail)) h.detail)

@@ -26,7 +26,8 @@ use Rattle.machine.proofs.EventLemmas.{event_does, step_does}
 use Rattle.machine.proofs.FindLemmas.{found_notification}
 use Rattle.machine.proofs.LinkLemmas.{word_steady, links_with_word}
 use Rattle.machine.proofs.OutlineLemmas.{Steady, slots_kept, numbers_kept}
-use Rattle.machine.proofs.WakeLemmas.{NamesNoReply, first_in, wake_steady, links_after_waking}
+use Rattle.machine.proofs.PrimitiveLemmas.{first_in}
+use Rattle.machine.proofs.WakeLemmas.{NamesNoReply, wake_steady, links_after_waking}
 
 -- a notification's word changes
 pub word_keeps_formed :
@@ -64,7 +65,9 @@ first_alone :
     (m next : Machine) (id : ObjId) (badge : ℕ) (notification : Notification) (woke : WakesFirst m id badge next) → IsWellFormed m
     → object_of m id ≡ Some (o.Notification notification) → NamesNoReply woke.thread.state
 first_alone m next id badge notification woke formed there =
-    let w = formed.links.queued id (woke.first ∷ woke.wakes.others) woke.first woke.wakes.waited (first_in woke.first woke.wakes.others) in
+    let w =
+    formed.links.queued id (woke.first ∷ woke.wakes.others) woke.first woke.wakes.waited
+    (first_in woke.first woke.wakes.others) in
     let one : Some (o.Tcb w.0) ≡ Some (o.Tcb woke.thread) = sym w.2 ∙ woke.there in
     let same : w.0 ≡ woke.thread = cc in
     let kinds : Some w.1 ≡ Some kind.Notification = sym w.4 ∙ ap (option_map kind_of_object) there in
@@ -78,13 +81,15 @@ signal_keeps_formed m caller address outcome next h formed = by_case h.does wher
   by_case : WakesFirst m h.id h.end.badge next ⊎ JoinsWord m h.id h.end.badge next → IsWellFormed next
   by_case (inl woke) =
       let there = found_notification m caller address h.id h.end formed h.finds in
-      waking_keeps_formed m next h.id woke.first woke.thread _ woke.there woke.wakes refl (first_alone m next h.id h.end.badge there.0 woke formed there.1) refl refl formed
+      waking_keeps_formed m next h.id woke.first woke.thread _ woke.there woke.wakes refl
+      (first_alone m next h.id h.end.badge there.0 woke formed there.1) refl refl formed
   by_case (inr joined) = word_keeps_formed m next h.id joined.notification _ joined.there joined.sets refl formed
 
 poll_keeps_formed :
     (m : Machine) (caller : ObjId) (address : ℕ) (outcome : Outcome) (next : Machine) → PollDoes m caller address outcome next
     → IsWellFormed m → IsWellFormed next
-poll_keeps_formed m caller address outcome next h formed = word_keeps_formed m next h.id h.notification _ h.there h.sets refl formed
+poll_keeps_formed m caller address outcome next h formed =
+    word_keeps_formed m next h.id h.notification _ h.there h.sets refl formed
 
 pub call_keeps_formed :
     (m : Machine) (caller : ObjId) (made : Call) (outcome : Outcome) (next : Machine) → CallDoes m caller made outcome next

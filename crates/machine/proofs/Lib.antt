@@ -2,6 +2,7 @@ pub mod SeenLaws
 pub mod StepLaws
 pub mod IdLemmas
 pub mod PrimitiveLemmas
+pub mod ConditionLemmas
 pub mod FindLemmas
 pub mod AdmitLemmas
 pub mod SignalLemmas

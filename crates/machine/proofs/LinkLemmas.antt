@@ -1,5 +1,5 @@
--- Queues, replies and contexts stay linked at both ends where a notification's word changes, and where the first thread that waits at a notification
--- leaves the queue and is ready.
+-- Queues, replies and contexts stay linked at both ends where a notification's word changes, and where the first thread that
+-- waits at a notification leaves the queue and is ready.
 use Rattle.std.proofs.Common.{◌≡◌, ◌≢◌, ◌⊎◌, inl, inr, List, sym, ap, ◌∙◌}
 use Rattle.std.specs.Prelude.{Some, None, option_map, if◌then◌else◌}
 use Rattle.base.specs.declared.ids.ObjId.{ObjId}
@@ -46,7 +46,8 @@ module _ (m next : Machine) (id : ObjId) (object : Object) (sets : SetsObject m 
   outlines_kept old was same q = by_id (one_or_two q id) where
     by_id : (q ≡ id) ⊎ (q ≢ id) → option_map outline (object_of next q) ≡ option_map outline (object_of m q)
     by_id (inl here) =
-        ap (λ p. option_map outline (object_of next p)) here ∙ ap (option_map outline) set_there ∙ ap (λ x. Some x) same ∙ sym (ap (option_map outline) was)
+        ap (λ p. option_map outline (object_of next p)) here ∙ ap (option_map outline) set_there ∙ ap (λ x. Some x) same
+        ∙ sym (ap (option_map outline) was)
         ∙ sym (ap (λ p. option_map outline (object_of m p)) here)
     by_id (inr apart) = ap (option_map outline) (set_elsewhere q apart)
 
@@ -58,7 +59,8 @@ module _ (m next : Machine) (id : ObjId) (old new : Notification) (was : object_
   word_steady =
       record {
         outlines =
-            outlines_kept m next id (o.Notification new) sets.objects (o.Notification old) was (λ i. o.Notification (record { address = same_address i; pending = None }));
+            outlines_kept m next id (o.Notification new) sets.objects (o.Notification old) was
+            (λ i. o.Notification (record { address = same_address i; pending = None }));
         rest = sets.rest;
       }
 
@@ -85,23 +87,32 @@ module _ (m next : Machine) (id : ObjId) (old new : Notification) (was : object_
             let w = links.queued q threads thread (queue_before q threads e) there in
             (w.0, w.1, thread_after thread w.0 w.2, w.3, same_kinds m next word_steady q ∙ w.4, w.5);
         waiting =
-            λ thread q tcb e waits. let w = links.waiting thread q tcb (thread_before thread tcb e) waits in (w.0, sets.queues q ∙ w.1, w.2);
+            λ thread q tcb e waits.
+            let w = links.waiting thread q tcb (thread_before thread tcb e) waits in (w.0, sets.queues q ∙ w.1, w.2);
         once = λ q threads e. links.once q threads (queue_before q threads e);
         one_way =
             λ q a b threads first second e in_a in_b is_a is_b sends at.
             let was_a = thread_before a first is_a in
             let was_b = thread_before b second is_b in
-            links.one_way q a b threads first second (queue_before q threads e) in_a in_b was_a was_b sends (sym (same_kinds m next word_steady q) ∙ at);
+            links.one_way q a b threads first second (queue_before q threads e) in_a in_b was_a was_b sends
+            (sym (same_kinds m next word_steady q) ∙ at);
         receiver_reply =
-            λ thread q tcb e receives. let w = links.receiver_reply thread q tcb (thread_before thread tcb e) receives in (w.0, after q _ (λ same. cc) w.1);
+            λ thread q tcb e receives.
+            let w = links.receiver_reply thread q tcb (thread_before thread tcb e) receives in (w.0, after q _ (λ same. cc) w.1);
         called_reply =
-            λ thread q tcb e called. let w = links.called_reply thread q tcb (thread_before thread tcb e) called in (w.0, after q _ (λ same. cc) w.1);
+            λ thread q tcb e called.
+            let w = links.called_reply thread q tcb (thread_before thread tcb e) called in (w.0, after q _ (λ same. cc) w.1);
         waiting_reply =
-            λ q thread address e. let w = links.waiting_reply q thread address (before q _ (λ same. cc) e) in (w.0, thread_after thread w.0 w.1, w.2);
+            λ q thread address e.
+            let w = links.waiting_reply q thread address (before q _ (λ same. cc) e) in (w.0, thread_after thread w.0 w.1, w.2);
         reply_called =
-            λ q thread address e. let w = links.reply_called q thread address (before q _ (λ same. cc) e) in (w.0, thread_after thread w.0 w.1, w.2);
+            λ q thread address e.
+            let w = links.reply_called q thread address (before q _ (λ same. cc) e) in (w.0, thread_after thread w.0 w.1, w.2);
         thread_context =
-            λ thread q tcb e runs. let w = links.thread_context thread q tcb (thread_before thread tcb e) runs in (w.0, after q _ (λ same. cc) w.1, w.2);
+            λ thread q tcb e runs.
+            let w = links.thread_context thread q tcb (thread_before thread tcb e) runs in (w.0, after q _ (λ same. cc) w.1, w.2);
         context_thread =
-            λ q thread context e runs. let w = links.context_thread q thread context (before q _ (λ same. cc) e) runs in (w.0, thread_after thread w.0 w.1, w.2);
+            λ q thread context e runs.
+            let w = links.context_thread q thread context (before q _ (λ same. cc) e) runs in
+            (w.0, thread_after thread w.0 w.1, w.2);
       }

@@ -75,11 +75,15 @@ module _ (m next : Machine) (steady : Steady m next) where
       (q : ObjId) (object : Object) → object_of next q ≡ Some object
       → (old : Object) × (object_of m q ≡ Some old) × (outline old ≡ outline object)
   object_before q object e = by_old (object_of m q) refl where
-    by_old : (old : Option Object) → object_of m q ≡ old → (was : Object) × (object_of m q ≡ Some was) × (outline was ≡ outline object)
+    by_old :
+        (old : Option Object) → object_of m q ≡ old → (was : Object) × (object_of m q ≡ Some was) × (outline was ≡ outline object)
     by_old None p =
-        let none : Some (outline object) ≡ None = sym (ap (option_map outline) e) ∙ steady.outlines q ∙ ap (option_map outline) p in cc
+        let none : Some (outline object) ≡ None =
+        sym (ap (option_map outline) e) ∙ steady.outlines q ∙ ap (option_map outline) p in
+        cc
     by_old (Some old) p =
-        let same : Some (outline object) ≡ Some (outline old) = sym (ap (option_map outline) e) ∙ steady.outlines q ∙ ap (option_map outline) p in
+        let same : Some (outline object) ≡ Some (outline old) =
+        sym (ap (option_map outline) e) ∙ steady.outlines q ∙ ap (option_map outline) p in
         (old, p, cc)
 
   pub object_after :
@@ -90,23 +94,30 @@ module _ (m next : Machine) (steady : Steady m next) where
         (new : Option Object) → object_of next q ≡ new
         → (object : Object) × (object_of next q ≡ Some object) × (outline object ≡ outline old)
     by_new None p =
-        let none : Some (outline old) ≡ None = sym (ap (option_map outline) e) ∙ sym (steady.outlines q) ∙ ap (option_map outline) p in cc
+        let none : Some (outline old) ≡ None =
+        sym (ap (option_map outline) e) ∙ sym (steady.outlines q) ∙ ap (option_map outline) p in
+        cc
     by_new (Some object) p =
-        let same : Some (outline old) ≡ Some (outline object) = sym (ap (option_map outline) e) ∙ sym (steady.outlines q) ∙ ap (option_map outline) p in
+        let same : Some (outline old) ≡ Some (outline object) =
+        sym (ap (option_map outline) e) ∙ sym (steady.outlines q) ∙ ap (option_map outline) p in
         (object, p, cc)
 
   pub same_kinds : (q : ObjId) → kind_of next q ≡ kind_of m q
   same_kinds q =
-      kind_through (object_of next q) ∙ ap (option_map kind_of_object) (steady.outlines q) ∙ sym (kind_through (object_of m q)) where
-        kind_through : (object : Option Object) → option_map kind_of_object object ≡ option_map kind_of_object (option_map outline object)
+      kind_through (object_of next q) ∙ ap (option_map kind_of_object) (steady.outlines q)
+      ∙ sym (kind_through (object_of m q)) where
+        kind_through :
+            (object : Option Object) → option_map kind_of_object object ≡ option_map kind_of_object (option_map outline object)
         kind_through None = refl
         kind_through (Some object) = ap (λ k. Some k) (sym (kind_in object))
 
-  untyped_after : (q : ObjId) (memory : Untyped) → object_of m q ≡ Some (o.Untyped memory) → object_of next q ≡ Some (o.Untyped memory)
+  untyped_after :
+      (q : ObjId) (memory : Untyped) → object_of m q ≡ Some (o.Untyped memory) → object_of next q ≡ Some (o.Untyped memory)
   untyped_after q memory e =
       let now = object_after q (o.Untyped memory) e in now.1 ∙ ap (λ object. Some object) (untyped_in now.0 memory now.2)
 
-  untyped_before : (q : ObjId) (memory : Untyped) → object_of next q ≡ Some (o.Untyped memory) → object_of m q ≡ Some (o.Untyped memory)
+  untyped_before :
+      (q : ObjId) (memory : Untyped) → object_of next q ≡ Some (o.Untyped memory) → object_of m q ≡ Some (o.Untyped memory)
   untyped_before q memory e =
       let was = object_before q (o.Untyped memory) e in was.1 ∙ ap (λ object. Some object) (untyped_in was.0 memory was.2)
 
@@ -135,8 +146,10 @@ module _ (m next : Machine) (steady : Steady m next) where
   kin_after below above (inl same) = inl same
   kin_after below above (inr kin) =
       let now = object_after below.object kin.1 kin.3 in
-      let low : kin.0.base ≤ address_of now.0 = subst (λ a. kin.0.base ≤ a) (sym (same_in address_of address_in now.0 kin.1 now.2)) kin.4 in
-      let high : end_of now.0 ≤ end_of (o.Untyped kin.0) = subst (λ a. a ≤ end_of (o.Untyped kin.0)) (sym (same_in end_of end_in now.0 kin.1 now.2)) kin.5 in
+      let low : kin.0.base ≤ address_of now.0 =
+      subst (λ a. kin.0.base ≤ a) (sym (same_in address_of address_in now.0 kin.1 now.2)) kin.4 in
+      let high : end_of now.0 ≤ end_of (o.Untyped kin.0) =
+      subst (λ a. a ≤ end_of (o.Untyped kin.0)) (sym (same_in end_of end_in now.0 kin.1 now.2)) kin.5 in
       inr (kin.0, now.0, untyped_after above.object kin.0 kin.2, now.1, low, high)
 
   pub slots_kept : SlotsFit m → SlotsFit next
@@ -150,12 +163,18 @@ module _ (m next : Machine) (steady : Steady m next) where
         object = λ slot held e. same_kinds held.object ∙ fits.object slot held (cap_before slot held e);
         root = λ slot held e is. fits.root slot held (cap_before slot held e) (sym (same_kinds slot.holder) ∙ is);
         child_filled =
-            λ slot parent e. let was = fits.child_filled slot parent (sym (steady.rest.parents slot) ∙ e) in (was.0, cap_after slot was.0 was.1);
+            λ slot parent e.
+            let was = fits.child_filled slot parent (sym (steady.rest.parents slot) ∙ e) in (was.0, cap_after slot was.0 was.1);
         parent_filled =
-            λ slot parent e. let was = fits.parent_filled slot parent (sym (steady.rest.parents slot) ∙ e) in (was.0, cap_after parent was.0 was.1);
+            λ slot parent e.
+            let was = fits.parent_filled slot parent (sym (steady.rest.parents slot) ∙ e) in
+            (was.0, cap_after parent was.0 was.1);
         acyclic = λ slot d. fits.acyclic slot (descends_before d);
         kin =
-            λ slot parent below above e f g. kin_after below above (fits.kin slot parent below above (sym (steady.rest.parents slot) ∙ e) (cap_before slot below f) (cap_before parent above g));
+            λ slot parent below above e f g.
+            kin_after below above
+            (fits.kin slot parent below above (sym (steady.rest.parents slot) ∙ e) (cap_before slot below f)
+            (cap_before parent above g));
       }
 
   meets_before :
@@ -166,15 +185,19 @@ module _ (m next : Machine) (steady : Steady m next) where
       let address_b : address_of b ≡ address_of second = same_in address_of address_in b second f in
       let end_a : end_of a ≡ end_of first = same_in end_of end_in a first e in
       let end_b : end_of b ≡ end_of second = same_in end_of end_in b second f in
-      let below_b : address_of a < end_of b = subst (λ n. n < end_of b) (sym address_a) (subst (λ n. address_of first < n) (sym end_b) meets.0) in
-      let below_a : address_of b < end_of a = subst (λ n. n < end_of a) (sym address_b) (subst (λ n. address_of second < n) (sym end_a) meets.1) in
+      let below_b : address_of a < end_of b =
+      subst (λ n. n < end_of b) (sym address_a) (subst (λ n. address_of first < n) (sym end_b) meets.0) in
+      let below_a : address_of b < end_of a =
+      subst (λ n. n < end_of a) (sym address_b) (subst (λ n. address_of second < n) (sym end_a) meets.1) in
       (below_b, below_a)
 
   pub numbers_kept : NumbersFit m → NumbersFit next
   numbers_kept fits =
       record {
         below_next =
-            λ id object e. let was = object_before id object e in subst (λ n. id.0 < n) (sym steady.rest.number) (fits.below_next id was.0 was.1);
+            λ id object e.
+            let was = object_before id object e in
+            subst (λ n. id.0 < n) (sym steady.rest.number) (fits.below_next id was.0 was.1);
         one_cap = λ a b first second e f. fits.one_cap a b first second (cap_before a first e) (cap_before b second f);
         watermark = λ id memory e. fits.watermark id memory (untyped_before id memory e);
         inside =
@@ -183,15 +206,18 @@ module _ (m next : Machine) (steady : Steady m next) where
             let b = object_before high second f in
             let was = fits.inside low high a.0 b.0 less a.1 b.1 (meets_before first second a.0 b.0 a.2 b.2 meets) in
             let is : first ≡ o.Untyped was.0 = untyped_in first was.0 (sym a.2 ∙ ap outline was.3) in
-            let base : was.0.base ≤ address_of second = subst (λ n. was.0.base ≤ n) (same_in address_of address_in b.0 second b.2) was.6 in
-            let mark : end_of second ≤ was.0.watermark = subst (λ n. n ≤ was.0.watermark) (same_in end_of end_in b.0 second b.2) was.7 in
+            let base : was.0.base ≤ address_of second =
+            subst (λ n. was.0.base ≤ n) (same_in address_of address_in b.0 second b.2) was.6 in
+            let mark : end_of second ≤ was.0.watermark =
+            subst (λ n. n ≤ was.0.watermark) (same_in end_of end_in b.0 second b.2) was.7 in
             (was.0, was.1, was.2, is, cap_after was.1 was.2 was.4, was.5, base, mark);
         made_from =
             λ low high first second slot above held over less e f meets g names h covers.
             let a = object_before low first e in
             let b = object_before high second f in
             descends_after
-            (fits.made_from low high a.0 b.0 slot above held over less a.1 b.1 (meets_before first second a.0 b.0 a.2 b.2 meets) (cap_before slot held g) names (cap_before above over h) covers);
+            (fits.made_from low high a.0 b.0 slot above held over less a.1 b.1 (meets_before first second a.0 b.0 a.2 b.2 meets)
+            (cap_before slot held g) names (cap_before above over h) covers);
         has_cap =
             λ low high first second less e f meets.
             let a = object_before low first e in

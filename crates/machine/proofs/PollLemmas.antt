@@ -15,7 +15,8 @@ use Rattle.machine.specs.Step.Find.{find_notification, permitted}
 use Rattle.machine.specs.Step.Poll.{poll_of}
 use Rattle.machine.specs.Step.Signal.{pending_in}
 use Rattle.machine.specs.WellFormed.{IsWellFormed}
-use Rattle.machine.proofs.FindLemmas.{both_done, same_ok, is_permitted, finds, found, found_notification}
+use Rattle.machine.proofs.ConditionLemmas.{both_done, same_ok}
+use Rattle.machine.proofs.FindLemmas.{is_permitted, finds, found, found_notification}
 use Rattle.machine.proofs.PrimitiveLemmas.{with_pending_there, object_set, set_once}
 
 pub poll_does :
@@ -28,7 +29,8 @@ poll_does m caller address outcome next formed e =
     let id = (looked.0).0 in
     let end = (looked.0).1 in
     let allowed = both_done (permitted (can_read end.rights)) _ (outcome, next) looked.2 in
-    let made : (Done (answer.Word (unwrap_or (pending_in (object_of m id)) 0)), with_pending m id None) ≡ (outcome, next) = same_ok allowed.2 in
+    let made : (Done (answer.Word (unwrap_or (pending_in (object_of m id)) 0)), with_pending m id None) ≡ (outcome, next) =
+    same_ok allowed.2 in
     let finds : FindsNotification m caller address id end = finds m caller address id end looked.1 in
     let there = found_notification m caller address id end formed finds in
     record {
@@ -47,4 +49,12 @@ pub does_poll :
     → poll_of m caller address ≡ Ok (outcome, next)
 unfolding poll_of
 does_poll m caller address outcome next h =
-    rw (found m caller address h.id h.end h.finds, h.allowed, h.there, with_pending_there m h.id h.notification None h.there, ← set_once m next h.id _ h.sets, h.answers) refl
+    rw (
+      found m caller address h.id h.end h.finds,
+      h.allowed,
+      h.there,
+      with_pending_there m h.id h.notification None h.there,
+      ← set_once m next h.id _ h.sets,
+      h.answers,
+    )
+    refl

@@ -1,6 +1,6 @@
 -- The changes of the step are the primitive ones, and each primitive change leads to one machine.
-use Rattle.std.proofs.Common.{◌≡◌, ℕ, List, [], ◌∷◌, refl, sym, ap, ◌∙◌}
-use Rattle.std.specs.Prelude.{Option, Some, None, if◌then◌else◌}
+use Rattle.std.proofs.Common.{◌≡◌, ℕ, List, [], ◌∷◌, refl, sym, ap, ◌∙◌, arith}
+use Rattle.std.specs.Prelude.{Option, Some, None, Contains, if◌then◌else◌}
 use Rattle.base.specs.declared.ids.ObjId.{ObjId}
 use Rattle.machine.specs.declared.object.Notification.{Notification}
 use Rattle.machine.specs.declared.object.Object.{Object}
@@ -8,7 +8,10 @@ use Rattle.machine.specs.declared.object.Object.TheVariants as o
 use Rattle.machine.specs.declared.thread.Tcb.{Tcb}
 use Rattle.machine.specs.Changes.{with_pending, without_first, first_waiting}
 use Rattle.machine.specs.Effects.Primitives.{KeepsSlots, NobodyWaits, Sets, Wakes}
-use Rattle.machine.specs.Machine.{Machine, object_of, queue_of, with_object, with_queue, object_of-with_object, object_of-with_queue, queue_of-with_object, queue_of-with_queue, words_of-with_object, words_of-with_queue, cap_of-with_object, cap_of-with_queue, parent_of-with_object, parent_of-with_queue, same_id, same_machine}
+use Rattle.machine.specs.Machine.{Machine, object_of, queue_of, with_object, with_queue, object_of-with_object}
+use Rattle.machine.specs.Machine.{object_of-with_queue, queue_of-with_object, queue_of-with_queue, words_of-with_object}
+use Rattle.machine.specs.Machine.{words_of-with_queue, cap_of-with_object, cap_of-with_queue, parent_of-with_object}
+use Rattle.machine.specs.Machine.{parent_of-with_queue, same_id, same_machine}
 
 number_of-with_object : (m : Machine) (id : ObjId) (object : Object) → (with_object m id object).next ≡ m.next
 unfolding with_object
@@ -50,7 +53,11 @@ queue_keeps m id threads =
 
 pub object_set : (m : Machine) (id : ObjId) (object : Object) → Sets m id object (with_object m id object)
 object_set m id object =
-    record { objects = object_of-with_object m id object; queues = queue_of-with_object m id object; rest = object_keeps m id object }
+    record {
+      objects = object_of-with_object m id object;
+      queues = queue_of-with_object m id object;
+      rest = object_keeps m id object;
+    }
 
 -- a notification's word
 pub with_pending_there :
@@ -66,12 +73,14 @@ alike :
     → ((q : ObjId) → queue_of next q ≡ queue_of other q) → next ≡ other
 alike m next other first second objects queues =
     same_machine next other objects queues (λ q. first.words q ∙ sym (second.words q))
-    (λ slot. first.caps slot ∙ sym (second.caps slot)) (λ slot. first.parents slot ∙ sym (second.parents slot)) (first.number ∙ sym second.number)
+    (λ slot. first.caps slot ∙ sym (second.caps slot)) (λ slot. first.parents slot ∙ sym (second.parents slot))
+    (first.number ∙ sym second.number)
 
 pub set_once : (m next : Machine) (id : ObjId) (object : Object) → Sets m id object next → next ≡ with_object m id object
 set_once m next id object sets =
     let made = object_set m id object in
-    alike m next (with_object m id object) sets.rest made.rest (λ q. sets.objects q ∙ sym (made.objects q)) (λ q. sets.queues q ∙ sym (made.queues q))
+    alike m next (with_object m id object) sets.rest made.rest (λ q. sets.objects q ∙ sym (made.objects q))
+    (λ q. sets.queues q ∙ sym (made.queues q))
 
 -- the machine where the first of a queue became another thread
 unfoldable pub after_waking : Machine → ObjId → List ObjId → ObjId → Tcb → Machine
@@ -87,7 +96,9 @@ woken_so m id first others thread waited =
       others = others;
       waited = waited;
       objects =
-          λ q. object_of-with_object between first (o.Tcb thread) q ∙ ap (λ found. if same_id q first then Some (o.Tcb thread) else found) (object_of-with_queue m id others q);
+          λ q.
+          object_of-with_object between first (o.Tcb thread) q
+          ∙ ap (λ found. if same_id q first then Some (o.Tcb thread) else found) (object_of-with_queue m id others q);
       queues = λ q. queue_of-with_object between first (o.Tcb thread) q ∙ queue_of-with_queue m id others q;
       rest = both_keep m between _ (queue_keeps m id others) (object_keeps between first (o.Tcb thread));
     }
@@ -105,6 +116,9 @@ woken_once m next id first thread wakes =
     (λ q. wakes.queues q ∙ sym (made.queues q ∙ ap (λ threads. if same_id q id then Some threads else queue_of m q) others))
 
 -- who waits first
+
+pub first_in : (first : ObjId) (others : List ObjId) → Contains (first ∷ others) first
+first_in first others = (0, omega arith, refl)
 
 pub first_of :
     (m : Machine) (id first : ObjId) (others : List ObjId) → queue_of m id ≡ Some (first ∷ others)

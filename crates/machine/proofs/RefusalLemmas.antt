@@ -25,17 +25,8 @@ use Rattle.machine.specs.Refusing.{◌>>=◌}
 use Rattle.machine.specs.Step.Find.{find_notification, notification_in, permitted}
 use Rattle.machine.specs.Step.Poll.{poll_of}
 use Rattle.machine.specs.Step.Signal.{signal_of}
-use Rattle.machine.proofs.FindLemmas.{same_ok, finds, found}
-
-pub one_cause : {B : Type 0} {a b : Cause} → ◌≡◌ {A = Result B Cause} (Err a) (Err b) → a ≡ b
-one_cause f = cc
-
--- a condition failed, or it held and what follows failed
-pub first_refused :
-    {A B : Type 0} (r : Result A Cause) (then_do : A → Result B Cause) (why : Cause) → ◌>>=◌ r then_do ≡ Err why
-    → (r ≡ Err why) ⊎ ((a : A) × (r ≡ Ok a) × (then_do a ≡ Err why))
-first_refused (Ok a) then_do why e = inr (a, refl, e)
-first_refused (Err other) then_do why e = inl (ap (λ c. Err c) (one_cause e))
+use Rattle.machine.proofs.ConditionLemmas.{same_ok, one_cause, first_refused}
+use Rattle.machine.proofs.FindLemmas.{finds, found}
 
 counted_refused :
     (end : Result (SlotRef × List Bool) LookupFailure) (why : Cause) → counted end ≡ Err why
@@ -58,9 +49,11 @@ lookup_refused m caller address why e = by_object (object_of m caller) refl wher
       → (failure : LookupFailure) × (cause.FailedLookup failure ≡ why)
   by_level thread p None q = no_root (rw (p, q) refl)
   by_level thread p (Some level) q =
-      let walked : lookup_of m caller address ≡ counted (walk 65 m level (bits 64 address)) = rw (p, q) refl in counted_refused _ why (sym walked ∙ e)
+      let walked : lookup_of m caller address ≡ counted (walk 65 m level (bits 64 address)) = rw (p, q) refl in
+      counted_refused _ why (sym walked ∙ e)
 
-  by_object : (object : Option Object) → object_of m caller ≡ object → (failure : LookupFailure) × (cause.FailedLookup failure ≡ why)
+  by_object :
+      (object : Option Object) → object_of m caller ≡ object → (failure : LookupFailure) × (cause.FailedLookup failure ≡ why)
   by_object (Some (o.Tcb thread)) p = by_level thread p (level_at m (root_of caller)) refl
   by_object _ p = no_root (rw p refl)
 
@@ -80,12 +73,17 @@ module _ (m : Machine) (caller : ObjId) (address : ℕ) (allows : Badged → Boo
       (id : ObjId) (end : Badged) → find_notification m caller address ≡ Ok (id, end) → allows end ≡ false
       → FindsNone m caller address allows cause.InvalidCapability
   no_right id end e denied =
-      let h = finds m caller address id end e in
-      (h.finds.slot, h.finds.left, h.finds.ends, λ other with g. same_end other with (sym (found m caller address other with g) ∙ e)) where
-        same_end :
-            (other : ObjId) (with : Badged) → ◌≡◌ {A = Result (ObjId × Badged) Cause} (Ok (other, with)) (Ok (id, end))
-            → allows with ≡ false
-        same_end other with f = let same : (other, with) ≡ (id, end) = same_ok f in ap (λ p. allows p.1) same ∙ denied
+      let h = finds m caller address id end e in (
+        h.finds.slot,
+        h.finds.left,
+        h.finds.ends,
+        λ other with g. same_end other with (sym (found m caller address other with g) ∙ e),
+      )
+    where
+      same_end :
+          (other : ObjId) (with : Badged) → ◌≡◌ {A = Result (ObjId × Badged) Cause} (Ok (other, with)) (Ok (id, end))
+          → allows with ≡ false
+      same_end other with f = let same : (other, with) ≡ (id, end) = same_ok f in ap (λ p. allows p.1) same ∙ denied
 
   no_notification :
       (place : SlotRef × ℕ) → lookup_of m caller address ≡ Ok place
@@ -99,10 +97,12 @@ module _ (m : Machine) (caller : ObjId) (address : ℕ) (allows : Badged → Boo
   unfolding find_notification
   found_none why e = by_lookup (first_refused (lookup_of m caller address) _ why e) where
     by_lookup :
-        (lookup_of m caller address ≡ Err why) ⊎ ((place : SlotRef × ℕ) × (lookup_of m caller address ≡ Ok place) × (notification_in (cap_of m place.0) ≡ Err why))
+        (lookup_of m caller address ≡ Err why)
+        ⊎ ((place : SlotRef × ℕ) × (lookup_of m caller address ≡ Ok place) × (notification_in (cap_of m place.0) ≡ Err why))
         → FindsNone m caller address allows why
     by_lookup (inl failed) =
-        let which = lookup_refused m caller address why failed in subst (FindsNone m caller address allows) which.1 (failed ∙ ap (λ c. Err c) (sym which.1))
+        let which = lookup_refused m caller address why failed in
+        subst (FindsNone m caller address allows) which.1 (failed ∙ ap (λ c. Err c) (sym which.1))
     by_lookup (inr held) =
         let which : cause.InvalidCapability ≡ why = holding_refused (cap_of m (held.0).0) why held.2 in
         subst (FindsNone m caller address allows) which (no_notification held.0 held.1 (e ∙ ap (λ c. Err c) (sym which)))
@@ -116,7 +116,9 @@ module _ (m : Machine) (caller : ObjId) (address : ℕ) (allows : Badged → Boo
     by_right id end false f denied g = subst (FindsNone m caller address allows) (one_cause g) (no_right id end f denied)
 
     by_find :
-        (find_notification m caller address ≡ Err why) ⊎ ((end : ObjId × Badged) × (find_notification m caller address ≡ Ok end) × (◌>>=◌ (permitted (allows end.1)) (λ _. Ok (made end)) ≡ Err why))
+        (find_notification m caller address ≡ Err why)
+        ⊎ ((end : ObjId × Badged) × (find_notification m caller address ≡ Ok end)
+        × (◌>>=◌ (permitted (allows end.1)) (λ _. Ok (made end)) ≡ Err why))
         → FindsNone m caller address allows why
     by_find (inl none) = found_none why none
     by_find (inr there) = by_right (there.0).0 (there.0).1 (allows (there.0).1) there.1 refl there.2
@@ -126,10 +128,13 @@ module _ (m : Machine) (caller : ObjId) (address : ℕ) (allows : Badged → Boo
   vain_asking (cause.FailedLookup failure) failed = rw failed refl
   vain_asking cause.InvalidCapability h = by_find (find_notification m caller address) refl where
     held_none : (why : Cause) → find_notification m caller address ≡ Err why → cause.InvalidCapability ≡ why
-    held_none why e = holding_refused (cap_of m h.0) why (sym (ap (λ r. ◌>>=◌ r (λ place. notification_in (cap_of m place.0))) h.2) ∙ e)
+    held_none why e =
+        holding_refused (cap_of m h.0) why (sym (ap (λ r. ◌>>=◌ r (λ place. notification_in (cap_of m place.0))) h.2) ∙ e)
 
-    by_find : (end : Result (ObjId × Badged) Cause) → find_notification m caller address ≡ end → asking ≡ Err cause.InvalidCapability
-    by_find (Ok end) e = let denied : allows end.1 ≡ false = h.3 end.0 end.1 (finds m caller address end.0 end.1 e) in rw (e, denied) refl
+    by_find :
+        (end : Result (ObjId × Badged) Cause) → find_notification m caller address ≡ end → asking ≡ Err cause.InvalidCapability
+    by_find (Ok end) e =
+        let denied : allows end.1 ≡ false = h.3 end.0 end.1 (finds m caller address end.0 end.1 e) in rw (e, denied) refl
     by_find (Err why) e = rw e (ap (λ c. Err c) (sym (held_none why e)))
   vain_asking _ h = absurd h
 

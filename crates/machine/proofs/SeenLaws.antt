@@ -15,24 +15,32 @@ use Rattle.machine.specs.declared.object.Object.{Object}
 use Rattle.machine.specs.declared.object.Object.TheVariants as o
 use Rattle.machine.specs.declared.thread.Tcb.{Tcb}
 use Rattle.machine.specs.Changes.{with_pending, with_tcb, with_context, with_waiting, without_first}
-use Rattle.machine.specs.Machine.{Machine, id_total, id_apart, slot_total, slot_apart, object_of, queue_of, with_object, with_queue, with_cap, with_parent, with_new, same_machine}
-use Rattle.machine.specs.Machine.{object_of-with_object, queue_of-with_object, words_of-with_object, cap_of-with_object, parent_of-with_object}
-use Rattle.machine.specs.Machine.{object_of-with_queue, queue_of-with_queue, words_of-with_queue, cap_of-with_queue, parent_of-with_queue}
+use Rattle.machine.specs.Machine.{Machine, id_total, id_apart, slot_total, slot_apart, object_of, queue_of, with_object}
+use Rattle.machine.specs.Machine.{with_queue, with_cap, with_parent, with_new, same_machine}
+use Rattle.machine.specs.Machine.{object_of-with_object, queue_of-with_object, words_of-with_object, cap_of-with_object}
+use Rattle.machine.specs.Machine.{parent_of-with_object}
+use Rattle.machine.specs.Machine.{object_of-with_queue, queue_of-with_queue, words_of-with_queue, cap_of-with_queue}
+use Rattle.machine.specs.Machine.{parent_of-with_queue}
 use Rattle.machine.specs.Machine.{object_of-with_cap, queue_of-with_cap, words_of-with_cap, cap_of-with_cap, parent_of-with_cap}
-use Rattle.machine.specs.Machine.{object_of-with_parent, queue_of-with_parent, words_of-with_parent, cap_of-with_parent, parent_of-with_parent}
+use Rattle.machine.specs.Machine.{object_of-with_parent, queue_of-with_parent, words_of-with_parent, cap_of-with_parent}
+use Rattle.machine.specs.Machine.{parent_of-with_parent}
 use Rattle.machine.specs.Machine.{object_of-with_new, queue_of-with_new, words_of-with_new, cap_of-with_new, parent_of-with_new}
 use Rattle.machine.specs.Seen.{IsSetAt, AnswersAlike, HasObject, HasQueue, HasCap, HasParent, HasNew}
 
 -- a look-up that a key's tie decides is set at that key
 set_at :
-    {K V : Type 0} {R : K → K → Ordering} (total : IsTotalOrder R) (apart : IsAntisymmetric R) (before after : K → Option V) (place : K) (value : V)
+    {K V : Type 0} {R : K → K → Ordering} (total : IsTotalOrder R) (apart : IsAntisymmetric R) (before after : K → Option V)
+    (place : K) (value : V)
     → ((q : K) → after q ≡ cond (eq_by_cmp R q place) (Some value) (before q)) → IsSetAt before after place value
-set_at {K} {V} {R} total apart before after place value is =
-    (is place ∙ ap (λ r. cond (is_eq r) (Some value) (before place)) (tied_itself total place), λ q other. is q ∙ by_tie q other (R q place) refl) where
-      by_tie : (q : K) → q ≢ place → (tie : Ordering) → R q place ≡ tie → cond (is_eq tie) (Some value) (before q) ≡ before q
-      by_tie q other Less e = refl
-      by_tie q other Equal e = absurd (other (apart q place e))
-      by_tie q other Greater e = refl
+set_at {K} {V} {R} total apart before after place value is = (
+  is place ∙ ap (λ r. cond (is_eq r) (Some value) (before place)) (tied_itself total place),
+  λ q other. is q ∙ by_tie q other (R q place) refl,
+)
+  where
+    by_tie : (q : K) → q ≢ place → (tie : Ordering) → R q place ≡ tie → cond (is_eq tie) (Some value) (before q) ≡ before q
+    by_tie q other Less e = refl
+    by_tie q other Equal e = absurd (other (apart q place e))
+    by_tie q other Greater e = refl
 
 pub object_seen : (m : Machine) (id : ObjId) (object : Object) → HasObject m (with_object m id object) id object
 unfolding with_object
@@ -97,19 +105,27 @@ pub pending_seen :
 unfolding with_pending
 pending_seen m id old word e = rw (e, with_pending) (object_seen m id (o.Notification (record old { pending = word })))
 
-pub tcb_seen : (m : Machine) (id : ObjId) (old thread : Tcb) → object_of m id ≡ Some (o.Tcb old) → HasObject m (with_tcb m id thread) id (o.Tcb thread)
+pub tcb_seen :
+    (m : Machine) (id : ObjId) (old thread : Tcb) → object_of m id ≡ Some (o.Tcb old)
+    → HasObject m (with_tcb m id thread) id (o.Tcb thread)
 unfolding with_tcb
 tcb_seen m id old thread e = rw (e, with_tcb) (object_seen m id (o.Tcb thread))
 
-pub context_seen : (m : Machine) (id : ObjId) (old context : Context) → object_of m id ≡ Some (o.Context old) → HasObject m (with_context m id context) id (o.Context context)
+pub context_seen :
+    (m : Machine) (id : ObjId) (old context : Context) → object_of m id ≡ Some (o.Context old)
+    → HasObject m (with_context m id context) id (o.Context context)
 unfolding with_context
 context_seen m id old context e = rw (e, with_context) (object_seen m id (o.Context context))
 
-pub joins_seen : (m : Machine) (id thread : ObjId) (threads : List ObjId) → queue_of m id ≡ Some threads → HasQueue m (with_waiting m id thread) id (threads ++ thread ∷ [])
+pub joins_seen :
+    (m : Machine) (id thread : ObjId) (threads : List ObjId) → queue_of m id ≡ Some threads
+    → HasQueue m (with_waiting m id thread) id (threads ++ thread ∷ [])
 unfolding with_waiting
 joins_seen m id thread threads e = rw (e, with_waiting) (queue_seen m id (threads ++ thread ∷ []))
 
-pub leaves_seen : (m : Machine) (id first : ObjId) (threads : List ObjId) → queue_of m id ≡ Some (first ∷ threads) → HasQueue m (without_first m id) id threads
+pub leaves_seen :
+    (m : Machine) (id first : ObjId) (threads : List ObjId) → queue_of m id ≡ Some (first ∷ threads)
+    → HasQueue m (without_first m id) id threads
 unfolding without_first
 leaves_seen m id first threads e = rw (e, without_first) (queue_seen m id threads)
 
@@ -127,7 +143,9 @@ no_queue_seen m id e = rw (e, without_first) refl
 
 -- and where it isn't
 
-pub no_word_seen : (m : Machine) (id : ObjId) (word : Option ℕ) → ((old : Notification) → object_of m id ≢ Some (o.Notification old)) → with_pending m id word ≡ m
+pub no_word_seen :
+    (m : Machine) (id : ObjId) (word : Option ℕ) → ((old : Notification) → object_of m id ≢ Some (o.Notification old))
+    → with_pending m id word ≡ m
 unfolding with_pending
 no_word_seen m id word none = by_content (object_of m id) refl where
   by_content : (found : Option Object) → object_of m id ≡ found → with_pending m id word ≡ m
@@ -142,14 +160,17 @@ no_word_seen m id word none = by_content (object_of m id) refl where
   by_content (Some (o.Frame _)) e = rw (e, with_pending) refl
   by_content (Some (o.Control _)) e = rw (e, with_pending) refl
 
-pub no_thread_seen : (m : Machine) (id : ObjId) (thread : Tcb) → ((old : Tcb) → object_of m id ≢ Some (o.Tcb old)) → with_tcb m id thread ≡ m
+pub no_thread_seen :
+    (m : Machine) (id : ObjId) (thread : Tcb) → ((old : Tcb) → object_of m id ≢ Some (o.Tcb old)) → with_tcb m id thread ≡ m
 unfolding with_tcb
 no_thread_seen m id thread none = by_content (object_of m id) refl where
   by_content : (found : Option Object) → object_of m id ≡ found → with_tcb m id thread ≡ m
   by_content (Some (o.Tcb old)) e = absurd (none old e)
   by_content found e = rw (e, with_tcb) refl
 
-pub no_context_seen : (m : Machine) (id : ObjId) (context : Context) → ((old : Context) → object_of m id ≢ Some (o.Context old)) → with_context m id context ≡ m
+pub no_context_seen :
+    (m : Machine) (id : ObjId) (context : Context) → ((old : Context) → object_of m id ≢ Some (o.Context old))
+    → with_context m id context ≡ m
 unfolding with_context
 no_context_seen m id context none = by_content (object_of m id) refl where
   by_content : (found : Option Object) → object_of m id ≡ found → with_context m id context ≡ m
@@ -158,4 +179,5 @@ no_context_seen m id context none = by_content (object_of m id) refl where
 
 pub alike_equal : (m n : Machine) → AnswersAlike m n → m ≡ n
 alike_equal m n alike =
-    same_machine m n (λ q. sym (alike.objects q)) (λ q. sym (alike.queues q)) (λ q. sym (alike.words q)) (λ q. sym (alike.caps q)) (λ q. sym (alike.parents q)) (sym alike.next)
+    same_machine m n (λ q. sym (alike.objects q)) (λ q. sym (alike.queues q)) (λ q. sym (alike.words q)) (λ q. sym (alike.caps q))
+    (λ q. sym (alike.parents q)) (sym alike.next)

@@ -1,6 +1,6 @@
 -- A signal does what the relation says.
-use Rattle.std.proofs.Common.{◌≡◌, ℕ, ◌⊎◌, inl, inr, List, [], ◌∷◌, refl, sym, ap, subst, ◌∙◌, arith}
-use Rattle.std.specs.Prelude.{Option, Some, None, Ok, unwrap_or, Contains}
+use Rattle.std.proofs.Common.{◌≡◌, ℕ, ◌⊎◌, inl, inr, List, [], ◌∷◌, refl, sym, ap, subst, ◌∙◌}
+use Rattle.std.specs.Prelude.{Option, Some, None, Ok, unwrap_or}
 use Rattle.std.specs.Int.RustNames.{bit_or}
 use Rattle.base.specs.declared.ids.ObjId.{ObjId}
 use Rattle.machine.specs.declared.call.Answer.TheVariants as answer
@@ -20,8 +20,10 @@ use Rattle.machine.specs.Machine.{Machine, object_of, queue_of, with_object, wit
 use Rattle.machine.specs.Step.Find.{find_notification, permitted}
 use Rattle.machine.specs.Step.Signal.{signal_of, signalled, woken, pending_in}
 use Rattle.machine.specs.WellFormed.{IsWellFormed}
-use Rattle.machine.proofs.FindLemmas.{both_done, same_ok, is_permitted, finds, found, found_notification}
-use Rattle.machine.proofs.PrimitiveLemmas.{with_pending_there, object_set, set_once, after_waking, woken_so, woken_once, first_of, without_first_of, none_first, nobody_nowhere, nobody_listed}
+use Rattle.machine.proofs.ConditionLemmas.{both_done, same_ok}
+use Rattle.machine.proofs.FindLemmas.{is_permitted, finds, found, found_notification}
+use Rattle.machine.proofs.PrimitiveLemmas.{with_pending_there, object_set, set_once, after_waking, woken_so, woken_once, first_of}
+use Rattle.machine.proofs.PrimitiveLemmas.{first_in, without_first_of, none_first, nobody_nowhere, nobody_listed}
 
 -- a thread with a word in its inbox, ready
 abbrev roused : Tcb → ℕ → Tcb
@@ -45,7 +47,8 @@ signalled_first :
     → signalled m id badge ≡ after_waking m id others first (roused thread badge)
 unfolding signalled after_waking
 signalled_first m id first others thread badge waited there =
-    rw (first_of m id first others waited, without_first_of m id first others waited) (woken_there (with_queue m id others) first thread badge (object_of-with_queue m id others first ∙ there))
+    rw (first_of m id first others waited, without_first_of m id first others waited)
+    (woken_there (with_queue m id others) first thread badge (object_of-with_queue m id others first ∙ there))
 
 signalled_alone :
     (m : Machine) (id : ObjId) (notification : Notification) (badge : ℕ) → NobodyWaits m id
@@ -56,13 +59,11 @@ signalled_alone :
     }))
 unfolding signalled
 signalled_alone m id notification badge nobody there =
-    rw (none_first m id nobody) (with_pending_there m id notification _ there ∙ ap (λ object. with_object m id (o.Notification (record notification {
+    rw (none_first m id nobody)
+    (with_pending_there m id notification _ there ∙ ap (λ object. with_object m id (o.Notification (record notification {
       pending =
           Some (bit_or badge (unwrap_or (pending_in object) 0));
     }))) there)
-
-first_contained : (first : ObjId) (others : List ObjId) → Contains (first ∷ others) first
-first_contained first others = (0, omega arith, refl)
 
 -- what a notification that is signalled comes to
 signalled_does :
@@ -85,13 +86,14 @@ signalled_does m id notification badge formed there = by_queue (queue_of m id) r
   by_queue None e = inr (alone (nobody_nowhere m id e))
   by_queue (Some []) e = inr (alone (nobody_listed m id e))
   by_queue (Some (first ∷ others)) e =
-      let waits = formed.links.queued id (first ∷ others) first e (first_contained first others) in
+      let waits = formed.links.queued id (first ∷ others) first e (first_in first others) in
       inl (record {
         first = first;
         thread = waits.0;
         there = waits.2;
         wakes =
-            subst (Wakes m id first _) (sym (signalled_first m id first others waits.0 badge e waits.2)) (woken_so m id first others (roused waits.0 badge) e);
+            subst (Wakes m id first _) (sym (signalled_first m id first others waits.0 badge e waits.2))
+            (woken_so m id first others (roused waits.0 badge) e);
       })
 
 pub signal_does :
@@ -114,14 +116,16 @@ signal_does m caller address outcome next formed e =
       allowed = is_permitted (can_write end.rights) allowed.0 allowed.1;
       answers = sym (ap (λ p. p.0) made);
       does =
-          subst (λ after. WakesFirst m id end.badge after ⊎ JoinsWord m id end.badge after) (ap (λ p. p.1) made) (signalled_does m id there.0 end.badge formed there.1);
+          subst (λ after. WakesFirst m id end.badge after ⊎ JoinsWord m id end.badge after) (ap (λ p. p.1) made)
+          (signalled_does m id there.0 end.badge formed there.1);
     }
 
 does_signalled :
     (m : Machine) (id : ObjId) (badge : ℕ) (next : Machine) → WakesFirst m id badge next ⊎ JoinsWord m id badge next
     → signalled m id badge ≡ next
 does_signalled m id badge next (inl woke) =
-    signalled_first m id woke.first woke.wakes.others woke.thread badge woke.wakes.waited woke.there ∙ sym (woken_once m next id woke.first _ woke.wakes)
+    signalled_first m id woke.first woke.wakes.others woke.thread badge woke.wakes.waited woke.there
+    ∙ sym (woken_once m next id woke.first _ woke.wakes)
 does_signalled m id badge next (inr joined) =
     signalled_alone m id joined.notification badge joined.nobody joined.there ∙ sym (set_once m next id _ joined.sets)
 

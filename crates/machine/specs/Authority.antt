@@ -1,6 +1,7 @@
 -- The label of an object, and the authority that a machine holds: edges from label to label, read off its capabilities, its
 -- derivation tree and the links between its objects ('seL4 Enforces Integrity', sections 3 and 4, "Authority" and "Policy").
-use Rattle.std.specs.Prelude.{◌≡◌, ℕ, Bool, true, false, ◌&&◌, nat_lt, nat_le, Option, Some, None, length, find, option_and_then, option_map, if◌then◌else◌}
+use Rattle.std.specs.Prelude.{◌≡◌, ℕ, Bool, true, false, ◌&&◌, nat_lt, nat_le, Option, Some, None, length, find, option_and_then}
+use Rattle.std.specs.Prelude.{option_map, if◌then◌else◌}
 use Rattle.base.specs.declared.ids.ObjId.{ObjId}
 use Rattle.base.specs.declared.ids.SlotRef.{SlotRef}
 use Rattle.base.specs.declared.kind.Kind.{Kind}
@@ -33,7 +34,9 @@ label_at t address = option_map (λ initial. initial.label) (find (has_memory_at
 
 -- the label of a present object: an initial object's is declared, and a made one's is that of the untyped memory that it lies in
 unfoldable pub label_of : Layout → Machine → ObjId → Option ℕ
-label_of t m id = option_and_then (λ object. if nat_lt id.0 (length t.objects) then declared_label t id else label_at t (address_of object)) (object_of m id)
+label_of t m id =
+    option_and_then (λ object. if nat_lt id.0 (length t.objects) then declared_label t id else label_at t (address_of object))
+    (object_of m id)
 
 abbrev pub names_reply : Option ObjId → ObjId → Bool
 names_reply None id = false
@@ -54,7 +57,8 @@ holds_thread reply.Free id = false
 holds_thread (reply.Waiting thread) id = same_id thread id
 holds_thread (reply.Called thread) id = same_id thread id
 
--- the edges that an object's content gives: a thread runs on its context, a reply holds its thread, and a blocked thread keeps its rights
+-- the edges that an object's content gives: a thread runs on its context, a reply holds its thread, and a blocked thread keeps
+-- its rights
 abbrev pub links : Object → Kind → ObjId → Bool
 links (o.Tcb thread) authority.Runs id = names_reply thread.context id
 links (o.Tcb thread) k id = state_links thread.state k id
@@ -65,7 +69,8 @@ links _ _ id = false
 pub data HasAuthority (t : Layout) (m : Machine) : ℕ → Kind → ℕ → Type 0 where
   -- a capability in a slot of a CNode gives its kinds over its object
   by_cap :
-      {from to : ℕ} {k : Kind} (slot : SlotRef) (held : Cap) → cap_of m slot ≡ Some held → kind_of m slot.holder ≡ Some kind.CNode → gives held.detail k ≡ true
+      {from to : ℕ} {k : Kind} (slot : SlotRef) (held : Cap) → cap_of m slot ≡ Some held → kind_of m slot.holder ≡ Some kind.CNode
+      → gives held.detail k ≡ true
       → label_of t m slot.holder ≡ Some from → label_of t m held.object ≡ Some to → HasAuthority t m from k to
   -- the capability in a thread's root slot gives space alone
   by_root :

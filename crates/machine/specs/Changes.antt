@@ -1,5 +1,6 @@
--- Changes of a machine that leave it as it is where the object isn't there or is of another kind: to a notification's word, a thread
--- and a scheduling context, and to who waits (seL4 manual, "Notifications", "Threads and Execution" and "Scheduling Contexts").
+-- Changes of a machine that leave it as it is where the object isn't there or is of another kind: to a notification's word, a
+-- thread and a scheduling context, and to who waits (seL4 manual, "Notifications", "Threads and Execution" and "Scheduling
+-- Contexts").
 use Rattle.std.specs.Prelude.{ℕ, List, [], ◌∷◌, ◌++◌, Option, Some, None, option_and_then, slice_get}
 use Rattle.base.specs.declared.ids.ObjId.{ObjId}
 use Rattle.machine.specs.declared.object.Object.{Object}

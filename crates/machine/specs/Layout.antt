@@ -1,6 +1,6 @@
--- What a capability table says: the labels, the initial objects with their names and labels, the slots that hold capabilities, the
--- pairs of the derivation tree, and which thread runs on which context (compare the seL4 manual, "Bootstrapping", and
--- 'seL4 Enforces Integrity', section 3: the initial state and its labelling).
+-- What a capability table says: the labels, the initial objects with their names and labels, the slots that hold capabilities,
+-- the pairs of the derivation tree, and which thread runs on which context (compare the seL4 manual, "Bootstrapping", and 'seL4
+-- Enforces Integrity', section 3: the initial state and its labelling).
 use Rattle.std.specs.Prelude.{ℕ, List, [], Option, slice_get, option_map, find, refl}
 use Rattle.std.specs.Coded.{Coded, code_by, coded×, coded_list, coded_ℕ}
 use Rattle.base.specs.declared.ids.ObjId.{ObjId}
@@ -31,9 +31,12 @@ abbrev pub layout_code : Coded Initial → Coded Filled → Coded Pair → Coded
 layout_code initial filled pair binding =
     code_by
     (List (List ℕ) × (List (List ℕ) × (List Initial × (List Filled × (List Pair × List Binding)))))
-    (coded× (coded_list (coded_list coded_ℕ)) (coded× (coded_list (coded_list coded_ℕ)) (coded× (coded_list initial) (coded× (coded_list filled) (coded× (coded_list pair) (coded_list binding))))))
+    (coded× (coded_list (coded_list coded_ℕ))
+    (coded× (coded_list (coded_list coded_ℕ))
+    (coded× (coded_list initial) (coded× (coded_list filled) (coded× (coded_list pair) (coded_list binding))))))
     (λ t. (t.labels, (t.names, (t.objects, (t.caps, (t.pairs, t.bindings))))))
-    (λ p. record { labels = p.0; names = p.1.0; objects = p.1.1.0; caps = p.1.1.1.0; pairs = p.1.1.1.1.0; bindings = p.1.1.1.1.1 })
+    (λ p.
+    record { labels = p.0; names = p.1.0; objects = p.1.1.0; caps = p.1.1.1.0; pairs = p.1.1.1.1.0; bindings = p.1.1.1.1.1 })
     (λ _. refl)
 
 -- the table that says nothing

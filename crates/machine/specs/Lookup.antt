@@ -22,7 +22,8 @@ pub record Level : Type 0 where
   pub radix : ℕ
 
 abbrev pub level_through : ObjId → Guard → Option Object → Option Level
-level_through node guard (Some (o.CNode slots)) = Some (record { node = node; guard = bits guard.size guard.value; radix = slots.radix })
+level_through node guard (Some (o.CNode slots)) =
+    Some (record { node = node; guard = bits guard.size guard.value; radix = slots.radix })
 level_through node guard _ = None
 
 -- the CNode that a capability shows, if it is a CNode's
@@ -49,10 +50,14 @@ hop level string = select level (after level.guard string) where
   select level (Some rest) = slot_of level (split level.radix rest)
 
 -- go on at a slot's CNode while bits are left
-abbrev pub onward : (Level → List Bool → Result (SlotRef × List Bool) LookupFailure) → Machine → Result (SlotRef × List Bool) LookupFailure → Result (SlotRef × List Bool) LookupFailure
+abbrev pub onward :
+    (Level → List Bool → Result (SlotRef × List Bool) LookupFailure) → Machine → Result (SlotRef × List Bool) LookupFailure
+    → Result (SlotRef × List Bool) LookupFailure
 onward go m (Err failure) = Err failure
 onward go m (Ok place) = further go place (level_at m place.0) place.1 where
-  further : (Level → List Bool → Result (SlotRef × List Bool) LookupFailure) → SlotRef × List Bool → Option Level → List Bool → Result (SlotRef × List Bool) LookupFailure
+  further :
+      (Level → List Bool → Result (SlotRef × List Bool) LookupFailure) → SlotRef × List Bool → Option Level → List Bool
+      → Result (SlotRef × List Bool) LookupFailure
   further go place _ [] = Ok place
   further go place None (b ∷ bs) = Ok place
   further go place (Some level) (b ∷ bs) = go level (b ∷ bs)

@@ -6,7 +6,7 @@ use Rattle.std.specs.Coded.{Coded, code_by, coded×, coded_list, coded_ℕ}
 use Rattle.std.specs.Ordering.{nat_cmp, then_cmp, on, eq_by_cmp, ordering_then, is_eq}
 use Rattle.std.specs.declared.cmp.Ordering.TheVariants.{Less, Equal, Greater}
 use Rattle.std.specs.declared.cmp.Ordering.{Ordering}
-use Rattle.std.specs.Cmp.{IsTotalOrder, on_total, then_total, nat_cmp_total}
+use Rattle.std.specs.Cmp.{Equal-is, IsTotalOrder, on_total, then_total, nat_cmp_total}
 use Rattle.std.specs.FinMap as map
 use Rattle.std.specs.FinMap.{FinMap, IsAntisymmetric, nat_cmp-IsAntisymmetric, same_map}
 use Rattle.base.specs.declared.ids.ObjId.{ObjId}
@@ -43,15 +43,19 @@ pub record Machine : Type 0 where
 abbrev pub machine_code : Coded ObjId → Coded SlotRef → Coded Object → Coded Cap → Coded Machine
 machine_code id slot object cap =
     code_by
-    (FinMap id_cmp Object × (FinMap id_cmp (List ObjId) × (FinMap id_cmp (List ℕ) × (FinMap slot_cmp Cap × (FinMap slot_cmp SlotRef × ℕ)))))
-    (coded× (map.code id object) (coded× (map.code id (coded_list id)) (coded× (map.code id (coded_list coded_ℕ)) (coded× (map.code slot cap) (coded× (map.code slot slot) coded_ℕ)))))
+    (FinMap id_cmp Object
+    × (FinMap id_cmp (List ObjId) × (FinMap id_cmp (List ℕ) × (FinMap slot_cmp Cap × (FinMap slot_cmp SlotRef × ℕ)))))
+    (coded× (map.code id object)
+    (coded× (map.code id (coded_list id))
+    (coded× (map.code id (coded_list coded_ℕ)) (coded× (map.code slot cap) (coded× (map.code slot slot) coded_ℕ)))))
     (λ m. (m.objects, (m.queues, (m.words, (m.caps, (m.parents, m.next))))))
     (λ p. record { objects = p.0; queues = p.1.0; words = p.1.1.0; caps = p.1.1.1.0; parents = p.1.1.1.1.0; next = p.1.1.1.1.1 })
     (λ _. refl)
 
 -- no objects at all
 unfoldable pub empty_machine : Machine
-empty_machine = record { objects = map.empty; queues = map.empty; words = map.empty; caps = map.empty; parents = map.empty; next = 0 }
+empty_machine =
+    record { objects = map.empty; queues = map.empty; words = map.empty; caps = map.empty; parents = map.empty; next = 0 }
 
 -- the look-ups
 
@@ -101,7 +105,14 @@ with_parent m slot parent = record m { parents = map.insert m.parents slot paren
 unfoldable pub with_new : Machine → Object → Machine
 with_new m object =
     let id : ObjId = record { 0 = m.next } in
-    record { objects = map.insert m.objects id object; queues = map.insert m.queues id []; words = map.insert m.words id (replicate (word_count object) 0); caps = m.caps; parents = m.parents; next = m.next + 1 }
+    record {
+      objects = map.insert m.objects id object;
+      queues = map.insert m.queues id [];
+      words = map.insert m.words id (replicate (word_count object) 0);
+      caps = m.caps;
+      parents = m.parents;
+      next = m.next + 1;
+    }
 
 -- the laws of look-ups and changes: each change is seen where it is made, and nowhere else
 
@@ -109,77 +120,103 @@ pub id_total : IsTotalOrder id_cmp
 id_total = on_total (λ (id : ObjId). id.0) nat_cmp_total
 
 pub slot_total : IsTotalOrder slot_cmp
-slot_total = then_total (on_total (λ (slot : SlotRef). slot.holder) id_total) (on_total (λ (slot : SlotRef). slot.index) nat_cmp_total)
+slot_total =
+    then_total (on_total (λ (slot : SlotRef). slot.holder) id_total) (on_total (λ (slot : SlotRef). slot.index) nat_cmp_total)
 
-pub object_of-with_object : (m : Machine) (id : ObjId) (object : Object) (q : ObjId) → object_of (with_object m id object) q ≡ cond (same_id q id) (Some object) (object_of m q)
+pub object_of-with_object :
+    (m : Machine) (id : ObjId) (object : Object) (q : ObjId)
+    → object_of (with_object m id object) q ≡ cond (same_id q id) (Some object) (object_of m q)
 unfolding object_of with_object
 object_of-with_object m id object q = map.get-insert id_total m.objects id object q
 
-pub object_of-with_queue : (m : Machine) (id : ObjId) (threads : List ObjId) (q : ObjId) → object_of (with_queue m id threads) q ≡ object_of m q
+pub object_of-with_queue :
+    (m : Machine) (id : ObjId) (threads : List ObjId) (q : ObjId) → object_of (with_queue m id threads) q ≡ object_of m q
 unfolding object_of with_queue
 object_of-with_queue m id threads q = refl
 
-pub object_of-with_cap : (m : Machine) (slot : SlotRef) (filling : Cap) (q : ObjId) → object_of (with_cap m slot filling) q ≡ object_of m q
+pub object_of-with_cap :
+    (m : Machine) (slot : SlotRef) (filling : Cap) (q : ObjId) → object_of (with_cap m slot filling) q ≡ object_of m q
 unfolding object_of with_cap
 object_of-with_cap m slot filling q = refl
 
-pub object_of-with_parent : (m : Machine) (slot parent : SlotRef) (q : ObjId) → object_of (with_parent m slot parent) q ≡ object_of m q
+pub object_of-with_parent :
+    (m : Machine) (slot parent : SlotRef) (q : ObjId) → object_of (with_parent m slot parent) q ≡ object_of m q
 unfolding object_of with_parent
 object_of-with_parent m slot parent q = refl
 
-pub object_of-with_new : (m : Machine) (object : Object) (q : ObjId) → object_of (with_new m object) q ≡ cond (same_id q (record { 0 = m.next })) (Some object) (object_of m q)
+pub object_of-with_new :
+    (m : Machine) (object : Object) (q : ObjId)
+    → object_of (with_new m object) q ≡ cond (same_id q (record { 0 = m.next })) (Some object) (object_of m q)
 unfolding object_of with_new
 object_of-with_new m object q = map.get-insert id_total m.objects (record { 0 = m.next }) object q
 
-pub queue_of-with_object : (m : Machine) (id : ObjId) (object : Object) (q : ObjId) → queue_of (with_object m id object) q ≡ queue_of m q
+pub queue_of-with_object :
+    (m : Machine) (id : ObjId) (object : Object) (q : ObjId) → queue_of (with_object m id object) q ≡ queue_of m q
 unfolding queue_of with_object
 queue_of-with_object m id object q = refl
 
-pub queue_of-with_queue : (m : Machine) (id : ObjId) (threads : List ObjId) (q : ObjId) → queue_of (with_queue m id threads) q ≡ cond (same_id q id) (Some threads) (queue_of m q)
+pub queue_of-with_queue :
+    (m : Machine) (id : ObjId) (threads : List ObjId) (q : ObjId)
+    → queue_of (with_queue m id threads) q ≡ cond (same_id q id) (Some threads) (queue_of m q)
 unfolding queue_of with_queue
 queue_of-with_queue m id threads q = map.get-insert id_total m.queues id threads q
 
-pub queue_of-with_cap : (m : Machine) (slot : SlotRef) (filling : Cap) (q : ObjId) → queue_of (with_cap m slot filling) q ≡ queue_of m q
+pub queue_of-with_cap :
+    (m : Machine) (slot : SlotRef) (filling : Cap) (q : ObjId) → queue_of (with_cap m slot filling) q ≡ queue_of m q
 unfolding queue_of with_cap
 queue_of-with_cap m slot filling q = refl
 
-pub queue_of-with_parent : (m : Machine) (slot parent : SlotRef) (q : ObjId) → queue_of (with_parent m slot parent) q ≡ queue_of m q
+pub queue_of-with_parent :
+    (m : Machine) (slot parent : SlotRef) (q : ObjId) → queue_of (with_parent m slot parent) q ≡ queue_of m q
 unfolding queue_of with_parent
 queue_of-with_parent m slot parent q = refl
 
-pub queue_of-with_new : (m : Machine) (object : Object) (q : ObjId) → queue_of (with_new m object) q ≡ cond (same_id q (record { 0 = m.next })) (Some []) (queue_of m q)
+pub queue_of-with_new :
+    (m : Machine) (object : Object) (q : ObjId)
+    → queue_of (with_new m object) q ≡ cond (same_id q (record { 0 = m.next })) (Some []) (queue_of m q)
 unfolding queue_of with_new
 queue_of-with_new m object q = map.get-insert id_total m.queues (record { 0 = m.next }) [] q
 
-pub words_of-with_object : (m : Machine) (id : ObjId) (object : Object) (q : ObjId) → words_of (with_object m id object) q ≡ words_of m q
+pub words_of-with_object :
+    (m : Machine) (id : ObjId) (object : Object) (q : ObjId) → words_of (with_object m id object) q ≡ words_of m q
 unfolding words_of with_object
 words_of-with_object m id object q = refl
 
-pub words_of-with_queue : (m : Machine) (id : ObjId) (threads : List ObjId) (q : ObjId) → words_of (with_queue m id threads) q ≡ words_of m q
+pub words_of-with_queue :
+    (m : Machine) (id : ObjId) (threads : List ObjId) (q : ObjId) → words_of (with_queue m id threads) q ≡ words_of m q
 unfolding words_of with_queue
 words_of-with_queue m id threads q = refl
 
-pub words_of-with_cap : (m : Machine) (slot : SlotRef) (filling : Cap) (q : ObjId) → words_of (with_cap m slot filling) q ≡ words_of m q
+pub words_of-with_cap :
+    (m : Machine) (slot : SlotRef) (filling : Cap) (q : ObjId) → words_of (with_cap m slot filling) q ≡ words_of m q
 unfolding words_of with_cap
 words_of-with_cap m slot filling q = refl
 
-pub words_of-with_parent : (m : Machine) (slot parent : SlotRef) (q : ObjId) → words_of (with_parent m slot parent) q ≡ words_of m q
+pub words_of-with_parent :
+    (m : Machine) (slot parent : SlotRef) (q : ObjId) → words_of (with_parent m slot parent) q ≡ words_of m q
 unfolding words_of with_parent
 words_of-with_parent m slot parent q = refl
 
-pub words_of-with_new : (m : Machine) (object : Object) (q : ObjId) → words_of (with_new m object) q ≡ cond (same_id q (record { 0 = m.next })) (Some (replicate (word_count object) 0)) (words_of m q)
+pub words_of-with_new :
+    (m : Machine) (object : Object) (q : ObjId)
+    → words_of (with_new m object) q
+    ≡ cond (same_id q (record { 0 = m.next })) (Some (replicate (word_count object) 0)) (words_of m q)
 unfolding words_of with_new
 words_of-with_new m object q = map.get-insert id_total m.words (record { 0 = m.next }) (replicate (word_count object) 0) q
 
-pub cap_of-with_object : (m : Machine) (id : ObjId) (object : Object) (q : SlotRef) → cap_of (with_object m id object) q ≡ cap_of m q
+pub cap_of-with_object :
+    (m : Machine) (id : ObjId) (object : Object) (q : SlotRef) → cap_of (with_object m id object) q ≡ cap_of m q
 unfolding cap_of with_object
 cap_of-with_object m id object q = refl
 
-pub cap_of-with_queue : (m : Machine) (id : ObjId) (threads : List ObjId) (q : SlotRef) → cap_of (with_queue m id threads) q ≡ cap_of m q
+pub cap_of-with_queue :
+    (m : Machine) (id : ObjId) (threads : List ObjId) (q : SlotRef) → cap_of (with_queue m id threads) q ≡ cap_of m q
 unfolding cap_of with_queue
 cap_of-with_queue m id threads q = refl
 
-pub cap_of-with_cap : (m : Machine) (slot : SlotRef) (filling : Cap) (q : SlotRef) → cap_of (with_cap m slot filling) q ≡ cond (same_slot q slot) (Some filling) (cap_of m q)
+pub cap_of-with_cap :
+    (m : Machine) (slot : SlotRef) (filling : Cap) (q : SlotRef)
+    → cap_of (with_cap m slot filling) q ≡ cond (same_slot q slot) (Some filling) (cap_of m q)
 unfolding cap_of with_cap
 cap_of-with_cap m slot filling q = map.get-insert slot_total m.caps slot filling q
 
@@ -191,19 +228,24 @@ pub cap_of-with_new : (m : Machine) (object : Object) (q : SlotRef) → cap_of (
 unfolding cap_of with_new
 cap_of-with_new m object q = refl
 
-pub parent_of-with_object : (m : Machine) (id : ObjId) (object : Object) (q : SlotRef) → parent_of (with_object m id object) q ≡ parent_of m q
+pub parent_of-with_object :
+    (m : Machine) (id : ObjId) (object : Object) (q : SlotRef) → parent_of (with_object m id object) q ≡ parent_of m q
 unfolding parent_of with_object
 parent_of-with_object m id object q = refl
 
-pub parent_of-with_queue : (m : Machine) (id : ObjId) (threads : List ObjId) (q : SlotRef) → parent_of (with_queue m id threads) q ≡ parent_of m q
+pub parent_of-with_queue :
+    (m : Machine) (id : ObjId) (threads : List ObjId) (q : SlotRef) → parent_of (with_queue m id threads) q ≡ parent_of m q
 unfolding parent_of with_queue
 parent_of-with_queue m id threads q = refl
 
-pub parent_of-with_cap : (m : Machine) (slot : SlotRef) (filling : Cap) (q : SlotRef) → parent_of (with_cap m slot filling) q ≡ parent_of m q
+pub parent_of-with_cap :
+    (m : Machine) (slot : SlotRef) (filling : Cap) (q : SlotRef) → parent_of (with_cap m slot filling) q ≡ parent_of m q
 unfolding parent_of with_cap
 parent_of-with_cap m slot filling q = refl
 
-pub parent_of-with_parent : (m : Machine) (slot parent : SlotRef) (q : SlotRef) → parent_of (with_parent m slot parent) q ≡ cond (same_slot q slot) (Some parent) (parent_of m q)
+pub parent_of-with_parent :
+    (m : Machine) (slot parent : SlotRef) (q : SlotRef)
+    → parent_of (with_parent m slot parent) q ≡ cond (same_slot q slot) (Some parent) (parent_of m q)
 unfolding parent_of with_parent
 parent_of-with_parent m slot parent q = map.get-insert slot_total m.parents slot parent q
 
@@ -239,25 +281,24 @@ id_apart a b e = let same : a.0 ≡ b.0 = nat_cmp-IsAntisymmetric a.0 b.0 e in a
 
 pub slot_apart : IsAntisymmetric slot_cmp
 slot_apart a b e = apart a b _ e refl where
-  apart : (a b : SlotRef) (first : Ordering) → ordering_then first (nat_cmp a.index b.index) ≡ Equal → id_cmp a.holder b.holder ≡ first → a ≡ b
-  apart a b Equal e h = λ i. record { holder = id_apart a.holder b.holder h i; index = nat_cmp-IsAntisymmetric a.index b.index e i }
+  apart :
+      (a b : SlotRef) (first : Ordering) → ordering_then first (nat_cmp a.index b.index) ≡ Equal
+      → id_cmp a.holder b.holder ≡ first → a ≡ b
+  apart a b Equal e h =
+      λ i. record { holder = id_apart a.holder b.holder h i; index = nat_cmp-IsAntisymmetric a.index b.index e i }
   apart a b Less e h = absurd (subst (λ r. T (is_eq r)) (sym e) tt)
   apart a b Greater e h = absurd (subst (λ r. T (is_eq r)) (sym e) tt)
 
-equal_from_tie : (r : Ordering) → is_eq r ≡ true → r ≡ Equal
-equal_from_tie Equal e = refl
-equal_from_tie Less e = absurd (subst T (sym e) tt)
-equal_from_tie Greater e = absurd (subst T (sym e) tt)
-
 pub one_id : (a b : ObjId) → same_id a b ≡ true → a ≡ b
-one_id a b tie = id_apart a b (equal_from_tie (id_cmp a b) tie)
+one_id a b tie = id_apart a b ((Equal-is (id_cmp a b)).0 tie)
 
 pub one_slot : (a b : SlotRef) → same_slot a b ≡ true → a ≡ b
-one_slot a b tie = slot_apart a b (equal_from_tie (slot_cmp a b) tie)
+one_slot a b tie = slot_apart a b ((Equal-is (slot_cmp a b)).0 tie)
 
 -- two machines that answer alike are equal
 pub same_machine :
-    (m n : Machine) → ((q : ObjId) → object_of m q ≡ object_of n q) → ((q : ObjId) → queue_of m q ≡ queue_of n q) → ((q : ObjId) → words_of m q ≡ words_of n q)
+    (m n : Machine) → ((q : ObjId) → object_of m q ≡ object_of n q) → ((q : ObjId) → queue_of m q ≡ queue_of n q)
+    → ((q : ObjId) → words_of m q ≡ words_of n q)
     → ((q : SlotRef) → cap_of m q ≡ cap_of n q) → ((q : SlotRef) → parent_of m q ≡ parent_of n q) → m.next ≡ n.next → m ≡ n
 unfolding object_of queue_of words_of cap_of parent_of
 same_machine m n objects queues words caps parents next =

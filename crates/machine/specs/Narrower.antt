@@ -1,5 +1,5 @@
--- Capabilities that differ in rights, badge or guard alone, and machines that differ in capabilities alone: how authority grows with
--- them ('seL4 Enforces Integrity', section 3, "Authority").
+-- Capabilities that differ in rights, badge or guard alone, and machines that differ in capabilities alone: how authority grows
+-- with them ('seL4 Enforces Integrity', section 3, "Authority").
 use Rattle.std.specs.Prelude.{◌≡◌, true, Some}
 use Rattle.base.specs.declared.ids.ObjId.{ObjId}
 use Rattle.base.specs.declared.ids.SlotRef.{SlotRef}

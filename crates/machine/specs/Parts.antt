@@ -1,5 +1,5 @@
--- The parts of a machine, and which of them a call names: all that its step may change (compare 'seL4 Enforces Integrity', section 4,
--- "Integrity": what may change is told object by object; the parts are confine's own).
+-- The parts of a machine, and which of them a call names: all that its step may change (compare 'seL4 Enforces Integrity',
+-- section 4, "Integrity": what may change is told object by object; the parts are confine's own).
 use Rattle.std.specs.Prelude.{◌≡◌, ℕ, ◌⊎◌, List, ◌∷◌, Some}
 use Rattle.base.specs.declared.ids.ObjId.{ObjId}
 use Rattle.base.specs.declared.ids.SlotRef.{SlotRef}
@@ -45,4 +45,5 @@ ChangesOnlyNamed m event next = (part : Part) → SamePart m next part ⊎ Names
 
 -- a queue has lost its first
 abbrev pub LosesFirst : Machine → Machine → ObjId → Type 0
-LosesFirst m next id = (first : ObjId) × (others : List ObjId) × (queue_of m id ≡ Some (first ∷ others)) × (queue_of next id ≡ Some others)
+LosesFirst m next id =
+    (first : ObjId) × (others : List ObjId) × (queue_of m id ≡ Some (first ∷ others)) × (queue_of next id ≡ Some others)

@@ -10,4 +10,5 @@ abbrev pub Run : Machine → List Event → List Outcome → Machine → Type 0
 Run first [] [] last = first ≡ last
 Run first [] (outcome ∷ outcomes) last = ⊥
 Run first (event ∷ events) [] last = ⊥
-Run first (event ∷ events) (outcome ∷ outcomes) last = (next : Machine) × Step first event outcome next × Run next events outcomes last
+Run first (event ∷ events) (outcome ∷ outcomes) last =
+    (next : Machine) × Step first event outcome next × Run next events outcomes last

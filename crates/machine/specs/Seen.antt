@@ -13,7 +13,8 @@ IsSame {Place} before after = (place : Place) → after place ≡ before place
 
 -- a look-up answers a value at one place, and elsewhere as before
 abbrev pub IsSetAt : {Place Value : Type 0} → (Place → Option Value) → (Place → Option Value) → Place → Value → Type 0
-IsSetAt {Place} before after place value = (after place ≡ Some value) × ((other : Place) → other ≢ place → after other ≡ before other)
+IsSetAt {Place} before after place value =
+    (after place ≡ Some value) × ((other : Place) → other ≢ place → after other ≡ before other)
 
 -- two machines answer alike
 pub record AnswersAlike (m n : Machine) : Type 0 where

@@ -1,4 +1,5 @@
--- How calls, events and what they answer are spelled in the texts of scripts and logs: each is a list of words, which single spaces part.
+-- How calls, events and what they answer are spelled in the texts of scripts and logs: each is a list of words, which single
+-- spaces part.
 use Rattle.std.specs.Prelude.{ℕ, Bool, List, [], ◌∷◌, ◌++◌, codes, slice_index}
 use Rattle.std.specs.Fmt.{decimal}
 use Rattle.std.specs.List.{join_with_byte}

@@ -30,11 +30,16 @@ pub data Descends (m : Machine) : SlotRef → SlotRef → Type 0 where
 -- the slots of a machine and its derivation tree
 pub record SlotsFit (m : Machine) : Type 0 where
   -- the holder of a filled slot is present and has the slot
-  pub holder : (slot : SlotRef) (held : Cap) → cap_of m slot ≡ Some held → (object : Object) × (object_of m slot.holder ≡ Some object) × (slot.index < slot_count object)
+  pub holder :
+      (slot : SlotRef) (held : Cap) → cap_of m slot ≡ Some held
+      → (object : Object) × (object_of m slot.holder ≡ Some object) × (slot.index < slot_count object)
   -- the object of a capability is present, and is of the kind that the capability says
-  pub object : (slot : SlotRef) (held : Cap) → cap_of m slot ≡ Some held → kind_of m held.object ≡ Some (kind_of_detail held.detail)
+  pub object :
+      (slot : SlotRef) (held : Cap) → cap_of m slot ≡ Some held → kind_of m held.object ≡ Some (kind_of_detail held.detail)
   -- a root slot holds the capability of a CNode
-  pub root : (slot : SlotRef) (held : Cap) → cap_of m slot ≡ Some held → kind_of m slot.holder ≡ Some kind.Tcb → kind_of_detail held.detail ≡ kind.CNode
+  pub root :
+      (slot : SlotRef) (held : Cap) → cap_of m slot ≡ Some held → kind_of m slot.holder ≡ Some kind.Tcb
+      → kind_of_detail held.detail ≡ kind.CNode
   -- pairs of the tree join filled slots
   pub child_filled : (slot parent : SlotRef) → parent_of m slot ≡ Some parent → (held : Cap) × (cap_of m slot ≡ Some held)
   pub parent_filled : (slot parent : SlotRef) → parent_of m slot ≡ Some parent → (held : Cap) × (cap_of m parent ≡ Some held)
@@ -42,9 +47,11 @@ pub record SlotsFit (m : Machine) : Type 0 where
   pub acyclic : (slot : SlotRef) → ¬ (Descends m slot slot)
   -- a child is for its parent's object, or for one in the range of its parent's untyped memory
   pub kin :
-      (slot parent : SlotRef) (below above : Cap) → parent_of m slot ≡ Some parent → cap_of m slot ≡ Some below → cap_of m parent ≡ Some above
+      (slot parent : SlotRef) (below above : Cap) → parent_of m slot ≡ Some parent → cap_of m slot ≡ Some below
+      → cap_of m parent ≡ Some above
       → (below.object ≡ above.object)
-      ⊎ ((memory : Untyped) × (made : Object) × (object_of m above.object ≡ Some (o.Untyped memory)) × (object_of m below.object ≡ Some made) × (memory.base ≤ address_of made) × (end_of made ≤ end_of (o.Untyped memory)))
+      ⊎ ((memory : Untyped) × (made : Object) × (object_of m above.object ≡ Some (o.Untyped memory))
+      × (object_of m below.object ≡ Some made) × (memory.base ≤ address_of made) × (end_of made ≤ end_of (o.Untyped memory)))
 
 -- whether a run state waits in the queue of an object
 abbrev pub WaitsAt : RunState → ObjId → Type 0
@@ -78,30 +85,43 @@ pub record LinksAgree (m : Machine) : Type 0 where
   -- who is in a queue is a thread that waits there, and that kind of object is waited at so
   pub queued :
       (id : ObjId) (threads : List ObjId) (thread : ObjId) → queue_of m id ≡ Some threads → Contains threads thread
-      → (tcb : Tcb) × (at : ObjectKind) × IsThread m thread tcb × WaitsAt tcb.state id × (kind_of m id ≡ Some at) × WaitsAtKind tcb.state at
+      → (tcb : Tcb) × (at : ObjectKind) × IsThread m thread tcb × WaitsAt tcb.state id × (kind_of m id ≡ Some at)
+      × WaitsAtKind tcb.state at
   -- who waits is in the queue
-  pub waiting : (thread id : ObjId) (tcb : Tcb) → IsThread m thread tcb → WaitsAt tcb.state id → (threads : List ObjId) × (queue_of m id ≡ Some threads) × Contains threads thread
+  pub waiting :
+      (thread id : ObjId) (tcb : Tcb) → IsThread m thread tcb → WaitsAt tcb.state id
+      → (threads : List ObjId) × (queue_of m id ≡ Some threads) × Contains threads thread
   -- once
   pub once : (id : ObjId) (threads : List ObjId) → queue_of m id ≡ Some threads → AllPairs (λ a b. a ≢ b) threads
   -- the queue of an endpoint has senders alone or receivers alone
   pub one_way :
-      (id a b : ObjId) (threads : List ObjId) (first second : Tcb) → queue_of m id ≡ Some threads → Contains threads a → Contains threads b
-      → IsThread m a first → IsThread m b second → IsSending first.state → kind_of m id ≡ Some kind.Endpoint → IsSending second.state
+      (id a b : ObjId) (threads : List ObjId) (first second : Tcb) → queue_of m id ≡ Some threads → Contains threads a
+      → Contains threads b
+      → IsThread m a first → IsThread m b second → IsSending first.state → kind_of m id ≡ Some kind.Endpoint
+      → IsSending second.state
   -- the reply that a receiver named waits for it
   pub receiver_reply :
-      (thread id : ObjId) (tcb : Tcb) → IsThread m thread tcb → IsReceivingWith tcb.state id → (address : ℕ) × (object_of m id ≡ Some (o.Reply (record { address = address; state = reply.Waiting thread })))
+      (thread id : ObjId) (tcb : Tcb) → IsThread m thread tcb → IsReceivingWith tcb.state id
+      → (address : ℕ) × (object_of m id ≡ Some (o.Reply (record { address = address; state = reply.Waiting thread })))
   -- the reply through which a thread waits for an answer has been called by it
   pub called_reply :
-      (thread id : ObjId) (tcb : Tcb) → IsThread m thread tcb → tcb.state ≡ state.Called id → (address : ℕ) × (object_of m id ≡ Some (o.Reply (record { address = address; state = reply.Called thread })))
+      (thread id : ObjId) (tcb : Tcb) → IsThread m thread tcb → tcb.state ≡ state.Called id
+      → (address : ℕ) × (object_of m id ≡ Some (o.Reply (record { address = address; state = reply.Called thread })))
   pub waiting_reply :
-      (id thread : ObjId) (address : ℕ) → object_of m id ≡ Some (o.Reply (record { address = address; state = reply.Waiting thread })) → (tcb : Tcb) × IsThread m thread tcb × IsReceivingWith tcb.state id
+      (id thread : ObjId) (address : ℕ)
+      → object_of m id ≡ Some (o.Reply (record { address = address; state = reply.Waiting thread }))
+      → (tcb : Tcb) × IsThread m thread tcb × IsReceivingWith tcb.state id
   pub reply_called :
-      (id thread : ObjId) (address : ℕ) → object_of m id ≡ Some (o.Reply (record { address = address; state = reply.Called thread })) → (tcb : Tcb) × IsThread m thread tcb × (tcb.state ≡ state.Called id)
+      (id thread : ObjId) (address : ℕ)
+      → object_of m id ≡ Some (o.Reply (record { address = address; state = reply.Called thread }))
+      → (tcb : Tcb) × IsThread m thread tcb × (tcb.state ≡ state.Called id)
   -- a thread and its context
   pub thread_context :
-      (thread id : ObjId) (tcb : Tcb) → IsThread m thread tcb → tcb.context ≡ Some id → (context : Context) × (object_of m id ≡ Some (o.Context context)) × (context.thread ≡ Some thread)
+      (thread id : ObjId) (tcb : Tcb) → IsThread m thread tcb → tcb.context ≡ Some id
+      → (context : Context) × (object_of m id ≡ Some (o.Context context)) × (context.thread ≡ Some thread)
   pub context_thread :
-      (id thread : ObjId) (context : Context) → object_of m id ≡ Some (o.Context context) → context.thread ≡ Some thread → (tcb : Tcb) × IsThread m thread tcb × (tcb.context ≡ Some id)
+      (id thread : ObjId) (context : Context) → object_of m id ≡ Some (o.Context context) → context.thread ≡ Some thread
+      → (tcb : Tcb) × IsThread m thread tcb × (tcb.context ≡ Some id)
 
 -- two objects' ranges meet
 abbrev pub Meets : Object → Object → Type 0
@@ -112,20 +132,27 @@ pub record NumbersFit (m : Machine) : Type 0 where
   pub below_next : (id : ObjId) (object : Object) → object_of m id ≡ Some object → id.0 < m.next
   -- an untyped has at most one capability
   pub one_cap :
-      (a b : SlotRef) (first second : Cap) → cap_of m a ≡ Some first → cap_of m b ≡ Some second → first.object ≡ second.object → kind_of_detail first.detail ≡ kind.Untyped → a ≡ b
+      (a b : SlotRef) (first second : Cap) → cap_of m a ≡ Some first → cap_of m b ≡ Some second → first.object ≡ second.object
+      → kind_of_detail first.detail ≡ kind.Untyped → a ≡ b
   -- its watermark lies from its base to its end
-  pub watermark : (id : ObjId) (memory : Untyped) → object_of m id ≡ Some (o.Untyped memory) → (memory.base ≤ memory.watermark) × (memory.watermark ≤ end_of (o.Untyped memory))
+  pub watermark :
+      (id : ObjId) (memory : Untyped) → object_of m id ≡ Some (o.Untyped memory)
+      → (memory.base ≤ memory.watermark) × (memory.watermark ≤ end_of (o.Untyped memory))
   -- of two objects whose ranges meet, the one with the lower number is an untyped with a capability, and the other lies in its
   -- range and below its watermark
   pub inside :
-      (low high : ObjId) (first second : Object) → low.0 < high.0 → object_of m low ≡ Some first → object_of m high ≡ Some second → Meets first second
-      → (memory : Untyped) × (slot : SlotRef) × (held : Cap) × (first ≡ o.Untyped memory) × (cap_of m slot ≡ Some held) × (held.object ≡ low) × (memory.base ≤ address_of second) × (end_of second ≤ memory.watermark)
+      (low high : ObjId) (first second : Object) → low.0 < high.0 → object_of m low ≡ Some first → object_of m high ≡ Some second
+      → Meets first second
+      → (memory : Untyped) × (slot : SlotRef) × (held : Cap) × (first ≡ o.Untyped memory) × (cap_of m slot ≡ Some held)
+      × (held.object ≡ low) × (memory.base ≤ address_of second) × (end_of second ≤ memory.watermark)
   -- and has capabilities, all of which descend from the untyped's
   pub made_from :
-      (low high : ObjId) (first second : Object) (slot above : SlotRef) (held over : Cap) → low.0 < high.0 → object_of m low ≡ Some first → object_of m high ≡ Some second → Meets first second
+      (low high : ObjId) (first second : Object) (slot above : SlotRef) (held over : Cap) → low.0 < high.0
+      → object_of m low ≡ Some first → object_of m high ≡ Some second → Meets first second
       → cap_of m slot ≡ Some held → held.object ≡ high → cap_of m above ≡ Some over → over.object ≡ low → Descends m slot above
   pub has_cap :
-      (low high : ObjId) (first second : Object) → low.0 < high.0 → object_of m low ≡ Some first → object_of m high ≡ Some second → Meets first second
+      (low high : ObjId) (first second : Object) → low.0 < high.0 → object_of m low ≡ Some first → object_of m high ≡ Some second
+      → Meets first second
       → (slot : SlotRef) × (held : Cap) × (cap_of m slot ≡ Some held) × (held.object ≡ high)
 
 pub record IsWellFormed (m : Machine) : Type 0 where

@@ -5,7 +5,8 @@ use Rattle.base.specs.declared.ids.ObjId.{ObjId}
 use Rattle.base.specs.declared.ids.SlotRef.{SlotRef}
 use Rattle.machine.specs.declared.cap.Cap.{Cap}
 use Rattle.machine.specs.declared.object.Object.{Object}
-use Rattle.machine.specs.Machine.{Machine, same_id, same_slot, id_total, id_apart, slot_total, slot_apart, object_of, queue_of, words_of, cap_of, parent_of, with_object, with_queue, with_cap, with_parent, with_new}
+use Rattle.machine.specs.Machine.{Machine, same_id, same_slot, id_total, id_apart, slot_total, slot_apart, object_of, queue_of}
+use Rattle.machine.specs.Machine.{words_of, cap_of, parent_of, with_object, with_queue, with_cap, with_parent, with_new}
 use Rattle.machine.specs.Objects.{slot_count, word_count}
 use Rattle.machine.specs.Machine as machine
 use Rattle.objects.specs.declared.entry.Entry.{Entry}
@@ -20,29 +21,41 @@ use Rattle.objects.proofs.StateLemmas.{Tells, object_at, queue_at, words_at, cap
 abbrev pub IsChanged : (ObjId → Option Entry) → (ObjId → Option Entry) → ObjId → (Entry → Entry) → Type 0
 IsChanged old new id change = (q : ObjId) → new q ≡ cond (same_id q id) (option_map change (old q)) (old q)
 
-kept_map : {A : Type 0} (read : Entry → A) (change : Entry → Entry) → ((e : Entry) → read (change e) ≡ read e) → (b : Bool) (o : Option Entry) → option_map read (cond b (option_map change o) o) ≡ option_map read o
+kept_map :
+    {A : Type 0} (read : Entry → A) (change : Entry → Entry) → ((e : Entry) → read (change e) ≡ read e)
+    → (b : Bool) (o : Option Entry) → option_map read (cond b (option_map change o) o) ≡ option_map read o
 kept_map read change keeps false o = refl
 kept_map read change keeps true None = refl
 kept_map read change keeps true (Some e) = ap Some (keeps e)
 
-kept_then : {A : Type 0} (read : Entry → Option A) (change : Entry → Entry) → ((e : Entry) → read (change e) ≡ read e) → (b : Bool) (o : Option Entry) → option_and_then read (cond b (option_map change o) o) ≡ option_and_then read o
+kept_then :
+    {A : Type 0} (read : Entry → Option A) (change : Entry → Entry) → ((e : Entry) → read (change e) ≡ read e)
+    → (b : Bool) (o : Option Entry) → option_and_then read (cond b (option_map change o) o) ≡ option_and_then read o
 kept_then read change keeps false o = refl
 kept_then read change keeps true None = refl
 kept_then read change keeps true (Some e) = keeps e
 
 module _ (old new : ObjId → Option Entry) (id : ObjId) (change : Entry → Entry) (changed : IsChanged old new id change) where
   -- a part that the change keeps
-  pub part_kept : {A : Type 0} (read : Entry → A) → ((e : Entry) → read (change e) ≡ read e) → (q : ObjId) → option_map read (new q) ≡ option_map read (old q)
+  pub part_kept :
+      {A : Type 0} (read : Entry → A) → ((e : Entry) → read (change e) ≡ read e) → (q : ObjId)
+      → option_map read (new q) ≡ option_map read (old q)
   part_kept read keeps q = ap (option_map read) (changed q) ∙ kept_map read change keeps (same_id q id) (old q)
 
-  pub reading_kept : {A : Type 0} (read : Entry → Option A) → ((e : Entry) → read (change e) ≡ read e) → (q : ObjId) → option_and_then read (new q) ≡ option_and_then read (old q)
+  pub reading_kept :
+      {A : Type 0} (read : Entry → Option A) → ((e : Entry) → read (change e) ≡ read e) → (q : ObjId)
+      → option_and_then read (new q) ≡ option_and_then read (old q)
   reading_kept read keeps q = ap (option_and_then read) (changed q) ∙ kept_then read change keeps (same_id q id) (old q)
 
   -- a part that the change sets
-  pub part_set : {A : Type 0} (read : Entry → A) (e : Entry) → old id ≡ Some e → (q : ObjId) → option_map read (new q) ≡ cond (same_id q id) (Some (read (change e))) (option_map read (old q))
+  pub part_set :
+      {A : Type 0} (read : Entry → A) (e : Entry) → old id ≡ Some e → (q : ObjId)
+      → option_map read (new q) ≡ cond (same_id q id) (Some (read (change e))) (option_map read (old q))
   part_set read e is q =
       by_key id_total id_apart q id _ _ _
-      (λ same. subst (λ k. option_map read (new k) ≡ Some (read (change e))) (sym same) (ap (option_map read) (changed id ∙ cond_here id_total id_apart id _ _ ∙ ap (option_map change) is)))
+      (λ same.
+      subst (λ k. option_map read (new k) ≡ Some (read (change e))) (sym same)
+      (ap (option_map read) (changed id ∙ cond_here id_total id_apart id _ _ ∙ ap (option_map change) is)))
       (λ differs. ap (option_map read) (changed q ∙ cond_elsewhere id_total id_apart q id _ _ differs))
 
   -- a change that leaves the entry as it was
@@ -59,68 +72,161 @@ edit_slot set index entry = record entry { slots = edited set entry.slots index 
 abbrev pub read_at : {A : Type 0} → (Slot → Option A) → ℕ → Option Entry → Option A
 read_at read index entry = option_and_then (λ e. option_and_then read (slice_get e.slots index)) entry
 
-module _ (old new : ObjId → Option Entry) (slot : SlotRef) (set : Slot → Slot) (changed : IsChanged old new slot.holder (edit_slot set slot.index)) where
-  pub slot_kept : {A : Type 0} (read : Slot → Option A) → ((s : Slot) → read (set s) ≡ read s) → (q : SlotRef) → read_at read q.index (new q.holder) ≡ read_at read q.index (old q.holder)
-  slot_kept read keeps q = reading_kept old new slot.holder (edit_slot set slot.index) changed (λ e. option_and_then read (slice_get e.slots q.index)) (λ e. read_kept read set keeps e.slots slot.index q.index) q.holder
+module _ (old new : ObjId → Option Entry) (slot : SlotRef) (set : Slot → Slot)
+    (changed : IsChanged old new slot.holder (edit_slot set slot.index)) where
+  pub slot_kept :
+      {A : Type 0} (read : Slot → Option A) → ((s : Slot) → read (set s) ≡ read s) → (q : SlotRef)
+      → read_at read q.index (new q.holder) ≡ read_at read q.index (old q.holder)
+  slot_kept read keeps q =
+      reading_kept old new slot.holder (edit_slot set slot.index) changed (λ e. option_and_then read (slice_get e.slots q.index))
+      (λ e. read_kept read set keeps e.slots slot.index q.index) q.holder
 
-  elsewhere : {A : Type 0} (read : Slot → Option A) (q : SlotRef) → (q ≡ slot → ⊥) → (tie : Bool) → same_id q.holder slot.holder ≡ tie → read_at read q.index (cond tie (option_map (edit_slot set slot.index) (old q.holder)) (old q.holder)) ≡ read_at read q.index (old q.holder)
+  elsewhere :
+      {A : Type 0} (read : Slot → Option A) (q : SlotRef) → (q ≡ slot → ⊥) → (tie : Bool) → same_id q.holder slot.holder ≡ tie
+      → read_at read q.index (cond tie (option_map (edit_slot set slot.index) (old q.holder)) (old q.holder))
+      ≡ read_at read q.index (old q.holder)
   elsewhere read q differs false e = refl
   elsewhere read q differs true e =
       let holder : q.holder ≡ slot.holder = same_from_tie id_total id_apart q.holder slot.holder e in
-      kept_then (λ e. option_and_then read (slice_get e.slots q.index)) (edit_slot set slot.index) (λ e. read_other read set e.slots slot.index q.index (λ same. differs (λ i. record { holder = holder i; index = same i }))) true (old q.holder)
+      kept_then (λ e. option_and_then read (slice_get e.slots q.index)) (edit_slot set slot.index)
+      (λ e. read_other read set e.slots slot.index q.index (λ same. differs (λ i. record { holder = holder i; index = same i })))
+      true (old q.holder)
 
-  pub slot_set : {A : Type 0} (read : Slot → Option A) (value : A) → ((s : Slot) → read (set s) ≡ Some value) → (e : Entry) → old slot.holder ≡ Some e → slot.index < length e.slots → (q : SlotRef) → read_at read q.index (new q.holder) ≡ cond (same_slot q slot) (Some value) (read_at read q.index (old q.holder))
+  pub slot_set :
+      {A : Type 0} (read : Slot → Option A) (value : A) → ((s : Slot) → read (set s) ≡ Some value) → (e : Entry)
+      → old slot.holder ≡ Some e → slot.index < length e.slots → (q : SlotRef)
+      → read_at read q.index (new q.holder) ≡ cond (same_slot q slot) (Some value) (read_at read q.index (old q.holder))
   slot_set read value sets e is within q =
       by_key slot_total slot_apart q slot _ _ _
-      (λ same. subst (λ k. read_at read k.index (new k.holder) ≡ Some value) (sym same) (ap (read_at read slot.index) (changed slot.holder ∙ cond_here id_total id_apart slot.holder _ _ ∙ ap (option_map (edit_slot set slot.index)) is) ∙ read_here read set value sets e.slots slot.index within))
+      (λ same.
+      subst (λ k. read_at read k.index (new k.holder) ≡ Some value) (sym same)
+      (ap (read_at read slot.index)
+      (changed slot.holder ∙ cond_here id_total id_apart slot.holder _ _ ∙ ap (option_map (edit_slot set slot.index)) is)
+      ∙ read_here read set value sets e.slots slot.index within))
       (λ differs. ap (read_at read q.index) (changed q.holder) ∙ elsewhere read q differs (same_id q.holder slot.holder) refl)
 
 module _ (m : Machine) (old new : ObjId → Option Entry) (tells : Tells m old) where
-  pub tells-put_cap : (slot : SlotRef) (filling : Cap) → IsChanged old new slot.holder (put_cap_in slot.index filling) → (e : Entry) → old slot.holder ≡ Some e → slot.index < length e.slots → Tells (with_cap m slot filling) new
+  pub tells-put_cap :
+      (slot : SlotRef) (filling : Cap) → IsChanged old new slot.holder (put_cap_in slot.index filling) → (e : Entry)
+      → old slot.holder ≡ Some e → slot.index < length e.slots → Tells (with_cap m slot filling) new
   tells-put_cap slot filling changed e is within =
       let set : Slot → Slot = λ s. record s { cap = Some filling } in
       let change : Entry → Entry = put_cap_in slot.index filling in
       record {
-        objects = λ q. machine.object_of-with_cap m slot filling q ∙ tells.objects q ∙ sym (part_kept old new slot.holder change changed (λ e. e.object) (λ e. refl) q);
-        queues = λ q. machine.queue_of-with_cap m slot filling q ∙ tells.queues q ∙ sym (part_kept old new slot.holder change changed (λ e. e.queue) (λ e. refl) q);
-        words = λ q. machine.words_of-with_cap m slot filling q ∙ tells.words q ∙ sym (part_kept old new slot.holder change changed (λ e. e.words) (λ e. refl) q);
-        caps = λ q. machine.cap_of-with_cap m slot filling q ∙ ap (cond (same_slot q slot) (Some filling)) (tells.caps q) ∙ sym (slot_set old new slot set changed (λ s. s.cap) filling (λ s. refl) e is within q);
-        parents = λ q. machine.parent_of-with_cap m slot filling q ∙ tells.parents q ∙ sym (slot_kept old new slot set changed (λ s. s.parent) (λ s. refl) q);
+        objects =
+            λ q.
+            machine.object_of-with_cap m slot filling q ∙ tells.objects q
+            ∙ sym (part_kept old new slot.holder change changed (λ e. e.object) (λ e. refl) q);
+        queues =
+            λ q.
+            machine.queue_of-with_cap m slot filling q ∙ tells.queues q
+            ∙ sym (part_kept old new slot.holder change changed (λ e. e.queue) (λ e. refl) q);
+        words =
+            λ q.
+            machine.words_of-with_cap m slot filling q ∙ tells.words q
+            ∙ sym (part_kept old new slot.holder change changed (λ e. e.words) (λ e. refl) q);
+        caps =
+            λ q.
+            machine.cap_of-with_cap m slot filling q ∙ ap (cond (same_slot q slot) (Some filling)) (tells.caps q)
+            ∙ sym (slot_set old new slot set changed (λ s. s.cap) filling (λ s. refl) e is within q);
+        parents =
+            λ q.
+            machine.parent_of-with_cap m slot filling q ∙ tells.parents q
+            ∙ sym (slot_kept old new slot set changed (λ s. s.parent) (λ s. refl) q);
       }
 
-  pub tells-set_parent : (slot parent : SlotRef) → IsChanged old new slot.holder (set_parent_in slot.index parent) → (e : Entry) → old slot.holder ≡ Some e → slot.index < length e.slots → Tells (with_parent m slot parent) new
+  pub tells-set_parent :
+      (slot parent : SlotRef) → IsChanged old new slot.holder (set_parent_in slot.index parent) → (e : Entry)
+      → old slot.holder ≡ Some e → slot.index < length e.slots → Tells (with_parent m slot parent) new
   tells-set_parent slot parent changed e is within =
       let set : Slot → Slot = λ s. record s { parent = Some parent } in
       let change : Entry → Entry = set_parent_in slot.index parent in
       record {
-        objects = λ q. machine.object_of-with_parent m slot parent q ∙ tells.objects q ∙ sym (part_kept old new slot.holder change changed (λ e. e.object) (λ e. refl) q);
-        queues = λ q. machine.queue_of-with_parent m slot parent q ∙ tells.queues q ∙ sym (part_kept old new slot.holder change changed (λ e. e.queue) (λ e. refl) q);
-        words = λ q. machine.words_of-with_parent m slot parent q ∙ tells.words q ∙ sym (part_kept old new slot.holder change changed (λ e. e.words) (λ e. refl) q);
-        caps = λ q. machine.cap_of-with_parent m slot parent q ∙ tells.caps q ∙ sym (slot_kept old new slot set changed (λ s. s.cap) (λ s. refl) q);
-        parents = λ q. machine.parent_of-with_parent m slot parent q ∙ ap (cond (same_slot q slot) (Some parent)) (tells.parents q) ∙ sym (slot_set old new slot set changed (λ s. s.parent) parent (λ s. refl) e is within q);
+        objects =
+            λ q.
+            machine.object_of-with_parent m slot parent q ∙ tells.objects q
+            ∙ sym (part_kept old new slot.holder change changed (λ e. e.object) (λ e. refl) q);
+        queues =
+            λ q.
+            machine.queue_of-with_parent m slot parent q ∙ tells.queues q
+            ∙ sym (part_kept old new slot.holder change changed (λ e. e.queue) (λ e. refl) q);
+        words =
+            λ q.
+            machine.words_of-with_parent m slot parent q ∙ tells.words q
+            ∙ sym (part_kept old new slot.holder change changed (λ e. e.words) (λ e. refl) q);
+        caps =
+            λ q.
+            machine.cap_of-with_parent m slot parent q ∙ tells.caps q
+            ∙ sym (slot_kept old new slot set changed (λ s. s.cap) (λ s. refl) q);
+        parents =
+            λ q.
+            machine.parent_of-with_parent m slot parent q ∙ ap (cond (same_slot q slot) (Some parent)) (tells.parents q)
+            ∙ sym (slot_set old new slot set changed (λ s. s.parent) parent (λ s. refl) e is within q);
       }
 
-  pub tells-replace : (id : ObjId) (object : Object) → IsChanged old new id (replace_in object) → (e : Entry) → old id ≡ Some e → Tells (with_object m id object) new
+  pub tells-replace :
+      (id : ObjId) (object : Object) → IsChanged old new id (replace_in object) → (e : Entry) → old id ≡ Some e
+      → Tells (with_object m id object) new
   tells-replace id object changed e is =
       let change : Entry → Entry = replace_in object in
       record {
-        objects = λ q. machine.object_of-with_object m id object q ∙ ap (cond (same_id q id) (Some object)) (tells.objects q) ∙ sym (part_set old new id change changed (λ e. e.object) e is q);
-        queues = λ q. machine.queue_of-with_object m id object q ∙ tells.queues q ∙ sym (part_kept old new id change changed (λ e. e.queue) (λ e. refl) q);
-        words = λ q. machine.words_of-with_object m id object q ∙ tells.words q ∙ sym (part_kept old new id change changed (λ e. e.words) (λ e. refl) q);
-        caps = λ q. machine.cap_of-with_object m id object q ∙ tells.caps q ∙ sym (reading_kept old new id change changed (λ e. option_and_then (λ s. s.cap) (slice_get e.slots q.index)) (λ e. refl) q.holder);
-        parents = λ q. machine.parent_of-with_object m id object q ∙ tells.parents q ∙ sym (reading_kept old new id change changed (λ e. option_and_then (λ s. s.parent) (slice_get e.slots q.index)) (λ e. refl) q.holder);
+        objects =
+            λ q.
+            machine.object_of-with_object m id object q ∙ ap (cond (same_id q id) (Some object)) (tells.objects q)
+            ∙ sym (part_set old new id change changed (λ e. e.object) e is q);
+        queues =
+            λ q.
+            machine.queue_of-with_object m id object q ∙ tells.queues q
+            ∙ sym (part_kept old new id change changed (λ e. e.queue) (λ e. refl) q);
+        words =
+            λ q.
+            machine.words_of-with_object m id object q ∙ tells.words q
+            ∙ sym (part_kept old new id change changed (λ e. e.words) (λ e. refl) q);
+        caps =
+            λ q.
+            machine.cap_of-with_object m id object q ∙ tells.caps q
+            ∙ sym
+            (reading_kept old new id change changed (λ e. option_and_then (λ s. s.cap) (slice_get e.slots q.index)) (λ e. refl)
+            q.holder);
+        parents =
+            λ q.
+            machine.parent_of-with_object m id object q ∙ tells.parents q
+            ∙ sym
+            (reading_kept old new id change changed (λ e. option_and_then (λ s. s.parent) (slice_get e.slots q.index))
+            (λ e. refl) q.holder);
       }
 
   -- a change that sets the queue alone
-  pub tells-queue : (id : ObjId) (queue : List ObjId → List ObjId) → IsChanged old new id (λ e. record e { queue = queue e.queue }) → (e : Entry) → old id ≡ Some e → Tells (with_queue m id (queue e.queue)) new
+  pub tells-queue :
+      (id : ObjId) (queue : List ObjId → List ObjId) → IsChanged old new id (λ e. record e { queue = queue e.queue })
+      → (e : Entry) → old id ≡ Some e → Tells (with_queue m id (queue e.queue)) new
   tells-queue id queue changed e is =
       let change : Entry → Entry = λ e. record e { queue = queue e.queue } in
       record {
-        objects = λ q. machine.object_of-with_queue m id (queue e.queue) q ∙ tells.objects q ∙ sym (part_kept old new id change changed (λ e. e.object) (λ e. refl) q);
-        queues = λ q. machine.queue_of-with_queue m id (queue e.queue) q ∙ ap (cond (same_id q id) (Some (queue e.queue))) (tells.queues q) ∙ sym (part_set old new id change changed (λ e. e.queue) e is q);
-        words = λ q. machine.words_of-with_queue m id (queue e.queue) q ∙ tells.words q ∙ sym (part_kept old new id change changed (λ e. e.words) (λ e. refl) q);
-        caps = λ q. machine.cap_of-with_queue m id (queue e.queue) q ∙ tells.caps q ∙ sym (reading_kept old new id change changed (λ e. option_and_then (λ s. s.cap) (slice_get e.slots q.index)) (λ e. refl) q.holder);
-        parents = λ q. machine.parent_of-with_queue m id (queue e.queue) q ∙ tells.parents q ∙ sym (reading_kept old new id change changed (λ e. option_and_then (λ s. s.parent) (slice_get e.slots q.index)) (λ e. refl) q.holder);
+        objects =
+            λ q.
+            machine.object_of-with_queue m id (queue e.queue) q ∙ tells.objects q
+            ∙ sym (part_kept old new id change changed (λ e. e.object) (λ e. refl) q);
+        queues =
+            λ q.
+            machine.queue_of-with_queue m id (queue e.queue) q ∙ ap (cond (same_id q id) (Some (queue e.queue))) (tells.queues q)
+            ∙ sym (part_set old new id change changed (λ e. e.queue) e is q);
+        words =
+            λ q.
+            machine.words_of-with_queue m id (queue e.queue) q ∙ tells.words q
+            ∙ sym (part_kept old new id change changed (λ e. e.words) (λ e. refl) q);
+        caps =
+            λ q.
+            machine.cap_of-with_queue m id (queue e.queue) q ∙ tells.caps q
+            ∙ sym
+            (reading_kept old new id change changed (λ e. option_and_then (λ s. s.cap) (slice_get e.slots q.index)) (λ e. refl)
+            q.holder);
+        parents =
+            λ q.
+            machine.parent_of-with_queue m id (queue e.queue) q ∙ tells.parents q
+            ∙ sym
+            (reading_kept old new id change changed (λ e. option_and_then (λ s. s.parent) (slice_get e.slots q.index))
+            (λ e. refl) q.holder);
       }
 
   -- entries that are as they were
@@ -134,21 +240,48 @@ module _ (m : Machine) (old new : ObjId → Option Entry) (tells : Tells m old) 
         parents = λ q. tells.parents q ∙ sym (ap (parent_at q.index) (same q.holder));
       }
 
-  pub tells-new : (object : Object) → ((q : ObjId) → new q ≡ cond (same_id q (record { 0 = m.next })) (Some (new_entry object)) (old q)) → old (record { 0 = m.next }) ≡ None → Tells (with_new m object) new
+  pub tells-new :
+      (object : Object) → ((q : ObjId) → new q ≡ cond (same_id q (record { 0 = m.next })) (Some (new_entry object)) (old q))
+      → old (record { 0 = m.next }) ≡ None → Tells (with_new m object) new
   tells-new object added vacant =
       let id : ObjId = record { 0 = m.next } in
       record {
-        objects = λ q. machine.object_of-with_new m object q ∙ ap (cond (same_id q id) (Some object)) (tells.objects q) ∙ sym (ap object_at (added q) ∙ spread (λ e. e.object) (same_id q id) (old q));
-        queues = λ q. machine.queue_of-with_new m object q ∙ ap (cond (same_id q id) (Some [])) (tells.queues q) ∙ sym (ap queue_at (added q) ∙ spread (λ e. e.queue) (same_id q id) (old q));
-        words = λ q. machine.words_of-with_new m object q ∙ ap (cond (same_id q id) (Some (replicate (word_count object) 0))) (tells.words q) ∙ sym (ap words_at (added q) ∙ spread (λ e. e.words) (same_id q id) (old q));
-        caps = λ q. machine.cap_of-with_new m object q ∙ tells.caps q ∙ sym (ap (cap_at q.index) (added q.holder) ∙ empty (λ s. s.cap) refl q (same_id q.holder id) refl);
-        parents = λ q. machine.parent_of-with_new m object q ∙ tells.parents q ∙ sym (ap (parent_at q.index) (added q.holder) ∙ empty (λ s. s.parent) refl q (same_id q.holder id) refl);
+        objects =
+            λ q.
+            machine.object_of-with_new m object q ∙ ap (cond (same_id q id) (Some object)) (tells.objects q)
+            ∙ sym (ap object_at (added q) ∙ spread (λ e. e.object) (same_id q id) (old q));
+        queues =
+            λ q.
+            machine.queue_of-with_new m object q ∙ ap (cond (same_id q id) (Some [])) (tells.queues q)
+            ∙ sym (ap queue_at (added q) ∙ spread (λ e. e.queue) (same_id q id) (old q));
+        words =
+            λ q.
+            machine.words_of-with_new m object q
+            ∙ ap (cond (same_id q id) (Some (replicate (word_count object) 0))) (tells.words q)
+            ∙ sym (ap words_at (added q) ∙ spread (λ e. e.words) (same_id q id) (old q));
+        caps =
+            λ q.
+            machine.cap_of-with_new m object q ∙ tells.caps q
+            ∙ sym (ap (cap_at q.index) (added q.holder) ∙ empty (λ s. s.cap) refl q (same_id q.holder id) refl);
+        parents =
+            λ q.
+            machine.parent_of-with_new m object q ∙ tells.parents q
+            ∙ sym (ap (parent_at q.index) (added q.holder) ∙ empty (λ s. s.parent) refl q (same_id q.holder id) refl);
       }
     where
-      spread : {A : Type 0} (read : Entry → A) (b : Bool) (o : Option Entry) → option_map read (cond b (Some (new_entry object)) o) ≡ cond b (Some (read (new_entry object))) (option_map read o)
+      spread :
+          {A : Type 0} (read : Entry → A) (b : Bool) (o : Option Entry)
+          → option_map read (cond b (Some (new_entry object)) o) ≡ cond b (Some (read (new_entry object))) (option_map read o)
       spread read true o = refl
       spread read false o = refl
 
-      empty : {A : Type 0} (read : Slot → Option A) → read (record { cap = None; parent = None }) ≡ None → (q : SlotRef) (tie : Bool) → same_id q.holder (record { 0 = m.next }) ≡ tie → read_at read q.index (cond tie (Some (new_entry object)) (old q.holder)) ≡ read_at read q.index (old q.holder)
+      empty :
+          {A : Type 0} (read : Slot → Option A) → read (record { cap = None; parent = None }) ≡ None → (q : SlotRef) (tie : Bool)
+          → same_id q.holder (record { 0 = m.next }) ≡ tie
+          → read_at read q.index (cond tie (Some (new_entry object)) (old q.holder)) ≡ read_at read q.index (old q.holder)
       empty read none q false e = refl
-      empty read none q true e = read_empty read _ none (slot_count object) q.index ∙ sym (ap (read_at read q.index) (subst (λ k. old k ≡ None) (sym (same_from_tie id_total id_apart q.holder (record { 0 = m.next }) e)) vacant))
+      empty read none q true e =
+          read_empty read _ none (slot_count object) q.index
+          ∙ sym
+          (ap (read_at read q.index)
+          (subst (λ k. old k ≡ None) (sym (same_from_tie id_total id_apart q.holder (record { 0 = m.next }) e)) vacant))

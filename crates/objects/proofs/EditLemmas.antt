@@ -9,7 +9,9 @@ module _ {X : Type 0} (change : X → X) where
   edited_past (x ∷ xs) zero past = absurd (past (omega arith))
   edited_past (x ∷ xs) (suc place) past = ap (λ ys. x ∷ ys) (edited_past xs place (λ within. past (omega arith)))
 
-  pub edited_within : (xs : List X) (place : ℕ) (x : X) → x ≡ get_or xs place x → place < length xs → edited change xs place ≡ set xs place (change x)
+  pub edited_within :
+      (xs : List X) (place : ℕ) (x : X) → x ≡ get_or xs place x → place < length xs
+      → edited change xs place ≡ set xs place (change x)
   edited_within [] place x is within = absurd (omega arith)
   edited_within (y ∷ xs) zero x is within = ap (λ z. change z ∷ xs) (sym is)
   edited_within (y ∷ xs) (suc place) x is within = ap (λ ys. y ∷ ys) (edited_within xs place x is (omega arith))
@@ -19,7 +21,8 @@ module _ {X : Type 0} (change : X → X) where
   length_edited (x ∷ xs) zero = refl
   length_edited (x ∷ xs) (suc place) = ap suc (length_edited xs place)
 
-  pub slice_get_edited_same : (xs : List X) (place : ℕ) → slice_get (edited change xs place) place ≡ option_map change (slice_get xs place)
+  pub slice_get_edited_same :
+      (xs : List X) (place : ℕ) → slice_get (edited change xs place) place ≡ option_map change (slice_get xs place)
   slice_get_edited_same [] place = refl
   slice_get_edited_same (x ∷ xs) zero = refl
   slice_get_edited_same (x ∷ xs) (suc place) = slice_get_edited_same xs place

@@ -2,30 +2,26 @@
 use Rattle.std.proofs.Common.{◌≡◌, Bool, true, false, cond, List, [], ◌∷◌, refl, sym, ap, subst, ◌∙◌}
 use Rattle.std.specs.Prelude.{Option, Some, None, IsSome, ◌||◌}
 use Rattle.std.specs.declared.cmp.Ordering.{Ordering}
-use Rattle.std.specs.declared.cmp.Ordering.TheVariants.{Less, Equal, Greater}
 use Rattle.std.specs.Ordering.{eq_by_cmp, is_eq}
-use Rattle.std.specs.Cmp.{IsTotalOrder, tied_itself}
+use Rattle.std.specs.Cmp.{Equal-is, IsTotalOrder, tied_itself}
 use Rattle.std.specs.List.{list_any}
 use Rattle.std.specs.FinMap as map
 use Rattle.std.specs.FinMap.{FinMap, IsAntisymmetric}
 use Rattle.std.proofs.lemmas.Bool.{false≢true}
 use Rattle.objects.specs.Finite.{put_some, tabulate}
 
-equal_from_tie : (r : Ordering) → is_eq r ≡ true → r ≡ Equal
-equal_from_tie Equal tie = refl
-equal_from_tie Less tie = absurd (false≢true tie)
-equal_from_tie Greater tie = absurd (false≢true tie)
-
 module _ {K : Type 0} {R : K → K → Ordering} (total : IsTotalOrder R) (apart : IsAntisymmetric R) where
   -- keys that tie are one
   pub same_from_tie : (q key : K) → eq_by_cmp R q key ≡ true → q ≡ key
-  same_from_tie q key tie = apart q key (equal_from_tie (R q key) tie)
+  same_from_tie q key tie = apart q key ((Equal-is (R q key)).0 tie)
 
   pub ties_itself : (q : K) → eq_by_cmp R q q ≡ true
   ties_itself q = ap is_eq (tied_itself total q)
 
   -- cases on whether two keys are one
-  pub by_key : {X : Type 0} (q key : K) (x same other : X) → (q ≡ key → x ≡ same) → ((q ≡ key → ⊥) → x ≡ other) → x ≡ cond (eq_by_cmp R q key) same other
+  pub by_key :
+      {X : Type 0} (q key : K) (x same other : X) → (q ≡ key → x ≡ same) → ((q ≡ key → ⊥) → x ≡ other)
+      → x ≡ cond (eq_by_cmp R q key) same other
   by_key {X} q key x same other here elsewhere = go (eq_by_cmp R q key) refl where
     go : (tie : Bool) → eq_by_cmp R q key ≡ tie → x ≡ cond tie same other
     go true e = here (same_from_tie q key e)
@@ -41,18 +37,25 @@ module _ {K : Type 0} {R : K → K → Ordering} (total : IsTotalOrder R) (apart
     abbrev table : List K → FinMap R X
     table keys = tabulate {R = R} value keys
 
-    step : (q key : K) (keys : List K) (listed tie : Bool) (o : Option X) → eq_by_cmp R q key ≡ tie → value key ≡ o → map.get (table keys) q ≡ cond listed (value q) None → map.get (put_some (table keys) key o) q ≡ cond (tie || listed) (value q) None
+    step :
+        (q key : K) (keys : List K) (listed tie : Bool) (o : Option X) → eq_by_cmp R q key ≡ tie → value key ≡ o
+        → map.get (table keys) q ≡ cond listed (value q) None
+        → map.get (put_some (table keys) key o) q ≡ cond (tie || listed) (value q) None
     step q key keys listed false None t e rest = rest
     step q key keys listed true None t e rest = rest ∙ nothing listed (ap value (same_from_tie q key t) ∙ e) where
       nothing : (b : Bool) → value q ≡ None → cond b (value q) None ≡ value q
       nothing true none = refl
       nothing false none = sym none
-    step q key keys listed false (Some x) t e rest = map.get-insert total (table keys) key x q ∙ ap (λ b. cond b (Some x) (map.get (table keys) q)) t ∙ rest
-    step q key keys listed true (Some x) t e rest = map.get-insert total (table keys) key x q ∙ ap (λ b. cond b (Some x) (map.get (table keys) q)) t ∙ sym (ap value (same_from_tie q key t) ∙ e)
+    step q key keys listed false (Some x) t e rest =
+        map.get-insert total (table keys) key x q ∙ ap (λ b. cond b (Some x) (map.get (table keys) q)) t ∙ rest
+    step q key keys listed true (Some x) t e rest =
+        map.get-insert total (table keys) key x q ∙ ap (λ b. cond b (Some x) (map.get (table keys) q)) t
+        ∙ sym (ap value (same_from_tie q key t) ∙ e)
 
     got_where : (q : K) (keys : List K) → map.get (table keys) q ≡ cond (list_any (eq_by_cmp R q) keys) (value q) None
     got_where q [] = map.get-empty R q
-    got_where q (key ∷ keys) = step q key keys (list_any (eq_by_cmp R q) keys) (eq_by_cmp R q key) (value key) refl refl (got_where q keys)
+    got_where q (key ∷ keys) =
+        step q key keys (list_any (eq_by_cmp R q) keys) (eq_by_cmp R q key) (value key) refl refl (got_where q keys)
 
     by_value : (q : K) (listed : Bool) (o : Option X) → (IsSome o → listed ≡ true) → cond listed o None ≡ o
     by_value q true o some = refl
@@ -60,5 +63,6 @@ module _ {K : Type 0} {R : K → K → Ordering} (total : IsTotalOrder R) (apart
     by_value q false (Some x) some = absurd (false≢true (some refl))
 
     -- where each key with a value is listed, the table answers as the function
-    pub get-tabulate : (keys : List K) (q : K) → (IsSome (value q) → list_any (eq_by_cmp R q) keys ≡ true) → map.get (table keys) q ≡ value q
+    pub get-tabulate :
+        (keys : List K) (q : K) → (IsSome (value q) → list_any (eq_by_cmp R q) keys ≡ true) → map.get (table keys) q ≡ value q
     get-tabulate keys q listed = got_where q keys ∙ by_value q (list_any (eq_by_cmp R q) keys) (value q) listed

@@ -1,10 +1,11 @@
--- How a state's entries and the machine that contracts see go together: what the machine answers, and what each change makes of it.
-use Rattle.std.proofs.Common.{◌≡◌, ℕ, zero, suc, ◌+◌, ◌<◌, ◌≤◌, List, [], ◌∷◌, Bool, true, false, cond, length, map, refl, sym, ap, subst, ◌∙◌, arith}
+-- How a state's entries and the machine that contracts see go together: what the machine answers, and what each change makes of
+-- it.
+use Rattle.std.proofs.Common.{◌≡◌, ℕ, zero, suc, ◌+◌, ◌<◌, ◌≤◌, List, [], ◌∷◌, Bool, true, false, cond, length, map, refl, sym}
+use Rattle.std.proofs.Common.{ap, subst, ◌∙◌, arith, inl, inr}
 use Rattle.std.specs.Prelude.{Option, Some, None, is_some, IsSome, option_map, option_and_then, slice_get, ◌||◌}
 use Rattle.std.specs.List.{list_any, flat_map, range_with_len}
 use Rattle.std.proofs.lemmas.List.Folds.{list_any-append}
 use Rattle.std.proofs.lemmas.Bool.{false≢true, cases_eq, or_left, or_right, or_cases}
-use Rattle.std.proofs.Common.{inl, inr}
 use Rattle.std.specs.Ordering.{nat_cmp}
 use Rattle.std.specs.BTreeMap as tree
 use Rattle.std.specs.BTreeMap.{BTreeMap}
@@ -15,7 +16,8 @@ use Rattle.base.specs.declared.ids.ObjId.{ObjId}
 use Rattle.base.specs.declared.ids.SlotRef.{SlotRef}
 use Rattle.machine.specs.declared.cap.Cap.{Cap}
 use Rattle.machine.specs.declared.object.Object.{Object}
-use Rattle.machine.specs.Machine.{Machine, same_id, same_slot, id_total, id_apart, slot_total, slot_apart, object_of, queue_of, words_of, cap_of, parent_of, same_machine}
+use Rattle.machine.specs.Machine.{Machine, same_id, same_slot, id_total, id_apart, slot_total, slot_apart, object_of, queue_of}
+use Rattle.machine.specs.Machine.{words_of, cap_of, parent_of, same_machine}
 use Rattle.objects.specs.declared.entry.Entry.{Entry}
 use Rattle.objects.specs.declared.slots.Slot.{Slot}
 use Rattle.objects.specs.declared.state.State.TheInside.{Inside}
@@ -50,11 +52,14 @@ pub record Tells (m : Machine) (entry : ObjId → Option Entry) : Type 0 where
 -- machines of which the same entries tell are one
 pub same_from_tells : (m n : Machine) (entry : ObjId → Option Entry) → Tells m entry → Tells n entry → m.next ≡ n.next → m ≡ n
 same_from_tells m n entry a b next =
-    same_machine m n (λ q. a.objects q ∙ sym (b.objects q)) (λ q. a.queues q ∙ sym (b.queues q)) (λ q. a.words q ∙ sym (b.words q)) (λ q. a.caps q ∙ sym (b.caps q)) (λ q. a.parents q ∙ sym (b.parents q)) next
+    same_machine m n (λ q. a.objects q ∙ sym (b.objects q)) (λ q. a.queues q ∙ sym (b.queues q))
+    (λ q. a.words q ∙ sym (b.words q)) (λ q. a.caps q ∙ sym (b.caps q)) (λ q. a.parents q ∙ sym (b.parents q)) next
 
 -- each slot with an entry is listed
 
-any-from_tie : (p r : ObjId → Bool) → ((x : ObjId) → p x ≡ true → r x ≡ true) → (xs : List ObjId) → list_any p xs ≡ true → list_any r xs ≡ true
+any-from_tie :
+    (p r : ObjId → Bool) → ((x : ObjId) → p x ≡ true → r x ≡ true) → (xs : List ObjId) → list_any p xs ≡ true
+    → list_any r xs ≡ true
 any-from_tie p r gives [] any = any
 any-from_tie p r gives (x ∷ xs) any =
     elim (or_cases (p x) (list_any p xs) any) [
@@ -62,42 +67,74 @@ any-from_tie p r gives (x ∷ xs) any =
       | inr later ↦ or_right (r x) _ (any-from_tie p r gives xs later)
     ]
 
-any-flat_map : {X Y : Type 0} (p : Y → Bool) (f : X → List Y) (xs : List X) → list_any p (flat_map f xs) ≡ list_any (λ x. list_any p (f x)) xs
+any-flat_map :
+    {X Y : Type 0} (p : Y → Bool) (f : X → List Y) (xs : List X)
+    → list_any p (flat_map f xs) ≡ list_any (λ x. list_any p (f x)) xs
 any-flat_map p f [] = refl
 any-flat_map p f (x ∷ xs) = list_any-append p (f x) (flat_map f xs) ∙ ap (λ b. list_any p (f x) || b) (any-flat_map p f xs)
 
-any-in_range : (q : SlotRef) (from count : ℕ) → from ≤ q.index → q.index < from + count → list_any (same_slot q) (map (λ index. record { holder = q.holder; index = index }) (range_with_len from count)) ≡ true
+any-in_range :
+    (q : SlotRef) (from count : ℕ) → from ≤ q.index → q.index < from + count
+    → list_any (same_slot q) (map (λ index. record { holder = q.holder; index = index }) (range_with_len from count)) ≡ true
 any-in_range q from zero low high = absurd (omega arith)
 any-in_range q from (suc count) low high =
     elim (cases_eq q.index from) [
-      | inl same ↦ or_left _ _ (subst (λ k. same_slot q (record { holder = q.holder; index = k }) ≡ true) same (ties_itself slot_total slot_apart q))
+      | inl same ↦
+          or_left _ _
+          (subst (λ k. same_slot q (record { holder = q.holder; index = k }) ≡ true) same (ties_itself slot_total slot_apart q))
       | inr differs ↦ or_right _ _ (any-in_range q (from + 1) count (omega arith) (omega arith))
     ]
 
-any-number : (q : ObjId) (es : List (ℕ × ℕ)) → is_some (lookup (tree.is_at (nat_cmp q.0)) es) ≡ list_any (same_id q) (map (λ number. record { 0 = number }) (map (λ e. e.0) es))
+any-number :
+    (q : ObjId) (es : List (ℕ × ℕ))
+    → is_some (lookup (tree.is_at (nat_cmp q.0)) es)
+    ≡ list_any (same_id q) (map (λ number. record { 0 = number }) (map (λ e. e.0) es))
 any-number q [] = refl
-any-number q (e ∷ es) = elim (tree.is_at (nat_cmp q.0) e.0) as (λ tie. is_some (cond tie (Some e.1) (lookup (tree.is_at (nat_cmp q.0)) es)) ≡ (tie || list_any (same_id q) (map (λ number. record { 0 = number }) (map (λ e. e.0) es)))) [ true ↦ refl | false ↦ any-number q es ]
+any-number q (e ∷ es) =
+    elim (tree.is_at (nat_cmp q.0) e.0) as
+    (λ tie.
+    is_some (cond tie (Some e.1) (lookup (tree.is_at (nat_cmp q.0)) es))
+    ≡ (tie || list_any (same_id q) (map (λ number. record { 0 = number }) (map (λ e. e.0) es))))
+    [ true ↦ refl | false ↦ any-number q es ]
 
-listed : (places : BTreeMap ℕ ℕ) (entries : Slab Entry) (q : ObjId) → IsSome (entry_of places entries q) → list_any (same_id q) (map (λ number. record { 0 = number }) (tree.keys places)) ≡ true
+listed :
+    (places : BTreeMap ℕ ℕ) (entries : Slab Entry) (q : ObjId) → IsSome (entry_of places entries q)
+    → list_any (same_id q) (map (λ number. record { 0 = number }) (tree.keys places)) ≡ true
 listed places entries q some = sym (any-number q places.entries) ∙ placed (place_of places q) some where
   placed : (o : Option ℕ) → IsSome (option_and_then (slab.get entries) o) → is_some o ≡ true
   placed None some = some
   placed (Some place) some = refl
 
-slot_listed : (entry : ObjId → Option Entry) (ids : List ObjId) → ((q : ObjId) → IsSome (entry q) → list_any (same_id q) ids ≡ true) → (q : SlotRef) (e : Entry) → entry q.holder ≡ Some e → q.index < length e.slots → list_any (same_slot q) (flat_map (λ id. slots_of id (entry id)) ids) ≡ true
+slot_listed :
+    (entry : ObjId → Option Entry) (ids : List ObjId) → ((q : ObjId) → IsSome (entry q) → list_any (same_id q) ids ≡ true)
+    → (q : SlotRef) (e : Entry) → entry q.holder ≡ Some e → q.index < length e.slots
+    → list_any (same_slot q) (flat_map (λ id. slots_of id (entry id)) ids) ≡ true
 slot_listed entry ids all q e is within =
-    let here : list_any (same_slot q) (slots_of q.holder (entry q.holder)) ≡ true = rw is (any-in_range q 0 (length e.slots) (omega arith) (omega arith)) in
+    let here : list_any (same_slot q) (slots_of q.holder (entry q.holder)) ≡ true =
+    rw is (any-in_range q 0 (length e.slots) (omega arith) (omega arith)) in
     any-flat_map (same_slot q) (λ id. slots_of id (entry id)) ids
-    ∙ any-from_tie (same_id q.holder) (λ id. list_any (same_slot q) (slots_of id (entry id))) (λ x tie. subst (λ k. list_any (same_slot q) (slots_of k (entry k)) ≡ true) (same_from_tie id_total id_apart q.holder x tie) here) ids (all q.holder (ap is_some is))
+    ∙ any-from_tie (same_id q.holder) (λ id. list_any (same_slot q) (slots_of id (entry id)))
+    (λ x tie.
+    subst (λ k. list_any (same_slot q) (slots_of k (entry k)) ≡ true) (same_from_tie id_total id_apart q.holder x tie) here)
+    ids (all q.holder (ap is_some is))
 
-some_within : {A : Type 0} (read : Slot → Option A) (slots : List Slot) (index : ℕ) → IsSome (option_and_then read (slice_get slots index)) → index < length slots
+some_within :
+    {A : Type 0} (read : Slot → Option A) (slots : List Slot) (index : ℕ) → IsSome (option_and_then read (slice_get slots index))
+    → index < length slots
 some_within read [] index some = absurd (false≢true some)
 some_within read (slot ∷ slots) zero some = omega arith
-some_within read (slot ∷ slots) (suc index) some = let within : index < length slots = some_within read slots index some in omega arith
+some_within read (slot ∷ slots) (suc index) some =
+    let within : index < length slots = some_within read slots index some in omega arith
 
-some_slot : {A : Type 0} (read : Slot → Option A) (entry : ObjId → Option Entry) (ids : List ObjId) → ((q : ObjId) → IsSome (entry q) → list_any (same_id q) ids ≡ true) → (q : SlotRef) → IsSome (option_and_then (λ e. option_and_then read (slice_get e.slots q.index)) (entry q.holder)) → list_any (same_slot q) (flat_map (λ id. slots_of id (entry id)) ids) ≡ true
+some_slot :
+    {A : Type 0} (read : Slot → Option A) (entry : ObjId → Option Entry) (ids : List ObjId)
+    → ((q : ObjId) → IsSome (entry q) → list_any (same_id q) ids ≡ true) → (q : SlotRef)
+    → IsSome (option_and_then (λ e. option_and_then read (slice_get e.slots q.index)) (entry q.holder))
+    → list_any (same_slot q) (flat_map (λ id. slots_of id (entry id)) ids) ≡ true
 some_slot read entry ids all q some = by_entry (entry q.holder) refl some where
-  by_entry : (o : Option Entry) → entry q.holder ≡ o → IsSome (option_and_then (λ e. option_and_then read (slice_get e.slots q.index)) o) → list_any (same_slot q) (flat_map (λ id. slots_of id (entry id)) ids) ≡ true
+  by_entry :
+      (o : Option Entry) → entry q.holder ≡ o → IsSome (option_and_then (λ e. option_and_then read (slice_get e.slots q.index)) o)
+      → list_any (same_slot q) (flat_map (λ id. slots_of id (entry id)) ids) ≡ true
   by_entry None is some = absurd (false≢true some)
   by_entry (Some e) is some = slot_listed entry ids all q e is (some_within read e.slots q.index some)
 
@@ -105,21 +142,40 @@ is_some-option_map : {A B : Type 0} (f : A → B) (o : Option A) → is_some (op
 is_some-option_map f None = refl
 is_some-option_map f (Some x) = refl
 
-tells-machine_from : (entry : ObjId → Option Entry) (ids : List ObjId) (next : ℕ) → ((q : ObjId) → IsSome (entry q) → list_any (same_id q) ids ≡ true) → Tells (machine_from entry ids next) entry
+tells-machine_from :
+    (entry : ObjId → Option Entry) (ids : List ObjId) (next : ℕ)
+    → ((q : ObjId) → IsSome (entry q) → list_any (same_id q) ids ≡ true) → Tells (machine_from entry ids next) entry
 unfolding object_of queue_of words_of cap_of parent_of
 tells-machine_from entry ids next all =
     let slots : List SlotRef = flat_map (λ id. slots_of id (entry id)) ids in
     record {
-      objects = λ q. get-tabulate id_total id_apart (λ id. object_at (entry id)) ids q (λ some. all q (sym (is_some-option_map _ (entry q)) ∙ some));
-      queues = λ q. get-tabulate id_total id_apart (λ id. queue_at (entry id)) ids q (λ some. all q (sym (is_some-option_map _ (entry q)) ∙ some));
-      words = λ q. get-tabulate id_total id_apart (λ id. words_at (entry id)) ids q (λ some. all q (sym (is_some-option_map _ (entry q)) ∙ some));
-      caps = λ q. get-tabulate slot_total slot_apart (λ slot. cap_at slot.index (entry slot.holder)) slots q (some_slot (λ slot. slot.cap) entry ids all q);
-      parents = λ q. get-tabulate slot_total slot_apart (λ slot. parent_at slot.index (entry slot.holder)) slots q (some_slot (λ slot. slot.parent) entry ids all q);
+      objects =
+          λ q.
+          get-tabulate id_total id_apart (λ id. object_at (entry id)) ids q
+          (λ some. all q (sym (is_some-option_map _ (entry q)) ∙ some));
+      queues =
+          λ q.
+          get-tabulate id_total id_apart (λ id. queue_at (entry id)) ids q
+          (λ some. all q (sym (is_some-option_map _ (entry q)) ∙ some));
+      words =
+          λ q.
+          get-tabulate id_total id_apart (λ id. words_at (entry id)) ids q
+          (λ some. all q (sym (is_some-option_map _ (entry q)) ∙ some));
+      caps =
+          λ q.
+          get-tabulate slot_total slot_apart (λ slot. cap_at slot.index (entry slot.holder)) slots q
+          (some_slot (λ slot. slot.cap) entry ids all q);
+      parents =
+          λ q.
+          get-tabulate slot_total slot_apart (λ slot. parent_at slot.index (entry slot.holder)) slots q
+          (some_slot (λ slot. slot.parent) entry ids all q);
     }
 
 pub tells-machine_of : (s : Inside) → Tells (machine_of s) (entry_of s.places s.entries)
 unfolding machine_of
-tells-machine_of s = tells-machine_from (entry_of s.places s.entries) (map (λ number. record { 0 = number }) (tree.keys s.places)) s.next (listed s.places s.entries)
+tells-machine_of s =
+    tells-machine_from (entry_of s.places s.entries) (map (λ number. record { 0 = number }) (tree.keys s.places)) s.next
+    (listed s.places s.entries)
 
 pub next-machine_of : (s : Inside) → (machine_of s).next ≡ s.next
 unfolding machine_of

@@ -40,7 +40,8 @@ abbrev pub put_cap_in : ℕ → Cap → Entry → Entry
 put_cap_in index filling entry = record entry { slots = edited (λ slot. record slot { cap = Some filling }) entry.slots index }
 
 abbrev pub set_parent_in : ℕ → SlotRef → Entry → Entry
-set_parent_in index parent entry = record entry { slots = edited (λ slot. record slot { parent = Some parent }) entry.slots index }
+set_parent_in index parent entry =
+    record entry { slots = edited (λ slot. record slot { parent = Some parent }) entry.slots index }
 
 abbrev pub replace_in : Object → Entry → Entry
 replace_in object entry = record entry { object = object }
@@ -54,7 +55,12 @@ pop_in entry = record entry { queue = drop 1 entry.queue }
 -- the entry of a new object: its slots are empty, nobody waits at it, and its words are zero
 abbrev pub new_entry : Object → Entry
 new_entry object =
-    record { object = object; slots = replicate (slot_count object) (record { cap = None; parent = None }); queue = []; words = replicate (word_count object) 0 }
+    record {
+      object = object;
+      slots = replicate (slot_count object) (record { cap = None; parent = None });
+      queue = [];
+      words = replicate (word_count object) 0;
+    }
 
 -- what a slot of an entry holds
 abbrev pub cap_in : Entry → ℕ → Option Cap

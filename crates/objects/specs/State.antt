@@ -1,5 +1,6 @@
 -- What contracts see of a `State`, and what is true of each.
-use Rattle.std.specs.Prelude.{◌≡◌, ℕ, ◌<◌, ◌≤◌, ◌^◌, List, [], map, length, Option, Some, None, IsSome, option_map, option_and_then}
+use Rattle.std.specs.Prelude.{◌≡◌, ℕ, ◌<◌, ◌≤◌, ◌^◌, List, [], map, length, Option, Some, None, IsSome, option_map}
+use Rattle.std.specs.Prelude.{option_and_then}
 use Rattle.std.specs.List.{flat_map, range_with_len}
 use Rattle.std.specs.Ordering.{nat_cmp}
 use Rattle.std.specs.BTreeMap as tree
@@ -40,8 +41,8 @@ machine_of s = machine_from (entry_of s.places s.entries) (map (λ number. recor
 abbrev pub IsSized : Entry → Type 0
 IsSized entry = (length entry.slots ≡ slot_count entry.object) × HasRadix entry.object
 
--- each number in use has a place of its own with an entry and is below the next one, its object has as many slots as it should, and a
--- CNode has a radix
+-- each number in use has a place of its own with an entry and is below the next one, its object has as many slots as it should,
+-- and a CNode has a radix
 pub record IsSound (s : Inside) : Type 0 where
   pub apart : (a b place : ℕ) → tree.get nat_cmp s.places a ≡ Some place → tree.get nat_cmp s.places b ≡ Some place → a ≡ b
   pub held : (a place : ℕ) → tree.get nat_cmp s.places a ≡ Some place → IsSome (slab.get s.entries place)

@@ -40,8 +40,10 @@ impl State {
     ghost use Rattle.base.specs.declared.ids.ObjId.{ObjId as Id};
     ghost use Rattle.machine.specs.declared.object.CNode.{CNode};
     ghost use Rattle.machine.specs.declared.object.Object.TheVariants as o;
-    ghost use Rattle.std.specs.Prelude.{◌≡◌, ◌<◌, ◌≤◌, ◌^◌, IsTrue, IfOk, OnErr, OnOk, option_copied, option_and_then, slice_get, IsSome, IfSome};
-    ghost use Rattle.machine.specs.Machine.{empty_machine, object_of, cap_of, parent_of, words_of, has_slot, with_new, with_cap, with_parent, with_object};
+    ghost use Rattle.std.specs.Prelude.{◌≡◌, ◌<◌, ◌≤◌, ◌^◌, IsTrue, IfOk, OnErr, OnOk, option_copied, option_and_then, slice_get};
+    ghost use Rattle.std.specs.Prelude.{IsSome, IfSome};
+    ghost use Rattle.machine.specs.Machine.{empty_machine, object_of, cap_of, parent_of, words_of, has_slot, with_new, with_cap};
+    ghost use Rattle.machine.specs.Machine.{with_parent, with_object};
     ghost use Rattle.machine.specs.Objects.{slot_count};
     ghost use Rattle.machine.specs.Changes.{first_waiting, with_pending, with_tcb, with_context, with_waiting, without_first};
 
@@ -69,6 +71,7 @@ impl State {
         ensures { (id : Id) (node : CNode) → object_of self.now id ≡ Some (o.CNode node)
             → (0 < node.radix) × (node.radix ≤ 12) }
     {
+        // Reading a field makes known what the type keeps.
         let _ = &self.next;
     }
 

@@ -1,7 +1,8 @@
 //! The entry of an object, found by its number: a map from numbers to places, and the entries at
 //! these.
 ghost use Rattle.std.specs.Prelude.{◌≡◌, option_copied, option_map, option_and_then, slice_get, OnOk, OnErr};
-ghost use Rattle.objects.specs.Entries.{entry_of, cap_in, parent_in, with_entry, put_cap_in, set_parent_in, replace_in, push_in, pop_in, new_entry, AddsEntry, SameEntries};
+ghost use Rattle.objects.specs.Entries.{entry_of, cap_in, parent_in, with_entry, put_cap_in, set_parent_in, replace_in, push_in};
+ghost use Rattle.objects.specs.Entries.{pop_in, new_entry, AddsEntry, SameEntries};
 
 use crate::entry::Entry;
 use crate::queue::Queue;

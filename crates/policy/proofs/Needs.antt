@@ -27,7 +27,11 @@ no_domain_agrees : (test : EdgeTest) → Lacks test Space → Lacks test Control
 no_domain_agrees test space control a b domain kind of_use to = absurd (outside test space control a b domain)
 
 no_control : (test : EdgeTest) → Lacks test Control → ControlGivesAll test
-no_control test lacks = record { space = λ a b e. absurd (not_both e (lacks a b)); kinds = λ a b e kind of_use other. absurd (not_both e (lacks a b)) }
+no_control test lacks =
+    record {
+      space = λ a b e. absurd (not_both e (lacks a b));
+      kinds = λ a b e kind of_use other. absurd (not_both e (lacks a b));
+    }
 
 no_grant : (test : EdgeTest) → Lacks test Grant → GrantShares test
 no_grant test lacks a b may kind of_use to e = absurd (not_both may.grants (lacks a may.endpoint))
@@ -45,7 +49,11 @@ no_context : (test : EdgeTest) → Lacks test Context → ContextRuns test
 no_context test lacks a s e = absurd (not_both e (lacks a s))
 
 no_reply : (test : EdgeTest) → Lacks test Reply → ReplyHolds test
-no_reply test lacks = record { server = λ b r e. absurd (not_both e (lacks b r)); caller = λ b r c endpoint e calls receives. absurd (not_both e (lacks b r)) }
+no_reply test lacks =
+    record {
+      server = λ b r e. absurd (not_both e (lacks b r));
+      caller = λ b r c endpoint e calls receives. absurd (not_both e (lacks b r));
+    }
 
 -- the policies
 
@@ -57,15 +65,16 @@ apart a Derive to = true
 apart a _ to = false
 
 breaks_subjects : BreaksOnly subjects_agree
-breaks_subjects = record { test = apart; others = others; broken = λ agree. false≢true (sym (agree 0 1 (inl refl) Reset refl 0)) } where
-  others : (other : Rule) → other ≢ subjects_agree → Obeys apart other
-  others subjects_agree differ = absurd (differ refl)
-  others control_gives_all differ = no_control apart (λ a b. refl)
-  others grant_shares differ = no_grant apart (λ a b. refl)
-  others derive_in_domain differ = all_derive apart (λ a b. refl)
-  others derive_by_grant differ = all_derive_by_grant apart (λ a b. refl)
-  others context_runs differ = no_context apart (λ a b. refl)
-  others reply_holds differ = no_reply apart (λ a b. refl)
+breaks_subjects =
+    record { test = apart; others = others; broken = λ agree. false≢true (sym (agree 0 1 (inl refl) Reset refl 0)) } where
+      others : (other : Rule) → other ≢ subjects_agree → Obeys apart other
+      others subjects_agree differ = absurd (differ refl)
+      others control_gives_all differ = no_control apart (λ a b. refl)
+      others grant_shares differ = no_grant apart (λ a b. refl)
+      others derive_in_domain differ = all_derive apart (λ a b. refl)
+      others derive_by_grant differ = all_derive_by_grant apart (λ a b. refl)
+      others context_runs differ = no_context apart (λ a b. refl)
+      others reply_holds differ = no_reply apart (λ a b. refl)
 
 -- control gives space and nothing else
 abbrev weak_control : EdgeTest
@@ -81,15 +90,20 @@ weak_agrees a b domain Derive of_use to = refl
 weak_agrees a b domain _ of_use to = refl
 
 breaks_control : BreaksOnly control_gives_all
-breaks_control = record { test = weak_control; others = others; broken = λ gives. false≢true (gives.kinds 0 0 refl Reset refl (λ e. cc)) } where
-  others : (other : Rule) → other ≢ control_gives_all → Obeys weak_control other
-  others subjects_agree differ = weak_agrees
-  others control_gives_all differ = absurd (differ refl)
-  others grant_shares differ = no_grant weak_control (λ a b. refl)
-  others derive_in_domain differ = all_derive weak_control (λ a b. refl)
-  others derive_by_grant differ = all_derive_by_grant weak_control (λ a b. refl)
-  others context_runs differ = no_context weak_control (λ a b. refl)
-  others reply_holds differ = no_reply weak_control (λ a b. refl)
+breaks_control =
+    record {
+      test = weak_control;
+      others = others;
+      broken = λ gives. false≢true (gives.kinds 0 0 refl Reset refl (λ e. cc));
+    } where
+      others : (other : Rule) → other ≢ control_gives_all → Obeys weak_control other
+      others subjects_agree differ = weak_agrees
+      others control_gives_all differ = absurd (differ refl)
+      others grant_shares differ = no_grant weak_control (λ a b. refl)
+      others derive_in_domain differ = all_derive weak_control (λ a b. refl)
+      others derive_by_grant differ = all_derive_by_grant weak_control (λ a b. refl)
+      others context_runs differ = no_context weak_control (λ a b. refl)
+      others reply_holds differ = no_reply weak_control (λ a b. refl)
 
 -- all grant to all, and one may do what the others may not
 abbrev unshared : EdgeTest
@@ -99,16 +113,24 @@ unshared a Reset to = a == 0
 unshared a _ to = false
 
 breaks_grant : BreaksOnly grant_shares
-breaks_grant = record { test = unshared; others = others; broken = λ shares. false≢true (shares 0 1 (record { endpoint = 0; grants = refl; receives = refl }) Reset refl 0 refl) } where
-  others : (other : Rule) → other ≢ grant_shares → Obeys unshared other
-  others subjects_agree differ = no_domain_agrees unshared (λ a b. refl) (λ a b. refl)
-  others control_gives_all differ = no_control unshared (λ a b. refl)
-  others grant_shares differ = absurd (differ refl)
-  others derive_in_domain differ = no_domain_derives unshared (λ a b. refl) (λ a b. refl)
-  others derive_by_grant differ =
-      record { granted = λ a b x y may one other. absurd (outside unshared (λ c d. refl) (λ c d. refl) a x one); derived = λ x y z one other. absurd (false≢true one) }
-  others context_runs differ = no_context unshared (λ a b. refl)
-  others reply_holds differ = no_reply unshared (λ a b. refl)
+breaks_grant =
+    record {
+      test = unshared;
+      others = others;
+      broken = λ shares. false≢true (shares 0 1 (record { endpoint = 0; grants = refl; receives = refl }) Reset refl 0 refl);
+    } where
+      others : (other : Rule) → other ≢ grant_shares → Obeys unshared other
+      others subjects_agree differ = no_domain_agrees unshared (λ a b. refl) (λ a b. refl)
+      others control_gives_all differ = no_control unshared (λ a b. refl)
+      others grant_shares differ = absurd (differ refl)
+      others derive_in_domain differ = no_domain_derives unshared (λ a b. refl) (λ a b. refl)
+      others derive_by_grant differ =
+          record {
+            granted = λ a b x y may one other. absurd (outside unshared (λ c d. refl) (λ c d. refl) a x one);
+            derived = λ x y z one other. absurd (false≢true one);
+          }
+      others context_runs differ = no_context unshared (λ a b. refl)
+      others reply_holds differ = no_reply unshared (λ a b. refl)
 
 -- all are in one domain, and nothing may be derived
 abbrev underived : EdgeTest
@@ -120,15 +142,20 @@ underived_agrees a b domain Space of_use to = refl
 underived_agrees a b domain _ of_use to = refl
 
 breaks_derive : BreaksOnly derive_in_domain
-breaks_derive = record { test = underived; others = others; broken = λ derives. false≢true (derives 0 0 0 (inl refl) (inl refl)) } where
-  others : (other : Rule) → other ≢ derive_in_domain → Obeys underived other
-  others subjects_agree differ = underived_agrees
-  others control_gives_all differ = no_control underived (λ a b. refl)
-  others grant_shares differ = no_grant underived (λ a b. refl)
-  others derive_in_domain differ = absurd (differ refl)
-  others derive_by_grant differ = record { granted = λ a b x y may one other. absurd (false≢true may.grants); derived = λ x y z one other. absurd (false≢true one) }
-  others context_runs differ = no_context underived (λ a b. refl)
-  others reply_holds differ = no_reply underived (λ a b. refl)
+breaks_derive =
+    record { test = underived; others = others; broken = λ derives. false≢true (derives 0 0 0 (inl refl) (inl refl)) } where
+      others : (other : Rule) → other ≢ derive_in_domain → Obeys underived other
+      others subjects_agree differ = underived_agrees
+      others control_gives_all differ = no_control underived (λ a b. refl)
+      others grant_shares differ = no_grant underived (λ a b. refl)
+      others derive_in_domain differ = absurd (differ refl)
+      others derive_by_grant differ =
+          record {
+            granted = λ a b x y may one other. absurd (false≢true may.grants);
+            derived = λ x y z one other. absurd (false≢true one);
+          }
+      others context_runs differ = no_context underived (λ a b. refl)
+      others reply_holds differ = no_reply underived (λ a b. refl)
 
 -- two steps of derivation, and not both in one
 abbrev no_chain : EdgeTest
@@ -136,15 +163,16 @@ no_chain a Derive to = to == a + 1
 no_chain a _ to = false
 
 breaks_derive_by_grant : BreaksOnly derive_by_grant
-breaks_derive_by_grant = record { test = no_chain; others = others; broken = λ derives. false≢true (derives.derived 0 1 2 refl refl) } where
-  others : (other : Rule) → other ≢ derive_by_grant → Obeys no_chain other
-  others subjects_agree differ = no_domain_agrees no_chain (λ a b. refl) (λ a b. refl)
-  others control_gives_all differ = no_control no_chain (λ a b. refl)
-  others grant_shares differ = no_grant no_chain (λ a b. refl)
-  others derive_in_domain differ = no_domain_derives no_chain (λ a b. refl) (λ a b. refl)
-  others derive_by_grant differ = absurd (differ refl)
-  others context_runs differ = no_context no_chain (λ a b. refl)
-  others reply_holds differ = no_reply no_chain (λ a b. refl)
+breaks_derive_by_grant =
+    record { test = no_chain; others = others; broken = λ derives. false≢true (derives.derived 0 1 2 refl refl) } where
+      others : (other : Rule) → other ≢ derive_by_grant → Obeys no_chain other
+      others subjects_agree differ = no_domain_agrees no_chain (λ a b. refl) (λ a b. refl)
+      others control_gives_all differ = no_control no_chain (λ a b. refl)
+      others grant_shares differ = no_grant no_chain (λ a b. refl)
+      others derive_in_domain differ = no_domain_derives no_chain (λ a b. refl) (λ a b. refl)
+      others derive_by_grant differ = absurd (differ refl)
+      others context_runs differ = no_context no_chain (λ a b. refl)
+      others reply_holds differ = no_reply no_chain (λ a b. refl)
 
 -- contexts that nobody may run on
 abbrev unrunnable : EdgeTest
@@ -158,7 +186,11 @@ breaks_context = record { test = unrunnable; others = others; broken = λ runs. 
   others control_gives_all differ = no_control unrunnable (λ a b. refl)
   others grant_shares differ = no_grant unrunnable (λ a b. refl)
   others derive_in_domain differ = no_domain_derives unrunnable (λ a b. refl) (λ a b. refl)
-  others derive_by_grant differ = record { granted = λ a b x y may one other. absurd (false≢true may.grants); derived = λ x y z one other. absurd (false≢true one) }
+  others derive_by_grant differ =
+      record {
+        granted = λ a b x y may one other. absurd (false≢true may.grants);
+        derived = λ x y z one other. absurd (false≢true one);
+      }
   others context_runs differ = absurd (differ refl)
   others reply_holds differ = no_reply unrunnable (λ a b. refl)
 
@@ -174,7 +206,11 @@ breaks_reply = record { test = unheld; others = others; broken = λ holds. false
   others control_gives_all differ = no_control unheld (λ a b. refl)
   others grant_shares differ = no_grant unheld (λ a b. refl)
   others derive_in_domain differ = no_domain_derives unheld (λ a b. refl) (λ a b. refl)
-  others derive_by_grant differ = record { granted = λ a b x y may one other. absurd (false≢true may.grants); derived = λ x y z one other. absurd (false≢true one) }
+  others derive_by_grant differ =
+      record {
+        granted = λ a b x y may one other. absurd (false≢true may.grants);
+        derived = λ x y z one other. absurd (false≢true one);
+      }
   others context_runs differ = no_context unheld (λ a b. refl)
   others reply_holds differ = absurd (differ refl)
 

@@ -18,10 +18,12 @@ use Rattle.policy.specs.Policy.{edge_cmp, is_edge}
 
 pub edge_total : IsTotalOrder edge_cmp
 edge_total =
-    then_total (on_total (λ edge. edge.from) nat_cmp_total) (then_total (on_total (λ edge. kind_number edge.kind) nat_cmp_total) (on_total (λ edge. edge.to) nat_cmp_total))
+    then_total (on_total (λ edge. edge.from) nat_cmp_total)
+    (then_total (on_total (λ edge. kind_number edge.kind) nat_cmp_total) (on_total (λ edge. edge.to) nat_cmp_total))
 
 -- what holds of each kind holds of any
-of_each : (P : Kind → Type 0) → P Control → P Reset → P Send → P Receive → P Grant → P Call → P Notify → P Await → P Read → P Write → P Reply → P Context → P SchedControl → P Space → P Derive → P Runs → P Holds → (kind : Kind) → P kind
+of_each : (P : Kind → Type 0) → P Control → P Reset → P Send → P Receive → P Grant → P Call → P Notify → P Await → P Read
+    → P Write → P Reply → P Context → P SchedControl → P Space → P Derive → P Runs → P Holds → (kind : Kind) → P kind
 of_each P p0 p1 p2 p3 p4 p5 p6 p7 p8 p9 p10 p11 p12 p13 p14 p15 p16 Control = p0
 of_each P p0 p1 p2 p3 p4 p5 p6 p7 p8 p9 p10 p11 p12 p13 p14 p15 p16 Reset = p1
 of_each P p0 p1 p2 p3 p4 p5 p6 p7 p8 p9 p10 p11 p12 p13 p14 p15 p16 Send = p2
@@ -41,33 +43,70 @@ of_each P p0 p1 p2 p3 p4 p5 p6 p7 p8 p9 p10 p11 p12 p13 p14 p15 p16 Runs = p15
 of_each P p0 p1 p2 p3 p4 p5 p6 p7 p8 p9 p10 p11 p12 p13 p14 p15 p16 Holds = p16
 
 abbrev IsOrderedByNumber : Kind → Kind → Type 0
-IsOrderedByNumber a b = (kind_order.ghosts.cmp a b ≡ nat_cmp (kind_number a) (kind_number b)) × (kind_partial_order.ghosts.partial_cmp a b ≡ Some (nat_cmp (kind_number a) (kind_number b)))
+IsOrderedByNumber a b =
+    (kind_order.ghosts.cmp a b ≡ nat_cmp (kind_number a) (kind_number b)) × (kind_partial_order.ghosts.partial_cmp a b ≡ Some
+    (nat_cmp (kind_number a) (kind_number b)))
 
 -- the kinds are compared by their numbers
 kind_cmp : (a b : Kind) → IsOrderedByNumber a b
 kind_cmp a b = of_each (λ a. IsOrderedByNumber a b)
-    (of_each (λ b. IsOrderedByNumber Control b) (refl, refl) (refl, refl) (refl, refl) (refl, refl) (refl, refl) (refl, refl) (refl, refl) (refl, refl) (refl, refl) (refl, refl) (refl, refl) (refl, refl) (refl, refl) (refl, refl) (refl, refl) (refl, refl) (refl, refl) b)
-    (of_each (λ b. IsOrderedByNumber Reset b) (refl, refl) (refl, refl) (refl, refl) (refl, refl) (refl, refl) (refl, refl) (refl, refl) (refl, refl) (refl, refl) (refl, refl) (refl, refl) (refl, refl) (refl, refl) (refl, refl) (refl, refl) (refl, refl) (refl, refl) b)
-    (of_each (λ b. IsOrderedByNumber Send b) (refl, refl) (refl, refl) (refl, refl) (refl, refl) (refl, refl) (refl, refl) (refl, refl) (refl, refl) (refl, refl) (refl, refl) (refl, refl) (refl, refl) (refl, refl) (refl, refl) (refl, refl) (refl, refl) (refl, refl) b)
-    (of_each (λ b. IsOrderedByNumber Receive b) (refl, refl) (refl, refl) (refl, refl) (refl, refl) (refl, refl) (refl, refl) (refl, refl) (refl, refl) (refl, refl) (refl, refl) (refl, refl) (refl, refl) (refl, refl) (refl, refl) (refl, refl) (refl, refl) (refl, refl) b)
-    (of_each (λ b. IsOrderedByNumber Grant b) (refl, refl) (refl, refl) (refl, refl) (refl, refl) (refl, refl) (refl, refl) (refl, refl) (refl, refl) (refl, refl) (refl, refl) (refl, refl) (refl, refl) (refl, refl) (refl, refl) (refl, refl) (refl, refl) (refl, refl) b)
-    (of_each (λ b. IsOrderedByNumber Call b) (refl, refl) (refl, refl) (refl, refl) (refl, refl) (refl, refl) (refl, refl) (refl, refl) (refl, refl) (refl, refl) (refl, refl) (refl, refl) (refl, refl) (refl, refl) (refl, refl) (refl, refl) (refl, refl) (refl, refl) b)
-    (of_each (λ b. IsOrderedByNumber Notify b) (refl, refl) (refl, refl) (refl, refl) (refl, refl) (refl, refl) (refl, refl) (refl, refl) (refl, refl) (refl, refl) (refl, refl) (refl, refl) (refl, refl) (refl, refl) (refl, refl) (refl, refl) (refl, refl) (refl, refl) b)
-    (of_each (λ b. IsOrderedByNumber Await b) (refl, refl) (refl, refl) (refl, refl) (refl, refl) (refl, refl) (refl, refl) (refl, refl) (refl, refl) (refl, refl) (refl, refl) (refl, refl) (refl, refl) (refl, refl) (refl, refl) (refl, refl) (refl, refl) (refl, refl) b)
-    (of_each (λ b. IsOrderedByNumber Read b) (refl, refl) (refl, refl) (refl, refl) (refl, refl) (refl, refl) (refl, refl) (refl, refl) (refl, refl) (refl, refl) (refl, refl) (refl, refl) (refl, refl) (refl, refl) (refl, refl) (refl, refl) (refl, refl) (refl, refl) b)
-    (of_each (λ b. IsOrderedByNumber Write b) (refl, refl) (refl, refl) (refl, refl) (refl, refl) (refl, refl) (refl, refl) (refl, refl) (refl, refl) (refl, refl) (refl, refl) (refl, refl) (refl, refl) (refl, refl) (refl, refl) (refl, refl) (refl, refl) (refl, refl) b)
-    (of_each (λ b. IsOrderedByNumber Reply b) (refl, refl) (refl, refl) (refl, refl) (refl, refl) (refl, refl) (refl, refl) (refl, refl) (refl, refl) (refl, refl) (refl, refl) (refl, refl) (refl, refl) (refl, refl) (refl, refl) (refl, refl) (refl, refl) (refl, refl) b)
-    (of_each (λ b. IsOrderedByNumber Context b) (refl, refl) (refl, refl) (refl, refl) (refl, refl) (refl, refl) (refl, refl) (refl, refl) (refl, refl) (refl, refl) (refl, refl) (refl, refl) (refl, refl) (refl, refl) (refl, refl) (refl, refl) (refl, refl) (refl, refl) b)
-    (of_each (λ b. IsOrderedByNumber SchedControl b) (refl, refl) (refl, refl) (refl, refl) (refl, refl) (refl, refl) (refl, refl) (refl, refl) (refl, refl) (refl, refl) (refl, refl) (refl, refl) (refl, refl) (refl, refl) (refl, refl) (refl, refl) (refl, refl) (refl, refl) b)
-    (of_each (λ b. IsOrderedByNumber Space b) (refl, refl) (refl, refl) (refl, refl) (refl, refl) (refl, refl) (refl, refl) (refl, refl) (refl, refl) (refl, refl) (refl, refl) (refl, refl) (refl, refl) (refl, refl) (refl, refl) (refl, refl) (refl, refl) (refl, refl) b)
-    (of_each (λ b. IsOrderedByNumber Derive b) (refl, refl) (refl, refl) (refl, refl) (refl, refl) (refl, refl) (refl, refl) (refl, refl) (refl, refl) (refl, refl) (refl, refl) (refl, refl) (refl, refl) (refl, refl) (refl, refl) (refl, refl) (refl, refl) (refl, refl) b)
-    (of_each (λ b. IsOrderedByNumber Runs b) (refl, refl) (refl, refl) (refl, refl) (refl, refl) (refl, refl) (refl, refl) (refl, refl) (refl, refl) (refl, refl) (refl, refl) (refl, refl) (refl, refl) (refl, refl) (refl, refl) (refl, refl) (refl, refl) (refl, refl) b)
-    (of_each (λ b. IsOrderedByNumber Holds b) (refl, refl) (refl, refl) (refl, refl) (refl, refl) (refl, refl) (refl, refl) (refl, refl) (refl, refl) (refl, refl) (refl, refl) (refl, refl) (refl, refl) (refl, refl) (refl, refl) (refl, refl) (refl, refl) (refl, refl) b)
+    (of_each (λ b. IsOrderedByNumber Control b) (refl, refl) (refl, refl) (refl, refl) (refl, refl) (refl, refl) (refl, refl)
+    (refl, refl) (refl, refl) (refl, refl) (refl, refl) (refl, refl) (refl, refl) (refl, refl) (refl, refl) (refl, refl)
+    (refl, refl) (refl, refl) b)
+    (of_each (λ b. IsOrderedByNumber Reset b) (refl, refl) (refl, refl) (refl, refl) (refl, refl) (refl, refl) (refl, refl)
+    (refl, refl) (refl, refl) (refl, refl) (refl, refl) (refl, refl) (refl, refl) (refl, refl) (refl, refl) (refl, refl)
+    (refl, refl) (refl, refl) b)
+    (of_each (λ b. IsOrderedByNumber Send b) (refl, refl) (refl, refl) (refl, refl) (refl, refl) (refl, refl) (refl, refl)
+    (refl, refl) (refl, refl) (refl, refl) (refl, refl) (refl, refl) (refl, refl) (refl, refl) (refl, refl) (refl, refl)
+    (refl, refl) (refl, refl) b)
+    (of_each (λ b. IsOrderedByNumber Receive b) (refl, refl) (refl, refl) (refl, refl) (refl, refl) (refl, refl) (refl, refl)
+    (refl, refl) (refl, refl) (refl, refl) (refl, refl) (refl, refl) (refl, refl) (refl, refl) (refl, refl) (refl, refl)
+    (refl, refl) (refl, refl) b)
+    (of_each (λ b. IsOrderedByNumber Grant b) (refl, refl) (refl, refl) (refl, refl) (refl, refl) (refl, refl) (refl, refl)
+    (refl, refl) (refl, refl) (refl, refl) (refl, refl) (refl, refl) (refl, refl) (refl, refl) (refl, refl) (refl, refl)
+    (refl, refl) (refl, refl) b)
+    (of_each (λ b. IsOrderedByNumber Call b) (refl, refl) (refl, refl) (refl, refl) (refl, refl) (refl, refl) (refl, refl)
+    (refl, refl) (refl, refl) (refl, refl) (refl, refl) (refl, refl) (refl, refl) (refl, refl) (refl, refl) (refl, refl)
+    (refl, refl) (refl, refl) b)
+    (of_each (λ b. IsOrderedByNumber Notify b) (refl, refl) (refl, refl) (refl, refl) (refl, refl) (refl, refl) (refl, refl)
+    (refl, refl) (refl, refl) (refl, refl) (refl, refl) (refl, refl) (refl, refl) (refl, refl) (refl, refl) (refl, refl)
+    (refl, refl) (refl, refl) b)
+    (of_each (λ b. IsOrderedByNumber Await b) (refl, refl) (refl, refl) (refl, refl) (refl, refl) (refl, refl) (refl, refl)
+    (refl, refl) (refl, refl) (refl, refl) (refl, refl) (refl, refl) (refl, refl) (refl, refl) (refl, refl) (refl, refl)
+    (refl, refl) (refl, refl) b)
+    (of_each (λ b. IsOrderedByNumber Read b) (refl, refl) (refl, refl) (refl, refl) (refl, refl) (refl, refl) (refl, refl)
+    (refl, refl) (refl, refl) (refl, refl) (refl, refl) (refl, refl) (refl, refl) (refl, refl) (refl, refl) (refl, refl)
+    (refl, refl) (refl, refl) b)
+    (of_each (λ b. IsOrderedByNumber Write b) (refl, refl) (refl, refl) (refl, refl) (refl, refl) (refl, refl) (refl, refl)
+    (refl, refl) (refl, refl) (refl, refl) (refl, refl) (refl, refl) (refl, refl) (refl, refl) (refl, refl) (refl, refl)
+    (refl, refl) (refl, refl) b)
+    (of_each (λ b. IsOrderedByNumber Reply b) (refl, refl) (refl, refl) (refl, refl) (refl, refl) (refl, refl) (refl, refl)
+    (refl, refl) (refl, refl) (refl, refl) (refl, refl) (refl, refl) (refl, refl) (refl, refl) (refl, refl) (refl, refl)
+    (refl, refl) (refl, refl) b)
+    (of_each (λ b. IsOrderedByNumber Context b) (refl, refl) (refl, refl) (refl, refl) (refl, refl) (refl, refl) (refl, refl)
+    (refl, refl) (refl, refl) (refl, refl) (refl, refl) (refl, refl) (refl, refl) (refl, refl) (refl, refl) (refl, refl)
+    (refl, refl) (refl, refl) b)
+    (of_each (λ b. IsOrderedByNumber SchedControl b) (refl, refl) (refl, refl) (refl, refl) (refl, refl) (refl, refl) (refl, refl)
+    (refl, refl) (refl, refl) (refl, refl) (refl, refl) (refl, refl) (refl, refl) (refl, refl) (refl, refl) (refl, refl)
+    (refl, refl) (refl, refl) b)
+    (of_each (λ b. IsOrderedByNumber Space b) (refl, refl) (refl, refl) (refl, refl) (refl, refl) (refl, refl) (refl, refl)
+    (refl, refl) (refl, refl) (refl, refl) (refl, refl) (refl, refl) (refl, refl) (refl, refl) (refl, refl) (refl, refl)
+    (refl, refl) (refl, refl) b)
+    (of_each (λ b. IsOrderedByNumber Derive b) (refl, refl) (refl, refl) (refl, refl) (refl, refl) (refl, refl) (refl, refl)
+    (refl, refl) (refl, refl) (refl, refl) (refl, refl) (refl, refl) (refl, refl) (refl, refl) (refl, refl) (refl, refl)
+    (refl, refl) (refl, refl) b)
+    (of_each (λ b. IsOrderedByNumber Runs b) (refl, refl) (refl, refl) (refl, refl) (refl, refl) (refl, refl) (refl, refl)
+    (refl, refl) (refl, refl) (refl, refl) (refl, refl) (refl, refl) (refl, refl) (refl, refl) (refl, refl) (refl, refl)
+    (refl, refl) (refl, refl) b)
+    (of_each (λ b. IsOrderedByNumber Holds b) (refl, refl) (refl, refl) (refl, refl) (refl, refl) (refl, refl) (refl, refl)
+    (refl, refl) (refl, refl) (refl, refl) (refl, refl) (refl, refl) (refl, refl) (refl, refl) (refl, refl) (refl, refl)
+    (refl, refl) (refl, refl) b)
     a
 
 -- the code's order of edges
 pub edge_cmp-of_code : (a b : Edge) → edge_order.ghosts.cmp a b ≡ edge_cmp a b
-edge_cmp-of_code a b = ap (λ order. ordering_then (nat_cmp a.from b.from) (ordering_then order (nat_cmp a.to b.to))) (kind_cmp a.kind b.kind).0
+edge_cmp-of_code a b =
+    ap (λ order. ordering_then (nat_cmp a.from b.from) (ordering_then order (nat_cmp a.to b.to))) (kind_cmp a.kind b.kind).0
 
 partial_ordering_then-Some : (r s : Ordering) → partial_ordering_then (Some r) (Some s) ≡ Some (ordering_then r s)
 partial_ordering_then-Some Less s = refl
@@ -75,8 +114,11 @@ partial_ordering_then-Some Equal s = refl
 partial_ordering_then-Some Greater s = refl
 
 -- a binary search by the code's order is one by the order of edges
-pub search-of_code : (edges : List Edge) (edge : Edge) (r : Result ℕ ℕ) → IsBinarySearchResult (λ other. edge_order.ghosts.cmp other edge) edges r → IsBinarySearchResult (λ other. edge_cmp other edge) edges r
-search-of_code edges edge r = subst (λ (order : Edge → Ordering). IsBinarySearchResult order edges r) (λ i other. edge_cmp-of_code other edge i)
+pub search-of_code : (edges : List Edge) (edge : Edge) (r : Result ℕ ℕ)
+    → IsBinarySearchResult (λ other. edge_order.ghosts.cmp other edge) edges r
+    → IsBinarySearchResult (λ other. edge_cmp other edge) edges r
+search-of_code edges edge r =
+    subst (λ (order : Edge → Ordering). IsBinarySearchResult order edges r) (λ i other. edge_cmp-of_code other edge i)
 
 -- the code's `<` of edges
 pub partial_cmp-of_code : (a b : Edge) → edge_partial_order.ghosts.partial_cmp a b ≡ Some (edge_cmp a b)
@@ -111,4 +153,5 @@ is_edge-edge_cmp edge other =
     sym (parts
     ∙ ap (λ b. b && (is_eq kind && is_eq to)) (unsigned_tied other.from edge.from)
     ∙ ap (λ b. (other.from == edge.from) && (b && is_eq to)) (unsigned_tied (kind_number other.kind) (kind_number edge.kind))
-    ∙ ap (λ b. (other.from == edge.from) && ((kind_number other.kind == kind_number edge.kind) && b)) (unsigned_tied other.to edge.to))
+    ∙ ap (λ b. (other.from == edge.from) && ((kind_number other.kind == kind_number edge.kind) && b))
+    (unsigned_tied other.to edge.to))

@@ -9,7 +9,8 @@ use Rattle.policy.specs.Domain.{EdgeTest, IsInDomain, SubjectsAgree}
 -- P2: who controls a label has its space, and may do everything to it but configure its core
 pub record ControlGivesAll (test : EdgeTest) : Type 0 where
   pub space : (a b : ℕ) → test a Control b ≡ true → test a Space b ≡ true
-  pub kinds : (a b : ℕ) → test a Control b ≡ true → (kind : Kind) → is_structural kind ≡ false → kind ≢ SchedControl → test a kind b ≡ true
+  pub kinds : (a b : ℕ) → test a Control b ≡ true → (kind : Kind) → is_structural kind ≡ false → kind ≢ SchedControl
+      → test a kind b ≡ true
 
 -- b may get capabilities from a, by a grant over some endpoint
 pub record MayBeGranted (test : EdgeTest) (a b : ℕ) : Type 0 where
@@ -19,7 +20,9 @@ pub record MayBeGranted (test : EdgeTest) (a b : ℕ) : Type 0 where
 
 -- P3: who may be granted a's capabilities may do what a may
 abbrev pub GrantShares : EdgeTest → Type 0
-GrantShares test = (a b : ℕ) → MayBeGranted test a b → (kind : Kind) → is_structural kind ≡ false → (to : ℕ) → test a kind to ≡ true → test b kind to ≡ true
+GrantShares test =
+    (a b : ℕ) → MayBeGranted test a b → (kind : Kind) → is_structural kind ≡ false → (to : ℕ)
+    → test a kind to ≡ true → test b kind to ≡ true
 
 -- P4: within a domain, capabilities may be derived
 abbrev pub DeriveInDomain : EdgeTest → Type 0
@@ -37,7 +40,8 @@ ContextRuns test = (a s : ℕ) → test a Context s ≡ true → test a Runs s �
 -- P7: a reply may hold the threads that use it, and those that call them
 pub record ReplyHolds (test : EdgeTest) : Type 0 where
   pub server : (b r : ℕ) → test b Reply r ≡ true → test r Holds b ≡ true
-  pub caller : (b r c endpoint : ℕ) → test b Reply r ≡ true → test c Call endpoint ≡ true → test b Receive endpoint ≡ true → test r Holds c ≡ true
+  pub caller : (b r c endpoint : ℕ) → test b Reply r ≡ true → test c Call endpoint ≡ true → test b Receive endpoint ≡ true
+      → test r Holds c ≡ true
 
 pub record IsClosed (test : EdgeTest) : Type 0 where
   pub subjects_agree : SubjectsAgree test

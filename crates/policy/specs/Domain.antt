@@ -15,4 +15,5 @@ IsInDomain test a x = (test a Space x ≡ true) ⊎ (test a Control x ≡ true)
 
 -- P1: labels of one domain may do the same
 abbrev pub SubjectsAgree : EdgeTest → Type 0
-SubjectsAgree test = (a b : ℕ) → IsInDomain test a b → (kind : Kind) → is_structural kind ≡ false → (to : ℕ) → test a kind to ≡ test b kind to
+SubjectsAgree test =
+    (a b : ℕ) → IsInDomain test a b → (kind : Kind) → is_structural kind ≡ false → (to : ℕ) → test a kind to ≡ test b kind to

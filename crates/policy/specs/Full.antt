@@ -27,8 +27,10 @@ pub data IsFull (test : EdgeTest) (a l : ℕ) : Type 0 where
   receives : (endpoint : ℕ) → test a Receive endpoint ≡ true → test l Send endpoint ≡ true → IsFull test a l
   notifies : (notification : ℕ) → test a Notify notification ≡ true → test l Await notification ≡ true → IsFull test a l
   -- the replies of who receives from it
-  links : (endpoint receiver : ℕ) → test a Send endpoint ≡ true → test receiver Receive endpoint ≡ true → test receiver Reply l ≡ true → IsFull test a l
+  links : (endpoint receiver : ℕ) → test a Send endpoint ≡ true → test receiver Receive endpoint ≡ true
+      → test receiver Reply l ≡ true → IsFull test a l
   -- where who receives its capabilities keeps them
-  grants : (endpoint receiver : ℕ) → test a Grant endpoint ≡ true → test receiver Receive endpoint ≡ true → test receiver Control l ≡ true → IsFull test a l
+  grants : (endpoint receiver : ℕ) → test a Grant endpoint ≡ true → test receiver Receive endpoint ≡ true
+      → test receiver Control l ≡ true → IsFull test a l
   -- the threads that its replies hold
   replies : (reply : ℕ) → test a Reply reply ≡ true → test reply Holds l ≡ true → IsFull test a l

@@ -1,5 +1,5 @@
--- The rules of closed policies one by one, and that each is needed: there is a policy that keeps all of the others and not that one
--- (the rules are confine's own).
+-- The rules of closed policies one by one, and that each is needed: there is a policy that obeys all of the others and not that
+-- one (the rules are confine's own).
 use Rattle.std.specs.Prelude.{◌≢◌}
 use Rattle.policy.specs.Closed.{ControlGivesAll, GrantShares, DeriveInDomain, DeriveByGrant, ContextRuns, ReplyHolds}
 use Rattle.policy.specs.Domain.{EdgeTest, SubjectsAgree}

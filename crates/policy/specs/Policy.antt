@@ -12,7 +12,9 @@ use Rattle.base.specs.Kinds.{kind_number}
 
 -- by label, then kind, then label
 abbrev pub edge_cmp : Edge → Edge → Ordering
-edge_cmp = then_cmp (on (λ edge. edge.from) nat_cmp) (then_cmp (on (λ edge. kind_number edge.kind) nat_cmp) (on (λ edge. edge.to) nat_cmp))
+edge_cmp =
+    then_cmp (on (λ edge. edge.from) nat_cmp)
+    (then_cmp (on (λ edge. kind_number edge.kind) nat_cmp) (on (λ edge. edge.to) nat_cmp))
 
 -- each edge is below those after it, so none comes twice
 abbrev pub IsRising : List Edge → Type 0

@@ -1,7 +1,9 @@
 -- From an answer that was made and written to what was written.
-use Rattle.std.proofs.Common.{◌≡◌, ℕ, List, Option, None, Some, Result, Ok, Err, IfOk, IsOkAnd, subst}
+use Rattle.std.proofs.Common.{◌≡◌, ℕ, List, Option, None, Some, Result, Ok, Err, IfOk, IsOkAnd, ◌∙◌, subst, sym}
 use Rattle.std.proofs.lemmas.Result.{IfOk-weaker}
-use Rattle.report.specs.Answers.{Answers, Judges, faulty, judged}
+use Rattle.std.specs.Io.KnownBytes.{Appends}
+use Rattle.report.specs.Answers.{Answers, Judges, TellsFault, faulty, judged}
+use Rattle.report.specs.Devices.{AppendsBeginning}
 use Rattle.report.specs.Ends.{IfCannotWrite, IfStatus}
 use Rattle.report.specs.Loading.{IfKnown, IsFaulty, Loads}
 use Rattle.report.specs.Reports.{fault_report}
@@ -60,3 +62,24 @@ pub fault_told : (t p s : List ℕ) (file : File) (fault : Fault) (answer : Resu
     → IfOk answer (λ a. Answers t p s a.text.items a.status)
 fault_told t p s file fault (Ok a) is text status = faulty file fault is text status
 fault_told t p s file fault (Err e) is text status = tt
+
+-- the report of a fault, where it was written
+pub report_written : (answer : Result Answer Refused) (end : End) (old new : Option (List ℕ)) (file : File) (fault : Fault)
+    → IfOk answer (λ a. a.text.items ≡ fault_report fault.number file fault.line) → IfOk answer (λ a. a.status ≡ 2)
+    → IfStatus end (λ status. IsOkAnd answer (λ a. (a.status ≡ status) × Appends old new a.text.items))
+    → IfCannotWrite end (IsOkAnd answer (λ a. AppendsBeginning old new a.text.items))
+    → TellsFault end old new file fault
+report_written (Ok a) (Status status) old new file fault text two done begun = (sym done.0 ∙ two, subst (λ bytes. Appends old new bytes) text done.1)
+report_written (Ok a) CannotWrite old new file fault text two done begun = subst (λ bytes. AppendsBeginning old new bytes) text begun
+report_written (Ok a) NoMemory old new file fault text two done begun = tt
+report_written (Ok a) (CannotRead which) old new file fault text two done begun = tt
+report_written (Err e) (Status status) old new file fault text two done begun = absurd done
+report_written (Err e) CannotWrite old new file fault text two done begun = absurd begun
+report_written (Err e) NoMemory old new file fault text two done begun = tt
+report_written (Err e) (CannotRead which) old new file fault text two done begun = tt
+
+-- the fault that was told is the one that stopped
+pub stop_told : (end : End) (old new : Option (List ℕ)) (file wanted : File) (told fault : Fault)
+    → TellsFault end old new file told → (file ≡ wanted) × (told ≡ fault) → TellsFault end old new wanted fault
+stop_told end old new file wanted told fault tells same =
+    subst (λ f. TellsFault end old new f fault) same.0 (subst (λ e. TellsFault end old new file e) same.1 tells)

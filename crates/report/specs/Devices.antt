@@ -11,6 +11,6 @@ AppendsBeginning old new bs = (n : ℕ) × Appends old new (take n bs)
 abbrev pub device_of : {D : Type 0} → Counted D → D
 device_of counted = counted.device
 
--- how often it has failed
+-- how many of its calls failed
 abbrev pub failures_of : {D : Type 0} → Counted D → ℕ
 failures_of counted = counted.failures

@@ -1,5 +1,5 @@
 -- How the program ends: its exit status, what it says on standard error, and what an end tells of the devices and of what was written.
-use Rattle.std.specs.Prelude.{◌≡◌, ◌≢◌, ◌<◌, ℕ, List, ◌++◌, codes, Option, Some, None}
+use Rattle.std.specs.Prelude.{◌≡◌, ◌≢◌, ◌+◌, ℕ, List, ◌++◌, codes, Option, Some, None}
 use Rattle.report.specs.declared.end.File.{File}
 use Rattle.report.specs.declared.end.File.TheVariants.{Table, Policy, Script}
 use Rattle.report.specs.declared.end.End.{End}
@@ -25,9 +25,9 @@ status_of NoMemory = 2
 status_of (CannotRead file) = 2
 status_of CannotWrite = 2
 
--- a device's failure is told exactly where it failed, by its count of failures before and after
+-- a device's failure is told exactly where one call of it failed, by its count of failures before and after
 abbrev pub TellsFailure : End → End → ℕ → ℕ → Type 0
-TellsFailure end told old new = (end ≡ told → old < new) × (end ≢ told → new ≡ old)
+TellsFailure end told old new = (end ≡ told → new ≡ old + 1) × (end ≢ told → new ≡ old)
 
 -- a fact for an end whose answer was written
 abbrev pub IfStatus : End → (ℕ → Type 0) → Type 0

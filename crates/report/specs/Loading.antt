@@ -1,5 +1,5 @@
 -- What three files hold, and why one of them couldn't be loaded.
-use Rattle.std.specs.Prelude.{◌≡◌, ◌≢◌, ◌<◌, ℕ, List, Option, IfSome, Result, Ok, Err}
+use Rattle.std.specs.Prelude.{◌≡◌, ◌≢◌, ◌+◌, ℕ, List, Option, IfSome, Result, Ok, Err}
 use Rattle.base.specs.declared.edge.Edge.{Edge}
 use Rattle.captext.specs.Policies.{read_policy_of}
 use Rattle.captext.specs.Tables.{read_table_of}
@@ -54,6 +54,13 @@ IsDeviceStop file stop.NoMemory = Unit {0}
 IsDeviceStop file (stop.CannotRead which) = which ≡ file
 IsDeviceStop file (stop.Faulty which fault) = ⊥
 
+-- this fault of this file is what stopped it, or a device or memory did
+abbrev pub StopsAt : {X : Type 0} → Result X Stop → File → Fault → Type 0
+StopsAt (Ok x) file fault = ⊥
+StopsAt (Err stop.NoMemory) file fault = Unit {0}
+StopsAt (Err (stop.CannotRead which)) file fault = Unit {0}
+StopsAt (Err (stop.Faulty which told)) file fault = (which ≡ file) × (told ≡ fault)
+
 -- the three files were loaded, or the first that is faulty stopped it; else nothing is said of their bytes
 abbrev pub LoadsAll : List ℕ → List ℕ → List ℕ → Result Loaded Stop → Type 0
 LoadsAll table policy script (Ok loaded) = Loads table policy script loaded.table loaded.policy loaded.events.items
@@ -61,6 +68,6 @@ LoadsAll table policy script (Err stop.NoMemory) = Unit {0}
 LoadsAll table policy script (Err (stop.CannotRead which)) = Unit {0}
 LoadsAll table policy script (Err (stop.Faulty file fault)) = IsFaulty table policy script file fault
 
--- a stop tells that this file's device failed exactly where it did, by its count of failures before and after
+-- a stop tells that this file's device failed exactly where one call of it did, by its count of failures before and after
 abbrev pub TellsDevice : {X : Type 0} → Result X Stop → File → ℕ → ℕ → Type 0
-TellsDevice result file old new = (result ≡ Err (stop.CannotRead file) → old < new) × (result ≢ Err (stop.CannotRead file) → new ≡ old)
+TellsDevice result file old new = (result ≡ Err (stop.CannotRead file) → new ≡ old + 1) × (result ≢ Err (stop.CannotRead file) → new ≡ old)

@@ -1,4 +1,4 @@
-ghost use Rattle.std.specs.Prelude.{◌≡◌, ◌≢◌, ◌^◌, ◌<◌, ℕ, List, [], ◌∷◌, Option, Err, IfOk, IfSome, OnOk, OnErr};
+ghost use Rattle.std.specs.Prelude.{◌≡◌, ◌≢◌, ◌^◌, ◌<◌, ◌+◌, ℕ, List, [], ◌∷◌, Option, Err, IfOk, IfSome, OnOk, OnErr};
 ghost use Rattle.std.specs.Io.KnownBytes.{Appends};
 ghost use Rattle.report.specs.Devices.{AppendsBeginning};
 
@@ -24,7 +24,7 @@ pub struct WriteError;
 pub trait Source {
     // The bytes that are left to read, where they are known.
     ghost remaining: { Self → Option (List ℕ) };
-    // How often the device has failed.
+    // How many calls failed.
     ghost failures: { Self → ℕ };
 
     /// Reads all the bytes that are left.
@@ -32,8 +32,8 @@ pub trait Source {
         requires { failures self.old < 2 ^ 63 }
         ensures bytes { IfOk result (λ v. IfSome (remaining self.old) (λ bytes. v.items ≡ bytes)) }
 
-        // A failure is told exactly where the device failed.
-        ensures failed { result ≡ Err ReadError.Failed → failures self.old < failures self.new }
+        // A failure is told exactly where one call of the device failed.
+        ensures failed { result ≡ Err ReadError.Failed → failures self.new ≡ failures self.old + 1 }
         ensures sound { result ≢ Err ReadError.Failed → failures self.new ≡ failures self.old };
 }
 
@@ -41,7 +41,7 @@ pub trait Source {
 pub trait Sink {
     // The bytes that were written, where they are known.
     ghost contents: { Self → Option (List ℕ) };
-    // How often the device has failed.
+    // How many calls failed.
     ghost failures: { Self → ℕ };
 
     /// Writes all of `bytes`. Where the device fails, a beginning of them was written.
@@ -50,8 +50,8 @@ pub trait Sink {
         ensures ok { OnOk result (Appends (contents self.old) (contents self.new) bytes.now) }
         ensures err { OnErr result (AppendsBeginning (contents self.old) (contents self.new) bytes.now) }
 
-        // A failure is told exactly where the device failed.
-        ensures failed { OnErr result (failures self.old < failures self.new) }
+        // A failure is told exactly where one call of the device failed.
+        ensures failed { OnErr result (failures self.new ≡ failures self.old + 1) }
         ensures sound { OnOk result (failures self.new ≡ failures self.old) };
 }
 

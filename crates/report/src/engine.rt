@@ -1,4 +1,4 @@
-ghost use Rattle.std.specs.Prelude.{◌≡◌, ◌≢◌, ◌^◌, ◌<◌, ℕ, List, Ok, IfOk, IfSome, IsErr, IsOkAnd};
+ghost use Rattle.std.specs.Prelude.{◌≡◌, ◌≢◌, ◌^◌, ◌<◌, ℕ, List, Ok, Err, IfOk, IfSome, IsErr, IsOkAnd};
 ghost use Rattle.std.specs.Io.KnownBytes.{Appends};
 ghost use Rattle.captext.specs.Policies.{read_policy_of};
 ghost use Rattle.captext.specs.Tables.{read_table_of};
@@ -73,6 +73,13 @@ pub fn run<T: Source, P: Source, S: Source, O: Sink>(
         × AppendsBeginning (O.contents out.old) (O.contents out.new) text)) }
     ensures unwritten { IfUnwritten result (out.new ≡ out.old) }
 
+    // A fault is told whatever the files after it are.
+    ensures table_faulty { IfSome (T.remaining table.old) (λ t. (fault : Fault) → read_table_of t ≡ Err fault
+        → answers.TellsFault result (O.contents out.old) (O.contents out.new) File.Table fault) }
+    ensures policy_faulty { IfSome (T.remaining table.old) (λ t. IfSome (P.remaining policy.old) (λ p.
+        (layout : Layout) (fault : Fault) → read_table_of t ≡ Ok layout → read_policy_of layout p ≡ Err fault
+        → answers.TellsFault result (O.contents out.old) (O.contents out.new) File.Policy fault)) }
+
     // A device's failure is told exactly where it failed in this call.
     ensures table { TellsFailure result (End.CannotRead File.Table) (T.failures table.old) (T.failures table.new) }
     ensures policy { TellsFailure result (End.CannotRead File.Policy) (P.failures policy.old) (P.failures policy.new) }
@@ -105,6 +112,7 @@ fn write<O: Sink>(out: &mut O, answer: Result<Answer, NoMemory>) -> End
     ensures begun { IfCannotWrite result (IsOkAnd answer (λ answer.
         AppendsBeginning (O.contents out.old) (O.contents out.new) answer.text.items)) }
     ensures unwritten { IfUnwritten result (out.new ≡ out.old) }
+    ensures memory { result ≡ End.NoMemory → IsErr answer }
     ensures out { TellsFailure result End.CannotWrite (O.failures out.old) (O.failures out.new) }
     ensures no_file { BlamesNoFile result }
 {

@@ -3,7 +3,7 @@ ghost use Rattle.captext.specs.Policies.{read_policy_of};
 ghost use Rattle.captext.specs.Tables.{read_table_of};
 ghost use Rattle.evtext.specs.Script.{read_script_of};
 ghost use Rattle.machine.specs.Layout.{Layout};
-ghost use Rattle.report.specs.Loading.{IfKnown, IsDeviceStop, IsStopOf, LoadsAll, LoadsAs, TellsDevice};
+ghost use Rattle.report.specs.Loading.{IfKnown, IsDeviceStop, IsStopOf, LoadsAll, LoadsAs, StopsAt, TellsDevice};
 ghost use Rattle.words.specs.Fault.{no_memory};
 
 use crate::{File, ReadError, Source};
@@ -114,6 +114,13 @@ pub(crate) fn load<T: Source, P: Source, S: Source>(
 
     ensures loaded { IfKnown (T.remaining table.old) (P.remaining policy.old) (S.remaining script.old)
         (λ t p s. LoadsAll t p s result) }
+
+    // A fault stops it whatever the files after it are.
+    ensures table_faulty { IfSome (T.remaining table.old) (λ t. (fault : Fault) → read_table_of t ≡ Err fault
+        → StopsAt result File.Table fault) }
+    ensures policy_faulty { IfSome (T.remaining table.old) (λ t. IfSome (P.remaining policy.old) (λ p.
+        (layout : Layout) (fault : Fault) → read_table_of t ≡ Ok layout → read_policy_of layout p ≡ Err fault
+        → StopsAt result File.Policy fault)) }
 
     // Each file is parsed before the next is read.
     ensures table_first { IfSome (T.remaining table.old) (λ t. IsErr (read_table_of t)

@@ -1,59 +1,121 @@
 //! Files that can't be read whole, and a page that can't be written whole.
+use std::alloc::Global;
 use std::io::{self, ErrorKind, Read, Write};
 
-/// What a file gives to its reader: a text, and then its end or a failure.
+/// A failure of a device: after so many bytes of its text, and of this kind.
+#[derive(Clone, Copy)]
+pub struct Failure {
+    pub after: usize,
+    pub kind: ErrorKind,
+}
+
+/// What a file gives to its reader: a text, so many bytes a read at most. Where it fails, it fails
+/// once: a reader that asks again is given the rest.
 #[derive(Clone, Copy)]
 pub struct Given<'a> {
     pub text: &'a str,
-    pub failure: Option<ErrorKind>,
+    pub most: usize,
+    pub failure: Option<Failure>,
 }
 
 impl<'a> Given<'a> {
-    /// A file that has this text.
+    /// A file that has this text, and gives it at once.
     pub fn text(text: &'a str) -> Given<'a> {
         Given {
             text,
+            most: usize::MAX,
             failure: None,
         }
+    }
+
+    /// The same, so many bytes a read at most.
+    pub fn at_most(self, most: usize) -> Given<'a> {
+        Given { most, ..self }
+    }
+
+    /// The same, with a failure of this kind after so many bytes.
+    pub fn failing(self, after: usize, kind: ErrorKind) -> Given<'a> {
+        Given {
+            failure: Some(Failure { after, kind }),
+            ..self
+        }
+    }
+
+    /// The same, with a failure of this kind in place of its end.
+    pub fn at_end(self, kind: ErrorKind) -> Given<'a> {
+        self.failing(self.text.len(), kind)
     }
 
     /// Its reader.
     pub fn reader(self) -> Reader<'a> {
         Reader {
             left: self.text.as_bytes(),
+            most: self.most,
             failure: self.failure,
+            is_read: false,
         }
     }
 }
 
-/// A reader of what a file gives.
+/// A reader of what a file gives, which notes whether it was asked.
 #[derive(Drop)]
 pub struct Reader<'a> {
     left: &'a [u8],
-    failure: Option<ErrorKind>,
+    most: usize,
+    failure: Option<Failure>,
+    pub is_read: bool,
 }
 
 impl Read for Reader<'_> {
     fn read(&mut self, buf: &mut [u8]) -> io::Result<usize> {
-        match self.failure {
-            Some(kind) if self.left.is_empty() => Err(io::Error::from(kind)),
-            _ => self.left.read(buf),
+        self.is_read = true;
+        let mut count = buf.len().min(self.most).min(self.left.len());
+        if let Some(Failure { after, kind }) = self.failure {
+            if after == 0 {
+                self.failure = None;
+                return Err(io::Error::from(kind));
+            }
+            count = count.min(after);
+            self.failure = Some(Failure {
+                after: after - count,
+                kind,
+            });
+        }
+        let (given, left) = self.left.split_at(count);
+        buf[..count].copy_from_slice(given);
+        self.left = left;
+        Ok(count)
+    }
+}
+
+/// A page that is written to: so many bytes a write at most, and with room for so many more. Where
+/// it has no room it fails with this kind, or takes nothing.
+#[derive(Drop)]
+pub struct Page {
+    pub written: Vec<u8>,
+    pub most: usize,
+    pub room: usize,
+    pub failure: Option<ErrorKind>,
+}
+
+impl Page {
+    /// An empty page with this room, which takes at once what it has room for.
+    pub fn new(alloc: Global, room: usize) -> Page {
+        Page {
+            written: Vec::new(alloc),
+            most: usize::MAX,
+            room,
+            failure: Some(ErrorKind::StorageFull),
         }
     }
 }
 
-/// A page that is written to, with room for so many bytes more.
-#[derive(Drop)]
-pub struct Page {
-    pub written: Vec<u8>,
-    pub room: usize,
-}
-
 impl Write for Page {
     fn write(&mut self, buf: &[u8]) -> io::Result<usize> {
-        let count = buf.len().min(self.room);
-        if count == 0 && !buf.is_empty() {
-            return Err(io::Error::from(ErrorKind::StorageFull));
+        let count = buf.len().min(self.most).min(self.room);
+        match self.failure {
+            Some(kind) if count == 0 && !buf.is_empty() => return Err(io::Error::from(kind)),
+            _ => {}
         }
         self.written.extend_from_slice(&buf[..count])?;
         self.room -= count;

@@ -1,8 +1,7 @@
 //! How a run ends: its message, its status, and what it has written by then.
-use crate::devices::Given;
-use crate::session::{Ending, run_on};
+use crate::devices::{Failure, Given, Page};
+use crate::session::{Ending, run_on, run_onto};
 use crate::systems::TWO_CORES;
-use report::End;
 use std::io::ErrorKind;
 use std::process::Abort;
 use std::test::Fail;
@@ -19,20 +18,29 @@ fn two_cores() -> [Given<'static>; 3] {
 /// A text that each file is faulty with, at line 1.
 const FAULTY: Given<'static> = Given {
     text: "end\n",
+    most: usize::MAX,
     failure: None,
 };
 
 /// A policy that the system is denied by.
 const EMPTY_POLICY: Given<'static> = Given {
     text: "confine-policy 1\nend\n",
+    most: usize::MAX,
     failure: None,
 };
 
 /// A file that isn't there.
 const MISSING: Given<'static> = Given {
     text: "",
-    failure: Some(ErrorKind::NotFound),
+    most: usize::MAX,
+    failure: Some(Failure {
+        after: 0,
+        kind: ErrorKind::NotFound,
+    }),
 };
+
+/// How many bytes a device gives or takes at a time, at most.
+const AMOUNTS: [usize; 5] = [1, 2, 3, 7, usize::MAX];
 
 const LOG: &str = "\
 confine-log 1
@@ -56,6 +64,14 @@ fn ends<R: Abort>(rt: &R, ending: Ending, message: Option<&str>, status: u8, wri
     assert_eq!(rt; ending.written.as_str(), written);
     assert_eq!(rt; ending.end.message(), message);
     assert_eq!(rt; ending.end.status(), status);
+}
+
+/// The run says this on standard error, ends with status 2, and wrote no more than this text: a device
+/// failed after so many bytes.
+fn fails<R: Abort>(rt: &R, ending: Ending, message: &str, written: &str, after: usize) {
+    assert_eq!(rt; ending.written.as_str(), written, "after {after} bytes");
+    assert_eq!(rt; ending.end.message(), Some(message), "after {after} bytes");
+    assert_eq!(rt; ending.end.status(), 2, "after {after} bytes");
 }
 
 #[test]
@@ -160,21 +176,119 @@ fn all_files_are_parsed_before_the_check(rt: HostRuntime) -> Result<(), Fail> {
 }
 
 #[test]
+fn a_table_that_fails_at_any_byte_cannot_be_read(rt: HostRuntime) -> Result<(), Fail> {
+    let [table, policy, script] = two_cores();
+    for most in [usize::MAX, 1] {
+        for after in 0..=table.text.len() {
+            let table = table.at_most(most).failing(after, ErrorKind::Other);
+            let ending = run_on(rt.alloc(), table, policy, script, usize::MAX)?;
+            assert!(rt; ending.reads_table, "after {after} bytes");
+            assert!(rt; !ending.reads_policy, "after {after} bytes");
+            assert!(rt; !ending.reads_script, "after {after} bytes");
+            fails(&rt, ending, "confine: cannot read table", "", after);
+        }
+    }
+    Ok(())
+}
+
+#[test]
+fn a_policy_that_fails_at_any_byte_cannot_be_read(rt: HostRuntime) -> Result<(), Fail> {
+    let [table, policy, script] = two_cores();
+    for most in [usize::MAX, 1] {
+        for after in 0..=policy.text.len() {
+            let policy = policy.at_most(most).failing(after, ErrorKind::Other);
+            let ending = run_on(rt.alloc(), table, policy, script, usize::MAX)?;
+            assert!(rt; ending.reads_table, "after {after} bytes");
+            assert!(rt; ending.reads_policy, "after {after} bytes");
+            assert!(rt; !ending.reads_script, "after {after} bytes");
+            fails(&rt, ending, "confine: cannot read policy", "", after);
+        }
+    }
+    Ok(())
+}
+
+#[test]
+fn a_script_that_fails_at_any_byte_cannot_be_read(rt: HostRuntime) -> Result<(), Fail> {
+    let [table, policy, script] = two_cores();
+    for most in [usize::MAX, 1] {
+        for after in 0..=script.text.len() {
+            let script = script.at_most(most).failing(after, ErrorKind::Other);
+            let ending = run_on(rt.alloc(), table, policy, script, usize::MAX)?;
+            assert!(rt; ending.reads_table, "after {after} bytes");
+            assert!(rt; ending.reads_policy, "after {after} bytes");
+            assert!(rt; ending.reads_script, "after {after} bytes");
+            fails(&rt, ending, "confine: cannot read script", "", after);
+        }
+    }
+    Ok(())
+}
+
+#[test]
 fn a_read_that_fails_is_no_end_of_file(rt: HostRuntime) -> Result<(), Fail> {
     let [table, policy, script] = two_cores();
-    let failure = Some(ErrorKind::TimedOut);
-    let cut_table = Given { failure, ..table };
-    let cut_policy = Given { failure, ..policy };
-    let cut_script = Given { failure, ..script };
-    let faulty = Given { failure, ..FAULTY };
-    for (table, policy, script, message) in [
-        (cut_table, policy, script, "confine: cannot read table"),
-        (table, cut_policy, script, "confine: cannot read policy"),
-        (table, policy, cut_script, "confine: cannot read script"),
-        (faulty, policy, script, "confine: cannot read table"),
+    for kind in [
+        ErrorKind::UnexpectedEof,
+        ErrorKind::WouldBlock,
+        ErrorKind::TimedOut,
+        ErrorKind::InvalidData,
+        ErrorKind::Other,
     ] {
+        for (table, policy, script, message) in [
+            (
+                table.at_end(kind),
+                policy,
+                script,
+                "confine: cannot read table",
+            ),
+            (
+                table,
+                policy.at_end(kind),
+                script,
+                "confine: cannot read policy",
+            ),
+            (
+                table,
+                policy,
+                script.at_end(kind),
+                "confine: cannot read script",
+            ),
+            // Nor is it a fault of what was read.
+            (
+                FAULTY.at_end(kind),
+                policy,
+                script,
+                "confine: cannot read table",
+            ),
+            (
+                table,
+                FAULTY.at_end(kind),
+                script,
+                "confine: cannot read policy",
+            ),
+            (
+                table,
+                policy,
+                FAULTY.at_end(kind),
+                "confine: cannot read script",
+            ),
+        ] {
+            let ending = run_on(rt.alloc(), table, policy, script, usize::MAX)?;
+            ends(&rt, ending, Some(message), 2, "");
+        }
+    }
+    Ok(())
+}
+
+#[test]
+fn a_read_that_is_interrupted_is_asked_again(rt: HostRuntime) -> Result<(), Fail> {
+    let [table, policy, script] = two_cores();
+    let interrupted = ErrorKind::Interrupted;
+    for after in 0..=table.text.len() {
+        let table = table.failing(after, interrupted);
+        let policy = policy.failing(after.min(policy.text.len()), interrupted);
+        let script = script.failing(after.min(script.text.len()), interrupted);
         let ending = run_on(rt.alloc(), table, policy, script, usize::MAX)?;
-        ends(&rt, ending, Some(message), 2, "");
+        ends(&rt, ending, None, 0, LOG);
     }
     Ok(())
 }
@@ -182,10 +296,7 @@ fn a_read_that_fails_is_no_end_of_file(rt: HostRuntime) -> Result<(), Fail> {
 #[test]
 fn a_read_without_memory_blames_no_file(rt: HostRuntime) -> Result<(), Fail> {
     let [table, policy, script] = two_cores();
-    let starved = Given {
-        text: "",
-        failure: Some(ErrorKind::OutOfMemory),
-    };
+    let starved = Given::text("").failing(0, ErrorKind::OutOfMemory);
     for (table, policy, script) in [
         (starved, policy, script),
         (table, starved, script),
@@ -198,21 +309,72 @@ fn a_read_without_memory_blames_no_file(rt: HostRuntime) -> Result<(), Fail> {
 }
 
 #[test]
+fn how_many_bytes_a_read_gives_changes_no_answer(rt: HostRuntime) -> Result<(), Fail> {
+    let [table, policy, script] = two_cores();
+    for most in AMOUNTS {
+        for (table, policy, script, status, answer) in [
+            (table, policy, script, 0, LOG),
+            (table, EMPTY_POLICY, script, 1, DENIAL),
+            (FAULTY, policy, script, 2, FAULTY_TABLE),
+            (table, FAULTY, script, 2, FAULTY_POLICY),
+            (table, policy, FAULTY, 2, FAULTY_SCRIPT),
+        ] {
+            let table = table.at_most(most);
+            let policy = policy.at_most(most);
+            let script = script.at_most(most);
+            let ending = run_on(rt.alloc(), table, policy, script, usize::MAX)?;
+            ends(&rt, ending, None, status, answer);
+        }
+    }
+    Ok(())
+}
+
+#[test]
 fn an_answer_that_cannot_be_written_is_no_answer(rt: HostRuntime) -> Result<(), Fail> {
     let [table, policy, script] = two_cores();
-    for (table, policy, status, answer) in [
-        (table, policy, 0, LOG),
-        (table, EMPTY_POLICY, 1, DENIAL),
-        (FAULTY, policy, 2, FAULTY_TABLE),
+    for (table, policy, script, answer) in [
+        (table, policy, script, LOG),
+        (table, EMPTY_POLICY, script, DENIAL),
+        (FAULTY, policy, script, FAULTY_TABLE),
     ] {
-        for room in 0..answer.len() {
-            let ending = run_on(rt.alloc(), table, policy, script, room)?;
-            assert!(rt; ending.end == End::CannotWrite);
-            let written = answer.get(..room).ok_or("a beginning")?;
-            ends(&rt, ending, Some("confine: cannot write"), 2, written);
+        for (most, failure) in [(usize::MAX, Some(ErrorKind::StorageFull)), (1, None)] {
+            for room in 0..answer.len() {
+                let page = Page {
+                    written: Vec::new(rt.alloc()),
+                    most,
+                    room,
+                    failure,
+                };
+                let ending = run_onto(rt.alloc(), table, policy, script, page)?;
+                let written = answer.get(..room).ok_or("a beginning")?;
+                fails(&rt, ending, "confine: cannot write", written, room);
+            }
         }
-        let ending = run_on(rt.alloc(), table, policy, script, answer.len())?;
-        ends(&rt, ending, None, status, answer);
+    }
+    Ok(())
+}
+
+#[test]
+fn how_many_bytes_a_write_takes_changes_no_answer(rt: HostRuntime) -> Result<(), Fail> {
+    let [table, policy, script] = two_cores();
+    for most in AMOUNTS {
+        for (table, policy, script, status, answer) in [
+            (table, policy, script, 0, LOG),
+            (table, EMPTY_POLICY, script, 1, DENIAL),
+            (FAULTY, policy, script, 2, FAULTY_TABLE),
+            (table, FAULTY, script, 2, FAULTY_POLICY),
+            (table, policy, FAULTY, 2, FAULTY_SCRIPT),
+        ] {
+            // There is room for the answer and no more.
+            let page = Page {
+                written: Vec::new(rt.alloc()),
+                most,
+                room: answer.len(),
+                failure: Some(ErrorKind::StorageFull),
+            };
+            let ending = run_onto(rt.alloc(), table, policy, script, page)?;
+            ends(&rt, ending, None, status, answer);
+        }
     }
     Ok(())
 }

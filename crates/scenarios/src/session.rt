@@ -33,11 +33,14 @@ impl<'a> Files<'a> {
     }
 }
 
-/// How a run ended, and what it wrote.
+/// How a run ended, what it wrote, and which of the files it asked for bytes.
 #[derive(Drop)]
 pub struct Ending {
     pub end: End,
     pub written: String,
+    pub reads_table: bool,
+    pub reads_policy: bool,
+    pub reads_script: bool,
 }
 
 /// A run that reads from these devices and may write so many bytes.
@@ -48,18 +51,32 @@ pub fn run_on(
     script: Given<'_>,
     room: usize,
 ) -> Result<Ending, Fail> {
+    run_onto(alloc, table, policy, script, Page::new(alloc, room))
+}
+
+/// A run that reads from these devices and writes onto this page.
+pub fn run_onto(
+    alloc: Global,
+    table: Given<'_>,
+    policy: Given<'_>,
+    script: Given<'_>,
+    page: Page,
+) -> Result<Ending, Fail> {
     let mut table = Counted::new(table.reader());
     let mut policy = Counted::new(policy.reader());
     let mut script = Counted::new(script.reader());
-    let mut out = Counted::new(Page {
-        written: Vec::new(alloc),
-        room,
-    });
+    let mut out = Counted::new(page);
     let end = run(alloc, &mut table, &mut policy, &mut script, &mut out);
     let written = String::from_utf8(out.into_inner().written)
         .ok()
         .ok_or("not UTF-8")?;
-    Ok(Ending { end, written })
+    Ok(Ending {
+        end,
+        written,
+        reads_table: table.into_inner().is_read,
+        reads_policy: policy.into_inner().is_read,
+        reads_script: script.into_inner().is_read,
+    })
 }
 
 /// Runs the files, and sees that they end with this status and write this text.
@@ -69,7 +86,7 @@ fn writes<R: Abort + AllocGlobal>(
     status: u8,
     text: &str,
 ) -> Result<(), Fail> {
-    let Ending { end, written } = run_on(
+    let Ending { end, written, .. } = run_on(
         rt.alloc(),
         Given::text(files.table),
         Given::text(files.policy),

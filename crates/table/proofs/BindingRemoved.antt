@@ -1,17 +1,18 @@
 -- A table whose last part was a binding kept the rules without it, and admitted it.
-use Rattle.std.proofs.Common.{◌≡◌, ◌≢◌, ℕ, ◌-◌, ◌<◌, true, length, get_or, slice_get, Option, Some, None, refl}
+use Rattle.std.proofs.Common.{◌≡◌, ◌≢◌, ℕ, ◌-◌, ◌<◌, true, length, get_or, slice_get, Option, Some, None, refl, arith}
 use Rattle.std.proofs.lemmas.Bool.{lt-ltb, false_from_ne_true}
-use Rattle.std.proofs.lemmas.List.Elements.{All-weaker}
 use Rattle.machine.specs.declared.layout.Binding.{Binding}
 use Rattle.machine.specs.Layout.{Layout, initial_of}
-use Rattle.machine.specs.Machine.{same_id}
+use Rattle.machine.specs.Machine.{one_id, same_id}
 use Rattle.table.specs.Building.{AdmitsBinding, is_above_bindings, is_above_bound, is_bound, with_binding}
-use Rattle.table.specs.Rules.{IsLawful, IsObjectOf, IsBindingOf, kind_at, slot_total, thread_total}
+use Rattle.table.specs.Rules.{IsLawful, IsBindingOf, kind_at, slot_total, thread_total}
 use Rattle.table.proofs.FrontLemmas.{all_front, pairs_front, none_passes, at_last}
-use Rattle.table.proofs.LawfulKept.{caps_kept, bindings_kept}
-use Rattle.machine.specs.Machine.{one_id}
+use Rattle.table.proofs.LawfulKept.{objects_kept, caps_kept, bindings_kept}
 
-rises : (t : Layout) (binding : Binding) → ((k : ℕ) (d : Binding) → k < length t.bindings → (get_or t.bindings k d).thread.0 < binding.thread.0) → is_above_bindings t binding.thread ≡ true
+rises :
+    (t : Layout) (binding : Binding)
+    → ((k : ℕ) (d : Binding) → k < length t.bindings → (get_or t.bindings k d).thread.0 < binding.thread.0)
+    → is_above_bindings t binding.thread ≡ true
 unfolding is_above_bindings
 rises t binding below = by (slice_get t.bindings (length t.bindings - 1)) refl where
   by : (last : Option Binding) → slice_get t.bindings (length t.bindings - 1) ≡ last → is_above_bound last binding.thread ≡ true
@@ -34,7 +35,7 @@ binding_removed t binding h =
         few_objects = h.few_objects;
         few_slots = h.few_slots;
         few_threads = h.few_threads;
-        objects = All-weaker (IsObjectOf (with_binding t binding)) (IsObjectOf t) (λ i o. record { label = o.label; blank = o.blank; aligned = o.aligned; end = o.end }) t.objects h.objects;
+        objects = objects_kept (with_binding t binding) t (omega arith) t.objects h.objects;
         objects_apart = h.objects_apart;
         controls_differ = h.controls_differ;
         caps = caps_kept (with_binding t binding) t (λ id initial e. e) refl t.caps h.caps;
@@ -49,6 +50,8 @@ binding_removed t binding h =
         rises = rises t binding rise.1;
         thread = all.1.thread;
         context = all.1.context;
-        once = none_passes (λ other. same_id other.context binding.context) t.bindings (λ k d within. false_from_ne_true _ (λ tie. differ.1 k d within (one_id _ _ tie)));
+        once =
+            none_passes (λ other. same_id other.context binding.context) t.bindings
+            (λ k d within. false_from_ne_true _ (λ tie. differ.1 k d within (one_id _ _ tie)));
       },
     )

@@ -21,7 +21,9 @@ rests-cases run.Inactive rests = inr refl
 rests-cases _ rests = absurd rests
 
 -- the object that is bound to a thread was declared as a thread in the same state
-thread-declared : (t : Layout) (id : ObjId) (thread : Tcb) (object : Object) → o.Tcb thread ≡ bound t id object → (declared : Tcb) × (object ≡ o.Tcb declared) × (thread.state ≡ declared.state)
+thread-declared :
+    (t : Layout) (id : ObjId) (thread : Tcb) (object : Object) → o.Tcb thread ≡ bound t id object
+    → (declared : Tcb) × (object ≡ o.Tcb declared) × (thread.state ≡ declared.state)
 thread-declared t id thread (o.Tcb declared) is = (declared, refl, cc)
 thread-declared t id thread (o.Untyped _) is = absurd cc
 thread-declared t id thread (o.CNode _) is = absurd cc
@@ -51,5 +53,6 @@ boot-fresh t m lawful boot = record {
   frames =
       λ id frame present.
       boot.words id ∙ ap (option_map (λ (object : Object). replicate (word_count object) 0)) (sym (boot.objects id) ∙ present);
-  originals = λ slot held filled parentless. (cap-law t m slot held lawful boot filled).original (sym (boot.parents slot) ∙ parentless);
+  originals =
+      λ slot held filled parentless. (cap-law t m slot held lawful boot filled).original (sym (boot.parents slot) ∙ parentless);
 }

@@ -1,5 +1,6 @@
 -- What the objects, the capabilities and the bindings of a boot state are in its table.
-use Rattle.std.proofs.Common.{◌≡◌, ◌≢◌, ℕ, zero, suc, ◌<◌, Bool, true, false, cond, List, [], ◌∷◌, length, get_or, refl, sym, ap, subst, ◌∙◌, ◌⊎◌, inl, inr, arith}
+use Rattle.std.proofs.Common.{◌≡◌, ◌≢◌, ℕ, zero, suc, ◌<◌, Bool, true, false, cond, List, [], ◌∷◌, length, get_or, refl, sym, ap}
+use Rattle.std.proofs.Common.{subst, ◌∙◌, ◌⊎◌, inl, inr, arith}
 use Rattle.std.specs.Prelude.{⊤, Option, Some, None, option_map, AllPairs, Contains}
 use Rattle.std.specs.List.{find}
 use Rattle.std.specs.Cmp.{tied_itself}
@@ -25,7 +26,8 @@ use Rattle.table.specs.Rules.{IsLawful, IsAtRest, IsBlank, IsObjectOf, IsCapOf, 
 
 -- look-ups
 
-pub map-some : {A B : Type 0} (f : A → B) (found : Option A) (y : B) → option_map f found ≡ Some y → (x : A) × (found ≡ Some x) × (y ≡ f x)
+pub map-some :
+    {A B : Type 0} (f : A → B) (found : Option A) (y : B) → option_map f found ≡ Some y → (x : A) × (found ≡ Some x) × (y ≡ f x)
 map-some f None y is = absurd (none-some y is)
 map-some f (Some x) y is = (x, refl, same_Some y (f x) (sym is))
 
@@ -36,31 +38,41 @@ Contains-cons y ys x has = (suc has.0, omega (arith, has.1), has.2)
 finds : {X : Type 0} (p : X → Bool) (xs : List X) (x : X) → find p xs ≡ Some x → Contains xs x × (p x ≡ true)
 finds p [] x is = absurd (none-some x is)
 finds p (y ∷ ys) x is = by_test (λ rest. finds p ys x rest) (p y) refl is where
-  by_test : (find p ys ≡ Some x → Contains ys x × (p x ≡ true)) → (test : Bool) → p y ≡ test → cond test (Some y) (find p ys) ≡ Some x → Contains (y ∷ ys) x × (p x ≡ true)
+  by_test :
+      (find p ys ≡ Some x → Contains ys x × (p x ≡ true)) → (test : Bool) → p y ≡ test → cond test (Some y) (find p ys) ≡ Some x
+      → Contains (y ∷ ys) x × (p x ≡ true)
   by_test further true first is = let same : y ≡ x = same_Some y x is in ((0, omega arith, same), ap p (sym same) ∙ first)
   by_test further false first is = let rest = further is in (Contains-cons y ys x rest.0, rest.1)
 
 -- an element that passes isn't missed
-not-missed : {X : Type 0} (p : X → Bool) (xs : List X) (k : ℕ) (x : X) → k < length xs → get_or xs k x ≡ x → p x ≡ true → find p xs ≡ None → ⊥
+not-missed :
+    {X : Type 0} (p : X → Bool) (xs : List X) (k : ℕ) (x : X) → k < length xs → get_or xs k x ≡ x → p x ≡ true → find p xs ≡ None
+    → ⊥
 not-missed p [] k x within at passes missed = omega (arith, within)
 not-missed p (y ∷ ys) zero x within at passes missed =
     none-some y (sym missed ∙ ap (λ test. cond test (Some y) (find p ys)) (ap p at ∙ passes))
-not-missed p (y ∷ ys) (suc k) x within at passes missed = by_test (λ rest. not-missed p ys k x (omega (arith, within)) at passes rest) (p y) missed where
-  by_test : (find p ys ≡ None → ⊥) → (test : Bool) → cond test (Some y) (find p ys) ≡ None → ⊥
-  by_test further true missed = none-some y (sym missed)
-  by_test further false missed = further missed
+not-missed p (y ∷ ys) (suc k) x within at passes missed =
+    by_test (λ rest. not-missed p ys k x (omega (arith, within)) at passes rest) (p y) missed where
+      by_test : (find p ys ≡ None → ⊥) → (test : Bool) → cond test (Some y) (find p ys) ≡ None → ⊥
+      by_test further true missed = none-some y (sym missed)
+      by_test further false missed = further missed
 
 -- the one element that passes is found
-find-only : {X : Type 0} (p : X → Bool) (xs : List X) (x : X) → Contains xs x → p x ≡ true → ((y : X) → Contains xs y → p y ≡ true → y ≡ x) → find p xs ≡ Some x
+find-only :
+    {X : Type 0} (p : X → Bool) (xs : List X) (x : X) → Contains xs x → p x ≡ true
+    → ((y : X) → Contains xs y → p y ≡ true → y ≡ x) → find p xs ≡ Some x
 find-only {X} p xs x has passes only = by_found (find p xs) refl where
   by_found : (found : Option X) → find p xs ≡ found → find p xs ≡ Some x
   by_found None missed = absurd (not-missed p xs has.0 x has.1 has.2 passes missed)
   by_found (Some y) is = let there = finds p xs y is in is ∙ ap (λ z. Some z) (only y there.0 there.1)
 
 -- of two elements of a list that relates each to those after it, they are one, or the one relates to the other
-pub pair-cases : {X : Type 0} (R : X → X → Type 0) (xs : List X) (x y : X) → AllPairs R xs → Contains xs x → Contains xs y → (x ≡ y) ⊎ (R x y ⊎ R y x)
+pub pair-cases :
+    {X : Type 0} (R : X → X → Type 0) (xs : List X) (x y : X) → AllPairs R xs → Contains xs x → Contains xs y
+    → (x ≡ y) ⊎ (R x y ⊎ R y x)
 pair-cases {X} R xs x y pairs has_x has_y =
-    by_order (at_from_Contains xs x has_x) (at_from_Contains xs y has_y) (cases_order (at_from_Contains xs x has_x).0 (at_from_Contains xs y has_y).0) where
+    by_order (at_from_Contains xs x has_x) (at_from_Contains xs y has_y)
+    (cases_order (at_from_Contains xs x has_x).0 (at_from_Contains xs y has_y).0) where
       At : X → Type 0
       At x = (k : ℕ) × (k < length xs) × ((d : X) → get_or xs k d ≡ x)
 
@@ -68,7 +80,8 @@ pair-cases {X} R xs x y pairs has_x has_y =
       related x y one other below =
           subst (λ z. R z y) (one.2 x) (subst (R (get_or xs one.0 x)) (other.2 x) (pairs one.0 other.0 x below other.1))
 
-      by_order : (one : At x) (other : At y) → (one.0 ≡ other.0) ⊎ ((one.0 < other.0) ⊎ (other.0 < one.0)) → (x ≡ y) ⊎ (R x y ⊎ R y x)
+      by_order :
+          (one : At x) (other : At y) → (one.0 ≡ other.0) ⊎ ((one.0 < other.0) ⊎ (other.0 < one.0)) → (x ≡ y) ⊎ (R x y ⊎ R y x)
       by_order one other (inl is) = inl (sym (one.2 x) ∙ ap (λ k. get_or xs k x) is ∙ other.2 x)
       by_order one other (inr (inl below)) = inr (inl (related x y one other below))
       by_order one other (inr (inr above)) = inr (inr (related y x other one above))
@@ -104,10 +117,12 @@ pub record Declares (t : Layout) (id : ObjId) (object : Object) : Type 0 where
   pub within : id.0 < length t.objects
   pub in_list : (d : Initial) → get_or t.objects id.0 d ≡ initial
 
-pub declares : (t : Layout) (m : Machine) (id : ObjId) (object : Object) → IsBoot t m → object_of m id ≡ Some object → Declares t id object
+pub declares :
+    (t : Layout) (m : Machine) (id : ObjId) (object : Object) → IsBoot t m → object_of m id ≡ Some object → Declares t id object
 unfolding initial_of
 declares t m id object boot present =
-    let found = map-some (λ (initial : Initial). bound t id initial.object) (initial_of t id) object (sym (boot.objects id) ∙ present) in
+    let found =
+    map-some (λ (initial : Initial). bound t id initial.object) (initial_of t id) object (sym (boot.objects id) ∙ present) in
     record {
       initial = found.0;
       at = found.1;
@@ -117,22 +132,29 @@ declares t m id object boot present =
     }
 
 -- a declared object is there
-pub declared-present : (t : Layout) (m : Machine) (id : ObjId) (initial : Initial) → IsBoot t m → initial_of t id ≡ Some initial → object_of m id ≡ Some (bound t id initial.object)
+pub declared-present :
+    (t : Layout) (m : Machine) (id : ObjId) (initial : Initial) → IsBoot t m → initial_of t id ≡ Some initial
+    → object_of m id ≡ Some (bound t id initial.object)
 declared-present t m id initial boot at = boot.objects id ∙ ap (option_map (λ (initial : Initial). bound t id initial.object)) at
 
-pub declared-law : (t : Layout) (id : ObjId) (object : Object) → IsLawful t → (declared : Declares t id object) → IsObjectOf t declared.initial
+pub declared-law :
+    (t : Layout) (id : ObjId) (object : Object) → IsLawful t → (declared : Declares t id object) → IsObjectOf t declared.initial
 declared-law t id object lawful declared =
     let P : Initial → Type 0 = λ initial. IsObjectOf t initial in
     subst P (declared.in_list declared.initial) (lawful.objects id.0 declared.initial declared.within)
 
-pub at_boot : (t : Layout) (m : Machine) (id : ObjId) (object : Object) → IsLawful t → IsBoot t m → object_of m id ≡ Some object → IsAtBoot t id object
+pub at_boot :
+    (t : Layout) (m : Machine) (id : ObjId) (object : Object) → IsLawful t → IsBoot t m → object_of m id ≡ Some object
+    → IsAtBoot t id object
 at_boot t m id object lawful boot present =
     let declared = declares t m id object boot present in
     let P : Object → Type 0 = λ object. IsAtBoot t id object in
     subst P (sym declared.is) (at_boot-bound t id declared.initial.object (declared-law t id object lawful declared).blank)
 
 -- a capability of a boot state is one that its table puts into the slot
-pub fills : (t : Layout) (m : Machine) (slot : SlotRef) (held : Cap) → IsBoot t m → cap_of m slot ≡ Some held → Contains t.caps (record { slot = slot; cap = held })
+pub fills :
+    (t : Layout) (m : Machine) (slot : SlotRef) (held : Cap) → IsBoot t m → cap_of m slot ≡ Some held
+    → Contains t.caps (record { slot = slot; cap = held })
 unfolding initial_cap
 fills t m slot held boot filled =
     let in_slot : Filled → Bool = λ filled. same_slot filled.slot slot in
@@ -142,7 +164,9 @@ fills t m slot held boot filled =
     let is : found.0 ≡ record { slot = slot; cap = held } = λ i. record { slot = same i; cap = sym found.2 i } in
     subst (Contains t.caps) is there.0
 
-pub cap-law : (t : Layout) (m : Machine) (slot : SlotRef) (held : Cap) → IsLawful t → IsBoot t m → cap_of m slot ≡ Some held → IsCapOf t (record { slot = slot; cap = held })
+pub cap-law :
+    (t : Layout) (m : Machine) (slot : SlotRef) (held : Cap) → IsLawful t → IsBoot t m → cap_of m slot ≡ Some held
+    → IsCapOf t (record { slot = slot; cap = held })
 cap-law t m slot held lawful boot filled =
     let P : Filled → Type 0 = λ filled. IsCapOf t filled in
     All-contains P t.caps (record { slot = slot; cap = held }) lawful.caps (fills t m slot held boot filled)
@@ -151,14 +175,17 @@ cap-law t m slot held lawful boot filled =
 pub parentless : (t : Layout) (m : Machine) (slot parent : SlotRef) → IsLawful t → IsBoot t m → parent_of m slot ≡ Some parent → ⊥
 unfolding initial_parent
 parentless t m slot parent lawful boot joined =
-    let parent_in : List Pair → Option SlotRef = λ pairs. option_map (λ (pair : Pair). pair.parent) (find (λ (pair : Pair). same_slot pair.child slot) pairs) in
+    let parent_in : List Pair → Option SlotRef =
+    λ pairs. option_map (λ (pair : Pair). pair.parent) (find (λ (pair : Pair). same_slot pair.child slot) pairs) in
     none-some parent (sym (ap parent_in lawful.underived) ∙ sym (boot.parents slot) ∙ joined)
 
 -- the table binds a thread to a context
 abbrev pub Binds : Layout → ObjId → ObjId → Type 0
 Binds t thread context = Contains t.bindings (record { thread = thread; context = context })
 
-pub binding-law : (t : Layout) (thread context : ObjId) → IsLawful t → Binds t thread context → IsBindingOf t (record { thread = thread; context = context })
+pub binding-law :
+    (t : Layout) (thread context : ObjId) → IsLawful t → Binds t thread context
+    → IsBindingOf t (record { thread = thread; context = context })
 binding-law t thread context lawful binds =
     let P : Binding → Type 0 = λ binding. IsBindingOf t binding in
     All-contains P t.bindings (record { thread = thread; context = context }) lawful.bindings binds
@@ -175,22 +202,26 @@ binds-thread t thread context is =
     let is : found.0 ≡ record { thread = thread; context = context } = λ i. record { thread = same i; context = sym found.2 i } in
     subst (Contains t.bindings) is there.0
 
-pub thread-bound : (t : Layout) (thread context : ObjId) → IsLawful t → Binds t thread context → bound_context t thread ≡ Some context
+pub thread-bound :
+    (t : Layout) (thread context : ObjId) → IsLawful t → Binds t thread context → bound_context t thread ≡ Some context
 unfolding bound_context
-thread-bound t thread context lawful binds = ap (option_map (λ (binding : Binding). binding.context)) (find-only of_thread t.bindings here binds (same_id-itself thread) only) where
-  here : Binding
-  here = record { thread = thread; context = context }
+thread-bound t thread context lawful binds =
+    ap (option_map (λ (binding : Binding). binding.context))
+    (find-only of_thread t.bindings here binds (same_id-itself thread) only) where
+      here : Binding
+      here = record { thread = thread; context = context }
 
-  of_thread : Binding → Bool
-  of_thread binding = same_id binding.thread thread
+      of_thread : Binding → Bool
+      of_thread binding = same_id binding.thread thread
 
-  only : (binding : Binding) → Contains t.bindings binding → of_thread binding ≡ true → binding ≡ here
-  only binding has tie =
-      let same : binding.thread.0 ≡ thread.0 = ap (λ (id : ObjId). id.0) (one_id binding.thread thread tie) in
-      elim (pair-cases (λ (one other : Binding). one.thread.0 < other.thread.0) t.bindings binding here lawful.bindings_rise has binds) [
-        | inl is ↦ is
-        | inr rises ↦ elim rises [ inl below ↦ absurd (omega arith) | inr above ↦ absurd (omega arith) ]
-      ]
+      only : (binding : Binding) → Contains t.bindings binding → of_thread binding ≡ true → binding ≡ here
+      only binding has tie =
+          let same : binding.thread.0 ≡ thread.0 = ap (λ (id : ObjId). id.0) (one_id binding.thread thread tie) in
+          let Rises : Binding → Binding → Type 0 = λ one other. one.thread.0 < other.thread.0 in
+          elim (pair-cases Rises t.bindings binding here lawful.bindings_rise has binds) [
+            | inl is ↦ is
+            | inr rises ↦ elim rises [ inl below ↦ absurd (omega arith) | inr above ↦ absurd (omega arith) ]
+          ]
 
 -- a context that has a thread is bound to it, and the other way round
 
@@ -204,19 +235,23 @@ binds-context t thread context is =
     let is : found.0 ≡ record { thread = thread; context = context } = λ i. record { thread = sym found.2 i; context = same i } in
     subst (Contains t.bindings) is there.0
 
-pub context-bound : (t : Layout) (thread context : ObjId) → IsLawful t → Binds t thread context → bound_thread t context ≡ Some thread
+pub context-bound :
+    (t : Layout) (thread context : ObjId) → IsLawful t → Binds t thread context → bound_thread t context ≡ Some thread
 unfolding bound_thread
-context-bound t thread context lawful binds = ap (option_map (λ (binding : Binding). binding.thread)) (find-only of_context t.bindings here binds (same_id-itself context) only) where
-  here : Binding
-  here = record { thread = thread; context = context }
+context-bound t thread context lawful binds =
+    ap (option_map (λ (binding : Binding). binding.thread))
+    (find-only of_context t.bindings here binds (same_id-itself context) only) where
+      here : Binding
+      here = record { thread = thread; context = context }
 
-  of_context : Binding → Bool
-  of_context binding = same_id binding.context context
+      of_context : Binding → Bool
+      of_context binding = same_id binding.context context
 
-  only : (binding : Binding) → Contains t.bindings binding → of_context binding ≡ true → binding ≡ here
-  only binding has tie =
-      let same : binding.context ≡ context = one_id binding.context context tie in
-      elim (pair-cases (λ (one other : Binding). one.context ≢ other.context) t.bindings binding here lawful.contexts_differ has binds) [
-        | inl is ↦ is
-        | inr differ ↦ elim differ [ inl apart ↦ absurd (apart same) | inr apart ↦ absurd (apart (sym same)) ]
-      ]
+      only : (binding : Binding) → Contains t.bindings binding → of_context binding ≡ true → binding ≡ here
+      only binding has tie =
+          let same : binding.context ≡ context = one_id binding.context context tie in
+          let Differ : Binding → Binding → Type 0 = λ one other. one.context ≢ other.context in
+          elim (pair-cases Differ t.bindings binding here lawful.contexts_differ has binds) [
+            | inl is ↦ is
+            | inr differ ↦ elim differ [ inl apart ↦ absurd (apart same) | inr apart ↦ absurd (apart (sym same)) ]
+          ]

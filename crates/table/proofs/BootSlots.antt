@@ -2,6 +2,7 @@
 use Rattle.std.proofs.Common.{◌≡◌, sym, ap, ◌∙◌, refl}
 use Rattle.std.specs.Prelude.{Some, option_map}
 use Rattle.std.proofs.lemmas.Option.{same_Some}
+use Rattle.base.specs.declared.ids.ObjId.{ObjId}
 use Rattle.base.specs.declared.ids.SlotRef.{SlotRef}
 use Rattle.machine.specs.declared.cap.Cap.{Cap}
 use Rattle.machine.specs.declared.cap.Detail.{Detail}
@@ -9,7 +10,6 @@ use Rattle.machine.specs.declared.cap.Detail.TheVariants as d
 use Rattle.machine.specs.declared.layout.Initial.{Initial}
 use Rattle.machine.specs.declared.object.Object.{Object}
 use Rattle.machine.specs.declared.object.Object.TheVariants as o
-use Rattle.base.specs.declared.ids.ObjId.{ObjId}
 use Rattle.machine.specs.Boot.{IsBoot, bound, kind-bound, slot_count-bound}
 use Rattle.machine.specs.Capabilities.{kind_of_detail}
 use Rattle.machine.specs.Layout.{Layout, initial_of}
@@ -33,15 +33,21 @@ kind-detail (o.Control _) d.Control fits = refl
 kind-detail _ _ fits = absurd fits
 
 -- a declared object has its kind
-pub kind-present : (t : Layout) (m : Machine) (id : ObjId) (initial : Initial) → IsBoot t m → initial_of t id ≡ Some initial → kind_of m id ≡ Some (kind_of_object initial.object)
+pub kind-present :
+    (t : Layout) (m : Machine) (id : ObjId) (initial : Initial) → IsBoot t m → initial_of t id ≡ Some initial
+    → kind_of m id ≡ Some (kind_of_object initial.object)
 kind-present t m id initial boot at =
-    ap (option_map kind_of_object) (declared-present t m id initial boot at) ∙ ap (λ found. Some found) (kind-bound t id initial.object)
+    ap (option_map kind_of_object) (declared-present t m id initial boot at)
+    ∙ ap (λ found. Some found) (kind-bound t id initial.object)
 
 -- the object of a capability is of the kind that the capability says
-pub kind-aimed : (t : Layout) (m : Machine) (slot : SlotRef) (held : Cap) → IsLawful t → IsBoot t m → cap_of m slot ≡ Some held → kind_of m held.object ≡ Some (kind_of_detail held.detail)
+pub kind-aimed :
+    (t : Layout) (m : Machine) (slot : SlotRef) (held : Cap) → IsLawful t → IsBoot t m → cap_of m slot ≡ Some held
+    → kind_of m held.object ≡ Some (kind_of_detail held.detail)
 kind-aimed t m slot held lawful boot filled =
     let law = cap-law t m slot held lawful boot filled in
-    kind-present t m held.object law.target boot law.aimed ∙ ap (λ found. Some found) (kind-detail law.target.object held.detail law.detail)
+    kind-present t m held.object law.target boot law.aimed
+    ∙ ap (λ found. Some found) (kind-detail law.target.object held.detail law.detail)
 
 -- no slot descends from any
 undescended : (t : Layout) (m : Machine) (slot above : SlotRef) → IsLawful t → IsBoot t m → Descends m slot above → ⊥
@@ -52,8 +58,11 @@ pub boot-slots : (t : Layout) (m : Machine) → IsLawful t → IsBoot t m → Sl
 boot-slots t m lawful boot = record {
   holder =
       λ slot held filled.
-      let law = cap-law t m slot held lawful boot filled in
-      (bound t slot.holder law.holder.object, declared-present t m slot.holder law.holder boot law.held, rw slot_count-bound law.slot);
+      let law = cap-law t m slot held lawful boot filled in (
+        bound t slot.holder law.holder.object,
+        declared-present t m slot.holder law.holder boot law.held,
+        rw slot_count-bound law.slot,
+      );
   object = λ slot held filled. kind-aimed t m slot held lawful boot filled;
   root =
       λ slot held filled of_thread.

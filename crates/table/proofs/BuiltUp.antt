@@ -6,7 +6,8 @@ use Rattle.machine.specs.declared.layout.Filled.{Filled}
 use Rattle.machine.specs.declared.layout.Initial.{Initial}
 use Rattle.machine.specs.declared.layout.Pair.{Pair}
 use Rattle.machine.specs.Layout.{Layout, empty_layout}
-use Rattle.table.specs.Parts.{Part, LabelPart, ObjectPart, CapPart, BindingPart, with_part, Admits, ComesNow, IsBuiltUp, none, more}
+use Rattle.table.specs.Parts.{Part, LabelPart, ObjectPart, CapPart, BindingPart, with_part, Admits, ComesNow, IsBuiltUp, none}
+use Rattle.table.specs.Parts.{more}
 use Rattle.table.specs.Rules.{IsLawful}
 use Rattle.table.proofs.LawfulKept.{lawful_empty}
 use Rattle.table.proofs.LabelAdded.{lawful_label}
@@ -54,25 +55,40 @@ abbrev with_caps : Layout → List Filled → Layout
 with_caps t caps = record empty_layout { labels = t.labels; names = t.names; objects = t.objects; caps = caps }
 
 abbrev with_bindings : Layout → List Binding → Layout
-with_bindings t bindings = record empty_layout { labels = t.labels; names = t.names; objects = t.objects; caps = t.caps; bindings = bindings }
+with_bindings t bindings =
+    record empty_layout { labels = t.labels; names = t.names; objects = t.objects; caps = t.caps; bindings = bindings }
 
 by_labels : (labels : List (List ℕ)) → Builds (with_labels labels)
-by_labels labels = from_front (λ front. Builds (with_labels front)) (λ front name. one_more (with_labels front) (LabelPart name) (refl, (refl, (refl, refl)))) [] labels (λ _. none)
+by_labels labels =
+    from_front (λ front. Builds (with_labels front))
+    (λ front name. one_more (with_labels front) (LabelPart name) (refl, (refl, (refl, refl)))) [] labels (λ _. none)
 
-by_objects : (labels front : List (List ℕ)) (first : List Initial) (names : List (List ℕ)) (objects : List Initial) → length names ≡ length objects → Builds (with_objects labels front first) → Builds (with_objects labels (front ++ names) (first ++ objects))
-by_objects labels front first [] [] same h = subst (λ os. Builds (with_objects labels (front ++ []) os)) (sym (append-nil first)) (subst (λ ns. Builds (with_objects labels ns first)) (sym (append-nil front)) h)
+by_objects :
+    (labels front : List (List ℕ)) (first : List Initial) (names : List (List ℕ)) (objects : List Initial)
+    → length names ≡ length objects → Builds (with_objects labels front first)
+    → Builds (with_objects labels (front ++ names) (first ++ objects))
+by_objects labels front first [] [] same h =
+    subst (λ os. Builds (with_objects labels (front ++ []) os)) (sym (append-nil first))
+    (subst (λ ns. Builds (with_objects labels ns first)) (sym (append-nil front)) h)
 by_objects labels front first [] (initial ∷ objects) same h = absurd (omega arith)
 by_objects labels front first (name ∷ names) [] same h = absurd (omega arith)
 by_objects labels front first (name ∷ names) (initial ∷ objects) same h =
-    let longer = by_objects labels (front ++ name ∷ []) (first ++ initial ∷ []) names objects (omega arith) (one_more (with_objects labels front first) (ObjectPart name initial) (refl, (refl, refl)) h) in
+    let longer =
+    by_objects labels (front ++ name ∷ []) (first ++ initial ∷ []) names objects (omega arith)
+    (one_more (with_objects labels front first) (ObjectPart name initial) (refl, (refl, refl)) h) in
     subst (λ os. Builds (with_objects labels (front ++ name ∷ names) os)) (append_assoc first (initial ∷ []) objects)
-    (subst (λ ns. Builds (with_objects labels ns ((first ++ initial ∷ []) ++ objects))) (append_assoc front (name ∷ []) names) longer)
+    (subst (λ ns. Builds (with_objects labels ns ((first ++ initial ∷ []) ++ objects))) (append_assoc front (name ∷ []) names)
+    longer)
 
 by_caps : (t : Layout) → Builds (with_caps t []) → Builds (with_caps t t.caps)
-by_caps t start = from_front (λ front. Builds (with_caps t front)) (λ front filled. one_more (with_caps t front) (CapPart filled) (refl, refl)) [] t.caps start
+by_caps t start =
+    from_front (λ front. Builds (with_caps t front)) (λ front filled. one_more (with_caps t front) (CapPart filled) (refl, refl))
+    [] t.caps start
 
 by_bindings : (t : Layout) → Builds (with_bindings t []) → Builds (with_bindings t t.bindings)
-by_bindings t start = from_front (λ front. Builds (with_bindings t front)) (λ front binding. one_more (with_bindings t front) (BindingPart binding) tt) [] t.bindings start
+by_bindings t start =
+    from_front (λ front. Builds (with_bindings t front))
+    (λ front binding. one_more (with_bindings t front) (BindingPart binding) tt) [] t.bindings start
 
 pub built_from_lawful : (t : Layout) → IsLawful t → IsBuiltUp t
 built_from_lawful t h =

@@ -1,7 +1,7 @@
 -- A table with a filled slot more keeps the rules.
 use Rattle.std.proofs.Common.{◌≡◌, ◌≢◌, ℕ, ◌<◌, true, false, ◌&&◌, length, get_or, Option, None, Some, refl, sym, ap, ◌∙◌, arith}
 use Rattle.std.proofs.lemmas.Bool.{false≢true, not-true, ltb-true, leb-true, and_parts}
-use Rattle.std.proofs.lemmas.List.Elements.{All-push, All-weaker}
+use Rattle.std.proofs.lemmas.List.Elements.{All-push}
 use Rattle.std.proofs.lemmas.List.Quantifiers.{all_pairs_push}
 use Rattle.std.specs.Ordering.{is_lt, is_eq}
 use Rattle.std.specs.declared.cmp.Ordering.TheVariants.{Less, Equal, Greater}
@@ -21,9 +21,10 @@ use Rattle.machine.specs.Capabilities.{kind_of_detail}
 use Rattle.machine.specs.Layout.{Layout, initial_of}
 use Rattle.machine.specs.Machine.{slot_cmp, slot_total, same_id, id_total}
 use Rattle.machine.specs.Objects.{kind_of_object, slot_count}
-use Rattle.table.specs.Building.{AdmitsCap, declares_slot, is_above_caps, has_index, may_hold, fits, fits_target, is_fitting, is_above_filled, is_for_untyped, has_cap_to, repeats_untyped, with_filled}
-use Rattle.table.specs.Rules.{IsLawful, IsObjectOf, IsCapOf, IsDetailOf, is_tcb, slot_total as table_slots, thread_total}
-use Rattle.table.proofs.LawfulKept.{caps_kept, bindings_kept}
+use Rattle.table.specs.Building.{AdmitsCap, declares_slot, is_above_caps, has_index, may_hold, fits, fits_target, is_fitting}
+use Rattle.table.specs.Building.{is_above_filled, is_for_untyped, has_cap_to, repeats_untyped, with_filled}
+use Rattle.table.specs.Rules.{IsLawful, IsCapOf, IsDetailOf, is_tcb, slot_total as table_slots, thread_total}
+use Rattle.table.proofs.LawfulKept.{objects_kept, caps_kept, bindings_kept}
 use Rattle.table.proofs.ListLemmas.{all_from_last, not_any}
 
 detail_fits : (object : Object) (detail : Detail) → fits object detail ≡ true → IsDetailOf object detail
@@ -39,12 +40,16 @@ detail_fits (o.Control _) d.Control e = tt
 detail_fits _ _ e = absurd (false≢true e)
 
 -- a slot that is there has a holder
-pub holder_of : (found : Option Initial) (index : ℕ) → has_index found index ≡ true → (holder : Initial) × (found ≡ Some holder) × (index < slot_count holder.object)
+pub holder_of :
+    (found : Option Initial) (index : ℕ) → has_index found index ≡ true
+    → (holder : Initial) × (found ≡ Some holder) × (index < slot_count holder.object)
 holder_of None index e = absurd (false≢true e)
 holder_of (Some holder) index e = (holder, refl, ltb-true _ _ e)
 
 -- a capability that fits has an object
-pub target_of : (found : Option Initial) (detail : Detail) → fits_target found detail ≡ true → (target : Initial) × (found ≡ Some target) × IsDetailOf target.object detail
+pub target_of :
+    (found : Option Initial) (detail : Detail) → fits_target found detail ≡ true
+    → (target : Initial) × (found ≡ Some target) × IsDetailOf target.object detail
 target_of None detail e = absurd (false≢true e)
 target_of (Some target) detail e = (target, refl, detail_fits target.object detail e)
 
@@ -69,7 +74,9 @@ aimed_low t cap h e =
     omega arith
 
 -- a thread's root slot holds a CNode's capability
-root_holds : (holder : Initial) (detail : Detail) → may_hold (Some holder) detail ≡ true → kind_of_object holder.object ≡ kind.Tcb → kind_of_detail detail ≡ kind.CNode
+root_holds :
+    (holder : Initial) (detail : Detail) → may_hold (Some holder) detail ≡ true → kind_of_object holder.object ≡ kind.Tcb
+    → kind_of_detail detail ≡ kind.CNode
 root_holds holder (d.CNode _) e at = refl
 root_holds holder d.Untyped e at = absurd (no_tcb holder.object (not-true _ e) at)
 root_holds holder d.Tcb e at = absurd (no_tcb holder.object (not-true _ e) at)
@@ -86,7 +93,9 @@ is_less Equal e = absurd (false≢true e)
 is_less Greater e = absurd (false≢true e)
 
 -- slots below the last are below the new one
-below_new : (t : Layout) (slot : SlotRef) → IsLawful t → is_above_caps t slot ≡ true → (k : ℕ) (d : Filled) → k < length t.caps → slot_cmp (get_or t.caps k d).slot slot ≡ Less
+below_new :
+    (t : Layout) (slot : SlotRef) → IsLawful t → is_above_caps t slot ≡ true → (k : ℕ) (d : Filled) → k < length t.caps
+    → slot_cmp (get_or t.caps k d).slot slot ≡ Less
 unfolding is_above_caps
 below_new t slot h above =
     all_from_last (λ one other. slot_cmp one.slot other.slot ≡ Less) (λ filled. slot_cmp filled.slot slot ≡ Less)
@@ -104,7 +113,9 @@ untyped_at d.Context e = cc
 untyped_at (d.Frame _) e = cc
 untyped_at d.Control e = cc
 
-other_object : (t : Layout) (cap : Cap) → repeats_untyped t cap ≡ false → kind_of_detail cap.detail ≡ kind.Untyped → (k : ℕ) (d : Filled) → k < length t.caps → (get_or t.caps k d).cap.object ≢ cap.object
+other_object :
+    (t : Layout) (cap : Cap) → repeats_untyped t cap ≡ false → kind_of_detail cap.detail ≡ kind.Untyped → (k : ℕ) (d : Filled)
+    → k < length t.caps → (get_or t.caps k d).cap.object ≢ cap.object
 unfolding has_cap_to
 other_object t cap once at k d within same =
     let none : has_cap_to t cap.object ≡ false = sym (ap (λ b. b && has_cap_to t cap.object) (untyped_at cap.detail at)) ∙ once in
@@ -123,11 +134,12 @@ lawful_filled t filled h admits = record {
   few_objects = h.few_objects;
   few_slots = h.few_slots;
   few_threads = h.few_threads;
-  objects = All-weaker (IsObjectOf t) (IsObjectOf (with_filled t filled)) (λ i o. record { label = o.label; blank = o.blank; aligned = o.aligned; end = o.end }) t.objects h.objects;
+  objects = objects_kept t (with_filled t filled) (omega arith) t.objects h.objects;
   objects_apart = h.objects_apart;
   controls_differ = h.controls_differ;
   caps =
-      All-push (IsCapOf (with_filled t filled)) t.caps filled (caps_kept t (with_filled t filled) (λ id initial e. e) refl t.caps h.caps)
+      All-push (IsCapOf (with_filled t filled)) t.caps filled
+      (caps_kept t (with_filled t filled) (λ id initial e. e) refl t.caps h.caps)
       (let holder = holder_of _ _ admits.slot in
       let target = target_of _ _ admits.fits in
       record {
@@ -136,13 +148,17 @@ lawful_filled t filled h admits = record {
         held = holder.1;
         aimed = target.1;
         slot = holder.2;
-        root = root_holds holder.0 filled.cap.detail (sym (ap (λ found. may_hold found filled.cap.detail) holder.1) ∙ admits.root);
+        root =
+            root_holds holder.0 filled.cap.detail (sym (ap (λ found. may_hold found filled.cap.detail) holder.1) ∙ admits.root);
         detail = target.2;
         original = λ _. admits.original;
       });
-  caps_rise = all_pairs_push (λ one other. slot_cmp one.slot other.slot ≡ Less) t.caps filled h.caps_rise (below_new t filled.slot h admits.rises);
+  caps_rise =
+      all_pairs_push (λ one other. slot_cmp one.slot other.slot ≡ Less) t.caps filled h.caps_rise
+      (below_new t filled.slot h admits.rises);
   untypeds_once =
-      all_pairs_push (λ one other. kind_of_detail other.cap.detail ≡ kind.Untyped → one.cap.object ≢ other.cap.object) t.caps filled h.untypeds_once
+      all_pairs_push (λ one other. kind_of_detail other.cap.detail ≡ kind.Untyped → one.cap.object ≢ other.cap.object) t.caps
+      filled h.untypeds_once
       (λ k d within at. other_object t filled.cap admits.once at k d within);
   underived = h.underived;
   bindings = bindings_kept t (with_filled t filled) (λ id initial e. e) t.bindings h.bindings;

@@ -1,7 +1,7 @@
 -- A table whose last part was a filled slot kept the rules without it, and admitted it.
-use Rattle.std.proofs.Common.{◌≡◌, ◌≢◌, ℕ, ◌-◌, ◌<◌, true, false, not, length, get_or, slice_get, [], Option, None, Some, refl, ap, option_map, ◌∙◌}
+use Rattle.std.proofs.Common.{◌≡◌, ◌≢◌, ℕ, ◌-◌, ◌<◌, true, false, not, length, get_or, slice_get, [], Option, None, Some, refl}
+use Rattle.std.proofs.Common.{ap, option_map, ◌∙◌, arith}
 use Rattle.std.proofs.lemmas.Bool.{false_from_ne_true, lt-ltb, le-leb, and_from}
-use Rattle.std.proofs.lemmas.List.Elements.{All-weaker}
 use Rattle.std.specs.List.{find}
 use Rattle.std.specs.Ordering.{is_lt}
 use Rattle.std.specs.declared.cmp.Ordering.TheVariants.{Less}
@@ -15,14 +15,14 @@ use Rattle.machine.specs.declared.object.Object.TheVariants as o
 use Rattle.machine.specs.declared.object.ObjectKind.TheVariants as kind
 use Rattle.machine.specs.Capabilities.{kind_of_detail}
 use Rattle.machine.specs.Layout.{Layout, initial_of, initial_parent}
-use Rattle.machine.specs.Machine.{slot_cmp, same_id, same_slot}
+use Rattle.machine.specs.Machine.{slot_cmp, one_id, same_id, same_slot}
 use Rattle.machine.specs.Objects.{kind_of_object}
-use Rattle.table.specs.Building.{AdmitsCap, declares_slot, is_above_caps, has_index, may_hold, fits, fits_target, is_fitting, is_above_filled, has_cap_to, repeats_untyped, with_filled}
+use Rattle.table.specs.Building.{AdmitsCap, declares_slot, is_above_caps, has_index, may_hold, fits, fits_target, is_fitting}
+use Rattle.table.specs.Building.{is_above_filled, has_cap_to, repeats_untyped, with_filled}
 use Rattle.table.specs.Parts.{BeforePairs}
-use Rattle.table.specs.Rules.{IsLawful, IsObjectOf, IsCapOf, IsBindingOf, IsDetailOf, is_tcb, slot_total, thread_total}
+use Rattle.table.specs.Rules.{IsLawful, IsCapOf, IsBindingOf, IsDetailOf, is_tcb, slot_total, thread_total}
 use Rattle.table.proofs.FrontLemmas.{all_front, pairs_front, all_of_none, none_passes, at_last}
-use Rattle.table.proofs.LawfulKept.{caps_kept}
-use Rattle.machine.specs.Machine.{one_id}
+use Rattle.table.proofs.LawfulKept.{objects_kept, caps_kept}
 
 fits_detail : (object : Object) (detail : Detail) → IsDetailOf object detail → fits object detail ≡ true
 fits_detail (o.Untyped _) d.Untyped is = refl
@@ -48,7 +48,9 @@ no_thread (o.Context _) apart = refl
 no_thread (o.Frame _) apart = refl
 no_thread (o.Control _) apart = refl
 
-holds : (holder : Initial) (detail : Detail) → (kind_of_object holder.object ≡ kind.Tcb → kind_of_detail detail ≡ kind.CNode) → may_hold (Some holder) detail ≡ true
+holds :
+    (holder : Initial) (detail : Detail) → (kind_of_object holder.object ≡ kind.Tcb → kind_of_detail detail ≡ kind.CNode)
+    → may_hold (Some holder) detail ≡ true
 holds holder (d.CNode _) root = refl
 holds holder d.Untyped root = no_thread holder.object (λ at. let same = root at in cc)
 holds holder d.Tcb root = no_thread holder.object (λ at. let same = root at in cc)
@@ -59,17 +61,26 @@ holds holder d.Context root = no_thread holder.object (λ at. let same = root at
 holds holder (d.Frame _) root = no_thread holder.object (λ at. let same = root at in cc)
 holds holder d.Control root = no_thread holder.object (λ at. let same = root at in cc)
 
-rises : (t : Layout) (filled : Filled) → ((k : ℕ) (d : Filled) → k < length t.caps → slot_cmp (get_or t.caps k d).slot filled.slot ≡ Less) → is_above_caps t filled.slot ≡ true
+rises :
+    (t : Layout) (filled : Filled)
+    → ((k : ℕ) (d : Filled) → k < length t.caps → slot_cmp (get_or t.caps k d).slot filled.slot ≡ Less)
+    → is_above_caps t filled.slot ≡ true
 unfolding is_above_caps
 rises t filled below = by (slice_get t.caps (length t.caps - 1)) refl where
   by : (last : Option Filled) → slice_get t.caps (length t.caps - 1) ≡ last → is_above_filled last filled.slot ≡ true
   by None at = refl
   by (Some last) at = ap is_lt (at_last (λ one. slot_cmp one.slot filled.slot ≡ Less) t.caps last below at)
 
-once : (t : Layout) (cap : Cap) → ((k : ℕ) (d : Filled) → k < length t.caps → kind_of_detail cap.detail ≡ kind.Untyped → (get_or t.caps k d).cap.object ≢ cap.object) → repeats_untyped t cap ≡ false
+once :
+    (t : Layout) (cap : Cap)
+    → ((k : ℕ) (d : Filled) → k < length t.caps → kind_of_detail cap.detail ≡ kind.Untyped
+    → (get_or t.caps k d).cap.object ≢ cap.object)
+    → repeats_untyped t cap ≡ false
 unfolding has_cap_to
 once t cap differ = by cap.detail refl where
-  by : (detail : Detail) → cap.detail ≡ detail → repeats_untyped t (record { object = cap.object; detail = detail; original = cap.original }) ≡ false
+  by :
+      (detail : Detail) → cap.detail ≡ detail
+      → repeats_untyped t (record { object = cap.object; detail = detail; original = cap.original }) ≡ false
   by d.Untyped at =
       none_passes (λ filled. same_id filled.cap.object cap.object) t.caps
       (λ k d within. false_from_ne_true _ (λ tie. differ k d within (ap kind_of_detail at) (one_id _ _ tie)))
@@ -85,15 +96,19 @@ once t cap differ = by cap.detail refl where
 -- nothing has a parent where there are no pairs
 no_parent : (t : Layout) → t.pairs ≡ [] → (filled : Filled) → initial_parent t filled.slot ≡ None
 unfolding initial_parent
-no_parent t none filled = ap (λ pairs. option_map (λ pair. pair.parent) (find (λ pair. same_slot pair.child filled.slot) pairs)) none
+no_parent t none filled =
+    ap (λ pairs. option_map (λ pair. pair.parent) (find (λ pair. same_slot pair.child filled.slot) pairs)) none
 
-pub cap_removed : (t : Layout) (filled : Filled) → BeforePairs t → IsLawful (with_filled t filled) → IsLawful t × AdmitsCap t filled
+pub cap_removed :
+    (t : Layout) (filled : Filled) → BeforePairs t → IsLawful (with_filled t filled) → IsLawful t × AdmitsCap t filled
 unfolding initial_of initial_parent declares_slot is_fitting slot_total thread_total
 cap_removed t filled empty h =
     let all = all_front (IsCapOf (with_filled t filled)) t.caps filled h.caps in
     let cap = all.1 in
     let rise = pairs_front (λ one other. slot_cmp one.slot other.slot ≡ Less) t.caps filled h.caps_rise in
-    let differ = pairs_front (λ one other. kind_of_detail other.cap.detail ≡ kind.Untyped → one.cap.object ≢ other.cap.object) t.caps filled h.untypeds_once in (
+    let differ =
+    pairs_front (λ one other. kind_of_detail other.cap.detail ≡ kind.Untyped → one.cap.object ≢ other.cap.object) t.caps
+    filled h.untypeds_once in (
       record {
         few_labels = h.few_labels;
         label_names = h.label_names;
@@ -104,7 +119,7 @@ cap_removed t filled empty h =
         few_objects = h.few_objects;
         few_slots = h.few_slots;
         few_threads = h.few_threads;
-        objects = All-weaker (IsObjectOf (with_filled t filled)) (IsObjectOf t) (λ i o. record { label = o.label; blank = o.blank; aligned = o.aligned; end = o.end }) t.objects h.objects;
+        objects = objects_kept (with_filled t filled) t (omega arith) t.objects h.objects;
         objects_apart = h.objects_apart;
         controls_differ = h.controls_differ;
         caps = caps_kept (with_filled t filled) t (λ id initial e. e) refl t.caps all.0;
@@ -119,7 +134,9 @@ cap_removed t filled empty h =
         rises = rises t filled rise.1;
         slot = ap (λ found. has_index found filled.slot.index) cap.held ∙ lt-ltb _ _ cap.slot;
         root = ap (λ found. may_hold found filled.cap.detail) cap.held ∙ holds cap.holder filled.cap.detail cap.root;
-        fits = ap (λ found. fits_target found filled.cap.detail) cap.aimed ∙ fits_detail cap.target.object filled.cap.detail cap.detail;
+        fits =
+            ap (λ found. fits_target found filled.cap.detail) cap.aimed
+            ∙ fits_detail cap.target.object filled.cap.detail cap.detail;
         once = once t filled.cap differ.1;
         original = cap.original (no_parent t empty.0 filled);
       },

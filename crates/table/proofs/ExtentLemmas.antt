@@ -1,5 +1,6 @@
 -- How many bytes an object of so many bits takes, and that those of an object below `2^48` are few.
-use Rattle.std.proofs.Common.{◌≡◌, ℕ, ◌+◌, ◌-◌, ◌*◌, ◌%◌, ◌^◌, ◌<◌, ◌≤◌, ◌⊎◌, nat_le, nat_lt, ◌&&◌, ◌||◌, List, [], ◌∷◌, map, Some, None, refl, sym, ap, ◌∙◌, arith, inl, inr}
+use Rattle.std.proofs.Common.{◌≡◌, ℕ, ◌+◌, ◌-◌, ◌*◌, ◌%◌, ◌^◌, ◌<◌, ◌≤◌, ◌⊎◌, nat_le, nat_lt, ◌&&◌, ◌||◌, List, [], ◌∷◌, map}
+use Rattle.std.proofs.Common.{Some, None, refl, sym, ap, ◌∙◌, arith, inl, inr}
 use Rattle.std.proofs.lemmas.Bool.{cases_lt}
 use Rattle.std.proofs.Math.Pow.{pow_mono}
 use Rattle.std.proofs.lemmas.Bool.Decides.{nat_tests}
@@ -44,7 +45,9 @@ few_bits start bits h = by (cases_lt 48 bits) where
   by (inl many) = let large : 562949953421312 ≤ 2 ^ bits = pow_mono {i = 49} {j = bits} many in omega (arith, large)
 
 pub small : (object : Object) (bits : ℕ) → size_bits object ≡ Some bits → end_of object ≤ 281474976710656 → bits ≤ 48
-small object bits e h = few_bits (address_of object) bits (let same : size_of object ≡ 2 ^ bits = size_of-bits object bits e in omega (arith, same, h))
+small object bits e h =
+    few_bits (address_of object) bits
+    (let same : size_of object ≡ 2 ^ bits = size_of-bits object bits e in omega (arith, same, h))
 
 pub shifted : (bits : ℕ) → bits ≤ 48 → (1 * 2 ^ bits % 18446744073709551616 ≡ 2 ^ bits) × (2 ^ bits ≤ 281474976710656)
 shifted bits few = ((one_shifted bits 18446744073709551615 refl (omega arith)).0, pow_mono {i = bits} {j = 48} few)
@@ -56,26 +59,41 @@ few_fit object bits e few =
     let shift : 1 * 2 ^ bits % 18446744073709551616 ≡ 2 ^ bits = (shifted bits few).0 in
     let below : 2 ^ bits ≤ 281474976710656 = (shifted bits few).1 in
     rw shift (compared (address_of object) (2 ^ bits) (size_of object) size below) where
-      compared : (start power size : ℕ) → size ≡ power → power ≤ 281474976710656 → nat_le start (281474976710656 - power) ≡ nat_le (start + size) 281474976710656
+      compared :
+          (start power size : ℕ) → size ≡ power → power ≤ 281474976710656
+          → nat_le start (281474976710656 - power) ≡ nat_le (start + size) 281474976710656
       compared start power size e h = grind (arith, nat_tests)
 
-pub many_exceed : (object : Object) (bits : ℕ) → size_bits object ≡ Some bits → 48 < bits → nat_le bits 48 ≡ nat_le (end_of object) 281474976710656
+pub many_exceed :
+    (object : Object) (bits : ℕ) → size_bits object ≡ Some bits → 48 < bits
+    → nat_le bits 48 ≡ nat_le (end_of object) 281474976710656
 many_exceed object bits e many =
     let size : size_of object ≡ 2 ^ bits = size_of-bits object bits e in
     let large : 562949953421312 ≤ 2 ^ bits = pow_mono {i = 49} {j = bits} many in
     compared (address_of object) bits (2 ^ bits) (size_of object) size large many where
-      compared : (start bits power size : ℕ) → size ≡ power → 562949953421312 ≤ power → 48 < bits → nat_le bits 48 ≡ nat_le (start + size) 281474976710656
+      compared :
+          (start bits power size : ℕ) → size ≡ power → 562949953421312 ≤ power → 48 < bits
+          → nat_le bits 48 ≡ nat_le (start + size) 281474976710656
       compared start bits power size e h many = grind (arith, nat_tests)
 
 -- an object meets the extents of others where it meets the others
-met_extents : (extent : Extent) (object : Object) (objects : List Initial) → extent.start ≡ address_of object → extent.end ≡ end_of object
-    → list_any (λ other. nat_lt other.start extent.end && nat_lt extent.start other.end) (map (λ initial. extent_of initial.object) objects) ≡ list_any (λ initial. meets initial.object object) objects
+met_extents :
+    (extent : Extent) (object : Object) (objects : List Initial) → extent.start ≡ address_of object → extent.end ≡ end_of object
+    → list_any (λ other. nat_lt other.start extent.end && nat_lt extent.start other.end)
+    (map (λ initial. extent_of initial.object) objects)
+    ≡ list_any (λ initial. meets initial.object object) objects
 met_extents extent object [] start end = refl
 met_extents extent object (initial ∷ objects) start end =
-    λ i. (nat_lt (address_of initial.object) (end i) && nat_lt (start i) (end_of initial.object)) || met_extents extent object objects start end i
+    λ i.
+    (nat_lt (address_of initial.object) (end i) && nat_lt (start i) (end_of initial.object)) || met_extents extent object objects
+    start end i
 
-pub meets_any-extents : (extent : Extent) (object : Object) (extents : List Extent) (objects : List Initial) → extents ≡ map (λ initial. extent_of initial.object) objects
+pub meets_any-extents :
+    (extent : Extent) (object : Object) (extents : List Extent) (objects : List Initial)
+    → extents ≡ map (λ initial. extent_of initial.object) objects
     → extent.start ≡ address_of object → extent.end ≡ end_of object
-    → list_any (λ other. nat_lt other.start extent.end && nat_lt extent.start other.end) extents ≡ list_any (λ initial. meets initial.object object) objects
+    → list_any (λ other. nat_lt other.start extent.end && nat_lt extent.start other.end) extents
+    ≡ list_any (λ initial. meets initial.object object) objects
 meets_any-extents extent object extents objects same start end =
-    ap (list_any (λ other. nat_lt other.start extent.end && nat_lt extent.start other.end)) same ∙ met_extents extent object objects start end
+    ap (list_any (λ other. nat_lt other.start extent.end && nat_lt extent.start other.end)) same
+    ∙ met_extents extent object objects start end

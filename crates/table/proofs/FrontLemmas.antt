@@ -1,5 +1,6 @@
 -- Lists without their last element: what held of the whole holds of the front, and ties the last element to it.
-use Rattle.std.proofs.Common.{◌≡◌, ℕ, suc, ◌+◌, ◌-◌, ◌<◌, Bool, false, List, [], ◌∷◌, ◌++◌, length, get_or, slice_get, position, is_some, Option, Some, None, All, AllPairs, refl, sym, subst, arith}
+use Rattle.std.proofs.Common.{◌≡◌, ℕ, suc, ◌+◌, ◌-◌, ◌<◌, Bool, false, List, [], ◌∷◌, ◌++◌, length, get_or, slice_get, position}
+use Rattle.std.proofs.Common.{is_some, Option, Some, None, All, AllPairs, refl, sym, subst, arith}
 use Rattle.std.proofs.lemmas.Bool.{or_from}
 use Rattle.std.proofs.lemmas.List.{append-nil, append_assoc, length_push, get_or_append_left, get_or_push}
 use Rattle.std.proofs.lemmas.List.Elements.{All-nil, All-pop, All-same}
@@ -12,7 +13,9 @@ use Rattle.std.specs.Str.{bytes_eq}
 pub all_front : {X : Type 0} (P : X → Type 0) (xs : List X) (x : X) → All P (xs ++ x ∷ []) → All P xs × P x
 all_front P xs x h = All-pop P (xs ++ x ∷ []) xs (Some x) refl h
 
-pub pairs_front : {X : Type 0} (R : X → X → Type 0) (xs : List X) (x : X) → AllPairs R (xs ++ x ∷ []) → AllPairs R xs × ((k : ℕ) (d : X) → k < length xs → R (get_or xs k d) x)
+pub pairs_front :
+    {X : Type 0} (R : X → X → Type 0) (xs : List X) (x : X) → AllPairs R (xs ++ x ∷ [])
+    → AllPairs R xs × ((k : ℕ) (d : X) → k < length xs → R (get_or xs k d) x)
 pairs_front {X = X} R xs x h = (in_front, to_last) where
   size : length (xs ++ x ∷ []) ≡ length xs + 1
   size = length_push xs x
@@ -21,25 +24,32 @@ pairs_front {X = X} R xs x h = (in_front, to_last) where
   in_front i j d lower within =
       let first : get_or (xs ++ x ∷ []) i d ≡ get_or xs i d = get_or_append_left xs (x ∷ []) d i (omega arith) in
       let second : get_or (xs ++ x ∷ []) j d ≡ get_or xs j d = get_or_append_left xs (x ∷ []) d j within in
-      subst (λ y. R y (get_or xs j d)) first (subst (λ y. R (get_or (xs ++ x ∷ []) i d) y) second (h i j d lower (omega (arith, size))))
+      subst (λ y. R y (get_or xs j d)) first
+      (subst (λ y. R (get_or (xs ++ x ∷ []) i d) y) second (h i j d lower (omega (arith, size))))
 
   to_last : (k : ℕ) (d : X) → k < length xs → R (get_or xs k d) x
   to_last k d within =
       let first : get_or (xs ++ x ∷ []) k d ≡ get_or xs k d = get_or_append_left xs (x ∷ []) d k within in
       let second : get_or (xs ++ x ∷ []) (length xs) d ≡ x = get_or_push xs x d (length xs) refl in
-      subst (λ y. R y x) first (subst (λ y. R (get_or (xs ++ x ∷ []) k d) y) second (h k (length xs) d within (omega (arith, size))))
+      subst (λ y. R y x) first
+      (subst (λ y. R (get_or (xs ++ x ∷ []) k d) y) second (h k (length xs) d within (omega (arith, size))))
 
 -- an empty list has no element, and no two
 pub all_of_none : {X : Type 0} (P : X → Type 0) (xs : List X) → xs ≡ [] → All P xs
 all_of_none P xs e = All-same P xs [] e (All-nil P)
 
 -- where no element passes a test, the list has none that does
-pub none_passes : {X : Type 0} (p : X → Bool) (xs : List X) → ((k : ℕ) (d : X) → k < length xs → p (get_or xs k d) ≡ false) → list_any p xs ≡ false
+pub none_passes :
+    {X : Type 0} (p : X → Bool) (xs : List X) → ((k : ℕ) (d : X) → k < length xs → p (get_or xs k d) ≡ false)
+    → list_any p xs ≡ false
 none_passes p [] none = refl
-none_passes p (x ∷ xs) none = or_from (p x) (list_any p xs) (none 0 x (omega arith)) (none_passes p xs (λ k d within. none (suc k) d (omega arith)))
+none_passes p (x ∷ xs) none =
+    or_from (p x) (list_any p xs) (none 0 x (omega arith)) (none_passes p xs (λ k d within. none (suc k) d (omega arith)))
 
 -- a name that differs from each name has no place among them
-pub no_place : (name : List ℕ) (names : List (List ℕ)) → ((k : ℕ) (d : List ℕ) → k < length names → get_or names k d ≡ name → ⊥) → is_some (position (λ other. bytes_eq name other) names) ≡ false
+pub no_place :
+    (name : List ℕ) (names : List (List ℕ)) → ((k : ℕ) (d : List ℕ) → k < length names → get_or names k d ≡ name → ⊥)
+    → is_some (position (λ other. bytes_eq name other) names) ≡ false
 no_place name names apart = by (position (λ other. bytes_eq name other) names) refl where
   by : (place : Option ℕ) → position (λ other. bytes_eq name other) names ≡ place → is_some place ≡ false
   by None at = refl
@@ -48,10 +58,16 @@ no_place name names apart = by (position (λ other. bytes_eq name other) names) 
       absurd (apart k [] found.0 (sym ((bytes_eq-Decides name (get_or names k [])).0 found.1)))
 
 -- what the last element is like is known from what each element is like
-pub at_last : {X : Type 0} (P : X → Type 0) (xs : List X) (x : X) → ((k : ℕ) (d : X) → k < length xs → P (get_or xs k d)) → slice_get xs (length xs - 1) ≡ Some x → P x
-at_last P xs x each at = subst P (get_or_from_slice_get xs (length xs - 1) x x at) (each (length xs - 1) x (slice_get_within xs (length xs - 1) x at))
+pub at_last :
+    {X : Type 0} (P : X → Type 0) (xs : List X) (x : X) → ((k : ℕ) (d : X) → k < length xs → P (get_or xs k d))
+    → slice_get xs (length xs - 1) ≡ Some x → P x
+at_last P xs x each at =
+    subst P (get_or_from_slice_get xs (length xs - 1) x x at) (each (length xs - 1) x (slice_get_within xs (length xs - 1) x at))
 
 -- what an empty list has, and a list with one element more each time, each list has
-pub from_front : {X : Type 0} (P : List X → Type 0) → ((xs : List X) (x : X) → P xs → P (xs ++ x ∷ [])) → (front rest : List X) → P front → P (front ++ rest)
+pub from_front :
+    {X : Type 0} (P : List X → Type 0) → ((xs : List X) (x : X) → P xs → P (xs ++ x ∷ [])) → (front rest : List X) → P front
+    → P (front ++ rest)
 from_front P push front [] h = subst P (sym (append-nil front)) h
-from_front P push front (x ∷ rest) h = subst P (append_assoc front (x ∷ []) rest) (from_front P push (front ++ x ∷ []) rest (push front x h))
+from_front P push front (x ∷ rest) h =
+    subst P (append_assoc front (x ∷ []) rest) (from_front P push (front ++ x ∷ []) rest (push front x h))

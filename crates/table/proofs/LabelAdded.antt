@@ -2,7 +2,7 @@
 use Rattle.std.proofs.Common.{◌≡◌, ◌≢◌, ℕ, ◌<◌, true, false, List, length, get_or, position, is_some, refl, sym, ◌∙◌, arith}
 use Rattle.std.proofs.lemmas.Bool.{false≢true}
 use Rattle.std.proofs.lemmas.List.{length_push}
-use Rattle.std.proofs.lemmas.List.Elements.{All-push, All-weaker}
+use Rattle.std.proofs.lemmas.List.Elements.{All-push}
 use Rattle.std.proofs.lemmas.List.Quantifiers.{all_pairs_push}
 use Rattle.std.proofs.lemmas.Slice.Eq.{bytes_eq-Decides}
 use Rattle.std.specs.Str.{bytes_eq}
@@ -10,15 +10,18 @@ use Rattle.machine.specs.Layout.{Layout, initial_of}
 use Rattle.table.specs.Building.{AdmitsLabel, with_label}
 use Rattle.table.specs.Names.{label_named}
 use Rattle.words.specs.Name.{is_name}
-use Rattle.table.specs.Rules.{IsLawful, IsObjectOf, slot_total, thread_total}
-use Rattle.table.proofs.LawfulKept.{caps_kept, bindings_kept}
+use Rattle.table.specs.Rules.{IsLawful, slot_total, thread_total}
+use Rattle.table.proofs.LawfulKept.{objects_kept, caps_kept, bindings_kept}
 use Rattle.table.proofs.ListLemmas.{not_any}
 use Rattle.table.proofs.NameLemmas.{list_any-none}
 
 -- a name that has no number differs from each name
-pub differs : (name : List ℕ) (names : List (List ℕ)) → is_some (position (λ other. bytes_eq name other) names) ≡ false → (k : ℕ) (d : List ℕ) → k < length names → get_or names k d ≢ name
+pub differs :
+    (name : List ℕ) (names : List (List ℕ)) → is_some (position (λ other. bytes_eq name other) names) ≡ false
+    → (k : ℕ) (d : List ℕ) → k < length names → get_or names k d ≢ name
 differs name names none k d within same =
-    let missed = not_any (λ other. bytes_eq name other) names (list_any-none (λ other. bytes_eq name other) names none) k d within in
+    let missed =
+    not_any (λ other. bytes_eq name other) names (list_any-none (λ other. bytes_eq name other) names none) k d within in
     false≢true (sym missed ∙ (bytes_eq-Decides name (get_or names k d)).1 (sym same))
 
 pub lawful_label : (t : Layout) (name : List ℕ) → IsLawful t → AdmitsLabel t name → IsLawful (with_label t name)
@@ -33,10 +36,7 @@ lawful_label t name h admits = record {
   few_objects = h.few_objects;
   few_slots = h.few_slots;
   few_threads = h.few_threads;
-  objects =
-      All-weaker (IsObjectOf t) (IsObjectOf (with_label t name))
-      (λ initial o. record { label = let size = length_push t.labels name in let label = o.label in omega arith; blank = o.blank; aligned = o.aligned; end = o.end })
-      t.objects h.objects;
+  objects = objects_kept t (with_label t name) (let size = length_push t.labels name in omega arith) t.objects h.objects;
   objects_apart = h.objects_apart;
   controls_differ = h.controls_differ;
   caps = caps_kept t (with_label t name) (λ id initial e. e) refl t.caps h.caps;

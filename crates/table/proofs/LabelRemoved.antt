@@ -9,7 +9,8 @@ use Rattle.table.specs.Parts.{BeforeObjects}
 use Rattle.table.specs.Rules.{IsLawful, IsObjectOf, IsCapOf, IsBindingOf, slot_total, thread_total}
 use Rattle.table.proofs.FrontLemmas.{all_front, pairs_front, all_of_none, no_place}
 
-pub label_removed : (t : Layout) (name : List ℕ) → BeforeObjects t → IsLawful (with_label t name) → IsLawful t × AdmitsLabel t name
+pub label_removed :
+    (t : Layout) (name : List ℕ) → BeforeObjects t → IsLawful (with_label t name) → IsLawful t × AdmitsLabel t name
 unfolding label_named slot_total thread_total
 label_removed t name empty h =
     let size = length_push t.labels name in

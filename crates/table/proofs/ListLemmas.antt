@@ -1,15 +1,20 @@
 -- Lists that grow at their end: what stays at its place, and what holds of each element and the new one.
-use Rattle.std.proofs.Common.{◌≡◌, ℕ, zero, suc, ◌-◌, ◌<◌, ◌≤◌, ◌⊎◌, Bool, false, List, [], ◌∷◌, ◌++◌, length, get_or, slice_get, Some, All, AllPairs, sym, ◌∙◌, subst, inl, inr, arith}
+use Rattle.std.proofs.Common.{◌≡◌, ℕ, zero, suc, ◌-◌, ◌<◌, ◌≤◌, ◌⊎◌, Bool, false, List, [], ◌∷◌, ◌++◌, length, get_or, slice_get}
+use Rattle.std.proofs.Common.{Some, All, AllPairs, sym, ◌∙◌, subst, inl, inr, arith}
 use Rattle.std.proofs.lemmas.Bool.{false_from_ne_true, false≢true, cases_lt}
 use Rattle.std.proofs.lemmas.List.Folds.{list_any_at}
 use Rattle.std.proofs.lemmas.Option.{none-some, slice_get-get_or}
 use Rattle.std.specs.List.{list_any}
 
 -- no element passes a test that none passes
-pub not_any : {X : Type 0} (p : X → Bool) (xs : List X) → list_any p xs ≡ false → (k : ℕ) (d : X) → k < length xs → p (get_or xs k d) ≡ false
-not_any p xs none k d within = false_from_ne_true (p (get_or xs k d)) (λ hit. false≢true (sym none ∙ list_any_at p xs k d within hit))
+pub not_any :
+    {X : Type 0} (p : X → Bool) (xs : List X) → list_any p xs ≡ false → (k : ℕ) (d : X) → k < length xs
+    → p (get_or xs k d) ≡ false
+not_any p xs none k d within =
+    false_from_ne_true (p (get_or xs k d)) (λ hit. false≢true (sym none ∙ list_any_at p xs k d within hit))
 
-pub slice_get-append_left : {X : Type 0} (xs ys : List X) (i : ℕ) (x : X) → slice_get xs i ≡ Some x → slice_get (xs ++ ys) i ≡ Some x
+pub slice_get-append_left :
+    {X : Type 0} (xs ys : List X) (i : ℕ) (x : X) → slice_get xs i ≡ Some x → slice_get (xs ++ ys) i ≡ Some x
 slice_get-append_left [] ys i x e = absurd (none-some x e)
 slice_get-append_left (y ∷ xs) ys zero x e = e
 slice_get-append_left (y ∷ xs) ys (suc i) x e = slice_get-append_left xs ys i x e

@@ -1,5 +1,6 @@
 -- Where a name stands among names that are kept as strings, and that a new one goes last.
-use Rattle.std.proofs.Common.{◌≡◌, ℕ, ◌+◌, suc, Bool, true, false, cond, not, nat_lt, List, [], ◌∷◌, ◌++◌, map, length, position, is_some, Some, None, String, refl, sym, ap, ◌∙◌, arith, if◌then◌else◌, ◌||◌}
+use Rattle.std.proofs.Common.{◌≡◌, ℕ, ◌+◌, suc, Bool, true, false, cond, not, nat_lt, List, [], ◌∷◌, ◌++◌, map, length, position}
+use Rattle.std.proofs.Common.{is_some, option_map, Option, Some, None, String, refl, sym, ap, ◌∙◌, arith, if◌then◌else◌, ◌||◌}
 use Rattle.std.proofs.lemmas.Bool.Decides.{nat_tests}
 use Rattle.std.proofs.lemmas.List.{length-map, map_push}
 use Rattle.std.specs.List.{list_any, prefix_len, position_or_len}
@@ -30,12 +31,25 @@ list_any-position p (x ∷ xs) = by (p x) (list_any p xs) (position_or_len p xs)
 
 -- a name that has no place isn't there
 pub list_any-none : {X : Type 0} (p : X → Bool) (xs : List X) → is_some (position p xs) ≡ false → list_any p xs ≡ false
-list_any-none p xs none = list_any-position p xs ∙ sym (is_some-cond (nat_lt (position_or_len p xs) (length xs)) (position_or_len p xs)) ∙ none
+list_any-none p xs none =
+    list_any-position p xs ∙ sym (is_some-cond (nat_lt (position_or_len p xs) (length xs)) (position_or_len p xs)) ∙ none
+
+-- a name has a number where it has a place
+pub is_some-option_map : {X Y : Type 0} (f : X → Y) (o : Option X) → is_some (option_map f o) ≡ is_some o
+is_some-option_map f None = refl
+is_some-option_map f (Some x) = refl
 
 -- a name that isn't there goes last
-pub added : {A : Type 0} (name : List ℕ) (string : String A) (strings : List (String A)) (names : List (List ℕ)) → string_bytes string ≡ name → map string_bytes strings ≡ names
-    → is_some (position (λ other. bytes_eq name other) names) ≡ false → map string_bytes (insert_key string_eq strings string) ≡ names ++ name ∷ []
+pub added :
+    {A : Type 0} (name : List ℕ) (string : String A) (strings : List (String A)) (names : List (List ℕ))
+    → string_bytes string ≡ name → map string_bytes strings ≡ names
+    → is_some (position (λ other. bytes_eq name other) names) ≡ false
+    → map string_bytes (insert_key string_eq strings string) ≡ names ++ name ∷ []
 added name string strings names spelled seen none =
-    let at_string : is_some (position (λ other. bytes_eq (string_bytes string) other) (map string_bytes strings)) ≡ false = rw (spelled, seen) none in
-    let absent : list_any (string_eq string) strings ≡ false = list_any-none _ strings (ap is_some (sym (position-map (λ other. bytes_eq (string_bytes string) other) string_bytes strings)) ∙ at_string) in
-    ap (λ there. map string_bytes (if there then strings else strings ++ string ∷ [])) absent ∙ map_push string_bytes strings string ∙ (λ i. seen i ++ spelled i ∷ [])
+    let at_string : is_some (position (λ other. bytes_eq (string_bytes string) other) (map string_bytes strings)) ≡ false =
+    rw (spelled, seen) none in
+    let absent : list_any (string_eq string) strings ≡ false =
+    list_any-none _ strings
+    (ap is_some (sym (position-map (λ other. bytes_eq (string_bytes string) other) string_bytes strings)) ∙ at_string) in
+    ap (λ there. map string_bytes (if there then strings else strings ++ string ∷ [])) absent
+    ∙ map_push string_bytes strings string ∙ (λ i. seen i ++ spelled i ∷ [])

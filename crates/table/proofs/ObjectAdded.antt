@@ -1,9 +1,10 @@
 -- A table with an object more keeps the rules.
-use Rattle.std.proofs.Common.{◌≡◌, ◌≢◌, ℕ, ◌+◌, ◌<◌, ◌≤◌, Bool, true, false, cond, not, nat_lt, nat_le, ◌||◌, ◌&&◌, List, [], ◌∷◌, length, get_or, is_some, option_map, Option, None, Some, refl, sym, ap, ◌∙◌, arith}
+use Rattle.std.proofs.Common.{◌≡◌, ◌≢◌, ℕ, ◌+◌, ◌<◌, ◌≤◌, Bool, true, false, cond, not, nat_lt, nat_le, ◌||◌, ◌&&◌, List, [], ◌∷◌}
+use Rattle.std.proofs.Common.{length, get_or, refl, sym, ap, ◌∙◌, arith}
 use Rattle.std.proofs.lemmas.Bool.{not-true, eqb-true, false≢true, false_from_ne_true, ltb-true, leb-true, and_parts}
 use Rattle.std.proofs.lemmas.Bool.Decides.{nat_tests}
 use Rattle.std.proofs.lemmas.List.{length_push}
-use Rattle.std.proofs.lemmas.List.Elements.{All-push, All-weaker}
+use Rattle.std.proofs.lemmas.List.Elements.{All-push}
 use Rattle.std.proofs.lemmas.List.Quantifiers.{all_pairs_push}
 use Rattle.std.proofs.lemmas.List.Sums.{sum_by_push}
 use Rattle.machine.specs.declared.layout.Initial.{Initial}
@@ -17,16 +18,21 @@ use Rattle.words.specs.Name.{is_name}
 use Rattle.table.specs.Placement.{IsApart, meets}
 use Rattle.table.specs.Rules.{IsLawful, IsObjectOf, is_control_of, is_tcb, slot_total, thread_total}
 use Rattle.table.proofs.LabelAdded.{differs}
-use Rattle.table.proofs.LawfulKept.{Keeps, caps_kept, bindings_kept}
+use Rattle.table.proofs.LawfulKept.{objects_kept, Keeps, caps_kept, bindings_kept}
 use Rattle.table.proofs.ListLemmas.{not_any, slice_get-append_left}
+use Rattle.table.proofs.NameLemmas.{is_some-option_map}
 
 pub apart_from_meets : (one other : Object) → meets one other ≡ false → IsApart one other
-apart_from_meets one other misses address in_one in_other = far (address_of one) (end_of one) (address_of other) (end_of other) address misses in_one.0 in_one.1 in_other.0 in_other.1 where
-  far : (a b c d x : ℕ) → (nat_lt a d && nat_lt c b) ≡ false → a ≤ x → x < b → c ≤ x → x < d → ⊥
-  far a b c d x misses low high low2 high2 = grind (arith, nat_tests)
+apart_from_meets one other misses address in_one in_other =
+    far (address_of one) (end_of one) (address_of other) (end_of other) address misses in_one.0 in_one.1 in_other.0 in_other.1
+  where
+    far : (a b c d x : ℕ) → (nat_lt a d && nat_lt c b) ≡ false → a ≤ x → x < b → c ≤ x → x < d → ⊥
+    far a b c d x misses low high low2 high2 = grind (arith, nat_tests)
 
 -- an object that controls a core is that core's control
-control_at : (t : Layout) (object : Object) (core : ℕ) → repeats_control t object ≡ false → is_control_of object core ≡ true → has_control t core ≡ false
+control_at :
+    (t : Layout) (object : Object) (core : ℕ) → repeats_control t object ≡ false → is_control_of object core ≡ true
+    → has_control t core ≡ false
 control_at t (o.Control control) core once at = ap (has_control t) (sym (eqb-true control.core core at)) ∙ once
 control_at t (o.Untyped _) core once at = absurd (false≢true at)
 control_at t (o.CNode _) core once at = absurd (false≢true at)
@@ -37,16 +43,14 @@ control_at t (o.Reply _) core once at = absurd (false≢true at)
 control_at t (o.Context _) core once at = absurd (false≢true at)
 control_at t (o.Frame _) core once at = absurd (false≢true at)
 
-is_some-option_map : {X Y : Type 0} (f : X → Y) (o : Option X) → is_some (option_map f o) ≡ is_some o
-is_some-option_map f None = refl
-is_some-option_map f (Some x) = refl
-
 pub keeps_initial : (t : Layout) (name : List ℕ) (initial : Initial) → Keeps t (with_initial t name initial)
 unfolding initial_of
 keeps_initial t name initial id found e = slice_get-append_left t.objects (initial ∷ []) id.0 found e
 
 -- what room for an object says of the three counts
-within_limits : (objects slots more threads : ℕ) (thread : Bool) → ((nat_lt objects 4096 && nat_le (slots + more) 65536) && (nat_lt threads 1024 || not thread)) ≡ true → threads ≤ 1024
+within_limits :
+    (objects slots more threads : ℕ) (thread : Bool)
+    → ((nat_lt objects 4096 && nat_le (slots + more) 65536) && (nat_lt threads 1024 || not thread)) ≡ true → threads ≤ 1024
     → (objects < 4096) × (slots + more ≤ 65536) × (threads + cond thread 1 0 ≤ 1024)
 within_limits objects slots more threads thread e few =
     let parts = and_parts _ _ e in
@@ -56,28 +60,40 @@ within_limits objects slots more threads thread e few =
       more_threads true e = grind (arith, nat_tests)
       more_threads false e = omega arith
 
-pub lawful_initial : (t : Layout) (name : List ℕ) (initial : Initial) → IsLawful t → AdmitsObject t name initial → IsLawful (with_initial t name initial)
+pub lawful_initial :
+    (t : Layout) (name : List ℕ) (initial : Initial) → IsLawful t → AdmitsObject t name initial
+    → IsLawful (with_initial t name initial)
 unfolding object_named slot_total thread_total has_room is_free has_control
 lawful_initial t name initial h admits = record {
   few_labels = h.few_labels;
   label_names = h.label_names;
   labels_differ = h.labels_differ;
   object_names = All-push (λ other. is_name other ≡ true) t.names name h.object_names admits.spelled;
-  names_differ = all_pairs_push ◌≢◌ t.names name h.names_differ (differs name t.names (sym (is_some-option_map _ _) ∙ admits.fresh));
+  names_differ =
+      all_pairs_push ◌≢◌ t.names name h.names_differ (differs name t.names (sym (is_some-option_map _ _) ∙ admits.fresh));
   each_named = length_push t.names name ∙ ap (λ n. n + 1) h.each_named ∙ sym (length_push t.objects initial);
   few_objects = let size = length_push t.objects initial in let room = limits.0 in omega arith;
-  few_slots = let total = sum_by_push (λ (i : Initial). slot_count i.object) t.objects initial in let room = limits.1 in omega arith;
-  few_threads = let total = sum_by_push (λ (i : Initial). cond (is_tcb i.object) 1 0) t.objects initial in let room = limits.2 in omega arith;
+  few_slots =
+      let total = sum_by_push (λ (i : Initial). slot_count i.object) t.objects initial in let room = limits.1 in omega arith;
+  few_threads =
+      let total = sum_by_push (λ (i : Initial). cond (is_tcb i.object) 1 0) t.objects initial in
+      let room = limits.2 in omega arith;
   objects =
       All-push (IsObjectOf (with_initial t name initial)) t.objects initial
-      (All-weaker (IsObjectOf t) (IsObjectOf (with_initial t name initial)) (λ i o. record { label = o.label; blank = o.blank; aligned = o.aligned; end = o.end }) t.objects h.objects)
+      (objects_kept t (with_initial t name initial) (omega arith) t.objects h.objects)
       (record { label = admits.label; blank = admits.blank; aligned = admits.aligned; end = admits.end });
   objects_apart =
       all_pairs_push (λ one other. IsApart one.object other.object) t.objects initial h.objects_apart
-      (λ k d within. apart_from_meets (get_or t.objects k d).object initial.object (not_any (λ i. meets i.object initial.object) t.objects (not-true _ admits.free) k d within));
+      (λ k d within.
+      apart_from_meets (get_or t.objects k d).object initial.object
+      (not_any (λ i. meets i.object initial.object) t.objects (not-true _ admits.free) k d within));
   controls_differ =
-      all_pairs_push (λ one other. (core : ℕ) → is_control_of one.object core ≡ true → is_control_of other.object core ≡ false) t.objects initial h.controls_differ
-      (λ k d within core at. other_core (get_or t.objects k d) core at (λ at2. not_any (λ i. is_control_of i.object core) t.objects (control_at t initial.object core admits.controls at2) k d within));
+      all_pairs_push (λ one other. (core : ℕ) → is_control_of one.object core ≡ true → is_control_of other.object core ≡ false)
+      t.objects initial h.controls_differ
+      (λ k d within core at.
+      other_core (get_or t.objects k d) core at
+      (λ at2.
+      not_any (λ i. is_control_of i.object core) t.objects (control_at t initial.object core admits.controls at2) k d within));
   caps = caps_kept t (with_initial t name initial) (keeps_initial t name initial) refl t.caps h.caps;
   caps_rise = h.caps_rise;
   untypeds_once = h.untypeds_once;
@@ -86,8 +102,16 @@ lawful_initial t name initial h admits = record {
   bindings_rise = h.bindings_rise;
   contexts_differ = h.contexts_differ;
 } where
-  limits : (length t.objects < 4096) × (slot_total t + slot_count initial.object ≤ 65536) × (thread_total t + cond (is_tcb initial.object) 1 0 ≤ 1024)
-  limits = within_limits (length t.objects) (slot_total t) (slot_count initial.object) (thread_total t) (is_tcb initial.object) admits.room h.few_threads
+  limits :
+      (length t.objects < 4096) × (slot_total t + slot_count initial.object ≤ 65536)
+      × (thread_total t + cond (is_tcb initial.object) 1 0 ≤ 1024)
+  limits =
+      within_limits (length t.objects) (slot_total t) (slot_count initial.object) (thread_total t) (is_tcb initial.object)
+      admits.room h.few_threads
 
-  other_core : (one : Initial) (core : ℕ) → is_control_of one.object core ≡ true → (is_control_of initial.object core ≡ true → is_control_of one.object core ≡ false) → is_control_of initial.object core ≡ false
-  other_core one core at misses = false_from_ne_true (is_control_of initial.object core) (λ at2. false≢true (sym (misses at2) ∙ at))
+  other_core :
+      (one : Initial) (core : ℕ) → is_control_of one.object core ≡ true
+      → (is_control_of initial.object core ≡ true → is_control_of one.object core ≡ false)
+      → is_control_of initial.object core ≡ false
+  other_core one core at misses =
+      false_from_ne_true (is_control_of initial.object core) (λ at2. false≢true (sym (misses at2) ∙ at))

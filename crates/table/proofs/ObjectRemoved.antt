@@ -1,9 +1,10 @@
 -- A table whose last part was an object kept the rules without it, and admitted it.
-use Rattle.std.proofs.Common.{◌≡◌, ◌≢◌, ℕ, ◌+◌, ◌<◌, ◌≤◌, ◌⊎◌, inl, inr, Bool, true, false, cond, not, nat_lt, ◌||◌, List, length, get_or, is_some, option_map, Option, None, Some, refl, sym, ◌∙◌, arith}
-use Rattle.std.proofs.lemmas.Bool.{false_from_ne_true, false≢true, and_from, lt-ltb, le-leb, ltb-true, and_parts, cases_lt, eq-eqb, not_from_false}
+use Rattle.std.proofs.Common.{◌≡◌, ◌≢◌, ℕ, ◌+◌, ◌<◌, ◌≤◌, ◌⊎◌, inl, inr, Bool, true, false, cond, not, nat_lt, ◌||◌, List, length}
+use Rattle.std.proofs.Common.{get_or, refl, sym, ◌∙◌, arith}
+use Rattle.std.proofs.lemmas.Bool.{false_from_ne_true, false≢true, and_from, lt-ltb, le-leb, ltb-true, and_parts, cases_lt}
+use Rattle.std.proofs.lemmas.Bool.{eq-eqb, not_from_false}
 use Rattle.std.proofs.lemmas.Bool.Decides.{nat_tests}
 use Rattle.std.proofs.lemmas.List.{length_push}
-use Rattle.std.proofs.lemmas.List.Elements.{All-weaker}
 use Rattle.std.proofs.lemmas.List.Sums.{sum_by_push}
 use Rattle.std.proofs.lemmas.Nat.{pow_pos}
 use Rattle.machine.specs.declared.layout.Initial.{Initial}
@@ -18,6 +19,8 @@ use Rattle.table.specs.Parts.{BeforeCaps}
 use Rattle.table.specs.Placement.{IsApart, meets}
 use Rattle.table.specs.Rules.{IsLawful, IsObjectOf, IsCapOf, IsBindingOf, is_control_of, is_tcb, slot_total, thread_total}
 use Rattle.table.proofs.FrontLemmas.{all_front, pairs_front, all_of_none, none_passes, no_place}
+use Rattle.table.proofs.LawfulKept.{objects_kept}
+use Rattle.table.proofs.NameLemmas.{is_some-option_map}
 
 -- an object has a first byte, or lies at no address
 starts_below : (object : Object) → (address_of object < end_of object) ⊎ (end_of object ≡ 0)
@@ -33,19 +36,32 @@ starts_below (o.Control _) = inr refl
 
 -- objects with no address in both don't meet
 apart_meets : (one other : Object) → IsApart one other → meets one other ≡ false
-apart_meets one other apart = false_from_ne_true (meets one other) (λ both. let parts = and_parts _ _ both in by (ltb-true _ _ parts.0) (ltb-true _ _ parts.1) (starts_below one) (starts_below other) (cases_lt (address_of one) (address_of other))) where
-  by : address_of one < end_of other → address_of other < end_of one → (address_of one < end_of one) ⊎ (end_of one ≡ 0) → (address_of other < end_of other) ⊎ (end_of other ≡ 0)
-      → (address_of one < address_of other) ⊎ (address_of other ≤ address_of one) → ⊥
-  by below above (inl first) (inl second) (inl lower) = apart (address_of other) (omega arith, above) (omega arith, second)
-  by below above (inl first) (inl second) (inr upper) = apart (address_of one) (omega arith, first) (upper, below)
-  by below above (inr nowhere) second order = omega arith
-  by below above (inl first) (inr nowhere) order = omega arith
+apart_meets one other apart =
+    false_from_ne_true (meets one other)
+    (λ both.
+    let parts = and_parts _ _ both in
+    by (ltb-true _ _ parts.0) (ltb-true _ _ parts.1) (starts_below one) (starts_below other)
+    (cases_lt (address_of one) (address_of other)))
+  where
+    by :
+        address_of one < end_of other → address_of other < end_of one → (address_of one < end_of one) ⊎ (end_of one ≡ 0)
+        → (address_of other < end_of other) ⊎ (end_of other ≡ 0)
+        → (address_of one < address_of other) ⊎ (address_of other ≤ address_of one) → ⊥
+    by below above (inl first) (inl second) (inl lower) = apart (address_of other) (omega arith, above) (omega arith, second)
+    by below above (inl first) (inl second) (inr upper) = apart (address_of one) (omega arith, first) (upper, below)
+    by below above (inr nowhere) second order = omega arith
+    by below above (inl first) (inr nowhere) order = omega arith
 
-no_repeat : (t : Layout) (object : Object) → ((k : ℕ) (d : Initial) → k < length t.objects → (core : ℕ) → is_control_of (get_or t.objects k d).object core ≡ true → is_control_of object core ≡ false) → repeats_control t object ≡ false
+no_repeat :
+    (t : Layout) (object : Object)
+    → ((k : ℕ) (d : Initial) → k < length t.objects → (core : ℕ) → is_control_of (get_or t.objects k d).object core ≡ true
+    → is_control_of object core ≡ false)
+    → repeats_control t object ≡ false
 unfolding has_control
 no_repeat t (o.Control control) differ =
     none_passes (λ initial. is_control_of initial.object control.core) t.objects
-    (λ k d within. false_from_ne_true _ (λ at. false≢true (sym (differ k d within control.core at) ∙ eq-eqb control.core control.core refl)))
+    (λ k d within.
+    false_from_ne_true _ (λ at. false≢true (sym (differ k d within control.core at) ∙ eq-eqb control.core control.core refl)))
 no_repeat t (o.Untyped _) differ = refl
 no_repeat t (o.CNode _) differ = refl
 no_repeat t (o.Tcb _) differ = refl
@@ -55,16 +71,14 @@ no_repeat t (o.Reply _) differ = refl
 no_repeat t (o.Context _) differ = refl
 no_repeat t (o.Frame _) differ = refl
 
-is_some-option_map : {X Y : Type 0} (f : X → Y) (o : Option X) → is_some (option_map f o) ≡ is_some o
-is_some-option_map f None = refl
-is_some-option_map f (Some x) = refl
-
 -- a thread more is within the limit
 threads_fit : (threads : ℕ) (thread : Bool) → threads + cond thread 1 0 ≤ 1024 → (nat_lt threads 1024 || not thread) ≡ true
 threads_fit threads true few = grind (arith, nat_tests)
 threads_fit threads false few = grind (arith, nat_tests)
 
-pub object_removed : (t : Layout) (name : List ℕ) (initial : Initial) → BeforeCaps t → IsLawful (with_initial t name initial) → IsLawful t × AdmitsObject t name initial
+pub object_removed :
+    (t : Layout) (name : List ℕ) (initial : Initial) → BeforeCaps t → IsLawful (with_initial t name initial)
+    → IsLawful t × AdmitsObject t name initial
 unfolding object_named slot_total thread_total has_room is_free
 object_removed t name initial empty h =
     let size = length_push t.objects initial in
@@ -82,7 +96,9 @@ object_removed t name initial empty h =
     let differ = pairs_front ◌≢◌ t.names name h.names_differ in
     let objects = all_front (IsObjectOf (with_initial t name initial)) t.objects initial h.objects in
     let apart = pairs_front (λ one other. IsApart one.object other.object) t.objects initial h.objects_apart in
-    let controls = pairs_front (λ one other. (core : ℕ) → is_control_of one.object core ≡ true → is_control_of other.object core ≡ false) t.objects initial h.controls_differ in (
+    let controls =
+    pairs_front (λ one other. (core : ℕ) → is_control_of one.object core ≡ true → is_control_of other.object core ≡ false)
+    t.objects initial h.controls_differ in (
       record {
         few_labels = h.few_labels;
         label_names = h.label_names;
@@ -93,7 +109,7 @@ object_removed t name initial empty h =
         few_objects = omega arith;
         few_slots = omega arith;
         few_threads = omega arith;
-        objects = All-weaker (IsObjectOf (with_initial t name initial)) (IsObjectOf t) (λ i o. record { label = o.label; blank = o.blank; aligned = o.aligned; end = o.end }) t.objects objects.0;
+        objects = objects_kept (with_initial t name initial) t (omega arith) t.objects objects.0;
         objects_apart = apart.0;
         controls_differ = controls.0;
         caps = all_of_none (IsCapOf t) t.caps empty.0;
@@ -113,6 +129,9 @@ object_removed t name initial empty h =
         room = and_from _ _ (and_from _ _ (lt-ltb _ _ within) (le-leb _ _ fewer)) (threads_fit _ (is_tcb initial.object) alive);
         end = objects.1.end;
         aligned = objects.1.aligned;
-        free = not_from_false _ (none_passes (λ one. meets one.object initial.object) t.objects (λ k d within. apart_meets (get_or t.objects k d).object initial.object (apart.1 k d within)));
+        free =
+            not_from_false _
+            (none_passes (λ one. meets one.object initial.object) t.objects
+            (λ k d within. apart_meets (get_or t.objects k d).object initial.object (apart.1 k d within)));
       },
     )

@@ -1,5 +1,6 @@
 -- What a binary search over rising keys finds is the first element with the key.
-use Rattle.std.proofs.Common.{◌≡◌, ℕ, ◌+◌, ◌<◌, ◌≤◌, ◌⊎◌, Bool, false, cond, List, [], ◌∷◌, length, get_or, None, Some, All, AllPairs, refl, sym, ap, ◌∙◌, inl, inr, arith}
+use Rattle.std.proofs.Common.{◌≡◌, ℕ, ◌+◌, ◌<◌, ◌≤◌, ◌⊎◌, Bool, false, cond, List, [], ◌∷◌, length, get_or, None, Some, All}
+use Rattle.std.proofs.Common.{AllPairs, refl, sym, ap, ◌∙◌, inl, inr, arith}
 use Rattle.std.proofs.lemmas.Bool.{cases_lt}
 use Rattle.std.proofs.lemmas.Cmp.{alike_right}
 use Rattle.std.proofs.lemmas.List.Elements.{All-head, All-tail}
@@ -17,24 +18,35 @@ use Rattle.std.specs.Ordering.{is_eq, is_lt, ordering_index, ordering_reverse}
 find_none : {X : Type 0} (p : X → Bool) (xs : List X) → All (λ x. p x ≡ false) xs → find p xs ≡ None
 find_none p [] all = refl
 find_none p (x ∷ xs) all =
-    ap (λ b. cond b (Some x) (find p xs)) (All-head (λ y. p y ≡ false) x xs all) ∙ find_none p xs (All-tail (λ y. p y ≡ false) x xs all)
+    ap (λ b. cond b (Some x) (find p xs)) (All-head (λ y. p y ≡ false) x xs all)
+    ∙ find_none p xs (All-tail (λ y. p y ≡ false) x xs all)
 
-module _ {X K : Type 0} {R : K → K → Ordering} (order : IsTotalOrder R) (key : X → K) (xs : List X) (rising : AllPairs (λ one other. R (key one) (key other) ≡ Less) xs) (sought : K) where
-  pub found_at : (i : ℕ) (d : X) → i < length xs → R (key (get_or xs i d)) sought ≡ Equal → Some (get_or xs i d) ≡ find (λ x. is_eq (R (key x) sought)) xs
+module _ {X K : Type 0} {R : K → K → Ordering} (order : IsTotalOrder R) (key : X → K) (xs : List X)
+    (rising : AllPairs (λ one other. R (key one) (key other) ≡ Less) xs) (sought : K) where
+  pub found_at :
+      (i : ℕ) (d : X) → i < length xs → R (key (get_or xs i d)) sought ≡ Equal
+      → Some (get_or xs i d) ≡ find (λ x. is_eq (R (key x) sought)) xs
   found_at i d within hit =
-      let first = position_or_len_is (λ x. is_eq (R (key x) sought)) xs i d (omega arith) (λ k lower. ap is_eq (before k lower)) (λ _. ap is_eq hit) in
+      let first =
+      position_or_len_is (λ x. is_eq (R (key x) sought)) xs i d (omega arith) (λ k lower. ap is_eq (before k lower))
+      (λ _. ap is_eq hit) in
       sym (find_at (λ x. is_eq (R (key x) sought)) xs ∙ ap (slice_get xs) first ∙ slice_get-get_or xs i d within) where
         before : (k : ℕ) → k < i → R (key (get_or xs k d)) sought ≡ Less
-        before k lower = sym (alike_right order (key (get_or xs i d)) sought (key (get_or xs k d)) hit) ∙ rising k i d lower within
+        before k lower =
+            sym (alike_right order (key (get_or xs i d)) sought (key (get_or xs k d)) hit) ∙ rising k i d lower within
 
   sorted : IsSortedBy (λ one other. is_lt (R (key one) (key other))) xs
   sorted k d low within =
-      ap is_lt (order.antisymm (key (get_or xs (k + 1) d)) (key (get_or xs k d)) ∙ ap ordering_reverse (rising k (k + 1) d (omega arith) within))
+      ap is_lt
+      (order.antisymm (key (get_or xs (k + 1) d)) (key (get_or xs k d))
+      ∙ ap ordering_reverse (rising k (k + 1) d (omega arith) within))
 
   pub searchable : IsNonDecreasingBy (λ x. ordering_index (R (key x) sought)) xs
   searchable = searchable_from_sorted order key xs sought sorted
 
-  pub not_found : (i : ℕ) → IsPartitionPoint (λ x. R (key x) sought ≡ Less) (λ x. R (key x) sought ≡ Greater) xs i → None ≡ find (λ x. is_eq (R (key x) sought)) xs
+  pub not_found :
+      (i : ℕ) → IsPartitionPoint (λ x. R (key x) sought ≡ Less) (λ x. R (key x) sought ≡ Greater) xs i
+      → None ≡ find (λ x. is_eq (R (key x) sought)) xs
   not_found i apart = sym (find_none (λ x. is_eq (R (key x) sought)) xs (λ k d within. by k d within (cases_lt k i))) where
     by : (k : ℕ) (d : X) → k < length xs → (k < i) ⊎ (i ≤ k) → is_eq (R (key (get_or xs k d)) sought) ≡ false
     by k d within (inl lower) = ap is_eq (apart.0 k d (omega arith) lower)

@@ -7,4 +7,5 @@ use Rattle.machine.specs.Machine.{same_id}
 
 -- the mark at each object says whether some capability is for it, and no mark that none is
 abbrev pub Marks : List Filled → List Bool → Type 0
-Marks caps marks = (object : ObjId) → slice_index_or marks object.0 false ≡ list_any (λ filled. same_id filled.cap.object object) caps
+Marks caps marks =
+    (object : ObjId) → slice_index_or marks object.0 false ≡ list_any (λ filled. same_id filled.cap.object object) caps

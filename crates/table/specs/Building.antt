@@ -1,6 +1,7 @@
 -- How a capability table is built up: what may be added to it, told by tests that a reader of tables makes, and the table with
 -- that part added (confine's own).
-use Rattle.std.specs.Prelude.{◌≡◌, ℕ, ◌+◌, ◌-◌, ◌^◌, ◌<◌, ◌≤◌, ◌&&◌, ◌||◌, Bool, true, false, not, nat_lt, nat_le, List, [], ◌∷◌, ◌++◌, length, Option, Some, None, slice_get, is_some}
+use Rattle.std.specs.Prelude.{◌≡◌, ℕ, ◌+◌, ◌-◌, ◌^◌, ◌<◌, ◌≤◌, ◌&&◌, ◌||◌, Bool, true, false, not, nat_lt, nat_le, List, [], ◌∷◌}
+use Rattle.std.specs.Prelude.{◌++◌, length, Option, Some, None, slice_get, is_some}
 use Rattle.std.specs.List.{list_any}
 use Rattle.std.specs.Ordering.{is_lt}
 use Rattle.base.specs.declared.ids.ObjId.{ObjId}
@@ -26,7 +27,9 @@ use Rattle.table.specs.Rules.{IsBlank, is_control_of, is_tcb, kind_at, slot_tota
 
 -- whether one object more stays within the limits: 4,096 objects, 65,536 slots and 1,024 threads
 unfoldable pub has_room : Layout → Object → Bool
-has_room t object = (nat_lt (length t.objects) 4096 && nat_le (slot_total t + slot_count object) 65536) && (nat_lt (thread_total t) 1024 || not (is_tcb object))
+has_room t object =
+    (nat_lt (length t.objects) 4096 && nat_le (slot_total t + slot_count object) 65536)
+    && (nat_lt (thread_total t) 1024 || not (is_tcb object))
 
 -- whether an object overlaps none of the table's
 unfoldable pub is_free : Layout → Object → Bool

@@ -1,11 +1,12 @@
--- How a capability table is built up from the empty one: its parts, which part the table takes next, and the tables that come about
--- so (confine's own; the order is that of a table's text).
+-- How a capability table is built up from the empty one: its parts, which part the table takes next, and the tables that come
+-- about so (confine's own; the order is that of a table's text).
 use Rattle.std.specs.Prelude.{◌≡◌, ℕ, List, []}
 use Rattle.machine.specs.declared.layout.Binding.{Binding}
 use Rattle.machine.specs.declared.layout.Filled.{Filled}
 use Rattle.machine.specs.declared.layout.Initial.{Initial}
 use Rattle.machine.specs.Layout.{Layout, empty_layout}
-use Rattle.table.specs.Building.{AdmitsLabel, AdmitsObject, AdmitsCap, AdmitsBinding, with_label, with_initial, with_filled, with_binding}
+use Rattle.table.specs.Building.{AdmitsLabel, AdmitsObject, AdmitsCap, AdmitsBinding, with_label, with_initial, with_filled}
+use Rattle.table.specs.Building.{with_binding}
 
 -- a label by its name, an object with its name, a filled slot, or a thread's binding
 pub data Part : Type 0 where

@@ -1,6 +1,7 @@
 -- The rules that a capability table keeps: how it names things, what its objects are like at boot and where they lie, which
 -- slots it fills and with what, and which threads it binds to contexts (compare the seL4 manual, "Bootstrapping").
-use Rattle.std.specs.Prelude.{⊤, ◌≡◌, ◌≢◌, ℕ, ◌+◌, ◌^◌, ◌<◌, ◌≤◌, ◌==◌, Bool, true, false, [], length, Option, Some, None, option_map, All, AllPairs, sum_by, count_by}
+use Rattle.std.specs.Prelude.{⊤, ◌≡◌, ◌≢◌, ℕ, ◌+◌, ◌^◌, ◌<◌, ◌≤◌, ◌==◌, Bool, true, false, [], length, Option, Some, None}
+use Rattle.std.specs.Prelude.{option_map, All, AllPairs, sum_by, count_by}
 use Rattle.std.specs.declared.cmp.Ordering.TheVariants.{Less}
 use Rattle.base.specs.declared.ids.ObjId.{ObjId}
 use Rattle.machine.specs.declared.cap.Detail.{Detail}
@@ -120,11 +121,14 @@ pub record IsLawful (t : Layout) : Type 0 where
   pub few_threads : thread_total t ≤ 1024
   pub objects : All (IsObjectOf t) t.objects
   pub objects_apart : AllPairs (λ one other. IsApart one.object other.object) t.objects
-  pub controls_differ : AllPairs (λ one other. (core : ℕ) → is_control_of one.object core ≡ true → is_control_of other.object core ≡ false) t.objects
+  pub controls_differ :
+      AllPairs (λ one other. (core : ℕ) → is_control_of one.object core ≡ true → is_control_of other.object core ≡ false)
+      t.objects
   pub caps : All (IsCapOf t) t.caps
   pub caps_rise : AllPairs (λ one other. slot_cmp one.slot other.slot ≡ Less) t.caps
   -- an untyped has at most one capability
-  pub untypeds_once : AllPairs (λ one other. kind_of_detail other.cap.detail ≡ kind.Untyped → one.cap.object ≢ other.cap.object) t.caps
+  pub untypeds_once :
+      AllPairs (λ one other. kind_of_detail other.cap.detail ≡ kind.Untyped → one.cap.object ≢ other.cap.object) t.caps
   -- no capability is derived from another
   pub underived : t.pairs ≡ []
   pub bindings : All (IsBindingOf t) t.bindings

@@ -1,4 +1,5 @@
-ghost use Rattle.std.specs.Prelude.{◌≡◌, ◌≤◌, ◌<◌, ◌+◌, ◌^◌, ◌++◌, ◌∷◌, [], None, length, slice_get, position, is_some, not, nat_lt, ◌&&◌, false, map, vec_len, OnOk, OnErr, if◌then◌else◌};
+ghost use Rattle.std.specs.Prelude.{◌≡◌, ◌≤◌, ◌<◌, ◌+◌, ◌^◌, ◌++◌, ◌∷◌, [], None, length, slice_get, position, is_some, not};
+ghost use Rattle.std.specs.Prelude.{nat_lt, ◌&&◌, false, map, vec_len, OnOk, OnErr, if◌then◌else◌};
 ghost use Rattle.std.specs.List.{list_any};
 ghost use Rattle.std.specs.Option.{option_copied};
 ghost use Rattle.std.specs.Str.{bytes_eq};
@@ -33,7 +34,12 @@ impl Model for Objects {
 
     ghost view = { λ o. record { names = o.names; objects = o.items.items } };
 
-    ghost invariant = { λ o. record { named : length o.names ≡ length o.items.items; extents : o.extents.items ≡ map (λ initial. extent_of initial.object) o.items.items; slots : o.slots ≡ slots_of o.items.items; threads : o.threads ≡ threads_of o.items.items } };
+    ghost invariant = { λ o. record {
+      named : length o.names ≡ length o.items.items;
+      extents : o.extents.items ≡ map (λ initial. extent_of initial.object) o.items.items;
+      slots : o.slots ≡ slots_of o.items.items;
+      threads : o.threads ≡ threads_of o.items.items;
+    } };
 }
 
 impl Objects {
@@ -56,6 +62,7 @@ impl Objects {
         ensures objects { result.now ≡ self.now.objects }
         ensures named { length self.now.names ≡ length self.now.objects }
     {
+        // Reading a field makes known what the type keeps.
         let _ = &self.names;
         self.items.as_slice()
     }

@@ -7,7 +7,8 @@ ghost use Rattle.machine.specs.Machine.{same_id, same_slot, slot_cmp};
 ghost use Rattle.machine.specs.Objects.{end_of};
 ghost use Rattle.table.specs.Names.{label_named, object_named};
 ghost use Rattle.table.specs.Rules.{kind_at, slot_total, thread_total, is_control_of, IsLawful};
-ghost use Rattle.table.specs.Building.{has_room, is_free, has_control, declares_slot, last_cap, is_above_caps, may_hold, fits, is_fitting, has_cap_to, last_binding, is_above_bindings, is_bound};
+ghost use Rattle.table.specs.Building.{has_room, is_free, has_control, declares_slot, last_cap, is_above_caps, may_hold, fits};
+ghost use Rattle.table.specs.Building.{is_fitting, has_cap_to, last_binding, is_above_bindings, is_bound};
 ghost use Rattle.table.specs.Building.{AdmitsLabel, AdmitsObject, AdmitsCap, AdmitsBinding};
 ghost use Rattle.table.specs.Building.{with_label, with_initial, with_filled, with_binding};
 
@@ -39,9 +40,23 @@ impl Model for Table {
 
     ghost Value = { Layout };
 
-    ghost view = { λ t. record { labels = t.labels; names = t.objects.names; objects = t.objects.objects; caps = t.caps; pairs = t.pairs.items; bindings = t.bindings.items } };
+    ghost view = { λ t. record {
+      labels = t.labels;
+      names = t.objects.names;
+      objects = t.objects.objects;
+      caps = t.caps;
+      pairs = t.pairs.items;
+      bindings = t.bindings.items;
+    } };
 
-    ghost invariant = { λ t. IsLawful (record { labels = t.labels; names = t.objects.names; objects = t.objects.objects; caps = t.caps; pairs = t.pairs.items; bindings = t.bindings.items }) };
+    ghost invariant = { λ t. IsLawful (record {
+      labels = t.labels;
+      names = t.objects.names;
+      objects = t.objects.objects;
+      caps = t.caps;
+      pairs = t.pairs.items;
+      bindings = t.bindings.items;
+    }) };
 }
 
 impl Table {
@@ -135,6 +150,7 @@ impl Table {
         ensures objects { result.now ≡ self.now.objects }
         ensures lawful { IsLawful self.now }
     {
+        // Reading a field makes known what the type keeps.
         let _ = &self.caps;
         self.objects.as_slice()
     }
@@ -162,7 +178,7 @@ impl Table {
     pub fn has_room(&self, object: &Object) -> bool
         ensures { result ≡ has_room self.now object.now }
     {
-        self.objects.as_slice().len() < Table::MAX_OBJECTS
+        self.object_count() < Table::MAX_OBJECTS
             && object.slot_count() <= Table::MAX_SLOTS - self.objects.slots()
             && (self.objects.threads() < Table::MAX_THREADS || !matches!(object, Object::Tcb(_)))
     }

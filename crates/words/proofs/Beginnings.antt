@@ -11,46 +11,76 @@ use Rattle.words.specs.Text.{words_of, lines_of, lines_of_parts, IsOver}
 use Rattle.words.proofs.Splits.{parts_some}
 use Rattle.words.proofs.WordLaws.{bind_ok}
 
--- the parts of a beginning: all but the last are parts of the whole, and the last begins its next part
-record Cuts (p : ℕ → Bool) (beginning rest : List ℕ) : Type 0 where
+-- the parts of a beginning, of the rest and of the whole: all but the beginning's last are the whole's, whose next one it begins
+record Cuts (begun parts whole : List (List ℕ)) : Type 0 where
   done : List (List ℕ)
   last : List ℕ
   first : List ℕ
   later : List (List ℕ)
-  of_beginning : slice_split p beginning ≡ done ++ last ∷ []
-  of_rest : slice_split p rest ≡ first ∷ later
-  of_whole : slice_split p (beginning ++ rest) ≡ done ++ (last ++ first) ∷ later
+  of_beginning : begun ≡ done ++ last ∷ []
+  of_rest : parts ≡ first ∷ later
+  of_whole : whole ≡ done ++ (last ++ first) ∷ later
 
-cuts : (p : ℕ → Bool) (beginning rest : List ℕ) → Cuts p beginning rest
+-- a byte before the beginning begins its first part
+onto : (b : ℕ) {begun parts whole : List (List ℕ)} → Cuts begun parts whole → Cuts (onto_first b begun) parts (onto_first b whole)
+onto b {begun} {parts} {whole} c = by_done c.done c.of_beginning c.of_whole
+  where
+    by_done : (done : List (List ℕ)) → begun ≡ done ++ c.last ∷ [] → whole ≡ done ++ (c.last ++ c.first) ∷ c.later
+        → Cuts (onto_first b begun) parts (onto_first b whole)
+    by_done [] beginning all = record {
+      done = [];
+      last = b ∷ c.last;
+      first = c.first;
+      later = c.later;
+      of_beginning = ap (λ ps. onto_first b ps) beginning;
+      of_rest = c.of_rest;
+      of_whole = ap (λ ps. onto_first b ps) all;
+    }
+    by_done (part ∷ done) beginning all = record {
+      done = (b ∷ part) ∷ done;
+      last = c.last;
+      first = c.first;
+      later = c.later;
+      of_beginning = ap (λ ps. onto_first b ps) beginning;
+      of_rest = c.of_rest;
+      of_whole = ap (λ ps. onto_first b ps) all;
+    }
+
+cuts : (p : ℕ → Bool) (beginning rest : List ℕ)
+    → Cuts (slice_split p beginning) (slice_split p rest) (slice_split p (beginning ++ rest))
 cuts p [] rest =
     let h = parts_some p rest in
     record { done = []; last = []; first = h.0; later = h.1; of_beginning = refl; of_rest = h.2; of_whole = h.2 }
-cuts p (b ∷ beginning) rest =
-    let c = by_test (p b) (cuts p beginning rest) in
-    record { done = c.0; last = c.1; first = c.2; later = c.3; of_beginning = c.4; of_rest = c.5; of_whole = c.6 }
+cuts p (b ∷ beginning) rest = by_test (p b) (cuts p beginning rest)
   where
-    onto : (done : List (List ℕ)) (last first : List ℕ) (later : List (List ℕ)) → (before : List (List ℕ)) × (end : List ℕ) × (onto_first b (done ++ last ∷ []) ≡ before ++ end ∷ []) × (onto_first b (done ++ (last ++ first) ∷ later) ≡ before ++ (end ++ first) ∷ later)
-    onto [] last first later = ([], b ∷ last, refl, refl)
-    onto (part ∷ done) last first later = ((b ∷ part) ∷ done, last, refl, refl)
-
-    by_test : (passes : Bool) → Cuts p beginning rest → (done : List (List ℕ)) × (last : List ℕ) × (first : List ℕ) × (later : List (List ℕ)) × (cond passes ([] ∷ slice_split p beginning) (onto_first b (slice_split p beginning)) ≡ done ++ last ∷ []) × (slice_split p rest ≡ first ∷ later) × (cond passes ([] ∷ slice_split p (beginning ++ rest)) (onto_first b (slice_split p (beginning ++ rest))) ≡ done ++ (last ++ first) ∷ later)
-    by_test true c = ([] ∷ c.done, c.last, c.first, c.later, ap (λ ps. [] ∷ ps) c.of_beginning, c.of_rest, ap (λ ps. [] ∷ ps) c.of_whole)
-    by_test false c =
-        let joined = onto c.done c.last c.first c.later in
-        (joined.0, joined.1, c.first, c.later, ap (λ ps. onto_first b ps) c.of_beginning ∙ joined.2, c.of_rest, ap (λ ps. onto_first b ps) c.of_whole ∙ joined.3)
+    by_test : {begun parts whole : List (List ℕ)} (passes : Bool) → Cuts begun parts whole
+        → Cuts (cond passes ([] ∷ begun) (onto_first b begun)) parts (cond passes ([] ∷ whole) (onto_first b whole))
+    by_test true c = record {
+      done = [] ∷ c.done;
+      last = c.last;
+      first = c.first;
+      later = c.later;
+      of_beginning = ap (λ ps. [] ∷ ps) c.of_beginning;
+      of_rest = c.of_rest;
+      of_whole = ap (λ ps. [] ∷ ps) c.of_whole;
+    }
+    by_test false c = onto b c
 
 -- parts that are ended are lines, and the others are read on
-ended_parts : (done : List (List ℕ)) (next : List ℕ) (parts : List (List ℕ)) → lines_of_parts (done ++ next ∷ parts) ≡ ended (map words_of done) ++ lines_of_parts (next ∷ parts)
+ended_parts : (done : List (List ℕ)) (next : List ℕ) (parts : List (List ℕ))
+    → lines_of_parts (done ++ next ∷ parts) ≡ ended (map words_of done) ++ lines_of_parts (next ∷ parts)
 ended_parts [] next parts = refl
 ended_parts (part ∷ []) next parts = refl
-ended_parts (part ∷ second ∷ done) next parts = ap (λ lines. Some (words_of part) ∷ lines) (ended_parts (second ∷ done) next parts)
+ended_parts (part ∷ second ∷ done) next parts =
+    ap (λ lines. Some (words_of part) ∷ lines) (ended_parts (second ∷ done) next parts)
 
 over_last : (last : List ℕ) → IsOver (lines_of_parts (last ∷ []))
 over_last [] = tt
 over_last (b ∷ last) = tt
 
 -- what is left has bytes: so a line ends there, if all are ended
-line_left : (last first rest : List ℕ) (later : List (List ℕ)) (lines : List Line) → 0 < length rest → slice_split (λ b. b == 10) rest ≡ first ∷ later → lines_of_parts ((last ++ first) ∷ later) ≡ ended lines → 0 < length lines
+line_left : (last first rest : List ℕ) (later : List (List ℕ)) (lines : List Line) → 0 < length rest
+    → slice_split (λ b. b == 10) rest ≡ first ∷ later → lines_of_parts ((last ++ first) ∷ later) ≡ ended lines → 0 < length lines
 line_left last first rest later (line ∷ lines) some parts is = omega arith
 line_left last first rest (next ∷ later) [] some parts is = absurd (by_first (last ++ first) is)
   where
@@ -66,7 +96,8 @@ line_left last first rest [] [] some parts is =
     by_part (b ∷ part) some is = cc
 
 -- ended lines that begin with others
-rest_ended : (done lines : List Line) (rest : TextLines) → ended done ++ rest ≡ ended lines → (left : List Line) × (lines ≡ done ++ left) × (rest ≡ ended left)
+rest_ended : (done lines : List Line) (rest : TextLines) → ended done ++ rest ≡ ended lines
+    → (left : List Line) × (lines ≡ done ++ left) × (rest ≡ ended left)
 rest_ended [] lines rest is = (lines, refl, is)
 rest_ended (line ∷ done) [] rest is = cc
 rest_ended (line ∷ done) (other ∷ lines) rest is =
@@ -76,7 +107,8 @@ rest_ended (line ∷ done) (other ∷ lines) rest is =
     (found.0, ap (λ l. l ∷ lines) (sym same) ∙ ap (λ ls. line ∷ ls) found.1, found.2)
 
 -- what stands before the end of a list and something more is a beginning of the front
-front : {X : Type 0} (xs done left : List X) (end : X) → 0 < length left → xs ++ end ∷ [] ≡ done ++ left → (more : List X) × (xs ≡ done ++ more)
+front : {X : Type 0} (xs done left : List X) (end : X) → 0 < length left → xs ++ end ∷ [] ≡ done ++ left
+    → (more : List X) × (xs ≡ done ++ more)
 front xs [] left end some is = (xs, refl)
 front [] (y ∷ done) left end some is =
     let later : [] ≡ done ++ left = cc in
@@ -88,7 +120,8 @@ front (x ∷ xs) (y ∷ done) left end some is =
     (found.0, ap (λ z. z ∷ xs) same ∙ ap (λ zs. y ∷ zs) found.1)
 
 -- steps that come before others
-first_steps : {S : Type 0} (step : S → Line → Result S Wrong) (s state : S) (done more : List Line) → steps step s (done ++ more) ≡ Ok state → (between : S) × (steps step s done ≡ Ok between)
+first_steps : {S : Type 0} (step : S → Line → Result S Wrong) (s state : S) (done more : List Line)
+    → steps step s (done ++ more) ≡ Ok state → (between : S) × (steps step s done ≡ Ok between)
 unfolding steps bind
 first_steps step s state [] more stepped = (s, refl)
 first_steps step s state (line ∷ done) more stepped =
@@ -96,12 +129,17 @@ first_steps step s state (line ∷ done) more stepped =
     let later = first_steps step first.0 state done more first.2 in
     (later.0, ap (λ r. bind r (λ next. steps step next done)) first.1 ∙ later.1)
 
-first_inner : (done more : List Line) → AllByRecursion (λ line. line ≢ last_line) (done ++ more) → AllByRecursion (λ line. line ≢ last_line) done
+first_inner : (done more : List Line) → AllByRecursion (λ line. line ≢ last_line) (done ++ more)
+    → AllByRecursion (λ line. line ≢ last_line) done
 first_inner [] more all = tt
 first_inner (line ∷ done) more all = (all.0, first_inner done more all.1)
 
 -- after so many lines the text is cut
-cut_after : {S : Type 0} (header : Line) (step : S → Line → Result S Wrong) (start state : S) (body done left : List Line) (over : TextLines) → AllByRecursion (λ line. line ≢ last_line) body → steps step start body ≡ Ok state → header ∷ (body ++ last_line ∷ []) ≡ done ++ left → 0 < length left → IsOver over → IsFirstFault header step start (ended done ++ over) (length done + 1) Syntax
+cut_after : {S : Type 0} (header : Line) (step : S → Line → Result S Wrong) (start state : S) (body done left : List Line)
+    (over : TextLines)
+    → AllByRecursion (λ line. line ≢ last_line) body → steps step start body ≡ Ok state
+    → header ∷ (body ++ last_line ∷ []) ≡ done ++ left → 0 < length left → IsOver over
+    → IsFirstFault header step start (ended done ++ over) (length done + 1) Syntax
 cut_after header step start state body [] left over inner stepped is some none =
     no_header (λ begins. subst IsOver begins.1 none) refl refl
 cut_after header step start state body (line ∷ done) left over inner stepped is some none =
@@ -117,20 +155,30 @@ cut_after header step start state body (line ∷ done) left over inner stepped i
     no_line done before.0 over good none (omega arith) refl
 
 -- as many lines are ended as there are line feeds
-counted : (p : ℕ → Bool) (beginning : List ℕ) (done : List (List ℕ)) (last : List ℕ) → slice_split p beginning ≡ done ++ last ∷ [] → length (map words_of done) + 1 ≡ count_by p beginning + 1
+counted : (p : ℕ → Bool) (beginning : List ℕ) (done : List (List ℕ)) (last : List ℕ) → slice_split p beginning ≡ done ++ last ∷ []
+    → length (map words_of done) + 1 ≡ count_by p beginning + 1
 counted p beginning done last parts =
-    ap (λ n. n + 1) (length-map done words_of) ∙ sym (length_push done last) ∙ ap length (sym parts) ∙ length-slice_split p beginning
+    ap (λ n. n + 1) (length-map done words_of) ∙ sym (length_push done last) ∙ ap length (sym parts)
+    ∙ length-slice_split p beginning
 
-pub cut_text : {S : Type 0} (header : Line) (step : S → Line → Result S Wrong) (start state : S) (beginning rest : List ℕ) → 0 < length rest → IsText header step start (lines_of (beginning ++ rest)) state → IsFirstFault header step start (lines_of beginning) (count_by (λ b. b == 10) beginning + 1) Syntax
+pub cut_text : {S : Type 0} (header : Line) (step : S → Line → Result S Wrong) (start state : S) (beginning rest : List ℕ)
+    → 0 < length rest → IsText header step start (lines_of (beginning ++ rest)) state
+    → IsFirstFault header step start (lines_of beginning) (count_by (λ b. b == 10) beginning + 1) Syntax
 unfolding lines_of
 cut_text header step start state beginning rest some text =
     let cut = cuts (λ b. b == 10) beginning rest in
     let done = map words_of cut.done in
-    let whole : ended done ++ lines_of_parts ((cut.last ++ cut.first) ∷ cut.later) ≡ ended (header ∷ (text.0 ++ last_line ∷ [])) = sym (ended_parts cut.done (cut.last ++ cut.first) cut.later) ∙ ap lines_of_parts (sym cut.of_whole) ∙ text.1.lines_are ∙ sym (map-append (λ (l : Line). Some l) (header ∷ text.0) (last_line ∷ [])) in
-    let left = rest_ended done (header ∷ (text.0 ++ last_line ∷ [])) (lines_of_parts ((cut.last ++ cut.first) ∷ cut.later)) whole in
+    let whole : ended done ++ lines_of_parts ((cut.last ++ cut.first) ∷ cut.later) ≡ ended (header ∷ (text.0 ++ last_line ∷ [])) =
+    sym (ended_parts cut.done (cut.last ++ cut.first) cut.later) ∙ ap lines_of_parts (sym cut.of_whole) ∙ text.1.lines_are
+    ∙ sym (map-append (λ (l : Line). Some l) (header ∷ text.0) (last_line ∷ [])) in
+    let left = rest_ended done (header ∷ (text.0 ++ last_line ∷ []))
+    (lines_of_parts ((cut.last ++ cut.first) ∷ cut.later)) whole in
     let more : 0 < length left.0 = line_left cut.last cut.first rest cut.later left.0 some cut.of_rest left.2 in
-    let fault = cut_after header step start state text.0 done left.0 (lines_of_parts (cut.last ∷ [])) text.1.inner text.1.stepped left.1 more (over_last cut.last) in
-    let lines : ended done ++ lines_of_parts (cut.last ∷ []) ≡ lines_of beginning = sym (ap lines_of_parts cut.of_beginning ∙ ended_parts cut.done cut.last []) in
-    let count : length done + 1 ≡ count_by (λ b. b == 10) beginning + 1 = counted (λ b. b == 10) beginning cut.done cut.last cut.of_beginning in
+    let fault = cut_after header step start state text.0 done left.0
+    (lines_of_parts (cut.last ∷ [])) text.1.inner text.1.stepped left.1 more (over_last cut.last) in
+    let lines : ended done ++ lines_of_parts (cut.last ∷ []) ≡ lines_of beginning =
+    sym (ap lines_of_parts cut.of_beginning ∙ ended_parts cut.done cut.last []) in
+    let count : length done + 1 ≡ count_by (λ b. b == 10) beginning + 1 =
+    counted (λ b. b == 10) beginning cut.done cut.last cut.of_beginning in
     subst (λ ls. IsFirstFault header step start ls (count_by (λ b. b == 10) beginning + 1) Syntax) lines
     (subst (λ n. IsFirstFault header step start (ended done ++ lines_of_parts (cut.last ∷ [])) n Syntax) count fault)

@@ -36,13 +36,15 @@ not_decimal word h = ap (λ t. cond t (below_limit (digits_value 10 word)) None)
 pub limited : (n : ℕ) → n < 2 ^ 64 → below_limit n ≡ Some n
 limited n h = cond-true _ _ _ (lt-ltb n (2 ^ 64) h)
 
-pub by_result : {E : Type 0} (word : List ℕ) (n : ℕ) (r : Result ℕ E) → 0 < length word → OkIff r ((0 < length word) × (n < 2 ^ 64)) n → result_ok r ≡ below_limit n
+pub by_result : {E : Type 0} (word : List ℕ) (n : ℕ) (r : Result ℕ E) → 0 < length word
+    → OkIff r ((0 < length word) × (n < 2 ^ 64)) n → result_ok r ≡ below_limit n
 by_result word n (Ok m) full h = ap (λ k. Some k) h.1 ∙ sym (limited n h.0.1)
 by_result word n (Err e) full refused =
     cond_both (nat_lt n (2 ^ 64)) (Some n) None (λ o. None ≡ o) (λ below. absurd (refused (full, ltb-true _ _ below))) (λ _. refl)
 
 -- what `parse` reads in a decimal word is the number that it spells
-pub parsed : {E : Type 0} (word : List ℕ) (r : Result ℕ E) → is_decimal word ≡ true → ParsesUnsigned 64 10 word r → result_ok r ≡ dec_of word
+pub parsed : {E : Type 0} (word : List ℕ) (r : Result ℕ E) → is_decimal word ≡ true → ParsesUnsigned 64 10 word r
+    → result_ok r ≡ dec_of word
 unfolding dec_of
 parsed word r h read =
     let digits = (and_parts _ _ h).1 in

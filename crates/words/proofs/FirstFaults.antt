@@ -1,6 +1,7 @@
 -- A text is refused for its first fault, and read where it has none.
 use Rattle.std.proofs.Common.{◌≡◌, ◌≢◌, ℕ, ◌+◌, ◌==◌, ◌⊎◌, inl, inr, Bool, true, false, cond, List, [], ◌∷◌, ◌++◌, length, Some, None, Result, Ok, Err, refl, sym, ap, subst, ◌∙◌, arith, IfErr}
 use Rattle.std.specs.List.{AllByRecursion}
+use Rattle.std.proofs.lemmas.Bool.{cond-true}
 use Rattle.words.specs.declared.faults.Wrong.{Wrong}
 use Rattle.words.specs.declared.faults.Wrong.TheVariants.{Syntax, UnknownName, Double, Misplaced, Limit, WrongKind, Tree}
 use Rattle.words.specs.declared.faults.Fault.{Fault}
@@ -8,15 +9,16 @@ use Rattle.words.specs.Fault.{fault_at, no_memory, number_of}
 use Rattle.words.specs.FirstFault.{ended, BeginsWith, IsGoodUpTo, IsText, IsFirstFault, TellsFirst, Line, TextLines, no_header, no_line, no_step, no_end}
 use Rattle.words.specs.Reading.{bind, last_line, header_at, end_at, at_line, read_lines, read_text, as_it_is, steps, Reads}
 use Rattle.words.specs.Text.{line_is, IsOver, Place}
-use Rattle.words.proofs.WordLaws.{bind_ok}
-use Rattle.words.proofs.TextReading.{line_same, same_line, header_again}
 use Rattle.words.proofs.ReadingLaws.{at_step, no_more}
+use Rattle.words.proofs.Splits.{line_same, same_line}
+use Rattle.words.proofs.WordLaws.{bind_ok}
 
 -- faults of different lines differ, and so do those of one line by what is wrong
 
 wrong_of : ℕ → Wrong
 wrong_of n =
-    cond (n == 50) Syntax (cond (n == 51) UnknownName (cond (n == 52) Double (cond (n == 53) Misplaced (cond (n == 54) Limit (cond (n == 55) WrongKind Tree)))))
+    cond (n == 50) Syntax (cond (n == 51) UnknownName
+    (cond (n == 52) Double (cond (n == 53) Misplaced (cond (n == 54) Limit (cond (n == 55) WrongKind Tree)))))
 
 back : (wrong : Wrong) → wrong_of (number_of wrong) ≡ wrong
 unfolding wrong_of
@@ -28,7 +30,8 @@ back Limit = refl
 back WrongKind = refl
 back Tree = refl
 
-pub same_fault : (line other : ℕ) (wrong that : Wrong) → fault_at line wrong ≡ fault_at other that → (line ≡ other) × (wrong ≡ that)
+pub same_fault : (line other : ℕ) (wrong that : Wrong) → fault_at line wrong ≡ fault_at other that
+    → (line ≡ other) × (wrong ≡ that)
 unfolding fault_at
 same_fault line other wrong that e =
     (ap (λ (f : Fault). f.line) e, sym (back wrong) ∙ ap (λ (f : Fault). wrong_of f.number) e ∙ back that)
@@ -42,7 +45,10 @@ not_last line other = by_test (line_is line last_line) refl
     by_test false same = refl
 
 -- good lines are read, and what comes after them is read on
-pub goes_through : {S T : Type 0} (step : S → Line → Result S Wrong) (finish : S → Place → Result T Fault) (taken : ℕ) (s state : S) (body : List Line) (rest : TextLines) → AllByRecursion (λ line. line ≢ last_line) body → steps step s body ≡ Ok state → read_lines step finish taken s (ended body ++ rest) ≡ read_lines step finish (taken + length body) state rest
+pub goes_through : {S T : Type 0} (step : S → Line → Result S Wrong) (finish : S → Place → Result T Fault) (taken : ℕ)
+    (s state : S) (body : List Line) (rest : TextLines)
+    → AllByRecursion (λ line. line ≢ last_line) body → steps step s body ≡ Ok state
+    → read_lines step finish taken s (ended body ++ rest) ≡ read_lines step finish (taken + length body) state rest
 unfolding steps at_line
 goes_through step finish taken s state [] rest inner stepped =
     let same : s ≡ state = cc in
@@ -56,7 +62,16 @@ goes_through step finish taken s state (line ∷ body) rest inner stepped =
     ∙ goes_through step finish (taken + 1) first.0 state body rest inner.1 first.2
     ∙ ap (λ n. read_lines step finish n state rest) count
 
-pub good_text : {S T : Type 0} (header : Line) (step : S → Line → Result S Wrong) (finish : S → Place → Result T Fault) (start state : S) (lines : TextLines) (body : List Line) (rest : TextLines) → IsGoodUpTo header step start lines body state rest → read_text header step finish start lines ≡ read_lines step finish (length body + 1) state rest
+-- the header is taken
+header_again : (header : Line) (lines : TextLines)
+    → header_at header (record { taken = 0; lines = Some header ∷ lines }) ≡ Ok (record { taken = 1; lines = lines })
+unfolding header_at
+header_again header lines = cond-true _ _ _ (same_line header)
+
+pub good_text : {S T : Type 0} (header : Line) (step : S → Line → Result S Wrong) (finish : S → Place → Result T Fault)
+    (start state : S) (lines : TextLines) (body : List Line) (rest : TextLines)
+    → IsGoodUpTo header step start lines body state rest
+    → read_text header step finish start lines ≡ read_lines step finish (length body + 1) state rest
 unfolding read_text bind
 good_text header step finish start state lines body rest good =
     let count : 1 + length body ≡ length body + 1 = omega arith in
@@ -67,29 +82,44 @@ good_text header step finish start state lines body rest good =
 
 -- the four faults
 
-without_header : (header : Line) (lines : TextLines) → ¬ BeginsWith header lines → header_at header (record { taken = 0; lines = lines }) ≡ Err (fault_at 1 Syntax)
+without_header : (header : Line) (lines : TextLines) → ¬ BeginsWith header lines
+    → header_at header (record { taken = 0; lines = lines }) ≡ Err (fault_at 1 Syntax)
 unfolding header_at
 without_header header [] other = refl
 without_header header (None ∷ lines) other = refl
 without_header header (Some line ∷ lines) other = by_test (line_is line header) refl
   where
-    by_test : (same : Bool) → line_is line header ≡ same → ◌≡◌ {A = Result Place Fault} (cond same (Ok (record { taken = 1; lines = lines })) (Err (fault_at 1 Syntax))) (Err (fault_at 1 Syntax))
+    by_test : (same : Bool) → line_is line header ≡ same
+        → ◌≡◌ {A = Result Place Fault} (cond same (Ok (record {
+          taken = 1;
+          lines = lines;
+        })) (Err (fault_at 1 Syntax))) (Err (fault_at 1 Syntax))
     by_test true same = absurd (other (lines, ap (λ l. Some l ∷ lines) (line_same line header same)))
     by_test false same = refl
 
-stops_at : {S T : Type 0} (step : S → Line → Result S Wrong) (finish : S → Place → Result T Fault) (taken : ℕ) (s : S) (line : Line) (lines : TextLines) (wrong : Wrong) → line ≢ last_line → step s line ≡ Err wrong → read_lines step finish taken s (Some line ∷ lines) ≡ Err (fault_at (taken + 1) wrong)
+stops_at : {S T : Type 0} (step : S → Line → Result S Wrong) (finish : S → Place → Result T Fault) (taken : ℕ) (s : S)
+    (line : Line) (lines : TextLines) (wrong : Wrong)
+    → line ≢ last_line → step s line ≡ Err wrong
+    → read_lines step finish taken s (Some line ∷ lines) ≡ Err (fault_at (taken + 1) wrong)
 unfolding at_line
 stops_at step finish taken s line lines wrong other failed =
     at_step step finish taken s line lines (not_last line other)
     ∙ ap (λ r. at_line (taken + 1) r (λ next. read_lines step finish (taken + 1) next lines)) failed
 
 -- `end` was reached: what is read is what the state and the place after it give
-pub reaches_end : {S T : Type 0} (step : S → Line → Result S Wrong) (finish : S → Place → Result T Fault) (taken : ℕ) (s : S) (lines : TextLines) → read_lines step finish taken s (Some last_line ∷ lines) ≡ finish s (record { taken = taken + 1; lines = lines })
+pub reaches_end : {S T : Type 0} (step : S → Line → Result S Wrong) (finish : S → Place → Result T Fault) (taken : ℕ) (s : S)
+    (lines : TextLines)
+    → read_lines step finish taken s (Some last_line ∷ lines) ≡ finish s (record { taken = taken + 1; lines = lines })
 unfolding read_lines
 reaches_end step finish taken s lines =
-    ap (λ t. cond t (finish s (record { taken = taken + 1; lines = lines })) (at_line (taken + 1) (step s last_line) (λ next. read_lines step finish (taken + 1) next lines))) (same_line last_line)
+    ap (λ t. cond t (finish s (record {
+      taken = taken + 1;
+      lines = lines;
+    })) (at_line (taken + 1) (step s last_line) (λ next. read_lines step finish (taken + 1) next lines))) (same_line last_line)
 
-pub refuses : {S : Type 0} (header : Line) (step : S → Line → Result S Wrong) (start : S) (lines : TextLines) (number : ℕ) (wrong : Wrong) → IsFirstFault header step start lines number wrong → read_text header step as_it_is start lines ≡ Err (fault_at number wrong)
+pub refuses : {S : Type 0} (header : Line) (step : S → Line → Result S Wrong) (start : S) (lines : TextLines) (number : ℕ)
+    (wrong : Wrong)
+    → IsFirstFault header step start lines number wrong → read_text header step as_it_is start lines ≡ Err (fault_at number wrong)
 unfolding read_text bind as_it_is end_at
 refuses header step start lines number wrong (no_header other first form) =
     ap (λ r. bind r (λ place. read_lines step as_it_is place.taken start place.lines)) (without_header header lines other)
@@ -97,7 +127,10 @@ refuses header step start lines number wrong (no_header other first form) =
     ∙ ap (λ w. Err (fault_at number w)) (sym form)
 refuses header step start lines number wrong (no_line body state rest good over counted form) =
     let count : length body + 1 + 1 ≡ number = omega arith in
-    no_more step as_it_is (record { taken = length body + 1; lines = rest }) state _ (sym (good_text header step as_it_is start state lines body rest good)) over
+    no_more step as_it_is (record {
+      taken = length body + 1;
+      lines = rest;
+    }) state _ (sym (good_text header step as_it_is start state lines body rest good)) over
     ∙ ap (λ n. Err (fault_at n Syntax)) count
     ∙ ap (λ w. Err (fault_at number w)) (sym form)
 refuses header step start lines number wrong (no_step body state line rest good other failed counted) =
@@ -112,7 +145,8 @@ refuses header step start lines number wrong (no_end body state next rest good c
     ∙ ap (λ n. Err (fault_at n Syntax)) count
     ∙ ap (λ w. Err (fault_at number w)) (sym form)
 
-pub reads : {S : Type 0} (header : Line) (step : S → Line → Result S Wrong) (start : S) (lines : TextLines) (state : S) → IsText header step start lines state → read_text header step as_it_is start lines ≡ Ok state
+pub reads : {S : Type 0} (header : Line) (step : S → Line → Result S Wrong) (start : S) (lines : TextLines) (state : S)
+    → IsText header step start lines state → read_text header step as_it_is start lines ≡ Ok state
 unfolding as_it_is bind end_at
 reads header step start lines state text =
     good_text header step as_it_is start state lines text.0 (Some last_line ∷ []) text.1
@@ -124,7 +158,8 @@ reads header step start lines state text =
 data Comes {S : Type 0} (step : S → Line → Result S Wrong) (state : S) (rest : TextLines) : Type 0 where
   nothing : IsOver rest → Comes step state rest
   last : (later : TextLines) → rest ≡ Some last_line ∷ later → Comes step state rest
-  refused : (line : Line) (later : TextLines) (wrong : Wrong) → rest ≡ Some line ∷ later → line ≢ last_line → step state line ≡ Err wrong → Comes step state rest
+  refused : (line : Line) (later : TextLines) (wrong : Wrong) → rest ≡ Some line ∷ later → line ≢ last_line
+      → step state line ≡ Err wrong → Comes step state rest
 
 record Scans {S : Type 0} (step : S → Line → Result S Wrong) (s : S) (lines : TextLines) : Type 0 where
   body : List Line
@@ -137,7 +172,8 @@ record Scans {S : Type 0} (step : S → Line → Result S Wrong) (s : S) (lines 
 
 ends_here : {S : Type 0} (step : S → Line → Result S Wrong) (s : S) (lines : TextLines) → Comes step s lines → Scans step s lines
 unfolding steps
-ends_here step s lines comes = record { body = []; state = s; rest = lines; lines_are = refl; inner = tt; stepped = refl; comes = comes }
+ends_here step s lines comes =
+    record { body = []; state = s; rest = lines; lines_are = refl; inner = tt; stepped = refl; comes = comes }
 
 scans : {S : Type 0} (step : S → Line → Result S Wrong) (s : S) (lines : TextLines) → Scans step s lines
 unfolding steps bind
@@ -145,7 +181,8 @@ scans step s [] = ends_here step s [] (nothing tt)
 scans step s (None ∷ lines) = ends_here step s (None ∷ lines) (nothing tt)
 scans {S = S} step s (Some line ∷ lines) = by_test (line_is line last_line) refl (λ next. scans step next lines)
   where
-    by_step : (r : Result S Wrong) → step s line ≡ r → line ≢ last_line → ((next : S) → Scans step next lines) → Scans step s (Some line ∷ lines)
+    by_step : (r : Result S Wrong) → step s line ≡ r → line ≢ last_line → ((next : S) → Scans step next lines)
+        → Scans step s (Some line ∷ lines)
     by_step (Err wrong) failed other later = ends_here step s (Some line ∷ lines) (refused line lines wrong refl other failed)
     by_step (Ok next) stepped other later =
         let more = later next in
@@ -159,8 +196,10 @@ scans {S = S} step s (Some line ∷ lines) = by_test (line_is line last_line) re
           comes = more.comes;
         }
 
-    by_test : (same : Bool) → line_is line last_line ≡ same → ((next : S) → Scans step next lines) → Scans step s (Some line ∷ lines)
-    by_test true same later = ends_here step s (Some line ∷ lines) (last lines (ap (λ l. Some l ∷ lines) (line_same line last_line same)))
+    by_test : (same : Bool) → line_is line last_line ≡ same → ((next : S) → Scans step next lines)
+        → Scans step s (Some line ∷ lines)
+    by_test true same later =
+        ends_here step s (Some line ∷ lines) (last lines (ap (λ l. Some l ∷ lines) (line_same line last_line same)))
     by_test false same later =
         by_step (step s line) refl (λ is. absurd (cc (sym same ∙ ap (λ l. line_is l last_line) is ∙ same_line last_line))) later
 
@@ -170,7 +209,8 @@ begins_or_not header [] = inr (λ begins. cc (begins.1))
 begins_or_not header (None ∷ lines) = inr (λ begins. cc (begins.1))
 begins_or_not header (Some line ∷ lines) = by_test (line_is line header) refl
   where
-    by_test : (same : Bool) → line_is line header ≡ same → BeginsWith header (Some line ∷ lines) ⊎ (¬ BeginsWith header (Some line ∷ lines))
+    by_test : (same : Bool) → line_is line header ≡ same
+        → BeginsWith header (Some line ∷ lines) ⊎ (¬ BeginsWith header (Some line ∷ lines))
     by_test true same = inl (lines, ap (λ l. Some l ∷ lines) (line_same line header same))
     by_test false same = inr (λ begins.
         let is : line ≡ header = cc (begins.1) in
@@ -179,21 +219,33 @@ begins_or_not header (Some line ∷ lines) = by_test (line_is line header) refl
 -- a text is well read, or has a first fault
 abbrev pub Ends : {S : Type 0} → Line → (S → Line → Result S Wrong) → S → TextLines → Type 0
 Ends {S = S} header step start lines =
-    ((state : S) × IsText header step start lines state) ⊎ ((number : ℕ) × (wrong : Wrong) × IsFirstFault header step start lines number wrong)
+    ((state : S) × IsText header step start lines state)
+    ⊎ ((number : ℕ) × (wrong : Wrong) × IsFirstFault header step start lines number wrong)
 
-after_end : {S : Type 0} (header : Line) (step : S → Line → Result S Wrong) (start state : S) (lines : TextLines) (body : List Line) (later : TextLines) → IsGoodUpTo header step start lines body state (Some last_line ∷ later) → Ends header step start lines
+after_end : {S : Type 0} (header : Line) (step : S → Line → Result S Wrong) (start state : S) (lines : TextLines)
+    (body : List Line) (later : TextLines)
+    → IsGoodUpTo header step start lines body state (Some last_line ∷ later) → Ends header step start lines
 after_end header step start state lines body [] good = inl (state, (body, good))
-after_end header step start state lines body (next ∷ rest) good = inr (length body + 3, Syntax, no_end body state next rest good refl refl)
+after_end header step start state lines body (next ∷ rest) good =
+    inr (length body + 3, Syntax, no_end body state next rest good refl refl)
 
-after_good : {S : Type 0} (header : Line) (step : S → Line → Result S Wrong) (start state : S) (lines : TextLines) (body : List Line) (rest : TextLines) → IsGoodUpTo header step start lines body state rest → Comes step state rest → Ends header step start lines
+after_good : {S : Type 0} (header : Line) (step : S → Line → Result S Wrong) (start state : S) (lines : TextLines)
+    (body : List Line) (rest : TextLines)
+    → IsGoodUpTo header step start lines body state rest → Comes step state rest → Ends header step start lines
 after_good header step start state lines body rest good (nothing over) =
     inr (length body + 2, Syntax, no_line body state rest good over refl refl)
 after_good header step start state lines body rest good (last later is) =
     after_end header step start state lines body later (subst (λ r. IsGoodUpTo header step start lines body state r) is good)
 after_good header step start state lines body rest good (refused line later wrong is other failed) =
-    inr (length body + 2, wrong, no_step body state line later (subst (λ r. IsGoodUpTo header step start lines body state r) is good) other failed refl)
+    inr (
+      length body + 2,
+      wrong,
+      no_step body state line later
+          (subst (λ r. IsGoodUpTo header step start lines body state r) is good) other failed refl,
+    )
 
-pub read_or_refused : {S : Type 0} (header : Line) (step : S → Line → Result S Wrong) (start : S) (lines : TextLines) → Ends header step start lines
+pub read_or_refused : {S : Type 0} (header : Line) (step : S → Line → Result S Wrong) (start : S) (lines : TextLines)
+    → Ends header step start lines
 read_or_refused header step start lines = by_header (begins_or_not header lines)
   where
     by_header : BeginsWith header lines ⊎ (¬ BeginsWith header lines) → Ends header step start lines
@@ -201,22 +253,30 @@ read_or_refused header step start lines = by_header (begins_or_not header lines)
     by_header (inl begins) =
         let found = scans step start begins.0 in
         after_good header step start found.state lines found.body found.rest
-        (record { lines_are = begins.1 ∙ ap (λ ls. Some header ∷ ls) found.lines_are; inner = found.inner; stepped = found.stepped }) found.comes
+        (record {
+          lines_are = begins.1 ∙ ap (λ ls. Some header ∷ ls) found.lines_are;
+          inner = found.inner;
+          stepped = found.stepped;
+        }) found.comes
 
 -- so what is read tells which
 
-pub has_first_fault : {S : Type 0} (header : Line) (step : S → Line → Result S Wrong) (start : S) (lines : TextLines) (number : ℕ) (wrong : Wrong) → read_text header step as_it_is start lines ≡ Err (fault_at number wrong) → IsFirstFault header step start lines number wrong
+pub has_first_fault : {S : Type 0} (header : Line) (step : S → Line → Result S Wrong) (start : S) (lines : TextLines) (number : ℕ)
+    (wrong : Wrong)
+    → read_text header step as_it_is start lines ≡ Err (fault_at number wrong) → IsFirstFault header step start lines number wrong
 has_first_fault header step start lines number wrong failed = by_answer (read_or_refused header step start lines)
   where
     by_answer : Ends header step start lines → IsFirstFault header step start lines number wrong
     by_answer (inl text) = absurd (cc (sym failed ∙ reads header step start lines text.0 text.1))
     by_answer (inr first) =
-        let told : fault_at first.0 first.1 ≡ fault_at number wrong = cc (sym (refuses header step start lines first.0 first.1 first.2) ∙ failed) in
+        let told : fault_at first.0 first.1 ≡ fault_at number wrong =
+        cc (sym (refuses header step start lines first.0 first.1 first.2) ∙ failed) in
         let same = same_fault first.0 number first.1 wrong told in
         subst (λ n. IsFirstFault header step start lines n wrong) same.0
         (subst (λ w. IsFirstFault header step start lines first.0 w) same.1 first.2)
 
-pub is_text : {S : Type 0} (header : Line) (step : S → Line → Result S Wrong) (start : S) (lines : TextLines) (state : S) → read_text header step as_it_is start lines ≡ Ok state → IsText header step start lines state
+pub is_text : {S : Type 0} (header : Line) (step : S → Line → Result S Wrong) (start : S) (lines : TextLines) (state : S)
+    → read_text header step as_it_is start lines ≡ Ok state → IsText header step start lines state
 is_text header step start lines state read = by_answer (read_or_refused header step start lines)
   where
     by_answer : Ends header step start lines → IsText header step start lines state
@@ -227,18 +287,24 @@ is_text header step start lines state read = by_answer (read_or_refused header s
 
 -- a text has one first fault at most, and none if it is read
 
-pub one_first_fault : {S : Type 0} (header : Line) (step : S → Line → Result S Wrong) (start : S) (lines : TextLines) (number other : ℕ) (wrong that : Wrong) → IsFirstFault header step start lines number wrong → IsFirstFault header step start lines other that → (number ≡ other) × (wrong ≡ that)
+pub one_first_fault : {S : Type 0} (header : Line) (step : S → Line → Result S Wrong) (start : S) (lines : TextLines)
+    (number other : ℕ) (wrong that : Wrong)
+    → IsFirstFault header step start lines number wrong → IsFirstFault header step start lines other that
+    → (number ≡ other) × (wrong ≡ that)
 one_first_fault header step start lines number other wrong that first second =
     same_fault number other wrong that
     (cc (sym (refuses header step start lines number wrong first) ∙ refuses header step start lines other that second))
 
-pub not_both : {S : Type 0} (header : Line) (step : S → Line → Result S Wrong) (start : S) (lines : TextLines) (state : S) (number : ℕ) (wrong : Wrong) → IsText header step start lines state → IsFirstFault header step start lines number wrong → ⊥
+pub not_both : {S : Type 0} (header : Line) (step : S → Line → Result S Wrong) (start : S) (lines : TextLines) (state : S)
+    (number : ℕ) (wrong : Wrong)
+    → IsText header step start lines state → IsFirstFault header step start lines number wrong → ⊥
 not_both header step start lines state number wrong text first =
     cc (sym (reads header step start lines state text) ∙ refuses header step start lines number wrong first)
 
 -- and of what reads as a text does
 
-tells : {S : Type 0} (header : Line) (step : S → Line → Result S Wrong) (start : S) (lines : TextLines) (fault : Fault) → read_text header step as_it_is start lines ≡ Err fault → TellsFirst header step start lines fault
+tells : {S : Type 0} (header : Line) (step : S → Line → Result S Wrong) (start : S) (lines : TextLines) (fault : Fault)
+    → read_text header step as_it_is start lines ≡ Err fault → TellsFirst header step start lines fault
 tells header step start lines fault failed = by_answer (read_or_refused header step start lines)
   where
     by_answer : Ends header step start lines → TellsFirst header step start lines fault
@@ -247,11 +313,17 @@ tells header step start lines fault failed = by_answer (read_or_refused header s
         (first.0, first.1, cc (sym failed ∙ refuses header step start lines first.0 first.1 first.2), first.2)
 
 -- where it isn't read, its fault tells the first one, unless memory was refused
-pub faults : {S X : Type 0} (view : X → S) (header : Line) (step : S → Line → Result S Wrong) (start : S) (lines : TextLines) (result : Result X Fault) → Reads view result (read_text header step as_it_is start lines) → IfErr result (λ fault. fault ≢ no_memory → TellsFirst header step start lines fault)
+pub faults : {S X : Type 0} (view : X → S) (header : Line) (step : S → Line → Result S Wrong) (start : S) (lines : TextLines)
+    (result : Result X Fault)
+    → Reads view result (read_text header step as_it_is start lines)
+    → IfErr result (λ fault. fault ≢ no_memory → TellsFirst header step start lines fault)
 faults view header step start lines (Ok x) exact = tt
 faults view header step start lines (Err fault) exact = λ lacked. tells header step start lines fault (exact lacked)
 
 -- and where it has a first fault, it is refused for that one
-pub refused_for : {S X : Type 0} (view : X → S) (header : Line) (step : S → Line → Result S Wrong) (start : S) (lines : TextLines) (result : Result X Fault) → Reads view result (read_text header step as_it_is start lines) → (line : ℕ) (wrong : Wrong) → IsFirstFault header step start lines line wrong → Reads view result (Err (fault_at line wrong))
+pub refused_for : {S X : Type 0} (view : X → S) (header : Line) (step : S → Line → Result S Wrong) (start : S) (lines : TextLines)
+    (result : Result X Fault)
+    → Reads view result (read_text header step as_it_is start lines) → (line : ℕ) (wrong : Wrong)
+    → IsFirstFault header step start lines line wrong → Reads view result (Err (fault_at line wrong))
 refused_for view header step start lines result exact line wrong first =
     subst (λ read. Reads view result read) (refuses header step start lines line wrong first) exact

@@ -1,7 +1,6 @@
 -- What hexadecimal digits spell, and that a number has one hexadecimal spelling.
 use Rattle.std.proofs.Common.{◌≡◌, ◌≢◌, ℕ, ◌<◌, ◌^◌, true, false, cond, List, [], ◌∷◌, ◌++◌, take, drop, length, get_or, Option, Some, None, Result, Ok, Err, sym, ap, subst, ◌∙◌, ltb-true, arith}
 use Rattle.std.specs.List.{list_all}
-use Rattle.std.specs.Char.{digit_value}
 use Rattle.std.specs.Str.{IsUtf8, bytes_eq}
 use Rattle.std.specs.Fmt.{digits}
 use Rattle.std.specs.Option.{IfSome}
@@ -17,7 +16,7 @@ use Rattle.std.proofs.lemmas.Str.Parse.{without_leading_plus_none}
 use Rattle.words.specs.Number.{hex_of, hex_digits_of, hexadecimal, below_limit, is_hex_digit, is_hexadecimal}
 use Rattle.words.proofs.Ascii.{IsUtf8-from_test}
 use Rattle.words.proofs.Decimals.{leading, by_result, limited, some_then}
-use Rattle.words.proofs.HexLaws.{digits-digits_value, digits_value-digits, is_hexadecimal-digits}
+use Rattle.words.proofs.HexLaws.{digits-digits_value, digits_value-digits, is_hexadecimal-digits, value_below}
 
 hex_digit_is_ascii : (b : ℕ) → is_hex_digit b ≡ true → b < 128
 hex_digit_is_ascii b h = grind (arith, nat_tests)
@@ -31,13 +30,10 @@ pub not_hexadecimal : (ds : List ℕ) → is_hexadecimal ds ≡ false → hex_di
 unfolding hex_digits_of
 not_hexadecimal ds h = ap (λ t. cond t (below_limit (digits_value 16 ds)) None) h
 
--- a digit's value
-hex_digit_value : (b : ℕ) → is_hex_digit b ≡ true → digit_value b < 16
-hex_digit_value b h = grind (arith, nat_tests)
-
+-- each digit has a value
 pub all_digits : (ds : List ℕ) → list_all is_hex_digit ds ≡ true → AllDigits 16 ds
 all_digits [] h = tt
-all_digits (d ∷ ds) h = let test = and_parts _ _ h in (hex_digit_value d test.0, all_digits ds test.1)
+all_digits (d ∷ ds) h = let test = and_parts _ _ h in (value_below d test.0, all_digits ds test.1)
 
 -- no plus comes first
 no_plus : (ds : List ℕ) → list_all is_hex_digit ds ≡ true → get_or ds 0 0 ≢ 43
@@ -48,7 +44,8 @@ no_plus (d ∷ ds) h e = plus_is_none d (and_parts _ _ h).0 e
     plus_is_none b test is = grind (arith, nat_tests)
 
 -- what `from_str_radix` reads in hexadecimal digits is the number that they spell
-pub parsed : {E : Type 0} (ds : List ℕ) (r : Result ℕ E) → is_hexadecimal ds ≡ true → ParsesUnsigned 64 16 ds r → result_ok r ≡ hex_digits_of ds
+pub parsed : {E : Type 0} (ds : List ℕ) (r : Result ℕ E) → is_hexadecimal ds ≡ true → ParsesUnsigned 64 16 ds r
+    → result_ok r ≡ hex_digits_of ds
 unfolding hex_digits_of
 parsed {E = E} ds r h read =
     let tests = and_parts _ _ h in
@@ -57,7 +54,8 @@ parsed {E = E} ds r h read =
     let plain = subst (λ bs. OkIff r (IsNumeral 16 bs × (digits_value 16 bs < 2 ^ 64)) (digits_value 16 bs)) bare read in
     by_result ds _ r full (without_digits r plain) ∙ sym (cond-true _ _ _ h)
   where
-    without_digits : (s : Result ℕ E) → OkIff s (IsNumeral 16 ds × (digits_value 16 ds < 2 ^ 64)) (digits_value 16 ds) → OkIff s ((0 < length ds) × (digits_value 16 ds < 2 ^ 64)) (digits_value 16 ds)
+    without_digits : (s : Result ℕ E) → OkIff s (IsNumeral 16 ds × (digits_value 16 ds < 2 ^ 64)) (digits_value 16 ds)
+        → OkIff s ((0 < length ds) × (digits_value 16 ds < 2 ^ 64)) (digits_value 16 ds)
     without_digits (Ok n) fact = ((fact.0.0.0, fact.0.1), fact.1)
     without_digits (Err e) refused = λ given. refused ((given.0, all_digits ds (and_parts _ _ h).1), given.1)
 

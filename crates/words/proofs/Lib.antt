@@ -4,11 +4,11 @@ mod Decimals
 mod HexLaws
 mod Hexadecimals
 mod NameText
+mod Beginnings
 pub mod Spellings
-pub mod ReadingLaws
-pub mod TextLaws
 pub mod WordLaws
-pub mod TextReading
+pub mod TextLaws
+pub mod ReadingLaws
 pub mod FirstFaults
+pub mod TextReading
 pub mod OneText
-pub mod Beginnings

@@ -7,7 +7,8 @@ use Rattle.words.specs.Text.{lines_of, text_of, IsPlainLine}
 use Rattle.words.proofs.TextLaws.{text_lines}
 
 -- what is one where it is seen through a map, is one
-pub one_by_map : {X Y : Type 0} (P : X → Type 0) (f : X → Y) → ((x y : X) → P x → P y → f x ≡ f y → x ≡ y) → (xs ys : List X) → AllByRecursion P xs → AllByRecursion P ys → map f xs ≡ map f ys → xs ≡ ys
+pub one_by_map : {X Y : Type 0} (P : X → Type 0) (f : X → Y) → ((x y : X) → P x → P y → f x ≡ f y → x ≡ y) → (xs ys : List X)
+    → AllByRecursion P xs → AllByRecursion P ys → map f xs ≡ map f ys → xs ≡ ys
 one_by_map P f one [] [] this that same = refl
 one_by_map P f one [] (y ∷ ys) this that same = cc
 one_by_map P f one (x ∷ xs) [] this that same = cc
@@ -19,14 +20,18 @@ one_by_map P f one (x ∷ xs) (y ∷ ys) this that same =
     cc
 
 -- lines with one text are one
-pub one_text : (lines others : List (List (List ℕ))) → AllByRecursion IsPlainLine lines → AllByRecursion IsPlainLine others → text_of lines ≡ text_of others → lines ≡ others
+pub one_text : (lines others : List (List (List ℕ))) → AllByRecursion IsPlainLine lines → AllByRecursion IsPlainLine others
+    → text_of lines ≡ text_of others → lines ≡ others
 one_text lines others this that same =
     one_by_map IsPlainLine (λ line. Some line) (λ x y p q e. cc) lines others this that
     (sym (text_lines lines this) ∙ ap lines_of same ∙ text_lines others that)
 
 -- and of whole texts with one header, what stands between header and end
-pub one_body : (header : List (List ℕ)) (body other : List (List (List ℕ))) → AllByRecursion IsPlainLine (whole_lines header body) → AllByRecursion IsPlainLine (whole_lines header other) → text_of (whole_lines header body) ≡ text_of (whole_lines header other) → body ≡ other
+pub one_body : (header : List (List ℕ)) (body other : List (List (List ℕ))) → AllByRecursion IsPlainLine (whole_lines header body)
+    → AllByRecursion IsPlainLine (whole_lines header other)
+    → text_of (whole_lines header body) ≡ text_of (whole_lines header other) → body ≡ other
 one_body header body other this that same =
-    let whole : whole_lines header body ≡ whole_lines header other = one_text (whole_lines header body) (whole_lines header other) this that same in
+    let whole : whole_lines header body ≡ whole_lines header other =
+    one_text (whole_lines header body) (whole_lines header other) this that same in
     let lines : body ++ last_line ∷ [] ≡ other ++ last_line ∷ [] = cc in
     append_cancel_right body other (last_line ∷ []) lines

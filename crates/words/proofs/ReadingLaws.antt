@@ -10,25 +10,40 @@ use Rattle.words.specs.Text.{line_is, IsOver, Place}
 use Rattle.words.specs.Reading.{bind, last_line, header_at, end_at, at_line, read_lines, read_text, as_it_is, StopsBy}
 
 -- the header was taken: the loop begins
-pub begins : {S T : Type 0} (header : List (List ℕ)) (step : S → List (List ℕ) → Result S Wrong) (finish : S → Place → Result T Fault) (s : S) (lines : List (Option (List (List ℕ)))) (place : Place) → header_at header (record { taken = 0; lines = lines }) ≡ Ok place → read_lines step finish place.taken s place.lines ≡ read_text header step finish s lines
+pub begins : {S T : Type 0} (header : List (List ℕ)) (step : S → List (List ℕ) → Result S Wrong)
+    (finish : S → Place → Result T Fault) (s : S) (lines : List (Option (List (List ℕ)))) (place : Place)
+    → header_at header (record { taken = 0; lines = lines }) ≡ Ok place
+    → read_lines step finish place.taken s place.lines ≡ read_text header step finish s lines
 unfolding read_text bind
 begins header step finish s lines place taken =
     sym (ap (λ r. bind r (λ at. read_lines step finish at.taken s at.lines)) taken)
 
 -- it wasn't: its fault is the text's
-pub no_beginning : {S T : Type 0} (header : List (List ℕ)) (step : S → List (List ℕ) → Result S Wrong) (finish : S → Place → Result T Fault) (s : S) (lines : List (Option (List (List ℕ)))) (fault : Fault) → header_at header (record { taken = 0; lines = lines }) ≡ Err fault → read_text header step finish s lines ≡ Err fault
+pub no_beginning : {S T : Type 0} (header : List (List ℕ)) (step : S → List (List ℕ) → Result S Wrong)
+    (finish : S → Place → Result T Fault) (s : S) (lines : List (Option (List (List ℕ)))) (fault : Fault)
+    → header_at header (record { taken = 0; lines = lines }) ≡ Err fault → read_text header step finish s lines ≡ Err fault
 unfolding read_text bind
 no_beginning header step finish s lines fault failed =
     ap (λ r. bind r (λ at. read_lines step finish at.taken s at.lines)) failed
 
 -- a line that isn't the last is a step
-pub at_step : {S T : Type 0} (step : S → List (List ℕ) → Result S Wrong) (finish : S → Place → Result T Fault) (taken : ℕ) (s : S) (line : List (List ℕ)) (lines : List (Option (List (List ℕ)))) → line_is line last_line ≡ false → read_lines step finish taken s (Some line ∷ lines) ≡ at_line (taken + 1) (step s line) (λ next. read_lines step finish (taken + 1) next lines)
+pub at_step : {S T : Type 0} (step : S → List (List ℕ) → Result S Wrong) (finish : S → Place → Result T Fault) (taken : ℕ) (s : S)
+    (line : List (List ℕ)) (lines : List (Option (List (List ℕ))))
+    → line_is line last_line ≡ false
+    → read_lines step finish taken s (Some line ∷ lines)
+    ≡ at_line (taken + 1) (step s line) (λ next. read_lines step finish (taken + 1) next lines)
 unfolding read_lines
 at_step step finish taken s line lines other =
-    ap (λ t. cond t (finish s (record { taken = taken + 1; lines = lines })) (at_line (taken + 1) (step s line) (λ next. read_lines step finish (taken + 1) next lines))) other
+    ap (λ t. cond t (finish s (record {
+      taken = taken + 1;
+      lines = lines;
+    })) (at_line (taken + 1) (step s line) (λ next. read_lines step finish (taken + 1) next lines))) other
 
 -- the step gave a state: the loop goes on with it
-pub goes_on : {S T : Type 0} (step : S → List (List ℕ) → Result S Wrong) (finish : S → Place → Result T Fault) (old new : Place) (s next : S) (line : List (List ℕ)) (read : Result T Fault) → read_lines step finish old.taken s old.lines ≡ read → old.lines ≡ Some line ∷ new.lines → new.taken ≡ old.taken + 1 → line_is line last_line ≡ false → step s line ≡ Ok next → read_lines step finish new.taken next new.lines ≡ read
+pub goes_on : {S T : Type 0} (step : S → List (List ℕ) → Result S Wrong) (finish : S → Place → Result T Fault) (old new : Place)
+    (s next : S) (line : List (List ℕ)) (read : Result T Fault)
+    → read_lines step finish old.taken s old.lines ≡ read → old.lines ≡ Some line ∷ new.lines → new.taken ≡ old.taken + 1
+    → line_is line last_line ≡ false → step s line ≡ Ok next → read_lines step finish new.taken next new.lines ≡ read
 unfolding at_line
 goes_on step finish old new s next line read so_far taken counted other stepped =
     ap (λ n. read_lines step finish n next new.lines) counted
@@ -38,7 +53,10 @@ goes_on step finish old new s next line read so_far taken counted other stepped 
     ∙ so_far
 
 -- the step found a fault: it is the text's, at the line that was taken
-pub stops : {S T : Type 0} (step : S → List (List ℕ) → Result S Wrong) (finish : S → Place → Result T Fault) (old new : Place) (s : S) (line : List (List ℕ)) (wrong : Wrong) (fault : Fault) (read : Result T Fault) → read_lines step finish old.taken s old.lines ≡ read → old.lines ≡ Some line ∷ new.lines → new.taken ≡ old.taken + 1 → line_is line last_line ≡ false → step s line ≡ Err wrong → fault ≡ fault_at new.taken wrong → read ≡ Err fault
+pub stops : {S T : Type 0} (step : S → List (List ℕ) → Result S Wrong) (finish : S → Place → Result T Fault) (old new : Place)
+    (s : S) (line : List (List ℕ)) (wrong : Wrong) (fault : Fault) (read : Result T Fault)
+    → read_lines step finish old.taken s old.lines ≡ read → old.lines ≡ Some line ∷ new.lines → new.taken ≡ old.taken + 1
+    → line_is line last_line ≡ false → step s line ≡ Err wrong → fault ≡ fault_at new.taken wrong → read ≡ Err fault
 unfolding at_line
 stops step finish old new s line wrong fault read so_far taken counted other stepped told =
     sym so_far
@@ -49,49 +67,73 @@ stops step finish old new s line wrong fault read so_far taken counted other ste
     ∙ sym (ap (λ f. Err f) told)
 
 -- the same of a step that takes memory, where its want is no fault of the text
-pub stops_by : {S T : Type 0} (step : S → List (List ℕ) → Result S Wrong) (finish : S → Place → Result T Fault) (old new : Place) (s : S) (line : List (List ℕ)) (cause : Cause) (fault : Fault) (read : Result T Fault) → read_lines step finish old.taken s old.lines ≡ read → old.lines ≡ Some line ∷ new.lines → new.taken ≡ old.taken + 1 → line_is line last_line ≡ false → StopsBy cause (step s line) → fault ≡ fault_of new.taken cause → fault ≢ no_memory → read ≡ Err fault
+pub stops_by : {S T : Type 0} (step : S → List (List ℕ) → Result S Wrong) (finish : S → Place → Result T Fault) (old new : Place)
+    (s : S) (line : List (List ℕ)) (cause : Cause) (fault : Fault) (read : Result T Fault)
+    → read_lines step finish old.taken s old.lines ≡ read → old.lines ≡ Some line ∷ new.lines → new.taken ≡ old.taken + 1
+    → line_is line last_line ≡ false → StopsBy cause (step s line) → fault ≡ fault_of new.taken cause → fault ≢ no_memory
+    → read ≡ Err fault
 unfolding fault_of
 stops_by step finish old new s line Memory fault read so_far taken counted other stepped told lacked = absurd (lacked told)
 stops_by step finish old new s line (Text wrong) fault read so_far taken counted other stepped told lacked =
     stops step finish old new s line wrong fault read so_far taken counted other stepped told
 
 -- the last line was taken: what is read is what the state and the place give
-ends : {S T : Type 0} (step : S → List (List ℕ) → Result S Wrong) (finish : S → Place → Result T Fault) (old new : Place) (s : S) (line : List (List ℕ)) (read : Result T Fault) → read_lines step finish old.taken s old.lines ≡ read → old.lines ≡ Some line ∷ new.lines → new.taken ≡ old.taken + 1 → line_is line last_line ≡ true → read ≡ finish s new
+ends : {S T : Type 0} (step : S → List (List ℕ) → Result S Wrong) (finish : S → Place → Result T Fault) (old new : Place) (s : S)
+    (line : List (List ℕ)) (read : Result T Fault)
+    → read_lines step finish old.taken s old.lines ≡ read → old.lines ≡ Some line ∷ new.lines → new.taken ≡ old.taken + 1
+    → line_is line last_line ≡ true → read ≡ finish s new
 unfolding read_lines
 ends step finish old new s line read so_far taken counted last =
     sym so_far
     ∙ ap (λ lines. read_lines step finish old.taken s lines) taken
-    ∙ ap (λ t. cond t (finish s (record { taken = old.taken + 1; lines = new.lines })) (at_line (old.taken + 1) (step s line) (λ next. read_lines step finish (old.taken + 1) next new.lines))) last
+    ∙ ap (λ t. cond t (finish s (record { taken = old.taken + 1; lines = new.lines }))
+    (at_line (old.taken + 1) (step s line) (λ next. read_lines step finish (old.taken + 1) next new.lines))) last
     ∙ ap (λ n. finish s (record { taken = n; lines = new.lines })) (sym counted)
 
 -- they give a value: it is what is read
-pub finishes : {S T : Type 0} (step : S → List (List ℕ) → Result S Wrong) (finish : S → Place → Result T Fault) (old new : Place) (s : S) (line : List (List ℕ)) (t : T) (read : Result T Fault) → read_lines step finish old.taken s old.lines ≡ read → old.lines ≡ Some line ∷ new.lines → new.taken ≡ old.taken + 1 → line_is line last_line ≡ true → finish s new ≡ Ok t → read ≡ Ok t
+pub finishes : {S T : Type 0} (step : S → List (List ℕ) → Result S Wrong) (finish : S → Place → Result T Fault) (old new : Place)
+    (s : S) (line : List (List ℕ)) (t : T) (read : Result T Fault)
+    → read_lines step finish old.taken s old.lines ≡ read → old.lines ≡ Some line ∷ new.lines → new.taken ≡ old.taken + 1
+    → line_is line last_line ≡ true → finish s new ≡ Ok t → read ≡ Ok t
 finishes step finish old new s line t read so_far taken counted last finished =
     ends step finish old new s line read so_far taken counted last ∙ finished
 
 -- they give a fault: it is the text's
-pub finishes_badly : {S T : Type 0} (step : S → List (List ℕ) → Result S Wrong) (finish : S → Place → Result T Fault) (old new : Place) (s : S) (line : List (List ℕ)) (fault : Fault) (read : Result T Fault) → read_lines step finish old.taken s old.lines ≡ read → old.lines ≡ Some line ∷ new.lines → new.taken ≡ old.taken + 1 → line_is line last_line ≡ true → finish s new ≡ Err fault → read ≡ Err fault
+pub finishes_badly : {S T : Type 0} (step : S → List (List ℕ) → Result S Wrong) (finish : S → Place → Result T Fault)
+    (old new : Place) (s : S) (line : List (List ℕ)) (fault : Fault) (read : Result T Fault)
+    → read_lines step finish old.taken s old.lines ≡ read → old.lines ≡ Some line ∷ new.lines → new.taken ≡ old.taken + 1
+    → line_is line last_line ≡ true → finish s new ≡ Err fault → read ≡ Err fault
 finishes_badly step finish old new s line fault read so_far taken counted last failed =
     ends step finish old new s line read so_far taken counted last ∙ failed
 
 -- no ended line comes next: the fault is the missing line's
-pub no_more : {S T : Type 0} (step : S → List (List ℕ) → Result S Wrong) (finish : S → Place → Result T Fault) (place : Place) (s : S) (read : Result T Fault) → read_lines step finish place.taken s place.lines ≡ read → IsOver place.lines → read ≡ Err (fault_at (place.taken + 1) Syntax)
+pub no_more : {S T : Type 0} (step : S → List (List ℕ) → Result S Wrong) (finish : S → Place → Result T Fault) (place : Place)
+    (s : S) (read : Result T Fault)
+    → read_lines step finish place.taken s place.lines ≡ read → IsOver place.lines
+    → read ≡ Err (fault_at (place.taken + 1) Syntax)
 unfolding read_lines
 no_more step finish place s read so_far over = sym so_far ∙ by_lines place.lines over
   where
-    by_lines : (lines : List (Option (List (List ℕ)))) → IsOver lines → read_lines step finish place.taken s lines ≡ Err (fault_at (place.taken + 1) Syntax)
+    by_lines : (lines : List (Option (List (List ℕ)))) → IsOver lines
+        → read_lines step finish place.taken s lines ≡ Err (fault_at (place.taken + 1) Syntax)
     by_lines [] over = refl
     by_lines (None ∷ lines) over = refl
     by_lines (Some line ∷ lines) over = absurd over
 
 -- nothing follows the last line: the state is what is read
-pub ends_well : {S : Type 0} (step : S → List (List ℕ) → Result S Wrong) (old new : Place) (s : S) (line : List (List ℕ)) (read : Result S Fault) → read_lines step as_it_is old.taken s old.lines ≡ read → old.lines ≡ Some line ∷ new.lines → new.taken ≡ old.taken + 1 → line_is line last_line ≡ true → end_at new ≡ Ok tt → read ≡ Ok s
+pub ends_well : {S : Type 0} (step : S → List (List ℕ) → Result S Wrong) (old new : Place) (s : S) (line : List (List ℕ))
+    (read : Result S Fault)
+    → read_lines step as_it_is old.taken s old.lines ≡ read → old.lines ≡ Some line ∷ new.lines → new.taken ≡ old.taken + 1
+    → line_is line last_line ≡ true → end_at new ≡ Ok tt → read ≡ Ok s
 unfolding as_it_is bind
 ends_well step old new s line read so_far taken counted last nothing =
     finishes step as_it_is old new s line s read so_far taken counted last (ap (λ r. bind r (λ _. Ok s)) nothing)
 
 -- something does: its fault is the text's
-pub ends_badly : {S : Type 0} (step : S → List (List ℕ) → Result S Wrong) (old new : Place) (s : S) (line : List (List ℕ)) (fault : Fault) (read : Result S Fault) → read_lines step as_it_is old.taken s old.lines ≡ read → old.lines ≡ Some line ∷ new.lines → new.taken ≡ old.taken + 1 → line_is line last_line ≡ true → end_at new ≡ Err fault → read ≡ Err fault
+pub ends_badly : {S : Type 0} (step : S → List (List ℕ) → Result S Wrong) (old new : Place) (s : S) (line : List (List ℕ))
+    (fault : Fault) (read : Result S Fault)
+    → read_lines step as_it_is old.taken s old.lines ≡ read → old.lines ≡ Some line ∷ new.lines → new.taken ≡ old.taken + 1
+    → line_is line last_line ≡ true → end_at new ≡ Err fault → read ≡ Err fault
 unfolding as_it_is bind
 ends_badly step old new s line fault read so_far taken counted last something =
     finishes_badly step as_it_is old new s line fault read so_far taken counted last (ap (λ r. bind r (λ _. Ok s)) something)

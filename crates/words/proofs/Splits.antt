@@ -10,15 +10,18 @@ use Rattle.std.proofs.lemmas.List.{take_rest}
 use Rattle.std.proofs.lemmas.List.Sums.{fails_before_first}
 use Rattle.words.specs.declared.faults.Wrong.TheVariants.{Syntax}
 use Rattle.words.specs.Fault.{fault_at}
-use Rattle.words.specs.Text.{words_of, lines_of, lines_of_parts, line_is, IsOver}
-use Rattle.words.specs.Reading.{ended_at, end_at}
+use Rattle.words.specs.FirstFault.{Line, TextLines}
+use Rattle.words.specs.Text.{words_of, lines_of, lines_of_parts, line_is, IsOver, Place}
+use Rattle.words.specs.Reading.{after_line, ended_at, end_at}
 
 -- there is a part at least
-pub parts_some : {X : Type 0} (p : X → Bool) (xs : List X) → (part : List X) × (parts : List (List X)) × (slice_split p xs ≡ part ∷ parts)
+pub parts_some : {X : Type 0} (p : X → Bool) (xs : List X)
+    → (part : List X) × (parts : List (List X)) × (slice_split p xs ≡ part ∷ parts)
 parts_some {X = X} p [] = ([], [], refl)
 parts_some {X = X} p (x ∷ xs) = by_test (p x) (slice_split p xs) (parts_some p xs)
   where
-    by_test : (b : Bool) (parts : List (List X)) → (first : List X) × (later : List (List X)) × (parts ≡ first ∷ later) → (part : List X) × (more : List (List X)) × (cond b ([] ∷ parts) (onto_first x parts) ≡ part ∷ more)
+    by_test : (b : Bool) (parts : List (List X)) → (first : List X) × (later : List (List X)) × (parts ≡ first ∷ later)
+        → (part : List X) × (more : List (List X)) × (cond b ([] ∷ parts) (onto_first x parts) ≡ part ∷ more)
     by_test true parts h = ([], parts, refl)
     by_test false parts h = (x ∷ h.0, h.1, ap (λ y. onto_first x y) h.2)
 
@@ -28,10 +31,12 @@ unfolding ended_at
 never_ended line = let h = parts_some (λ b. b == 32) line in ap ended_at h.2
 
 -- the first part ends at the first place that passes
-pub split_at_position : (p : ℕ → Bool) (bs : List ℕ) (at : ℕ) → position p bs ≡ Some at → slice_split p bs ≡ take at bs ∷ slice_split p (drop (at + 1) bs)
+pub split_at_position : (p : ℕ → Bool) (bs : List ℕ) (at : ℕ) → position p bs ≡ Some at
+    → slice_split p bs ≡ take at bs ∷ slice_split p (drop (at + 1) bs)
 split_at_position p bs at found = by_test (nat_lt (position_or_len p bs) (length bs)) refl found
   where
-    by_test : (b : Bool) → nat_lt (position_or_len p bs) (length bs) ≡ b → cond b (Some (position_or_len p bs)) None ≡ Some at → slice_split p bs ≡ take at bs ∷ slice_split p (drop (at + 1) bs)
+    by_test : (b : Bool) → nat_lt (position_or_len p bs) (length bs) ≡ b → cond b (Some (position_or_len p bs)) None ≡ Some at
+        → slice_split p bs ≡ take at bs ∷ slice_split p (drop (at + 1) bs)
     by_test true below is =
         let e : position_or_len p bs ≡ at = cc in
         let first = slice_split_first p bs 0 (ltb-true _ _ below) in
@@ -39,14 +44,16 @@ split_at_position p bs at found = by_test (nat_lt (position_or_len p bs) (length
     by_test false past is = absurd (none-some at is)
 
 -- the same, as the code cuts the bytes
-pub split_round : (p : ℕ → Bool) (bs : List ℕ) (at : ℕ) → position p bs ≡ Some at → slice_split p bs ≡ take at bs ∷ slice_split p (take (length bs - (at + 1)) (drop (at + 1) bs))
+pub split_round : (p : ℕ → Bool) (bs : List ℕ) (at : ℕ) → position p bs ≡ Some at
+    → slice_split p bs ≡ take at bs ∷ slice_split p (take (length bs - (at + 1)) (drop (at + 1) bs))
 split_round p bs at found = rw take_rest (split_at_position p bs at found)
 
 -- where no place passes, the bytes are the one part
 pub split_nowhere : (p : ℕ → Bool) (bs : List ℕ) → position p bs ≡ None → slice_split p bs ≡ bs ∷ []
 split_nowhere p bs missing = by_test (nat_lt (position_or_len p bs) (length bs)) refl missing
   where
-    by_test : (b : Bool) → nat_lt (position_or_len p bs) (length bs) ≡ b → cond b (Some (position_or_len p bs)) None ≡ None → slice_split p bs ≡ bs ∷ []
+    by_test : (b : Bool) → nat_lt (position_or_len p bs) (length bs) ≡ b → cond b (Some (position_or_len p bs)) None ≡ None
+        → slice_split p bs ≡ bs ∷ []
     by_test true below is = cc
     by_test false past is =
         let reached = ltb-false _ _ past in
@@ -62,12 +69,20 @@ same_words a b =
       λ e. words.1 (ap (λ line. words_of line) e),
     )
 
+-- the test of a line is the line's equation
+pub line_same : (line other : List (List ℕ)) → line_is line other ≡ true → line ≡ other
+line_same line other = (slice_eq-Decides bytes_eq-Decides line other (line_is line other) refl).0
+
+pub same_line : (line : List (List ℕ)) → line_is line line ≡ true
+same_line line = (slice_eq-Decides bytes_eq-Decides line line (line_is line line) refl).1 refl
+
 -- no line is without words
 pub never_no_words : (line : List ℕ) → line_is [] (words_of line) ≡ false
 never_no_words line = let h = parts_some (λ b. b == 32) line in ap (λ words. line_is [] words) h.2
 
 -- the first line of a text that has a line feed
-pub line_first : (bytes line later : List ℕ) → slice_split (λ b. b == 10) bytes ≡ line ∷ slice_split (λ b. b == 10) later → lines_of bytes ≡ Some (words_of line) ∷ lines_of later
+pub line_first : (bytes line later : List ℕ) → slice_split (λ b. b == 10) bytes ≡ line ∷ slice_split (λ b. b == 10) later
+    → lines_of bytes ≡ Some (words_of line) ∷ lines_of later
 unfolding lines_of
 line_first bytes line later e =
     let h = parts_some (λ b. b == 10) later in
@@ -82,19 +97,25 @@ over_nowhere bytes e = subst (λ parts. IsOver (lines_of_parts parts)) (sym e) (
     over_one [] = tt
     over_one (b ∷ bs) = tt
 
--- bytes that are there make a line, ended or not
-pub lines_some : (bytes : List ℕ) → 0 < length bytes → (line : Option (List (List ℕ))) × (lines : List (Option (List (List ℕ)))) × (lines_of bytes ≡ line ∷ lines)
+-- there is a line at least, ended or not
+abbrev HasLine : TextLines → Type 0
+HasLine all = (line : Option Line) × (lines : TextLines) × (all ≡ line ∷ lines)
+
+-- bytes that are there make a line
+lines_some : (bytes : List ℕ) → 0 < length bytes → HasLine (lines_of bytes)
 unfolding lines_of
 lines_some [] h = absurd (omega (arith, h))
 lines_some (b ∷ bs) h = by_test (b == 10) (slice_split (λ x. x == 10) bs) (parts_some (λ x. x == 10) bs)
   where
-    by_parts : (part : List ℕ) (parts : List (List ℕ)) → (line : Option (List (List ℕ))) × (lines : List (Option (List (List ℕ)))) × (lines_of_parts ((b ∷ part) ∷ parts) ≡ line ∷ lines)
+    by_parts : (part : List ℕ) (parts : List (List ℕ)) → HasLine (lines_of_parts ((b ∷ part) ∷ parts))
     by_parts part [] = (None, [], refl)
     by_parts part (next ∷ more) = (Some (words_of (b ∷ part)), lines_of_parts (next ∷ more), refl)
 
-    by_test : (t : Bool) (parts : List (List ℕ)) → (first : List ℕ) × (later : List (List ℕ)) × (parts ≡ first ∷ later) → (line : Option (List (List ℕ))) × (lines : List (Option (List (List ℕ)))) × (lines_of_parts (cond t ([] ∷ parts) (onto_first b parts)) ≡ line ∷ lines)
+    by_test : (t : Bool) (parts : List (List ℕ)) → (first : List ℕ) × (later : List (List ℕ)) × (parts ≡ first ∷ later)
+        → HasLine (lines_of_parts (cond t ([] ∷ parts) (onto_first b parts)))
     by_test true parts h = (Some (words_of []), lines_of_parts (h.0 ∷ h.1), ap (λ ps. lines_of_parts ([] ∷ ps)) h.2)
-    by_test false parts h = let line = by_parts h.0 h.1 in (line.0, line.1, ap (λ ps. lines_of_parts (onto_first b ps)) h.2 ∙ line.2)
+    by_test false parts h =
+        let line = by_parts h.0 h.1 in (line.0, line.1, ap (λ ps. lines_of_parts (onto_first b ps)) h.2 ∙ line.2)
 
 -- nothing follows where no byte is left
 pub end_none : (taken : ℕ) (bytes : List ℕ) → length bytes ≡ 0 → end_at (record { taken = taken; lines = lines_of bytes }) ≡ Ok tt
@@ -103,8 +124,28 @@ end_none taken [] h = refl
 end_none taken (b ∷ bs) h = absurd (omega (arith, h))
 
 -- and something does where a byte is left
-pub end_some : (taken : ℕ) (bytes : List ℕ) → 0 < length bytes → end_at (record { taken = taken; lines = lines_of bytes }) ≡ Err (fault_at (taken + 1) Syntax)
+pub end_some : (taken : ℕ) (bytes : List ℕ) → 0 < length bytes
+    → end_at (record { taken = taken; lines = lines_of bytes }) ≡ Err (fault_at (taken + 1) Syntax)
 unfolding end_at
 end_some taken bytes h =
     let l = lines_some bytes h in
     ap (λ lines. end_at (record { taken = taken; lines = lines })) l.2
+
+-- where no ended line comes next, a reader stays where it is
+stays_at : (taken : ℕ) (lines : List (Option (List (List ℕ)))) → IsOver lines
+    → after_line (record { taken = taken; lines = lines }) ≡ record { taken = taken; lines = lines }
+unfolding after_line
+stays_at taken [] over = refl
+stays_at taken (None ∷ lines) over = refl
+stays_at taken (Some line ∷ lines) over = absurd over
+
+pub stays : (old new : Place) → IsOver old.lines → new ≡ old → new ≡ after_line old
+stays old new over same = same ∙ sym (stays_at old.taken old.lines over)
+
+-- and after a line that was taken it stands behind it
+pub moves : (old new : Place) (line : List (List ℕ)) → old.lines ≡ Some line ∷ new.lines → new.taken ≡ old.taken + 1
+    → new ≡ after_line old
+unfolding after_line
+moves old new line is counted =
+    ap (λ n. record { taken = n; lines = new.lines }) counted
+    ∙ sym (ap (λ lines. after_line (record { taken = old.taken; lines = lines })) is)

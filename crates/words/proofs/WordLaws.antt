@@ -1,15 +1,15 @@
 -- What a line that was read says of its words, one law for each way to take a word, and that each spelling is read back.
-use Rattle.std.proofs.Common.{◌≡◌, ℕ, ◌<◌, ◌^◌, Bool, true, List, [], ◌∷◌, Option, Some, None, Result, Ok, Err, refl, ap, ◌∙◌, arith, lit<}
-use Rattle.std.specs.List.{list_all}
+use Rattle.std.proofs.Common.{◌≡◌, ℕ, ◌<◌, ◌^◌, Bool, true, nat_lt, List, [], ◌∷◌, ◌++◌, map, codes, Option, Some, None, Result, Ok, Err, refl, ap, ◌∙◌, arith, lit<}
+use Rattle.std.specs.List.{list_all, AllByRecursion}
 use Rattle.std.specs.Char.{is_ascii_digit}
 use Rattle.std.specs.Fmt.{decimal}
 use Rattle.std.proofs.lemmas.Bool.{and_parts, cond-true}
-use Rattle.std.proofs.lemmas.Bool.Decides.{nat_tests}
+use Rattle.std.proofs.lemmas.Bool.Decides.{nat_tests, Decides-ltb}
 use Rattle.std.proofs.lemmas.Fmt.{digits_decimal}
 use Rattle.std.proofs.lemmas.Option.{cond_some}
 use Rattle.words.specs.declared.faults.Wrong.{Wrong}
-use Rattle.words.specs.Text.{IsPlainWord}
-use Rattle.words.specs.Reading.{bind, word_at, ended_at, or_syntax}
+use Rattle.words.specs.Text.{IsPlainWord, IsPlainLine}
+use Rattle.words.specs.Reading.{bind, last_line, word_at, ended_at, or_syntax}
 use Rattle.words.specs.Number.{dec_of, hex_of, hexadecimal, is_hex_digit, number_at, hex_at}
 use Rattle.words.specs.Name.{is_name, is_name_byte, name_of, name_at}
 use Rattle.words.proofs.Decimals.{own, dec_takes, dec_again}
@@ -17,13 +17,15 @@ use Rattle.words.proofs.HexLaws.{is_hexadecimal-digits}
 use Rattle.words.proofs.Hexadecimals.{hex_takes, hex_again}
 
 -- reading in two steps that gave a value: the first gave one, and the second from there
-pub bind_ok : {E X Y : Type 0} (r : Result X E) (f : X → Result Y E) (y : Y) → bind r f ≡ Ok y → (x : X) × (r ≡ Ok x) × (f x ≡ Ok y)
+pub bind_ok : {E X Y : Type 0} (r : Result X E) (f : X → Result Y E) (y : Y) → bind r f ≡ Ok y
+    → (x : X) × (r ≡ Ok x) × (f x ≡ Ok y)
 unfolding bind
 bind_ok (Ok x) f y h = (x, refl, h)
 bind_ok (Err e) f y h = cc
 
 -- a word spelled a value, and reading went on with it
-value_then : {V Y : Type 0} (o : Option V) (rest : List (List ℕ)) (f : V × List (List ℕ) → Result Y Wrong) (y : Y) → bind (bind (or_syntax o) (λ v. Ok (v, rest))) f ≡ Ok y → (v : V) × (o ≡ Some v) × (f (v, rest) ≡ Ok y)
+value_then : {V Y : Type 0} (o : Option V) (rest : List (List ℕ)) (f : V × List (List ℕ) → Result Y Wrong) (y : Y)
+    → bind (bind (or_syntax o) (λ v. Ok (v, rest))) f ≡ Ok y → (v : V) × (o ≡ Some v) × (f (v, rest) ≡ Ok y)
 unfolding bind or_syntax
 value_then (Some v) rest f y h = (v, refl, h)
 value_then None rest f y h = cc
@@ -35,26 +37,30 @@ pub record ReadsWord {Y : Type 0} (f : List ℕ × List (List ℕ) → Result Y 
   pub words_are : words ≡ word ∷ rest
   pub goes_on : f (word, rest) ≡ Ok y
 
-pub word_then : {Y : Type 0} (f : List ℕ × List (List ℕ) → Result Y Wrong) (words : List (List ℕ)) (y : Y) → bind (word_at words) f ≡ Ok y → ReadsWord f words y
+pub word_then : {Y : Type 0} (f : List ℕ × List (List ℕ) → Result Y Wrong) (words : List (List ℕ)) (y : Y)
+    → bind (word_at words) f ≡ Ok y → ReadsWord f words y
 unfolding bind word_at
 word_then f [] y h = cc
 word_then f (word ∷ rest) y h = record { word = word; rest = rest; words_are = refl; goes_on = h }
 
 -- no word was left
-pub ended_then : {Y : Type 0} (f : Unit {0} → Result Y Wrong) (words : List (List ℕ)) (y : Y) → bind (ended_at words) f ≡ Ok y → (words ≡ []) × (f tt ≡ Ok y)
+pub ended_then : {Y : Type 0} (f : Unit {0} → Result Y Wrong) (words : List (List ℕ)) (y : Y) → bind (ended_at words) f ≡ Ok y
+    → (words ≡ []) × (f tt ≡ Ok y)
 unfolding bind ended_at
 ended_then f [] y h = (refl, h)
 ended_then f (word ∷ rest) y h = cc
 
 -- a number was taken, in decimal or in hexadecimal
-pub record ReadsNumber {Y : Type 0} (text : ℕ → List ℕ) (f : ℕ × List (List ℕ) → Result Y Wrong) (words : List (List ℕ)) (y : Y) : Type 0 where
+pub record ReadsNumber {Y : Type 0} (text : ℕ → List ℕ) (f : ℕ × List (List ℕ) → Result Y Wrong) (words : List (List ℕ)) (y : Y)
+    : Type 0 where
   pub number : ℕ
   pub rest : List (List ℕ)
   pub words_are : words ≡ text number ∷ rest
   pub small : number < 2 ^ 64
   pub goes_on : f (number, rest) ≡ Ok y
 
-pub number_then : {Y : Type 0} (f : ℕ × List (List ℕ) → Result Y Wrong) (words : List (List ℕ)) (y : Y) → bind (number_at words) f ≡ Ok y → ReadsNumber decimal f words y
+pub number_then : {Y : Type 0} (f : ℕ × List (List ℕ) → Result Y Wrong) (words : List (List ℕ)) (y : Y)
+    → bind (number_at words) f ≡ Ok y → ReadsNumber decimal f words y
 unfolding bind word_at number_at
 number_then f [] y h = cc
 number_then f (word ∷ rest) y h =
@@ -62,7 +68,8 @@ number_then f (word ∷ rest) y h =
     let text = dec_takes word read.0 read.1 in
     record { number = read.0; rest = rest; words_are = ap (λ w. w ∷ rest) text.0; small = text.1; goes_on = read.2 }
 
-pub hex_then : {Y : Type 0} (f : ℕ × List (List ℕ) → Result Y Wrong) (words : List (List ℕ)) (y : Y) → bind (hex_at words) f ≡ Ok y → ReadsNumber hexadecimal f words y
+pub hex_then : {Y : Type 0} (f : ℕ × List (List ℕ) → Result Y Wrong) (words : List (List ℕ)) (y : Y)
+    → bind (hex_at words) f ≡ Ok y → ReadsNumber hexadecimal f words y
 unfolding bind word_at hex_at
 hex_then f [] y h = cc
 hex_then f (word ∷ rest) y h =
@@ -78,7 +85,8 @@ pub record ReadsName {Y : Type 0} (f : List ℕ × List (List ℕ) → Result Y 
   pub is : is_name name ≡ true
   pub goes_on : f (name, rest) ≡ Ok y
 
-pub name_then : {Y : Type 0} (f : List ℕ × List (List ℕ) → Result Y Wrong) (words : List (List ℕ)) (y : Y) → bind (name_at words) f ≡ Ok y → ReadsName f words y
+pub name_then : {Y : Type 0} (f : List ℕ × List (List ℕ) → Result Y Wrong) (words : List (List ℕ)) (y : Y)
+    → bind (name_at words) f ≡ Ok y → ReadsName f words y
 unfolding bind word_at name_at name_of
 name_then f [] y h = cc
 name_then f (word ∷ rest) y h =
@@ -128,3 +136,12 @@ plain_hexadecimal n small =
 
 pub plain_name : (word : List ℕ) → is_name word ≡ true → IsPlainWord word
 plain_name word h = plain_from_test is_name_byte name_byte_above word (and_parts _ _ h).1
+
+pub plain_bytes : (bytes : List ℕ) → list_all (λ b. nat_lt 32 b) bytes ≡ true → IsPlainWord bytes
+plain_bytes bytes h = plain_from_test (λ b. nat_lt 32 b) (λ b. (Decides-ltb 32 b).0) bytes h
+
+-- the lines of values whose lines are plain, with `end` after them
+pub plain_lines : {X : Type 0} (P : X → Type 0) (f : X → List (List ℕ)) → ((x : X) → P x → IsPlainLine (f x)) → (xs : List X)
+    → AllByRecursion P xs → AllByRecursion IsPlainLine (map f xs ++ last_line ∷ [])
+plain_lines P f plain [] all = ((plain_bytes (codes "end") refl, tt), tt)
+plain_lines P f plain (x ∷ xs) all = (plain x all.0, plain_lines P f plain xs all.1)

@@ -1,4 +1,4 @@
--- The first fault of a text, in the words of its format: a header, lines each a step of a state, the line `end`, and nothing after it.
+-- The first fault of a text, in the words of its format: a header, lines each a step of a state, the line `end`, nothing after it.
 -- It is confine's own: a fault is told by the number of its line, from 1, and by what is wrong there.
 use Rattle.std.specs.Prelude.{◌≡◌, ◌≢◌, ℕ, ◌+◌, List, [], ◌∷◌, ◌++◌, length, map, Option, Some, Result, Ok, Err}
 use Rattle.std.specs.List.{AllByRecursion}
@@ -25,8 +25,9 @@ ended lines = map (λ line. Some line) lines
 abbrev pub BeginsWith : Line → TextLines → Type 0
 BeginsWith header lines = (rest : TextLines) × (lines ≡ Some header ∷ rest)
 
--- a text begins with its header and these lines, which are good: none is the line `end`, and each is a step of the state before it
-pub record IsGoodUpTo {S : Type 0} (header : Line) (step : S → Line → Result S Wrong) (start : S) (lines : TextLines) (body : List Line) (state : S) (rest : TextLines) : Type 0 where
+-- a text begins with its header and these lines, which are good: none is the line `end`, each is a step of the state before it
+pub record IsGoodUpTo {S : Type 0} (header : Line) (step : S → Line → Result S Wrong) (start : S) (lines : TextLines)
+    (body : List Line) (state : S) (rest : TextLines) : Type 0 where
   pub lines_are : lines ≡ ended (header ∷ body) ++ rest
   pub inner : AllByRecursion (λ line. line ≢ last_line) body
   pub stepped : steps step start body ≡ Ok state
@@ -37,7 +38,8 @@ IsText header step start lines state =
     (body : List Line) × IsGoodUpTo header step start lines body state (Some last_line ∷ [])
 
 -- the first fault of a text, which is that of the line with this number
-pub data IsFirstFault {S : Type 0} (header : Line) (step : S → Line → Result S Wrong) (start : S) (lines : TextLines) (number : ℕ) (wrong : Wrong) : Type 0 where
+pub data IsFirstFault {S : Type 0} (header : Line) (step : S → Line → Result S Wrong) (start : S) (lines : TextLines)
+    (number : ℕ) (wrong : Wrong) : Type 0 where
   -- the first line isn't the header
   no_header : ¬ BeginsWith header lines → number ≡ 1 → wrong ≡ Syntax → IsFirstFault header step start lines number wrong
   -- the line after the good ones is missing, or isn't ended
@@ -46,11 +48,13 @@ pub data IsFirstFault {S : Type 0} (header : Line) (step : S → Line → Result
       → number ≡ length body + 2 → wrong ≡ Syntax → IsFirstFault header step start lines number wrong
   -- it isn't `end`, and no step of the state after the good ones
   no_step :
-      (body : List Line) (state : S) (line : Line) (rest : TextLines) → IsGoodUpTo header step start lines body state (Some line ∷ rest)
-      → line ≢ last_line → step state line ≡ Err wrong → number ≡ length body + 2 → IsFirstFault header step start lines number wrong
+      (body : List Line) (state : S) (line : Line) (rest : TextLines)
+      → IsGoodUpTo header step start lines body state (Some line ∷ rest) → line ≢ last_line → step state line ≡ Err wrong
+      → number ≡ length body + 2 → IsFirstFault header step start lines number wrong
   -- the good ones are followed by `end`, and something follows it
   no_end :
-      (body : List Line) (state : S) (next : Option Line) (rest : TextLines) → IsGoodUpTo header step start lines body state (Some last_line ∷ next ∷ rest)
+      (body : List Line) (state : S) (next : Option Line) (rest : TextLines)
+      → IsGoodUpTo header step start lines body state (Some last_line ∷ next ∷ rest)
       → number ≡ length body + 3 → wrong ≡ Syntax → IsFirstFault header step start lines number wrong
 
 -- a fault tells the first fault of a text

@@ -1,4 +1,5 @@
--- Reading as functions on lists: the words of a line are taken one after another, the lines of a text one after another, and the first fault ends it.
+-- Reading as functions on lists: the words of a line are taken one after another, and so are the lines of a text. The first fault
+-- ends it.
 use Rattle.std.specs.Prelude.{◌≡◌, ◌≢◌, ℕ, ◌+◌, List, [], ◌∷◌, ◌++◌, false, Option, Some, None, Result, Ok, Err, if◌then◌else◌, codes}
 use Rattle.words.specs.declared.faults.Wrong.{Wrong}
 use Rattle.words.specs.declared.faults.Wrong.TheVariants.{Syntax}
@@ -36,6 +37,15 @@ or_syntax None = Err Syntax
 abbrev pub last_line : List (List ℕ)
 last_line = words_of (codes "end")
 
+-- the place after the next line, which is the same place where no ended line comes next
+unfoldable pub after_line : Place → Place
+after_line place = after place.lines
+  where
+    after : List (Option (List (List ℕ))) → Place
+    after [] = place
+    after (None ∷ lines) = place
+    after (Some line ∷ lines) = record { taken = place.taken + 1; lines = lines }
+
 -- nothing follows the lines that were taken
 unfoldable pub end_at : Place → Result (Unit {0}) Fault
 end_at place = end_of place.lines
@@ -62,7 +72,8 @@ at_line line (Ok s) next = next s
 at_line line (Err wrong) next = Err (fault_at line wrong)
 
 -- the lines up to `end`, each a step of a state; then what the state and the place after `end` give
-unfoldable pub read_lines : {S T : Type 0} → (S → List (List ℕ) → Result S Wrong) → (S → Place → Result T Fault) → ℕ → S → List (Option (List (List ℕ))) → Result T Fault
+unfoldable pub read_lines : {S T : Type 0} → (S → List (List ℕ) → Result S Wrong) → (S → Place → Result T Fault) → ℕ → S
+    → List (Option (List (List ℕ))) → Result T Fault
 read_lines step finish taken s [] = Err (fault_at (taken + 1) Syntax)
 read_lines step finish taken s (None ∷ lines) = Err (fault_at (taken + 1) Syntax)
 read_lines step finish taken s (Some line ∷ lines) =
@@ -88,7 +99,8 @@ unfoldable pub as_it_is : {S : Type 0} → S → Place → Result S Fault
 as_it_is s place = bind (end_at place) (λ _. Ok s)
 
 -- a whole text: its header, its lines, and what they give
-unfoldable pub read_text : {S T : Type 0} → List (List ℕ) → (S → List (List ℕ) → Result S Wrong) → (S → Place → Result T Fault) → S → List (Option (List (List ℕ))) → Result T Fault
+unfoldable pub read_text : {S T : Type 0} → List (List ℕ) → (S → List (List ℕ) → Result S Wrong) → (S → Place → Result T Fault)
+    → S → List (Option (List (List ℕ))) → Result T Fault
 read_text header step finish s lines =
     bind (header_at header (record { taken = 0; lines = lines })) (λ place. read_lines step finish place.taken s place.lines)
 

@@ -1,4 +1,6 @@
 ghost use Rattle.std.specs.Prelude.{◌≡◌};
+ghost use Rattle.words.specs.declared.faults.Cause.TheVariants.{Memory, Text};
+ghost use Rattle.words.specs.Fault.{fault_at, no_memory, number_of};
 
 use std::alloc::{AllocError, AllocFailed};
 use thiserror::Error;
@@ -24,8 +26,6 @@ pub enum Wrong {
 }
 
 impl Wrong {
-    ghost use Rattle.words.specs.Fault.{number_of};
-
     /// The number by which reports tell it, 50 to 56.
     pub fn number(self) -> u64
         ensures { result ≡ number_of self }
@@ -52,9 +52,6 @@ pub enum Cause {
 }
 
 impl From<Wrong> for Cause {
-    ghost use Rattle.std.specs.Prelude.{◌≡◌};
-    ghost use Rattle.words.specs.declared.faults.Cause.TheVariants.{Text};
-
     ghost from_gives = { λ wrong cause. cause ≡ Text wrong };
 
     fn from(wrong: Wrong) -> Cause {
@@ -63,9 +60,6 @@ impl From<Wrong> for Cause {
 }
 
 impl From<AllocError> for Cause {
-    ghost use Rattle.std.specs.Prelude.{◌≡◌};
-    ghost use Rattle.words.specs.declared.faults.Cause.TheVariants.{Memory};
-
     ghost from_gives = { λ _ cause. cause ≡ Memory };
 
     fn from(_error: AllocError) -> Cause {
@@ -74,9 +68,6 @@ impl From<AllocError> for Cause {
 }
 
 impl<T: Drop> From<AllocFailed<T>> for Cause {
-    ghost use Rattle.std.specs.Prelude.{◌≡◌};
-    ghost use Rattle.words.specs.declared.faults.Cause.TheVariants.{Memory};
-
     ghost from_gives = { λ _ cause. cause ≡ Memory };
 
     fn from(_error: AllocFailed<T>) -> Cause {
@@ -94,8 +85,6 @@ pub struct Fault {
 }
 
 impl Fault {
-    ghost use Rattle.words.specs.Fault.{fault_at, no_memory};
-
     /// Memory was refused.
     pub const MEMORY: Fault = Fault {
         number: 40,
@@ -115,9 +104,6 @@ impl Fault {
 }
 
 impl From<AllocError> for Fault {
-    ghost use Rattle.std.specs.Prelude.{◌≡◌};
-    ghost use Rattle.words.specs.Fault.{no_memory};
-
     ghost from_gives = { λ _ fault. fault ≡ no_memory };
 
     fn from(_error: AllocError) -> Fault {
@@ -126,9 +112,6 @@ impl From<AllocError> for Fault {
 }
 
 impl<T: Drop> From<AllocFailed<T>> for Fault {
-    ghost use Rattle.std.specs.Prelude.{◌≡◌};
-    ghost use Rattle.words.specs.Fault.{no_memory};
-
     ghost from_gives = { λ _ fault. fault ≡ no_memory };
 
     fn from(_error: AllocFailed<T>) -> Fault {

@@ -1,4 +1,4 @@
-ghost use Rattle.std.specs.Prelude.{◌≡◌, true, [], ◌∷◌, MatchOption, IfOk};
+ghost use Rattle.std.specs.Prelude.{◌≡◌, true, drop, [], ◌∷◌, MatchOption, IfOk};
 ghost use Rattle.words.specs.Text.{words_of, line_is};
 ghost use Rattle.words.specs.Reading.{Gives, word_at, ended_at};
 ghost use Rattle.words.specs.Number.{hex_at, number_at};
@@ -12,7 +12,7 @@ use std::marker::Model;
 
 /// The words of a line, taken one after another. It takes no memory.
 ///
-/// After an `Err` it stands at some word of the line.
+/// A word is taken also where it isn't what was asked for.
 #[derive(Drop)]
 pub struct Words<'a> {
     rest: Option<&'a [u8]>,
@@ -69,7 +69,8 @@ impl<'a> Words<'a> {
     /// The next word.
     #[tactic(auto, unfolding(crate::specs::Reading::word_at))]
     pub fn word(&mut self) -> Result<&'a [u8], Wrong>
-        ensures { Gives (λ word. (word.now, self.new)) result (word_at self.old) }
+        ensures exact { Gives (λ word. (word.now, self.new)) result (word_at self.old) }
+        ensures taken { self.new ≡ drop 1 self.old }
     {
         self.next_word().ok_or(Wrong::Syntax)
     }
@@ -88,7 +89,8 @@ impl<'a> Words<'a> {
     /// The next word as a decimal number.
     #[tactic(auto, unfolding(crate::specs::Number::number_at, crate::specs::Reading::word_at, crate::specs::Reading::or_syntax, crate::specs::Reading::bind))]
     pub fn number(&mut self) -> Result<u64, Wrong>
-        ensures { Gives (λ number. (number, self.new)) result (number_at self.old) }
+        ensures exact { Gives (λ number. (number, self.new)) result (number_at self.old) }
+        ensures taken { self.new ≡ drop 1 self.old }
     {
         let word = self.word()?;
         decimal_of(word).ok_or(Wrong::Syntax)
@@ -97,7 +99,8 @@ impl<'a> Words<'a> {
     /// The next word as a hexadecimal number, `0x` and lower-case digits.
     #[tactic(auto, unfolding(crate::specs::Number::hex_at, crate::specs::Reading::word_at, crate::specs::Reading::or_syntax, crate::specs::Reading::bind))]
     pub fn hex(&mut self) -> Result<u64, Wrong>
-        ensures { Gives (λ number. (number, self.new)) result (hex_at self.old) }
+        ensures exact { Gives (λ number. (number, self.new)) result (hex_at self.old) }
+        ensures taken { self.new ≡ drop 1 self.old }
     {
         let word = self.word()?;
         hexadecimal_of(word).ok_or(Wrong::Syntax)
@@ -108,6 +111,7 @@ impl<'a> Words<'a> {
     pub fn name(&mut self) -> Result<&'a str, Wrong>
         ensures exact { Gives (λ name. (name.now, self.new)) result (name_at self.old) }
         ensures spelled { IfOk result (λ name. is_name name.now ≡ true) }
+        ensures taken { self.new ≡ drop 1 self.old }
     {
         let word = self.word()?;
         name_of(word).ok_or(Wrong::Syntax)

@@ -1,4 +1,4 @@
-ghost use Rattle.std.specs.Prelude.{◌≡◌, ◌==◌, ℕ, [], ◌∷◌, MatchOption, IfSome, ◌<◌, length, position};
+ghost use Rattle.std.specs.Prelude.{◌≡◌, ◌<◌, ◌==◌, [], ◌∷◌, length, position, MatchOption, IfSome};
 ghost use Rattle.std.specs.List.{slice_split};
 
 /// What stands before and after the first `byte`, or `None` where there is none.

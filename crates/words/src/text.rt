@@ -2,7 +2,7 @@ ghost use Rattle.std.specs.Prelude.{◌≡◌, ◌+◌, ◌∷◌, ℕ, List, ma
 ghost use Rattle.std.specs.List.{AllByRecursion};
 ghost use Rattle.words.specs.Text.{lines_of, text_of, words_of, IsOver, IsPlainLine};
 ghost use Rattle.words.specs.Fault.{fault_at, fault_of};
-ghost use Rattle.words.specs.Reading.{Gives, header_at, end_at};
+ghost use Rattle.words.specs.Reading.{Gives, after_line, header_at, end_at};
 
 use crate::faults::{Cause, Fault, Wrong};
 use crate::line::Words;
@@ -56,10 +56,11 @@ impl<'a> Lines<'a> {
         Some(Words::new(line))
     }
 
-    /// Takes the header, whose words are those of `expected`.
-    #[tactic(auto, unfolding(crate::specs::Reading::header_at))]
+    /// Takes the header, whose words are those of `expected`. A line that has other words is taken too.
+    #[tactic(auto, using(crate::proofs::Splits::stays, crate::proofs::Splits::moves), unfolding(crate::specs::Reading::header_at))]
     pub fn header(&mut self, expected: &[u8]) -> Result<(), Fault>
-        ensures { Gives (λ _. self.new) result (header_at (words_of expected.now) self.old) }
+        ensures exact { Gives (λ _. self.new) result (header_at (words_of expected.now) self.old) }
+        ensures taken { self.new ≡ after_line self.old }
     {
         match self.next_line() {
             Some(words) if words.is(expected) => Ok(()),

@@ -1,5 +1,5 @@
--- What a thread's address leads to, in relations: the capability in the slot that a lookup ends at, and the notification that it is
--- for (seL4 manual, "Capability Address Lookup").
+-- What a thread's address leads to, in relations: the capability in the slot that a lookup ends at, and the notification that it
+-- is for (seL4 manual, "Capability Address Lookup").
 use Rattle.std.specs.Prelude.{◌≡◌, ℕ, Bool, false, Some, Ok, Err}
 use Rattle.base.specs.declared.ids.ObjId.{ObjId}
 use Rattle.base.specs.declared.ids.SlotRef.{SlotRef}
@@ -29,8 +29,8 @@ pub record FindsNotification (m : Machine) (caller : ObjId) (address : ℕ) (id 
 abbrev pub NamesNotification : Machine → ObjId → ℕ → ObjId → Type 0
 NamesNotification m caller address id = (end : Badged) × FindsNotification m caller address id end
 
--- why a call is refused that needs the capability of a notification with a right, cause by cause: the lookup fails, or it ends at a
--- slot that holds no such capability
+-- why a call is refused that needs the capability of a notification with a right, cause by cause: the lookup fails, or it ends at
+-- a slot that holds no such capability
 abbrev pub FindsNone : Machine → ObjId → ℕ → (Badged → Bool) → Cause → Type 0
 FindsNone m caller address allows (cause.FailedLookup failure) = lookup_of m caller address ≡ Err (cause.FailedLookup failure)
 FindsNone m caller address allows cause.InvalidCapability =

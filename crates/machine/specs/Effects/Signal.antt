@@ -1,5 +1,5 @@
--- Signal, as a relation (seL4 manual, "Notifications"): the first thread that waits gets the badge and is ready; where nobody waits,
--- the badge joins the word.
+-- Signal, as a relation (seL4 manual, "Notifications"): the first thread that waits gets the badge and is ready; where nobody
+-- waits, the badge joins the word.
 use Rattle.std.specs.Prelude.{◌≡◌, ℕ, ◌⊎◌, true, Some, unwrap_or}
 use Rattle.std.specs.Int.RustNames.{bit_or}
 use Rattle.base.specs.declared.ids.ObjId.{ObjId}
@@ -30,7 +30,8 @@ pub record JoinsWord (m : Machine) (id : ObjId) (badge : ℕ) (next : Machine) :
   pub nobody : NobodyWaits m id
   pub notification : Notification
   pub there : object_of m id ≡ Some (o.Notification notification)
-  pub sets : Sets m id (o.Notification (record notification { pending = Some (bit_or badge (unwrap_or notification.pending 0)) })) next
+  pub sets :
+      Sets m id (o.Notification (record notification { pending = Some (bit_or badge (unwrap_or notification.pending 0)) })) next
 
 -- the address leads to a notification by a capability with the right Write, and the notification is signalled with its badge
 pub record SignalDoes (m : Machine) (caller : ObjId) (address : ℕ) (outcome : Outcome) (next : Machine) : Type 0 where

@@ -1,4 +1,5 @@
--- What a call finds at an address: a capability to an object of the kind that it wants (seL4 manual, "Capability Address Lookup").
+-- What a call finds at an address: a capability to an object of the kind that it wants (seL4 manual, "Capability Address
+-- Lookup").
 use Rattle.std.specs.Prelude.{ℕ, Bool, Option, Some, None, Result, Ok, Err, if◌then◌else◌}
 use Rattle.base.specs.declared.ids.ObjId.{ObjId}
 use Rattle.base.specs.declared.refusal.Cause.{Cause}
@@ -19,7 +20,8 @@ notification_in (Some held) = by_detail held.object held.detail where
   by_detail object (d.Notification end) = Ok (object, end)
   by_detail object _ = Err cause.InvalidCapability
 
--- the notification at an address: a lookup that fails refuses with its cause, an empty slot or another kind as an invalid capability
+-- the notification at an address: a lookup that fails refuses with its cause, an empty slot or another kind as an invalid
+-- capability
 unfoldable pub find_notification : Machine → ObjId → ℕ → Result (ObjId × Badged) Cause
 find_notification m caller address = do
   place ← lookup_of m caller address

@@ -10,6 +10,11 @@ pub add_cap-requires : goal.add_cap-requires
 add_cap-requires c =
     let told = c.in_ok-detail.ensures in
     let fills : may_fill (kind_at c.args.table.now c.args.holder) c.args.place (kind_at c.args.table.now c.args.target) ≡ true =
-    ap (λ k. may_fill k c.args.place (kind_at c.args.table.now c.args.target)) (sym c.kind.ensures) ∙ ap (λ k. may_fill c.kind.result c.args.place k) (sym c.kind-2.ensures) ∙ sym c.may_fill.ensures ∙ c.if-not-may_fill.false in
+    ap (λ k. may_fill k c.args.place (kind_at c.args.table.now c.args.target)) (sym c.kind.ensures)
+    ∙ ap (λ k. may_fill c.kind.result c.args.place k) (sym c.kind-2.ensures)
+    ∙ sym c.may_fill.ensures
+    ∙ c.if-not-may_fill.false in
     let within = sym (ap (declares_slot c.args.table.now) c.slot_in-slot.ensures) ∙ sym c.declares_slot.ensures ∙ told.within in
-    rw c.slot_in-slot.ensures (admits_cap c.args.table.now c.args.holder c.args.place c.args.target c.in_ok-detail.detail c.requires within fills told.fits told.kind told.typed)
+    rw c.slot_in-slot.ensures
+    (admits_cap c.args.table.now c.args.holder c.args.place c.args.target c.in_ok-detail.detail
+    c.requires within fills told.fits told.kind told.typed)

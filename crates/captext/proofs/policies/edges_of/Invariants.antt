@@ -5,7 +5,8 @@ use Rattle.captext.specs.Policies.{edge_line, read_policy_of}
 use Rattle.captext.proofs.policies.edges_of.Given as goal
 
 abbrev pub invariant-loop-words : goal.invariant-loop-words
-invariant-loop-words l = read_lines (edge_line l.table) as_it_is l.lines.taken l.policy l.lines.lines ≡ read_policy_of l.table l.text
+invariant-loop-words l =
+    read_lines (edge_line l.table) as_it_is l.lines.taken l.policy l.lines.lines ≡ read_policy_of l.table l.text
 
 abbrev pub decreases-loop-words : goal.decreases-loop-words
 decreases-loop-words l = length l.lines.lines

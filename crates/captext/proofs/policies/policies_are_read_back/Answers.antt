@@ -1,4 +1,5 @@
-use Rattle.captext.proofs.PolicyLaws.{label_iff, policy_iff, policy_once}
+use Rattle.captext.proofs.NameLaws.{label_iff}
+use Rattle.captext.proofs.PolicyLaws.{policy_iff, policy_once}
 use Rattle.captext.proofs.policies.policies_are_read_back.Goals as goal
 
 pub returns : goal.returns

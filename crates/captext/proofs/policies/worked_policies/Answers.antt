@@ -15,17 +15,20 @@ use Rattle.captext.specs.PolicyText.{policy_text}
 use Rattle.captext.proofs.policies.worked_policies.Goals as goal
 
 -- what holds for the two labels holds for a table that has them
-spelled : (t : Layout) (edges : List Edge) (text : List ℕ) → t.labels ≡ codes "a" ∷ codes "b" ∷ [] → policy_text (record t { labels = codes "a" ∷ codes "b" ∷ [] }) edges ≡ text → policy_text t edges ≡ text
+spelled : (t : Layout) (edges : List Edge) (text : List ℕ) → t.labels ≡ codes "a" ∷ codes "b" ∷ []
+    → policy_text (record t { labels = codes "a" ∷ codes "b" ∷ [] }) edges ≡ text → policy_text t edges ≡ text
 spelled t edges text labels = subst (λ names. policy_text (record t { labels = names }) edges ≡ text) (sym labels)
 
-read_as : (t : Layout) (text : List ℕ) (result : Result (List Edge) Fault) → t.labels ≡ codes "a" ∷ codes "b" ∷ [] → read_policy_of (record t { labels = codes "a" ∷ codes "b" ∷ [] }) text ≡ result → read_policy_of t text ≡ result
+read_as : (t : Layout) (text : List ℕ) (result : Result (List Edge) Fault) → t.labels ≡ codes "a" ∷ codes "b" ∷ []
+    → read_policy_of (record t { labels = codes "a" ∷ codes "b" ∷ [] }) text ≡ result → read_policy_of t text ≡ result
 read_as t text result labels = subst (λ names. read_policy_of (record t { labels = names }) text ≡ result) (sym labels)
 
 pub returns : goal.returns
 unfolding read_policy_of read_text bind header_at lines_of read_lines at_line edge_line keyword_at word_at name_at name_of or_syntax kind_at kind_named label_named ended_at with_edge as_it_is end_at fault_at
 returns c = record {
   empty = λ t. refl;
-  edges = λ t labels. spelled t (record { from = 0; kind = Reset; to = 1 } ∷ record { from = 1; kind = SchedControl; to = 0 } ∷ []) _ labels refl;
+  edges = λ t labels. spelled t
+      (record { from = 0; kind = Reset; to = 1 } ∷ record { from = 1; kind = SchedControl; to = 0 } ∷ []) _ labels refl;
   read = λ t labels. read_as t (codes "confine-policy 1\nedge a reset b\nend\n") _ labels refl;
   falling = λ t labels. read_as t (codes "confine-policy 1\nedge a notify b\nedge a reset b\nend\n") _ labels refl;
   twice = λ t labels. read_as t (codes "confine-policy 1\nedge a reset b\nedge a reset b\nend\n") _ labels refl;

@@ -11,7 +11,14 @@ use Rattle.captext.proofs.tables.read_into.Goals as goal
 pub loop-words-init : goal.loop-words-init
 unfolding read_table_of
 loop-words-init c =
-    let read = subst (λ (at : Place). header_at (words_of (codes "confine-table 1")) at ≡ Ok c.header.new.self) c.new-lines.ensures.exact c.in_ok-header.ensures in
+<<<<<<< crates/captext/proofs/tables/read_into/Answers.antt
+    let read =
+    subst
+    (λ (at : Place). header_at
+    (words_of (codes "confine-table 1")) at ≡ Ok c.header.new.self) c.new-lines.ensures.exact c.in_ok-header.ensures in
+=======
+    let read = subst (λ (at : Place). header_at (words_of (codes "confine-table 1")) at ≡ Ok c.header.new.self) c.new-lines.ensures.exact c.in_ok-header.ensures.exact in
+>>>>>>> /work/plantlow/crates/captext/proofs/tables/read_into/Answers.antt
     rw c.requires (begins _ table_line as_it_is empty_layout _ _ read)
 
 pub returns-in_err-header : goal.returns-in_err-header
@@ -19,4 +26,4 @@ unfolding read_table_of
 returns-in_err-header c =
     let starts = ap (λ (at : Place). header_at (words_of (codes "confine-table 1")) at) c.new-lines.ensures.exact in
     let p = err_from_is_err_and c.from_residual.result c.from_residual.ensures.1 in
-    rw (p.1, p.2) (λ _. no_beginning _ table_line as_it_is empty_layout _ _ (sym starts ∙ c.in_err-header.ensures))
+    rw (p.1, p.2) (λ _. no_beginning _ table_line as_it_is empty_layout _ _ (sym starts ∙ c.in_err-header.ensures.exact))

@@ -3,4 +3,5 @@ use Rattle.captext.proofs.TableLaws.{table_iff, table_once}
 use Rattle.captext.proofs.tables.tables_are_read_back.Goals as goal
 
 pub returns : goal.returns
-returns c = record { named = table_iff c.lawful_tables_are_built_up.ensures; once = table_once c.lawful_tables_are_built_up.ensures }
+returns c =
+    record { named = table_iff c.lawful_tables_are_built_up.ensures; once = table_once c.lawful_tables_are_built_up.ensures }

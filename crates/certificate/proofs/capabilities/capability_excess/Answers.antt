@@ -15,11 +15,14 @@ returns-then-exceeds c =
     let slot = c.args.filled.now.slot in
     let excess = c.exceeds.ensures.0 c.if-exceeds.true in
     least_in_part
-    (kinds_given c.args.table.now (allows c.args.policy.now) slot.holder.0 slot.index) c.loop-kind.kind-index _ (number_at c.loop-kind.kind-index _ (omega arith)) (omega arith) c.loop-kind.invariant _
+    (kinds_given c.args.table.now (allows c.args.policy.now) slot.holder.0 slot.index) c.loop-kind.kind-index _
+    (number_at c.loop-kind.kind-index _ (omega arith)) (omega arith) c.loop-kind.invariant _
     (excess_at c.args.table.now (allows c.args.policy.now) slot c.args.filled.now.cap _ c.in_ok-from.from c.in_ok-label.label c.requires (search rules) (search rules) (search rules) excess.0 excess.1)
 
 -- what doesn't exceed has its edge
-within : (given has exceeding : Bool) → ((given ≡ true) × (has ≡ false) → exceeding ≡ true) → exceeding ≡ false → given ≡ true → has ≡ true
+within :
+    (given has exceeding : Bool) → ((given ≡ true) × (has ≡ false) → exceeding ≡ true) → exceeding ≡ false → given ≡ true
+    → has ≡ true
 within given true exceeding tells is gives = refl
 within given false exceeding tells is gives = absurd (false≢true (sym is ∙ tells (gives, refl)))
 
@@ -30,11 +33,13 @@ loop-kind-preserved c =
     let allowed = allows c.args.policy.now in
     let kind : Kind = get_or all_kinds c.loop-kind.kind-index Control in
     none_more
-    (kinds_given c.args.table.now allowed slot.holder.0 slot.index) c.loop-kind.kind-index _ (number_at c.loop-kind.kind-index _ (omega arith)) c.loop-kind.invariant
+    (kinds_given c.args.table.now allowed slot.holder.0 slot.index) c.loop-kind.kind-index _
+    (number_at c.loop-kind.kind-index _ (omega arith)) c.loop-kind.invariant
     (no_excess_at c.args.table.now allowed slot held kind c.in_ok-from.from c.in_ok-label.label c.requires (search rules) (search rules)
     (within (gives held.detail kind) (allowed c.in_ok-from.from kind c.in_ok-label.label) c.exceeds.result c.exceeds.ensures.1 c.if-exceeds.false))
 
 pub returns : goal.returns
 returns c =
     let slot = c.args.filled.now.slot in
-    none_in_parts (kinds_given c.args.table.now (allows c.args.policy.now) slot.holder.0 slot.index) (λ k lt. c.loop-kind.invariant k (omega arith))
+    none_in_parts (kinds_given c.args.table.now (allows c.args.policy.now) slot.holder.0 slot.index)
+    (λ k lt. c.loop-kind.invariant k (omega arith))

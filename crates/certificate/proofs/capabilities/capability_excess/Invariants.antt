@@ -6,4 +6,6 @@ use Rattle.certificate.specs.Search.{BreaksUnder, IsNone}
 use Rattle.certificate.proofs.capabilities.capability_excess.Given as goal
 
 abbrev pub invariant-loop-kind : goal.invariant-loop-kind
-invariant-loop-kind l = (k : ℕ) → k < l.kind-index → IsNone (BreaksUnder l.table (allows l.policy) (a1 ∷ l.filled.slot.holder.0 ∷ l.filled.slot.index ∷ k ∷ []))
+invariant-loop-kind l =
+    (k : ℕ) → k < l.kind-index
+    → IsNone (BreaksUnder l.table (allows l.policy) (a1 ∷ l.filled.slot.holder.0 ∷ l.filled.slot.index ∷ k ∷ []))

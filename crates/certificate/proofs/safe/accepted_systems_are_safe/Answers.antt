@@ -1,6 +1,7 @@
 -- From the laws of steps and boot states, by induction over runs.
 use Rattle.policy.specs.Policy.{allows}
-use Rattle.certificate.proofs.AtBoot.{boot_confined, boot_of_table}
+use Rattle.certificate.proofs.AtBoot.{boot_of_table}
+use Rattle.certificate.proofs.BootPlaces.{boot_confined}
 use Rattle.certificate.proofs.Runs.{safe_from}
 use Rattle.certificate.proofs.SubjectsAgreed.{subjects_agree}
 use Rattle.certificate.proofs.safe.accepted_systems_are_safe.Goals as goal
@@ -16,5 +17,5 @@ returns c = λ t edges lawful joins accepted.
     (λ boot booted. record {
       well_formed = c.boot_states_are_well_formed.ensures.well_formed t boot lawful booted;
       of_table = boot_of_table t boot lawful booted;
-      confined = boot_confined t (allows edges) boot lawful accepted booted;
+      confined = boot_confined t (allows edges) boot lawful booted accepted;
     })

@@ -8,12 +8,14 @@ use Rattle.certificate.proofs.subjects.first_disagreement.Goals as goal
 pub returns-in-Some : goal.returns-in-Some
 returns-in-Some c = λ t.
     let number : c.unwrap-subject.result ≡ c.loop-number.number = search rules in
-    least_in_part (subjects t (allows c.args.policy.now)) c.loop-number.number c.unwrap-subject.result number (omega arith) (c.loop-number.invariant t) _ (c.in-Some.ensures t)
+    least_in_part (subjects t (allows c.args.policy.now)) c.loop-number.number c.unwrap-subject.result number (omega arith)
+    (c.loop-number.invariant t) _ (c.in-Some.ensures t)
 
 pub loop-number-preserved : goal.loop-number-preserved
 loop-number-preserved c = λ t.
     let number : c.unwrap-subject.result ≡ c.loop-number.number = search rules in
-    none_more (subjects t (allows c.args.policy.now)) c.loop-number.number c.unwrap-subject.result number (c.loop-number.invariant t) (c.in_default.ensures t)
+    none_more (subjects t (allows c.args.policy.now)) c.loop-number.number c.unwrap-subject.result number
+    (c.loop-number.invariant t) (c.in_default.ensures t)
 
 pub returns : goal.returns
 returns c = λ t. none_in_parts (subjects t (allows c.args.policy.now)) (λ k lt. c.loop-number.invariant t k (omega arith))

@@ -14,7 +14,8 @@ pub returns-in_default : goal.returns-in_default
 returns-in_default c =
     let m = c.args.state.now in
     let takes = takes_bits m c.cnodes_take_bits.ensures in
-    let value : Err (FailedLookup InvalidRoot) ≡ lookup_of m c.args.thread c.args.address = sym (lookup_of-none m c.args.thread c.args.address (sym c.in_default.ensures)) in
+    let value : Err (FailedLookup InvalidRoot) ≡ lookup_of m c.args.thread c.args.address =
+    sym (lookup_of-none m c.args.thread c.args.address (sym c.in_default.ensures)) in
     record {
       value = value;
       found = found_where m c.args.thread c.args.address _ takes value;
@@ -29,7 +30,8 @@ returns c =
     let m = c.args.state.now in
     let takes = takes_bits m c.cnodes_take_bits.ensures in
     let value : c.map_err.result ≡ lookup_of m c.args.thread c.args.address =
-    failed-cases c.walk.result c.map_err.result c.map_err.ensures.cases ∙ sym (counted-shown c.args.address c.walk.result) ∙ ap counted (c.walk.ensures 65 (omega arith))
+    failed-cases c.walk.result c.map_err.result c.map_err.ensures.cases ∙ sym (counted-shown c.args.address c.walk.result)
+    ∙ ap counted (c.walk.ensures 65 (omega arith))
     ∙ sym (lookup_of-some m c.args.thread c.args.address (level_shown c.in-Some.root) (sym c.in-Some.ensures)) in
     record {
       value = value;

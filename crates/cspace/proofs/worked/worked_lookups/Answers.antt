@@ -1,5 +1,6 @@
 -- Each by its chain.
-use Rattle.cspace.proofs.Examples.{behind_two, no_cnode, no_capability, first_guard, second_guard, too_short, no_root, no_thread, no_object}
+use Rattle.cspace.proofs.Examples.{behind_two, no_cnode, no_capability, first_guard, second_guard, too_short, no_root, no_thread}
+use Rattle.cspace.proofs.Examples.{no_object}
 use Rattle.cspace.proofs.worked.worked_lookups.Goals as goal
 
 pub returns-clause-behind_two : goal.returns-clause-behind_two

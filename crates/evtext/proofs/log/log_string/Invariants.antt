@@ -7,4 +7,5 @@ use Rattle.evtext.proofs.log.log_string.Given as goal
 
 -- the lines so far are the header's and those of the entries so far
 abbrev pub invariant-loop-event : goal.invariant-loop-event
-invariant-loop-event l = string_bytes l.text ≡ text_of (log_header ∷ map entry_words (take (length l.yielded) (zip l.events l.outcomes)))
+invariant-loop-event l =
+    string_bytes l.text ≡ text_of (log_header ∷ map entry_words (take (length l.yielded) (zip l.events l.outcomes)))

@@ -12,7 +12,7 @@ unfolding read_script_of
 loop-words-init c =
     rw c.new-events.ensures.items
     (begins script_header script_step as_it_is [] (lines_of c.args.text.now) c.header.new.self
-    (sym (ap (λ place. header_at script_header place) c.new-lines.ensures.exact) ∙ c.in_ok-header.ensures))
+    (sym (ap (λ place. header_at script_header place) c.new-lines.ensures.exact) ∙ c.in_ok-header.ensures.exact))
 
 pub returns-in_err-header : goal.returns-in_err-header
 unfolding read_script_of
@@ -21,5 +21,5 @@ returns-in_err-header c =
     rw (p.1, p.2)
     (record {
       exact = λ _. no_beginning script_header script_step as_it_is [] (lines_of c.args.text.now) _
-          (sym (ap (λ place. header_at script_header place) c.new-lines.ensures.exact) ∙ c.in_err-header.ensures);
+          (sym (ap (λ place. header_at script_header place) c.new-lines.ensures.exact) ∙ c.in_err-header.ensures.exact);
     })

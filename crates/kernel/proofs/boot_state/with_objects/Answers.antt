@@ -19,7 +19,10 @@ loop-initial-preserved c =
     let before : Layout = record t { objects = take i t.objects; caps = []; pairs = [] } in
     let same = c.objects-initials.ensures.objects in
     let made : c.add_object.new.self ≡ with_new state (bound before (record { 0 = state.next }) initial.object) =
-    c.in_ok-add_object.ensures.made ∙ ap (with_new state) (c.bound.ensures ∙ ap (λ number. bound before (record { 0 = number }) initial.object) c.next_id.ensures.value) in
+    c.in_ok-add_object.ensures.made
+    ∙ ap (with_new state)
+    (c.bound.ensures ∙ ap (λ number. bound before (record { 0 = number }) initial.object) c.next_id.ensures.value) in
     let more : take (i + 1) t.objects ≡ take i t.objects ++ initial ∷ [] =
-    take_more t.objects i initial (rw (← same) c.loop-initial-test.true) ∙ ap (λ last. take i t.objects ++ last ∷ []) (sym (rw same at c.initial-item.is)) in
+    take_more t.objects i initial (rw (← same) c.loop-initial-test.true)
+    ∙ ap (λ last. take i t.objects ++ last ∷ []) (sym (rw same at c.initial-item.is)) in
     rw (made, more) (boot-object before state initial c.loop-initial.invariant)

@@ -34,8 +34,14 @@ returns-clause-joined c = λ m boot.
     let last : Machine = with_pending fourth (id 4) None in
     let once = new_word m _ _ _ _ start (Some 4) in
     let twice = new_word second _ _ _ _ once (Some 4) in
-    let taken = new_word third _ _ _ _ twice None in
-    (last, (second, joins m _ _ _ _ start refl, (third, joins second _ _ _ _ once refl, (fourth, polling third _ _ _ twice, (last, polling fourth _ _ _ taken, refl)))))
+    let taken = new_word third _ _ _ _ twice None in (
+      last,
+      (
+        second,
+        joins m _ _ _ _ start refl,
+        (third, joins second _ _ _ _ once refl, (fourth, polling third _ _ _ twice, (last, polling fourth _ _ _ taken, refl))),
+      ),
+    )
 
 pub returns-clause-together : goal.returns-clause-together
 returns-clause-together c = λ m boot.
@@ -64,8 +70,11 @@ returns-clause-woken c = λ m boot.
 
 pub returns-clause-capability : goal.returns-clause-capability
 returns-clause-capability c = λ m boot.
-    let start = boot_is_two_cores m boot in
-    (m, sender_may_not_poll m _ _ _ _ start, (m, receiver_may_not_signal m _ _ _ start, (m, signal_at_nothing m _ _ _ _ start, refl)))
+    let start = boot_is_two_cores m boot in (
+      m,
+      sender_may_not_poll m _ _ _ _ start,
+      (m, receiver_may_not_signal m _ _ _ start, (m, signal_at_nothing m _ _ _ _ start, refl)),
+    )
 
 pub returns-clause-guard : goal.returns-clause-guard
 returns-clause-guard c = λ m boot.

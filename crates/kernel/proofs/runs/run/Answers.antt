@@ -13,12 +13,18 @@ loop-event-preserved c = record {
       let item = c.event-item.result in
       let outcome = c.step.result in
       let further : Run c.args.state.now (take i events ++ item ∷ []) (before.0 ++ outcome ∷ []) c.step.new.state =
-      run_further c.args.state.now (take i events) before.0 c.loop-event.state item outcome c.step.new.state before.2 c.step.ensures.stepped in
+      run_further c.args.state.now
+      (take i events) before.0 c.loop-event.state item outcome c.step.new.state before.2 c.step.ensures.stepped in
       let more : take (i + 1) events ≡ take i events ++ item ∷ [] =
-      take_more events i item c.loop-event-test.true ∙ ap (λ last. take i events ++ last ∷ []) (sym c.event-item.is) in
-      (before.0 ++ outcome ∷ [], c.push_reserved.ensures.items ∙ ap (λ items. items ++ outcome ∷ []) before.1 ∙ append_assoc c.args.outcomes.now.items before.0 (outcome ∷ []), rw more further);
+      take_more events i item c.loop-event-test.true ∙ ap (λ last. take i events ++ last ∷ []) (sym c.event-item.is) in (
+        before.0 ++ outcome ∷ [],
+        c.push_reserved.ensures.items ∙ ap (λ items. items ++ outcome ∷ []) before.1
+            ∙ append_assoc c.args.outcomes.now.items before.0 (outcome ∷ []),
+        rw more further,
+      );
   counted =
-      let pushed : length c.push_reserved.new.self.items ≡ length c.loop-event.outcomes.items + 1 = ap length c.push_reserved.ensures.items ∙ length_push c.loop-event.outcomes.items c.step.result in
+      let pushed : length c.push_reserved.new.self.items ≡ length c.loop-event.outcomes.items + 1 =
+      ap length c.push_reserved.ensures.items ∙ length_push c.loop-event.outcomes.items c.step.result in
       omega arith;
   formed = λ first. c.step.ensures.well_formed (c.loop-event.invariant.formed first);
   room = omega arith;

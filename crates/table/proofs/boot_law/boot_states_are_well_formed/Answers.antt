@@ -6,7 +6,9 @@ use Rattle.table.proofs.BootSlots.{boot-slots}
 use Rattle.table.proofs.boot_law.boot_states_are_well_formed.Goals as goal
 
 pub returns-clause-well_formed : goal.returns-clause-well_formed
-returns-clause-well_formed c = λ t m lawful boot. record { slots = boot-slots t m lawful boot; links = boot-links t m lawful boot; numbers = boot-numbers t m lawful boot }
+returns-clause-well_formed c =
+    λ t m lawful boot.
+    record { slots = boot-slots t m lawful boot; links = boot-links t m lawful boot; numbers = boot-numbers t m lawful boot }
 
 pub returns-clause-fresh : goal.returns-clause-fresh
 returns-clause-fresh c = boot-fresh

@@ -7,7 +7,9 @@ pub overflow_sub-result : goal.overflow_sub-result
 overflow_sub-result c = rw (shifted c.in-Some.bits c.if-bits-le48.true).0 (shifted c.in-Some.bits c.if-bits-le48.true).1
 
 pub returns-then-bits-le48 : goal.returns-then-bits-le48
-returns-then-bits-le48 c = rw (c.address.ensures) (few_fit c.args.object.now c.in-Some.bits (sym c.size_bits.ensures ∙ c.in-Some.is) c.if-bits-le48.true)
+returns-then-bits-le48 c =
+    rw (c.address.ensures) (few_fit c.args.object.now c.in-Some.bits (sym c.size_bits.ensures ∙ c.in-Some.is) c.if-bits-le48.true)
 
 pub returns-else-bits-le48 : goal.returns-else-bits-le48
-returns-else-bits-le48 c = many_exceed c.args.object.now c.in-Some.bits (sym c.size_bits.ensures ∙ c.in-Some.is) c.if-bits-le48.false
+returns-else-bits-le48 c =
+    many_exceed c.args.object.now c.in-Some.bits (sym c.size_bits.ensures ∙ c.in-Some.is) c.if-bits-le48.false

@@ -4,4 +4,6 @@ use Rattle.table.proofs.ExtentLemmas.{small}
 use Rattle.table.proofs.extent.is_aligned.Goals as goal
 
 pub overflow_shl-result : goal.overflow_shl-result
-overflow_shl-result c = let few : c.in-Some.bits ≤ 48 = small c.args.object.now c.in-Some.bits (sym c.size_bits.ensures ∙ c.in-Some.is) c.requires in omega (arith, few)
+overflow_shl-result c =
+    let few : c.in-Some.bits ≤ 48 = small c.args.object.now c.in-Some.bits (sym c.size_bits.ensures ∙ c.in-Some.is) c.requires in
+    omega (arith, few)

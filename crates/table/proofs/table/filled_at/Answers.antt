@@ -9,9 +9,11 @@ use Rattle.table.proofs.table.filled_at.Goals as goal
 pub returns-in-Ok : goal.returns-in-Ok
 returns-in-Ok c =
     let found = c.in-Ok.ensures.position (λ (filled : Filled). filled.slot) (answers_always _ _ _ (λ f a r g h. search rules)) in
-    found_at slot_total (λ (filled : Filled). filled.slot) c.args.caps.now c.requires c.args.slot c.in-Ok.index _ c.in-Ok.ensures.bound (found _)
+    found_at slot_total (λ (filled : Filled). filled.slot) c.args.caps.now c.requires c.args.slot c.in-Ok.index _
+    c.in-Ok.ensures.bound (found _)
 
 pub returns-in-Err : goal.returns-in-Err
 returns-in-Err c =
     let apart = c.in-Err.ensures.position (λ (filled : Filled). filled.slot) (answers_always _ _ _ (λ f a r g h. search rules)) in
-    not_found slot_total (λ (filled : Filled). filled.slot) c.args.caps.now c.requires c.args.slot _ (apart (searchable slot_total (λ (filled : Filled). filled.slot) c.args.caps.now c.requires c.args.slot))
+    not_found slot_total (λ (filled : Filled). filled.slot) c.args.caps.now c.requires c.args.slot _
+    (apart (searchable slot_total (λ (filled : Filled). filled.slot) c.args.caps.now c.requires c.args.slot))

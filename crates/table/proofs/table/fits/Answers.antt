@@ -11,8 +11,12 @@ shifted_out value power pos = by (cases_lt value power) where
   below = div-lt_iff_lt-mul {k = power} {x = value} {y = 1} pos
 
   by : (value < power) ⊎ (power ≤ value) → nat_eq (value / power) 0 ≡ nat_lt value power
-  by (inl less) = let none : value / power < 1 = below.1 (omega arith) in eq-eqb (value / power) 0 (omega arith) ∙ sym (lt-ltb value power less)
-  by (inr most) = ne_eqb (value / power) 0 (λ none. let less : value < 1 * power = below.0 (omega arith) in omega arith) ∙ sym (le-ltb value power most)
+  by (inl less) =
+      let none : value / power < 1 = below.1 (omega arith) in
+      eq-eqb (value / power) 0 (omega arith) ∙ sym (lt-ltb value power less)
+  by (inr most) =
+      ne_eqb (value / power) 0 (λ none. let less : value < 1 * power = below.0 (omega arith) in omega arith)
+      ∙ sym (le-ltb value power most)
 
 pub returns-then-guard-bits : goal.returns-then-guard-bits
 returns-then-guard-bits c =
@@ -21,4 +25,5 @@ returns-then-guard-bits c =
     let most = c.bits.ensures.most in
     let size : guard.size + c.in-CNode-CNode.node.radix ≤ 64 = omega arith in
     rw (c.in-CNode-CNode.is-0, c.in-CNode-CNode.is-1)
-    (shifted_out guard.value (2 ^ guard.size) (pow_pos guard.size) ∙ sym (ap (λ b. b && nat_lt guard.value (2 ^ guard.size)) (le-leb (guard.size + c.in-CNode-CNode.node.radix) 64 size)))
+    (shifted_out guard.value (2 ^ guard.size) (pow_pos guard.size)
+    ∙ sym (ap (λ b. b && nat_lt guard.value (2 ^ guard.size)) (le-leb (guard.size + c.in-CNode-CNode.node.radix) 64 size)))

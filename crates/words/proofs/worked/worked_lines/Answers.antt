@@ -6,4 +6,13 @@ use Rattle.words.proofs.worked.worked_lines.Goals as goal
 
 pub returns : goal.returns
 unfolding dec_of lines_of
-returns c = record { words = refl; two_spaces = refl; ended = refl; not_ended = refl; blank = refl; carriage_return = refl; number_and_return = refl }
+returns c =
+    record {
+      words = refl;
+      two_spaces = refl;
+      ended = refl;
+      not_ended = refl;
+      blank = refl;
+      carriage_return = refl;
+      number_and_return = refl;
+    }

@@ -9,7 +9,8 @@ use Rattle.cspace.proofs.HopLemmas.{hop-apart, hop-deep, hop-slot}
 use Rattle.cspace.proofs.level.Level.select.Goals as goal
 
 pub returns-in_default-clause-value : goal.returns-in_default-clause-value
-returns-in_default-clause-value c = sym (hop-apart (level_shown c.args.self) (bits c.args.left c.args.address) (sym c.in_default.ensures.value))
+returns-in_default-clause-value c =
+    sym (hop-apart (level_shown c.args.self) (bits c.args.left c.args.address) (sym c.in_default.ensures.value))
 
 pub returns-then-radix-rest-clause-value : goal.returns-then-radix-rest-clause-value
 returns-then-radix-rest-clause-value c =
@@ -24,8 +25,11 @@ returns-clause-value c =
     let rest = c.in-Some.rest in
     let radix = c.from-radix.result in
     let left = bits (rest - radix) c.args.address in
-    let slot : ℕ → Result (SlotRef × List Bool) LookupFailure = λ index. Ok (record { holder = c.args.self.node; index = index }, left) in
+    let slot : ℕ → Result (SlotRef × List Bool) LookupFailure =
+    λ index. Ok (record { holder = c.args.self.node; index = index }, left) in
     let same : radix ≡ c.args.self.radix = c.from-radix.ensures ∙ c.bits.ensures.value in
     let parts = split-within c.args.self.radix c.args.address rest radix same c.if-radix-rest.false in
     ap slot (c.field.ensures ∙ sym (number-bits radix (c.args.address / 2 ^ (rest - radix))))
-    ∙ sym (hop-slot (level_shown c.args.self) (bits c.args.left c.args.address) (bits rest c.args.address) _ (sym c.in-Some.ensures.value) parts)
+    ∙ sym
+    (hop-slot (level_shown c.args.self) (bits c.args.left c.args.address) (bits rest c.args.address) _
+    (sym c.in-Some.ensures.value) parts)

@@ -5,4 +5,5 @@ use Rattle.machine.proofs.radix.Radix.slots.Goals as goal
 
 pub returns-clause-most : goal.returns-clause-most
 returns-clause-most c =
-    let most : 2 ^ c.self.inside.bits ≤ 4096 = pow_mono {i = c.self.inside.bits} {j = 12} c.self.invariant.1 in omega (arith, most)
+    let most : 2 ^ c.self.inside.bits ≤ 4096 = pow_mono {i = c.self.inside.bits} {j = 12} c.self.invariant.1 in
+    omega (arith, most)

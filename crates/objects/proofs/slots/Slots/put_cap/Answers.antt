@@ -8,6 +8,14 @@ use Rattle.objects.proofs.slots.Slots.put_cap.Goals.{in-Some, in_default}
 pub returns : goal.returns
 returns c =
     elim c.match-get_mut.branch [
-      | in-Some w ↦ rw (w.self-inside-is, ← c.self.view_is) (sym (edited_within _ c.self.inside.items.items c.args.index w.in-Some.slot.now w.in-Some.ensures.value (omega (arith, w.in-Some.ensures.variant.0 refl))))
-      | in_default w ↦ rw (w.self-inside-is, ← c.self.view_is) (sym (edited_past _ c.self.inside.items.items c.args.index (λ within. false≢true (w.in_default.ensures.variant.1 (omega arith)))))
+      | in-Some w ↦
+          rw (w.self-inside-is, ← c.self.view_is)
+          (sym
+          (edited_within _ c.self.inside.items.items c.args.index w.in-Some.slot.now w.in-Some.ensures.value
+          (omega (arith, w.in-Some.ensures.variant.0 refl))))
+      | in_default w ↦
+          rw (w.self-inside-is, ← c.self.view_is)
+          (sym
+          (edited_past _ c.self.inside.items.items c.args.index
+          (λ within. false≢true (w.in_default.ensures.variant.1 (omega arith)))))
     ]

@@ -15,10 +15,13 @@ returns-in_err-add-clause-err c =
 pub invariant_of-self-2 : goal.invariant_of-self-2
 invariant_of-self-2 c =
     let room : c.self.inside.next < 2 ^ 48 = rw (← next-machine_of c.self.inside, c.self.view_is) c.requires in
-    IsSound-added c.self.inside c.self.invariant room c.args.object c.cnode_takes_bits.ensures c.add.new.places c.add.new.entries c.in_ok-add.ensures.ok
+    IsSound-added c.self.inside c.self.invariant room c.args.object c.cnode_takes_bits.ensures c.add.new.places c.add.new.entries
+    c.in_ok-add.ensures.ok
 
 pub returns-clause-made : goal.returns-clause-made
-returns-clause-made c = rw (← c.self.view_is) (added_gives c.self.inside c.self.invariant c.args.object c.add.new.places c.add.new.entries c.in_ok-add.ensures.ok)
+returns-clause-made c =
+    rw (← c.self.view_is)
+    (added_gives c.self.inside c.self.invariant c.args.object c.add.new.places c.add.new.entries c.in_ok-add.ensures.ok)
 
 pub returns-clause-numbered : goal.returns-clause-numbered
 returns-clause-numbered c = ap (λ n. record { 0 = n }) (rw (← c.self.view_is) (sym (next-machine_of c.self.inside)))

@@ -5,4 +5,6 @@ pub invariant_of-self : goal.invariant_of-self
 invariant_of-self c = rw c.put_cap.ensures (IsSound-put_cap c.self.inside c.self.invariant c.args.slot c.args.cap)
 
 pub returns : goal.returns
-returns c = rw (c.put_cap.ensures, ← c.self.view_is) (put_cap_gives c.self.inside c.self.invariant c.args.slot c.args.cap (rw c.self.view_is c.requires))
+returns c =
+    rw (c.put_cap.ensures, ← c.self.view_is)
+    (put_cap_gives c.self.inside c.self.invariant c.args.slot c.args.cap (rw c.self.view_is c.requires))

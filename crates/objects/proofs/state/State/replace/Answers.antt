@@ -2,7 +2,12 @@ use Rattle.objects.proofs.SoundLemmas.{replace_gives, IsSound-replace}
 use Rattle.objects.proofs.state.State.replace.Goals as goal
 
 pub invariant_of-self : goal.invariant_of-self
-invariant_of-self c = rw c.replace.ensures (IsSound-replace c.self.inside c.self.invariant c.args.id c.args.object c.cnode_takes_bits.ensures (rw c.self.view_is c.requires.same_slots))
+invariant_of-self c =
+    rw c.replace.ensures
+    (IsSound-replace c.self.inside c.self.invariant c.args.id c.args.object c.cnode_takes_bits.ensures
+    (rw c.self.view_is c.requires.same_slots))
 
 pub returns : goal.returns
-returns c = rw (c.replace.ensures, ← c.self.view_is) (replace_gives c.self.inside c.self.invariant c.args.id c.args.object (rw c.self.view_is c.requires.present))
+returns c =
+    rw (c.replace.ensures, ← c.self.view_is)
+    (replace_gives c.self.inside c.self.invariant c.args.id c.args.object (rw c.self.view_is c.requires.present))

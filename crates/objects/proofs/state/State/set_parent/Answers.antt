@@ -5,4 +5,6 @@ pub invariant_of-self : goal.invariant_of-self
 invariant_of-self c = rw c.set_parent.ensures (IsSound-set_parent c.self.inside c.self.invariant c.args.slot c.args.parent)
 
 pub returns : goal.returns
-returns c = rw (c.set_parent.ensures, ← c.self.view_is) (set_parent_gives c.self.inside c.self.invariant c.args.slot c.args.parent (rw c.self.view_is c.requires))
+returns c =
+    rw (c.set_parent.ensures, ← c.self.view_is)
+    (set_parent_gives c.self.inside c.self.invariant c.args.slot c.args.parent (rw c.self.view_is c.requires))

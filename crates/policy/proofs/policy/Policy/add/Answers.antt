@@ -15,13 +15,16 @@ pub returns-in_err-insert-clause-present : goal.returns-in_err-insert-clause-pre
 returns-in_err-insert-clause-present c here = absurd (false≢true (sym (absent _ _ _ c.in-Err.ensures.gap) ∙ here))
 
 pub returns-in_ok-insert-clause-rising : goal.returns-in_ok-insert-clause-rising
-returns-in_ok-insert-clause-rising c = rw (c.in_ok-insert.ensures.items, c.self.view_is) (rising_added _ _ _ c.search.ensures.policy.rising c.in-Err.ensures.gap)
+returns-in_ok-insert-clause-rising c =
+    rw (c.in_ok-insert.ensures.items, c.self.view_is) (rising_added _ _ _ c.search.ensures.policy.rising c.in-Err.ensures.gap)
 
 pub returns-in_ok-insert-clause-added : goal.returns-in_ok-insert-clause-added
-returns-in_ok-insert-clause-added c from kind to = rw (c.in_ok-insert.ensures.items, c.self.view_is) (allows-insert _ _ _ from kind to)
+returns-in_ok-insert-clause-added c from kind to =
+    rw (c.in_ok-insert.ensures.items, c.self.view_is) (allows-insert _ _ _ from kind to)
 
 pub returns-in_ok-insert-clause-pushed : goal.returns-in_ok-insert-clause-pushed
-returns-in_ok-insert-clause-pushed c above = rw (c.in_ok-insert.ensures.items, c.self.view_is) (pushed _ _ _ c.search.ensures.policy.rising c.in-Err.ensures.gap above)
+returns-in_ok-insert-clause-pushed c above =
+    rw (c.in_ok-insert.ensures.items, c.self.view_is) (pushed _ _ _ c.search.ensures.policy.rising c.in-Err.ensures.gap above)
 
 pub returns-in_default-clause-pushed : goal.returns-in_default-clause-pushed
 returns-in_default-clause-pushed c above = absurd (not_above _ _ c.search.ensures.policy.rising c.in_default.ensures.found above)

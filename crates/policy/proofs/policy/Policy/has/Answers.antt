@@ -7,7 +7,8 @@ use Rattle.policy.proofs.policy.Policy.has.Goals as goal
 use Rattle.std.proofs.Common.{List}
 
 -- the edge is there, or it has a gap
-by_search : (edges : List Edge) (edge : Edge) (r : Result ℕ ℕ) → OnOk r (Has edges edge ≡ true) → IfErr r (λ at. IsGap edges edge at) → is_ok r ≡ Has edges edge
+by_search : (edges : List Edge) (edge : Edge) (r : Result ℕ ℕ) → OnOk r (Has edges edge ≡ true)
+    → IfErr r (λ at. IsGap edges edge at) → is_ok r ≡ Has edges edge
 by_search edges edge (Ok at) found gap = sym found
 by_search edges edge (Err at) found gap = sym (absent edges edge at gap)
 

@@ -13,7 +13,8 @@ returns-in-Some-clause-gap c =
     let is_last : last_edge c.args.self.now ≡ Some last = rw items at (sym c.in-Some.ensures.value) in
     let above : IsAboveLast c.args.self.now edge = rw is_last (less-of_code last edge (sym c.lt.ensures ∙ c.if-lt.true)) in
     let count : length c.args.self.now ≡ c.len.result = rw items at c.deref.ensures.len ∙ sym c.len.ensures in
-    subst (λ (at : ℕ). IsGap c.args.self.now edge at) count (gap_at_end _ edge (subst IsPolicy c.self.view_is c.self.invariant).rising above)
+    subst (λ (at : ℕ). IsGap c.args.self.now edge at) count
+    (gap_at_end _ edge (subst IsPolicy c.self.view_is c.self.invariant).rising above)
 
 -- the binary search's answer, of the policy's edges
 pub returns-in_default-clause-found : goal.returns-in_default-clause-found
@@ -21,11 +22,13 @@ returns-in_default-clause-found c =
     let items = c.deref-in_default.ensures.value ∙ c.self.view_is in
     let bound = rw items at c.binary_search.ensures.bound in
     let position = rw items at c.binary_search.ensures.position in
-    (searched c.args.self.now c.args.edge.now c.binary_search.result (subst IsPolicy c.self.view_is c.self.invariant).rising bound (search-of_code c.args.self.now c.args.edge.now c.binary_search.result position)).found
+    (searched c.args.self.now c.args.edge.now c.binary_search.result (subst IsPolicy c.self.view_is c.self.invariant).rising bound
+    (search-of_code c.args.self.now c.args.edge.now c.binary_search.result position)).found
 
 pub returns-in_default-clause-gap : goal.returns-in_default-clause-gap
 returns-in_default-clause-gap c =
     let items = c.deref-in_default.ensures.value ∙ c.self.view_is in
     let bound = rw items at c.binary_search.ensures.bound in
     let position = rw items at c.binary_search.ensures.position in
-    (searched c.args.self.now c.args.edge.now c.binary_search.result (subst IsPolicy c.self.view_is c.self.invariant).rising bound (search-of_code c.args.self.now c.args.edge.now c.binary_search.result position)).gap
+    (searched c.args.self.now c.args.edge.now c.binary_search.result (subst IsPolicy c.self.view_is c.self.invariant).rising bound
+    (search-of_code c.args.self.now c.args.edge.now c.binary_search.result position)).gap

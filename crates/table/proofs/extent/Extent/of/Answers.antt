@@ -4,4 +4,6 @@ use Rattle.table.proofs.ExtentLemmas.{small}
 use Rattle.table.proofs.extent.Extent.of.Goals as goal
 
 pub overflow_shl-end : goal.overflow_shl-end
-overflow_shl-end c = let few : c.in-Some.bits ≤ 48 = small c.args.object.now c.in-Some.bits (sym c.size_bits.ensures ∙ c.in-Some.is) c.requires in omega (arith, few)
+overflow_shl-end c =
+    let few : c.in-Some.bits ≤ 48 = small c.args.object.now c.in-Some.bits (sym c.size_bits.ensures ∙ c.in-Some.is) c.requires in
+    omega (arith, few)

@@ -7,5 +7,6 @@ use Rattle.table.proofs.names.Names.number.Goals as goal
 
 pub returns : goal.returns
 returns c =
-    c.get_index_of.ensures.index ∙ sym (position-map (λ other. bytes_eq c.args.name.now other) string_bytes c.self.inside.set.keys)
+    c.get_index_of.ensures.index
+    ∙ sym (position-map (λ other. bytes_eq c.args.name.now other) string_bytes c.self.inside.set.keys)
     ∙ ap (position (λ other. bytes_eq c.args.name.now other)) c.self.view_is

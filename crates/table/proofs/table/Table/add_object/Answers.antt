@@ -7,4 +7,5 @@ use Rattle.table.proofs.table.Table.add_object.Goals as goal
 pub invariant_of-self-2 : goal.invariant_of-self-2
 invariant_of-self-2 c =
     let admits = subst (λ t. AdmitsObject t c.args.name.now c.args.initial) (sym c.self.view_is) c.requires in
-    rw (c.in_ok-add.ensures.names, c.in_ok-add.ensures.objects) (lawful_initial _ c.args.name.now c.args.initial c.self.invariant admits)
+    rw (c.in_ok-add.ensures.names, c.in_ok-add.ensures.objects)
+    (lawful_initial _ c.args.name.now c.args.initial c.self.invariant admits)

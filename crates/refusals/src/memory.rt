@@ -1,0 +1,28 @@
+//! Allocations of a test's own, and how a test ends that met a refusal.
+use base::Refusal;
+use std::alloc::Global;
+use std::test::Fail;
+
+/// The refusal of a call that there was no memory for.
+pub const NO_MEMORY: Refusal = Refusal {
+    code: 40,
+    detail: 0,
+};
+
+/// Makes so many allocations, and gives them back.
+pub fn spend(alloc: Global, count: u64) -> Result<(), Fail> {
+    for number in 0..count {
+        prepared(Box::new(alloc, number))?;
+    }
+    Ok(())
+}
+
+/// What a test made before its call.
+pub fn prepared<T, E: Drop>(made: Result<T, E>) -> Result<T, Fail> {
+    made.map_err(|_| Fail::new("refused before the call"))
+}
+
+/// The end of a test whose call was refused memory, and said so.
+pub fn refused() -> Fail {
+    Fail::new("refused, as promised")
+}

@@ -1,0 +1,61 @@
+//! `kernel::boot` and `kernel::run`.
+use crate::bell::{DONE, WORD, events, is_booted, is_the_table, prepared_table};
+use crate::memory::{NO_MEMORY, prepared, refused, spend};
+use kernel::{boot, run};
+use machine::Outcome;
+use std::process::Abort;
+use std::test::Fail;
+
+fn boots<R: Abort + AllocGlobal>(rt: &R, count: u64) -> Result<(), Fail> {
+    spend(rt.alloc(), count)?;
+    let table = prepared_table(rt.alloc())?;
+    let booted = boot(rt.alloc(), &table);
+    is_the_table(rt, &table)?;
+    match booted {
+        Ok(state) => is_booted(rt, &state, None),
+        Err(refusal) => {
+            assert_eq!(rt; refusal, NO_MEMORY);
+            Err(refused())
+        }
+    }
+}
+
+#[test]
+fn boot_after_82(rt: HostRuntime) -> Result<(), Fail> {
+    boots(&rt, 82)
+}
+
+#[test]
+fn boot_after_77(rt: HostRuntime) -> Result<(), Fail> {
+    boots(&rt, 77)
+}
+
+/// Runs a signal, a poll and the signal again, with a list that has the outcome of an earlier call.
+fn runs<R: Abort + AllocGlobal>(rt: &R, count: u64) -> Result<(), Fail> {
+    spend(rt.alloc(), count)?;
+    let table = prepared_table(rt.alloc())?;
+    let mut state = prepared(boot(rt.alloc(), &table))?;
+    let mut outcomes = prepared(Vec::with_capacity(rt.alloc(), 1))?;
+    prepared(outcomes.push(Outcome::Blocked))?;
+    let [signal, poll] = events()?;
+    let events = [signal, poll, signal];
+    let ran = run(&mut state, &events, &mut outcomes);
+    match ran {
+        Ok(()) => {
+            let expected = [Outcome::Blocked, DONE, WORD, DONE];
+            assert_eq!(rt; outcomes.as_slice(), expected.as_slice());
+            is_booted(rt, &state, Some(4))
+        }
+        Err(refusal) => {
+            assert_eq!(rt; refusal, NO_MEMORY);
+            assert_eq!(rt; outcomes.as_slice(), [Outcome::Blocked].as_slice());
+            is_booted(rt, &state, None)?;
+            Err(refused())
+        }
+    }
+}
+
+#[test]
+fn kernel_run_after_77(rt: HostRuntime) -> Result<(), Fail> {
+    runs(&rt, 77)
+}
