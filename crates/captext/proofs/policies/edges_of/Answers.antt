@@ -10,14 +10,7 @@ use Rattle.captext.proofs.policies.edges_of.Goals as goal
 pub loop-words-init : goal.loop-words-init
 unfolding read_policy_of
 loop-words-init c =
-<<<<<<< crates/captext/proofs/policies/edges_of/Answers.antt
-    let read =
-    subst
-    (λ (at : Place). header_at
-    (words_of (codes "confine-policy 1")) at ≡ Ok c.header.new.self) c.new-lines.ensures.exact c.in_ok-header.ensures in
-=======
     let read = subst (λ (at : Place). header_at (words_of (codes "confine-policy 1")) at ≡ Ok c.header.new.self) c.new-lines.ensures.exact c.in_ok-header.ensures.exact in
->>>>>>> /work/plantlow/crates/captext/proofs/policies/edges_of/Answers.antt
     rw c.new-policy.ensures (begins _ (edge_line c.args.table.now) as_it_is [] _ _ read)
 
 pub returns-in_err-header : goal.returns-in_err-header

@@ -11,14 +11,7 @@ use Rattle.captext.proofs.tables.read_into.Goals as goal
 pub loop-words-init : goal.loop-words-init
 unfolding read_table_of
 loop-words-init c =
-<<<<<<< crates/captext/proofs/tables/read_into/Answers.antt
-    let read =
-    subst
-    (λ (at : Place). header_at
-    (words_of (codes "confine-table 1")) at ≡ Ok c.header.new.self) c.new-lines.ensures.exact c.in_ok-header.ensures in
-=======
     let read = subst (λ (at : Place). header_at (words_of (codes "confine-table 1")) at ≡ Ok c.header.new.self) c.new-lines.ensures.exact c.in_ok-header.ensures.exact in
->>>>>>> /work/plantlow/crates/captext/proofs/tables/read_into/Answers.antt
     rw c.requires (begins _ table_line as_it_is empty_layout _ _ read)
 
 pub returns-in_err-header : goal.returns-in_err-header
