@@ -7,6 +7,8 @@ mod policies;
 mod shapes;
 mod spelling;
 mod tables;
+#[cfg(test)]
+mod tests;
 mod worked;
 
 pub use policies::{policies_are_read_back, read_policy, worked_policies};

@@ -39,3 +39,18 @@ pub fn worked_slots()
     ensures no_dot { slot_of (codes "c1") ≡ None }
     ensures two_dots { slot_of (codes "c.1.2") ≡ None }
 {}
+
+#[cfg(test)]
+mod tests {
+    use super::*;
+    use crate::{policies_are_read_back, worked_policies};
+
+    #[test]
+    fn laws_have_nothing_to_run(_rt: HostRuntime) {
+        slots_are_read_back();
+        terms_are_read_back();
+        worked_slots();
+        policies_are_read_back();
+        worked_policies();
+    }
+}

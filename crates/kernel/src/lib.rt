@@ -17,3 +17,6 @@ pub use boot_state::boot;
 pub use calls::step;
 pub use examples::worked_examples;
 pub use runs::run;
+
+#[cfg(test)]
+mod tests;

@@ -192,13 +192,20 @@ pub fn prepared_table(alloc: Global) -> Result<Table, Fail> {
     prepared(read_table(alloc, TABLE.as_bytes()))
 }
 
-/// The table is the one that the text says.
-pub fn is_the_table(rt: &impl Abort, table: &Table) -> Result<(), Fail> {
-    let label = label()?;
-    let caps = caps()?;
+/// The table has the label and the names of the text.
+fn has_the_names(rt: &impl Abort, table: &Table) -> Result<(), Fail> {
     assert_eq!(rt; table.label_count(), 1);
-    assert_eq!(rt; table.label_name(label), Some("a"));
+    assert_eq!(rt; table.label_name(label()?), Some("a"));
+    for (number, name) in NAMES.iter().enumerate() {
+        assert_eq!(rt; table.object_name(ObjId(number as u64)), Some(*name));
+    }
+    Ok(())
+}
+
+/// The table has the objects of the text.
+fn has_the_objects(rt: &impl Abort, table: &Table) -> Result<(), Fail> {
     assert_eq!(rt; table.object_count(), 4);
+    let label = label()?;
     for (number, object) in objects(None, None, None)?.iter().enumerate() {
         let initial = Initial {
             label,
@@ -206,17 +213,27 @@ pub fn is_the_table(rt: &impl Abort, table: &Table) -> Result<(), Fail> {
         };
         assert_eq!(rt; table.object(ObjId(number as u64)), Some(initial));
     }
-    for (number, name) in NAMES.iter().enumerate() {
-        assert_eq!(rt; table.object_name(ObjId(number as u64)), Some(*name));
-    }
+    Ok(())
+}
+
+/// The table has the capabilities and the bindings of the text.
+fn has_the_links(rt: &impl Abort, table: &Table) -> Result<(), Fail> {
+    let caps = caps()?;
     assert_eq!(rt; table.caps(), caps.as_slice());
     assert_eq!(rt; table.bindings(), [BINDING].as_slice());
     assert_eq!(rt; table.pairs().len(), 0);
     Ok(())
 }
 
-/// The state is the boot state of the table, but for the word of its notification.
-pub fn is_booted(rt: &impl Abort, state: &State, pending: Option<u64>) -> Result<(), Fail> {
+/// The table is the one that the text says.
+pub fn is_the_table(rt: &impl Abort, table: &Table) -> Result<(), Fail> {
+    has_the_names(rt, table)?;
+    has_the_objects(rt, table)?;
+    has_the_links(rt, table)
+}
+
+/// The state has the table's objects, bound as it says, and nobody waits.
+fn has_booted_objects(rt: &impl Abort, state: &State, pending: Option<u64>) -> Result<(), Fail> {
     assert_eq!(rt; state.next_id(), 4);
     let objects = objects(Some(CONTEXT), Some(THREAD), pending)?;
     for (number, object) in objects.iter().enumerate() {
@@ -224,6 +241,11 @@ pub fn is_booted(rt: &impl Abort, state: &State, pending: Option<u64>) -> Result
         assert_eq!(rt; state.object(id).copied(), Some(*object));
         assert_eq!(rt; state.first_waiting(id), None);
     }
+    Ok(())
+}
+
+/// The state has the table's capabilities, all of them original.
+fn has_booted_slots(rt: &impl Abort, state: &State) -> Result<(), Fail> {
     for filled in caps()? {
         assert_eq!(rt; state.cap(filled.slot), Some(filled.cap));
         assert_eq!(rt; state.parent(filled.slot), None);
@@ -231,4 +253,10 @@ pub fn is_booted(rt: &impl Abort, state: &State, pending: Option<u64>) -> Result
     assert!(rt; state.has_slot(EMPTY));
     assert_eq!(rt; state.cap(EMPTY), None);
     Ok(())
+}
+
+/// The state is the boot state of the table, but for the word of its notification.
+pub fn is_booted(rt: &impl Abort, state: &State, pending: Option<u64>) -> Result<(), Fail> {
+    has_booted_objects(rt, state, pending)?;
+    has_booted_slots(rt, state)
 }

@@ -1,14 +1,17 @@
-//! Booting and kernel calls, on a system of two cores.
-use crate::two_cores::{
-    ABSENT, NOTIFICATION, POLLER, RECEIVER, RECEIVER_CONTEXT, RECEIVER_SPACE, SENDER,
-    SENDER_CONTEXT, SENDER_SPACE, SIGNALLER, SPACE, core, slot, two_cores,
-};
+use crate::{boot, run, step};
 use base::{ObjId, Refusal, SlotRef};
-use kernel::{boot, run, step};
 use machine::{Answer, Call, Cap, Context, Detail, Event, Inbox, Object, Outcome, RunState, Tcb};
 use objects::State;
 use std::alloc::Global;
+use std::process::Abort;
 use std::test::Fail;
+
+mod system;
+
+use system::{
+    ABSENT, NOTIFICATION, POLLER, RECEIVER, RECEIVER_CONTEXT, RECEIVER_SPACE, SENDER,
+    SENDER_CONTEXT, SENDER_SPACE, SIGNALLER, SPACE, core, slot, two_cores,
+};
 
 const DONE: Outcome = Outcome::Done(Answer::Nothing);
 
@@ -36,8 +39,8 @@ fn poll(number: u64, thread: ObjId, address: u64) -> Result<Event, Fail> {
     })
 }
 
-fn booted(alloc: Global) -> Result<State, Fail> {
-    let table = two_cores(alloc)?;
+fn booted(rt: &impl Abort, alloc: Global) -> Result<State, Fail> {
+    let table = two_cores(rt, alloc)?;
     Ok(boot(alloc, &table)?)
 }
 
@@ -70,7 +73,7 @@ fn held(state: &State, slot: SlotRef) -> Option<(ObjId, Detail, bool)> {
 
 #[test]
 fn boots_what_the_table_says(rt: HostRuntime) -> Result<(), Fail> {
-    let state = booted(rt.alloc())?;
+    let state = booted(&rt, rt.alloc())?;
     assert_eq!(rt; state.next_id(), 7);
     let sender = thread(&state, SENDER)?;
     assert_eq!(rt; (sender.address, sender.state), (0x2000, RunState::Ready));
@@ -101,7 +104,7 @@ fn boots_what_the_table_says(rt: HostRuntime) -> Result<(), Fail> {
 
 #[test]
 fn signals_are_polled(rt: HostRuntime) -> Result<(), Fail> {
-    let mut state = booted(rt.alloc())?;
+    let mut state = booted(&rt, rt.alloc())?;
     assert_eq!(rt; step(&mut state, poll(0, RECEIVER, 0)?), word(0));
     assert_eq!(rt; step(&mut state, signal(1, SENDER, 0)?), DONE);
     assert_eq!(rt; step(&mut state, signal(1, SENDER, 0)?), DONE);
@@ -116,7 +119,7 @@ fn signals_are_polled(rt: HostRuntime) -> Result<(), Fail> {
 
 #[test]
 fn calls_are_refused(rt: HostRuntime) -> Result<(), Fail> {
-    let mut state = booted(rt.alloc())?;
+    let mut state = booted(&rt, rt.alloc())?;
     let refusals = [
         // no right
         (poll(1, SENDER, 0)?, refused(2, 0)),
@@ -140,7 +143,7 @@ fn calls_are_refused(rt: HostRuntime) -> Result<(), Fail> {
 
 #[test]
 fn other_kinds_are_refused(rt: HostRuntime) -> Result<(), Fail> {
-    let mut state = booted(rt.alloc())?;
+    let mut state = booted(&rt, rt.alloc())?;
     let free = slot(SENDER_SPACE, 1);
     assert!(rt; state.has_slot(free));
     let own_space = Cap {
@@ -160,7 +163,7 @@ fn signalled(state: &mut State) -> Result<Outcome, Fail> {
 
 #[test]
 fn threads_that_cannot_run_are_refused(rt: HostRuntime) -> Result<(), Fail> {
-    let mut state = booted(rt.alloc())?;
+    let mut state = booted(&rt, rt.alloc())?;
     let sender = thread(&state, SENDER)?;
     let first = context(&state, SENDER_CONTEXT)?;
 
@@ -190,7 +193,7 @@ fn threads_that_cannot_run_are_refused(rt: HostRuntime) -> Result<(), Fail> {
 
 #[test]
 fn who_waits_gets_the_word(rt: HostRuntime) -> Result<(), Fail> {
-    let mut state = booted(rt.alloc())?;
+    let mut state = booted(&rt, rt.alloc())?;
     let receiver = thread(&state, RECEIVER)?;
     let waiting = Tcb {
         state: RunState::Waiting(NOTIFICATION),
@@ -212,7 +215,7 @@ fn who_waits_gets_the_word(rt: HostRuntime) -> Result<(), Fail> {
 
 #[test]
 fn runs_append_outcomes_in_order(rt: HostRuntime) -> Result<(), Fail> {
-    let mut state = booted(rt.alloc())?;
+    let mut state = booted(&rt, rt.alloc())?;
     let events = [
         signal(1, SENDER, 0)?,
         poll(0, RECEIVER, 0)?,
