@@ -85,7 +85,7 @@ fn writes<R: Abort + AllocGlobal>(
     status: u8,
     text: &str,
 ) -> Result<(), Fail> {
-    let Ending { end, written } = run_on(
+    let Ending { end, written, .. } = run_on(
         rt.alloc(),
         Given::text(files.table),
         Given::text(files.policy),

@@ -1,6 +1,4 @@
 //! A text with each of the 256 bytes in one place.
-use crate::devices::Page;
-use crate::session::Ending;
 use report::{Counted, End, File, run};
 use std::alloc::Global;
 use std::process::Abort;
@@ -18,7 +16,7 @@ fn tells_byte<R: Abort + AllocGlobal>(
     text.extend_from_slice(before.as_bytes())?;
     text.push(byte)?;
     text.extend_from_slice(after.as_bytes())?;
-    let Ending { end, written } = run_with(rt.alloc(), file, &text)?;
+    let (end, written) = run_with(rt.alloc(), file, &text)?;
     let Some((number, line)) = fault else {
         assert_eq!(rt; end, End::Status(0), "with {byte} after {before:?}");
         return Ok(());
@@ -35,8 +33,8 @@ fn tells_byte<R: Abort + AllocGlobal>(
     Ok(())
 }
 
-/// A run of files of which one has these bytes.
-fn run_with(alloc: Global, file: File, text: &[u8]) -> Result<Ending, Fail> {
+/// How a run of files ends of which one has these bytes, and what it writes.
+fn run_with(alloc: Global, file: File, text: &[u8]) -> Result<(End, String), Fail> {
     let table = b"confine-table 1\nlabel a\nend\n".as_slice();
     let policy = b"confine-policy 1\nend\n".as_slice();
     let script = b"confine-script 1\nend\n".as_slice();
@@ -48,15 +46,10 @@ fn run_with(alloc: Global, file: File, text: &[u8]) -> Result<Ending, Fail> {
     let mut table = Counted::new(table);
     let mut policy = Counted::new(policy);
     let mut script = Counted::new(script);
-    let mut out = Counted::new(Page {
-        written: Vec::new(alloc),
-        room: usize::MAX,
-    });
+    let mut out = Counted::new(Vec::new(alloc));
     let end = run(alloc, &mut table, &mut policy, &mut script, &mut out);
-    let written = String::from_utf8(out.into_inner().written)
-        .ok()
-        .ok_or("not UTF-8")?;
-    Ok(Ending { end, written })
+    let written = String::from_utf8(out.into_inner()).ok().ok_or("not UTF-8")?;
+    Ok((end, written))
 }
 
 #[test]
