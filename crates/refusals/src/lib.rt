@@ -19,7 +19,3 @@ mod logs;
 mod memory;
 #[cfg(test)]
 mod readers;
-#[cfg(test)]
-mod states;
-#[cfg(test)]
-mod verdicts;

@@ -1,7 +1,7 @@
-//! `captext::read_table`, `captext::read_policy` and `evtext::read_script`.
-use crate::bell::{POLICY, SCRIPT, TABLE, edges, events, is_the_table, prepared_table};
+//! `evtext::read_script`.
+use crate::bell::{SCRIPT, events};
 use crate::memory::{refused, spend};
-use captext::{Fault, read_policy, read_table};
+use captext::Fault;
 use evtext::read_script;
 use std::process::Abort;
 use std::test::Fail;
@@ -11,60 +11,6 @@ const NO_MEMORY: Fault = Fault {
     number: 40,
     line: 0,
 };
-
-fn reads_the_table<R: Abort + AllocGlobal>(rt: &R, count: u64) -> Result<(), Fail> {
-    spend(rt.alloc(), count)?;
-    match read_table(rt.alloc(), TABLE.as_bytes()) {
-        Ok(table) => is_the_table(rt, &table),
-        Err(fault) => {
-            assert_eq!(rt; fault, NO_MEMORY);
-            Err(refused())
-        }
-    }
-}
-
-#[test]
-fn read_table_after_100(rt: HostRuntime) -> Result<(), Fail> {
-    reads_the_table(&rt, 100)
-}
-
-#[test]
-fn read_table_after_95(rt: HostRuntime) -> Result<(), Fail> {
-    reads_the_table(&rt, 95)
-}
-
-#[test]
-fn read_table_after_90(rt: HostRuntime) -> Result<(), Fail> {
-    reads_the_table(&rt, 90)
-}
-
-#[test]
-fn read_table_after_85(rt: HostRuntime) -> Result<(), Fail> {
-    reads_the_table(&rt, 85)
-}
-
-fn reads_the_policy<R: Abort + AllocGlobal>(rt: &R, count: u64) -> Result<(), Fail> {
-    spend(rt.alloc(), count)?;
-    let table = prepared_table(rt.alloc())?;
-    let read = read_policy(rt.alloc(), POLICY.as_bytes(), &table);
-    is_the_table(rt, &table)?;
-    match read {
-        Ok(policy) => {
-            let edges = edges()?;
-            assert_eq!(rt; policy.edges(), edges.as_slice());
-            Ok(())
-        }
-        Err(fault) => {
-            assert_eq!(rt; fault, NO_MEMORY);
-            Err(refused())
-        }
-    }
-}
-
-#[test]
-fn read_policy_after_82(rt: HostRuntime) -> Result<(), Fail> {
-    reads_the_policy(&rt, 82)
-}
 
 fn reads_the_script<R: Abort + AllocGlobal>(rt: &R, count: u64) -> Result<(), Fail> {
     spend(rt.alloc(), count)?;

@@ -179,7 +179,7 @@ fn all_files_are_parsed_before_the_check(rt: HostRuntime) -> Result<(), Fail> {
 fn a_table_that_fails_at_any_byte_cannot_be_read(rt: HostRuntime) -> Result<(), Fail> {
     let [table, policy, script] = two_cores();
     for most in [usize::MAX, 1] {
-        for after in 0..=table.text.len() {
+        for after in 0..table.text.len() {
             let table = table.at_most(most).failing(after, ErrorKind::Other);
             let ending = run_on(rt.alloc(), table, policy, script, usize::MAX)?;
             assert!(rt; ending.reads_table, "after {after} bytes");
@@ -195,7 +195,7 @@ fn a_table_that_fails_at_any_byte_cannot_be_read(rt: HostRuntime) -> Result<(), 
 fn a_policy_that_fails_at_any_byte_cannot_be_read(rt: HostRuntime) -> Result<(), Fail> {
     let [table, policy, script] = two_cores();
     for most in [usize::MAX, 1] {
-        for after in 0..=policy.text.len() {
+        for after in 0..policy.text.len() {
             let policy = policy.at_most(most).failing(after, ErrorKind::Other);
             let ending = run_on(rt.alloc(), table, policy, script, usize::MAX)?;
             assert!(rt; ending.reads_table, "after {after} bytes");
@@ -211,7 +211,7 @@ fn a_policy_that_fails_at_any_byte_cannot_be_read(rt: HostRuntime) -> Result<(),
 fn a_script_that_fails_at_any_byte_cannot_be_read(rt: HostRuntime) -> Result<(), Fail> {
     let [table, policy, script] = two_cores();
     for most in [usize::MAX, 1] {
-        for after in 0..=script.text.len() {
+        for after in 0..script.text.len() {
             let script = script.at_most(most).failing(after, ErrorKind::Other);
             let ending = run_on(rt.alloc(), table, policy, script, usize::MAX)?;
             assert!(rt; ending.reads_table, "after {after} bytes");
@@ -283,7 +283,7 @@ fn a_read_that_fails_is_no_end_of_file(rt: HostRuntime) -> Result<(), Fail> {
 fn a_read_that_is_interrupted_is_asked_again(rt: HostRuntime) -> Result<(), Fail> {
     let [table, policy, script] = two_cores();
     let interrupted = ErrorKind::Interrupted;
-    for after in 0..=table.text.len() {
+    for after in 0..table.text.len() {
         let table = table.failing(after, interrupted);
         let policy = policy.failing(after.min(policy.text.len()), interrupted);
         let script = script.failing(after.min(script.text.len()), interrupted);
