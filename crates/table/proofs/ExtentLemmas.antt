@@ -1,19 +1,22 @@
 -- How many bytes an object of so many bits takes, and that those of an object below `2^48` are few.
-use Rattle.std.proofs.Common.{◌≡◌, ℕ, ◌+◌, ◌-◌, ◌*◌, ◌%◌, ◌^◌, ◌<◌, ◌≤◌, ◌⊎◌, nat_le, nat_lt, ◌&&◌, ◌||◌, List, [], ◌∷◌, map}
-use Rattle.std.proofs.Common.{Some, None, refl, sym, ap, ◌∙◌, arith, inl, inr}
+use Rattle.std.proofs.Common.{◌≡◌, ℕ, ◌+◌, ◌-◌, ◌*◌, ◌%◌, ◌^◌, ◌<◌, ◌≤◌, ◌⊎◌, nat_le, nat_lt, ◌&&◌, ◌||◌, List, [], ◌∷◌, ◌++◌, map}
+use Rattle.std.proofs.Common.{Some, None, refl, sym, subst, ap, ◌∙◌, arith, inl, inr}
 use Rattle.std.proofs.lemmas.Bool.{cases_lt}
 use Rattle.std.proofs.Math.Pow.{pow_mono}
 use Rattle.std.proofs.lemmas.Bool.Decides.{nat_tests}
 use Rattle.std.proofs.lemmas.Grind.{one_shifted}
+use Rattle.std.proofs.lemmas.List.{map-append}
 use Rattle.std.proofs.lemmas.Option.{same_Some, none-some}
 use Rattle.std.specs.List.{list_any}
+use Rattle.std.specs.List.Sorted.{IsPermutation}
+use Rattle.std.proofs.lemmas.List.Sorted.{IsPermutation-push_more, list_any-IsPermutation}
 use Rattle.machine.specs.declared.layout.Initial.{Initial}
 use Rattle.machine.specs.declared.object.Object.{Object}
 use Rattle.machine.specs.declared.object.Object.TheVariants as o
 use Rattle.machine.specs.Objects.{address_of, size_of, end_of, size_bits}
 use Rattle.table.specs.declared.extent.Extent.{Extent}
 use Rattle.table.specs.Inventory.{extent_of}
-use Rattle.table.specs.Placement.{meets}
+use Rattle.table.specs.Placement.{meets, touches}
 
 pub size_of-bits : (object : Object) (bits : ℕ) → size_bits object ≡ Some bits → size_of object ≡ 2 ^ bits
 size_of-bits (o.Untyped memory) bits e = ap (λ n. 2 ^ n) (same_Some memory.bits bits e)
@@ -79,8 +82,7 @@ many_exceed object bits e many =
 -- an object meets the extents of others where it meets the others
 met_extents :
     (extent : Extent) (object : Object) (objects : List Initial) → extent.start ≡ address_of object → extent.end ≡ end_of object
-    → list_any (λ other. nat_lt other.start extent.end && nat_lt extent.start other.end)
-    (map (λ initial. extent_of initial.object) objects)
+    → list_any (λ other. touches other extent) (map (λ initial. extent_of initial.object) objects)
     ≡ list_any (λ initial. meets initial.object object) objects
 met_extents extent object [] start end = refl
 met_extents extent object (initial ∷ objects) start end =
@@ -90,10 +92,24 @@ met_extents extent object (initial ∷ objects) start end =
 
 pub meets_any-extents :
     (extent : Extent) (object : Object) (extents : List Extent) (objects : List Initial)
-    → extents ≡ map (λ initial. extent_of initial.object) objects
+    → IsPermutation (map (λ initial. extent_of initial.object) objects) extents
     → extent.start ≡ address_of object → extent.end ≡ end_of object
-    → list_any (λ other. nat_lt other.start extent.end && nat_lt extent.start other.end) extents
-    ≡ list_any (λ initial. meets initial.object object) objects
+    → list_any (λ other. touches other extent) extents ≡ list_any (λ initial. meets initial.object object) objects
 meets_any-extents extent object extents objects same start end =
-    ap (list_any (λ other. nat_lt other.start extent.end && nat_lt extent.start other.end)) same
+    sym
+    (list_any-IsPermutation (λ other. touches other extent) (map (λ initial. extent_of initial.object) objects) extents same)
     ∙ met_extents extent object objects start end
+
+-- one object more has its extent among the others'
+pub extents_with :
+    (initial : Initial) (extent : Extent) (objects : List Initial) (extents : List Extent)
+    → IsPermutation (map (λ other. extent_of other.object) objects) extents → extent.start ≡ address_of initial.object
+    → extent.end ≡ end_of initial.object
+    → (before more : List Extent) → before ≡ extents → IsPermutation (extent ∷ before) more
+    → (reserved all : List Initial) → reserved ≡ objects → all ≡ reserved ++ initial ∷ []
+    → IsPermutation (map (λ other. extent_of other.object) all) more
+extents_with initial extent objects extents same start end before more kept added reserved all held pushed =
+    rw (pushed, held, map-append (λ other. extent_of other.object) objects (initial ∷ []))
+    (IsPermutation-push_more (map (λ other. extent_of other.object) objects) extents more (extent_of initial.object) same
+    (subst (λ is. IsPermutation (is ∷ extents) more) (λ i. record { start = start i; end = end i })
+    (subst (λ list. IsPermutation (extent ∷ list) more) kept added)))

@@ -1,5 +1,6 @@
 pub mod NameLemmas
 pub mod ExtentLemmas
+pub mod ApartLemmas
 pub mod ListLemmas
 pub mod LawfulKept
 pub mod LabelAdded

@@ -1,7 +1,9 @@
 -- Where objects lie in memory: alignment, and which objects overlap (compare the seL4 manual, "Memory Allocation").
-use Rattle.std.specs.Prelude.{ℕ, ◌<◌, ◌≤◌, ◌^◌, ◌%◌, ◌==◌, ◌&&◌, Bool, true, nat_lt, Option, Some, None}
+use Rattle.std.specs.Prelude.{ℕ, ◌<◌, ◌≤◌, ◌^◌, ◌%◌, ◌==◌, ◌&&◌, Bool, true, nat_lt, List, Option, Some, None}
+use Rattle.std.specs.List.{All, AllPairs}
 use Rattle.machine.specs.declared.object.Object.{Object}
 use Rattle.machine.specs.Objects.{address_of, end_of, size_bits}
+use Rattle.table.specs.declared.extent.Extent.{Extent}
 
 -- an address at which an object has a byte
 abbrev pub Lies : Object → ℕ → Type 0
@@ -21,3 +23,12 @@ is_aligned object = at_multiple (size_bits object) where
   at_multiple : Option ℕ → Bool
   at_multiple None = true
   at_multiple (Some bits) = address_of object % 2 ^ bits == 0
+
+-- whether some address is in both
+abbrev pub touches : Extent → Extent → Bool
+touches one other = nat_lt one.start other.end && nat_lt other.start one.end
+
+-- rising ranges of addresses, of which each ends before the next starts
+pub record AreApart (extents : List Extent) : Type 0 where
+  pub upward : All (λ extent. extent.start ≤ extent.end) extents
+  pub rising : AllPairs (λ one other. one.end ≤ other.start) extents

@@ -1,5 +1,9 @@
-ghost use Rattle.std.specs.Prelude.{◌≡◌, ◌≤◌, ◌<◌, ◌^◌, ◌&&◌, nat_lt, nat_le};
+ghost use Rattle.std.specs.Prelude.{◌≡◌, ◌≤◌, ◌<◌, ◌^◌, ◌∷◌, false, length, nat_le, vec_len};
+ghost use Rattle.std.specs.List.{list_any};
+ghost use Rattle.std.specs.List.Sorted.{IsPartitionPoint, IsPermutation};
+ghost use Rattle.std.specs.Vec.{vec_capacity};
 ghost use Rattle.machine.specs.Objects.{address_of, end_of, size_bits};
+ghost use Rattle.table.specs.Placement.{AreApart, touches};
 ghost use Rattle.table.specs.Placement as placement;
 
 use machine::Object;
@@ -17,6 +21,7 @@ impl Extent {
         requires { end_of object.now ≤ 2 ^ 48 }
         ensures start { result.start ≡ address_of object.now }
         ensures end { result.end ≡ end_of object.now }
+        ensures upward { result.start ≤ result.end }
     {
         let start = address(object);
         let end = match size_bits(object) {
@@ -28,10 +33,44 @@ impl Extent {
 
     /// Whether some address is in both.
     pub fn meets(&self, other: &Extent) -> bool
-        ensures { result ≡ (nat_lt self.now.start other.now.end && nat_lt other.now.start self.now.end) }
+        ensures { result ≡ touches self.now other.now }
     {
         self.start < other.end && other.start < self.end
     }
+}
+
+/// Whether an extent meets one of these, of which no two meet.
+pub fn meets_any(rising: &[Extent], extent: &Extent) -> bool
+    requires { AreApart rising.now }
+    ensures { result ≡ list_any (λ other. touches other extent.now) rising.now }
+{
+    // Of those that start below its end, only the last can reach beyond its start.
+    let count = count_below(rising, extent.end);
+    count > 0 && rising[count - 1].meets(extent)
+}
+
+/// Inserts an extent among rising ones, which have room for it and none of which it meets.
+pub fn insert_within(rising: &mut Vec<Extent>, extent: Extent)
+    requires room { vec_len rising.old < vec_capacity rising.old }
+    requires apart { AreApart rising.old.items }
+    requires upward { extent.start ≤ extent.end }
+    requires free { list_any (λ other. touches other extent) rising.old.items ≡ false }
+    ensures items { IsPermutation (extent ∷ rising.old.items) rising.new.items }
+    ensures apart { AreApart rising.new.items }
+{
+    let at = count_below(rising.as_slice(), extent.end);
+    if rising.insert(at, extent).is_err() {
+        unreachable!()
+    }
+}
+
+/// How many of these rising extents start below an address.
+fn count_below(rising: &[Extent], address: u64) -> usize
+    requires { AreApart rising.now }
+    ensures bound { result ≤ length rising.now }
+    ensures parted { IsPartitionPoint (λ other. other.start < address) (λ other. address ≤ other.start) rising.now result }
+{
+    rising.partition_point(|other| other.start < address)
 }
 
 /// Whether all addresses of an object are below `2^48`.

@@ -1,5 +1,5 @@
-ghost use Rattle.std.specs.Prelude.{◌≡◌, ◌≤◌, ◌<◌, ◌+◌, ◌^◌, ◌++◌, ◌∷◌, [], None, length, slice_get, position, is_some, not};
-ghost use Rattle.std.specs.Prelude.{nat_lt, ◌&&◌, false, map, vec_len, OnOk, OnErr, if◌then◌else◌};
+ghost use Rattle.std.specs.Prelude.{◌≡◌, ◌≤◌, ◌<◌, ◌+◌, ◌^◌, ◌++◌, ◌∷◌, [], length, true, slice_get, position, is_some, not};
+ghost use Rattle.std.specs.Prelude.{false, vec_len, OnOk, OnErr, if◌then◌else◌};
 ghost use Rattle.std.specs.List.{list_any};
 ghost use Rattle.std.specs.Option.{option_copied};
 ghost use Rattle.std.specs.Str.{bytes_eq};
@@ -9,7 +9,7 @@ ghost use Rattle.table.specs.Placement.{meets};
 ghost use Rattle.table.specs.Rules.{is_tcb};
 ghost use Rattle.table.specs.Inventory.{slots_of, threads_of};
 
-use crate::extent::Extent;
+use crate::extent::{Extent, insert_within, meets_any};
 use crate::names::Names;
 use machine::{Initial, Object};
 use std::alloc::{AllocError, Global};
@@ -20,7 +20,7 @@ use std::marker::Model;
 pub struct Objects {
     names: Names,
     items: Vec<Initial>,
-    /// Where each object lies, close together for the search of overlaps.
+    /// Where the objects lie, rising for the search of overlaps.
     extents: Vec<Extent>,
     slots: u64,
     threads: u64,
@@ -28,7 +28,9 @@ pub struct Objects {
 
 impl Model for Objects {
     ghost use Rattle.std.specs.Prelude.{◌≡◌, length, map};
+    ghost use Rattle.std.specs.List.Sorted.{IsPermutation};
     ghost use Rattle.table.specs.Inventory.{Inventory, extent_of, slots_of, threads_of};
+    ghost use Rattle.table.specs.Placement.{AreApart};
 
     ghost Value = { Inventory };
 
@@ -36,7 +38,8 @@ impl Model for Objects {
 
     ghost invariant = { λ o. record {
       named : length o.names ≡ length o.items.items;
-      extents : o.extents.items ≡ map (λ initial. extent_of initial.object) o.items.items;
+      extents : IsPermutation (map (λ initial. extent_of initial.object) o.items.items) o.extents.items;
+      apart : AreApart o.extents.items;
       slots : o.slots ≡ slots_of o.items.items;
       threads : o.threads ≡ threads_of o.items.items;
     } };
@@ -107,13 +110,14 @@ impl Objects {
         requires { end_of object.now ≤ 2 ^ 48 }
         ensures { result ≡ not (list_any (λ initial. meets initial.object object.now) self.now.objects) }
     {
-        !meets_any(self.extents.as_slice(), Extent::of(object))
+        !meets_any(self.extents.as_slice(), &Extent::of(object))
     }
 
     /// Adds an object under a new name.
     pub fn add(&mut self, name: &str, initial: Initial) -> Result<(), AllocError>
         requires fresh { is_some (position (λ other. bytes_eq name.now other) self.old.names) ≡ false }
         requires end { end_of initial.object ≤ 2 ^ 48 }
+        requires free { not (list_any (λ other. meets other.object initial.object) self.old.objects) ≡ true }
         requires slots { slots_of self.old.objects + slot_count initial.object ≤ 65536 }
         requires threads { threads_of self.old.objects + (if is_tcb initial.object then 1 else 0) ≤ 1024 }
         ensures names { OnOk result (self.new.names ≡ self.old.names ++ name.now ∷ []) }
@@ -124,20 +128,13 @@ impl Objects {
         self.extents.reserve(1)?;
         self.names.add(name)?;
         push_within(&mut self.items, initial);
-        push_within(&mut self.extents, Extent::of(&initial.object));
+        insert_within(&mut self.extents, Extent::of(&initial.object));
         self.slots += initial.object.slot_count();
         if let Object::Tcb(_) = initial.object {
             self.threads += 1;
         }
         Ok(())
     }
-}
-
-/// Whether an extent meets one of these.
-fn meets_any(extents: &[Extent], extent: Extent) -> bool
-    ensures { result ≡ list_any (λ other. nat_lt other.start extent.end && nat_lt extent.start other.end) extents.now }
-{
-    extents.iter().any(|other| other.meets(&extent))
 }
 
 /// Appends an item to a vector that has room for it.

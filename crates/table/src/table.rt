@@ -359,7 +359,7 @@ impl Table {
     }
 
     /// Adds an object under a name.
-    #[tactic(auto, unfolding(crate::specs::Names::object_named, crate::specs::Building::has_room, crate::specs::Rules::slot_total, crate::specs::Rules::thread_total))]
+    #[tactic(auto, unfolding(crate::specs::Names::object_named, crate::specs::Building::has_room, crate::specs::Building::is_free, crate::specs::Rules::slot_total, crate::specs::Rules::thread_total))]
     pub fn add_object(&mut self, name: &str, initial: Initial) -> Result<(), AllocError>
         requires { AdmitsObject self.old name.now initial }
         ensures ok { OnOk result (self.new ≡ with_initial self.old name.now initial) }

@@ -1,17 +1,23 @@
--- Each object has its extent beside it.
-use Rattle.std.proofs.Common.{◌∙◌, ap, not}
+-- The extents are those of the objects.
+use Rattle.std.proofs.Common.{◌∙◌, sym, ap, not, map, subst}
 use Rattle.std.specs.List.{list_any}
+use Rattle.std.specs.List.Sorted.{IsPermutation}
 use Rattle.table.proofs.ExtentLemmas.{meets_any-extents}
-use Rattle.table.specs.Inventory.{Inventory}
+use Rattle.table.specs.Inventory.{Inventory, extent_of}
 use Rattle.table.specs.Placement.{meets}
 use Rattle.table.proofs.objects.Objects.is_free.Goals as goal
 
+pub meets_any-requires : goal.meets_any-requires
+meets_any-requires c = rw c.as_slice.ensures.value c.self.invariant.apart
+
 pub returns : goal.returns
 returns c =
-    let extents = c.as_slice.ensures.value ∙ c.self.invariant.extents in
+    let extents =
+    subst (λ extents. IsPermutation (map (λ initial. extent_of initial.object) c.self.inside.items.items) extents)
+    (sym c.as_slice.ensures.value) c.self.invariant.extents in
     let met =
-    meets_any-extents c.of.result c.args.object.now c.as_slice.result.now c.self.inside.items.items extents
-    c.of.ensures.start c.of.ensures.end in
+    meets_any-extents c.of.result c.args.object.now c.as_slice.result.now c.self.inside.items.items extents c.of.ensures.start
+    c.of.ensures.end in
     ap not
     (c.meets_any.ensures ∙ met
     ∙ ap (λ (v : Inventory). list_any (λ initial. meets initial.object c.args.object.now) v.objects) c.self.view_is)

@@ -1,0 +1,47 @@
+-- The new object's extent goes among the others', none of which it meets.
+use Rattle.std.proofs.Common.{arith, ◌≡◌, ◌++◌, ◌∷◌, [], Bool, true, false, not, map, ap, sym, subst, ◌∙◌}
+use Rattle.std.proofs.lemmas.Bool.{false≢true}
+use Rattle.std.proofs.lemmas.Grind.{common_steps}
+use Rattle.std.specs.List.{list_any}
+use Rattle.std.specs.List.Sorted.{IsPermutation}
+use Rattle.machine.specs.declared.layout.Initial.{Initial}
+use Rattle.table.specs.declared.extent.Extent.{Extent}
+use Rattle.table.specs.Inventory.{Inventory, extent_of}
+use Rattle.table.specs.Placement.{meets, touches}
+use Rattle.table.proofs.ExtentLemmas.{extents_with, meets_any-extents}
+use Rattle.table.proofs.objects.Objects.add.Goals as goal
+
+unmet : (met : Bool) → not met ≡ true → met ≡ false
+unmet true free = absurd (false≢true free)
+unmet false free = ap not free
+
+pub insert_within-requires-clause-free : goal.insert_within-requires-clause-free
+insert_within-requires-clause-free c =
+    let met =
+    meets_any-extents c.of.result c.args.initial.object c.self.inside.extents.items c.self.inside.items.items
+    c.self.invariant.extents c.of.ensures.start c.of.ensures.end in
+    let objects =
+    ap (λ (v : Inventory). list_any (λ initial. meets initial.object c.args.initial.object) v.objects) c.self.view_is in
+    ap (list_any (λ other. touches other c.of.result)) c.in_ok-reserve-2.ensures.items ∙ met ∙ objects ∙ unmet _ c.requires.free
+
+pub invariant_of-self-in-Tcb : goal.invariant_of-self-in-Tcb
+invariant_of-self-in-Tcb c = record {
+  named = grind (arith, common_steps);
+  extents = extents_with c.args.initial c.of.result c.self.inside.items.items c.self.inside.extents.items
+      c.self.invariant.extents c.of.ensures.start c.of.ensures.end _ _ c.in_ok-reserve-2.ensures.items
+      c.insert_within.ensures.items _ _ c.in_ok-reserve.ensures.items c.push_within.ensures;
+  apart = c.insert_within.ensures.apart;
+  slots = grind (arith, common_steps);
+  threads = grind (arith, common_steps);
+}
+
+pub invariant_of-self-in_default : goal.invariant_of-self-in_default
+invariant_of-self-in_default c = record {
+  named = grind (arith, common_steps);
+  extents = extents_with c.args.initial c.of.result c.self.inside.items.items c.self.inside.extents.items
+      c.self.invariant.extents c.of.ensures.start c.of.ensures.end _ _ c.in_ok-reserve-2.ensures.items
+      c.insert_within.ensures.items _ _ c.in_ok-reserve.ensures.items c.push_within.ensures;
+  apart = c.insert_within.ensures.apart;
+  slots = grind (arith, common_steps);
+  threads = grind (arith, common_steps);
+}
