@@ -1,11 +1,12 @@
 -- Each way between a kind and its name, and between a kind and its number.
-use Rattle.std.proofs.Common.{◌≡◌, ℕ, ◌<◌, ◌==◌, ◌↔◌, Bool, true, false, cond, List, Option, Some, refl, sym, ap, ◌∙◌, subst, lit<}
-use Rattle.std.specs.Prelude.{IfSome, bytes_eq}
+use Rattle.std.proofs.Common.{◌≡◌, ℕ, ◌<◌, ◌^◌, ◌==◌, ◌↔◌, Bool, true, false, cond, List, Option, Some, refl, sym, ap, ◌∙◌, subst, lit<}
+use Rattle.std.specs.Prelude.{IfSome, bytes_eq, slice_get}
 use Rattle.std.specs.Bool.{Decides}
 use Rattle.std.proofs.lemmas.Slice.Eq.{bytes_eq-Decides}
 use Rattle.base.specs.declared.kind.Kind.{Kind}
+use Rattle.base.specs.declared.kind.TheConstants.Kind.{ALL}
 use Rattle.base.specs.declared.kind.Kind.TheVariants.{Control, Reset, Send, Receive, Grant, Call, Notify, Await, Read, Write, Reply, Context, SchedControl, Space, Derive, Runs, Holds}
-use Rattle.base.specs.Kinds.{kind_name, kind_named, kind_number}
+use Rattle.base.specs.Kinds.{kind_name, kind_named, kind_number, kind_bit}
 
 -- a kind that is found by its name, or one that is found later, has the name
 here : (word : List ℕ) (kind : Kind) (later : Option Kind) → IfSome later (λ other. word ≡ kind_name other)
@@ -130,3 +131,43 @@ number_below Space = lit< tt
 number_below Derive = lit< tt
 number_below Runs = lit< tt
 number_below Holds = lit< tt
+
+-- the set of a kind alone is the bit at its number
+pub bit_at_number : (kind : Kind) → kind_bit kind ≡ 2 ^ kind_number kind
+bit_at_number Control = refl
+bit_at_number Reset = refl
+bit_at_number Send = refl
+bit_at_number Receive = refl
+bit_at_number Grant = refl
+bit_at_number Call = refl
+bit_at_number Notify = refl
+bit_at_number Await = refl
+bit_at_number Read = refl
+bit_at_number Write = refl
+bit_at_number Reply = refl
+bit_at_number Context = refl
+bit_at_number SchedControl = refl
+bit_at_number Space = refl
+bit_at_number Derive = refl
+bit_at_number Runs = refl
+bit_at_number Holds = refl
+
+-- each kind stands at its number in the list of all
+pub in_order : (kind : Kind) → slice_get ALL (kind_number kind) ≡ Some kind
+in_order Control = refl
+in_order Reset = refl
+in_order Send = refl
+in_order Receive = refl
+in_order Grant = refl
+in_order Call = refl
+in_order Notify = refl
+in_order Await = refl
+in_order Read = refl
+in_order Write = refl
+in_order Reply = refl
+in_order Context = refl
+in_order SchedControl = refl
+in_order Space = refl
+in_order Derive = refl
+in_order Runs = refl
+in_order Holds = refl

@@ -1,2 +1,3 @@
 pub mod RightsWords
 pub mod KindNames
+mod CauseLemmas

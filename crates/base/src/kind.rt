@@ -1,6 +1,6 @@
-ghost use Rattle.std.specs.Prelude.{⊤, ◌≡◌, ◌==◌, ◌↔◌, ◌<◌, ℕ, List, [], ◌∷◌, codes, Some, None, Bool};
+ghost use Rattle.std.specs.Prelude.{⊤, ◌≡◌, ◌==◌, ◌↔◌, ◌<◌, ◌^◌, ℕ, List, [], ◌∷◌, codes, Some, None, Bool, length, slice_get};
 ghost use Rattle.std.specs.Int.RustNames.{bit_and};
-ghost use Rattle.base.specs.Kinds.{kind_name, kind_named, kind_number, is_structural, is_among};
+ghost use Rattle.base.specs.Kinds.{kind_name, kind_named, kind_number, kind_bit, is_structural, is_among};
 ghost use Rattle.base.specs.declared.kind.Kind.{Kind as KindOf};
 
 use bitflags::{Flag, Flags, bitflag_items};
@@ -266,13 +266,16 @@ impl From<Kind> for Kinds {
 
 /// A law about the names of kinds, with nothing to run: a word names a kind just where it is that
 /// kind's name. So different kinds have different names. They have different numbers too, all below
-/// 17.
+/// 17, in the order of [`Kind::ALL`]; and the set of a kind alone is the bit at its number.
 pub fn kind_names_are_read_back()
     ensures named { (word : List ℕ) (kind : KindOf)
         → (kind_named word ≡ Some kind) ↔ (word ≡ kind_name kind) }
     ensures once { (one other : KindOf) → kind_name one ≡ kind_name other → one ≡ other }
     ensures number_once { (one other : KindOf) → kind_number one ≡ kind_number other → one ≡ other }
     ensures number_below { (kind : KindOf) → kind_number kind < 17 }
+    ensures in_order { (kind : KindOf) → slice_get Kind.ALL (kind_number kind) ≡ Some kind }
+    ensures all { length Kind.ALL ≡ 17 }
+    ensures bit { (kind : KindOf) → kind_bit kind ≡ 2 ^ kind_number kind }
 {}
 
 #[cfg(test)]

@@ -15,5 +15,5 @@ pub use edge::Edge;
 pub use ids::{ObjId, SlotRef};
 pub use kind::{Kind, Kinds, kind_names_are_read_back};
 pub use label::Label;
-pub use refusal::{Cause, LookupFailure, Refusal};
+pub use refusal::{Cause, LookupFailure, Refusal, a_refusal_tells_its_cause};
 pub use rights::{Rights, rights_words_are_read_back, worked_rights};

@@ -1,5 +1,7 @@
 ghost use Rattle.std.specs.Prelude.{◌≡◌};
 ghost use Rattle.base.specs.Refusals.{refusal_of, failure_detail, out_of_memory};
+ghost use Rattle.base.specs.declared.refusal.Cause.{Cause as Why};
+ghost use Rattle.base.specs.declared.refusal.LookupFailure.{LookupFailure as Failure};
 
 use std::alloc::{AllocError, AllocFailed};
 
@@ -116,12 +118,21 @@ impl<T: Drop> From<AllocFailed<T>> for Refusal {
     }
 }
 
+/// A law about refusals as they are written, with nothing to run: different causes have different
+/// refusals, and different failures of a lookup have different details, so that a refusal tells its
+/// cause.
+pub fn a_refusal_tells_its_cause()
+    ensures cause { (one other : Why) → refusal_of one ≡ refusal_of other → one ≡ other }
+    ensures failure { (one other : Failure) → failure_detail one ≡ failure_detail other → one ≡ other }
+{}
+
 #[cfg(test)]
 mod tests {
     use super::*;
 
     #[test]
     fn causes_have_codes(rt: HostRuntime) {
+        a_refusal_tells_its_cause();
         let plain = [
             (Cause::InvalidArgument, 1),
             (Cause::InvalidCapability, 2),

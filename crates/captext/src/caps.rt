@@ -1,4 +1,4 @@
-ghost use Rattle.std.specs.Prelude.{◌≡◌, ◌≢◌, true, Some, IfOk, OnOk};
+ghost use Rattle.std.specs.Prelude.{◌≡◌, ◌≢◌, true, Some, IfOk, OnErr, OnOk};
 ghost use Rattle.captext.specs.Tables as text;
 ghost use Rattle.captext.specs.Tables.{capability, fits_radix};
 ghost use Rattle.machine.specs.Capabilities.{kind_of_detail};
@@ -203,7 +203,8 @@ fn fill(
     terms: (Option<Term>, Option<Term>),
 ) -> Result<(), Cause>
     requires { text.rises table.old (Some holder) place ≡ true }
-    ensures { Makes (λ _. table.new) result (text.filled table.old holder place target terms) }
+    ensures exact { Makes (λ _. table.new) result (text.filled table.old holder place target terms) }
+    ensures err { OnErr result (table.new ≡ table.old) }
 {
     if !may_fill(table.kind(holder), place, table.kind(target)) {
         return Err(Cause::Text(Wrong::WrongKind));
@@ -229,7 +230,8 @@ fn named(table: &Table, name: &str) -> Result<ObjId, Wrong>
 /// Reads `SLOT NAME` and what the capability says, after the word `cap`.
 #[tactic(auto, unfolding(crate::specs::Tables::cap_line, words::specs::Reading::bind))]
 pub fn cap_line(table: &mut Table, words: &mut Words<'_>) -> Result<(), Cause>
-    ensures { Makes (λ _. table.new) result (text.cap_line table.old words.old) }
+    ensures exact { Makes (λ _. table.new) result (text.cap_line table.old words.old) }
+    ensures err { OnErr result (table.new ≡ table.old) }
 {
     let (holder, place) = slot(words)?;
     let target = words.name()?;
@@ -265,7 +267,8 @@ fn is_thread_and_context(thread: Option<ObjectKind>, context: Option<ObjectKind>
 /// Reads `NAME NAME`, after the word `bind`.
 #[tactic(auto, unfolding(crate::specs::Tables::bind_line, words::specs::Reading::bind))]
 pub fn bind_line(table: &mut Table, words: &mut Words<'_>) -> Result<(), Cause>
-    ensures { Makes (λ _. table.new) result (text.bind_line table.old words.old) }
+    ensures exact { Makes (λ _. table.new) result (text.bind_line table.old words.old) }
+    ensures err { OnErr result (table.new ≡ table.old) }
 {
     let thread = words.name()?;
     let context = words.name()?;

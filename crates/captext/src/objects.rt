@@ -1,4 +1,4 @@
-ghost use Rattle.std.specs.Prelude.{◌≡◌, ◌<◌, true, false, length, is_some, IfOk, IfSome, OnOk};
+ghost use Rattle.std.specs.Prelude.{◌≡◌, ◌<◌, true, false, length, is_some, IfOk, IfSome, OnErr, OnOk};
 ghost use Rattle.captext.specs.Tables as text;
 ghost use Rattle.table.specs.Building.{repeats_control};
 ghost use Rattle.table.specs.Names.{object_named};
@@ -18,7 +18,8 @@ const LONGEST_PERIOD: u64 = 3_600_000_000;
 /// Reads `NAME`, after the word `label`.
 #[tactic(auto, unfolding(crate::specs::Tables::label_line, words::specs::Reading::bind))]
 pub fn label_line(table: &mut Table, words: &mut Words<'_>) -> Result<(), Cause>
-    ensures { Makes (λ _. table.new) result (text.label_line table.old words.old) }
+    ensures exact { Makes (λ _. table.new) result (text.label_line table.old words.old) }
+    ensures err { OnErr result (table.new ≡ table.old) }
 {
     let name = words.name()?;
     words.end()?;
@@ -88,7 +89,8 @@ fn declare(table: &mut Table, name: &str, label: Label, object: Object) -> Resul
     requires label { label < length table.old.labels }
     requires blank { IsBlank object }
     requires control { repeats_control table.old object ≡ false }
-    ensures { Makes (λ _. table.new) result (text.declared table.old name.now label object) }
+    ensures exact { Makes (λ _. table.new) result (text.declared table.old name.now label object) }
+    ensures err { OnErr result (table.new ≡ table.old) }
 {
     if !is_within(table, &object) {
         return Err(Cause::Text(Wrong::Limit));
@@ -103,7 +105,8 @@ fn declare(table: &mut Table, name: &str, label: Label, object: Object) -> Resul
 /// Reads `NAME LABEL HEX DEC`, after the word `cnode`.
 #[tactic(auto, unfolding(crate::specs::Tables::cnode_line, words::specs::Reading::bind))]
 pub fn cnode_line(table: &mut Table, words: &mut Words<'_>) -> Result<(), Cause>
-    ensures { Makes (λ _. table.new) result (text.cnode_line table.old words.old) }
+    ensures exact { Makes (λ _. table.new) result (text.cnode_line table.old words.old) }
+    ensures err { OnErr result (table.new ≡ table.old) }
 {
     let name = words.name()?;
     let label = words.name()?;
@@ -133,7 +136,8 @@ fn start_of(word: &[u8]) -> Option<RunState>
 /// Reads `NAME LABEL HEX ready` or `.. inactive`, after the word `tcb`.
 #[tactic(auto, unfolding(crate::specs::Tables::tcb_line, words::specs::Reading::or_syntax, words::specs::Reading::bind))]
 pub fn tcb_line(table: &mut Table, words: &mut Words<'_>) -> Result<(), Cause>
-    ensures { Makes (λ _. table.new) result (text.tcb_line table.old words.old) }
+    ensures exact { Makes (λ _. table.new) result (text.tcb_line table.old words.old) }
+    ensures err { OnErr result (table.new ≡ table.old) }
 {
     let name = words.name()?;
     let label = words.name()?;
@@ -154,7 +158,8 @@ pub fn tcb_line(table: &mut Table, words: &mut Words<'_>) -> Result<(), Cause>
 /// Reads `NAME LABEL HEX`, after the word `notification`.
 #[tactic(auto, unfolding(crate::specs::Tables::notification_line, words::specs::Reading::bind))]
 pub fn notification_line(table: &mut Table, words: &mut Words<'_>) -> Result<(), Cause>
-    ensures { Makes (λ _. table.new) result (text.notification_line table.old words.old) }
+    ensures exact { Makes (λ _. table.new) result (text.notification_line table.old words.old) }
+    ensures err { OnErr result (table.new ≡ table.old) }
 {
     let name = words.name()?;
     let label = words.name()?;
@@ -231,7 +236,8 @@ fn limited_share(terms: Option<ShareTerms>) -> Result<Option<Share>, Wrong>
 /// Reads `NAME LABEL HEX -` or `NAME LABEL HEX CORE BUDGET PERIOD`, after the word `context`.
 #[tactic(auto, unfolding(crate::specs::Tables::context_line, words::specs::Reading::bind))]
 pub fn context_line(table: &mut Table, words: &mut Words<'_>) -> Result<(), Cause>
-    ensures { Makes (λ _. table.new) result (text.context_line table.old words.old) }
+    ensures exact { Makes (λ _. table.new) result (text.context_line table.old words.old) }
+    ensures err { OnErr result (table.new ≡ table.old) }
 {
     let name = words.name()?;
     let label = words.name()?;

@@ -1,4 +1,4 @@
-ghost use Rattle.std.specs.Prelude.{◌≡◌, ◌≢◌, ◌↔◌, ◌<◌, ℕ, List, [], ◌∷◌, length, codes, Some, Ok, Err, IfOk, IfErr};
+ghost use Rattle.std.specs.Prelude.{◌≡◌, ◌≢◌, ◌↔◌, ◌<◌, ℕ, List, [], ◌∷◌, length, codes, Some, Ok, Err, IfOk, IfErr, OnErr};
 ghost use Rattle.base.specs.declared.edge.Edge.{Edge as EdgeOf};
 ghost use Rattle.base.specs.declared.kind.Kind.TheVariants.{Reset, SchedControl};
 ghost use Rattle.captext.specs.Policies as policies;
@@ -65,7 +65,8 @@ fn follows(last: Option<Edge>, edge: &Edge) -> bool
 /// Adds an edge that rises above the last one.
 #[tactic(auto, unfolding(crate::specs::Policies::with_edge, words::specs::Reading::bind))]
 fn add_edge(policy: &mut Policy, edge: Edge) -> Result<(), Cause>
-    ensures { Makes (λ _. policy.new) result (policies.with_edge policy.old edge) }
+    ensures exact { Makes (λ _. policy.new) result (policies.with_edge policy.old edge) }
+    ensures err { OnErr result (policy.new ≡ policy.old) }
 {
     if !follows(policy.last(), &edge) {
         return Err(Cause::Text(Wrong::Syntax));
@@ -79,7 +80,8 @@ fn add_edge(policy: &mut Policy, edge: Edge) -> Result<(), Cause>
 /// Reads `edge LABEL KIND LABEL`, and adds the edge.
 #[tactic(auto, unfolding(crate::specs::Policies::edge_line, words::specs::Reading::bind))]
 fn edge_line(table: &Table, policy: &mut Policy, words: &mut Words<'_>) -> Result<(), Cause>
-    ensures { Makes (λ _. policy.new) result (policies.edge_line table.now policy.old words.old) }
+    ensures exact { Makes (λ _. policy.new) result (policies.edge_line table.now policy.old words.old) }
+    ensures err { OnErr result (policy.new ≡ policy.old) }
 {
     keyword(words)?;
     let from = words.name()?;

@@ -1,4 +1,4 @@
-ghost use Rattle.std.specs.Prelude.{◌≡◌, ◌≢◌, ◌↔◌, ℕ, List, Ok, Err, IfOk, IfErr};
+ghost use Rattle.std.specs.Prelude.{◌≡◌, ◌≢◌, ◌↔◌, ℕ, List, Ok, Err, IfOk, IfErr, OnErr};
 ghost use Rattle.captext.specs.Tables as tables;
 ghost use Rattle.captext.specs.TableText.{table_header, table_text, IsBrought, IsLineOf};
 ghost use Rattle.machine.specs.Layout.{Layout, empty_layout};
@@ -16,10 +16,11 @@ use std::alloc::Global;
 use table::{Table, lawful_tables_are_built_up};
 use words::{Cause, Fault, Lines, Words, Wrong};
 
-/// Reads one line of a table, and adds its part.
+/// Reads one line of a table, and adds its part. A line that is refused adds nothing.
 #[tactic(auto, unfolding(crate::specs::Tables::table_line, crate::specs::Tables::line_by, words::specs::Reading::bind))]
 fn table_line(table: &mut Table, words: &mut Words<'_>) -> Result<(), Cause>
-    ensures { Makes (λ _. table.new) result (tables.table_line table.old words.old) }
+    ensures exact { Makes (λ _. table.new) result (tables.table_line table.old words.old) }
+    ensures err { OnErr result (table.new ≡ table.old) }
 {
     let keyword = words.word()?;
     if keyword == b"label".as_slice() {

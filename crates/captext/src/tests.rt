@@ -1,9 +1,11 @@
 use crate::{read_policy, read_table};
 use base::{CoreNo, Edge, Kind, Label, ObjId, SlotRef};
 use machine::{Detail, Object};
+use policy::Policy;
 use std::alloc::Global;
 use std::process::Abort;
 use std::test::Fail;
+use table::Table;
 
 const TWO_CORES: &str = "confine-table 1
 label a
@@ -31,20 +33,7 @@ edge b runs b
 end
 ";
 
-// Asserts that the text of a table is faulty, with this number at this line.
-fn faulty(rt: &impl Abort, alloc: Global, text: &str, number: u64, line: u64) {
-    match read_table(alloc, text.as_bytes()) {
-        Ok(_) => assert!(rt; false, "no fault in {text:?}"),
-        Err(fault) => {
-            assert_eq!(rt; fault.number, number, "in {text:?}");
-            assert_eq!(rt; fault.line, line, "in {text:?}");
-        }
-    }
-}
-
-#[test]
-fn reads_the_two_cores_table(rt: HostRuntime) -> Result<(), Fail> {
-    let table = read_table(rt.alloc(), TWO_CORES.as_bytes())?;
+fn is_of_two_cores(rt: &impl Abort, table: &Table) -> Result<(), Fail> {
     assert_eq!(rt; table.label_count(), 2);
     assert_eq!(rt; table.object_count(), 7);
     assert_eq!(rt; table.caps().len(), 4);
@@ -70,9 +59,12 @@ fn reads_the_two_cores_table(rt: HostRuntime) -> Result<(), Fail> {
 }
 
 #[test]
-fn reads_a_policy(rt: HostRuntime) -> Result<(), Fail> {
+fn reads_the_two_cores_table(rt: HostRuntime) -> Result<(), Fail> {
     let table = read_table(rt.alloc(), TWO_CORES.as_bytes())?;
-    let policy = read_policy(rt.alloc(), POLICY.as_bytes(), &table)?;
+    is_of_two_cores(&rt, &table)
+}
+
+fn has_its_edges(rt: &impl Abort, policy: &Policy) -> Result<(), Fail> {
     assert_eq!(rt; policy.edges().len(), 3);
     let a = Label::new(0).ok_or("a")?;
     let b = Label::new(1).ok_or("b")?;
@@ -91,4 +83,15 @@ fn reads_a_policy(rt: HostRuntime) -> Result<(), Fail> {
         })
     );
     Ok(())
+}
+
+fn reads_over(rt: &impl Abort, alloc: Global, table: &Table) -> Result<(), Fail> {
+    let policy = read_policy(alloc, POLICY.as_bytes(), table)?;
+    has_its_edges(rt, &policy)
+}
+
+#[test]
+fn reads_a_policy(rt: HostRuntime) -> Result<(), Fail> {
+    let table = read_table(rt.alloc(), TWO_CORES.as_bytes())?;
+    reads_over(&rt, rt.alloc(), &table)
 }

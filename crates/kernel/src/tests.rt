@@ -5,6 +5,7 @@ use objects::State;
 use std::alloc::Global;
 use std::process::Abort;
 use std::test::Fail;
+use table::Table;
 
 mod system;
 
@@ -39,9 +40,13 @@ fn poll(number: u64, thread: ObjId, address: u64) -> Result<Event, Fail> {
     })
 }
 
+fn boots(alloc: Global, table: &Table) -> Result<State, Fail> {
+    Ok(boot(alloc, table)?)
+}
+
 fn booted(rt: &impl Abort, alloc: Global) -> Result<State, Fail> {
     let table = two_cores(rt, alloc)?;
-    Ok(boot(alloc, &table)?)
+    boots(alloc, &table)
 }
 
 fn thread(state: &State, id: ObjId) -> Result<Tcb, Fail> {
@@ -71,19 +76,17 @@ fn held(state: &State, slot: SlotRef) -> Option<(ObjId, Detail, bool)> {
     Some((cap.object, cap.detail, cap.original))
 }
 
-#[test]
-fn boots_what_the_table_says(rt: HostRuntime) -> Result<(), Fail> {
-    let state = booted(&rt, rt.alloc())?;
+fn is_what_the_table_says(rt: &impl Abort, state: &State) -> Result<(), Fail> {
     assert_eq!(rt; state.next_id(), 7);
-    let sender = thread(&state, SENDER)?;
+    let sender = thread(state, SENDER)?;
     assert_eq!(rt; (sender.address, sender.state), (0x2000, RunState::Ready));
     assert_eq!(rt; sender.context, Some(SENDER_CONTEXT));
-    assert_eq!(rt; thread(&state, RECEIVER)?.context, Some(RECEIVER_CONTEXT));
-    let first = context(&state, SENDER_CONTEXT)?;
+    assert_eq!(rt; thread(state, RECEIVER)?.context, Some(RECEIVER_CONTEXT));
+    let first = context(state, SENDER_CONTEXT)?;
     assert_eq!(rt; first.thread, Some(SENDER));
     assert_eq!(rt; first.share.map(|share| share.core.number()), Some(1));
-    assert_eq!(rt; context(&state, RECEIVER_CONTEXT)?.thread, Some(RECEIVER));
-    assert_eq!(rt; pending(&state), None);
+    assert_eq!(rt; context(state, RECEIVER_CONTEXT)?.thread, Some(RECEIVER));
+    assert_eq!(rt; pending(state), None);
     assert_eq!(rt; state.first_waiting(NOTIFICATION), None);
     assert!(rt; state.object(ABSENT).is_none());
 
@@ -94,32 +97,40 @@ fn boots_what_the_table_says(rt: HostRuntime) -> Result<(), Fail> {
         (slot(RECEIVER, 0), RECEIVER_SPACE, SPACE),
     ];
     for (slot, object, detail) in filled {
-        assert_eq!(rt; held(&state, slot), Some((object, detail, true)));
+        assert_eq!(rt; held(state, slot), Some((object, detail, true)));
         assert_eq!(rt; state.parent(slot), None);
     }
-    assert_eq!(rt; held(&state, slot(SENDER_SPACE, 1)), None);
-    assert_eq!(rt; held(&state, slot(RECEIVER_SPACE, 1)), None);
+    assert_eq!(rt; held(state, slot(SENDER_SPACE, 1)), None);
+    assert_eq!(rt; held(state, slot(RECEIVER_SPACE, 1)), None);
+    Ok(())
+}
+
+#[test]
+fn boots_what_the_table_says(rt: HostRuntime) -> Result<(), Fail> {
+    let state = booted(&rt, rt.alloc())?;
+    is_what_the_table_says(&rt, &state)
+}
+
+fn polls_what_it_signals(rt: &impl Abort, state: &mut State) -> Result<(), Fail> {
+    assert_eq!(rt; step(state, poll(0, RECEIVER, 0)?), word(0));
+    assert_eq!(rt; step(state, signal(1, SENDER, 0)?), DONE);
+    assert_eq!(rt; step(state, signal(1, SENDER, 0)?), DONE);
+    assert_eq!(rt; step(state, poll(0, RECEIVER, 0)?), word(4));
+    assert_eq!(rt; step(state, poll(0, RECEIVER, 0)?), word(0));
+
+    state.set_pending(NOTIFICATION, Some(3));
+    assert_eq!(rt; step(state, signal(1, SENDER, 0)?), DONE);
+    assert_eq!(rt; step(state, poll(0, RECEIVER, 0)?), word(7));
     Ok(())
 }
 
 #[test]
 fn signals_are_polled(rt: HostRuntime) -> Result<(), Fail> {
     let mut state = booted(&rt, rt.alloc())?;
-    assert_eq!(rt; step(&mut state, poll(0, RECEIVER, 0)?), word(0));
-    assert_eq!(rt; step(&mut state, signal(1, SENDER, 0)?), DONE);
-    assert_eq!(rt; step(&mut state, signal(1, SENDER, 0)?), DONE);
-    assert_eq!(rt; step(&mut state, poll(0, RECEIVER, 0)?), word(4));
-    assert_eq!(rt; step(&mut state, poll(0, RECEIVER, 0)?), word(0));
-
-    state.set_pending(NOTIFICATION, Some(3));
-    assert_eq!(rt; step(&mut state, signal(1, SENDER, 0)?), DONE);
-    assert_eq!(rt; step(&mut state, poll(0, RECEIVER, 0)?), word(7));
-    Ok(())
+    polls_what_it_signals(&rt, &mut state)
 }
 
-#[test]
-fn calls_are_refused(rt: HostRuntime) -> Result<(), Fail> {
-    let mut state = booted(&rt, rt.alloc())?;
+fn refuses_calls(rt: &impl Abort, state: &mut State) -> Result<(), Fail> {
     let refusals = [
         // no right
         (poll(1, SENDER, 0)?, refused(2, 0)),
@@ -135,15 +146,19 @@ fn calls_are_refused(rt: HostRuntime) -> Result<(), Fail> {
         (signal(1, SENDER_SPACE, 0)?, refused(34, 0)),
     ];
     for (event, outcome) in refusals {
-        assert_eq!(rt; step(&mut state, event), outcome, "{event:?}");
+        assert_eq!(rt; step(state, event), outcome, "{event:?}");
     }
-    assert_eq!(rt; pending(&state), None);
+    assert_eq!(rt; pending(state), None);
     Ok(())
 }
 
 #[test]
-fn other_kinds_are_refused(rt: HostRuntime) -> Result<(), Fail> {
+fn calls_are_refused(rt: HostRuntime) -> Result<(), Fail> {
     let mut state = booted(&rt, rt.alloc())?;
+    refuses_calls(&rt, &mut state)
+}
+
+fn refuses_another_kind(rt: &impl Abort, state: &mut State) -> Result<(), Fail> {
     let free = slot(SENDER_SPACE, 1);
     assert!(rt; state.has_slot(free));
     let own_space = Cap {
@@ -152,8 +167,14 @@ fn other_kinds_are_refused(rt: HostRuntime) -> Result<(), Fail> {
         original: false,
     };
     state.put_cap(free, own_space);
-    assert_eq!(rt; step(&mut state, signal(1, SENDER, 1)?), refused(2, 0));
+    assert_eq!(rt; step(state, signal(1, SENDER, 1)?), refused(2, 0));
     Ok(())
+}
+
+#[test]
+fn other_kinds_are_refused(rt: HostRuntime) -> Result<(), Fail> {
+    let mut state = booted(&rt, rt.alloc())?;
+    refuses_another_kind(&rt, &mut state)
 }
 
 // The sender's signal.
@@ -161,40 +182,42 @@ fn signalled(state: &mut State) -> Result<Outcome, Fail> {
     Ok(step(state, signal(1, SENDER, 0)?))
 }
 
-#[test]
-fn threads_that_cannot_run_are_refused(rt: HostRuntime) -> Result<(), Fail> {
-    let mut state = booted(&rt, rt.alloc())?;
-    let sender = thread(&state, SENDER)?;
-    let first = context(&state, SENDER_CONTEXT)?;
+fn refuses_who_cannot_run(rt: &impl Abort, state: &mut State) -> Result<(), Fail> {
+    let sender = thread(state, SENDER)?;
+    let first = context(state, SENDER_CONTEXT)?;
 
     let inactive = Tcb {
         state: RunState::Inactive,
         ..sender
     };
     state.set_tcb(SENDER, inactive);
-    assert_eq!(rt; signalled(&mut state)?, refused(32, 0));
+    assert_eq!(rt; signalled(state)?, refused(32, 0));
     let unbound = Tcb {
         context: None,
         ..sender
     };
     state.set_tcb(SENDER, unbound);
-    assert_eq!(rt; signalled(&mut state)?, refused(32, 0));
+    assert_eq!(rt; signalled(state)?, refused(32, 0));
     state.set_tcb(SENDER, sender);
     let unconfigured = Context {
         share: None,
         ..first
     };
     state.set_context(SENDER_CONTEXT, unconfigured);
-    assert_eq!(rt; signalled(&mut state)?, refused(32, 0));
+    assert_eq!(rt; signalled(state)?, refused(32, 0));
     state.set_context(SENDER_CONTEXT, first);
-    assert_eq!(rt; signalled(&mut state)?, DONE);
+    assert_eq!(rt; signalled(state)?, DONE);
     Ok(())
 }
 
 #[test]
-fn who_waits_gets_the_word(rt: HostRuntime) -> Result<(), Fail> {
+fn threads_that_cannot_run_are_refused(rt: HostRuntime) -> Result<(), Fail> {
     let mut state = booted(&rt, rt.alloc())?;
-    let receiver = thread(&state, RECEIVER)?;
+    refuses_who_cannot_run(&rt, &mut state)
+}
+
+fn wakes_who_waits(rt: &impl Abort, state: &mut State) -> Result<(), Fail> {
+    let receiver = thread(state, RECEIVER)?;
     let waiting = Tcb {
         state: RunState::Waiting(NOTIFICATION),
         ..receiver
@@ -202,30 +225,44 @@ fn who_waits_gets_the_word(rt: HostRuntime) -> Result<(), Fail> {
     state.set_tcb(RECEIVER, waiting);
     state.push_waiting(NOTIFICATION, RECEIVER)?;
 
-    assert_eq!(rt; step(&mut state, signal(1, SENDER, 0)?), DONE);
-    let woken = thread(&state, RECEIVER)?;
+    assert_eq!(rt; step(state, signal(1, SENDER, 0)?), DONE);
+    let woken = thread(state, RECEIVER)?;
     assert_eq!(rt;
         (woken.state, woken.inbox),
         (RunState::Ready, Inbox::Word(4))
     );
     assert_eq!(rt; state.first_waiting(NOTIFICATION), None);
-    assert_eq!(rt; pending(&state), None);
+    assert_eq!(rt; pending(state), None);
     Ok(())
 }
 
 #[test]
-fn runs_append_outcomes_in_order(rt: HostRuntime) -> Result<(), Fail> {
+fn who_waits_gets_the_word(rt: HostRuntime) -> Result<(), Fail> {
     let mut state = booted(&rt, rt.alloc())?;
+    wakes_who_waits(&rt, &mut state)
+}
+
+fn appends_outcomes(
+    rt: &impl Abort,
+    state: &mut State,
+    outcomes: &mut Vec<Outcome>,
+) -> Result<(), Fail> {
     let events = [
         signal(1, SENDER, 0)?,
         poll(0, RECEIVER, 0)?,
         poll(0, RECEIVER, 0)?,
         signal(0, SENDER, 0)?,
     ];
-    let mut outcomes = Vec::new(rt.alloc());
     outcomes.push(Outcome::Blocked)?;
-    run(&mut state, &events, &mut outcomes)?;
+    run(state, &events, outcomes)?;
     let want = [Outcome::Blocked, DONE, word(4), word(0), refused(33, 0)];
     assert_eq!(rt; outcomes.as_slice(), want.as_slice());
     Ok(())
+}
+
+#[test]
+fn runs_append_outcomes_in_order(rt: HostRuntime) -> Result<(), Fail> {
+    let mut state = booted(&rt, rt.alloc())?;
+    let mut outcomes = Vec::new(rt.alloc());
+    appends_outcomes(&rt, &mut state, &mut outcomes)
 }

@@ -83,6 +83,29 @@ pub notification_badge :
 notification_badge end badge authority.Reset = refl
 notification_badge end badge _ = refl
 
+no_space : (detail : Detail) → gives detail authority.Space ≡ false
+no_space d.Untyped = refl
+no_space _ = refl
+
+no_derive : (detail : Detail) → gives detail authority.Derive ≡ false
+no_derive d.Untyped = refl
+no_derive _ = refl
+
+no_runs : (detail : Detail) → gives detail authority.Runs ≡ false
+no_runs d.Untyped = refl
+no_runs _ = refl
+
+no_holds : (detail : Detail) → gives detail authority.Holds ≡ false
+no_holds d.Untyped = refl
+no_holds _ = refl
+
+pub gives_no_structure : (detail : Detail) (k : Kind) → is_structural k ≡ true → gives detail k ≡ false
+gives_no_structure detail authority.Space e = no_space detail
+gives_no_structure detail authority.Derive e = no_derive detail
+gives_no_structure detail authority.Runs e = no_runs detail
+gives_no_structure detail authority.Holds e = no_holds detail
+gives_no_structure detail _ e = cc
+
 pub gives_some : (detail : Detail) → (k : Kind) × (is_structural k ≡ false) × (gives detail k ≡ true)
 gives_some d.Untyped = (authority.Control, refl, refl)
 gives_some (d.CNode _) = (authority.Control, refl, refl)

@@ -1,13 +1,13 @@
 -- The changes of the step are the primitive ones, and each primitive change leads to one machine.
-use Rattle.std.proofs.Common.{◌≡◌, ℕ, List, [], ◌∷◌, refl, sym, ap, ◌∙◌, arith}
-use Rattle.std.specs.Prelude.{Option, Some, None, Contains, if◌then◌else◌}
+use Rattle.std.proofs.Common.{◌≡◌, ℕ, ◌↔◌, List, [], ◌∷◌, refl, sym, ap, ◌∙◌, arith}
+use Rattle.std.specs.Prelude.{Option, Some, None, Contains, if◌then◌else◌, option_and_then, slice_get}
 use Rattle.base.specs.declared.ids.ObjId.{ObjId}
 use Rattle.machine.specs.declared.object.Notification.{Notification}
 use Rattle.machine.specs.declared.object.Object.{Object}
 use Rattle.machine.specs.declared.object.Object.TheVariants as o
 use Rattle.machine.specs.declared.thread.Tcb.{Tcb}
 use Rattle.machine.specs.Changes.{with_pending, without_first, first_waiting}
-use Rattle.machine.specs.Effects.Primitives.{KeepsSlots, NobodyWaits, Sets, Wakes}
+use Rattle.machine.specs.Effects.Primitives.{KeepsSlots, NobodyWaits, Sets, WaitsFirst, Wakes}
 use Rattle.machine.specs.Machine.{Machine, object_of, queue_of, with_object, with_queue, object_of-with_object}
 use Rattle.machine.specs.Machine.{object_of-with_queue, queue_of-with_object, queue_of-with_queue, words_of-with_object}
 use Rattle.machine.specs.Machine.{words_of-with_queue, cap_of-with_object, cap_of-with_queue, parent_of-with_object}
@@ -125,6 +125,17 @@ pub first_of :
     → first_waiting m id ≡ Some first
 unfolding first_waiting
 first_of m id first others waited = rw waited refl
+
+pub first_waits : (m : Machine) (id thread : ObjId) → (first_waiting m id ≡ Some thread) ↔ WaitsFirst m id thread
+unfolding first_waiting
+first_waits m id thread = (by_queue (queue_of m id) refl, λ waits. first_of m id thread waits.0 waits.1) where
+  by_queue :
+      (queue : Option (List ObjId)) → queue_of m id ≡ queue
+      → option_and_then (λ threads. slice_get threads 0) queue ≡ Some thread → WaitsFirst m id thread
+  by_queue None e is = cc
+  by_queue (Some []) e is = cc
+  by_queue (Some (first ∷ others)) e is =
+      let same : first ≡ thread = cc in (others, e ∙ ap (λ who. Some (who ∷ others)) same)
 
 pub without_first_of :
     (m : Machine) (id first : ObjId) (others : List ObjId) → queue_of m id ≡ Some (first ∷ others)

@@ -13,7 +13,7 @@ ghost use Rattle.machine.specs.Narrower.{HasMoreCaps, IsNarrower};
 
 /// A law: a capability with fewer rights gives no kind of authority that one with more doesn't give;
 /// badges and guards don't matter; and every capability in a CNode gives at least one kind of
-/// authority that is no mere structure.
+/// authority that is no mere structure, and none that is.
 pub fn rights_alone_decide_kinds()
     ensures fewer { (few many : Detail) (k : Kind)
         → IsNarrower few many
@@ -24,6 +24,7 @@ pub fn rights_alone_decide_kinds()
         × (gives (d.Notification (record end { badge = badge })) k ≡ gives (d.Notification end) k) }
     ensures guards { (one other : Guard) (k : Kind) → gives (d.CNode one) k ≡ gives (d.CNode other) k }
     ensures some { (detail : Detail) → (k : Kind) × (is_structural k ≡ false) × (gives detail k ≡ true) }
+    ensures no_structure { (detail : Detail) (k : Kind) → is_structural k ≡ true → gives detail k ≡ false }
 {}
 
 /// A law: a machine with more capabilities holds no less authority.

@@ -1,4 +1,4 @@
-ghost use Rattle.std.specs.Prelude.{◌≡◌, ◌≢◌, ℕ, List, [], ◌∷◌, ◌++◌, Option, Some, None, length};
+ghost use Rattle.std.specs.Prelude.{◌≡◌, ◌≢◌, ◌↔◌, ℕ, List, [], ◌∷◌, ◌++◌, Option, Some, None, length};
 ghost use Rattle.base.specs.declared.ids.ObjId.{ObjId};
 ghost use Rattle.base.specs.declared.ids.SlotRef.{SlotRef};
 ghost use Rattle.machine.specs.declared.call.Event.{Event};
@@ -9,7 +9,8 @@ ghost use Rattle.machine.specs.declared.object.Notification.{Notification};
 ghost use Rattle.machine.specs.declared.object.Object.{Object};
 ghost use Rattle.machine.specs.declared.object.Object.TheVariants as o;
 ghost use Rattle.machine.specs.declared.thread.Tcb.{Tcb};
-ghost use Rattle.machine.specs.Changes.{with_pending, with_tcb, with_context, with_waiting, without_first};
+ghost use Rattle.machine.specs.Changes.{with_pending, with_tcb, with_context, first_waiting, with_waiting, without_first};
+ghost use Rattle.machine.specs.Effects.Primitives.{WaitsFirst};
 ghost use Rattle.machine.specs.Machine.{Machine, empty_machine, object_of, queue_of, words_of, cap_of, parent_of, with_object};
 ghost use Rattle.machine.specs.Machine.{with_queue, with_cap, with_parent, with_new};
 ghost use Rattle.machine.specs.Outcomes.{IsRefused};
@@ -60,9 +61,11 @@ pub fn contents_change_where_they_are()
         → with_context m id context ≡ m }
 {}
 
-/// A law: a thread joins a queue at its end and leaves it at its front, and nothing else changes;
-/// where there is no queue, or nobody who could leave it, the machine stays as it is.
+/// A law: who waits first at an object stands at the front of its queue. A thread joins a queue at
+/// its end and leaves it at its front, and nothing else changes; where there is no queue, or nobody
+/// who could leave it, the machine stays as it is.
 pub fn queues_change_at_their_ends()
+    ensures first { (m : Machine) (id thread : ObjId) → (first_waiting m id ≡ Some thread) ↔ WaitsFirst m id thread }
     ensures joins { (m : Machine) (id thread : ObjId) (threads : List ObjId)
         → queue_of m id ≡ Some threads
         → HasQueue m (with_waiting m id thread) id (threads ++ thread ∷ []) }

@@ -1,4 +1,5 @@
 mod Names
+mod Reading
 mod Writing
 mod Stops
 mod Runs

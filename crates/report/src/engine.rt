@@ -1,4 +1,4 @@
-ghost use Rattle.std.specs.Prelude.{◌≡◌, ◌≢◌, ◌^◌, ◌<◌, ℕ, List, Ok, Err, IfOk, IfSome, IsErr, IsOkAnd};
+ghost use Rattle.std.specs.Prelude.{◌≡◌, ◌≢◌, ◌^◌, ◌<◌, ℕ, List, true, Ok, Err, IfOk, IfSome, IsErr, IsOkAnd};
 ghost use Rattle.std.specs.Io.KnownBytes.{Appends};
 ghost use Rattle.captext.specs.Policies.{read_policy_of};
 ghost use Rattle.captext.specs.Tables.{read_table_of};
@@ -72,6 +72,7 @@ pub fn run<T: Source, P: Source, S: Source, O: Sink>(
         (λ t p s. IfCannotWrite result ((text : List ℕ) × (status : ℕ) × answers.Answers t p s text status
         × AppendsBeginning (O.contents out.old) (O.contents out.new) text)) }
     ensures unwritten { IfUnwritten result (out.new ≡ out.old) }
+    ensures flushed { IfStatus result (λ status. O.is_flushed out.new ≡ true) }
 
     // A fault is told whatever the files after it are.
     ensures table_faulty { IfSome (T.remaining table.old) (λ t. (fault : Fault) → read_table_of t ≡ Err fault
@@ -112,6 +113,7 @@ fn write<O: Sink>(out: &mut O, answer: Result<Answer, NoMemory>) -> End
     ensures begun { IfCannotWrite result (IsOkAnd answer (λ answer.
         AppendsBeginning (O.contents out.old) (O.contents out.new) answer.text.items)) }
     ensures unwritten { IfUnwritten result (out.new ≡ out.old) }
+    ensures flushed { IfStatus result (λ status. O.is_flushed out.new ≡ true) }
     ensures memory { result ≡ End.NoMemory → IsErr answer }
     ensures out { TellsFailure result End.CannotWrite (O.failures out.old) (O.failures out.new) }
     ensures no_file { BlamesNoFile result }

@@ -212,12 +212,17 @@ fn fill_slots(rt: &impl Abort, table: &mut Table) -> Result<(), AllocError> {
     fill(rt, table, slot(RECEIVER, 0), RECEIVER_SPACE, SPACE)
 }
 
+fn build(rt: &impl Abort, table: &mut Table) -> Result<(), Fail> {
+    declare_objects(rt, table)?;
+    fill_slots(rt, table)?;
+    bind(rt, table, SENDER, SENDER_CONTEXT)?;
+    bind(rt, table, RECEIVER, RECEIVER_CONTEXT)?;
+    Ok(())
+}
+
 // A notification from one label to another, on two cores.
 pub fn two_cores(rt: &impl Abort, alloc: Global) -> Result<Table, Fail> {
     let mut table = Table::new(alloc);
-    declare_objects(rt, &mut table)?;
-    fill_slots(rt, &mut table)?;
-    bind(rt, &mut table, SENDER, SENDER_CONTEXT)?;
-    bind(rt, &mut table, RECEIVER, RECEIVER_CONTEXT)?;
+    build(rt, &mut table)?;
     Ok(table)
 }

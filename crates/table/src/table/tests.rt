@@ -130,26 +130,29 @@ fn space(size: u8, value: u64) -> Detail {
     Detail::CNode(Guard { size, value })
 }
 
-fn small(rt: &impl Abort, alloc: Global) -> Result<Table, Fail> {
-    let mut table = Table::new(alloc);
-    declare_label(rt, &mut table, "a")?;
-    declare_label(rt, &mut table, "b")?;
+fn build(rt: &impl Abort, table: &mut Table) -> Result<(), Fail> {
+    declare_label(rt, table, "a")?;
+    declare_label(rt, table, "b")?;
     let a = table.label_named("a").ok_or("a")?;
     let b = table.label_named("b").ok_or("b")?;
-    add_holders(rt, &mut table, a)?;
-    add_others(rt, &mut table, b)?;
-    fill(rt, &mut table, slot(0, 0), ObjId(3), Detail::Untyped)?;
-    fill(rt, &mut table, slot(0, 1), ObjId(0), space(62, 0))?;
-    fill(rt, &mut table, slot(1, 0), ObjId(0), space(62, 0))?;
+    add_holders(rt, table, a)?;
+    add_others(rt, table, b)?;
+    fill(rt, table, slot(0, 0), ObjId(3), Detail::Untyped)?;
+    fill(rt, table, slot(0, 1), ObjId(0), space(62, 0))?;
+    fill(rt, table, slot(1, 0), ObjId(0), space(62, 0))?;
     let thread = ObjId(1);
     let context = ObjId(2);
-    bind(rt, &mut table, Binding { thread, context })?;
+    bind(rt, table, Binding { thread, context })?;
+    Ok(())
+}
+
+fn small(rt: &impl Abort, alloc: Global) -> Result<Table, Fail> {
+    let mut table = Table::new(alloc);
+    build(rt, &mut table)?;
     Ok(table)
 }
 
-#[test]
-fn names(rt: HostRuntime) -> Result<(), Fail> {
-    let table = small(&rt, rt.alloc())?;
+fn has_names(rt: &impl Abort, table: &Table) -> Result<(), Fail> {
     assert_eq!(rt; table.label_count(), 2);
     let b = table.label_named("b").ok_or("b")?;
     assert_eq!(rt; b.number(), 1);
@@ -162,8 +165,12 @@ fn names(rt: HostRuntime) -> Result<(), Fail> {
 }
 
 #[test]
-fn objects(rt: HostRuntime) -> Result<(), Fail> {
+fn names(rt: HostRuntime) -> Result<(), Fail> {
     let table = small(&rt, rt.alloc())?;
+    has_names(&rt, &table)
+}
+
+fn has_objects(rt: &impl Abort, table: &Table) -> Result<(), Fail> {
     assert_eq!(rt; table.object_count(), 5);
     assert_eq!(rt; table.objects().len(), 5);
     assert_eq!(rt; table.slot_count(), 5);
@@ -176,8 +183,12 @@ fn objects(rt: HostRuntime) -> Result<(), Fail> {
 }
 
 #[test]
-fn caps(rt: HostRuntime) -> Result<(), Fail> {
+fn objects(rt: HostRuntime) -> Result<(), Fail> {
     let table = small(&rt, rt.alloc())?;
+    has_objects(&rt, &table)
+}
+
+fn has_caps(rt: &impl Abort, table: &Table) -> Result<(), Fail> {
     assert_eq!(rt; table.caps().len(), 3);
     let last = table.last_cap().ok_or("last")?;
     assert_eq!(rt; last.slot, slot(1, 0));
@@ -190,8 +201,12 @@ fn caps(rt: HostRuntime) -> Result<(), Fail> {
 }
 
 #[test]
-fn bindings(rt: HostRuntime) -> Result<(), Fail> {
+fn caps(rt: HostRuntime) -> Result<(), Fail> {
     let table = small(&rt, rt.alloc())?;
+    has_caps(&rt, &table)
+}
+
+fn has_bindings(rt: &impl Abort, table: &Table) -> Result<(), Fail> {
     assert_eq!(rt; table.bindings().len(), 1);
     let last = table.last_binding().ok_or("last")?;
     assert_eq!(rt; last.thread, ObjId(1));
@@ -200,6 +215,12 @@ fn bindings(rt: HostRuntime) -> Result<(), Fail> {
     assert!(rt; table.is_bound(ObjId(2)));
     assert!(rt; table.is_above_bindings(ObjId(2)));
     Ok(())
+}
+
+#[test]
+fn bindings(rt: HostRuntime) -> Result<(), Fail> {
+    let table = small(&rt, rt.alloc())?;
+    has_bindings(&rt, &table)
 }
 
 fn endpoint(address: u64) -> Object {
@@ -249,9 +270,7 @@ fn fits_node(table: &Table, size: u8, value: u64) -> bool {
     })
 }
 
-#[test]
-fn filling(rt: HostRuntime) -> Result<(), Fail> {
-    let table = small(&rt, rt.alloc())?;
+fn tells_what_fits(rt: &impl Abort, table: &Table) {
     for (holder, index, there) in [(0, 3, true), (0, 4, false), (1, 1, false), (5, 0, false)] {
         assert_eq!(rt;
             table.declares_slot(slot(holder, index)),
@@ -260,7 +279,7 @@ fn filling(rt: HostRuntime) -> Result<(), Fail> {
         );
     }
     for (size, value, fits) in [(62, 1, true), (63, 0, false), (1, 2, false), (0, 1, false)] {
-        assert_eq!(rt; fits_node(&table, size, value), fits, "{size} {value}");
+        assert_eq!(rt; fits_node(table, size, value), fits, "{size} {value}");
     }
     for (index, above) in [(0, false), (1, true)] {
         assert_eq!(rt; table.is_above_caps(slot(1, index)), above, "{index}");
@@ -268,5 +287,11 @@ fn filling(rt: HostRuntime) -> Result<(), Fail> {
     for (object, taken) in [(0, true), (1, false), (3, true)] {
         assert_eq!(rt; table.has_cap_to(ObjId(object)), taken, "{object}");
     }
+}
+
+#[test]
+fn filling(rt: HostRuntime) -> Result<(), Fail> {
+    let table = small(&rt, rt.alloc())?;
+    tells_what_fits(&rt, &table);
     Ok(())
 }
