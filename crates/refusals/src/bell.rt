@@ -1,8 +1,11 @@
 //! The system of these tests, a thread with a notification of its own: its texts, and what they say,
 //! worked by hand.
 use base::{CoreNo, Edge, Kind, Label, ObjId};
-use machine::{Answer, Call, Event, Outcome};
+use machine::{Answer, Call, Event, Object, Outcome};
+use objects::State;
+use std::process::Abort;
 use std::test::Fail;
+use table::Table;
 
 pub const TABLE: &str = "\
 confine-table 1
@@ -43,6 +46,12 @@ end
 
 /// The number of the thread.
 const THREAD: ObjId = ObjId(1);
+
+/// The number of the notification.
+const NOTIFICATION: ObjId = ObjId(2);
+
+/// The number of the context.
+const CONTEXT: ObjId = ObjId(3);
 
 fn label() -> Result<Label, Fail> {
     Ok(Label::new(0).ok_or("label")?)
@@ -90,3 +99,27 @@ pub const DONE: Outcome = Outcome::Done(Answer::Nothing);
 
 /// What a poll answers after it.
 pub const WORD: Outcome = Outcome::Done(Answer::Word(4));
+
+/// Asserts that a table is the system's.
+pub fn is_the_system(rt: &impl Abort, table: &Table) -> Result<(), Fail> {
+    assert_eq!(rt; table.object_count(), 4);
+    assert_eq!(rt; table.object_named("n"), Some(NOTIFICATION));
+    let last = table.last_cap().ok_or("cap")?;
+    assert_eq!(rt; last.cap.object, ObjId(0));
+    let bound = table.last_binding().ok_or("binding")?;
+    assert_eq!(rt; (bound.thread, bound.context), (THREAD, CONTEXT));
+    Ok(())
+}
+
+/// Asserts that a state is that of the system before a call.
+pub fn is_booted(rt: &impl Abort, state: &State) {
+    assert_eq!(rt; state.next_id(), 4);
+    assert!(rt; is_unsignalled(state));
+}
+
+fn is_unsignalled(state: &State) -> bool {
+    match state.object(NOTIFICATION) {
+        Some(Object::Notification(notification)) => notification.pending.is_none(),
+        _ => false,
+    }
+}

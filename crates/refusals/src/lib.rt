@@ -19,3 +19,9 @@ mod logs;
 mod memory;
 #[cfg(test)]
 mod readers;
+#[cfg(test)]
+mod states;
+#[cfg(test)]
+mod tables;
+#[cfg(test)]
+mod verdicts;

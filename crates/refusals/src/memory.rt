@@ -1,5 +1,6 @@
 //! Allocations of a test's own, and how a test ends that met a refusal.
 use base::Refusal;
+use captext::Fault;
 use std::alloc::Global;
 use std::test::Fail;
 
@@ -7,6 +8,12 @@ use std::test::Fail;
 pub const NO_MEMORY: Refusal = Refusal {
     code: 40,
     detail: 0,
+};
+
+/// The fault of a text that there was no memory to read: 40, at no line.
+pub const UNREAD: Fault = Fault {
+    number: 40,
+    line: 0,
 };
 
 /// Makes so many allocations, and gives them back.

@@ -1,16 +1,9 @@
 //! `evtext::read_script`.
 use crate::bell::{SCRIPT, events};
-use crate::memory::{refused, spend};
-use captext::Fault;
+use crate::memory::{UNREAD, refused, spend};
 use evtext::read_script;
 use std::process::Abort;
 use std::test::Fail;
-
-/// The fault of a text that there was no memory to read: 40, at no line.
-const NO_MEMORY: Fault = Fault {
-    number: 40,
-    line: 0,
-};
 
 fn reads_the_script<R: Abort + AllocGlobal>(rt: &R, count: u64) -> Result<(), Fail> {
     spend(rt.alloc(), count)?;
@@ -21,7 +14,7 @@ fn reads_the_script<R: Abort + AllocGlobal>(rt: &R, count: u64) -> Result<(), Fa
             Ok(())
         }
         Err(fault) => {
-            assert_eq!(rt; fault, NO_MEMORY);
+            assert_eq!(rt; fault, UNREAD);
             Err(refused())
         }
     }
