@@ -1,28 +1,39 @@
 //! The program `confine`: its command line, its files and its exit status.
 #![tactic(auto)]
 
-ghost use Rattle.std.specs.Prelude.{◌≡◌};
+ghost use Rattle.std.specs.Prelude.{◌≡◌, ◌≤◌, IfOk, OnErr, map};
+ghost use Rattle.std.specs.String.{string_bytes};
 ghost use Rattle.report.specs.Ends.{status_of};
+ghost use Rattle.confine.specs.CommandLine.{Asks, FileNames};
 
 mod files;
 mod request;
 
 use clap::error::ErrorKind;
-use files::open;
-use report::{Counted, End};
+use files::run_on;
+use report::End;
 use request::{Request, read_request};
 use std::env::Env;
 use std::process::ExitCode;
 use std::rt::Files;
-use std::{env, io};
+use std::{env, fs, io};
 
 fn main(rt: HostRuntime) -> ExitCode {
-    ExitCode::from(answer(&rt))
+    ExitCode::from(answer(&rt, words(&rt)))
 }
 
-/// Reads the command line and does what it asks for; gives the exit status.
-fn answer<R: Env + Files + Print + Eprint + AllocGlobal>(rt: &R) -> u8 {
-    let words = match words(rt) {
+/// The words of the command line, of which the first is the program's name.
+fn words<R: Env + AllocGlobal>(rt: &R) -> io::Result<Vec<String>> {
+    Ok(env::args(rt)?.collect(rt.alloc())?)
+}
+
+/// Does what the words of the command line ask for; gives the exit status.
+fn answer<R: Files + Print + Eprint + AllocGlobal>(rt: &R, words: io::Result<Vec<String>>) -> u8
+    ensures unread { OnErr words (result ≡ 2) }
+    ensures misuse { IfOk words (λ words. ((files : FileNames) → ¬ Asks (map string_bytes words.items) files) → result ≡ 2) }
+    ensures exit { result ≤ 2 }
+{
+    let words = match words {
         Ok(words) => words,
         Err(error) if error.kind() == io::ErrorKind::OutOfMemory => return tell(rt, End::NoMemory),
         Err(_) => return misuse(rt, "confine: an argument isn't UTF-8\n"),
@@ -34,24 +45,25 @@ fn answer<R: Env + Files + Print + Eprint + AllocGlobal>(rt: &R) -> u8 {
     }
 }
 
-/// The words of the command line, of which the first is the program's name.
-fn words<R: Env + AllocGlobal>(rt: &R) -> io::Result<Vec<String>> {
-    Ok(env::args(rt)?.collect(rt.alloc())?)
-}
-
 /// Does what is asked for, on the files that it names.
-fn serve<R: Files + Print + AllocGlobal>(rt: &R, request: Request<'_>) -> End {
-    let mut out = Counted::new(io::writer(rt));
+fn serve<R: Files + Print + AllocGlobal>(rt: &R, request: Request<'_>) -> End
+    ensures { status_of result ≤ 2 }
+{
     match request {
         Request::Run {
             table,
             policy,
             script,
         } => {
-            let mut table = open(rt, table);
-            let mut policy = open(rt, policy);
-            let mut script = open(rt, script);
-            report::run(rt.alloc(), &mut table, &mut policy, &mut script, &mut out)
+            let out = io::writer(rt);
+            let (end, _) = run_on(
+                rt.alloc(),
+                fs::open(rt, table),
+                fs::open(rt, policy),
+                fs::open(rt, script),
+                out,
+            );
+            end
         }
     }
 }

@@ -1,12 +1,14 @@
-ghost use Rattle.std.specs.Prelude.{◌≡◌, IfSome, Some, codes};
-ghost use Rattle.clap.specs.Matches.{found_of, subcommand_name_of};
-ghost use Rattle.confine.specs.Requests.{IsRun};
+ghost use Rattle.std.specs.Prelude.{◌≡◌, ◌∷◌, [], Some, false, IfErr, IfOk, map, option_map};
+ghost use Rattle.clap.specs.Words.{Text, app_of, first_value, found_of, items_of, kind_of, rule_of, subcommand_rows_of};
+ghost use Rattle.std.specs.String.{string_bytes};
+ghost use Rattle.confine.specs.CommandLine.{ArePlain, Asks, FileNames, confine_app, file_rule, files_in, files_of, files_run, run_app, run_words};
 
 use clap::error::ErrorKind;
 use clap::{Arg, ArgAction, ArgMatches, Command, Error};
 use std::alloc::{AllocError, Global};
 
 /// What the command line asks for.
+#[derive(Clone, Copy)]
 pub enum Request<'a> {
     /// Checks a table against a policy, and runs a script where it is accepted.
     Run {
@@ -113,7 +115,15 @@ With a table that stops after its second line it ends with status 2:
 ";
 
 /// Reads the command line; an `Err` is for its user, and so is a request for help.
-pub fn read_request<'a>(alloc: Global, words: &'a [String]) -> Result<Request<'a>, Error> {
+pub fn read_request<'a>(alloc: Global, words: &'a [String]) -> Result<Request<'a>, Error>
+    ensures ok { IfOk result (λ request. Asks (map string_bytes words.now) (files_of request)) }
+    ensures err { IfErr result (λ error. (files : FileNames) → Asks (map string_bytes words.now) files
+        → kind_of error ≡ ErrorKind.OutOfMemory) }
+
+    // `PROGRAM run TABLE POLICY SCRIPT` is read as a run of these files.
+    ensures run { (program : Text) (files : FileNames) → map string_bytes words.now ≡ run_words program files → ArePlain files
+        → IfOk result (λ request. files_of request ≡ files) × IfErr result (λ error. kind_of error ≡ ErrorKind.OutOfMemory) }
+{
     let mut command = command(alloc)?;
     let matches = command.try_get_matches_from_mut(words)?;
     match request_of(&matches) {
@@ -124,7 +134,7 @@ pub fn read_request<'a>(alloc: Global, words: &'a [String]) -> Result<Request<'a
 
 // What the subcommand asks for.
 fn request_of<'a>(matches: &ArgMatches<'a>) -> Option<Request<'a>>
-    ensures { IfSome result (λ request. subcommand_name_of matches.now ≡ Some (codes "run")) }
+    ensures { option_map files_of result ≡ files_run (subcommand_rows_of matches.now) }
 {
     match matches.subcommand()? {
         ("run", files) => run_of(files),
@@ -134,7 +144,7 @@ fn request_of<'a>(matches: &ArgMatches<'a>) -> Option<Request<'a>>
 
 // A run, where all three files are named.
 fn run_of<'a>(files: &ArgMatches<'a>) -> Option<Request<'a>>
-    ensures { IsRun (found_of files.now) result }
+    ensures { option_map files_of result ≡ files_in (first_value (found_of files.now)) }
 {
     Some(Request::Run {
         table: files.get_str("table")?,
@@ -143,7 +153,9 @@ fn run_of<'a>(files: &ArgMatches<'a>) -> Option<Request<'a>>
     })
 }
 
-fn command<'a>(alloc: Global) -> Result<Command<'a>, AllocError> {
+fn command<'a>(alloc: Global) -> Result<Command<'a>, AllocError>
+    ensures { IfOk result (λ command. app_of command ≡ confine_app) }
+{
     Command::new(alloc, "confine")
         .bin_name("confine")?
         .about(ABOUT)
@@ -152,7 +164,9 @@ fn command<'a>(alloc: Global) -> Result<Command<'a>, AllocError> {
         .subcommand(run_command(alloc)?)
 }
 
-fn run_command<'a>(alloc: Global) -> Result<Command<'a>, AllocError> {
+fn run_command<'a>(alloc: Global) -> Result<Command<'a>, AllocError>
+    ensures { IfOk result (λ command. app_of command ≡ run_app) }
+{
     Command::new(alloc, "run")
         .about(ABOUT_RUN)
         .after_help(EXAMPLE)
@@ -161,7 +175,12 @@ fn run_command<'a>(alloc: Global) -> Result<Command<'a>, AllocError> {
         .arg(file(alloc, "script", "SCRIPT", SCRIPT))
 }
 
-fn file<'a>(alloc: Global, id: &'a str, name: &'a str, help: &'a str) -> Arg<'a> {
+// The argument that names a file.
+fn file<'a>(alloc: Global, id: &'a str, name: &'a str, help: &'a str) -> Arg<'a>
+    ensures rule { rule_of result ≡ file_rule id.now }
+    ensures local { result.global ≡ false }
+    ensures told { (items_of result.val_names ≡ name.entry ∷ []) × (result.help ≡ Some help.entry) }
+{
     Arg::new(alloc, id)
         .value_name(name)
         .help(help)

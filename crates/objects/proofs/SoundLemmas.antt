@@ -1,13 +1,13 @@
 -- What is true of each state stays true under each change, and what contracts see of the state after it.
 use Rattle.std.proofs.Common.{◌≡◌, ℕ, ◌+◌, ◌<◌, ◌^◌, ◌⊎◌, List, [], ◌∷◌, ◌++◌, Bool, true, false, cond, length, refl, sym, ap}
 use Rattle.std.proofs.Common.{subst, ◌∙◌, arith, inl, inr}
-use Rattle.std.specs.Prelude.{Result, Ok, Err, OnOk, OnErr, drop, Option, Some, None, is_some, IsSome, IfSome, option_map}
+use Rattle.std.specs.Prelude.{Result, Ok, Err, OnOk, OnErr, drop, Option, Some, None, is_some, IsSome, IfSome, option_map, IsOk}
 use Rattle.std.specs.Prelude.{option_and_then, slice_get, IsTrue}
 use Rattle.std.specs.Ordering.{nat_cmp}
 use Rattle.std.specs.BTreeMap as tree
 use Rattle.std.specs.BTreeMap.{BTreeMap}
 use Rattle.std.proofs.lemmas.Bool.{false≢true, ltb-true, cases_eq}
-use Rattle.std.proofs.lemmas.Option.{same_Some}
+use Rattle.std.proofs.lemmas.Option.{none-some, same_Some}
 use Rattle.std.proofs.lemmas.List.{length-replicate}
 use Rattle.std.specs.Map.{lookup}
 use Rattle.slab.specs.Slab as slab
@@ -433,6 +433,15 @@ pub push_sound :
     → IsSound (record s { entries = entries })
 push_sound s sound id thread entries (Ok done) ok err = rw ok (IsSound-queue s sound id (λ threads. threads ++ thread ∷ []))
 push_sound s sound id thread entries (Err e) ok err = rw err sound
+
+-- where nobody can wait there is no entry
+pub unqueued :
+    {E : Type 0} (s : Inside) (id : ObjId) (r : Result (Unit {0}) E) → (entry_of s.places s.entries id ≡ None → IsOk r)
+    → queue_of (machine_of s) id ≡ None → IsOk r
+unqueued s id r done none = done (no_entry (entry_of s.places s.entries id) (sym ((tells-machine_of s).queues id) ∙ none)) where
+  no_entry : (o : Option Entry) → queue_at o ≡ None → o ≡ None
+  no_entry None none = refl
+  no_entry (Some e) some = absurd (none-some e.queue (sym some))
 
 pub pushed :
     {E : Type 0} (s : Inside) → IsSound s → (id thread : ObjId) (entries : Slab Entry) (r : Result (Unit {0}) E)

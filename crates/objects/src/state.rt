@@ -40,9 +40,9 @@ impl State {
     ghost use Rattle.base.specs.declared.ids.ObjId.{ObjId as Id};
     ghost use Rattle.machine.specs.declared.object.CNode.{CNode};
     ghost use Rattle.machine.specs.declared.object.Object.TheVariants as o;
-    ghost use Rattle.std.specs.Prelude.{◌≡◌, ◌<◌, ◌≤◌, ◌^◌, IsTrue, IfOk, OnErr, OnOk, option_copied, option_and_then, slice_get};
+    ghost use Rattle.std.specs.Prelude.{◌≡◌, ◌<◌, ◌≤◌, ◌^◌, None, IsOk, IsTrue, IfOk, OnErr, OnOk, option_copied, option_and_then, slice_get};
     ghost use Rattle.std.specs.Prelude.{IsSome, IfSome};
-    ghost use Rattle.machine.specs.Machine.{empty_machine, object_of, cap_of, parent_of, words_of, has_slot, with_new, with_cap};
+    ghost use Rattle.machine.specs.Machine.{empty_machine, object_of, cap_of, parent_of, queue_of, words_of, has_slot, with_new, with_cap};
     ghost use Rattle.machine.specs.Machine.{with_parent, with_object};
     ghost use Rattle.machine.specs.Objects.{slot_count};
     ghost use Rattle.machine.specs.Changes.{first_waiting, with_pending, with_tcb, with_context, with_waiting, without_first};
@@ -205,6 +205,7 @@ impl State {
     pub fn push_waiting(&mut self, id: ObjId, thread: ObjId) -> Result<(), AllocError>
         ensures ok { OnOk result (self.new ≡ with_waiting self.old id thread) }
         ensures err { OnErr result (self.new ≡ self.old) }
+        ensures nowhere { queue_of self.old id ≡ None → IsOk result }
     {
         store::push(&self.places, &mut self.entries, id, thread)
     }

@@ -1,6 +1,6 @@
 //! The entry of an object, found by its number: a map from numbers to places, and the entries at
 //! these.
-ghost use Rattle.std.specs.Prelude.{◌≡◌, option_copied, option_map, option_and_then, slice_get, OnOk, OnErr};
+ghost use Rattle.std.specs.Prelude.{◌≡◌, None, IsOk, option_copied, option_map, option_and_then, slice_get, OnOk, OnErr};
 ghost use Rattle.objects.specs.Entries.{entry_of, cap_in, parent_in, with_entry, put_cap_in, set_parent_in, replace_in, push_in};
 ghost use Rattle.objects.specs.Entries.{pop_in, new_entry, AddsEntry, SameEntries};
 
@@ -127,6 +127,7 @@ pub fn push(
 ) -> Result<(), AllocError>
     ensures ok { OnOk result (entries.new ≡ with_entry places.now entries.old id (push_in thread)) }
     ensures err { OnErr result (entries.new ≡ entries.old) }
+    ensures nowhere { entry_of places.now entries.old id ≡ None → IsOk result }
 {
     if let Some(place) = places.get(&id.0) {
         if let Some(entry) = entries.get_mut(*place) {

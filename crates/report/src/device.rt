@@ -48,8 +48,8 @@ pub trait Source {
         ensures failed { result ≡ Err ReadError.Failed → failures self.new ≡ failures self.old + 1 }
         ensures sound { result ≢ Err ReadError.Failed → failures self.new ≡ failures self.old };
 
-    #[tactic(auto, using(crate::proofs::Reading::none_read, crate::proofs::Reading::more_read, crate::proofs::Reading::same_read, crate::proofs::Reading::all_read))]
     /// Reads all the bytes that are left.
+    #[tactic(auto, using(crate::proofs::Reading::none_read, crate::proofs::Reading::more_read, crate::proofs::Reading::same_read, crate::proofs::Reading::all_read))]
     final fn read_whole(&mut self, alloc: Global) -> Result<Vec<u8>, ReadError>
     where
         Self: Sized,
@@ -115,8 +115,8 @@ pub trait Sink {
         ensures failed { OnErr result (failures self.new ≡ failures self.old + 1) }
         ensures sound { OnOk result (failures self.new ≡ failures self.old) };
 
-    #[tactic(auto, using(crate::proofs::Writing::more_written, crate::proofs::Writing::more_fits, crate::proofs::Writing::same_written, crate::proofs::Writing::some_written, crate::proofs::Writing::all_written))]
     /// Writes all of `bytes`, and flushes. Where the device fails, a beginning of them was written.
+    #[tactic(auto, using(crate::proofs::Writing::more_written, crate::proofs::Writing::more_fits, crate::proofs::Writing::same_written, crate::proofs::Writing::some_written, crate::proofs::Writing::all_written))]
     final fn write_whole(&mut self, bytes: &[u8]) -> Result<(), WriteError>
     where
         Self: Sized,

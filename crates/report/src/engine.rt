@@ -1,4 +1,4 @@
-ghost use Rattle.std.specs.Prelude.{◌≡◌, ◌≢◌, ◌^◌, ◌<◌, ℕ, List, true, Ok, Err, IfOk, IfSome, IsErr, IsOkAnd};
+ghost use Rattle.std.specs.Prelude.{◌≡◌, ◌≢◌, ◌^◌, ◌<◌, ◌≤◌, ℕ, List, true, Ok, Err, IfOk, IfSome, IsErr, IsOkAnd};
 ghost use Rattle.std.specs.Io.KnownBytes.{Appends};
 ghost use Rattle.captext.specs.Policies.{read_policy_of};
 ghost use Rattle.captext.specs.Tables.{read_table_of};
@@ -73,6 +73,7 @@ pub fn run<T: Source, P: Source, S: Source, O: Sink>(
         × AppendsBeginning (O.contents out.old) (O.contents out.new) text)) }
     ensures unwritten { IfUnwritten result (out.new ≡ out.old) }
     ensures flushed { IfStatus result (λ status. O.is_flushed out.new ≡ true) }
+    ensures exit { IfStatus result (λ status. status ≤ 2) }
 
     // A fault is told whatever the files after it are.
     ensures table_faulty { IfSome (T.remaining table.old) (λ t. (fault : Fault) → read_table_of t ≡ Err fault

@@ -1,10 +1,7 @@
 -- The extent goes behind those that start below its end.
-use Rattle.std.proofs.Common.{◌≡◌, true, subst, sym, ◌∙◌}
+use Rattle.std.proofs.Common.{◌≡◌, true}
 use Rattle.std.proofs.lemmas.List.Sorted.{IsPermutation-insert}
-use Rattle.std.specs.List.{insert}
-use Rattle.std.specs.List.Sorted.{IsPermutation}
 use Rattle.std.specs.Result.{is_ok}
-use Rattle.table.specs.Placement.{AreApart}
 use Rattle.table.proofs.ApartLemmas.{apart_with}
 use Rattle.table.proofs.extent.insert_within.Goals as goal
 

@@ -1,12 +1,9 @@
 -- The new object's extent goes among the others', none of which it meets.
-use Rattle.std.proofs.Common.{arith, ◌≡◌, ◌++◌, ◌∷◌, [], Bool, true, false, not, map, ap, sym, subst, ◌∙◌}
+use Rattle.std.proofs.Common.{arith, ◌≡◌, Bool, true, false, not, ap, ◌∙◌}
 use Rattle.std.proofs.lemmas.Bool.{false≢true}
 use Rattle.std.proofs.lemmas.Grind.{common_steps}
 use Rattle.std.specs.List.{list_any}
-use Rattle.std.specs.List.Sorted.{IsPermutation}
-use Rattle.machine.specs.declared.layout.Initial.{Initial}
-use Rattle.table.specs.declared.extent.Extent.{Extent}
-use Rattle.table.specs.Inventory.{Inventory, extent_of}
+use Rattle.table.specs.Inventory.{Inventory}
 use Rattle.table.specs.Placement.{meets, touches}
 use Rattle.table.proofs.ExtentLemmas.{extents_with, meets_any-extents}
 use Rattle.table.proofs.objects.Objects.add.Goals as goal
