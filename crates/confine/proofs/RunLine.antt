@@ -6,7 +6,7 @@ use Rattle.std.specs.Str.{bytes_eq}
 use Rattle.clap.specs.Words.{Rule, Shape, Text, built, fault_of, first_of, kind_of, subcommand_of}
 use Rattle.clap.specs.declared.error.Error.{Error}
 use Rattle.clap.specs.declared.error.kind.ErrorKind.TheVariants.{OutOfMemory}
-use Rattle.confine.specs.declared.request.Request.{Request}
+use Rattle.confine.specs.declared.request.Run.{Run}
 use Rattle.clap.specs.Walk.{Held, Walk, answers_to, arg_by_index, idle, nothing_held, rows_after, to_positional, value, walk, walk_from, walked}
 use Rattle.clap.specs.Simple.{label_of, names_of}
 use Rattle.clap.specs.Kinds.{or_else}
@@ -97,11 +97,11 @@ module _ (program : Text) (files : FileNames) (plain : ArePlain files) where
   run_asked = (whole, met)
 
 -- what is read of the words of a run
-pub run_read : (r : Result Request Error) (words : List Text) → IfOk r (λ request. Asks words (files_of request))
+pub run_read : (r : Result Run Error) (words : List Text) → IfOk r (λ run. Asks words (files_of run))
     → IfErr r (λ e. (files : FileNames) → Asks words files → kind_of e ≡ OutOfMemory)
     → (program : Text) (files : FileNames) → words ≡ run_words program files → ArePlain files
-    → IfOk r (λ request. files_of request ≡ files) × IfErr r (λ e. kind_of e ≡ OutOfMemory)
-run_read (Ok request) words asked refused program files are plain =
-    let same : Some (files_of request) ≡ Some files = sym asked.1 ∙ rw are (met program files plain) in
+    → IfOk r (λ run. files_of run ≡ files) × IfErr r (λ e. kind_of e ≡ OutOfMemory)
+run_read (Ok run) words asked refused program files are plain =
+    let same : Some (files_of run) ≡ Some files = sym asked.1 ∙ rw are (met program files plain) in
     (ap (λ o. unwrap_or o files) same, tt)
 run_read (Err e) words asked refused program files are plain = (tt, refused files (rw are (run_asked program files plain)))

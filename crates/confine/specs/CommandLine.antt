@@ -6,8 +6,7 @@ use Rattle.clap.specs.Lexer.{strip_byte}
 use Rattle.clap.specs.Words.{App, Row, Rule, Text, fault_of, first_of, new_app, new_rule, subcommand_of, with_rule, with_subcommand}
 use Rattle.clap.specs.Simple.{on_top}
 use Rattle.clap.specs.declared.builder.action.ArgAction.TheVariants.{Set}
-use Rattle.confine.specs.declared.request.Request.{Request}
-use Rattle.confine.specs.declared.request.Request.TheVariants.{Run}
+use Rattle.confine.specs.declared.request.Run.{Run}
 
 -- an argument that names a file: one word, which has to be there
 abbrev pub file_rule : Text → Rule
@@ -29,9 +28,9 @@ pub record FileNames : Type 0 where
   pub policy : Text
   pub script : Text
 
--- the files that a request names
-abbrev pub files_of : Request → FileNames
-files_of (Run table policy script) = record { table = table.now; policy = policy.now; script = script.now }
+-- the files of a run
+abbrev pub files_of : Run → FileNames
+files_of run = record { table = run.table.now; policy = run.policy.now; script = run.script.now }
 
 -- the files among what was found for the arguments of `run`, where all three are there
 abbrev pub files_in : (Text → Option Text) → Option FileNames

@@ -4,7 +4,9 @@
 ghost use Rattle.std.specs.Prelude.{◌≡◌, ◌≤◌, IfOk, OnErr, map};
 ghost use Rattle.std.specs.String.{string_bytes};
 ghost use Rattle.report.specs.Ends.{status_of};
-ghost use Rattle.confine.specs.CommandLine.{Asks, FileNames};
+ghost use Rattle.std.specs.Fn.{FnReturnsAt};
+ghost use Rattle.confine.specs.CommandLine.{Asks, FileNames, files_of};
+ghost use Rattle.confine.specs.Opening.{IsStatusOfRun, Serves};
 
 mod files;
 mod request;
@@ -12,14 +14,15 @@ mod request;
 use clap::error::ErrorKind;
 use files::run_on;
 use report::End;
-use request::{Request, read_request};
+use request::{Run, read_request};
 use std::env::Env;
+use std::io::Read;
 use std::process::ExitCode;
-use std::rt::Files;
 use std::{env, fs, io};
 
 fn main(rt: HostRuntime) -> ExitCode {
-    ExitCode::from(answer(&rt, words(&rt)))
+    let opener = |path: &str| fs::open(&rt, path);
+    ExitCode::from(answer(&rt, words(&rt), opener))
 }
 
 /// The words of the command line, of which the first is the program's name.
@@ -27,10 +30,18 @@ fn words<R: Env + AllocGlobal>(rt: &R) -> io::Result<Vec<String>> {
     Ok(env::args(rt)?.collect(rt.alloc())?)
 }
 
-/// Does what the words of the command line ask for; gives the exit status.
-fn answer<R: Files + Print + Eprint + AllocGlobal>(rt: &R, words: io::Result<Vec<String>>) -> u8
+/// Does what the words of the command line ask for, on files that `opener` opens by their names; gives
+/// the exit status.
+fn answer<R, F, O>(rt: &R, words: io::Result<Vec<String>>, opener: O) -> u8
+where
+    R: Print + Eprint + AllocGlobal,
+    F: Read + Drop,
+    O: Fn(&str) -> io::Result<F> + Drop,
+    requires { O.IsAlwaysCallable opener }
+    ensures run { IfOk words (λ words. (names : FileNames) → Asks (map string_bytes words.items) names
+        → IsStatusOfRun (FnReturnsAt O.Fn opener) F.remaining names result) }
+    ensures misuse { IfOk words (λ words. ((names : FileNames) → ¬ Asks (map string_bytes words.items) names) → result ≡ 2) }
     ensures unread { OnErr words (result ≡ 2) }
-    ensures misuse { IfOk words (λ words. ((files : FileNames) → ¬ Asks (map string_bytes words.items) files) → result ≡ 2) }
     ensures exit { result ≤ 2 }
 {
     let words = match words {
@@ -39,33 +50,27 @@ fn answer<R: Files + Print + Eprint + AllocGlobal>(rt: &R, words: io::Result<Vec
         Err(_) => return misuse(rt, "confine: an argument isn't UTF-8\n"),
     };
     match read_request(rt.alloc(), &words) {
-        Ok(request) => tell(rt, serve(rt, request)),
+        Ok(run) => tell(rt, serve(rt, run, opener)),
         Err(error) if error.kind() == ErrorKind::OutOfMemory => tell(rt, End::NoMemory),
         Err(error) => misuse(rt, error),
     }
 }
 
-/// Does what is asked for, on the files that it names.
-fn serve<R: Files + Print + AllocGlobal>(rt: &R, request: Request<'_>) -> End
-    ensures { status_of result ≤ 2 }
+/// Does a run, on the files that it names.
+fn serve<R, F, O>(rt: &R, run: Run<'_>, opener: O) -> End
+where
+    R: Print + AllocGlobal,
+    F: Read + Drop,
+    O: Fn(&str) -> io::Result<F> + Drop,
+    requires { O.IsAlwaysCallable opener }
+    ensures run { Serves (FnReturnsAt O.Fn opener) F.remaining (files_of run.entry) result }
+    ensures exit { status_of result ≤ 2 }
 {
-    match request {
-        Request::Run {
-            table,
-            policy,
-            script,
-        } => {
-            let out = io::writer(rt);
-            let (end, _) = run_on(
-                rt.alloc(),
-                fs::open(rt, table),
-                fs::open(rt, policy),
-                fs::open(rt, script),
-                out,
-            );
-            end
-        }
-    }
+    let table = opener(run.table);
+    let policy = opener(run.policy);
+    let script = opener(run.script);
+    let (end, _) = run_on(rt.alloc(), table, policy, script, io::writer(rt));
+    end
 }
 
 /// Says on standard error why there is no answer, where there is none; gives the exit status. That

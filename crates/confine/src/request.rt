@@ -7,15 +7,13 @@ use clap::error::ErrorKind;
 use clap::{Arg, ArgAction, ArgMatches, Command, Error};
 use std::alloc::{AllocError, Global};
 
-/// What the command line asks for.
+/// A run: checks a table against a policy, and runs a script where it is accepted. By the names of
+/// the files.
 #[derive(Clone, Copy)]
-pub enum Request<'a> {
-    /// Checks a table against a policy, and runs a script where it is accepted.
-    Run {
-        table: &'a str,
-        policy: &'a str,
-        script: &'a str,
-    },
+pub struct Run<'a> {
+    pub table: &'a str,
+    pub policy: &'a str,
+    pub script: &'a str,
 }
 
 const ABOUT: &str =
@@ -115,25 +113,25 @@ With a table that stops after its second line it ends with status 2:
 ";
 
 /// Reads the command line; an `Err` is for its user, and so is a request for help.
-pub fn read_request<'a>(alloc: Global, words: &'a [String]) -> Result<Request<'a>, Error>
-    ensures ok { IfOk result (λ request. Asks (map string_bytes words.now) (files_of request)) }
+pub fn read_request<'a>(alloc: Global, words: &'a [String]) -> Result<Run<'a>, Error>
+    ensures ok { IfOk result (λ run. Asks (map string_bytes words.now) (files_of run)) }
     ensures err { IfErr result (λ error. (files : FileNames) → Asks (map string_bytes words.now) files
         → kind_of error ≡ ErrorKind.OutOfMemory) }
 
     // `PROGRAM run TABLE POLICY SCRIPT` is read as a run of these files.
     ensures run { (program : Text) (files : FileNames) → map string_bytes words.now ≡ run_words program files → ArePlain files
-        → IfOk result (λ request. files_of request ≡ files) × IfErr result (λ error. kind_of error ≡ ErrorKind.OutOfMemory) }
+        → IfOk result (λ run. files_of run ≡ files) × IfErr result (λ error. kind_of error ≡ ErrorKind.OutOfMemory) }
 {
     let mut command = command(alloc)?;
     let matches = command.try_get_matches_from_mut(words)?;
     match request_of(&matches) {
-        Some(request) => Ok(request),
+        Some(found) => Ok(found),
         None => Err(command.error(ErrorKind::MissingSubcommand, "a command is missing")?),
     }
 }
 
 // What the subcommand asks for.
-fn request_of<'a>(matches: &ArgMatches<'a>) -> Option<Request<'a>>
+fn request_of<'a>(matches: &ArgMatches<'a>) -> Option<Run<'a>>
     ensures { option_map files_of result ≡ files_run (subcommand_rows_of matches.now) }
 {
     match matches.subcommand()? {
@@ -143,10 +141,10 @@ fn request_of<'a>(matches: &ArgMatches<'a>) -> Option<Request<'a>>
 }
 
 // A run, where all three files are named.
-fn run_of<'a>(files: &ArgMatches<'a>) -> Option<Request<'a>>
+fn run_of<'a>(files: &ArgMatches<'a>) -> Option<Run<'a>>
     ensures { option_map files_of result ≡ files_in (first_value (found_of files.now)) }
 {
-    Some(Request::Run {
+    Some(Run {
         table: files.get_str("table")?,
         policy: files.get_str("policy")?,
         script: files.get_str("script")?,

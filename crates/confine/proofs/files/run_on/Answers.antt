@@ -1,4 +1,3 @@
-use Rattle.std.proofs.Common.{◌≡◌}
 use Rattle.confine.proofs.Opened.{opened_bytes}
 use Rattle.confine.proofs.files.run_on.Goals as goal
 

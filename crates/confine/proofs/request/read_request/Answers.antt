@@ -21,7 +21,7 @@ returns-in-Some-clause-ok c =
     asked _ _ c.in_ok-matches.matches _ c.in_ok-command.ensures c.in_ok-matches.ensures.kinds c.in_ok-matches.ensures.ok.2 c.in-Some.ensures
 
 pub returns-in-Some-clause-run : goal.returns-in-Some-clause-run
-returns-in-Some-clause-run c = run_read (Ok c.in-Some.request) _ (returns-in-Some-clause-ok c) tt
+returns-in-Some-clause-run c = run_read (Ok c.in-Some.found) _ (returns-in-Some-clause-ok c) tt
 
 pub returns-in_err-error-in-None-clause-err : goal.returns-in_err-error-in-None-clause-err
 returns-in_err-error-in-None-clause-err c =
