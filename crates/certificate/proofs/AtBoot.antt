@@ -20,7 +20,8 @@ use Rattle.machine.specs.declared.thread.RunState.{RunState}
 use Rattle.machine.specs.declared.thread.RunState.TheVariants as state
 use Rattle.machine.specs.declared.thread.Tcb.{Tcb}
 use Rattle.machine.specs.Authority.{has_memory_at, holds_thread, label_at, label_of, links, state_links}
-use Rattle.machine.specs.Boot.{IsBoot, address-bound, bound, booted, kind-bound}
+use Rattle.machine.specs.Boot.{IsBoot, bound, booted}
+use Rattle.machine.proofs.Bound.{address-bound, kind-bound}
 use Rattle.machine.specs.Layout.{Layout, initial_of, declared_label, initial_parent, bound_context}
 use Rattle.machine.specs.Machine.{Machine, object_of, same_slot}
 use Rattle.machine.specs.Objects.{kind_of_object, address_of, end_of}

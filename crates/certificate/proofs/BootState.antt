@@ -12,7 +12,8 @@ use Rattle.machine.specs.declared.layout.Pair.{Pair}
 use Rattle.machine.specs.declared.object.Object.{Object}
 use Rattle.machine.specs.Boot.{IsBoot, bound, booted}
 use Rattle.machine.specs.Layout.{Layout, initial_of, initial_cap, initial_parent}
-use Rattle.machine.specs.Machine.{Machine, id_cmp, slot_cmp, id_total, slot_total, same_id, same_slot, object_of, queue_of, words_of, cap_of, parent_of}
+use Rattle.machine.specs.Machine.{Machine, id_cmp, slot_cmp, same_id, same_slot, object_of, queue_of, words_of, cap_of, parent_of}
+use Rattle.machine.proofs.LookUps.{id_total, slot_total}
 use Rattle.machine.specs.Objects.{word_count}
 use Rattle.certificate.proofs.Links.{id_itself}
 

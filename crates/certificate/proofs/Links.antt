@@ -4,7 +4,8 @@ use Rattle.std.specs.Ordering.{is_eq}
 use Rattle.std.proofs.lemmas.Cmp.{tied_itself}
 use Rattle.base.specs.declared.ids.ObjId.{ObjId}
 use Rattle.machine.specs.Authority.{names_reply}
-use Rattle.machine.specs.Machine.{id_total, one_id, same_id}
+use Rattle.machine.specs.Machine.{same_id}
+use Rattle.machine.proofs.LookUps.{id_total, one_id}
 
 -- an object passes the test with itself
 pub id_itself : (id : ObjId) → same_id id id ≡ true

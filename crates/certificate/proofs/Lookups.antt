@@ -11,7 +11,8 @@ use Rattle.machine.specs.declared.cap.Cap.{Cap}
 use Rattle.machine.specs.declared.layout.Binding.{Binding}
 use Rattle.machine.specs.declared.layout.Filled.{Filled}
 use Rattle.machine.specs.Layout.{Layout, initial_cap, bound_context}
-use Rattle.machine.specs.Machine.{id_cmp, slot_cmp, same_id, same_slot, id_total, slot_total, one_id, one_slot}
+use Rattle.machine.specs.Machine.{id_cmp, slot_cmp, same_id, same_slot}
+use Rattle.machine.proofs.LookUps.{id_total, slot_total, one_id, one_slot}
 use Rattle.table.specs.Rules.{IsLawful}
 
 -- an element that is found: where it is, and that it passes

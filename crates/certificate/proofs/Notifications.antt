@@ -23,7 +23,8 @@ use Rattle.machine.specs.Capabilities.{gives}
 use Rattle.machine.specs.Effects.Finds.{FindsNotification}
 use Rattle.machine.specs.Effects.Primitives.{Sets, Wakes}
 use Rattle.machine.specs.Layout.{Layout}
-use Rattle.machine.specs.Machine.{Machine, object_of, queue_of, one_id, same_id}
+use Rattle.machine.specs.Machine.{Machine, object_of, queue_of, same_id}
+use Rattle.machine.proofs.LookUps.{one_id}
 use Rattle.machine.specs.WellFormed.{kind_of, WaitsAt, WaitsAtKind}
 use Rattle.policy.specs.Domain.{EdgeTest, SubjectsAgree}
 use Rattle.certificate.specs.Invariant.{IsSound}

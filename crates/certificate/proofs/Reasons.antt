@@ -11,7 +11,7 @@ use Rattle.machine.specs.Authority.{label_of, label_at}
 use Rattle.machine.specs.Authority.HasAuthority.{by_cap, by_root, by_pair, by_link}
 use Rattle.machine.specs.Layout.{initial_of, initial_cap, declared_label, bound_context}
 use Rattle.machine.specs.Machine.{Machine, object_of, with_object, with_cap, with_parent}
-use Rattle.machine.specs.Machine.{object_of-with_object, object_of-with_cap, object_of-with_parent, cap_of-with_cap, parent_of-with_parent}
+use Rattle.machine.proofs.LookUps.{object_of-with_object, object_of-with_cap, object_of-with_parent, cap_of-with_cap, parent_of-with_parent}
 use Rattle.machine.specs.Objects.{kind_of_object, address_of}
 use Rattle.machine.specs.WellFormed.{kind_of}
 use Rattle.policy.specs.Domain.{IsInDomain}

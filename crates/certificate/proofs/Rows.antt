@@ -12,7 +12,8 @@ use Rattle.machine.specs.Effects.Poll.{PollDoes}
 use Rattle.machine.specs.Effects.Primitives.{Sets, Wakes}
 use Rattle.machine.specs.Effects.Signal.{SignalDoes, WakesFirst, JoinsWord}
 use Rattle.machine.specs.Layout.{Layout}
-use Rattle.machine.specs.Machine.{Machine, object_of, queue_of, one_id, same_id}
+use Rattle.machine.specs.Machine.{Machine, object_of, queue_of, same_id}
+use Rattle.machine.proofs.LookUps.{one_id}
 use Rattle.machine.specs.WellFormed.{kind_of}
 use Rattle.policy.specs.Domain.{EdgeTest, SubjectsAgree}
 use Rattle.policy.specs.Full.{IsFull}

@@ -18,7 +18,8 @@ use Rattle.machine.specs.Boot.{IsBoot}
 use Rattle.machine.specs.Changes.{with_pending, first_waiting}
 use Rattle.machine.specs.Layout.{Layout, initial_of, initial_cap, declared_label, bound_context, bound_thread}
 use Rattle.machine.specs.Lookup.{lookup_of, level_at, walk, hop}
-use Rattle.machine.specs.Machine.{Machine, object_of, queue_of, cap_of, object_of-with_object}
+use Rattle.machine.specs.Machine.{Machine, object_of, queue_of, cap_of}
+use Rattle.machine.proofs.LookUps.{object_of-with_object}
 use Rattle.machine.specs.Step.{Step, step_of, made_by, admitted}
 use Rattle.machine.specs.Step.Find.{find_notification}
 use Rattle.machine.specs.Step.Signal.{signal_of, signalled}

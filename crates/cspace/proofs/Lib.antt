@@ -7,4 +7,3 @@ pub mod LookupLemmas
 pub mod UniqueLemmas
 pub mod RadixLemmas
 pub mod EndLemmas
-pub mod Examples

@@ -1,4 +1,3 @@
 pub mod Strings
 pub mod Roots
 pub mod Chain
-pub mod Worked

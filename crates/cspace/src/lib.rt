@@ -2,11 +2,11 @@
 #![tactic(auto)]
 
 mod chain;
+mod find;
 mod level;
 mod walk;
 mod word;
-mod worked;
 
 pub use chain::lookup_follows_a_chain;
+pub use find::find_cap;
 pub use walk::{lookup, resolve};
-pub use worked::worked_lookups;

@@ -9,9 +9,10 @@ use Rattle.machine.specs.declared.layout.Initial.{Initial}
 use Rattle.machine.specs.declared.layout.Pair.{Pair}
 use Rattle.machine.specs.Boot.{IsBoot, bound}
 use Rattle.machine.specs.Layout.{Layout, initial_of, initial_cap, initial_parent, bound_context, bound_thread}
-use Rattle.machine.specs.Machine.{Machine, empty_machine, slot_total, same_slot, same_machine, with_new, with_cap, with_parent}
-use Rattle.machine.specs.Machine.{object_of-with_cap, queue_of-with_cap, words_of-with_cap, cap_of-with_cap, parent_of-with_cap}
-use Rattle.machine.specs.Machine.{object_of-with_parent, queue_of-with_parent, words_of-with_parent, cap_of-with_parent, parent_of-with_parent}
+use Rattle.machine.specs.Machine.{Machine, empty_machine, same_slot, with_new, with_cap, with_parent}
+use Rattle.machine.proofs.LookUps.{slot_total, same_machine}
+use Rattle.machine.proofs.LookUps.{object_of-with_cap, queue_of-with_cap, words_of-with_cap, cap_of-with_cap, parent_of-with_cap}
+use Rattle.machine.proofs.LookUps.{object_of-with_parent, queue_of-with_parent, words_of-with_parent, cap_of-with_parent, parent_of-with_parent}
 use Rattle.kernel.proofs.BootLemmas.{boot-nothing, boot-object, with_last_object}
 
 append_nothing : {X : Type 0} (xs : List X) → xs ++ [] ≡ xs

@@ -17,12 +17,14 @@ use Rattle.machine.specs.declared.layout.Filled.{Filled}
 use Rattle.machine.specs.declared.layout.Initial.{Initial}
 use Rattle.machine.specs.declared.layout.Pair.{Pair}
 use Rattle.machine.specs.declared.object.Object.{Object}
-use Rattle.machine.specs.Boot.{IsBoot, bound, booted, slot_count-bound}
+use Rattle.machine.specs.Boot.{IsBoot, bound, booted}
+use Rattle.machine.proofs.Bound.{slot_count-bound}
 use Rattle.machine.specs.Layout.{Layout, initial_of, initial_cap, initial_parent, bound_context, bound_thread}
-use Rattle.machine.specs.Machine.{Machine, id_total, one_id, one_slot, same_id, slot_cmp, slot_total, same_slot, empty_machine, object_of, has_slot, with_new, with_cap}
-use Rattle.machine.specs.Machine.{object_of-empty, queue_of-empty, words_of-empty, cap_of-empty, parent_of-empty}
-use Rattle.machine.specs.Machine.{object_of-with_new, queue_of-with_new, words_of-with_new, cap_of-with_new, parent_of-with_new}
-use Rattle.machine.specs.Machine.{object_of-with_cap, queue_of-with_cap, words_of-with_cap, cap_of-with_cap, parent_of-with_cap}
+use Rattle.machine.specs.Machine.{Machine, same_id, slot_cmp, same_slot, empty_machine, object_of, has_slot, with_new, with_cap}
+use Rattle.machine.proofs.LookUps.{id_total, one_id, one_slot, slot_total}
+use Rattle.machine.proofs.LookUps.{object_of-empty, queue_of-empty, words_of-empty, cap_of-empty, parent_of-empty}
+use Rattle.machine.proofs.LookUps.{object_of-with_new, queue_of-with_new, words_of-with_new, cap_of-with_new, parent_of-with_new}
+use Rattle.machine.proofs.LookUps.{object_of-with_cap, queue_of-with_cap, words_of-with_cap, cap_of-with_cap, parent_of-with_cap}
 use Rattle.machine.specs.Objects.{slot_count, word_count}
 use Rattle.table.specs.Rules.{IsLawful, IsCapOf}
 use Rattle.kernel.specs.Parts.{without_tree}

@@ -1,3 +1,2 @@
 pub mod Makes
 pub mod Parts
-pub mod Examples

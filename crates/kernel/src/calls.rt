@@ -1,4 +1,4 @@
-ghost use Rattle.std.specs.Prelude.{◌≡◌, IfOk};
+ghost use Rattle.std.specs.Prelude.{◌≡◌};
 ghost use Rattle.kernel.specs.Makes.{Makes};
 ghost use Rattle.machine.specs.Outcomes.{IsRefused};
 ghost use Rattle.machine.specs.Step.{Step, made_by};
@@ -8,14 +8,13 @@ use crate::admit::admit;
 use crate::poll::poll;
 use crate::signal::signal;
 use base::{Cause, Refusal};
-use machine::{Call, Event, Outcome, steps_keep_machines_well_formed};
+use machine::{Call, Event, Made, Outcome, steps_keep_machines_well_formed};
 use objects::State;
 
 /// Makes the call of an event, once its thread is admitted.
 #[tactic(auto, unfolding(machine::specs::Step::made_by))]
-fn make(state: &mut State, event: Event) -> Result<Outcome, Cause>
-    ensures makes { Makes state.old state.new result (made_by state.old event) }
-    ensures done { IfOk result (λ outcome. ¬ (IsRefused outcome)) }
+fn make(state: &mut State, event: Event) -> Result<Made, Cause>
+    ensures { Makes state.old state.new result (made_by state.old event) }
 {
     admit(state, event.core, event.thread)?;
     match event.call {
@@ -26,16 +25,16 @@ fn make(state: &mut State, event: Event) -> Result<Outcome, Cause>
 
 /// One kernel call, whole: what it answers, and the state after it. A refused call leaves the state
 /// as it was. No memory is taken.
-#[tactic(auto, unfolding(machine::specs::Step::step_of))]
 pub fn step(state: &mut State, event: Event) -> Outcome
+    requires { IsWellFormed state.old }
     ensures stepped { Step state.old event result state.new }
     ensures refusals { IsRefused result → state.new ≡ state.old }
-    ensures well_formed { IsWellFormed state.old → IsWellFormed state.new }
+    ensures well_formed { IsWellFormed state.new }
 {
     // A law, so that the state stays well formed.
     steps_keep_machines_well_formed();
     match make(state, event) {
-        Ok(outcome) => outcome,
+        Ok(made) => Outcome::from(made),
         Err(cause) => Outcome::Refused(Refusal::from(cause)),
     }
 }

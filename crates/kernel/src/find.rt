@@ -2,8 +2,8 @@ ghost use Rattle.std.specs.Prelude.{◌≡◌};
 ghost use Rattle.machine.specs.Step.Find.{find_notification, permitted};
 
 use base::{Cause, ObjId};
-use cspace::resolve;
-use machine::{Badged, Cap, Detail};
+use cspace::find_cap;
+use machine::{Badged, Detail};
 use objects::State;
 
 /// The notification that the caller's address names, with the rights and the badge of the
@@ -16,15 +16,9 @@ pub fn find_notification(
 ) -> Result<(ObjId, Badged), Cause>
     ensures { result ≡ find_notification state.now caller address }
 {
-    let (slot, _) = resolve(state, caller, address)?;
-    match state.cap(slot) {
-        Some(
-            Cap {
-                object,
-                detail: Detail::Notification(end),
-                ..
-            },
-        ) => Ok((object, end)),
+    let (_, cap) = find_cap(state, caller, address)?;
+    match cap.detail {
+        Detail::Notification(end) => Ok((cap.object, end)),
         _ => Err(Cause::InvalidCapability),
     }
 }

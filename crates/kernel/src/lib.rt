@@ -6,7 +6,6 @@ mod admit;
 mod boot_laws;
 mod boot_state;
 mod calls;
-mod examples;
 mod find;
 mod poll;
 mod runs;
@@ -15,8 +14,4 @@ mod signal;
 pub use boot_laws::each_table_has_one_boot_state;
 pub use boot_state::boot;
 pub use calls::step;
-pub use examples::worked_examples;
 pub use runs::run;
-
-#[cfg(test)]
-mod tests;

@@ -1,25 +1,22 @@
-ghost use Rattle.std.specs.Prelude.{IfOk};
 ghost use Rattle.kernel.specs.Makes.{Makes};
-ghost use Rattle.machine.specs.Outcomes.{IsRefused};
 ghost use Rattle.machine.specs.Step.Poll.{poll_of};
 
 use crate::find::{find_notification, permit};
 use crate::signal::pending;
 use base::{Cause, ObjId, Rights};
 use bitflags::Flags;
-use machine::{Answer, Outcome};
+use machine::{Answer, Made};
 use objects::State;
 
 /// Takes the word of the notification at an address, which is 0 where it has none (seL4 manual,
 /// "Notifications").
 #[tactic(auto, unfolding(machine::specs::Step::Poll::poll_of))]
-pub fn poll(state: &mut State, caller: ObjId, address: u64) -> Result<Outcome, Cause>
-    ensures makes { Makes state.old state.new result (poll_of state.old caller address) }
-    ensures done { IfOk result (λ outcome. ¬ (IsRefused outcome)) }
+pub fn poll(state: &mut State, caller: ObjId, address: u64) -> Result<Made, Cause>
+    ensures { Makes state.old state.new result (poll_of state.old caller address) }
 {
     let (notification, end) = find_notification(state, caller, address)?;
     permit(end.rights.contains(Rights::READ))?;
     let word = pending(state, notification).unwrap_or(0);
     state.set_pending(notification, None);
-    Ok(Outcome::Done(Answer::Word(word)))
+    Ok(Made::Done(Answer::Word(word)))
 }

@@ -16,12 +16,13 @@ use objects::State;
 /// 40, where the list of outcomes can't grow by as many as there are events: then no step was made.
 /// A list with room for them is never refused.
 pub fn run(state: &mut State, events: &[Event], outcomes: &mut Vec<Outcome>) -> Result<(), Refusal>
+    requires { IsWellFormed state.old }
     ensures ran { OnOk result ((made : List Ended)
         × (outcomes.new.items ≡ outcomes.old.items ++ made)
         × Run state.old events.now made state.new) }
     ensures counted { OnOk result (length outcomes.new.items ≡ length outcomes.old.items + length events.now) }
     ensures appends { (made : List Ended) × (outcomes.new.items ≡ outcomes.old.items ++ made) }
-    ensures well_formed { IsWellFormed state.old → IsWellFormed state.new }
+    ensures well_formed { IsWellFormed state.new }
     ensures refused { IfErr result (λ refusal. refusal ≡ plain 40) }
     ensures kept { OnErr result ((state.new ≡ state.old) × (outcomes.new.items ≡ outcomes.old.items)) }
     ensures succeeds { vec_len outcomes.old + length events.now ≤ vec_capacity outcomes.old → IsOk result }

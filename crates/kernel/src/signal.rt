@@ -1,13 +1,12 @@
-ghost use Rattle.std.specs.Prelude.{◌≡◌, IfOk};
+ghost use Rattle.std.specs.Prelude.{◌≡◌};
 ghost use Rattle.kernel.specs.Makes.{Makes};
 ghost use Rattle.machine.specs.Machine.{object_of};
-ghost use Rattle.machine.specs.Outcomes.{IsRefused};
 ghost use Rattle.machine.specs.Step.Signal.{pending_in, signal_of, signalled, woken};
 
 use crate::find::{find_notification, permit};
 use base::{Cause, ObjId, Rights};
 use bitflags::Flags;
-use machine::{Answer, Inbox, Notification, Object, Outcome, RunState, Tcb};
+use machine::{Answer, Inbox, Made, Notification, Object, RunState, Tcb};
 use objects::State;
 use queues::pop_first;
 
@@ -53,12 +52,11 @@ fn notify(state: &mut State, id: ObjId, badge: u64)
 /// Signals the notification at an address: the first thread that waits gets the capability's badge,
 /// else the badge joins the notification's word (seL4 manual, "Notifications").
 #[tactic(auto, unfolding(machine::specs::Step::Signal::signal_of))]
-pub fn signal(state: &mut State, caller: ObjId, address: u64) -> Result<Outcome, Cause>
-    ensures makes { Makes state.old state.new result (signal_of state.old caller address) }
-    ensures done { IfOk result (λ outcome. ¬ (IsRefused outcome)) }
+pub fn signal(state: &mut State, caller: ObjId, address: u64) -> Result<Made, Cause>
+    ensures { Makes state.old state.new result (signal_of state.old caller address) }
 {
     let (notification, end) = find_notification(state, caller, address)?;
     permit(end.rights.contains(Rights::WRITE))?;
     notify(state, notification, end.badge);
-    Ok(Outcome::Done(Answer::Nothing))
+    Ok(Made::Done(Answer::Nothing))
 }

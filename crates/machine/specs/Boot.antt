@@ -1,5 +1,5 @@
 -- The boot state of a capability table (compare the seL4 manual, "Bootstrapping"; the rule is confine's own).
-use Rattle.std.specs.Prelude.{◌≡◌, ◌⊎◌, true, List, [], Option, Some, None, option_map, length, replicate, refl}
+use Rattle.std.specs.Prelude.{◌≡◌, ◌⊎◌, true, List, [], Option, Some, None, option_map, length, replicate}
 use Rattle.base.specs.declared.ids.ObjId.{ObjId}
 use Rattle.base.specs.declared.ids.SlotRef.{SlotRef}
 use Rattle.machine.specs.declared.cap.Cap.{Cap}
@@ -16,35 +16,13 @@ use Rattle.machine.specs.declared.thread.RunState.TheVariants as run
 use Rattle.machine.specs.declared.thread.Tcb.{Tcb}
 use Rattle.machine.specs.Layout.{Layout, initial_of, initial_cap, initial_parent, bound_context, bound_thread}
 use Rattle.machine.specs.Machine.{Machine, object_of, queue_of, words_of, cap_of, parent_of}
-use Rattle.machine.specs.Objects.{kind_of_object, slot_count, word_count, address_of, end_of}
+use Rattle.machine.specs.Objects.{word_count}
 
 -- an object with the links that the table's bindings give it
 abbrev pub bound : Layout → ObjId → Object → Object
 bound t id (o.Tcb thread) = o.Tcb (record thread { context = bound_context t id })
 bound t id (o.Context context) = o.Context (record context { thread = bound_thread t id })
 bound t id object = object
-
--- what the binding of an object leaves as it is
-
-pub kind-bound : (t : Layout) (id : ObjId) (object : Object) → kind_of_object (bound t id object) ≡ kind_of_object object
-kind-bound t id (o.Tcb _) = refl
-kind-bound t id (o.Context _) = refl
-kind-bound t id _ = refl
-
-pub slot_count-bound : (t : Layout) (id : ObjId) (object : Object) → slot_count (bound t id object) ≡ slot_count object
-slot_count-bound t id (o.Tcb _) = refl
-slot_count-bound t id (o.Context _) = refl
-slot_count-bound t id _ = refl
-
-pub address-bound : (t : Layout) (id : ObjId) (object : Object) → address_of (bound t id object) ≡ address_of object
-address-bound t id (o.Tcb _) = refl
-address-bound t id (o.Context _) = refl
-address-bound t id _ = refl
-
-pub end-bound : (t : Layout) (id : ObjId) (object : Object) → end_of (bound t id object) ≡ end_of object
-end-bound t id (o.Tcb _) = refl
-end-bound t id (o.Context _) = refl
-end-bound t id _ = refl
 
 -- an initial object as it is at boot
 abbrev pub booted : Layout → ObjId → Option Object

@@ -6,14 +6,11 @@ pub mod Bits
 pub mod Refusing
 pub mod Lookup
 pub mod Changes
-pub mod Seen
 pub mod Step
 pub mod Outcomes
 pub mod Run
 pub mod Boot
 pub mod WellFormed
-pub mod Effects
-pub mod Parts
 pub mod Authority
 pub mod Spelling
 pub mod Narrower

@@ -1,4 +1,5 @@
--- The kernel step: what an event answers, and the machine after it. A refusal leaves the machine as it was.
+-- The kernel step: how an event ends, and the machine after it (seL4 manual, "Kernel Services and Objects"; the order of the
+-- conditions is confine's own). A refusal leaves the machine as it was.
 use Rattle.std.specs.Prelude.{◌≡◌, ℕ, Bool, ◌==◌, Option, Some, None, Result, Ok, Err, if◌then◌else◌}
 use Rattle.base.specs.declared.ids.ObjId.{ObjId}
 use Rattle.base.specs.declared.refusal.Cause.{Cause}
@@ -7,6 +8,7 @@ use Rattle.base.specs.Refusals.{refusal_of}
 use Rattle.machine.specs.declared.call.Call.{Call}
 use Rattle.machine.specs.declared.call.Call.TheVariants as call
 use Rattle.machine.specs.declared.call.Event.{Event}
+use Rattle.machine.specs.declared.call.Made.{Made}
 use Rattle.machine.specs.declared.call.Outcome.{Outcome}
 use Rattle.machine.specs.declared.call.Outcome.TheVariants.{Refused}
 use Rattle.machine.specs.declared.object.Object.{Object}
@@ -16,6 +18,7 @@ use Rattle.machine.specs.declared.thread.RunState.{RunState}
 use Rattle.machine.specs.declared.thread.RunState.TheVariants as state
 use Rattle.machine.specs.declared.thread.Tcb.{Tcb}
 use Rattle.machine.specs.Machine.{Machine, object_of}
+use Rattle.machine.specs.Outcomes.{outcome_of}
 use Rattle.machine.specs.Refusing.{◌>>=◌}
 pub mod Find
 pub mod Signal
@@ -55,25 +58,40 @@ admitted m core caller = do
   share ← running_share m thread
   if share.core == core then Ok share else Err cause.WrongCore
 
--- what a call answers and the machine after it, once its thread may make it
-abbrev pub call_of : Machine → ObjId → Call → Result (Outcome × Machine) Cause
+-- what a call comes to and the machine after it, once its thread may make it
+abbrev pub call_of : Machine → ObjId → Call → Result (Made × Machine) Cause
 call_of m caller (call.Signal address) = signal_of m caller address
 call_of m caller (call.Poll address) = poll_of m caller address
 
--- a refusal leaves the machine as it was
-abbrev pub settled : Machine → Result (Outcome × Machine) Cause → Outcome × Machine
-settled m (Ok made) = made
-settled m (Err cause) = (Refused (refusal_of cause), m)
-
 -- what an event comes to: its thread is admitted, and then makes its call
-unfoldable pub made_by : Machine → Event → Result (Outcome × Machine) Cause
+unfoldable pub made_by : Machine → Event → Result (Made × Machine) Cause
 made_by m event = do
   _ ← admitted m event.core event.thread
   call_of m event.thread event.call
 
+-- a refusal leaves the machine as it was
+abbrev pub settled : Machine → Result (Made × Machine) Cause → Outcome × Machine
+settled m (Ok made) = (outcome_of made.0, made.1)
+settled m (Err cause) = (Refused (refusal_of cause), m)
+
+-- how an event ends where there is memory, and the machine after it
 unfoldable pub step_of : Machine → Event → Outcome × Machine
 step_of m event = settled m (made_by m event)
 
+-- whether a call takes memory
+abbrev pub takes_memory : Call → Bool
+takes_memory (call.Signal _) = Bool.false
+takes_memory (call.Poll _) = Bool.false
+
+-- the event could be made, but takes memory that isn't there
+pub record LacksMemory (m : Machine) (event : Event) (outcome : Outcome) (next : Machine) : Type 0 where
+  pub takes : takes_memory event.call ≡ Bool.true
+  pub made : Made × Machine
+  pub could : made_by m event ≡ Ok made
+  pub refused : outcome ≡ Refused (refusal_of cause.OutOfMemory)
+  pub same : next ≡ m
+
 -- the step from one machine to another with an outcome
-abbrev pub Step : Machine → Event → Outcome → Machine → Type 0
-Step m event outcome next = step_of m event ≡ (outcome, next)
+pub data Step (m : Machine) (event : Event) (outcome : Outcome) (next : Machine) : Type 0 where
+  ends : step_of m event ≡ (outcome, next) → Step m event outcome next
+  lacks : LacksMemory m event outcome next → Step m event outcome next

@@ -1,6 +1,6 @@
--- Well-formed machines: what the slots, the links between objects and the numbers and ranges of objects keep, for all nine kinds
+-- Well-formed machines: what slots, the parts of objects, the links between objects, and numbers and ranges keep, for all nine kinds
 -- (seL4 manual, "Capability Spaces", "Capability Derivation Tree", "Untyped Memory" and "Scheduling Contexts").
-use Rattle.std.specs.Prelude.{◌≡◌, ◌≢◌, ℕ, ◌<◌, ◌≤◌, ◌⊎◌, List, Option, Some, Contains, AllPairs, option_map}
+use Rattle.std.specs.Prelude.{◌≡◌, ◌≢◌, ℕ, ◌^◌, ◌<◌, ◌≤◌, ◌⊎◌, List, length, Option, Some, Contains, AllPairs, option_map}
 use Rattle.base.specs.declared.ids.ObjId.{ObjId}
 use Rattle.base.specs.declared.ids.SlotRef.{SlotRef}
 use Rattle.machine.specs.declared.cap.Cap.{Cap}
@@ -15,8 +15,8 @@ use Rattle.machine.specs.declared.thread.RunState.{RunState}
 use Rattle.machine.specs.declared.thread.RunState.TheVariants as state
 use Rattle.machine.specs.declared.thread.Tcb.{Tcb}
 use Rattle.machine.specs.Capabilities.{kind_of_detail}
-use Rattle.machine.specs.Machine.{Machine, object_of, queue_of, cap_of, parent_of}
-use Rattle.machine.specs.Objects.{kind_of_object, slot_count, address_of, end_of}
+use Rattle.machine.specs.Machine.{Machine, object_of, queue_of, words_of, cap_of, parent_of}
+use Rattle.machine.specs.Objects.{kind_of_object, slot_count, word_count, address_of, end_of}
 
 -- the kind of an object, if it is present
 abbrev pub kind_of : Machine → ObjId → Option ObjectKind
@@ -26,6 +26,11 @@ kind_of m id = option_map kind_of_object (object_of m id)
 pub data Descends (m : Machine) : SlotRef → SlotRef → Type 0 where
   child : {slot parent : SlotRef} → parent_of m slot ≡ Some parent → Descends m slot parent
   further : {slot parent above : SlotRef} → parent_of m slot ≡ Some parent → Descends m parent above → Descends m slot above
+
+-- an object lies in the range of untyped memory; a control takes no memory, so it lies nowhere
+abbrev pub LiesIn : Untyped → Object → Type 0
+LiesIn memory (o.Control _) = ⊥
+LiesIn memory object = (memory.base ≤ address_of object) × (end_of object ≤ end_of (o.Untyped memory))
 
 -- the slots of a machine and its derivation tree
 pub record SlotsFit (m : Machine) : Type 0 where
@@ -51,7 +56,7 @@ pub record SlotsFit (m : Machine) : Type 0 where
       → cap_of m parent ≡ Some above
       → (below.object ≡ above.object)
       ⊎ ((memory : Untyped) × (made : Object) × (object_of m above.object ≡ Some (o.Untyped memory))
-      × (object_of m below.object ≡ Some made) × (memory.base ≤ address_of made) × (end_of made ≤ end_of (o.Untyped memory)))
+      × (object_of m below.object ≡ Some made) × LiesIn memory made)
 
 -- whether a run state waits in the queue of an object
 abbrev pub WaitsAt : RunState → ObjId → Type 0
@@ -127,9 +132,27 @@ pub record LinksAgree (m : Machine) : Type 0 where
 abbrev pub Meets : Object → Object → Type 0
 Meets a b = (address_of a < end_of b) × (address_of b < end_of a)
 
+-- each object that is there has a queue and its words, and nothing else has
+pub record PartsFit (m : Machine) : Type 0 where
+  pub queue :
+      (id : ObjId) (object : Object) → object_of m id ≡ Some object → (threads : List ObjId) × (queue_of m id ≡ Some threads)
+  pub words :
+      (id : ObjId) (object : Object) → object_of m id ≡ Some object
+      → (words : List ℕ) × (words_of m id ≡ Some words) × (length words ≡ word_count object)
+  pub queue_of_object :
+      (id : ObjId) (threads : List ObjId) → queue_of m id ≡ Some threads → (object : Object) × (object_of m id ≡ Some object)
+  pub words_of_object :
+      (id : ObjId) (words : List ℕ) → words_of m id ≡ Some words → (object : Object) × (object_of m id ≡ Some object)
+
+-- untyped memory has 4 to 47 bits, and every range ends at or below 2^48
+abbrev pub IsRanged : Object → Type 0
+IsRanged (o.Untyped memory) = (4 ≤ memory.bits) × (memory.bits ≤ 47) × (end_of (o.Untyped memory) ≤ 2 ^ 48)
+IsRanged object = end_of object ≤ 2 ^ 48
+
 -- numbers of objects and their ranges of memory
 pub record NumbersFit (m : Machine) : Type 0 where
   pub below_next : (id : ObjId) (object : Object) → object_of m id ≡ Some object → id.0 < m.next
+  pub ranged : (id : ObjId) (object : Object) → object_of m id ≡ Some object → IsRanged object
   -- an untyped has at most one capability
   pub one_cap :
       (a b : SlotRef) (first second : Cap) → cap_of m a ≡ Some first → cap_of m b ≡ Some second → first.object ≡ second.object
@@ -144,7 +167,7 @@ pub record NumbersFit (m : Machine) : Type 0 where
       (low high : ObjId) (first second : Object) → low.0 < high.0 → object_of m low ≡ Some first → object_of m high ≡ Some second
       → Meets first second
       → (memory : Untyped) × (slot : SlotRef) × (held : Cap) × (first ≡ o.Untyped memory) × (cap_of m slot ≡ Some held)
-      × (held.object ≡ low) × (memory.base ≤ address_of second) × (end_of second ≤ memory.watermark)
+      × (held.object ≡ low) × LiesIn memory second × (end_of second ≤ memory.watermark)
   -- and has capabilities, all of which descend from the untyped's
   pub made_from :
       (low high : ObjId) (first second : Object) (slot above : SlotRef) (held over : Cap) → low.0 < high.0
@@ -157,5 +180,6 @@ pub record NumbersFit (m : Machine) : Type 0 where
 
 pub record IsWellFormed (m : Machine) : Type 0 where
   pub slots : SlotsFit m
+  pub parts : PartsFit m
   pub links : LinksAgree m
   pub numbers : NumbersFit m

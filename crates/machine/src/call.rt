@@ -1,3 +1,6 @@
+ghost use Rattle.std.specs.Prelude.{◌≡◌};
+ghost use Rattle.machine.specs.Outcomes.{outcome_of};
+
 use crate::Message;
 use base::{CoreNo, ObjId, Refusal};
 
@@ -30,10 +33,29 @@ pub enum Answer {
     Aborted,
 }
 
+/// What a call comes to that isn't refused.
+#[derive(Clone, Copy, PartialEq, Eq, Debug)]
+pub enum Made {
+    Done(Answer),
+    /// The thread waits, and is answered later.
+    Blocked,
+}
+
 /// How a call ends.
 #[derive(Clone, Copy, PartialEq, Eq, Debug)]
 pub enum Outcome {
     Done(Answer),
     Blocked,
     Refused(Refusal),
+}
+
+impl From<Made> for Outcome {
+    fn from(made: Made) -> Outcome
+        ensures { result ≡ outcome_of made }
+    {
+        match made {
+            Made::Done(answer) => Outcome::Done(answer),
+            Made::Blocked => Outcome::Blocked,
+        }
+    }
 }

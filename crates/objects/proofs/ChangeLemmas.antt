@@ -5,10 +5,11 @@ use Rattle.base.specs.declared.ids.ObjId.{ObjId}
 use Rattle.base.specs.declared.ids.SlotRef.{SlotRef}
 use Rattle.machine.specs.declared.cap.Cap.{Cap}
 use Rattle.machine.specs.declared.object.Object.{Object}
-use Rattle.machine.specs.Machine.{Machine, same_id, same_slot, id_total, id_apart, slot_total, slot_apart, object_of, queue_of}
+use Rattle.machine.specs.Machine.{Machine, same_id, same_slot, object_of, queue_of}
+use Rattle.machine.proofs.LookUps.{id_total, id_apart, slot_total, slot_apart}
 use Rattle.machine.specs.Machine.{words_of, cap_of, parent_of, with_object, with_queue, with_cap, with_parent, with_new}
 use Rattle.machine.specs.Objects.{slot_count, word_count}
-use Rattle.machine.specs.Machine as machine
+use Rattle.machine.proofs.LookUps as seen
 use Rattle.objects.specs.declared.entry.Entry.{Entry}
 use Rattle.objects.specs.declared.slots.Slot.{Slot}
 use Rattle.objects.specs.Edits.{edited}
@@ -115,23 +116,23 @@ module _ (m : Machine) (old new : ObjId → Option Entry) (tells : Tells m old) 
       record {
         objects =
             λ q.
-            machine.object_of-with_cap m slot filling q ∙ tells.objects q
+            seen.object_of-with_cap m slot filling q ∙ tells.objects q
             ∙ sym (part_kept old new slot.holder change changed (λ e. e.object) (λ e. refl) q);
         queues =
             λ q.
-            machine.queue_of-with_cap m slot filling q ∙ tells.queues q
+            seen.queue_of-with_cap m slot filling q ∙ tells.queues q
             ∙ sym (part_kept old new slot.holder change changed (λ e. e.queue) (λ e. refl) q);
         words =
             λ q.
-            machine.words_of-with_cap m slot filling q ∙ tells.words q
+            seen.words_of-with_cap m slot filling q ∙ tells.words q
             ∙ sym (part_kept old new slot.holder change changed (λ e. e.words) (λ e. refl) q);
         caps =
             λ q.
-            machine.cap_of-with_cap m slot filling q ∙ ap (cond (same_slot q slot) (Some filling)) (tells.caps q)
+            seen.cap_of-with_cap m slot filling q ∙ ap (cond (same_slot q slot) (Some filling)) (tells.caps q)
             ∙ sym (slot_set old new slot set changed (λ s. s.cap) filling (λ s. refl) e is within q);
         parents =
             λ q.
-            machine.parent_of-with_cap m slot filling q ∙ tells.parents q
+            seen.parent_of-with_cap m slot filling q ∙ tells.parents q
             ∙ sym (slot_kept old new slot set changed (λ s. s.parent) (λ s. refl) q);
       }
 
@@ -144,23 +145,23 @@ module _ (m : Machine) (old new : ObjId → Option Entry) (tells : Tells m old) 
       record {
         objects =
             λ q.
-            machine.object_of-with_parent m slot parent q ∙ tells.objects q
+            seen.object_of-with_parent m slot parent q ∙ tells.objects q
             ∙ sym (part_kept old new slot.holder change changed (λ e. e.object) (λ e. refl) q);
         queues =
             λ q.
-            machine.queue_of-with_parent m slot parent q ∙ tells.queues q
+            seen.queue_of-with_parent m slot parent q ∙ tells.queues q
             ∙ sym (part_kept old new slot.holder change changed (λ e. e.queue) (λ e. refl) q);
         words =
             λ q.
-            machine.words_of-with_parent m slot parent q ∙ tells.words q
+            seen.words_of-with_parent m slot parent q ∙ tells.words q
             ∙ sym (part_kept old new slot.holder change changed (λ e. e.words) (λ e. refl) q);
         caps =
             λ q.
-            machine.cap_of-with_parent m slot parent q ∙ tells.caps q
+            seen.cap_of-with_parent m slot parent q ∙ tells.caps q
             ∙ sym (slot_kept old new slot set changed (λ s. s.cap) (λ s. refl) q);
         parents =
             λ q.
-            machine.parent_of-with_parent m slot parent q ∙ ap (cond (same_slot q slot) (Some parent)) (tells.parents q)
+            seen.parent_of-with_parent m slot parent q ∙ ap (cond (same_slot q slot) (Some parent)) (tells.parents q)
             ∙ sym (slot_set old new slot set changed (λ s. s.parent) parent (λ s. refl) e is within q);
       }
 
@@ -172,25 +173,25 @@ module _ (m : Machine) (old new : ObjId → Option Entry) (tells : Tells m old) 
       record {
         objects =
             λ q.
-            machine.object_of-with_object m id object q ∙ ap (cond (same_id q id) (Some object)) (tells.objects q)
+            seen.object_of-with_object m id object q ∙ ap (cond (same_id q id) (Some object)) (tells.objects q)
             ∙ sym (part_set old new id change changed (λ e. e.object) e is q);
         queues =
             λ q.
-            machine.queue_of-with_object m id object q ∙ tells.queues q
+            seen.queue_of-with_object m id object q ∙ tells.queues q
             ∙ sym (part_kept old new id change changed (λ e. e.queue) (λ e. refl) q);
         words =
             λ q.
-            machine.words_of-with_object m id object q ∙ tells.words q
+            seen.words_of-with_object m id object q ∙ tells.words q
             ∙ sym (part_kept old new id change changed (λ e. e.words) (λ e. refl) q);
         caps =
             λ q.
-            machine.cap_of-with_object m id object q ∙ tells.caps q
+            seen.cap_of-with_object m id object q ∙ tells.caps q
             ∙ sym
             (reading_kept old new id change changed (λ e. option_and_then (λ s. s.cap) (slice_get e.slots q.index)) (λ e. refl)
             q.holder);
         parents =
             λ q.
-            machine.parent_of-with_object m id object q ∙ tells.parents q
+            seen.parent_of-with_object m id object q ∙ tells.parents q
             ∙ sym
             (reading_kept old new id change changed (λ e. option_and_then (λ s. s.parent) (slice_get e.slots q.index))
             (λ e. refl) q.holder);
@@ -205,25 +206,25 @@ module _ (m : Machine) (old new : ObjId → Option Entry) (tells : Tells m old) 
       record {
         objects =
             λ q.
-            machine.object_of-with_queue m id (queue e.queue) q ∙ tells.objects q
+            seen.object_of-with_queue m id (queue e.queue) q ∙ tells.objects q
             ∙ sym (part_kept old new id change changed (λ e. e.object) (λ e. refl) q);
         queues =
             λ q.
-            machine.queue_of-with_queue m id (queue e.queue) q ∙ ap (cond (same_id q id) (Some (queue e.queue))) (tells.queues q)
+            seen.queue_of-with_queue m id (queue e.queue) q ∙ ap (cond (same_id q id) (Some (queue e.queue))) (tells.queues q)
             ∙ sym (part_set old new id change changed (λ e. e.queue) e is q);
         words =
             λ q.
-            machine.words_of-with_queue m id (queue e.queue) q ∙ tells.words q
+            seen.words_of-with_queue m id (queue e.queue) q ∙ tells.words q
             ∙ sym (part_kept old new id change changed (λ e. e.words) (λ e. refl) q);
         caps =
             λ q.
-            machine.cap_of-with_queue m id (queue e.queue) q ∙ tells.caps q
+            seen.cap_of-with_queue m id (queue e.queue) q ∙ tells.caps q
             ∙ sym
             (reading_kept old new id change changed (λ e. option_and_then (λ s. s.cap) (slice_get e.slots q.index)) (λ e. refl)
             q.holder);
         parents =
             λ q.
-            machine.parent_of-with_queue m id (queue e.queue) q ∙ tells.parents q
+            seen.parent_of-with_queue m id (queue e.queue) q ∙ tells.parents q
             ∙ sym
             (reading_kept old new id change changed (λ e. option_and_then (λ s. s.parent) (slice_get e.slots q.index))
             (λ e. refl) q.holder);
@@ -248,24 +249,24 @@ module _ (m : Machine) (old new : ObjId → Option Entry) (tells : Tells m old) 
       record {
         objects =
             λ q.
-            machine.object_of-with_new m object q ∙ ap (cond (same_id q id) (Some object)) (tells.objects q)
+            seen.object_of-with_new m object q ∙ ap (cond (same_id q id) (Some object)) (tells.objects q)
             ∙ sym (ap object_at (added q) ∙ spread (λ e. e.object) (same_id q id) (old q));
         queues =
             λ q.
-            machine.queue_of-with_new m object q ∙ ap (cond (same_id q id) (Some [])) (tells.queues q)
+            seen.queue_of-with_new m object q ∙ ap (cond (same_id q id) (Some [])) (tells.queues q)
             ∙ sym (ap queue_at (added q) ∙ spread (λ e. e.queue) (same_id q id) (old q));
         words =
             λ q.
-            machine.words_of-with_new m object q
+            seen.words_of-with_new m object q
             ∙ ap (cond (same_id q id) (Some (replicate (word_count object) 0))) (tells.words q)
             ∙ sym (ap words_at (added q) ∙ spread (λ e. e.words) (same_id q id) (old q));
         caps =
             λ q.
-            machine.cap_of-with_new m object q ∙ tells.caps q
+            seen.cap_of-with_new m object q ∙ tells.caps q
             ∙ sym (ap (cap_at q.index) (added q.holder) ∙ empty (λ s. s.cap) refl q (same_id q.holder id) refl);
         parents =
             λ q.
-            machine.parent_of-with_new m object q ∙ tells.parents q
+            seen.parent_of-with_new m object q ∙ tells.parents q
             ∙ sym (ap (parent_at q.index) (added q.holder) ∙ empty (λ s. s.parent) refl q (same_id q.holder id) refl);
       }
     where

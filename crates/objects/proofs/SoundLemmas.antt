@@ -17,9 +17,11 @@ use Rattle.base.specs.declared.ids.SlotRef.{SlotRef}
 use Rattle.machine.specs.declared.cap.Cap.{Cap}
 use Rattle.machine.specs.declared.object.Object.{Object}
 use Rattle.machine.specs.Objects.{slot_count}
-use Rattle.machine.specs.Machine.{Machine, same_id, id_total, id_apart, object_of, has_slot, with_cap, with_parent, with_object}
-use Rattle.machine.specs.Machine.{with_queue, with_new, empty_machine, words_of, queue_of, object_of-empty, queue_of-empty}
-use Rattle.machine.specs.Machine.{words_of-empty, cap_of-empty, parent_of-empty}
+use Rattle.machine.specs.Machine.{Machine, same_id, object_of, has_slot, with_cap, with_parent, with_object}
+use Rattle.machine.proofs.LookUps.{id_total, id_apart}
+use Rattle.machine.specs.Machine.{with_queue, with_new, empty_machine, words_of, queue_of}
+use Rattle.machine.proofs.LookUps.{object_of-empty, queue_of-empty}
+use Rattle.machine.proofs.LookUps.{words_of-empty, cap_of-empty, parent_of-empty}
 use Rattle.objects.specs.declared.entry.Entry.{Entry}
 use Rattle.objects.specs.declared.state.State.TheInside.{Inside}
 use Rattle.machine.specs.Changes.{first_waiting, with_waiting, without_first}

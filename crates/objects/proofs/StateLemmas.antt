@@ -16,8 +16,10 @@ use Rattle.base.specs.declared.ids.ObjId.{ObjId}
 use Rattle.base.specs.declared.ids.SlotRef.{SlotRef}
 use Rattle.machine.specs.declared.cap.Cap.{Cap}
 use Rattle.machine.specs.declared.object.Object.{Object}
-use Rattle.machine.specs.Machine.{Machine, same_id, same_slot, id_total, id_apart, slot_total, slot_apart, object_of, queue_of}
-use Rattle.machine.specs.Machine.{words_of, cap_of, parent_of, same_machine}
+use Rattle.machine.specs.Machine.{Machine, same_id, same_slot, object_of, queue_of}
+use Rattle.machine.proofs.LookUps.{id_total, id_apart, slot_total, slot_apart}
+use Rattle.machine.specs.Machine.{words_of, cap_of, parent_of}
+use Rattle.machine.proofs.LookUps.{same_machine}
 use Rattle.objects.specs.declared.entry.Entry.{Entry}
 use Rattle.objects.specs.declared.slots.Slot.{Slot}
 use Rattle.objects.specs.declared.state.State.TheInside.{Inside}

@@ -19,7 +19,8 @@ use Rattle.certificate.specs.Verdict.{CapabilityExceeds, RootExceeds, BindingExc
 use Rattle.certificate.specs.declared.denial.Denial.TheVariants as denial
 use Rattle.machine.specs.Capabilities.{gives}
 use Rattle.machine.specs.Layout.{Layout, bound_context, declared_label, initial_cap, initial_of}
-use Rattle.machine.specs.Machine.{id_cmp, id_apart, same_id, slot_cmp, slot_apart, same_slot}
+use Rattle.machine.specs.Machine.{id_cmp, same_id, slot_cmp, same_slot}
+use Rattle.machine.proofs.LookUps.{id_apart, slot_apart}
 use Rattle.machine.specs.declared.cap.Cap.{Cap}
 use Rattle.machine.specs.declared.cap.Detail.{Detail}
 use Rattle.machine.specs.declared.layout.Binding.{Binding}

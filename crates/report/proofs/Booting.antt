@@ -13,7 +13,8 @@ use Rattle.machine.specs.declared.layout.Initial.{Initial}
 use Rattle.machine.specs.declared.layout.Pair.{Pair}
 use Rattle.machine.specs.Boot.{IsBoot, bound}
 use Rattle.machine.specs.Layout.{Layout, initial_of, initial_cap, initial_parent}
-use Rattle.machine.specs.Machine.{Machine, object_of, queue_of, words_of, cap_of, parent_of, id_cmp, slot_cmp, same_slot, id_total, slot_total, same_machine}
+use Rattle.machine.specs.Machine.{Machine, object_of, queue_of, words_of, cap_of, parent_of, id_cmp, slot_cmp, same_slot}
+use Rattle.machine.proofs.LookUps.{id_total, slot_total, same_machine}
 use Rattle.machine.specs.Objects.{word_count}
 
 pub one_boot : (t : Layout) (m n : Machine) → IsBoot t m → IsBoot t n → m ≡ n

@@ -6,7 +6,8 @@ use Rattle.machine.specs.Boot.{IsBoot}
 use Rattle.machine.specs.Changes.{first_waiting, with_pending}
 use Rattle.machine.specs.Layout.{initial_of, initial_cap, bound_context, bound_thread}
 use Rattle.machine.specs.Lookup.{hop, level_at, lookup_of, walk}
-use Rattle.machine.specs.Machine.{Machine, cap_of, object_of, queue_of, same_id, with_object, object_of-with_object, queue_of-with_object, cap_of-with_object}
+use Rattle.machine.specs.Machine.{Machine, cap_of, object_of, queue_of, same_id, with_object}
+use Rattle.machine.proofs.LookUps.{object_of-with_object, queue_of-with_object, cap_of-with_object}
 use Rattle.machine.specs.Run.{Run}
 use Rattle.machine.specs.Step.{admitted, made_by, step_of, Step}
 use Rattle.machine.specs.Step.Find.{find_notification}

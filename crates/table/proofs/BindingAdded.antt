@@ -8,7 +8,8 @@ use Rattle.std.specs.Ordering.{is_eq}
 use Rattle.base.specs.declared.ids.ObjId.{ObjId}
 use Rattle.machine.specs.declared.layout.Binding.{Binding}
 use Rattle.machine.specs.Layout.{Layout, initial_of}
-use Rattle.machine.specs.Machine.{same_id, id_total}
+use Rattle.machine.specs.Machine.{same_id}
+use Rattle.machine.proofs.LookUps.{id_total}
 use Rattle.table.specs.Building.{AdmitsBinding, is_above_bindings, is_above_bound, is_bound, with_binding}
 use Rattle.table.specs.Rules.{IsLawful, IsBindingOf, kind_at, slot_total, thread_total}
 use Rattle.table.proofs.LawfulKept.{objects_kept, caps_kept, bindings_kept}

@@ -3,7 +3,8 @@ use Rattle.std.proofs.Common.{◌≡◌, ◌≢◌, ℕ, ◌-◌, ◌<◌, true,
 use Rattle.std.proofs.lemmas.Bool.{lt-ltb, false_from_ne_true}
 use Rattle.machine.specs.declared.layout.Binding.{Binding}
 use Rattle.machine.specs.Layout.{Layout, initial_of}
-use Rattle.machine.specs.Machine.{one_id, same_id}
+use Rattle.machine.specs.Machine.{same_id}
+use Rattle.machine.proofs.LookUps.{one_id}
 use Rattle.table.specs.Building.{AdmitsBinding, is_above_bindings, is_above_bound, is_bound, with_binding}
 use Rattle.table.specs.Rules.{IsLawful, IsBindingOf, kind_at, slot_total, thread_total}
 use Rattle.table.proofs.FrontLemmas.{all_front, pairs_front, none_passes, at_last}

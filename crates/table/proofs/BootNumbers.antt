@@ -12,7 +12,8 @@ use Rattle.machine.specs.declared.layout.Initial.{Initial}
 use Rattle.machine.specs.declared.object.Object.{Object}
 use Rattle.machine.specs.declared.object.Object.TheVariants as o
 use Rattle.machine.specs.declared.object.ObjectKind.TheVariants as kind
-use Rattle.machine.specs.Boot.{IsBoot, address-bound, end-bound}
+use Rattle.machine.specs.Boot.{IsBoot}
+use Rattle.machine.proofs.Bound.{address-bound, end-bound}
 use Rattle.machine.specs.Capabilities.{kind_of_detail}
 use Rattle.machine.specs.Layout.{Layout}
 use Rattle.machine.specs.Machine.{Machine, object_of, cap_of}
@@ -20,6 +21,7 @@ use Rattle.machine.specs.Objects.{address_of, end_of}
 use Rattle.machine.specs.WellFormed.{NumbersFit, Meets, kind_of}
 use Rattle.table.specs.Placement.{IsApart}
 use Rattle.table.specs.Rules.{IsLawful}
+use Rattle.table.proofs.BootContents.{boot-ranged}
 use Rattle.table.proofs.BootParts.{fills, pair-cases, declares, at_boot}
 use Rattle.table.proofs.BootSlots.{kind-aimed}
 
@@ -90,6 +92,7 @@ boot-numbers t m lawful boot = record {
   below_next =
       λ id object present.
       let declared = declares t m id object boot present in subst (λ n. id.0 < n) (sym boot.next) declared.within;
+  ranged = λ id object present. boot-ranged t m id object lawful boot present;
   one_cap =
       λ a b first second has_first has_second same untyped.
       one-slot t m a b first second lawful boot has_first has_second same untyped;

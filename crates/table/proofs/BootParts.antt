@@ -21,7 +21,8 @@ use Rattle.machine.specs.declared.object.ReplyState.TheVariants as reply
 use Rattle.machine.specs.declared.thread.Inbox.TheVariants as inbox
 use Rattle.machine.specs.Boot.{IsBoot, bound}
 use Rattle.machine.specs.Layout.{Layout, initial_of, initial_cap, initial_parent, bound_context, bound_thread}
-use Rattle.machine.specs.Machine.{Machine, object_of, cap_of, parent_of, one_id, one_slot, same_id, same_slot, id_total}
+use Rattle.machine.specs.Machine.{Machine, object_of, cap_of, parent_of, same_id, same_slot}
+use Rattle.machine.proofs.LookUps.{one_id, one_slot, id_total}
 use Rattle.table.specs.Rules.{IsLawful, IsAtRest, IsBlank, IsObjectOf, IsCapOf, IsBindingOf}
 
 -- look-ups

@@ -10,7 +10,8 @@ use Rattle.machine.specs.declared.cap.Detail.TheVariants as d
 use Rattle.machine.specs.declared.layout.Initial.{Initial}
 use Rattle.machine.specs.declared.object.Object.{Object}
 use Rattle.machine.specs.declared.object.Object.TheVariants as o
-use Rattle.machine.specs.Boot.{IsBoot, bound, kind-bound, slot_count-bound}
+use Rattle.machine.specs.Boot.{IsBoot, bound}
+use Rattle.machine.proofs.Bound.{kind-bound, slot_count-bound}
 use Rattle.machine.specs.Capabilities.{kind_of_detail}
 use Rattle.machine.specs.Layout.{Layout, initial_of}
 use Rattle.machine.specs.Machine.{Machine, cap_of}

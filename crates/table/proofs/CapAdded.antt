@@ -19,7 +19,8 @@ use Rattle.machine.specs.declared.object.Object.TheVariants as o
 use Rattle.machine.specs.declared.object.ObjectKind.TheVariants as kind
 use Rattle.machine.specs.Capabilities.{kind_of_detail}
 use Rattle.machine.specs.Layout.{Layout, initial_of}
-use Rattle.machine.specs.Machine.{slot_cmp, slot_total, same_id, id_total}
+use Rattle.machine.specs.Machine.{slot_cmp, same_id}
+use Rattle.machine.proofs.LookUps.{slot_total, id_total}
 use Rattle.machine.specs.Objects.{kind_of_object, slot_count}
 use Rattle.table.specs.Building.{AdmitsCap, declares_slot, is_above_caps, has_index, may_hold, fits, fits_target, is_fitting}
 use Rattle.table.specs.Building.{is_above_filled, is_for_untyped, has_cap_to, repeats_untyped, with_filled}

@@ -12,7 +12,8 @@ pub mod BootParts
 pub mod BootSlots
 pub mod BootLinks
 pub mod BootNumbers
-pub mod BootFresh
+pub mod BootContents
+mod BootFresh
 pub mod FrontLemmas
 pub mod LabelRemoved
 pub mod ObjectRemoved

@@ -2,6 +2,7 @@
 -- Lookup").
 use Rattle.std.specs.Prelude.{ℕ, Bool, Option, Some, None, Result, Ok, Err, if◌then◌else◌}
 use Rattle.base.specs.declared.ids.ObjId.{ObjId}
+use Rattle.base.specs.declared.ids.SlotRef.{SlotRef}
 use Rattle.base.specs.declared.refusal.Cause.{Cause}
 use Rattle.base.specs.declared.refusal.Cause.TheVariants as cause
 use Rattle.machine.specs.declared.cap.Cap.{Cap}
@@ -12,20 +13,30 @@ use Rattle.machine.specs.Machine.{Machine, cap_of}
 use Rattle.machine.specs.Lookup.{lookup_of}
 use Rattle.machine.specs.Refusing.{◌>>=◌}
 
--- the notification of a capability, with the capability's rights and badge
-abbrev pub notification_in : Option Cap → Result (ObjId × Badged) Cause
-notification_in None = Err cause.InvalidCapability
-notification_in (Some held) = by_detail held.object held.detail where
+-- what a slot holds; an empty one is an invalid capability
+abbrev pub held_in : Option Cap → Result Cap Cause
+held_in None = Err cause.InvalidCapability
+held_in (Some held) = Ok held
+
+-- the slot at an address and the capability that it holds; a lookup that fails refuses with its cause
+unfoldable pub find_cap : Machine → ObjId → ℕ → Result (SlotRef × Cap) Cause
+find_cap m caller address = do
+  place ← lookup_of m caller address
+  held ← held_in (cap_of m place.0)
+  Ok (place.0, held)
+
+-- the notification of a capability, with the capability's rights and badge; one of another kind is an invalid capability
+abbrev pub notification_in : Cap → Result (ObjId × Badged) Cause
+notification_in held = by_detail held.object held.detail where
   by_detail : ObjId → Detail → Result (ObjId × Badged) Cause
   by_detail object (d.Notification end) = Ok (object, end)
   by_detail object _ = Err cause.InvalidCapability
 
--- the notification at an address: a lookup that fails refuses with its cause, an empty slot or another kind as an invalid
--- capability
+-- the notification at an address
 unfoldable pub find_notification : Machine → ObjId → ℕ → Result (ObjId × Badged) Cause
 find_notification m caller address = do
-  place ← lookup_of m caller address
-  notification_in (cap_of m place.0)
+  found ← find_cap m caller address
+  notification_in found.1
 
 -- a right that the capability has to have
 abbrev pub permitted : Bool → Result (Unit {0}) Cause

@@ -3,8 +3,8 @@ use Rattle.std.specs.Prelude.{ℕ, None, Result, Ok, unwrap_or}
 use Rattle.base.specs.declared.ids.ObjId.{ObjId}
 use Rattle.base.specs.declared.refusal.Cause.{Cause}
 use Rattle.machine.specs.declared.call.Answer.TheVariants as answer
-use Rattle.machine.specs.declared.call.Outcome.{Outcome}
-use Rattle.machine.specs.declared.call.Outcome.TheVariants.{Done}
+use Rattle.machine.specs.declared.call.Made.{Made}
+use Rattle.machine.specs.declared.call.Made.TheVariants.{Done}
 use Rattle.machine.specs.Capabilities.{can_read}
 use Rattle.machine.specs.Changes.{with_pending}
 use Rattle.machine.specs.Machine.{Machine, object_of}
@@ -12,7 +12,7 @@ use Rattle.machine.specs.Refusing.{◌>>=◌}
 use Rattle.machine.specs.Step.Find.{find_notification, permitted}
 use Rattle.machine.specs.Step.Signal.{pending_in}
 
-unfoldable pub poll_of : Machine → ObjId → ℕ → Result (Outcome × Machine) Cause
+unfoldable pub poll_of : Machine → ObjId → ℕ → Result (Made × Machine) Cause
 poll_of m caller address = do
   found ← find_notification m caller address
   _ ← permitted (can_read found.1.rights)

@@ -4,8 +4,8 @@ use Rattle.std.specs.Int.RustNames.{bit_or}
 use Rattle.base.specs.declared.ids.ObjId.{ObjId}
 use Rattle.base.specs.declared.refusal.Cause.{Cause}
 use Rattle.machine.specs.declared.call.Answer.TheVariants as answer
-use Rattle.machine.specs.declared.call.Outcome.{Outcome}
-use Rattle.machine.specs.declared.call.Outcome.TheVariants.{Done}
+use Rattle.machine.specs.declared.call.Made.{Made}
+use Rattle.machine.specs.declared.call.Made.TheVariants.{Done}
 use Rattle.machine.specs.declared.object.Object.{Object}
 use Rattle.machine.specs.declared.object.Object.TheVariants as o
 use Rattle.machine.specs.declared.thread.Inbox.TheVariants as inbox
@@ -35,7 +35,7 @@ signalled m id badge = by_first (first_waiting m id) where
   by_first (Some thread) = woken (without_first m id) thread badge
   by_first None = with_pending m id (Some (bit_or badge (unwrap_or (pending_in (object_of m id)) 0)))
 
-unfoldable pub signal_of : Machine → ObjId → ℕ → Result (Outcome × Machine) Cause
+unfoldable pub signal_of : Machine → ObjId → ℕ → Result (Made × Machine) Cause
 signal_of m caller address = do
   found ← find_notification m caller address
   _ ← permitted (can_write found.1.rights)

@@ -26,6 +26,6 @@ loop-event-preserved c = record {
       let pushed : length c.push_reserved.new.self.items ≡ length c.loop-event.outcomes.items + 1 =
       ap length c.push_reserved.ensures.items ∙ length_push c.loop-event.outcomes.items c.step.result in
       omega arith;
-  formed = λ first. c.step.ensures.well_formed (c.loop-event.invariant.formed first);
+  formed = c.step.ensures.well_formed;
   room = omega arith;
 }

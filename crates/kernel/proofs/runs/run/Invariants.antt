@@ -9,6 +9,6 @@ invariant-loop-event l = record {
   ran : (made : List Ended) × (l.outcomes.items ≡ l.fn.outcomes.items ++ made)
       × Run l.fn.state (take l.event-index l.events) made l.state;
   counted : length l.outcomes.items ≡ length l.fn.outcomes.items + l.event-index;
-  formed : IsWellFormed l.fn.state → IsWellFormed l.state;
+  formed : IsWellFormed l.state;
   room : vec_len l.outcomes + (length l.events - l.event-index) ≤ vec_capacity l.outcomes;
 }

@@ -1,4 +1,5 @@
 -- Record by record.
+use Rattle.table.proofs.BootContents.{boot-parts}
 use Rattle.table.proofs.BootFresh.{boot-fresh}
 use Rattle.table.proofs.BootLinks.{boot-links}
 use Rattle.table.proofs.BootNumbers.{boot-numbers}
@@ -8,7 +9,12 @@ use Rattle.table.proofs.boot_law.boot_states_are_well_formed.Goals as goal
 pub returns-clause-well_formed : goal.returns-clause-well_formed
 returns-clause-well_formed c =
     λ t m lawful boot.
-    record { slots = boot-slots t m lawful boot; links = boot-links t m lawful boot; numbers = boot-numbers t m lawful boot }
+    record {
+      slots = boot-slots t m lawful boot;
+      parts = boot-parts t m boot;
+      links = boot-links t m lawful boot;
+      numbers = boot-numbers t m lawful boot;
+    }
 
 pub returns-clause-fresh : goal.returns-clause-fresh
 returns-clause-fresh c = boot-fresh

@@ -2,7 +2,7 @@
 use Rattle.std.proofs.Common.{rules}
 use Rattle.std.proofs.lemmas.List.Sorted.{answers_always}
 use Rattle.machine.specs.declared.layout.Filled.{Filled}
-use Rattle.machine.specs.Machine.{slot_total}
+use Rattle.machine.proofs.LookUps.{slot_total}
 use Rattle.table.proofs.SearchLemmas.{found_at, searchable, not_found}
 use Rattle.table.proofs.table.filled_at.Goals as goal
 

@@ -1,0 +1,15 @@
+-- What is known where conditions in order were all met.
+use Rattle.std.proofs.Common.{◌≡◌, refl}
+use Rattle.std.specs.Prelude.{Result, Ok, Err}
+use Rattle.base.specs.declared.refusal.Cause.{Cause}
+use Rattle.machine.specs.Refusing.{◌>>=◌}
+
+pub same_ok : {A : Type 0} {a b : A} → ◌≡◌ {A = Result A Cause} (Ok a) (Ok b) → a ≡ b
+same_ok e = cc
+
+-- what follows a condition came about where the condition held
+pub both_done :
+    {A B : Type 0} (r : Result A Cause) (then_do : A → Result B Cause) (b : B) → ◌>>=◌ r then_do ≡ Ok b
+    → (a : A) × (r ≡ Ok a) × (then_do a ≡ Ok b)
+both_done (Ok a) then_do b e = (a, refl, e)
+both_done (Err cause) then_do b e = cc

@@ -1,0 +1,143 @@
+-- Each step keeps a well-formed machine well formed.
+use Rattle.std.proofs.Common.{◌≡◌, ℕ, ◌⊎◌, inl, inr, List, [], ◌∷◌, refl, sym, ap, subst, ◌∙◌}
+use Rattle.std.specs.Prelude.{Some, None, option_map, if◌then◌else◌}
+use Rattle.base.specs.declared.ids.ObjId.{ObjId}
+use Rattle.machine.specs.declared.call.Call.{Call}
+use Rattle.machine.specs.declared.call.Call.TheVariants as call
+use Rattle.machine.specs.declared.call.Event.{Event}
+use Rattle.machine.specs.declared.call.Outcome.{Outcome}
+use Rattle.machine.specs.declared.object.Notification.{Notification}
+use Rattle.machine.specs.declared.object.Object.TheVariants as o
+use Rattle.machine.specs.declared.object.ObjectKind.{ObjectKind}
+use Rattle.machine.specs.declared.object.ObjectKind.TheVariants as kind
+use Rattle.machine.specs.declared.thread.Inbox.TheVariants as inbox
+use Rattle.machine.specs.declared.thread.RunState.{RunState}
+use Rattle.machine.specs.declared.thread.RunState.TheVariants as state
+use Rattle.machine.specs.declared.thread.Tcb.{Tcb}
+use Rattle.machine.specs.Machine.{Machine, object_of, queue_of, same_id, with_object, with_queue}
+use Rattle.machine.specs.Objects.{kind_of_object}
+use Rattle.machine.specs.Run.{Run}
+use Rattle.machine.specs.Step.{Step}
+use Rattle.machine.specs.WellFormed.{IsThread, IsWellFormed, LinksAgree, WaitsAtKind}
+use Rattle.machine.proofs.Inversion.{CallDone, EventDone, step_done}
+use Rattle.machine.proofs.LookUps.{object_of-with_object, object_of-with_queue}
+use Rattle.machine.proofs.Outlines.{Steady, object_steady, queue_steady, steady_steady, slots_kept, parts_kept, numbers_kept}
+use Rattle.machine.proofs.PollRow.{PollDone}
+use Rattle.machine.proofs.Queues.{first_in}
+use Rattle.machine.proofs.SignalRow.{SignalDone, Wakes, marked, roused}
+use Rattle.machine.proofs.ThreadLinks.{NamesNoReply, links_moved}
+use Rattle.machine.proofs.WakeLinks.{wake_moves}
+use Rattle.machine.proofs.WordLinks.{SetsObject, word_steady, links_with_word}
+
+steady_formed : (m next : Machine) → Steady m next → LinksAgree next → IsWellFormed m → IsWellFormed next
+steady_formed m next steady links formed =
+    record {
+      slots = slots_kept m next steady formed.slots;
+      parts = parts_kept m next steady formed.parts;
+      links = links;
+      numbers = numbers_kept m next steady formed.numbers;
+    }
+
+-- a notification's word changes
+word_formed :
+    (m : Machine) (id : ObjId) (old new : Notification) → object_of m id ≡ Some (o.Notification old)
+    → new.address ≡ old.address → IsWellFormed m → IsWellFormed (with_object m id (o.Notification new))
+word_formed m id old new was same_address formed =
+    steady_formed m (with_object m id (o.Notification new)) (word_steady m id old new was same_address)
+    (links_with_word m id old new was same_address formed.links) formed
+
+-- the content of a thread changes but for its address
+pub thread_steady :
+    (m : Machine) (id : ObjId) (old new : Tcb) → IsThread m id old → new.address ≡ old.address
+    → Steady m (with_object m id (o.Tcb new))
+thread_steady m id old new was same_address =
+    object_steady m id (o.Tcb old) (o.Tcb new) was
+    (λ i. o.Tcb (record { address = same_address i; state = state.Inactive; inbox = inbox.Empty; context = None }))
+
+-- who waits at a notification names no reply
+alone_at : (run : RunState) (at : ObjectKind) → at ≡ kind.Notification → WaitsAtKind run at → NamesNoReply run
+alone_at (state.Waiting notification) at is waits = record { not_with = λ id h. h; not_called = λ id same. cc }
+alone_at (state.Sending sending) at is waits = absurd (subst (WaitsAtKind (state.Sending sending)) is waits)
+alone_at (state.Receiving receiving) at is waits = absurd (subst (WaitsAtKind (state.Receiving receiving)) is waits)
+alone_at _ at is waits = absurd waits
+
+ready_alone : NamesNoReply state.Ready
+ready_alone = record { not_with = λ id h. h; not_called = λ id same. cc }
+
+first_alone :
+    (m : Machine) (id first : ObjId) (others : List ObjId) (notification : Notification) (thread : Tcb) → IsWellFormed m
+    → object_of m id ≡ Some (o.Notification notification) → IsThread m first thread
+    → queue_of m id ≡ Some (first ∷ others) → NamesNoReply thread.state
+first_alone m id first others notification thread formed there is waited =
+    let w = formed.links.queued id (first ∷ others) first waited (first_in first others) in
+    let one : Some (o.Tcb w.0) ≡ Some (o.Tcb thread) = sym w.2 ∙ is in
+    let same : w.0 ≡ thread = cc in
+    let kinds : Some w.1 ≡ Some kind.Notification = sym w.4 ∙ ap (option_map kind_of_object) there in
+    let at : w.1 ≡ kind.Notification = cc in
+    subst (λ (t : Tcb). NamesNoReply t.state) same (alone_at (w.0).state w.1 at w.5)
+
+-- the first thread that waits at a notification leaves its queue and is ready
+wakes_formed :
+    (m next : Machine) (id : ObjId) (badge : ℕ) (notification : Notification) → IsWellFormed m
+    → object_of m id ≡ Some (o.Notification notification) → Wakes m id badge next → IsWellFormed next
+wakes_formed m next id badge notification formed there wakes =
+    let between : Machine = with_queue m id wakes.others in
+    let new : Tcb = roused wakes.thread badge in
+    let after : Machine = with_object between wakes.first (o.Tcb new) in
+    let is : IsThread between wakes.first wakes.thread = object_of-with_queue m id wakes.others wakes.first ∙ wakes.there in
+    let steady : Steady m after =
+    steady_steady m between after (queue_steady m id (wakes.first ∷ wakes.others) wakes.others wakes.waited)
+    (thread_steady between wakes.first wakes.thread new is refl) in
+    let sets : SetsObject m wakes.first (o.Tcb new) after =
+    λ q.
+    object_of-with_object between wakes.first (o.Tcb new) q
+    ∙ ap (λ found. if same_id q wakes.first then Some (o.Tcb new) else found) (object_of-with_queue m id wakes.others q) in
+    let alone = first_alone m id wakes.first wakes.others notification wakes.thread formed there wakes.there wakes.waited in
+    let moves = wake_moves m id wakes.first wakes.others wakes.thread new wakes.waited wakes.there refl formed.links in
+    subst IsWellFormed (sym wakes.changes)
+    (steady_formed m after steady
+    (links_moved m after wakes.first wakes.thread new wakes.there sets steady refl alone ready_alone moves formed.links) formed)
+
+signal_formed :
+    (m : Machine) (caller : ObjId) (address : ℕ) (next : Machine) → IsWellFormed m → SignalDone m caller address next
+    → IsWellFormed next
+signal_formed m caller address next formed done = by_case done.changes where
+  by_case :
+      Wakes m done.open_to.id done.open_to.end.badge next
+      ⊎ (next ≡ with_object m done.open_to.id (o.Notification (marked done.open_to.notification done.open_to.end.badge)))
+      → IsWellFormed next
+  by_case (inl wakes) =
+      wakes_formed m next done.open_to.id done.open_to.end.badge done.open_to.notification formed done.open_to.there wakes
+  by_case (inr joins) =
+      subst IsWellFormed (sym joins)
+      (word_formed m done.open_to.id done.open_to.notification _ done.open_to.there refl formed)
+
+poll_formed :
+    (m : Machine) (caller : ObjId) (address : ℕ) (next : Machine) → IsWellFormed m → PollDone m caller address next
+    → IsWellFormed next
+poll_formed m caller address next formed done =
+    subst IsWellFormed (sym done.changes)
+    (word_formed m done.open_to.id done.open_to.notification _ done.open_to.there refl formed)
+
+call_formed :
+    (m : Machine) (caller : ObjId) (which : Call) (next : Machine) → IsWellFormed m → CallDone m caller which next
+    → IsWellFormed next
+call_formed m caller (call.Signal address) = signal_formed m caller address
+call_formed m caller (call.Poll address) = poll_formed m caller address
+
+pub step_formed :
+    (m : Machine) (event : Event) (outcome : Outcome) (next : Machine) → IsWellFormed m → Step m event outcome next
+    → IsWellFormed next
+step_formed m event outcome next formed step = by_case (step_done m event outcome next formed step) where
+  by_case : EventDone m event next ⊎ (next ≡ m) → IsWellFormed next
+  by_case (inl done) = call_formed m event.thread event.call next formed done.done
+  by_case (inr same) = subst IsWellFormed (sym same) formed
+
+pub run_formed :
+    (first : Machine) (events : List Event) (outcomes : List Outcome) (last : Machine) → IsWellFormed first
+    → Run first events outcomes last → IsWellFormed last
+run_formed first [] [] last formed ran = subst IsWellFormed ran formed
+run_formed first [] (outcome ∷ outcomes) last formed ran = absurd ran
+run_formed first (event ∷ events) [] last formed ran = absurd ran
+run_formed first (event ∷ events) (outcome ∷ outcomes) last formed ran =
+    run_formed ran.0 events outcomes last (step_formed first event outcome ran.0 formed ran.1) ran.2

@@ -1,0 +1,59 @@
+-- What is known of a step that was made: its caller was admitted, and its call did what its row says.
+use Rattle.std.proofs.Common.{◌≡◌, ◌⊎◌, inl, inr, refl, sym, ap, ◌∙◌}
+use Rattle.std.specs.Prelude.{Result, Ok, Err}
+use Rattle.base.specs.declared.ids.ObjId.{ObjId}
+use Rattle.base.specs.declared.refusal.Cause.{Cause}
+use Rattle.machine.specs.declared.call.Call.{Call}
+use Rattle.machine.specs.declared.call.Call.TheVariants as call
+use Rattle.machine.specs.declared.call.Event.{Event}
+use Rattle.machine.specs.declared.call.Made.{Made}
+use Rattle.machine.specs.declared.call.Outcome.{Outcome}
+use Rattle.machine.specs.Machine.{Machine}
+use Rattle.machine.specs.Step.{Step, step_of, settled, made_by, call_of, admitted}
+use Rattle.machine.specs.Step.Step.{ends, lacks}
+use Rattle.machine.specs.WellFormed.{IsWellFormed}
+use Rattle.machine.proofs.Admission.{IsCaller, admits}
+use Rattle.machine.proofs.Conditions.{both_done}
+use Rattle.machine.proofs.PollRow.{PollDone, poll_done}
+use Rattle.machine.proofs.SignalRow.{SignalDone, signal_done}
+
+-- what a call did, row by row
+abbrev pub CallDone : Machine → ObjId → Call → Machine → Type 0
+CallDone m caller (call.Signal address) next = SignalDone m caller address next
+CallDone m caller (call.Poll address) next = PollDone m caller address next
+
+call_done :
+    (m : Machine) (caller : ObjId) (which : Call) (made : Made) (next : Machine) → IsWellFormed m
+    → call_of m caller which ≡ Ok (made, next) → CallDone m caller which next
+call_done m caller (call.Signal address) = signal_done m caller address
+call_done m caller (call.Poll address) = poll_done m caller address
+
+-- an event was made: by a caller, whose call was done
+pub record EventDone (m : Machine) (event : Event) (next : Machine) : Type 0 where
+  pub caller : IsCaller m event.thread
+  pub done : CallDone m event.thread event.call next
+
+pub event_done :
+    (m : Machine) (event : Event) (made : Made) (next : Machine) → IsWellFormed m → made_by m event ≡ Ok (made, next)
+    → EventDone m event next
+unfolding made_by
+event_done m event made next formed e =
+    let admission = both_done (admitted m event.core event.thread) _ (made, next) e in
+    record {
+      caller = admits m event.core event.thread admission.0 admission.1;
+      done = call_done m event.thread event.call made next formed admission.2;
+    }
+
+-- an event was made, or nothing changed
+pub step_done :
+    (m : Machine) (event : Event) (outcome : Outcome) (next : Machine) → IsWellFormed m → Step m event outcome next
+    → EventDone m event next ⊎ (next ≡ m)
+unfolding step_of
+step_done m event outcome next formed (lacks without) = inr without.same
+step_done m event outcome next formed (ends e) = by_made (made_by m event) refl e where
+  by_made :
+      (r : Result (Made × Machine) Cause) → made_by m event ≡ r → settled m r ≡ (outcome, next)
+      → EventDone m event next ⊎ (next ≡ m)
+  by_made (Ok (made, after)) is same =
+      inl (event_done m event made next formed (is ∙ ap (λ (n : Machine). Ok (made, n)) (ap (λ p. p.1) same)))
+  by_made (Err cause) is same = inr (sym (ap (λ p. p.1) same))

@@ -1,0 +1,114 @@
+-- What a signal does that is made: the first thread that waits gets the badge and is ready; where nobody waits, the badge joins
+-- the word.
+use Rattle.std.proofs.Common.{◌≡◌, ℕ, ◌⊎◌, inl, inr, List, [], ◌∷◌, refl, ap, subst, ◌∙◌}
+use Rattle.std.specs.Prelude.{Option, Some, None, Ok, unwrap_or}
+use Rattle.std.specs.Int.RustNames.{bit_or}
+use Rattle.base.specs.declared.ids.ObjId.{ObjId}
+use Rattle.machine.specs.declared.call.Answer.TheVariants as answer
+use Rattle.machine.specs.declared.call.Made.{Made}
+use Rattle.machine.specs.declared.call.Made.TheVariants.{Done}
+use Rattle.machine.specs.declared.object.Notification.{Notification}
+use Rattle.machine.specs.declared.object.Object.TheVariants as o
+use Rattle.machine.specs.declared.thread.Inbox.TheVariants as inbox
+use Rattle.machine.specs.declared.thread.RunState.TheVariants as state
+use Rattle.machine.specs.declared.thread.Tcb.{Tcb}
+use Rattle.machine.specs.Capabilities.{can_write}
+use Rattle.machine.specs.Changes.{with_tcb, without_first, first_waiting}
+use Rattle.machine.specs.Machine.{Machine, object_of, queue_of, with_object, with_queue}
+use Rattle.machine.specs.Step.Signal.{signal_of, signalled, woken, pending_in}
+use Rattle.machine.specs.WellFormed.{IsWellFormed, IsThread}
+use Rattle.machine.proofs.Conditions.{same_ok}
+use Rattle.machine.proofs.LookUps.{object_of-with_queue}
+use Rattle.machine.proofs.NotificationRow.{IsOpen, opens, with_pending_there}
+use Rattle.machine.proofs.Queues.{first_in}
+
+-- a thread with a word in its inbox, ready
+abbrev pub roused : Tcb → ℕ → Tcb
+roused thread word = record thread { state = state.Ready; inbox = inbox.Word word }
+
+-- the first thread that waits at a notification leaves its queue, and gets the badge
+pub record Wakes (m : Machine) (id : ObjId) (badge : ℕ) (next : Machine) : Type 0 where
+  pub first : ObjId
+  pub others : List ObjId
+  pub thread : Tcb
+  pub waited : queue_of m id ≡ Some (first ∷ others)
+  pub there : IsThread m first thread
+  pub changes : next ≡ with_object (with_queue m id others) first (o.Tcb (roused thread badge))
+
+-- a notification with a badge that joined its word
+abbrev pub marked : Notification → ℕ → Notification
+marked notification badge = record notification { pending = Some (bit_or badge (unwrap_or notification.pending 0)) }
+
+pub record SignalDone (m : Machine) (caller : ObjId) (address : ℕ) (next : Machine) : Type 0 where
+  pub open_to : IsOpen m caller address (λ end. can_write end.rights)
+  pub changes :
+      Wakes m open_to.id open_to.end.badge next
+      ⊎ (next ≡ with_object m open_to.id (o.Notification (marked open_to.notification open_to.end.badge)))
+
+woken_there :
+    (m : Machine) (id : ObjId) (old : Tcb) (word : ℕ) → object_of m id ≡ Some (o.Tcb old)
+    → woken m id word ≡ with_object m id (o.Tcb (roused old word))
+unfolding woken with_tcb
+woken_there m id old word there = rw (there, there) refl
+
+signalled_first :
+    (m : Machine) (id first : ObjId) (others : List ObjId) (thread : Tcb) (badge : ℕ) → queue_of m id ≡ Some (first ∷ others)
+    → object_of m first ≡ Some (o.Tcb thread)
+    → signalled m id badge ≡ with_object (with_queue m id others) first (o.Tcb (roused thread badge))
+unfolding signalled first_waiting without_first
+signalled_first m id first others thread badge waited there =
+    rw (waited, waited) (woken_there (with_queue m id others) first thread badge (object_of-with_queue m id others first ∙ there))
+
+signalled_alone :
+    (m : Machine) (id : ObjId) (notification : Notification) (badge : ℕ) → first_waiting m id ≡ None
+    → object_of m id ≡ Some (o.Notification notification)
+    → signalled m id badge ≡ with_object m id (o.Notification (marked notification badge))
+unfolding signalled
+signalled_alone m id notification badge nobody there =
+    rw nobody
+    (with_pending_there m id notification _ there ∙ ap (λ object. with_object m id (o.Notification (record notification {
+      pending =
+          Some (bit_or badge (unwrap_or (pending_in object) 0));
+    }))) there)
+
+-- what a notification that is signalled comes to
+signalled_done :
+    (m : Machine) (id : ObjId) (notification : Notification) (badge : ℕ) → IsWellFormed m
+    → object_of m id ≡ Some (o.Notification notification)
+    → Wakes m id badge (signalled m id badge)
+    ⊎ (signalled m id badge ≡ with_object m id (o.Notification (marked notification badge)))
+unfolding first_waiting
+signalled_done m id notification badge formed there = by_queue (queue_of m id) refl where
+  by_queue :
+      (queue : Option (List ObjId)) → queue_of m id ≡ queue
+      → Wakes m id badge (signalled m id badge)
+      ⊎ (signalled m id badge ≡ with_object m id (o.Notification (marked notification badge)))
+  by_queue None e = inr (signalled_alone m id notification badge (rw e refl) there)
+  by_queue (Some []) e = inr (signalled_alone m id notification badge (rw e refl) there)
+  by_queue (Some (first ∷ others)) e =
+      let waits = formed.links.queued id (first ∷ others) first e (first_in first others) in
+      inl (record {
+        first = first;
+        others = others;
+        thread = waits.0;
+        waited = e;
+        there = waits.2;
+        changes = signalled_first m id first others waits.0 badge e waits.2;
+      })
+
+pub signal_done :
+    (m : Machine) (caller : ObjId) (address : ℕ) (made : Made) (next : Machine) → IsWellFormed m
+    → signal_of m caller address ≡ Ok (made, next) → SignalDone m caller address next
+unfolding signal_of
+signal_done m caller address made next formed e =
+    let row = opens m caller address (λ end. can_write end.rights)
+    (λ found. Ok (Done answer.Nothing, signalled m found.0 found.1.badge)) (made, next) formed e in
+    let open_to = row.0 in
+    record {
+      open_to = open_to;
+      changes =
+          subst (λ (after : Machine). Wakes m open_to.id open_to.end.badge after
+          ⊎ (after ≡ with_object m open_to.id (o.Notification (marked open_to.notification open_to.end.badge))))
+          (ap (λ p. p.1) (same_ok row.1))
+          (signalled_done m open_to.id open_to.notification open_to.end.badge formed open_to.there);
+    }

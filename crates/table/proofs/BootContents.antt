@@ -1,0 +1,49 @@
+-- In a boot state each object has a queue and its words, and nothing else has; and ranges are those that the table's rules allow.
+use Rattle.std.proofs.Common.{◌≡◌, ℕ, ◌≤◌, ◌^◌, List, [], length, replicate, sym, ap, ◌∙◌, subst}
+use Rattle.std.proofs.lemmas.List.{length-replicate}
+use Rattle.std.specs.Prelude.{Some, option_map}
+use Rattle.base.specs.declared.ids.ObjId.{ObjId}
+use Rattle.machine.specs.declared.object.Object.{Object}
+use Rattle.machine.specs.declared.object.Object.TheVariants as o
+use Rattle.machine.specs.Boot.{IsBoot, booted, bound}
+use Rattle.machine.specs.Layout.{Layout}
+use Rattle.machine.specs.Machine.{Machine, object_of}
+use Rattle.machine.specs.Objects.{end_of, word_count}
+use Rattle.machine.specs.WellFormed.{IsRanged, PartsFit}
+use Rattle.table.specs.Rules.{IsBlank, IsLawful}
+use Rattle.table.proofs.BootParts.{declared-law, declares, map-some}
+
+pub boot-parts : (t : Layout) (m : Machine) → IsBoot t m → PartsFit m
+boot-parts t m boot = record {
+  queue =
+      λ id object present. ([], boot.queues id ∙ ap (option_map (λ (x : Object). [])) (sym (boot.objects id) ∙ present));
+  words =
+      λ id object present. (
+        replicate (word_count object) 0,
+        boot.words id ∙ ap (option_map (λ (x : Object). replicate (word_count x) 0)) (sym (boot.objects id) ∙ present),
+        length-replicate (word_count object) 0,
+      );
+  queue_of_object =
+      λ id threads queued.
+      let there = map-some (λ (x : Object). []) (booted t id) threads (sym (boot.queues id) ∙ queued) in
+      (there.0, boot.objects id ∙ there.1);
+  words_of_object =
+      λ id words has.
+      let there =
+      map-some (λ (x : Object). replicate (word_count x) 0) (booted t id) words (sym (boot.words id) ∙ has) in
+      (there.0, boot.objects id ∙ there.1);
+}
+
+ranged-bound : (t : Layout) (id : ObjId) (object : Object) → IsBlank object → end_of object ≤ 2 ^ 48 → IsRanged (bound t id object)
+ranged-bound t id (o.Untyped _) blank ends = (blank.0, blank.1, ends)
+ranged-bound t id (o.Tcb _) blank ends = ends
+ranged-bound t id (o.Context _) blank ends = ends
+ranged-bound t id _ blank ends = ends
+
+pub boot-ranged :
+    (t : Layout) (m : Machine) (id : ObjId) (object : Object) → IsLawful t → IsBoot t m → object_of m id ≡ Some object
+    → IsRanged object
+boot-ranged t m id object lawful boot present =
+    let declared = declares t m id object boot present in
+    let law = declared-law t id object lawful declared in
+    subst (λ (x : Object). IsRanged x) (sym declared.is) (ranged-bound t id declared.initial.object law.blank law.end)
