@@ -35,7 +35,7 @@ fn with_objects(alloc: Global, table: &Table) -> Result<State, AllocError>
     let initials = table.objects();
     for initial in initials {
         let id = ObjId(state.next_id());
-        state.add_object(alloc, bound(table, id, initial.object))?;
+        state.add_object(bound(table, id, initial.object))?;
     }
     Ok(state)
 }

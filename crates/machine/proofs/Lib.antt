@@ -13,6 +13,8 @@ pub mod Outlines
 pub mod WordLinks
 pub mod ThreadLinks
 pub mod WakeLinks
+pub mod JoinLinks
 pub mod Formed
+pub mod Threads
 pub mod Steps
 pub mod AuthorityLemmas

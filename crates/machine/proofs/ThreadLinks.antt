@@ -16,6 +16,13 @@ use Rattle.machine.proofs.Ids.{one_or_two}
 use Rattle.machine.proofs.Outlines.{Steady, same_kinds}
 use Rattle.machine.proofs.WordLinks.{SetsObject, set_there, set_elsewhere, other_before, other_after}
 
+-- a thread waits at one object at most
+pub waits_at_one : (run : RunState) (a b : ObjId) → WaitsAt run a → WaitsAt run b → a ≡ b
+waits_at_one (state.Sending sending) a b p q = sym p ∙ q
+waits_at_one (state.Receiving receiving) a b p q = sym p ∙ q
+waits_at_one (state.Waiting notification) a b p q = sym p ∙ q
+waits_at_one _ a b p q = absurd p
+
 -- a run state that names no reply and waits for none
 pub record NamesNoReply (run : RunState) : Type 0 where
   pub not_with : (id : ObjId) → ¬ (IsReceivingWith run id)

@@ -4,7 +4,6 @@ use Rattle.std.specs.Prelude.{Some, Contains, AllPairs}
 use Rattle.std.proofs.lemmas.Map.Made.{Contains-tail}
 use Rattle.base.specs.declared.ids.ObjId.{ObjId}
 use Rattle.machine.specs.declared.object.Object.TheVariants as o
-use Rattle.machine.specs.declared.thread.RunState.{RunState}
 use Rattle.machine.specs.declared.thread.RunState.TheVariants as state
 use Rattle.machine.specs.declared.thread.Tcb.{Tcb}
 use Rattle.machine.specs.Machine.{Machine, object_of, queue_of, with_object, with_queue}
@@ -12,14 +11,7 @@ use Rattle.machine.specs.WellFormed.{IsThread, LinksAgree, WaitsAt}
 use Rattle.machine.proofs.Ids.{one_or_two, at_itself, at_other}
 use Rattle.machine.proofs.LookUps.{queue_of-with_object, queue_of-with_queue}
 use Rattle.machine.proofs.Queues.{first_in, other_in, once_first, once_others}
-use Rattle.machine.proofs.ThreadLinks.{Moves, WasIn}
-
--- a thread waits at one object at most
-waits_at_one : (run : RunState) (a b : ObjId) → WaitsAt run a → WaitsAt run b → a ≡ b
-waits_at_one (state.Sending sending) a b p q = sym p ∙ q
-waits_at_one (state.Receiving receiving) a b p q = sym p ∙ q
-waits_at_one (state.Waiting notification) a b p q = sym p ∙ q
-waits_at_one _ a b p q = absurd p
+use Rattle.machine.proofs.ThreadLinks.{Moves, WasIn, waits_at_one}
 
 module _ (m : Machine) (id first : ObjId) (others : List ObjId) (old new : Tcb) (waited : queue_of m id ≡ Some (first ∷ others))
     (was : IsThread m first old) (ready : new.state ≡ state.Ready) (links : LinksAgree m) where

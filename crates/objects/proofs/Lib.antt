@@ -1,6 +1,9 @@
 pub mod ChangeLemmas
+pub mod ConsistentLemmas
 pub mod EditLemmas
 pub mod EntryLemmas
 pub mod FiniteLemmas
-pub mod SoundLemmas
+pub mod LinkLemmas
+pub mod QueueLemmas
+pub mod RankLemmas
 pub mod StateLemmas

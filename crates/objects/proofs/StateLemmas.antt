@@ -24,15 +24,13 @@ use Rattle.objects.specs.declared.entry.Entry.{Entry}
 use Rattle.objects.specs.declared.slots.Slot.{Slot}
 use Rattle.objects.specs.declared.state.State.TheInside.{Inside}
 use Rattle.objects.specs.Entries.{place_of, entry_of, cap_in, parent_in}
+use Rattle.objects.specs.Links.{queue_in}
 use Rattle.objects.specs.State.{slots_of, machine_from, machine_of}
 use Rattle.objects.proofs.FiniteLemmas.{get-tabulate, ties_itself, same_from_tie}
 
 -- what is read of an entry, if it is there
 abbrev pub object_at : Option Entry → Option Object
 object_at entry = option_map (λ e. e.object) entry
-
-abbrev pub queue_at : Option Entry → Option (List ObjId)
-queue_at entry = option_map (λ e. e.queue) entry
 
 abbrev pub words_at : Option Entry → Option (List ℕ)
 words_at entry = option_map (λ e. e.words) entry
@@ -43,17 +41,19 @@ cap_at index entry = option_and_then (λ e. cap_in e index) entry
 abbrev pub parent_at : ℕ → Option Entry → Option SlotRef
 parent_at index entry = option_and_then (λ e. parent_in e index) entry
 
--- the machine answers what the entries say
-pub record Tells (m : Machine) (entry : ObjId → Option Entry) : Type 0 where
+-- the machine answers what the entries say, where there are so many numbers
+pub record Tells (numbers : ℕ) (m : Machine) (entry : ObjId → Option Entry) : Type 0 where
   pub objects : (q : ObjId) → object_of m q ≡ object_at (entry q)
-  pub queues : (q : ObjId) → queue_of m q ≡ queue_at (entry q)
+  pub queues : (q : ObjId) → queue_of m q ≡ queue_in numbers entry (entry q)
   pub words : (q : ObjId) → words_of m q ≡ words_at (entry q)
   pub caps : (q : SlotRef) → cap_of m q ≡ cap_at q.index (entry q.holder)
   pub parents : (q : SlotRef) → parent_of m q ≡ parent_at q.index (entry q.holder)
 
 -- machines of which the same entries tell are one
-pub same_from_tells : (m n : Machine) (entry : ObjId → Option Entry) → Tells m entry → Tells n entry → m.next ≡ n.next → m ≡ n
-same_from_tells m n entry a b next =
+pub same_from_tells :
+    (numbers : ℕ) (m n : Machine) (entry : ObjId → Option Entry) → Tells numbers m entry → Tells numbers n entry
+    → m.next ≡ n.next → m ≡ n
+same_from_tells numbers m n entry a b next =
     same_machine m n (λ q. a.objects q ∙ sym (b.objects q)) (λ q. a.queues q ∙ sym (b.queues q))
     (λ q. a.words q ∙ sym (b.words q)) (λ q. a.caps q ∙ sym (b.caps q)) (λ q. a.parents q ∙ sym (b.parents q)) next
 
@@ -146,7 +146,7 @@ is_some-option_map f (Some x) = refl
 
 tells-machine_from :
     (entry : ObjId → Option Entry) (ids : List ObjId) (next : ℕ)
-    → ((q : ObjId) → IsSome (entry q) → list_any (same_id q) ids ≡ true) → Tells (machine_from entry ids next) entry
+    → ((q : ObjId) → IsSome (entry q) → list_any (same_id q) ids ≡ true) → Tells next (machine_from entry ids next) entry
 unfolding object_of queue_of words_of cap_of parent_of
 tells-machine_from entry ids next all =
     let slots : List SlotRef = flat_map (λ id. slots_of id (entry id)) ids in
@@ -157,7 +157,7 @@ tells-machine_from entry ids next all =
           (λ some. all q (sym (is_some-option_map _ (entry q)) ∙ some));
       queues =
           λ q.
-          get-tabulate id_total id_apart (λ id. queue_at (entry id)) ids q
+          get-tabulate id_total id_apart (λ id. queue_in next entry (entry id)) ids q
           (λ some. all q (sym (is_some-option_map _ (entry q)) ∙ some));
       words =
           λ q.
@@ -173,7 +173,7 @@ tells-machine_from entry ids next all =
           (some_slot (λ slot. slot.parent) entry ids all q);
     }
 
-pub tells-machine_of : (s : Inside) → Tells (machine_of s) (entry_of s.places s.entries)
+pub tells-machine_of : (s : Inside) → Tells s.next (machine_of s) (entry_of s.places s.entries)
 unfolding machine_of
 tells-machine_of s =
     tells-machine_from (entry_of s.places s.entries) (map (λ number. record { 0 = number }) (tree.keys s.places)) s.next

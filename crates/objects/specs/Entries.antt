@@ -1,5 +1,5 @@
 -- Where the entry of an object is kept, what it says, and what the store is after a change to one entry.
-use Rattle.std.specs.Prelude.{◌≡◌, ℕ, [], ◌∷◌, ◌++◌, drop, Option, Some, None, option_and_then, slice_get, replicate}
+use Rattle.std.specs.Prelude.{◌≡◌, ℕ, Option, Some, None, option_and_then, slice_get, replicate}
 use Rattle.std.specs.Ordering.{nat_cmp}
 use Rattle.std.specs.BTreeMap as tree
 use Rattle.std.specs.BTreeMap.{BTreeMap}
@@ -11,6 +11,8 @@ use Rattle.machine.specs.declared.cap.Cap.{Cap}
 use Rattle.machine.specs.declared.object.Object.{Object}
 use Rattle.machine.specs.Objects.{slot_count, word_count}
 use Rattle.objects.specs.declared.entry.Entry.{Entry}
+use Rattle.objects.specs.declared.links.Ends.{Ends}
+use Rattle.objects.specs.declared.links.Standing.{Standing}
 use Rattle.objects.specs.Edits.{edited}
 
 -- where an object's entry is
@@ -46,11 +48,11 @@ set_parent_in index parent entry =
 abbrev pub replace_in : Object → Entry → Entry
 replace_in object entry = record entry { object = object }
 
-abbrev pub push_in : ObjId → Entry → Entry
-push_in thread entry = record entry { queue = entry.queue ++ thread ∷ [] }
+abbrev pub set_ends_in : Ends → Entry → Entry
+set_ends_in ends entry = record entry { ends = ends }
 
-abbrev pub pop_in : Entry → Entry
-pop_in entry = record entry { queue = drop 1 entry.queue }
+abbrev pub set_standing_in : Standing → Entry → Entry
+set_standing_in standing entry = record entry { standing = standing }
 
 -- the entry of a new object: its slots are empty, nobody waits at it, and its words are zero
 abbrev pub new_entry : Object → Entry
@@ -58,7 +60,8 @@ new_entry object =
     record {
       object = object;
       slots = replicate (slot_count object) (record { cap = None; parent = None });
-      queue = [];
+      ends = record { first = None; last = None };
+      standing = record { at = None; previous = None; next = None };
       words = replicate (word_count object) 0;
     }
 

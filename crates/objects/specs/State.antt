@@ -13,6 +13,7 @@ use Rattle.objects.specs.declared.entry.Entry.{Entry}
 use Rattle.objects.specs.declared.state.State.TheInside.{Inside}
 use Rattle.objects.specs.Entries.{entry_of, cap_in, parent_in}
 use Rattle.objects.specs.Finite.{tabulate}
+use Rattle.objects.specs.Links.{queue_in, AreQueued}
 use Rattle.objects.specs.Radices.{HasRadix}
 
 -- the slots of an object
@@ -26,7 +27,7 @@ machine_from entry ids next =
     let slots : List SlotRef = flat_map (λ id. slots_of id (entry id)) ids in
     record {
       objects = tabulate (λ id. option_map (λ e. e.object) (entry id)) ids;
-      queues = tabulate (λ id. option_map (λ e. e.queue) (entry id)) ids;
+      queues = tabulate (λ id. queue_in next entry (entry id)) ids;
       words = tabulate (λ id. option_map (λ e. e.words) (entry id)) ids;
       caps = tabulate (λ slot. option_and_then (λ e. cap_in e slot.index) (entry slot.holder)) slots;
       parents = tabulate (λ slot. option_and_then (λ e. parent_in e slot.index) (entry slot.holder)) slots;
@@ -42,10 +43,11 @@ abbrev pub IsSized : Entry → Type 0
 IsSized entry = (length entry.slots ≡ slot_count entry.object) × HasRadix entry.object
 
 -- each number in use has a place of its own with an entry and is below the next one, its object has as many slots as it should,
--- and a CNode has a radix
-pub record IsSound (s : Inside) : Type 0 where
+-- a CNode has a radix, and the links are those of queues
+pub record IsConsistent (s : Inside) : Type 0 where
   pub apart : (a b place : ℕ) → tree.get nat_cmp s.places a ≡ Some place → tree.get nat_cmp s.places b ≡ Some place → a ≡ b
   pub held : (a place : ℕ) → tree.get nat_cmp s.places a ≡ Some place → IsSome (slab.get s.entries place)
   pub fresh : (a : ℕ) → IsSome (tree.get nat_cmp s.places a) → a < s.next
   pub bounded : s.next ≤ 2 ^ 48
   pub sized : (id : ObjId) (entry : Entry) → entry_of s.places s.entries id ≡ Some entry → IsSized entry
+  pub queued : AreQueued (entry_of s.places s.entries) s.next

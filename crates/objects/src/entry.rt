@@ -1,6 +1,6 @@
 ghost use Rattle.objects.specs.Radices.{HasRadix};
 
-use crate::queue::Queue;
+use crate::links::{Ends, Standing};
 use crate::slots::Slots;
 use crate::words::Words;
 use machine::Object;
@@ -11,7 +11,9 @@ pub struct Entry {
     pub object: Object,
     pub slots: Slots,
     /// Who waits at it.
-    pub queue: Queue,
+    pub ends: Ends,
+    /// Where it waits, if it is a thread that does.
+    pub standing: Standing,
     pub words: Words,
 }
 

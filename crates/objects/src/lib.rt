@@ -6,7 +6,7 @@
 #![tactic(auto)]
 
 mod entry;
-mod queue;
+mod links;
 mod slots;
 mod state;
 mod store;

@@ -16,6 +16,7 @@ pub struct State {
     places: BTreeMap<u64, usize>,
     entries: Slab<Entry>,
     next: u64,
+    alloc: Global,
 }
 
 impl Model for State {
@@ -29,25 +30,26 @@ impl Model for State {
 
     ghost coded = { machine_code id.the_row.coded slot.the_row.coded object.the_row.coded capability.the_row.coded };
 
-    ghost use Rattle.objects.specs.State.{machine_of, IsSound};
+    ghost use Rattle.objects.specs.State.{machine_of, IsConsistent};
 
     ghost view = { machine_of };
 
-    ghost invariant = { IsSound };
+    ghost invariant = { IsConsistent };
 }
 
 impl State {
     ghost use Rattle.base.specs.declared.ids.ObjId.{ObjId as Id};
     ghost use Rattle.machine.specs.declared.object.CNode.{CNode};
     ghost use Rattle.machine.specs.declared.object.Object.TheVariants as o;
-    ghost use Rattle.std.specs.Prelude.{◌≡◌, ◌<◌, ◌≤◌, ◌^◌, None, IsOk, IsTrue, IfOk, OnErr, OnOk, option_copied, option_and_then, slice_get};
+    ghost use Rattle.std.specs.Prelude.{◌≡◌, ◌<◌, ◌≤◌, ◌^◌, IsTrue, IfOk, OnErr, OnOk, option_copied};
     ghost use Rattle.std.specs.Prelude.{IsSome, IfSome};
-    ghost use Rattle.machine.specs.Machine.{empty_machine, object_of, cap_of, parent_of, queue_of, words_of, has_slot, with_new, with_cap};
+    ghost use Rattle.machine.specs.Machine.{empty_machine, object_of, cap_of, has_slot, with_new, with_cap};
     ghost use Rattle.machine.specs.Machine.{with_parent, with_object};
     ghost use Rattle.machine.specs.Objects.{slot_count};
+    ghost use Rattle.objects.specs.Waiting.{WaitsNowhere};
     ghost use Rattle.machine.specs.Changes.{first_waiting, with_pending, with_tcb, with_context, with_waiting, without_first};
 
-    /// A state with no objects.
+    /// A state with no objects, which takes its memory from the allocator.
     pub fn new(alloc: Global) -> State
         ensures { result ≡ empty_machine }
     {
@@ -55,6 +57,7 @@ impl State {
             places: BTreeMap::new(alloc),
             entries: Slab::new(alloc),
             next: 0,
+            alloc,
         }
     }
 
@@ -89,13 +92,6 @@ impl State {
         store::cap(&self.places, &self.entries, slot)
     }
 
-    /// The slot whose capability that in this one was derived from, if it was derived.
-    pub fn parent(&self, slot: SlotRef) -> Option<SlotRef>
-        ensures { result ≡ parent_of self.now slot }
-    {
-        store::parent(&self.places, &self.entries, slot)
-    }
-
     /// Whether there is such a slot, filled or not.
     pub fn has_slot(&self, slot: SlotRef) -> bool
         ensures { result ≡ has_slot self.now slot }
@@ -113,18 +109,11 @@ impl State {
         store::first(&self.places, &self.entries, id)
     }
 
-    /// A word of a frame's memory, by its index from 0.
-    pub fn word(&self, id: ObjId, index: u64) -> Option<u64>
-        ensures { result ≡ option_and_then (λ words. slice_get words index) (words_of self.now id) }
-    {
-        store::word(&self.places, &self.entries, id, index)
-    }
-
     /// Adds an object under the next number. Its slots are empty, nobody waits at it, and its words
     /// are zero.
     ///
     /// Fails where memory runs out.
-    pub fn add_object(&mut self, alloc: Global, object: Object) -> Result<ObjId, AllocError>
+    pub fn add_object(&mut self, object: Object) -> Result<ObjId, AllocError>
         requires { self.old.next < 2 ^ 48 }
         ensures made { OnOk result (self.new ≡ with_new self.old object) }
         ensures numbered { IfOk result (λ id. id ≡ record { 0 = self.old.next }) }
@@ -132,7 +121,13 @@ impl State {
     {
         cnode_takes_bits(&object);
         let number = self.next;
-        store::add(alloc, &mut self.places, &mut self.entries, number, object)?;
+        store::add(
+            self.alloc,
+            &mut self.places,
+            &mut self.entries,
+            number,
+            object,
+        )?;
         self.next += 1;
         Ok(ObjId(number))
     }
@@ -200,14 +195,12 @@ impl State {
 
     /// Puts the thread behind those that wait at the object. Does nothing where there is no such
     /// object.
-    ///
-    /// Fails where memory runs out.
-    pub fn push_waiting(&mut self, id: ObjId, thread: ObjId) -> Result<(), AllocError>
-        ensures ok { OnOk result (self.new ≡ with_waiting self.old id thread) }
-        ensures err { OnErr result (self.new ≡ self.old) }
-        ensures nowhere { queue_of self.old id ≡ None → IsOk result }
+    pub fn push_waiting(&mut self, id: ObjId, thread: ObjId)
+        requires present { IsSome (object_of self.old thread) }
+        requires free { WaitsNowhere self.old thread }
+        ensures { self.new ≡ with_waiting self.old id thread }
     {
-        store::push(&self.places, &mut self.entries, id, thread)
+        store::push(&self.places, &mut self.entries, id, thread);
     }
 
     /// Takes the thread that has waited longest at the object, if one waits.
@@ -218,6 +211,3 @@ impl State {
         store::pop(&self.places, &mut self.entries, id)
     }
 }
-
-#[cfg(test)]
-mod tests;

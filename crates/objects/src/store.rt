@@ -1,11 +1,12 @@
 //! The entry of an object, found by its number: a map from numbers to places, and the entries at
 //! these.
-ghost use Rattle.std.specs.Prelude.{◌≡◌, None, IsOk, option_copied, option_map, option_and_then, slice_get, OnOk, OnErr};
-ghost use Rattle.objects.specs.Entries.{entry_of, cap_in, parent_in, with_entry, put_cap_in, set_parent_in, replace_in, push_in};
-ghost use Rattle.objects.specs.Entries.{pop_in, new_entry, AddsEntry, SameEntries};
+ghost use Rattle.std.specs.Prelude.{◌≡◌, option_copied, option_map, option_and_then, OnOk, OnErr};
+ghost use Rattle.objects.specs.Entries.{entry_of, cap_in, with_entry, put_cap_in, set_parent_in, replace_in};
+ghost use Rattle.objects.specs.Entries.{new_entry, AddsEntry, SameEntries, set_ends_in, set_standing_in};
+ghost use Rattle.objects.specs.Links.{standing_of, with_standing, pushed, popped};
 
 use crate::entry::Entry;
-use crate::queue::Queue;
+use crate::links::{Ends, Standing};
 use crate::slots::Slots;
 use crate::words::Words;
 use base::{ObjId, SlotRef};
@@ -47,37 +48,28 @@ pub fn cap(places: &BTreeMap<u64, usize>, entries: &Slab<Entry>, slot: SlotRef) 
         .cap
 }
 
-/// The parent of the slot.
-pub fn parent(
-    places: &BTreeMap<u64, usize>,
-    entries: &Slab<Entry>,
-    slot: SlotRef,
-) -> Option<SlotRef>
-    ensures { result ≡ option_and_then (λ entry. parent_in entry slot.index) (entry_of places.now entries.now slot.holder) }
+// The ends of the queue at the object.
+fn ends(places: &BTreeMap<u64, usize>, entries: &Slab<Entry>, id: ObjId) -> Option<Ends>
+    ensures { result ≡ option_map (λ entry. entry.ends) (entry_of places.now entries.now id) }
 {
-    entry(places, entries, slot.holder)?
-        .slots
-        .get(slot.index)?
-        .parent
+    Some(entry(places, entries, id)?.ends)
 }
 
 /// Who waits first at the object.
 pub fn first(places: &BTreeMap<u64, usize>, entries: &Slab<Entry>, id: ObjId) -> Option<ObjId>
-    ensures { result ≡ option_and_then (λ entry. slice_get entry.queue 0) (entry_of places.now entries.now id) }
+    ensures { result ≡ option_and_then (λ entry. entry.ends.first) (entry_of places.now entries.now id) }
 {
-    entry(places, entries, id)?.queue.first()
+    entry(places, entries, id)?.ends.first
 }
 
-/// A word of the object's memory.
-pub fn word(
-    places: &BTreeMap<u64, usize>,
-    entries: &Slab<Entry>,
-    id: ObjId,
-    index: u64,
-) -> Option<u64>
-    ensures { result ≡ option_and_then (λ entry. slice_get entry.words index) (entry_of places.now entries.now id) }
+// Where the thread stands.
+fn standing(places: &BTreeMap<u64, usize>, entries: &Slab<Entry>, thread: ObjId) -> Standing
+    ensures { result ≡ standing_of (entry_of places.now entries.now thread) }
 {
-    entry(places, entries, id)?.words.get(index)
+    match entry(places, entries, thread) {
+        Some(entry) => entry.standing,
+        None => Standing::NOWHERE,
+    }
 }
 
 /// Fills the slot, if there is one.
@@ -118,33 +110,103 @@ pub fn replace(places: &BTreeMap<u64, usize>, entries: &mut Slab<Entry>, id: Obj
     }
 }
 
-/// Puts the thread at the end of the object's queue, if the object is present.
-pub fn push(
-    places: &BTreeMap<u64, usize>,
-    entries: &mut Slab<Entry>,
-    id: ObjId,
-    thread: ObjId,
-) -> Result<(), AllocError>
-    ensures ok { OnOk result (entries.new ≡ with_entry places.now entries.old id (push_in thread)) }
-    ensures err { OnErr result (entries.new ≡ entries.old) }
-    ensures nowhere { entry_of places.now entries.old id ≡ None → IsOk result }
+fn set_ends(places: &BTreeMap<u64, usize>, entries: &mut Slab<Entry>, id: ObjId, ends: Ends)
+    ensures { entries.new ≡ with_entry places.now entries.old id (set_ends_in ends) }
 {
     if let Some(place) = places.get(&id.0) {
         if let Some(entry) = entries.get_mut(*place) {
-            entry.queue.push(thread)?;
+            entry.ends = ends;
         }
     }
-    Ok(())
+}
+
+fn set_standing(
+    places: &BTreeMap<u64, usize>,
+    entries: &mut Slab<Entry>,
+    thread: ObjId,
+    standing: Standing,
+)
+    ensures { entries.new ≡ with_entry places.now entries.old thread (set_standing_in standing) }
+{
+    if let Some(place) = places.get(&thread.0) {
+        if let Some(entry) = entries.get_mut(*place) {
+            entry.standing = standing;
+        }
+    }
+}
+
+// Says who stands behind the thread, if one is named.
+fn set_next(
+    places: &BTreeMap<u64, usize>,
+    entries: &mut Slab<Entry>,
+    thread: Option<ObjId>,
+    next: Option<ObjId>,
+)
+    ensures { entries.new ≡ with_standing places.now entries.old thread (λ s. record s { next = next }) }
+{
+    if let Some(thread) = thread {
+        let changed = Standing {
+            next,
+            ..standing(places, entries, thread)
+        };
+        set_standing(places, entries, thread, changed);
+    }
+}
+
+// Says who stands before the thread, if one is named.
+fn set_previous(
+    places: &BTreeMap<u64, usize>,
+    entries: &mut Slab<Entry>,
+    thread: Option<ObjId>,
+    previous: Option<ObjId>,
+)
+    ensures { entries.new ≡ with_standing places.now entries.old thread (λ s. record s { previous = previous }) }
+{
+    if let Some(thread) = thread {
+        let changed = Standing {
+            previous,
+            ..standing(places, entries, thread)
+        };
+        set_standing(places, entries, thread, changed);
+    }
+}
+
+/// Puts the thread at the end of the object's queue, if the object is present.
+pub fn push(places: &BTreeMap<u64, usize>, entries: &mut Slab<Entry>, id: ObjId, thread: ObjId)
+    ensures { entries.new ≡ pushed places.now entries.old id thread (option_map (λ entry. entry.ends) (entry_of places.now entries.old id)) }
+{
+    if let Some(ends) = ends(places, entries, id) {
+        let standing = Standing {
+            at: Some(id),
+            previous: ends.last,
+            next: None,
+        };
+        let ends = Ends {
+            first: ends.first.or(Some(thread)),
+            last: Some(thread),
+        };
+        set_next(places, entries, standing.previous, Some(thread));
+        set_standing(places, entries, thread, standing);
+        set_ends(places, entries, id, ends);
+    }
 }
 
 /// Takes the first thread of the object's queue.
 pub fn pop(places: &BTreeMap<u64, usize>, entries: &mut Slab<Entry>, id: ObjId) -> Option<ObjId>
-    ensures value { result ≡ option_and_then (λ entry. slice_get entry.queue 0) (entry_of places.now entries.old id) }
-    ensures rest { entries.new ≡ with_entry places.now entries.old id pop_in }
+    ensures value { result ≡ option_and_then (λ entry. entry.ends.first) (entry_of places.now entries.old id) }
+    ensures rest { entries.new ≡ popped places.now entries.old id (option_map (λ entry. entry.ends) (entry_of places.now entries.old id)) }
 {
-    let place = places.get(&id.0)?;
-    let entry = entries.get_mut(*place)?;
-    entry.queue.pop()
+    let ends = ends(places, entries, id)?;
+    let first = ends.first?;
+    let next = standing(places, entries, first).next;
+    let rest = Ends {
+        first: next,
+        last: next.and(ends.last),
+    };
+    set_previous(places, entries, next, None);
+    set_standing(places, entries, first, Standing::NOWHERE);
+    set_ends(places, entries, id, rest);
+    Some(first)
 }
 
 /// Adds the entry of a new object under a number that is not in use.
@@ -163,7 +225,8 @@ pub fn add(
     let entry = Entry {
         object,
         slots: Slots::empty(alloc, object.slot_count())?,
-        queue: Queue::new(alloc),
+        ends: Ends::NOBODY,
+        standing: Standing::NOWHERE,
         words: Words::zeros(alloc, object.word_count())?,
     };
     entries.reserve(1)?;

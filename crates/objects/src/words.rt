@@ -1,4 +1,4 @@
-ghost use Rattle.std.specs.Prelude.{◌≡◌, replicate, slice_get, IfOk};
+ghost use Rattle.std.specs.Prelude.{◌≡◌, replicate, IfOk};
 
 use std::alloc::{AllocError, Global};
 use std::marker::Model;
@@ -25,12 +25,5 @@ impl Words {
         let mut items = Vec::new(alloc);
         items.resize(count as usize, 0)?;
         Ok(Words { items })
-    }
-
-    /// The word at the index.
-    pub fn get(&self, index: u64) -> Option<u64>
-        ensures { result ≡ slice_get self.now index }
-    {
-        self.items.get(index as usize).copied()
     }
 }

@@ -1,11 +1,22 @@
 //! The queues of threads at endpoints and notifications, first in, first out.
 #![tactic(auto)]
 
-ghost use Rattle.std.specs.Prelude.{◌≡◌, None};
-ghost use Rattle.machine.specs.Changes.{first_waiting, without_first};
+ghost use Rattle.std.specs.Prelude.{◌≡◌, None, IsSome};
+ghost use Rattle.machine.specs.Machine.{object_of};
+ghost use Rattle.machine.specs.Changes.{first_waiting, with_waiting, without_first};
+ghost use Rattle.objects.specs.Waiting.{WaitsNowhere};
 
 use base::ObjId;
 use objects::State;
+
+/// Puts a thread behind those that wait at an object. Does nothing where there is no such object.
+pub fn push_last(state: &mut State, id: ObjId, thread: ObjId)
+    requires present { IsSome (object_of state.old thread) }
+    requires free { WaitsNowhere state.old thread }
+    ensures { state.new ≡ with_waiting state.old id thread }
+{
+    state.push_waiting(id, thread);
+}
 
 /// Takes the first of the threads that wait at an object, and says which it was. The others stay in
 /// their order.
@@ -19,26 +30,4 @@ pub fn pop_first(state: &mut State, id: ObjId) -> Option<ObjId>
 }
 
 #[cfg(test)]
-mod tests {
-    use super::*;
-    use machine::{Notification, Object};
-    use std::test::Fail;
-
-    #[test]
-    fn first_in_first_out(rt: HostRuntime) -> Result<(), Fail> {
-        let mut state = State::new(rt.alloc());
-        let notification = Notification {
-            address: 0x20,
-            pending: None,
-        };
-        assert!(rt; state.next_id() < 1);
-        let id = state.add_object(rt.alloc(), Object::Notification(notification))?;
-        state.push_waiting(id, ObjId(8))?;
-        state.push_waiting(id, ObjId(3))?;
-        assert_eq!(rt; pop_first(&mut state, id), Some(ObjId(8)));
-        assert_eq!(rt; pop_first(&mut state, id), Some(ObjId(3)));
-        assert_eq!(rt; pop_first(&mut state, id), None);
-        assert_eq!(rt; pop_first(&mut state, ObjId(1)), None);
-        Ok(())
-    }
-}
+mod tests;

@@ -23,9 +23,9 @@ fn fill<R: Abort + AllocGlobal>(rt: &R, state: &mut State) -> Result<(), Fail> {
         radix: Radix::new(6).ok_or("radix")?,
     });
     assert!(rt; state.next_id() == 0);
-    state.add_object(rt.alloc(), thread)?;
+    state.add_object(thread)?;
     assert!(rt; state.next_id() == 1);
-    state.add_object(rt.alloc(), node)?;
+    state.add_object(node)?;
     let slot = SlotRef {
         holder: THREAD,
         index: 0,

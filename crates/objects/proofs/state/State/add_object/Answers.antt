@@ -1,11 +1,11 @@
 use Rattle.std.proofs.Common.{◌<◌, ◌^◌, sym, ap}
 use Rattle.std.proofs.lemmas.Result.{err_from_is_err_and}
 use Rattle.objects.proofs.StateLemmas.{next-machine_of}
-use Rattle.objects.proofs.SoundLemmas.{IsSound-same, same_gives, IsSound-added, added_gives}
+use Rattle.objects.proofs.ConsistentLemmas.{IsConsistent-same, same_gives, IsConsistent-added, added_gives}
 use Rattle.objects.proofs.state.State.add_object.Goals as goal
 
 pub invariant_of-self : goal.invariant_of-self
-invariant_of-self c = IsSound-same c.self.inside c.self.invariant c.add.new.places c.add.new.entries c.in_err-add.ensures.err
+invariant_of-self c = IsConsistent-same c.self.inside c.self.invariant c.add.new.places c.add.new.entries c.in_err-add.ensures.err
 
 pub returns-in_err-add-clause-err : goal.returns-in_err-add-clause-err
 returns-in_err-add-clause-err c =
@@ -15,7 +15,7 @@ returns-in_err-add-clause-err c =
 pub invariant_of-self-2 : goal.invariant_of-self-2
 invariant_of-self-2 c =
     let room : c.self.inside.next < 2 ^ 48 = rw (← next-machine_of c.self.inside, c.self.view_is) c.requires in
-    IsSound-added c.self.inside c.self.invariant room c.args.object c.cnode_takes_bits.ensures c.add.new.places c.add.new.entries
+    IsConsistent-added c.self.inside c.self.invariant room c.args.object c.cnode_takes_bits.ensures c.add.new.places c.add.new.entries
     c.in_ok-add.ensures.ok
 
 pub returns-clause-made : goal.returns-clause-made

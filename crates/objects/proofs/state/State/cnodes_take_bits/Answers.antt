@@ -1,5 +1,5 @@
 use Rattle.machine.specs.declared.object.Object.TheVariants as o
-use Rattle.objects.proofs.SoundLemmas.{HasRadix-machine_of}
+use Rattle.objects.proofs.ConsistentLemmas.{HasRadix-machine_of}
 use Rattle.objects.proofs.state.State.cnodes_take_bits.Goals as goal
 
 pub returns : goal.returns

@@ -1,8 +1,8 @@
-use Rattle.objects.proofs.SoundLemmas.{put_cap_gives, IsSound-put_cap}
+use Rattle.objects.proofs.ConsistentLemmas.{put_cap_gives, IsConsistent-put_cap}
 use Rattle.objects.proofs.state.State.put_cap.Goals as goal
 
 pub invariant_of-self : goal.invariant_of-self
-invariant_of-self c = rw c.put_cap.ensures (IsSound-put_cap c.self.inside c.self.invariant c.args.slot c.args.cap)
+invariant_of-self c = rw c.put_cap.ensures (IsConsistent-put_cap c.self.inside c.self.invariant c.args.slot c.args.cap)
 
 pub returns : goal.returns
 returns c =

@@ -1,10 +1,10 @@
-use Rattle.objects.proofs.SoundLemmas.{replace_gives, IsSound-replace}
+use Rattle.objects.proofs.ConsistentLemmas.{replace_gives, IsConsistent-replace}
 use Rattle.objects.proofs.state.State.replace.Goals as goal
 
 pub invariant_of-self : goal.invariant_of-self
 invariant_of-self c =
     rw c.replace.ensures
-    (IsSound-replace c.self.inside c.self.invariant c.args.id c.args.object c.cnode_takes_bits.ensures
+    (IsConsistent-replace c.self.inside c.self.invariant c.args.id c.args.object c.cnode_takes_bits.ensures
     (rw c.self.view_is c.requires.same_slots))
 
 pub returns : goal.returns

@@ -1,0 +1,37 @@
+-- What is seen where a thread's content changes, and that a caller waits nowhere.
+use Rattle.std.proofs.Common.{◌≡◌, ℕ, List, refl, ◌∙◌}
+use Rattle.std.specs.Prelude.{Option, Some, Ok, Contains}
+use Rattle.base.specs.declared.ids.ObjId.{ObjId}
+use Rattle.machine.specs.declared.object.Object.{Object}
+use Rattle.machine.specs.declared.object.Object.TheVariants as o
+use Rattle.machine.specs.declared.object.Share.{Share}
+use Rattle.machine.specs.declared.thread.Tcb.{Tcb}
+use Rattle.machine.specs.Changes.{with_tcb}
+use Rattle.machine.specs.Machine.{Machine, object_of, queue_of, with_object}
+use Rattle.machine.specs.Step.{admitted}
+use Rattle.machine.specs.WellFormed.{IsThread, IsWellFormed}
+use Rattle.machine.proofs.Admission.{admits}
+use Rattle.machine.proofs.Ids.{at_itself}
+use Rattle.machine.proofs.LookUps.{object_of-with_object, queue_of-with_object}
+use Rattle.machine.proofs.JoinLinks.{ready_waits_nowhere}
+
+with_tcb_there :
+    (m : Machine) (id : ObjId) (old new : Tcb) → IsThread m id old → with_tcb m id new ≡ with_object m id (o.Tcb new)
+unfolding with_tcb
+with_tcb_there m id old new there = rw there refl
+
+pub thread_with_tcb : (m : Machine) (id : ObjId) (old new : Tcb) → IsThread m id old → IsThread (with_tcb m id new) id new
+thread_with_tcb m id old new there =
+    rw (with_tcb_there m id old new there)
+    (object_of-with_object m id (o.Tcb new) id ∙ at_itself id (Some (o.Tcb new)) (object_of m id))
+
+pub queue_with_tcb :
+    (m : Machine) (id : ObjId) (old new : Tcb) → IsThread m id old → (q : ObjId) → queue_of (with_tcb m id new) q ≡ queue_of m q
+queue_with_tcb m id old new there q = rw (with_tcb_there m id old new there) (queue_of-with_object m id (o.Tcb new) q)
+
+-- a thread that may call is in no queue
+pub caller_waits_nowhere :
+    (m : Machine) (core : ℕ) (caller : ObjId) (share : Share) → IsWellFormed m → admitted m core caller ≡ Ok share
+    → (id : ObjId) (threads : List ObjId) → queue_of m id ≡ Some threads → ¬ (Contains threads caller)
+caller_waits_nowhere m core caller share formed e =
+    let is = admits m core caller share e in ready_waits_nowhere m caller is.thread formed.links is.there is.ready

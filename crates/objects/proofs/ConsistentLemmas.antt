@@ -1,0 +1,624 @@
+-- What is true of each state stays true under each change, and what contracts see of the state after it.
+use Rattle.std.proofs.Common.{◌≡◌, ℕ, ◌+◌, ◌<◌, ◌^◌, ◌≢◌, ◌⊎◌, List, [], ◌∷◌, ◌++◌, Bool, true, false, cond, length, refl, sym, ap}
+use Rattle.std.proofs.Common.{subst, ◌∙◌, arith, inl, inr}
+use Rattle.std.specs.Prelude.{Option, Some, None, is_some, IsSome, IfSome, option_map}
+use Rattle.std.specs.Prelude.{option_and_then, slice_get, IsTrue}
+use Rattle.std.specs.Option.{option_or, option_and}
+use Rattle.std.specs.Ordering.{nat_cmp}
+use Rattle.std.specs.BTreeMap as tree
+use Rattle.std.specs.BTreeMap.{BTreeMap}
+use Rattle.std.proofs.lemmas.Bool.{false≢true, ltb-true, cases_eq}
+use Rattle.std.proofs.lemmas.Option.{same_Some}
+use Rattle.std.proofs.lemmas.List.{length-replicate}
+use Rattle.std.specs.Map.{lookup}
+use Rattle.slab.specs.Slab as slab
+use Rattle.slab.specs.Slab.{Slab}
+use Rattle.base.specs.declared.ids.ObjId.{ObjId}
+use Rattle.base.specs.declared.ids.SlotRef.{SlotRef}
+use Rattle.machine.specs.declared.cap.Cap.{Cap}
+use Rattle.machine.specs.declared.object.Object.{Object}
+use Rattle.machine.specs.Objects.{slot_count}
+use Rattle.machine.specs.Machine.{Machine, same_id, object_of, has_slot, with_cap, with_parent, with_object}
+use Rattle.machine.proofs.LookUps.{id_total, id_apart}
+use Rattle.machine.specs.Machine.{with_queue, with_new, empty_machine, words_of, queue_of}
+use Rattle.machine.proofs.LookUps.{object_of-empty, queue_of-empty}
+use Rattle.machine.proofs.LookUps.{words_of-empty, cap_of-empty, parent_of-empty}
+use Rattle.objects.specs.declared.entry.Entry.{Entry}
+use Rattle.objects.specs.declared.links.Standing.{Standing}
+use Rattle.objects.specs.declared.state.State.TheInside.{Inside}
+use Rattle.machine.specs.Changes.{first_waiting, with_waiting, without_first}
+use Rattle.objects.specs.Entries.{place_of, entry_of, with_entry, put_cap_in, set_parent_in, replace_in}
+use Rattle.objects.specs.Entries.{new_entry, AddsEntry, SameEntries}
+use Rattle.objects.specs.Links.{ends_of, standing_of, queue_in, AreQueued, pushed, left, popped}
+use Rattle.objects.specs.Queues.{walk, AreQueues}
+use Rattle.objects.specs.Radices.{HasRadix}
+use Rattle.objects.specs.State.{machine_of, IsSized, IsConsistent}
+use Rattle.objects.specs.Waiting.{WaitsNowhere}
+use Rattle.objects.proofs.FiniteLemmas.{by_key, cond_here, cond_elsewhere}
+use Rattle.objects.proofs.EditLemmas.{length_edited}
+use Rattle.objects.proofs.EntryLemmas.{some-none, placed_other, entry_of-with_entry, entry_of-added, entry_of-same}
+use Rattle.objects.proofs.EntryLemmas.{is_some-changed}
+use Rattle.objects.proofs.StateLemmas.{Tells, tells-machine_of, next-machine_of, same_from_tells, object_at}
+use Rattle.objects.proofs.ChangeLemmas.{tells-put_cap, tells-set_parent, tells-replace, tells-queue, tells-same, tells-new}
+use Rattle.objects.proofs.ChangeLemmas.{changed_here, changed_other, part_kept, links, rest, links_kept}
+use Rattle.objects.proofs.QueueLemmas.{cases_id, walk_none, walk_first, more_numbers, longer_walk}
+use Rattle.objects.proofs.LinkLemmas.{Requeues, relinked_places, stands_nowhere, pushed_requeues, pushed_queue, popped_requeues}
+use Rattle.objects.proofs.LinkLemmas.{popped_queue, queue_there, same_queue}
+
+-- the state with the entry of one object changed
+abbrev pub with_changed : Inside → ObjId → (Entry → Entry) → Inside
+with_changed s id change = record s { entries = with_entry s.places s.entries id change }
+
+pub IsConsistent-changed :
+    (s : Inside) → IsConsistent s → (id : ObjId) (change : Entry → Entry)
+    → ((e : Entry) → entry_of s.places s.entries id ≡ Some e → IsSized e → IsSized (change e))
+    → ((e : Entry) → links (change e) ≡ links e)
+    → IsConsistent (with_changed s id change)
+IsConsistent-changed s consistent id change keeps linked =
+    let changed = entry_of-with_entry s.places s.entries consistent.apart id change in
+    record {
+      apart = consistent.apart;
+      held = λ a place is. is_some-changed s.entries change (place_of s.places id) place ∙ consistent.held a place is;
+      fresh = consistent.fresh;
+      bounded = consistent.bounded;
+      sized = λ q entry is. elim (cases_id q id) [
+        | inl same ↦ sized_here q entry same (entry_of s.places s.entries id) refl is
+        | inr differs ↦ consistent.sized q entry (sym (changed_other _ _ id change changed q differs) ∙ is)
+      ];
+      queued = links_kept _ _ (part_kept _ _ id change changed links linked) s.next consistent.queued;
+    }
+  where
+    sized_here :
+        (q : ObjId) (entry : Entry) → q ≡ id → (o : Option Entry) → entry_of s.places s.entries id ≡ o
+        → entry_of s.places (with_entry s.places s.entries id change) q ≡ Some entry → IsSized entry
+    sized_here q entry same None was is =
+        let now : entry_of s.places (with_entry s.places s.entries id change) id ≡ None =
+        entry_of-with_entry s.places s.entries consistent.apart id change id ∙ cond_here id_total id_apart id _ _
+        ∙ ap (option_map change) was in
+        cc
+    sized_here q entry same (Some e) was is =
+        let now : entry_of s.places (with_entry s.places s.entries id change) id ≡ Some (change e) =
+        changed_here _ _ id change (entry_of-with_entry s.places s.entries consistent.apart id change) e was in
+        let found : Some (change e) ≡ Some entry =
+        sym now ∙ ap (entry_of s.places (with_entry s.places s.entries id change)) (sym same) ∙ is in
+        subst IsSized (same_Some (change e) entry found) (keeps e was (consistent.sized id e was))
+
+-- the state with its links changed
+pub IsConsistent-requeued :
+    (s : Inside) → IsConsistent s → (entries : Slab Entry) (id : ObjId)
+    → ((place : ℕ) → is_some (slab.get entries place) ≡ is_some (slab.get s.entries place))
+    → Requeues (entry_of s.places s.entries) (entry_of s.places entries) s.next id
+    → IsConsistent (record s { entries = entries })
+IsConsistent-requeued s consistent entries id kept requeues =
+    record {
+      apart = consistent.apart;
+      held = λ a place is. kept place ∙ consistent.held a place is;
+      fresh = consistent.fresh;
+      bounded = consistent.bounded;
+      sized = λ q entry is. by_entry q entry is (entry_of s.places s.entries q) refl;
+      queued = requeues.queued;
+    }
+  where
+    by_entry :
+        (q : ObjId) (entry : Entry) → entry_of s.places entries q ≡ Some entry → (o : Option Entry)
+        → entry_of s.places s.entries q ≡ o → IsSized entry
+    by_entry q entry is None was =
+        let none : Some (rest entry) ≡ None =
+        ap (option_map rest) (sym is) ∙ requeues.same q ∙ ap (option_map rest) was in cc
+    by_entry q entry is (Some e) was =
+        let same : rest e ≡ rest entry =
+        same_Some (rest e) (rest entry) (ap (option_map rest) (sym was) ∙ sym (requeues.same q) ∙ ap (option_map rest) is) in
+        subst (λ r. (length r.1 ≡ slot_count r.0) × HasRadix r.0) same (consistent.sized q e was)
+
+-- a slot that the machine has is one of an entry
+pub found_slot :
+    (s : Inside) → IsConsistent s → (slot : SlotRef) → IsTrue (has_slot (machine_of s) slot)
+    → (e : Entry) × (entry_of s.places s.entries slot.holder ≡ Some e) × (slot.index < length e.slots)
+found_slot s consistent slot has = by_entry (entry_of s.places s.entries slot.holder) refl where
+  by_entry :
+      (o : Option Entry) → entry_of s.places s.entries slot.holder ≡ o
+      → (e : Entry) × (entry_of s.places s.entries slot.holder ≡ Some e) × (slot.index < length e.slots)
+  by_entry None is =
+      let none : object_of (machine_of s) slot.holder ≡ None = (tells-machine_of s).objects slot.holder ∙ ap object_at is in
+      absurd (false≢true (rw none at has))
+  by_entry (Some e) is =
+      let some : object_of (machine_of s) slot.holder ≡ Some e.object =
+      (tells-machine_of s).objects slot.holder ∙ ap object_at is in
+      let within : slot.index < slot_count e.object = ltb-true slot.index (slot_count e.object) (rw some at has) in
+      let sized : length e.slots ≡ slot_count e.object = (consistent.sized slot.holder e is).0 in
+      (e, is, omega arith)
+
+next-with_cap : (m : Machine) (slot : SlotRef) (filling : Cap) → (with_cap m slot filling).next ≡ m.next
+unfolding with_cap
+next-with_cap m slot filling = refl
+
+pub put_cap_gives :
+    (s : Inside) → IsConsistent s → (slot : SlotRef) (filling : Cap) → IsTrue (has_slot (machine_of s) slot)
+    → machine_of (with_changed s slot.holder (put_cap_in slot.index filling)) ≡ with_cap (machine_of s) slot filling
+put_cap_gives s consistent slot filling has =
+    let found = found_slot s consistent slot has in
+    let s' : Inside = with_changed s slot.holder (put_cap_in slot.index filling) in
+    same_from_tells _ _ _ (entry_of s'.places s'.entries) (tells-machine_of s')
+    (tells-put_cap s.next (machine_of s) (entry_of s.places s.entries) (entry_of s'.places s'.entries) (tells-machine_of s) slot filling
+    (entry_of-with_entry s.places s.entries consistent.apart slot.holder (put_cap_in slot.index filling)) found.0 found.1 found.2)
+    (next-machine_of s' ∙ sym (next-with_cap (machine_of s) slot filling ∙ next-machine_of s))
+
+pub IsConsistent-put_cap :
+    (s : Inside) → IsConsistent s → (slot : SlotRef) (filling : Cap)
+    → IsConsistent (with_changed s slot.holder (put_cap_in slot.index filling))
+IsConsistent-put_cap s consistent slot filling =
+    IsConsistent-changed s consistent slot.holder (put_cap_in slot.index filling)
+    (λ e is sized. (length_edited _ e.slots slot.index ∙ sized.0, sized.1)) (λ e. refl)
+
+-- who waits first
+
+pub first_waiting-machine_of :
+    (s : Inside) → IsConsistent s → (id : ObjId)
+    → first_waiting (machine_of s) id ≡ option_and_then (λ e. e.ends.first) (entry_of s.places s.entries id)
+unfolding first_waiting
+first_waiting-machine_of s consistent id =
+    ap (option_and_then (λ threads. slice_get threads 0)) ((tells-machine_of s).queues id)
+    ∙ by_entry (entry_of s.places s.entries id) refl where
+      by_entry :
+          (o : Option Entry) → entry_of s.places s.entries id ≡ o
+          → option_and_then (λ threads. slice_get threads 0) (queue_in s.next (entry_of s.places s.entries) o)
+          ≡ option_and_then (λ e. e.ends.first) o
+      by_entry None is = refl
+      by_entry (Some e) is =
+          walk_first _ _ s.next consistent.queued id e.ends.first (ap (λ o. (ends_of o).first) is)
+
+-- a state with no entries
+
+tells-empty : Tells 0 empty_machine (λ _. None)
+tells-empty =
+    record {
+      objects = object_of-empty;
+      queues = queue_of-empty;
+      words = words_of-empty;
+      caps = cap_of-empty;
+      parents = parent_of-empty;
+    }
+
+next-empty : empty_machine.next ≡ 0
+unfolding empty_machine
+next-empty = refl
+
+none_of : (s : Inside) → s.places.entries ≡ [] → (q : ObjId) → entry_of s.places s.entries q ≡ None
+none_of s none q = ap (λ es. option_and_then (slab.get s.entries) (lookup (tree.is_at (nat_cmp q.0)) es)) none
+
+pub empty_gives : (s : Inside) → s.places.entries ≡ [] → s.next ≡ 0 → machine_of s ≡ empty_machine
+empty_gives s none next =
+    same_from_tells _ _ _ (entry_of s.places s.entries) (tells-machine_of s)
+    (subst (λ n. Tells n empty_machine (entry_of s.places s.entries)) (sym next)
+    (tells-same 0 empty_machine (λ _. None) (entry_of s.places s.entries) tells-empty (none_of s none)))
+    (next-machine_of s ∙ next ∙ sym next-empty)
+
+-- where there are no entries, nobody waits
+no_queues : AreQueued (λ _. None) 0
+no_queues =
+    record {
+      rank = λ a. a.0;
+      one_each = λ a b same. ap (λ n. record { 0 = n }) same;
+      ranked = λ a less. less;
+      unranked = λ a more. refl;
+      known = λ a q at. cc;
+      later = λ a b is. cc;
+      beside = λ a b is. cc;
+      onward = λ a b is. cc;
+      back = λ a b is. cc;
+      first_is = λ q a is. cc;
+      is_first = λ q a at is. cc;
+      last_is = λ q a is. cc;
+      is_last = λ q a at is. cc;
+      no_first = λ q is. refl;
+      no_last = λ q is. refl;
+      nowhere = λ a is. (refl, refl);
+    }
+
+empty_queued : (s : Inside) → s.places.entries ≡ [] → s.next ≡ 0 → AreQueued (entry_of s.places s.entries) s.next
+empty_queued s none next =
+    links_kept (λ _. None) (entry_of s.places s.entries) (λ q. ap (option_map links) (none_of s none q)) s.next
+    (subst (AreQueued (λ _. None)) (sym next) no_queues)
+
+pub IsConsistent-empty : (s : Inside) → s.places.entries ≡ [] → s.next ≡ 0 → IsConsistent s
+IsConsistent-empty s none next =
+    let unplaced : (a : ℕ) → tree.get nat_cmp s.places a ≡ None =
+    λ a. ap (λ es. lookup (tree.is_at (nat_cmp a)) es) none in
+    record {
+      apart = λ a b place here there. (let nowhere = unplaced a in cc);
+      held = λ a place is. (let nowhere = unplaced a in cc);
+      fresh = λ a some. absurd (some-none (tree.get nat_cmp s.places a) some (unplaced a));
+      bounded = omega arith;
+      sized = λ id entry is. (let absent = none_of s none id in cc);
+      queued = empty_queued s none next;
+    }
+
+-- entries that are as they were, though memory for more was found
+
+pub IsConsistent-same :
+    (s : Inside) → IsConsistent s → (places : BTreeMap ℕ ℕ) (entries : Slab Entry) → SameEntries s.places places s.entries entries
+    → IsConsistent (record s { places = places; entries = entries })
+IsConsistent-same s consistent places entries same =
+    record {
+      apart = λ a b place here there. consistent.apart a b place (sym (same.placed a) ∙ here) (sym (same.placed b) ∙ there);
+      held = λ a place is. ap is_some (same.kept place) ∙ consistent.held a place (sym (same.placed a) ∙ is);
+      fresh = λ a some. consistent.fresh a (sym (ap is_some (same.placed a)) ∙ some);
+      bounded = consistent.bounded;
+      sized = λ id entry is. consistent.sized id entry (sym (entry_of-same s.places places s.entries entries same id) ∙ is);
+      queued =
+          links_kept _ _ (λ q. ap (option_map links) (entry_of-same s.places places s.entries entries same q)) s.next consistent.queued;
+    }
+
+pub same_gives :
+    (s : Inside) (places : BTreeMap ℕ ℕ) (entries : Slab Entry) → SameEntries s.places places s.entries entries
+    → machine_of (record s { places = places; entries = entries }) ≡ machine_of s
+same_gives s places entries same =
+    let s' : Inside = record s { places = places; entries = entries } in
+    same_from_tells _ _ _ (entry_of places entries) (tells-machine_of s')
+    (tells-same s.next (machine_of s) (entry_of s.places s.entries) (entry_of places entries) (tells-machine_of s)
+    (entry_of-same s.places places s.entries entries same))
+    (next-machine_of s' ∙ sym (next-machine_of s))
+
+-- a new object
+
+number_unused : (s : Inside) → IsConsistent s → (o : Option ℕ) → tree.get nat_cmp s.places s.next ≡ o → o ≡ None
+number_unused s consistent None is = refl
+number_unused s consistent (Some place) is = let below : s.next < s.next = consistent.fresh s.next (ap is_some is) in absurd (omega arith)
+
+vacant_number : (s : Inside) → IsConsistent s → entry_of s.places s.entries (record { 0 = s.next }) ≡ None
+vacant_number s consistent =
+    ap (option_and_then (slab.get s.entries)) (number_unused s consistent (tree.get nat_cmp s.places s.next) refl)
+
+-- a new object changes no queue
+
+module _ (old new : ObjId → Option Entry) (numbers : ℕ) (id : ObjId) (object : Object) (vacant : old id ≡ None)
+    (added : (q : ObjId) → new q ≡ cond (same_id q id) (Some (new_entry object)) (old q)) where
+  added_here : new id ≡ Some (new_entry object)
+  added_here = added id ∙ cond_here id_total id_apart id _ _
+
+  added_other : (q : ObjId) → q ≢ id → new q ≡ old q
+  added_other q apart = added q ∙ cond_elsewhere id_total id_apart q id _ _ apart
+
+  ends_same : (q : ObjId) → ends_of (new q) ≡ ends_of (old q)
+  ends_same q =
+      elim (cases_id q id) [
+        | inl same ↦ ap (λ k. ends_of (new k)) same ∙ ap ends_of added_here ∙ ap ends_of (sym vacant) ∙ ap (λ k. ends_of (old k)) (sym same)
+        | inr apart ↦ ap ends_of (added_other q apart)
+      ]
+
+  standing_same : (q : ObjId) → standing_of (new q) ≡ standing_of (old q)
+  standing_same q =
+      elim (cases_id q id) [
+        | inl same ↦
+            ap (λ k. standing_of (new k)) same ∙ ap standing_of added_here ∙ ap standing_of (sym vacant)
+            ∙ ap (λ k. standing_of (old k)) (sym same)
+        | inr apart ↦ ap standing_of (added_other q apart)
+      ]
+
+  standing_as_before : ◌≡◌ {A = ObjId → Standing} (λ q. standing_of (new q)) (λ q. standing_of (old q))
+  standing_as_before = λ i q. standing_same q i
+
+  new_queued : AreQueued old numbers → AreQueued new (numbers + 1)
+  new_queued queued =
+      subst (λ standing. AreQueues (λ q. ends_of (new q)) standing (numbers + 1)) (λ i q. sym (standing_same q) i)
+      (subst (λ ends. AreQueues ends (λ q. standing_of (old q)) (numbers + 1)) (λ i q. sym (ends_same q) i)
+      (more_numbers _ _ numbers queued))
+
+  new_queues :
+      AreQueued old numbers → (q : ObjId)
+      → queue_in (numbers + 1) new (new q) ≡ cond (same_id q id) (Some []) (queue_in numbers old (old q))
+  new_queues queued q =
+      by_key id_total id_apart q id _ _ _
+      (λ same.
+      ap (λ k. queue_in (numbers + 1) new (new k)) same ∙ ap (queue_in (numbers + 1) new) added_here
+      ∙ ap Some (walk_none (λ a. standing_of (new a)) (numbers + 1)))
+      (λ apart. ap (queue_in (numbers + 1) new) (added_other q apart) ∙ by_entry (old q) refl)
+    where
+      by_entry : (o : Option Entry) → old q ≡ o → queue_in (numbers + 1) new o ≡ queue_in numbers old o
+      by_entry None is = refl
+      by_entry (Some e) is =
+          ap Some
+          (ap (λ standing. walk standing (numbers + 1) e.ends.first) standing_as_before
+          ∙ subst (λ o. walk (λ a. standing_of (old a)) (numbers + 1) (ends_of o).first
+          ≡ walk (λ a. standing_of (old a)) numbers (ends_of o).first) is
+          (longer_walk (λ a. ends_of (old a)) (λ a. standing_of (old a)) numbers queued q))
+
+pub IsConsistent-added :
+    (s : Inside) → IsConsistent s → s.next < 2 ^ 48 → (object : Object) → HasRadix object
+    → (places : BTreeMap ℕ ℕ) (entries : Slab Entry) → AddsEntry s.places places s.entries entries s.next (new_entry object)
+    → IsConsistent (record s { places = places; entries = entries; next = s.next + 1 })
+IsConsistent-added s consistent room object radix places entries adds =
+    record {
+      apart = λ a b place here there. elim (cases_eq a s.next) [
+        | inl first ↦ elim (cases_eq b s.next) [
+          | inl second ↦ first ∙ sym second
+          | inr differs ↦ absurd (clash b place differs there (subst (λ n. tree.get nat_cmp places n ≡ Some place) first here))
+        ]
+        | inr differs ↦ elim (cases_eq b s.next) [
+          | inl second ↦ absurd (clash a place differs here (subst (λ n. tree.get nat_cmp places n ≡ Some place) second there))
+          | inr apart ↦ consistent.apart a b place (before a differs ∙ here) (before b apart ∙ there)
+        ]
+      ];
+      held = λ a place is. held_after a place is (cases_eq place adds.place) (cases_eq a s.next);
+      fresh = λ a some. elim (cases_eq a s.next) [
+        | inl same ↦ omega arith
+        | inr differs ↦ let below : a < s.next = consistent.fresh a (ap is_some (before a differs) ∙ some) in omega arith
+      ];
+      bounded = omega arith;
+      sized =
+          λ q entry is.
+          sized_after q entry (same_id q (record { 0 = s.next }))
+          (sym (entry_of-added s.places places s.entries entries (record { 0 = s.next }) (new_entry object) consistent.held adds q)
+          ∙ is);
+      queued =
+          new_queued (entry_of s.places s.entries) (entry_of places entries) s.next (record { 0 = s.next }) object
+          (vacant_number s consistent)
+          (entry_of-added s.places places s.entries entries (record { 0 = s.next }) (new_entry object) consistent.held adds)
+          consistent.queued;
+    }
+  where
+    before : (a : ℕ) → (a ≡ s.next → ⊥) → tree.get nat_cmp s.places a ≡ tree.get nat_cmp places a
+    before a differs = sym (placed_other s.places places s.next (Some adds.place) adds.placed a differs)
+
+    clash :
+        (b place : ℕ) → (b ≡ s.next → ⊥) → tree.get nat_cmp places b ≡ Some place → tree.get nat_cmp places s.next ≡ Some place
+        → ⊥
+    clash b place differs there here =
+        let same : adds.place ≡ place = same_Some adds.place place (sym adds.placed.1 ∙ here) in
+        some-none (slab.get s.entries place) (consistent.held b place (before b differs ∙ there))
+        (subst (λ k. slab.get s.entries k ≡ None) same adds.vacant)
+
+    held_after :
+        (a place : ℕ) → tree.get nat_cmp places a ≡ Some place → (place ≡ adds.place) ⊎ (place ≡ adds.place → ⊥)
+        → (a ≡ s.next) ⊎ (a ≡ s.next → ⊥) → IsSome (slab.get entries place)
+    held_after a place is (inl same) number = ap is_some (ap (slab.get entries) same ∙ adds.added.changed)
+    held_after a place is (inr apart) (inl number) =
+        absurd
+        (apart (same_Some place adds.place (sym (subst (λ n. tree.get nat_cmp places n ≡ Some place) number is) ∙ adds.placed.1)))
+    held_after a place is (inr apart) (inr number) =
+        ap is_some (adds.added.others place apart) ∙ consistent.held a place (before a number ∙ is)
+
+    sized_after :
+        (q : ObjId) (entry : Entry) (tie : Bool) → cond tie (Some (new_entry object)) (entry_of s.places s.entries q) ≡ Some entry
+        → IsSized entry
+    sized_after q entry true is =
+        subst IsSized (same_Some (new_entry object) entry is) (length-replicate (slot_count object) _, radix)
+    sized_after q entry false is = consistent.sized q entry is
+
+next-with_new : (m : Machine) (object : Object) → (with_new m object).next ≡ m.next + 1
+unfolding with_new
+next-with_new m object = refl
+
+pub added_gives :
+    (s : Inside) → IsConsistent s → (object : Object) (places : BTreeMap ℕ ℕ) (entries : Slab Entry)
+    → AddsEntry s.places places s.entries entries s.next (new_entry object)
+    → machine_of (record s { places = places; entries = entries; next = s.next + 1 }) ≡ with_new (machine_of s) object
+added_gives s consistent object places entries adds =
+    let s' : Inside = record s { places = places; entries = entries; next = s.next + 1 } in
+    let id : ObjId = record { 0 = s.next } in
+    let added :
+    (q : ObjId) → entry_of places entries q ≡ cond (same_id q id) (Some (new_entry object)) (entry_of s.places s.entries q) =
+    entry_of-added s.places places s.entries entries id (new_entry object) consistent.held adds in
+    let vacant : entry_of s.places s.entries id ≡ None = vacant_number s consistent in
+    same_from_tells _ _ _ (entry_of places entries) (tells-machine_of s')
+    (tells-new s.next (machine_of s) (entry_of s.places s.entries) (entry_of places entries) (tells-machine_of s) object
+    (rw (next-machine_of s) added)
+    (rw (next-machine_of s) vacant)
+    (rw (next-machine_of s)
+    (new_queues (entry_of s.places s.entries) (entry_of places entries) s.next id object vacant added consistent.queued)))
+    (next-machine_of s' ∙ sym (next-with_new (machine_of s) object ∙ ap (λ n. n + 1) (next-machine_of s)))
+
+-- each object that the machine has is an entry's, so a CNode has a radix
+
+pub HasRadix-machine_of :
+    (s : Inside) → IsConsistent s → (id : ObjId) (object : Object) → object_of (machine_of s) id ≡ Some object → HasRadix object
+HasRadix-machine_of s consistent id object present = by_entry (entry_of s.places s.entries id) refl where
+  by_entry : (o : Option Entry) → entry_of s.places s.entries id ≡ o → HasRadix object
+  by_entry None is = let none : object_of (machine_of s) id ≡ None = (tells-machine_of s).objects id ∙ ap object_at is in cc
+  by_entry (Some e) is =
+      let some : object_of (machine_of s) id ≡ Some e.object = (tells-machine_of s).objects id ∙ ap object_at is in
+      subst HasRadix (same_Some e.object object (sym some ∙ present)) (consistent.sized id e is).1
+
+-- a parent is set
+
+pub IsConsistent-set_parent :
+    (s : Inside) → IsConsistent s → (slot parent : SlotRef) → IsConsistent (with_changed s slot.holder (set_parent_in slot.index parent))
+IsConsistent-set_parent s consistent slot parent =
+    IsConsistent-changed s consistent slot.holder (set_parent_in slot.index parent)
+    (λ e is sized. (length_edited _ e.slots slot.index ∙ sized.0, sized.1)) (λ e. refl)
+
+next-with_parent : (m : Machine) (slot parent : SlotRef) → (with_parent m slot parent).next ≡ m.next
+unfolding with_parent
+next-with_parent m slot parent = refl
+
+pub set_parent_gives :
+    (s : Inside) → IsConsistent s → (slot parent : SlotRef) → IsTrue (has_slot (machine_of s) slot)
+    → machine_of (with_changed s slot.holder (set_parent_in slot.index parent)) ≡ with_parent (machine_of s) slot parent
+set_parent_gives s consistent slot parent has =
+    let found = found_slot s consistent slot has in
+    let s' : Inside = with_changed s slot.holder (set_parent_in slot.index parent) in
+    same_from_tells _ _ _ (entry_of s'.places s'.entries) (tells-machine_of s')
+    (tells-set_parent s.next (machine_of s) (entry_of s.places s.entries) (entry_of s'.places s'.entries) (tells-machine_of s) slot
+    parent (entry_of-with_entry s.places s.entries consistent.apart slot.holder (set_parent_in slot.index parent)) found.0 found.1
+    found.2)
+    (next-machine_of s' ∙ sym (next-with_parent (machine_of s) slot parent ∙ next-machine_of s))
+
+-- an object's content is set
+
+-- an object that the machine has has an entry
+found_entry :
+    (s : Inside) (id : ObjId) → IsSome (object_of (machine_of s) id) → (e : Entry) × (entry_of s.places s.entries id ≡ Some e)
+found_entry s id some = by_entry (entry_of s.places s.entries id) refl where
+  by_entry : (o : Option Entry) → entry_of s.places s.entries id ≡ o → (e : Entry) × (entry_of s.places s.entries id ≡ Some e)
+  by_entry None is = absurd (some-none (object_of (machine_of s) id) some ((tells-machine_of s).objects id ∙ ap object_at is))
+  by_entry (Some e) is = (e, is)
+
+pub IsConsistent-replace :
+    (s : Inside) → IsConsistent s → (id : ObjId) (object : Object) → HasRadix object
+    → IfSome (object_of (machine_of s) id) (λ old. slot_count object ≡ slot_count old)
+    → IsConsistent (with_changed s id (replace_in object))
+IsConsistent-replace s consistent id object radix same =
+    IsConsistent-changed s consistent id (replace_in object) (λ e is sized.
+    let found : object_of (machine_of s) id ≡ Some e.object = (tells-machine_of s).objects id ∙ ap object_at is in
+    let count : slot_count object ≡ slot_count e.object = rw found at same in
+    (sized.0 ∙ sym count, radix)) (λ e. refl)
+
+next-with_object : (m : Machine) (id : ObjId) (object : Object) → (with_object m id object).next ≡ m.next
+unfolding with_object
+next-with_object m id object = refl
+
+pub replace_gives :
+    (s : Inside) → IsConsistent s → (id : ObjId) (object : Object) → IsSome (object_of (machine_of s) id)
+    → machine_of (with_changed s id (replace_in object)) ≡ with_object (machine_of s) id object
+replace_gives s consistent id object some =
+    let found = found_entry s id some in
+    let s' : Inside = with_changed s id (replace_in object) in
+    same_from_tells _ _ _ (entry_of s'.places s'.entries) (tells-machine_of s')
+    (tells-replace s.next (machine_of s) (entry_of s.places s.entries) (entry_of s'.places s'.entries) (tells-machine_of s) id object
+    (entry_of-with_entry s.places s.entries consistent.apart id (replace_in object)) found.0 found.1)
+    (next-machine_of s' ∙ sym (next-with_object (machine_of s) id object ∙ next-machine_of s))
+
+-- a thread comes to wait, or leaves
+
+next-with_queue : (m : Machine) (id : ObjId) (threads : List ObjId) → (with_queue m id threads).next ≡ m.next
+unfolding with_queue
+next-with_queue m id threads = refl
+
+module _ (s : Inside) (consistent : IsConsistent s) (id : ObjId) where
+  abbrev entry : ObjId → Option Entry
+  entry = entry_of s.places s.entries
+
+  -- the machine where one queue is another
+  queue_gives :
+      (entries : Slab Entry) (queue : List ObjId) → Requeues entry (entry_of s.places entries) s.next id
+      → queue_in s.next (entry_of s.places entries) (entry_of s.places entries id) ≡ Some queue
+      → machine_of (record s { entries = entries }) ≡ with_queue (machine_of s) id queue
+  queue_gives entries queue requeues here =
+      let s' : Inside = record s { entries = entries } in
+      same_from_tells _ _ _ (entry_of s.places entries) (tells-machine_of s')
+      (tells-queue s.next (machine_of s) entry (entry_of s.places entries) (tells-machine_of s) id queue requeues.same here
+      requeues.others)
+      (next-machine_of s' ∙ sym (next-with_queue (machine_of s) id queue ∙ next-machine_of s))
+
+  waiting_none : (m : Machine) (thread : ObjId) → queue_of m id ≡ None → with_waiting m id thread ≡ m
+  unfolding with_waiting
+  waiting_none m thread e = rw e
+
+  waiting_some :
+      (m : Machine) (thread : ObjId) (threads : List ObjId) → queue_of m id ≡ Some threads
+      → with_waiting m id thread ≡ with_queue m id (threads ++ thread ∷ [])
+  unfolding with_waiting
+  waiting_some m thread threads e = rw e
+
+  first_none : (m : Machine) → queue_of m id ≡ None → without_first m id ≡ m
+  unfolding without_first
+  first_none m e = rw e
+
+  first_nil : (m : Machine) → queue_of m id ≡ Some [] → without_first m id ≡ m
+  unfolding without_first
+  first_nil m e = rw e
+
+  first_cons :
+      (m : Machine) (thread : ObjId) (threads : List ObjId) → queue_of m id ≡ Some (thread ∷ threads)
+      → without_first m id ≡ with_queue m id threads
+  unfolding without_first
+  first_cons m thread threads e = rw e
+
+  -- a thread that is there, and that waits nowhere
+
+  module _ (thread : ObjId) (present : IsSome (object_of (machine_of s) thread)) (free : WaitsNowhere (machine_of s) thread) where
+    thread_there : IsSome (entry thread)
+    thread_there = by_entry (entry thread) refl where
+      by_entry : (o : Option Entry) → entry thread ≡ o → IsSome (entry thread)
+      by_entry None is =
+          absurd (some-none (object_of (machine_of s) thread) present ((tells-machine_of s).objects thread ∙ ap object_at is))
+      by_entry (Some e) is = ap is_some is
+
+    thread_known : thread.0 < s.next
+    thread_known = consistent.fresh thread.0 (placed (place_of s.places thread) thread_there) where
+      placed : (o : Option ℕ) → IsSome (option_and_then (slab.get s.entries) o) → IsSome o
+      placed None some = some
+      placed (Some place) some = refl
+
+    thread_free : (standing_of (entry thread)).at ≡ None
+    thread_free =
+        stands_nowhere entry s.next consistent.queued thread
+        (λ q threads is. free q threads ((tells-machine_of s).queues q ∙ is))
+
+    pub IsConsistent-pushed :
+        IsConsistent (record s { entries = pushed s.places s.entries id thread (option_map (λ e. e.ends) (entry id)) })
+    IsConsistent-pushed = by_entry (entry id) refl where
+      by_entry :
+          (o : Option Entry) → entry id ≡ o
+          → IsConsistent (record s { entries = pushed s.places s.entries id thread (option_map (λ e. e.ends) o) })
+      by_entry None is = consistent
+      by_entry (Some e) is =
+          IsConsistent-requeued s consistent (pushed s.places s.entries id thread (Some e.ends)) id
+          (relinked_places s.places consistent.apart s.entries e.ends.last (λ s. record s { next = Some thread }) thread
+          (record { at = Some id; previous = e.ends.last; next = None }) id
+          (record { first = option_or e.ends.first (Some thread); last = Some thread }))
+          (pushed_requeues s.places consistent.apart s.entries s.next id thread consistent.queued e is thread_there thread_known thread_free)
+
+    pub push_gives :
+        machine_of (record s { entries = pushed s.places s.entries id thread (option_map (λ e. e.ends) (entry id)) })
+        ≡ with_waiting (machine_of s) id thread
+    push_gives = by_entry (entry id) refl where
+      by_entry :
+          (o : Option Entry) → entry id ≡ o
+          → machine_of (record s { entries = pushed s.places s.entries id thread (option_map (λ e. e.ends) o) })
+          ≡ with_waiting (machine_of s) id thread
+      by_entry None is =
+          sym
+          (waiting_none (machine_of s) thread
+          ((tells-machine_of s).queues id ∙ ap (queue_in s.next entry) is))
+      by_entry (Some e) is =
+          queue_gives (pushed s.places s.entries id thread (Some e.ends)) _
+          (pushed_requeues s.places consistent.apart s.entries s.next id thread consistent.queued e is thread_there thread_known thread_free)
+          (pushed_queue s.places consistent.apart s.entries s.next id thread consistent.queued e is thread_there thread_known thread_free)
+          ∙ sym
+          (waiting_some (machine_of s) thread _ ((tells-machine_of s).queues id ∙ ap (queue_in s.next entry) is))
+
+  pub IsConsistent-popped :
+      IsConsistent (record s { entries = popped s.places s.entries id (option_map (λ e. e.ends) (entry id)) })
+  IsConsistent-popped = by_entry (entry id) refl where
+    by_first :
+        (e : Entry) → entry id ≡ Some e → (o : Option ObjId) → e.ends.first ≡ o
+        → IsConsistent (record s { entries = left s.places s.entries id e.ends o })
+    by_first e is None first = consistent
+    by_first e is (Some thread) first =
+        let next : Option ObjId = (standing_of (entry thread)).next in
+        IsConsistent-requeued s consistent (left s.places s.entries id e.ends (Some thread)) id
+        (relinked_places s.places consistent.apart s.entries next (λ s. record s { previous = None }) thread
+        (record { at = None; previous = None; next = None }) id (record { first = next; last = option_and next e.ends.last }))
+        (popped_requeues s.places consistent.apart s.entries s.next id thread consistent.queued e is first)
+
+    by_entry :
+        (o : Option Entry) → entry id ≡ o
+        → IsConsistent (record s { entries = popped s.places s.entries id (option_map (λ e. e.ends) o) })
+    by_entry None is = consistent
+    by_entry (Some e) is = by_first e is e.ends.first refl
+
+  pub pop_gives :
+      machine_of (record s { entries = popped s.places s.entries id (option_map (λ e. e.ends) (entry id)) })
+      ≡ without_first (machine_of s) id
+  pop_gives = by_entry (entry id) refl where
+    by_first :
+        (e : Entry) → entry id ≡ Some e → (o : Option ObjId) → e.ends.first ≡ o
+        → machine_of (record s { entries = left s.places s.entries id e.ends o }) ≡ without_first (machine_of s) id
+    by_first e is None first =
+        sym
+        (first_nil (machine_of s)
+        ((tells-machine_of s).queues id ∙ ap (queue_in s.next entry) is
+        ∙ ap Some (ap (walk (λ thread. standing_of (entry thread)) s.next) first ∙ walk_none (λ thread. standing_of (entry thread)) s.next)))
+    by_first e is (Some thread) first =
+        let queues = popped_queue s.places consistent.apart s.entries s.next id thread consistent.queued e is first in
+        queue_gives (left s.places s.entries id e.ends (Some thread)) queues.0
+        (popped_requeues s.places consistent.apart s.entries s.next id thread consistent.queued e is first) queues.2
+        ∙ sym (first_cons (machine_of s) thread queues.0 ((tells-machine_of s).queues id ∙ queues.1))
+
+    by_entry :
+        (o : Option Entry) → entry id ≡ o
+        → machine_of (record s { entries = popped s.places s.entries id (option_map (λ e. e.ends) o) })
+        ≡ without_first (machine_of s) id
+    by_entry None is = sym (first_none (machine_of s) ((tells-machine_of s).queues id ∙ ap (queue_in s.next entry) is))
+    by_entry (Some e) is = by_first e is e.ends.first refl

@@ -1,0 +1,346 @@
+-- What the entries tell of their links after a thread has come to wait or has left.
+use Rattle.std.proofs.Common.{◌≡◌, ◌≢◌, ℕ, ◌<◌, List, [], ◌∷◌, ◌++◌, refl, sym, ap, subst, ◌∙◌, arith, inl, inr}
+use Rattle.std.specs.Prelude.{Option, Some, None, is_some, IsSome, option_map, Contains}
+use Rattle.std.specs.Option.{option_or, option_and}
+use Rattle.std.specs.BTreeMap.{BTreeMap}
+use Rattle.std.proofs.lemmas.Bool.{false≢true}
+use Rattle.slab.specs.Slab as slab
+use Rattle.slab.specs.Slab.{Slab}
+use Rattle.base.specs.declared.ids.ObjId.{ObjId}
+use Rattle.objects.specs.declared.entry.Entry.{Entry}
+use Rattle.objects.specs.declared.links.Ends.{Ends}
+use Rattle.objects.specs.declared.links.Standing.{Standing}
+use Rattle.objects.specs.Entries.{place_of, entry_of, with_entry, set_ends_in, set_standing_in}
+use Rattle.objects.specs.Links.{ends_of, standing_of, queue_in, AreQueued, with_standing, relinked, pushed, left}
+use Rattle.objects.specs.Queues.{walk, AreQueues}
+use Rattle.objects.proofs.EntryLemmas.{IsApart, entry_of-with_entry, is_some-changed}
+use Rattle.objects.proofs.ChangeLemmas.{part_kept, changed_here, changed_other, rest}
+use Rattle.objects.proofs.QueueLemmas.{Joins, Leaves, cases_id, walk_none, reaches, joined_queues, joined_here, joined_elsewhere}
+use Rattle.objects.proofs.QueueLemmas.{left_queues, left_here, left_elsewhere}
+
+abbrev pub SameRest : (ObjId → Option Entry) → (ObjId → Option Entry) → Type 0
+SameRest old new = (q : ObjId) → option_map rest (new q) ≡ option_map rest (old q)
+
+-- the ends at one object are these, and nothing else has changed
+record SetsEnds (old new : ObjId → Option Entry) (id : ObjId) (ends : Ends) : Type 0 where
+  pub here : ends_of (new id) ≡ ends
+  pub other : (q : ObjId) → q ≢ id → ends_of (new q) ≡ ends_of (old q)
+  pub standing : (q : ObjId) → standing_of (new q) ≡ standing_of (old q)
+  pub same : SameRest old new
+
+-- the thread, if one is named, stands as the change says, and nothing else has changed
+record SetsStanding (old new : ObjId → Option Entry) (thread : Option ObjId) (change : Standing → Standing) : Type 0 where
+  pub here : (q : ObjId) → thread ≡ Some q → standing_of (new q) ≡ change (standing_of (old q))
+  pub other : (q : ObjId) → thread ≢ Some q → standing_of (new q) ≡ standing_of (old q)
+  pub ends : (q : ObjId) → ends_of (new q) ≡ ends_of (old q)
+  pub same : SameRest old new
+
+present_map : {A : Type 0} (part : Entry → A) (o : Option Entry) → is_some (option_map part o) ≡ is_some o
+present_map part None = refl
+present_map part (Some e) = refl
+
+still_there : (old new : ObjId → Option Entry) → SameRest old new → (q : ObjId) → IsSome (old q) → IsSome (new q)
+still_there old new same q there = sym (present_map rest (new q)) ∙ ap is_some (same q) ∙ present_map rest (old q) ∙ there
+
+module _ (places : BTreeMap ℕ ℕ) (apart : IsApart places) (entries : Slab Entry) where
+  abbrev entry : ObjId → Option Entry
+  entry = entry_of places entries
+
+  abbrev after : ObjId → (Entry → Entry) → ObjId → Option Entry
+  after id change = entry_of places (with_entry places entries id change)
+
+  -- what is read of each entry, where the change of one keeps it
+  kept :
+      {A : Type 0} (id : ObjId) (change : Entry → Entry) (e : Entry) → entry id ≡ Some e → (read : Option Entry → A)
+      → read (Some (change e)) ≡ read (Some e) → (q : ObjId) → read (after id change q) ≡ read (entry q)
+  kept id change e is read keeps q =
+      elim (cases_id q id) [
+        | inl same ↦
+            ap (λ k. read (after id change k)) same
+            ∙ ap read (changed_here _ _ id change (entry_of-with_entry places entries apart id change) e is) ∙ keeps
+            ∙ ap read (sym is) ∙ ap (λ k. read (entry k)) (sym same)
+        | inr differs ↦
+            ap read (changed_other _ _ id change (entry_of-with_entry places entries apart id change) q differs)
+      ]
+
+  sets_ends :
+      (id : ObjId) (ends : Ends) (o : Option Entry) → entry id ≡ o → IsSome o
+      → SetsEnds entry (after id (set_ends_in ends)) id ends
+  sets_ends id ends None is some = absurd (false≢true some)
+  sets_ends id ends (Some e) is some =
+      let change : Entry → Entry = set_ends_in ends in
+      record {
+        here = ap ends_of (changed_here _ _ id change (entry_of-with_entry places entries apart id change) e is);
+        other =
+            λ q differs.
+            ap ends_of (changed_other _ _ id change (entry_of-with_entry places entries apart id change) q differs);
+        standing = kept id change e is standing_of refl;
+        same = kept id change e is (option_map rest) refl;
+      }
+
+  sets_standing :
+      (thread : Option ObjId) (change : Standing → Standing) → ((q : ObjId) → thread ≡ Some q → IsSome (entry q))
+      → SetsStanding entry (entry_of places (with_standing places entries thread change)) thread change
+  sets_standing None change there =
+      record { here = λ q is. cc; other = λ q differs. refl; ends = λ q. refl; same = λ q. refl }
+  sets_standing (Some thread) change there = by_entry (entry thread) refl (there thread refl) where
+    by_entry :
+        (o : Option Entry) → entry thread ≡ o → IsSome o
+        → SetsStanding entry (entry_of places (with_standing places entries (Some thread) change)) (Some thread) change
+    by_entry None is some = absurd (false≢true some)
+    by_entry (Some e) is some =
+        let set : Entry → Entry = set_standing_in (change (standing_of (entry thread))) in
+        record {
+          here = λ q same.
+              let one : thread ≡ q = cc in
+              ap (λ k. standing_of (after thread set k)) (sym one)
+              ∙ ap standing_of (changed_here _ _ thread set (entry_of-with_entry places entries apart thread set) e is)
+              ∙ ap (λ k. change (standing_of (entry k))) one;
+          other = λ q differs.
+              ap standing_of
+              (changed_other _ _ thread set (entry_of-with_entry places entries apart thread set) q
+              (λ same. differs (ap Some (sym same))));
+          ends = kept thread set e is ends_of refl;
+          same = kept thread set e is (option_map rest) refl;
+        }
+
+  -- no place comes or goes
+  standing_places :
+      (thread : Option ObjId) (change : Standing → Standing) (place : ℕ)
+      → is_some (slab.get (with_standing places entries thread change) place) ≡ is_some (slab.get entries place)
+  standing_places None change place = refl
+  standing_places (Some thread) change place =
+      is_some-changed entries (set_standing_in (change (standing_of (entry thread)))) (place_of places thread) place
+
+-- who waits at an object that is there
+pub queue_there :
+    (numbers : ℕ) (entry : ObjId → Option Entry) (o : Option Entry) → IsSome o
+    → queue_in numbers entry o ≡ Some (walk (λ thread. standing_of (entry thread)) numbers (ends_of o).first)
+queue_there numbers entry None there = absurd (false≢true there)
+queue_there numbers entry (Some e) there = refl
+
+-- objects whose walks are alike have queues alike
+pub same_queue :
+    (numbers : ℕ) (old new : ObjId → Option Entry) → SameRest old new → (q : ObjId)
+    → walk (λ thread. standing_of (new thread)) numbers (ends_of (new q)).first
+    ≡ walk (λ thread. standing_of (old thread)) numbers (ends_of (old q)).first
+    → queue_in numbers new (new q) ≡ queue_in numbers old (old q)
+same_queue numbers old new same q walks = by_entries (old q) (new q) refl refl (same q) where
+  by_entries :
+      (o o' : Option Entry) → old q ≡ o → new q ≡ o' → option_map rest o' ≡ option_map rest o
+      → queue_in numbers new (new q) ≡ queue_in numbers old (old q)
+  by_entries None None was is same = rw (was, is) refl
+  by_entries None (Some e) was is same = cc
+  by_entries (Some e) None was is same = cc
+  by_entries (Some e) (Some e') was is same =
+      queue_there numbers new (new q) (ap is_some is) ∙ ap Some walks ∙ sym (queue_there numbers old (old q) (ap is_some was))
+
+-- who stands somewhere has an entry
+standing_there : (entry : ObjId → Option Entry) (a q : ObjId) → (standing_of (entry a)).at ≡ Some q → IsSome (entry a)
+standing_there entry a q at = by_entry (entry a) refl where
+  by_entry : (o : Option Entry) → entry a ≡ o → IsSome (entry a)
+  by_entry None is = let none : None ≡ Some q = ap (λ o. (standing_of o).at) (sym is) ∙ at in cc
+  by_entry (Some e) is = ap is_some is
+
+-- who is in no queue stands nowhere
+pub stands_nowhere :
+    (entry : ObjId → Option Entry) (numbers : ℕ) → AreQueued entry numbers → (t : ObjId)
+    → ((q : ObjId) (threads : List ObjId) → queue_in numbers entry (entry q) ≡ Some threads → ¬ (Contains threads t))
+    → (standing_of (entry t)).at ≡ None
+stands_nowhere entry numbers queued t nowhere = by_at (standing_of (entry t)).at refl where
+  by_at : (o : Option ObjId) → (standing_of (entry t)).at ≡ o → (standing_of (entry t)).at ≡ None
+  by_at None at = at
+  by_at (Some q) at =
+      by_entry (entry q) refl (reaches (λ a. ends_of (entry a)) (λ a. standing_of (entry a)) numbers queued q numbers t (queued.ranked t (queued.known t q at)) at) where
+        by_entry :
+            (o : Option Entry) → entry q ≡ o
+            → Contains (walk (λ a. standing_of (entry a)) numbers (ends_of (entry q)).first) t
+            → (standing_of (entry t)).at ≡ None
+        by_entry None is there =
+            let empty : walk (λ a. standing_of (entry a)) numbers (ends_of (entry q)).first ≡ [] =
+            ap (λ o. walk (λ a. standing_of (entry a)) numbers (ends_of o).first) is ∙ walk_none (λ a. standing_of (entry a)) numbers in
+            let none : Contains [] t = subst (λ xs. Contains xs t) empty there in absurd (omega (arith, none.1))
+        by_entry (Some e) is there =
+            absurd (nowhere q _ (queue_there numbers entry (entry q) (ap is_some is)) there)
+
+-- the entries after the links of a neighbour, a thread and a queue are set
+record Relinks (old new : ObjId → Option Entry) (neighbour : Option ObjId) (change : Standing → Standing) (thread : ObjId)
+    (standing : Standing) (id : ObjId) (ends : Ends) : Type 0 where
+  pub ends_here : ends_of (new id) ≡ ends
+  pub ends_other : (q : ObjId) → q ≢ id → ends_of (new q) ≡ ends_of (old q)
+  pub here : standing_of (new thread) ≡ standing
+  pub beside : (q : ObjId) → q ≢ thread → neighbour ≡ Some q → standing_of (new q) ≡ change (standing_of (old q))
+  pub other : (q : ObjId) → q ≢ thread → neighbour ≢ Some q → standing_of (new q) ≡ standing_of (old q)
+  pub same : SameRest old new
+
+module _ (places : BTreeMap ℕ ℕ) (apart : IsApart places) (entries : Slab Entry) (neighbour : Option ObjId)
+    (change : Standing → Standing) (thread : ObjId) (standing : Standing) (id : ObjId) (ends : Ends) where
+  abbrev entries1 : Slab Entry
+  entries1 = with_standing places entries neighbour change
+
+  abbrev entries2 : Slab Entry
+  entries2 = with_standing places entries1 (Some thread) (λ _. standing)
+
+  relinks :
+      ((q : ObjId) → neighbour ≡ Some q → IsSome (entry_of places entries q)) → IsSome (entry_of places entries thread)
+      → IsSome (entry_of places entries id)
+      → Relinks (entry_of places entries)
+      (entry_of places (relinked places entries neighbour change thread standing id ends)) neighbour change thread standing id ends
+  relinks there_neighbour there_thread there_id =
+      let first = sets_standing places apart entries neighbour change there_neighbour in
+      let there : (q : ObjId) → Some thread ≡ Some q → IsSome (entry_of places entries1 q) =
+      λ q is. still_there _ _ first.same q (let one : thread ≡ q = cc in subst (λ k. IsSome (entry_of places entries k)) one there_thread) in
+      let second = sets_standing places apart entries1 (Some thread) (λ _. standing) there in
+      let third =
+      sets_ends places apart entries2 id ends (entry_of places entries2 id) refl
+      (still_there _ _ second.same id (still_there _ _ first.same id there_id)) in
+      record {
+        ends_here = third.here;
+        ends_other = λ q differs. third.other q differs ∙ second.ends q ∙ first.ends q;
+        here = third.standing thread ∙ second.here thread refl;
+        beside = λ q differs is. third.standing q ∙ second.other q (λ e. differs cc) ∙ first.here q is;
+        other = λ q differs other. third.standing q ∙ second.other q (λ e. differs cc) ∙ first.other q other;
+        same = λ q. third.same q ∙ second.same q ∙ first.same q;
+      }
+
+  pub relinked_places :
+      (place : ℕ)
+      → is_some (slab.get (relinked places entries neighbour change thread standing id ends) place)
+      ≡ is_some (slab.get entries place)
+  relinked_places place =
+      is_some-changed entries2 (set_ends_in ends) (place_of places id) place
+      ∙ standing_places places apart entries1 (Some thread) (λ _. standing) place
+      ∙ standing_places places apart entries neighbour change place
+
+-- what a change of the queue at one object leaves
+pub record Requeues (old new : ObjId → Option Entry) (numbers : ℕ) (id : ObjId) : Type 0 where
+  pub queued : AreQueued new numbers
+  pub same : SameRest old new
+  pub others : (q : ObjId) → q ≢ id → queue_in numbers new (new q) ≡ queue_in numbers old (old q)
+
+module _ (places : BTreeMap ℕ ℕ) (apart : IsApart places) (entries : Slab Entry) (numbers : ℕ) (id thread : ObjId)
+    (queued : AreQueued (entry_of places entries) numbers) (e : Entry) (is : entry_of places entries id ≡ Some e) where
+  abbrev old : ObjId → Option Entry
+  old = entry_of places entries
+
+  abbrev ends_old : ObjId → Ends
+  ends_old q = ends_of (old q)
+
+  abbrev standing_old : ObjId → Standing
+  standing_old q = standing_of (old q)
+
+  -- a thread comes to wait
+
+  module _ (there : IsSome (old thread)) (known : thread.0 < numbers) (free : (standing_old thread).at ≡ None) where
+    abbrev new : ObjId → Option Entry
+    new = entry_of places (pushed places entries id thread (Some e.ends))
+
+    last_waits : (q : ObjId) → e.ends.last ≡ Some q → (standing_old q).at ≡ Some id
+    last_waits q last = (queued.last_is id q (ap (λ o. (ends_of o).last) is ∙ last)).0
+
+    pushes :
+        Relinks old new e.ends.last (λ s. record s { next = Some thread }) thread
+        (record { at = Some id; previous = e.ends.last; next = None }) id
+        (record { first = option_or e.ends.first (Some thread); last = Some thread })
+    pushes =
+        relinks places apart entries e.ends.last (λ s. record s { next = Some thread }) thread
+        (record { at = Some id; previous = e.ends.last; next = None }) id
+        (record { first = option_or e.ends.first (Some thread); last = Some thread })
+        (λ q last. standing_there old q id (last_waits q last)) there (ap is_some is)
+
+    joins : Joins ends_old (λ q. ends_of (new q)) standing_old (λ q. standing_of (new q)) id thread
+    joins =
+        let last_is : (q : ObjId) → (ends_old id).last ≡ Some q → e.ends.last ≡ Some q =
+        λ q last. ap (λ o. (ends_of o).last) (sym is) ∙ last in
+        record {
+          ends_here =
+              pushes.ends_here
+              ∙ ap (λ o. record { first = option_or (ends_of o).first (Some thread); last = Some thread }) (sym is);
+          ends_other = pushes.ends_other;
+          joined = pushes.here ∙ ap (λ o. record { at = Some id; previous = (ends_of o).last; next = None }) (sym is);
+          before =
+              λ q last. pushes.beside q (λ same. let at = last_waits q (last_is q last) in cc) (last_is q last);
+          kept = λ q differs other. pushes.other q differs (λ last. other (ap (λ o. (ends_of o).last) is ∙ last));
+        }
+
+    pub pushed_requeues : Requeues old new numbers id
+    pushed_requeues =
+        let after : AreQueued new numbers = joined_queues _ _ _ _ numbers queued id thread joins known free in
+        record {
+          queued = after;
+          same = pushes.same;
+          others =
+              λ q differs.
+              same_queue numbers old new pushes.same q
+              (joined_elsewhere _ _ _ _ numbers queued id thread joins known free after q differs);
+        }
+
+    pub pushed_queue : queue_in numbers new (new id) ≡ Some (walk standing_old numbers e.ends.first ++ thread ∷ [])
+    pushed_queue =
+        queue_there numbers new (new id) (still_there old new pushes.same id (ap is_some is))
+        ∙ ap Some
+        (joined_here _ _ _ _ numbers queued id thread joins known free pushed_requeues.queued
+        ∙ ap (λ o. walk standing_old numbers (ends_of o).first ++ thread ∷ []) is)
+
+  -- the first leaves
+
+  module _ (first : e.ends.first ≡ Some thread) where
+    abbrev rest_after : ObjId → Option Entry
+    rest_after = entry_of places (left places entries id e.ends (Some thread))
+
+    abbrev next : Option ObjId
+    next = (standing_old thread).next
+
+    first_is : (ends_old id).first ≡ Some thread
+    first_is = ap (λ o. (ends_of o).first) is ∙ first
+
+    first_waits : (standing_old thread).at ≡ Some id
+    first_waits = (queued.first_is id thread first_is).0
+
+    pops :
+        Relinks old rest_after next (λ s. record s { previous = None }) thread
+        (record { at = None; previous = None; next = None }) id (record { first = next; last = option_and next e.ends.last })
+    pops =
+        relinks places apart entries next (λ s. record s { previous = None }) thread
+        (record { at = None; previous = None; next = None }) id (record { first = next; last = option_and next e.ends.last })
+        (λ q behind. standing_there old q id (queued.beside thread q behind ∙ first_waits))
+        (standing_there old thread id first_waits) (ap is_some is)
+
+    leaves : Leaves ends_old (λ q. ends_of (rest_after q)) standing_old (λ q. standing_of (rest_after q)) id thread
+    leaves =
+        record {
+          ends_here = pops.ends_here ∙ ap (λ o. record { first = next; last = option_and next (ends_of o).last }) (sym is);
+          ends_other = pops.ends_other;
+          gone = pops.here;
+          behind =
+              λ q behind.
+              pops.beside q
+              (λ same.
+              let later : queued.rank thread < queued.rank q = queued.later thread q behind in
+              let one : queued.rank thread ≡ queued.rank q = ap queued.rank (sym same) in absurd (omega arith))
+              behind;
+          kept = pops.other;
+        }
+
+    pub popped_requeues : Requeues old rest_after numbers id
+    popped_requeues =
+        let after : AreQueued rest_after numbers = left_queues _ _ _ _ numbers queued id thread leaves first_is in
+        record {
+          queued = after;
+          same = pops.same;
+          others =
+              λ q differs.
+              same_queue numbers old rest_after pops.same q
+              (left_elsewhere _ _ _ _ numbers queued id thread leaves first_is after q differs);
+        }
+
+    pub popped_queue :
+        (behind : List ObjId) × (queue_in numbers old (old id) ≡ Some (thread ∷ behind))
+        × (queue_in numbers rest_after (rest_after id) ≡ Some behind)
+    popped_queue =
+        let some : IsSome (old id) = ap is_some is in (
+          walk (λ q. standing_of (rest_after q)) numbers (ends_of (rest_after id)).first,
+          queue_there numbers old (old id) some
+              ∙ ap Some (left_here _ _ _ _ numbers queued id thread leaves first_is popped_requeues.queued),
+          queue_there numbers rest_after (rest_after id) (still_there old rest_after pops.same id some),
+        )
