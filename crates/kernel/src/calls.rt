@@ -7,6 +7,7 @@ ghost use Rattle.machine.specs.WellFormed.{IsWellFormed};
 use crate::admit::admit;
 use crate::poll::poll;
 use crate::signal::signal;
+use crate::wait::wait;
 use base::{Cause, Refusal};
 use machine::{Call, Event, Made, Outcome, steps_keep_machines_well_formed};
 use objects::State;
@@ -14,12 +15,14 @@ use objects::State;
 /// Makes the call of an event, once its thread is admitted.
 #[tactic(auto, unfolding(machine::specs::Step::made_by))]
 fn make(state: &mut State, event: Event) -> Result<Made, Cause>
+    requires { IsWellFormed state.old }
     ensures { Makes state.old state.new result (made_by state.old event) }
 {
     admit(state, event.core, event.thread)?;
     match event.call {
         Call::Signal { address } => signal(state, event.thread, address),
         Call::Poll { address } => poll(state, event.thread, address),
+        Call::Wait { address } => wait(state, event.thread, address),
     }
 }
 

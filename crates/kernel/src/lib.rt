@@ -10,6 +10,7 @@ mod find;
 mod poll;
 mod runs;
 mod signal;
+mod wait;
 
 pub use boot_laws::each_table_has_one_boot_state;
 pub use boot_state::boot;

@@ -1,5 +1,5 @@
 -- Each step keeps a well-formed machine well formed.
-use Rattle.std.proofs.Common.{◌≡◌, ℕ, ◌⊎◌, inl, inr, List, [], ◌∷◌, refl, sym, ap, subst, ◌∙◌}
+use Rattle.std.proofs.Common.{◌≡◌, ℕ, ◌⊎◌, inl, inr, List, [], ◌∷◌, ◌++◌, refl, sym, ap, subst, ◌∙◌}
 use Rattle.std.specs.Prelude.{Some, None, option_map, if◌then◌else◌}
 use Rattle.base.specs.declared.ids.ObjId.{ObjId}
 use Rattle.machine.specs.declared.call.Call.{Call}
@@ -19,13 +19,16 @@ use Rattle.machine.specs.Objects.{kind_of_object}
 use Rattle.machine.specs.Run.{Run}
 use Rattle.machine.specs.Step.{Step}
 use Rattle.machine.specs.WellFormed.{IsThread, IsWellFormed, LinksAgree, WaitsAtKind}
+use Rattle.machine.proofs.Admission.{IsCaller}
 use Rattle.machine.proofs.Inversion.{CallDone, EventDone, step_done}
-use Rattle.machine.proofs.LookUps.{object_of-with_object, object_of-with_queue}
+use Rattle.machine.proofs.JoinLinks.{join_moves}
+use Rattle.machine.proofs.LookUps.{object_of-with_object, object_of-with_queue, queue_of-with_object}
 use Rattle.machine.proofs.Outlines.{Steady, object_steady, queue_steady, steady_steady, slots_kept, parts_kept, numbers_kept}
 use Rattle.machine.proofs.PollRow.{PollDone}
 use Rattle.machine.proofs.Queues.{first_in}
 use Rattle.machine.proofs.SignalRow.{SignalDone, Wakes, marked, roused}
 use Rattle.machine.proofs.ThreadLinks.{NamesNoReply, links_moved}
+use Rattle.machine.proofs.WaitRow.{Blocks, WaitDone, awaiting}
 use Rattle.machine.proofs.WakeLinks.{wake_moves}
 use Rattle.machine.proofs.WordLinks.{SetsObject, word_steady, links_with_word}
 
@@ -119,18 +122,57 @@ poll_formed m caller address next formed done =
     subst IsWellFormed (sym done.changes)
     (word_formed m done.open_to.id done.open_to.notification _ done.open_to.there refl formed)
 
+-- a ready thread joins the queue of a notification
+blocks_formed :
+    (m next : Machine) (caller id : ObjId) (notification : Notification) → IsWellFormed m → IsCaller m caller
+    → object_of m id ≡ Some (o.Notification notification) → Blocks m caller id next → IsWellFormed next
+blocks_formed m next caller id notification formed is there blocks =
+    let new : Tcb = awaiting blocks.thread id in
+    let between : Machine = with_object m caller (o.Tcb new) in
+    let threads : List ObjId = blocks.threads ++ caller ∷ [] in
+    let after : Machine = with_queue between id threads in
+    let one : Some (o.Tcb is.thread) ≡ Some (o.Tcb blocks.thread) = sym is.there ∙ blocks.there in
+    let same : is.thread ≡ blocks.thread = cc in
+    let ready : blocks.thread.state ≡ state.Ready = sym (ap (λ (t : Tcb). t.state) same) ∙ is.ready in
+    let steady : Steady m after =
+    steady_steady m between after (thread_steady m caller blocks.thread new blocks.there refl)
+    (queue_steady between id blocks.threads threads (queue_of-with_object m caller (o.Tcb new) id ∙ blocks.waited)) in
+    let sets : SetsObject m caller (o.Tcb new) after =
+    λ q. object_of-with_queue between id threads q ∙ object_of-with_object m caller (o.Tcb new) q in
+    let moves =
+    join_moves m id caller blocks.threads blocks.thread new blocks.waited blocks.there ready refl kind.Notification
+    (ap (option_map kind_of_object) there) tt (λ same. cc) formed.links in
+    subst IsWellFormed (sym blocks.changes)
+    (steady_formed m after steady
+    (links_moved m after caller blocks.thread new blocks.there sets steady refl
+    (subst (λ run. NamesNoReply run) (sym ready) ready_alone) (alone_at (state.Waiting id) kind.Notification refl tt) moves
+    formed.links) formed)
+
+wait_formed :
+    (m : Machine) (caller : ObjId) (address : ℕ) (next : Machine) → IsWellFormed m → IsCaller m caller
+    → WaitDone m caller address next → IsWellFormed next
+wait_formed m caller address next formed is done = by_case done.changes where
+  by_case :
+      (next ≡ with_object m done.open_to.id (o.Notification (record done.open_to.notification { pending = None })))
+      ⊎ Blocks m caller done.open_to.id next → IsWellFormed next
+  by_case (inl taken) =
+      subst IsWellFormed (sym taken)
+      (word_formed m done.open_to.id done.open_to.notification _ done.open_to.there refl formed)
+  by_case (inr blocks) = blocks_formed m next caller done.open_to.id done.open_to.notification formed is done.open_to.there blocks
+
 call_formed :
-    (m : Machine) (caller : ObjId) (which : Call) (next : Machine) → IsWellFormed m → CallDone m caller which next
-    → IsWellFormed next
-call_formed m caller (call.Signal address) = signal_formed m caller address
-call_formed m caller (call.Poll address) = poll_formed m caller address
+    (m : Machine) (caller : ObjId) (which : Call) (next : Machine) → IsWellFormed m → IsCaller m caller
+    → CallDone m caller which next → IsWellFormed next
+call_formed m caller (call.Signal address) next formed is = signal_formed m caller address next formed
+call_formed m caller (call.Poll address) next formed is = poll_formed m caller address next formed
+call_formed m caller (call.Wait address) next formed is = wait_formed m caller address next formed is
 
 pub step_formed :
     (m : Machine) (event : Event) (outcome : Outcome) (next : Machine) → IsWellFormed m → Step m event outcome next
     → IsWellFormed next
 step_formed m event outcome next formed step = by_case (step_done m event outcome next formed step) where
   by_case : EventDone m event next ⊎ (next ≡ m) → IsWellFormed next
-  by_case (inl done) = call_formed m event.thread event.call next formed done.done
+  by_case (inl done) = call_formed m event.thread event.call next formed done.caller done.done
   by_case (inr same) = subst IsWellFormed (sym same) formed
 
 pub run_formed :

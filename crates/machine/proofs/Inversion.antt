@@ -16,17 +16,20 @@ use Rattle.machine.proofs.Admission.{IsCaller, admits}
 use Rattle.machine.proofs.Conditions.{both_done}
 use Rattle.machine.proofs.PollRow.{PollDone, poll_done}
 use Rattle.machine.proofs.SignalRow.{SignalDone, signal_done}
+use Rattle.machine.proofs.WaitRow.{WaitDone, wait_done}
 
 -- what a call did, row by row
 abbrev pub CallDone : Machine → ObjId → Call → Machine → Type 0
 CallDone m caller (call.Signal address) next = SignalDone m caller address next
 CallDone m caller (call.Poll address) next = PollDone m caller address next
+CallDone m caller (call.Wait address) next = WaitDone m caller address next
 
 call_done :
-    (m : Machine) (caller : ObjId) (which : Call) (made : Made) (next : Machine) → IsWellFormed m
+    (m : Machine) (caller : ObjId) (which : Call) (made : Made) (next : Machine) → IsWellFormed m → IsCaller m caller
     → call_of m caller which ≡ Ok (made, next) → CallDone m caller which next
-call_done m caller (call.Signal address) = signal_done m caller address
-call_done m caller (call.Poll address) = poll_done m caller address
+call_done m caller (call.Signal address) made next formed is = signal_done m caller address made next formed
+call_done m caller (call.Poll address) made next formed is = poll_done m caller address made next formed
+call_done m caller (call.Wait address) made next formed is = wait_done m caller address made next formed is
 
 -- an event was made: by a caller, whose call was done
 pub record EventDone (m : Machine) (event : Event) (next : Machine) : Type 0 where
@@ -39,10 +42,8 @@ pub event_done :
 unfolding made_by
 event_done m event made next formed e =
     let admission = both_done (admitted m event.core event.thread) _ (made, next) e in
-    record {
-      caller = admits m event.core event.thread admission.0 admission.1;
-      done = call_done m event.thread event.call made next formed admission.2;
-    }
+    let is = admits m event.core event.thread admission.0 admission.1 in
+    record { caller = is; done = call_done m event.thread event.call made next formed is admission.2 }
 
 -- an event was made, or nothing changed
 pub step_done :

@@ -8,6 +8,7 @@ pub mod Finding
 pub mod NotificationRow
 pub mod PollRow
 pub mod SignalRow
+pub mod WaitRow
 pub mod Inversion
 pub mod Outlines
 pub mod WordLinks

@@ -16,6 +16,7 @@ use Rattle.machine.specs.declared.thread.Message.{Message}
 abbrev pub call_words : Call → List (List ℕ)
 call_words (call.Signal address) = codes "signal" ∷ decimal address ∷ []
 call_words (call.Poll address) = codes "poll" ∷ decimal address ∷ []
+call_words (call.Wait address) = codes "wait" ∷ decimal address ∷ []
 
 -- an event: core, thread, call
 abbrev pub event_words : Event → List (List ℕ)

@@ -23,8 +23,10 @@ use Rattle.machine.specs.Refusing.{◌>>=◌}
 pub mod Find
 pub mod Signal
 pub mod Poll
+pub mod Wait
 use Rattle.machine.specs.Step.Signal.{signal_of}
 use Rattle.machine.specs.Step.Poll.{poll_of}
+use Rattle.machine.specs.Step.Wait.{wait_of}
 
 -- the core, budget and period of a context, if it is one and configured
 abbrev pub share_in : Option Object → Option Share
@@ -62,6 +64,7 @@ admitted m core caller = do
 abbrev pub call_of : Machine → ObjId → Call → Result (Made × Machine) Cause
 call_of m caller (call.Signal address) = signal_of m caller address
 call_of m caller (call.Poll address) = poll_of m caller address
+call_of m caller (call.Wait address) = wait_of m caller address
 
 -- what an event comes to: its thread is admitted, and then makes its call
 unfoldable pub made_by : Machine → Event → Result (Made × Machine) Cause
@@ -82,6 +85,7 @@ step_of m event = settled m (made_by m event)
 abbrev pub takes_memory : Call → Bool
 takes_memory (call.Signal _) = Bool.false
 takes_memory (call.Poll _) = Bool.false
+takes_memory (call.Wait _) = Bool.false
 
 -- the event could be made, but takes memory that isn't there
 pub record LacksMemory (m : Machine) (event : Event) (outcome : Outcome) (next : Machine) : Type 0 where

@@ -11,6 +11,8 @@ pub enum Call {
     Signal { address: u64 },
     /// Takes the word of the notification at the address, and doesn't wait.
     Poll { address: u64 },
+    /// Takes the word of the notification at the address, or waits for one.
+    Wait { address: u64 },
 }
 
 /// A call that a thread makes on a core.

@@ -11,6 +11,7 @@ impl fmt::Display for Call {
         match self {
             Call::Signal { address } => write!(f, "signal {address}"),
             Call::Poll { address } => write!(f, "poll {address}"),
+            Call::Wait { address } => write!(f, "wait {address}"),
         }
     }
 }
