@@ -99,12 +99,12 @@ pub struct Page {
 }
 
 impl Page {
-    /// An empty page with this room, which takes at once what it has room for.
-    pub fn new(alloc: Global, room: usize) -> Page {
+    /// An empty page with room for any answer, which it takes at once.
+    pub fn new(alloc: Global) -> Page {
         Page {
             written: Vec::new(alloc),
             most: usize::MAX,
-            room,
+            room: usize::MAX,
             failure: Some(ErrorKind::StorageFull),
         }
     }

@@ -1,46 +1,54 @@
-//! How a run ends: its message, its status, and what it has written by then.
-use crate::devices::{Failure, Given, Page};
-use crate::session::{Ending, run_on, run_onto};
-use crate::systems::TWO_CORES;
+//! How a run ends whose devices fail: its message, its status, and what it has written by then.
+use crate::devices::{Given, Page};
+use crate::session::{Ending, Files, run_onto};
+use report::File;
+use std::alloc::Global;
 use std::io::ErrorKind;
 use std::process::Abort;
 use std::test::Fail;
 
-/// The table, the policy and the script that are accepted.
-fn two_cores() -> [Given<'static>; 3] {
-    [
-        Given::text(TWO_CORES.table),
-        Given::text(TWO_CORES.policy),
-        Given::text(TWO_CORES.script),
-    ]
-}
+const TABLE: &str = "\
+confine-table 1
+label a
+label b
+cnode ca a 0x1000 1
+cnode cb b 0x1040 1
+tcb ta a 0x2000 ready
+tcb tb b 0x2400 ready
+notification n b 0x3000
+context xa a 0x4000 1 10 10
+context xb b 0x4100 0 10 10
+cap ca.0 n w 4
+cap cb.0 n r 0
+cap ta.root ca 63 0x0
+cap tb.root cb 63 0x0
+bind ta xa
+bind tb xb
+end
+";
 
-/// A text that each file is faulty with, at line 1.
-const FAULTY: Given<'static> = Given {
-    text: "end\n",
-    most: usize::MAX,
-    failure: None,
-};
+const POLICY: &str = "\
+confine-policy 1
+edge a reset b
+edge a notify b
+edge a space a
+edge a derive a
+edge a runs a
+edge b reset b
+edge b await b
+edge b space b
+edge b derive b
+edge b runs b
+end
+";
 
-/// A policy that the system is denied by.
-const EMPTY_POLICY: Given<'static> = Given {
-    text: "confine-policy 1\nend\n",
-    most: usize::MAX,
-    failure: None,
-};
-
-/// A file that isn't there.
-const MISSING: Given<'static> = Given {
-    text: "",
-    most: usize::MAX,
-    failure: Some(Failure {
-        after: 0,
-        kind: ErrorKind::NotFound,
-    }),
-};
-
-/// How many bytes a device gives or takes at a time, at most.
-const AMOUNTS: [usize; 5] = [1, 2, 3, 7, usize::MAX];
+const SCRIPT: &str = "\
+confine-script 1
+1 2 signal 0
+0 3 poll 0
+0 3 poll 0
+end
+";
 
 const LOG: &str = "\
 confine-log 1
@@ -59,295 +67,135 @@ const FAULTY_POLICY: &str = "{\"fault\":50,\"file\":\"policy\",\"line\":1}\n";
 
 const FAULTY_SCRIPT: &str = "{\"fault\":50,\"file\":\"script\",\"line\":1}\n";
 
-/// The run says this on standard error, ends with this status, and wrote this text.
-fn ends<R: Abort>(rt: &R, ending: Ending, message: Option<&str>, status: u8, written: &str) {
-    assert_eq!(rt; ending.written.as_str(), written);
-    assert_eq!(rt; ending.end.message(), message);
-    assert_eq!(rt; ending.end.status(), status);
-}
+const NO_TABLE: &str = "confine: cannot read table";
 
-/// The run says this on standard error, ends with status 2, and wrote no more than this text: a device
-/// failed after so many bytes.
-fn fails<R: Abort>(rt: &R, ending: Ending, message: &str, written: &str, after: usize) {
-    assert_eq!(rt; ending.written.as_str(), written, "after {after} bytes");
-    assert_eq!(rt; ending.end.message(), Some(message), "after {after} bytes");
-    assert_eq!(rt; ending.end.status(), 2, "after {after} bytes");
-}
+const NO_POLICY: &str = "confine: cannot read policy";
 
-#[test]
-fn each_end_has_its_message_and_status(rt: HostRuntime) -> Result<(), Fail> {
-    let [table, policy, script] = two_cores();
-    for (table, policy, script, message, status, written) in [
-        (table, policy, script, None, 0, LOG),
-        (table, EMPTY_POLICY, script, None, 1, DENIAL),
-        (FAULTY, policy, script, None, 2, FAULTY_TABLE),
-        (table, FAULTY, script, None, 2, FAULTY_POLICY),
-        (table, policy, FAULTY, None, 2, FAULTY_SCRIPT),
-        (
-            MISSING,
-            policy,
-            script,
-            Some("confine: cannot read table"),
-            2,
-            "",
-        ),
-        (
-            table,
-            MISSING,
-            script,
-            Some("confine: cannot read policy"),
-            2,
-            "",
-        ),
-        (
-            table,
-            policy,
-            MISSING,
-            Some("confine: cannot read script"),
-            2,
-            "",
-        ),
-    ] {
-        let ending = run_on(rt.alloc(), table, policy, script, usize::MAX)?;
-        ends(&rt, ending, message, status, written);
+const NO_SCRIPT: &str = "confine: cannot read script";
+
+/// The files, by name, with what is told where one can't be read.
+const MESSAGES: [(File, &str); 3] = [
+    (File::Table, NO_TABLE),
+    (File::Policy, NO_POLICY),
+    (File::Script, NO_SCRIPT),
+];
+
+/// The files that are accepted: a notification from one label to another, on two cores.
+fn accepted() -> Files<'static> {
+    Files {
+        table: Given::text(TABLE),
+        policy: Given::text(POLICY),
+        script: Given::text(SCRIPT),
     }
+}
+
+/// A text that each file is faulty with, at line 1.
+fn faulty() -> Given<'static> {
+    Given::text("end\n")
+}
+
+/// A file that isn't there.
+fn missing() -> Given<'static> {
+    Given::text("").failing(0, ErrorKind::NotFound)
+}
+
+/// A policy that the system is denied by.
+fn empty_policy() -> Given<'static> {
+    Given::text("confine-policy 1\nend\n")
+}
+
+/// Files of each kind of answer, with the status and the answer.
+fn answers() -> [(Files<'static>, u8, &'static str); 5] {
+    let files = accepted();
+    [
+        (files, 0, LOG),
+        (files.with(File::Policy, empty_policy()), 1, DENIAL),
+        (files.with(File::Table, faulty()), 2, FAULTY_TABLE),
+        (files.with(File::Policy, faulty()), 2, FAULTY_POLICY),
+        (files.with(File::Script, faulty()), 2, FAULTY_SCRIPT),
+    ]
+}
+
+/// The run says this on standard error, ends with this status, and wrote this text. A device failed, or
+/// was interrupted, after so many bytes.
+fn ends<R: Abort>(
+    rt: &R,
+    ending: &Ending,
+    (message, status, written): (Option<&str>, u8, &str),
+    after: usize,
+) {
+    assert_eq!(rt; ending.written.as_str(), written, "after {after} bytes");
+    assert_eq!(rt; ending.end.message(), message, "after {after} bytes");
+    assert_eq!(rt; ending.end.status(), status, "after {after} bytes");
+}
+
+/// Runs the files, and sees how that ends.
+fn run_ends<R: Abort + AllocGlobal>(
+    rt: &R,
+    files: Files<'_>,
+    end: (Option<&str>, u8, &str),
+) -> Result<(), Fail> {
+    let ending = run_onto(rt.alloc(), files, Page::new(rt.alloc()))?;
+    ends(rt, &ending, end, 0);
     Ok(())
 }
 
 #[test]
 fn each_file_is_parsed_before_the_next_is_read(rt: HostRuntime) -> Result<(), Fail> {
-    let [table, policy, script] = two_cores();
-    for (table, policy, script, message, status, written) in [
-        (FAULTY, MISSING, MISSING, None, 2, FAULTY_TABLE),
-        (FAULTY, FAULTY, FAULTY, None, 2, FAULTY_TABLE),
-        (table, FAULTY, MISSING, None, 2, FAULTY_POLICY),
-        (table, FAULTY, FAULTY, None, 2, FAULTY_POLICY),
-        (
-            MISSING,
-            FAULTY,
-            FAULTY,
-            Some("confine: cannot read table"),
-            2,
-            "",
-        ),
-        (
-            MISSING,
-            MISSING,
-            MISSING,
-            Some("confine: cannot read table"),
-            2,
-            "",
-        ),
-        (
+    let files = accepted();
+    for (table, policy, script, message, written) in [
+        (missing(), files.policy, files.script, Some(NO_TABLE), ""),
+        (missing(), faulty(), faulty(), Some(NO_TABLE), ""),
+        (missing(), missing(), missing(), Some(NO_TABLE), ""),
+        (faulty(), missing(), missing(), None, FAULTY_TABLE),
+        (files.table, missing(), files.script, Some(NO_POLICY), ""),
+        (files.table, missing(), faulty(), Some(NO_POLICY), ""),
+        (files.table, missing(), missing(), Some(NO_POLICY), ""),
+        (files.table, faulty(), missing(), None, FAULTY_POLICY),
+        (files.table, files.policy, missing(), Some(NO_SCRIPT), ""),
+        // All of them are parsed before the check.
+        (files.table, empty_policy(), missing(), Some(NO_SCRIPT), ""),
+    ] {
+        let files = Files {
             table,
-            MISSING,
-            FAULTY,
-            Some("confine: cannot read policy"),
-            2,
-            "",
-        ),
-        (
-            table,
-            MISSING,
-            MISSING,
-            Some("confine: cannot read policy"),
-            2,
-            "",
-        ),
-    ] {
-        let ending = run_on(rt.alloc(), table, policy, script, usize::MAX)?;
-        ends(&rt, ending, message, status, written);
+            policy,
+            script,
+        };
+        run_ends(&rt, files, (message, 2, written))?;
     }
     Ok(())
 }
 
-#[test]
-fn all_files_are_parsed_before_the_check(rt: HostRuntime) -> Result<(), Fail> {
-    let [table, policy, script] = two_cores();
-    for (script, message, status, written) in [
-        (FAULTY, None, 2, FAULTY_SCRIPT),
-        (MISSING, Some("confine: cannot read script"), 2, ""),
-        (script, None, 1, DENIAL),
-    ] {
-        let ending = run_on(rt.alloc(), table, EMPTY_POLICY, script, usize::MAX)?;
-        ends(&rt, ending, message, status, written);
+/// Which files a run asks for bytes that can't read this one.
+fn read_up_to(file: File) -> [bool; 3] {
+    match file {
+        File::Table => [true, false, false],
+        File::Policy => [true, true, false],
+        File::Script => [true, true, true],
     }
+}
+
+/// A file that fails after so many bytes can't be read, and those after it aren't asked.
+fn fails_after<R: Abort + AllocGlobal>(
+    rt: &R,
+    (file, message): (File, &str),
+    given: Given<'_>,
+    after: usize,
+) -> Result<(), Fail> {
+    let files = accepted().with(file, given.failing(after, ErrorKind::Other));
+    let ending = run_onto(rt.alloc(), files, Page::new(rt.alloc()))?;
+    ends(rt, &ending, (Some(message), 2, ""), after);
+    assert!(rt; ending.reads == read_up_to(file), "after {after} bytes");
     Ok(())
 }
 
 #[test]
-fn a_table_that_fails_at_any_byte_cannot_be_read(rt: HostRuntime) -> Result<(), Fail> {
-    let [table, policy, script] = two_cores();
-    for most in [usize::MAX, 1] {
-        for after in 0..table.text.len() {
-            let table = table.at_most(most).failing(after, ErrorKind::Other);
-            let ending = run_on(rt.alloc(), table, policy, script, usize::MAX)?;
-            assert!(rt; ending.reads_table, "after {after} bytes");
-            assert!(rt; !ending.reads_policy, "after {after} bytes");
-            assert!(rt; !ending.reads_script, "after {after} bytes");
-            fails(&rt, ending, "confine: cannot read table", "", after);
-        }
-    }
-    Ok(())
-}
-
-#[test]
-fn a_policy_that_fails_at_any_byte_cannot_be_read(rt: HostRuntime) -> Result<(), Fail> {
-    let [table, policy, script] = two_cores();
-    for most in [usize::MAX, 1] {
-        for after in 0..policy.text.len() {
-            let policy = policy.at_most(most).failing(after, ErrorKind::Other);
-            let ending = run_on(rt.alloc(), table, policy, script, usize::MAX)?;
-            assert!(rt; ending.reads_table, "after {after} bytes");
-            assert!(rt; ending.reads_policy, "after {after} bytes");
-            assert!(rt; !ending.reads_script, "after {after} bytes");
-            fails(&rt, ending, "confine: cannot read policy", "", after);
-        }
-    }
-    Ok(())
-}
-
-#[test]
-fn a_script_that_fails_at_any_byte_cannot_be_read(rt: HostRuntime) -> Result<(), Fail> {
-    let [table, policy, script] = two_cores();
-    for most in [usize::MAX, 1] {
-        for after in 0..script.text.len() {
-            let script = script.at_most(most).failing(after, ErrorKind::Other);
-            let ending = run_on(rt.alloc(), table, policy, script, usize::MAX)?;
-            assert!(rt; ending.reads_table, "after {after} bytes");
-            assert!(rt; ending.reads_policy, "after {after} bytes");
-            assert!(rt; ending.reads_script, "after {after} bytes");
-            fails(&rt, ending, "confine: cannot read script", "", after);
-        }
-    }
-    Ok(())
-}
-
-#[test]
-fn a_read_that_fails_is_no_end_of_file(rt: HostRuntime) -> Result<(), Fail> {
-    let [table, policy, script] = two_cores();
-    for kind in [
-        ErrorKind::UnexpectedEof,
-        ErrorKind::WouldBlock,
-        ErrorKind::TimedOut,
-        ErrorKind::InvalidData,
-        ErrorKind::Other,
-    ] {
-        for (table, policy, script, message) in [
-            (
-                table.at_end(kind),
-                policy,
-                script,
-                "confine: cannot read table",
-            ),
-            (
-                table,
-                policy.at_end(kind),
-                script,
-                "confine: cannot read policy",
-            ),
-            (
-                table,
-                policy,
-                script.at_end(kind),
-                "confine: cannot read script",
-            ),
-            // Nor is it a fault of what was read.
-            (
-                FAULTY.at_end(kind),
-                policy,
-                script,
-                "confine: cannot read table",
-            ),
-            (
-                table,
-                FAULTY.at_end(kind),
-                script,
-                "confine: cannot read policy",
-            ),
-            (
-                table,
-                policy,
-                FAULTY.at_end(kind),
-                "confine: cannot read script",
-            ),
-        ] {
-            let ending = run_on(rt.alloc(), table, policy, script, usize::MAX)?;
-            ends(&rt, ending, Some(message), 2, "");
-        }
-    }
-    Ok(())
-}
-
-#[test]
-fn a_read_that_is_interrupted_is_asked_again(rt: HostRuntime) -> Result<(), Fail> {
-    let [table, policy, script] = two_cores();
-    let interrupted = ErrorKind::Interrupted;
-    for after in 0..table.text.len() {
-        let table = table.failing(after, interrupted);
-        let policy = policy.failing(after.min(policy.text.len()), interrupted);
-        let script = script.failing(after.min(script.text.len()), interrupted);
-        let ending = run_on(rt.alloc(), table, policy, script, usize::MAX)?;
-        ends(&rt, ending, None, 0, LOG);
-    }
-    Ok(())
-}
-
-#[test]
-fn a_read_without_memory_blames_no_file(rt: HostRuntime) -> Result<(), Fail> {
-    let [table, policy, script] = two_cores();
-    let starved = Given::text("").failing(0, ErrorKind::OutOfMemory);
-    for (table, policy, script) in [
-        (starved, policy, script),
-        (table, starved, script),
-        (table, policy, starved),
-    ] {
-        let ending = run_on(rt.alloc(), table, policy, script, usize::MAX)?;
-        ends(&rt, ending, Some("confine: no memory"), 2, "");
-    }
-    Ok(())
-}
-
-#[test]
-fn how_many_bytes_a_read_gives_changes_no_answer(rt: HostRuntime) -> Result<(), Fail> {
-    let [table, policy, script] = two_cores();
-    for most in AMOUNTS {
-        for (table, policy, script, status, answer) in [
-            (table, policy, script, 0, LOG),
-            (table, EMPTY_POLICY, script, 1, DENIAL),
-            (FAULTY, policy, script, 2, FAULTY_TABLE),
-            (table, FAULTY, script, 2, FAULTY_POLICY),
-            (table, policy, FAULTY, 2, FAULTY_SCRIPT),
-        ] {
-            let table = table.at_most(most);
-            let policy = policy.at_most(most);
-            let script = script.at_most(most);
-            let ending = run_on(rt.alloc(), table, policy, script, usize::MAX)?;
-            ends(&rt, ending, None, status, answer);
-        }
-    }
-    Ok(())
-}
-
-#[test]
-fn an_answer_that_cannot_be_written_is_no_answer(rt: HostRuntime) -> Result<(), Fail> {
-    let [table, policy, script] = two_cores();
-    for (table, policy, script, answer) in [
-        (table, policy, script, LOG),
-        (table, EMPTY_POLICY, script, DENIAL),
-        (FAULTY, policy, script, FAULTY_TABLE),
-    ] {
-        for (most, failure) in [(usize::MAX, Some(ErrorKind::StorageFull)), (1, None)] {
-            for room in 0..answer.len() {
-                let page = Page {
-                    written: Vec::new(rt.alloc()),
-                    most,
-                    room,
-                    failure,
-                };
-                let ending = run_onto(rt.alloc(), table, policy, script, page)?;
-                let written = answer.get(..room).ok_or("a beginning")?;
-                fails(&rt, ending, "confine: cannot write", written, room);
+fn a_file_that_fails_at_any_byte_cannot_be_read(rt: HostRuntime) -> Result<(), Fail> {
+    for (file, message) in MESSAGES {
+        for most in [usize::MAX, 1] {
+            let given = accepted().file(file).at_most(most);
+            for after in 0..given.text.len() {
+                fails_after(&rt, (file, message), given, after)?;
             }
         }
     }
@@ -355,25 +203,111 @@ fn an_answer_that_cannot_be_written_is_no_answer(rt: HostRuntime) -> Result<(), 
 }
 
 #[test]
-fn how_many_bytes_a_write_takes_changes_no_answer(rt: HostRuntime) -> Result<(), Fail> {
-    let [table, policy, script] = two_cores();
-    for most in AMOUNTS {
-        for (table, policy, script, status, answer) in [
-            (table, policy, script, 0, LOG),
-            (table, EMPTY_POLICY, script, 1, DENIAL),
-            (FAULTY, policy, script, 2, FAULTY_TABLE),
-            (table, FAULTY, script, 2, FAULTY_POLICY),
-            (table, policy, FAULTY, 2, FAULTY_SCRIPT),
-        ] {
+fn a_read_that_fails_is_no_end_of_file(rt: HostRuntime) -> Result<(), Fail> {
+    for kind in [
+        ErrorKind::UnexpectedEof,
+        ErrorKind::WouldBlock,
+        ErrorKind::TimedOut,
+        ErrorKind::InvalidData,
+        ErrorKind::Other,
+    ] {
+        for (file, message) in MESSAGES {
+            // Nor is it a fault of what was read.
+            for given in [accepted().file(file), faulty()] {
+                let files = accepted().with(file, given.at_end(kind));
+                run_ends(&rt, files, (Some(message), 2, ""))?;
+            }
+        }
+    }
+    Ok(())
+}
+
+#[test]
+fn a_read_that_is_interrupted_is_asked_again(rt: HostRuntime) -> Result<(), Fail> {
+    for after in 0..TABLE.len() {
+        let mut files = accepted();
+        for (file, _) in MESSAGES {
+            let given = files.file(file);
+            let after = after.min(given.text.len());
+            files = files.with(file, given.failing(after, ErrorKind::Interrupted));
+        }
+        run_ends(&rt, files, (None, 0, LOG))?;
+    }
+    Ok(())
+}
+
+#[test]
+fn a_read_without_memory_blames_no_file(rt: HostRuntime) -> Result<(), Fail> {
+    let starved = Given::text("").failing(0, ErrorKind::OutOfMemory);
+    for (file, _) in MESSAGES {
+        let files = accepted().with(file, starved);
+        run_ends(&rt, files, (Some("confine: no memory"), 2, ""))?;
+    }
+    Ok(())
+}
+
+/// A page with room for so many bytes can't be written whole.
+fn overflows<R: Abort + AllocGlobal>(
+    rt: &R,
+    files: Files<'_>,
+    page: Page,
+    answer: &str,
+) -> Result<(), Fail> {
+    let room = page.room;
+    let written = answer.get(..room).ok_or("a beginning")?;
+    let ending = run_onto(rt.alloc(), files, page)?;
+    ends(
+        rt,
+        &ending,
+        (Some("confine: cannot write"), 2, written),
+        room,
+    );
+    Ok(())
+}
+
+#[test]
+fn an_answer_that_cannot_be_written_is_no_answer(rt: HostRuntime) -> Result<(), Fail> {
+    for (files, _, answer) in answers() {
+        for (most, failure) in [(usize::MAX, Some(ErrorKind::StorageFull)), (1, None)] {
+            for room in 0..answer.len() {
+                let page = Page {
+                    most,
+                    room,
+                    failure,
+                    ..Page::new(rt.alloc())
+                };
+                overflows(&rt, files, page, answer)?;
+            }
+        }
+    }
+    Ok(())
+}
+
+/// How many bytes the files give a read, and the page takes a write, at most.
+const AMOUNTS: [(usize, usize); 9] = [
+    (usize::MAX, usize::MAX),
+    (1, usize::MAX),
+    (2, usize::MAX),
+    (3, usize::MAX),
+    (7, usize::MAX),
+    (usize::MAX, 1),
+    (usize::MAX, 2),
+    (usize::MAX, 3),
+    (usize::MAX, 7),
+];
+
+#[test]
+fn how_many_bytes_a_device_moves_changes_no_answer(rt: HostRuntime) -> Result<(), Fail> {
+    for (reads, writes) in AMOUNTS {
+        for (files, status, answer) in answers() {
             // There is room for the answer and no more.
             let page = Page {
-                written: Vec::new(rt.alloc()),
-                most,
+                most: writes,
                 room: answer.len(),
-                failure: Some(ErrorKind::StorageFull),
+                ..Page::new(rt.alloc())
             };
-            let ending = run_onto(rt.alloc(), table, policy, script, page)?;
-            ends(&rt, ending, None, status, answer);
+            let ending = run_onto(rt.alloc(), files.at_most(reads), page)?;
+            ends(&rt, &ending, (None, status, answer), 0);
         }
     }
     Ok(())

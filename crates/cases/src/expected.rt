@@ -1,0 +1,94 @@
+//! The answers that cases expect.
+use crate::changes::line_number;
+use crate::engine::Answer;
+use crate::repeats::number;
+use crate::texts::File;
+use crate::wrong::Wrong;
+use std::alloc::{AllocError, Global};
+
+/// The answer that these words say: `log`, `each OUTCOME`, `deny RULE PLACE`, or a fault, which is in
+/// this file and line where they don't say another.
+pub fn expected(
+    alloc: Global,
+    words: &str,
+    (script, log): (&[u8], &str),
+    place: (File, usize),
+) -> Result<Answer, Wrong> {
+    if words == "log" {
+        return logged(Vec::from_slice(alloc, log.as_bytes())?);
+    }
+    if let Some(outcome) = words.strip_prefix("each ") {
+        return logged(log_of(alloc, script, outcome)?);
+    }
+    match words.strip_prefix("deny ") {
+        Some(words) => denial(alloc, words),
+        None => fault(alloc, words, place),
+    }
+}
+
+/// The answer that is a log.
+fn logged(text: Vec<u8>) -> Result<Answer, Wrong> {
+    Ok(Answer { status: 0, text })
+}
+
+/// The log of a script of which each event has this outcome.
+fn log_of(alloc: Global, script: &[u8], outcome: &str) -> Result<Vec<u8>, Wrong> {
+    let no_script = Wrong("the script has no header, or no end");
+    let events = script.strip_prefix(b"confine-script 1\n").ok_or(no_script)?;
+    let events = events.strip_suffix(b"end\n").ok_or(no_script)?;
+    let mut log = Vec::new(alloc);
+    log.extend_from_slice(b"confine-log 1\n")?;
+    for byte in events {
+        if *byte == b'\n' {
+            log.extend_from_slice(b" = ")?;
+            log.extend_from_slice(outcome.as_bytes())?;
+        }
+        log.push(*byte)?;
+    }
+    log.extend_from_slice(b"end\n")?;
+    Ok(log)
+}
+
+/// The report of a denial, by its rule and the names of its place.
+fn denial(alloc: Global, words: &str) -> Result<Answer, Wrong> {
+    let (rule, place) = words.split_once(' ').ok_or(Wrong("a denial has a place"))?;
+    let place = names(alloc, place)?;
+    let text = format!(in alloc;
+        "{{\"place\":[{place}],\"rule\":\"{rule}\",\"verdict\":\"deny\"}}\n"
+    )?;
+    Ok(Answer {
+        status: 1,
+        text: text.into_bytes(),
+    })
+}
+
+/// Names in quotes, with commas between them.
+fn names(alloc: Global, place: &str) -> Result<String, AllocError> {
+    let mut names = String::new(alloc);
+    for name in place.split(' ') {
+        if !names.is_empty() {
+            names.push(',')?;
+        }
+        write!(names, "\"{name}\"")?;
+    }
+    Ok(names)
+}
+
+/// The report of a fault, `[FILE] NUMBER [line LINE]`.
+fn fault(alloc: Global, words: &str, (file, line): (File, usize)) -> Result<Answer, Wrong> {
+    let (words, line) = match words.split_once(" line ") {
+        Some((words, line)) => (words, line_number(line)?),
+        None => (words, line),
+    };
+    let (file, fault) = match words.split_once(' ') {
+        Some((file, fault)) => (File::named(file)?, fault),
+        None => (file, words),
+    };
+    let fault = number(fault)?;
+    let file = file.name();
+    let text = format!(in alloc; "{{\"fault\":{fault},\"file\":\"{file}\",\"line\":{line}}}\n")?;
+    Ok(Answer {
+        status: 2,
+        text: text.into_bytes(),
+    })
+}

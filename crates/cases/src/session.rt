@@ -1,0 +1,272 @@
+//! The lines of a file of cases, one after another.
+use crate::changes::{Place, change_text, last_line, place_of, quoted};
+use crate::engine::{Answer, Given, answer_to};
+use crate::expected::expected;
+use crate::literal::text_of;
+use crate::repeats::{line_for, repeat_of};
+use crate::tally::{Case, Tally};
+use crate::texts::{File, Texts, with};
+use crate::wrong::Wrong;
+use std::alloc::Global;
+use std::fs;
+use std::rt::Files;
+
+/// What the indented lines are that follow a line.
+#[derive(Clone, Copy)]
+enum Block<'a> {
+    /// There are none.
+    None,
+    /// Each is a change of a file at a place, with its answer.
+    Changes(File, Place<'a>),
+    /// They are the lines of a file.
+    Text(File),
+    /// They are the events of a script with their outcomes.
+    Events,
+    /// Each is such an event, of a script of its own.
+    EachEvent,
+}
+
+/// A system, and how it is being tried.
+#[derive(Drop)]
+pub struct Session<'a> {
+    alloc: Global,
+    texts: Texts,
+    block: Block<'a>,
+    /// The line that began the block.
+    begun: Case<'a>,
+    /// A script that is being told, and its log.
+    script: String,
+    log: String,
+}
+
+impl<'a> Session<'a> {
+    /// A session without a system, before the first line of a file.
+    pub fn new(alloc: Global, begun: Case<'a>) -> Session<'a> {
+        Session {
+            alloc,
+            texts: Texts::new(alloc),
+            block: Block::None,
+            begun,
+            script: String::new(alloc),
+            log: String::new(alloc),
+        }
+    }
+
+    /// Takes the next line.
+    pub fn take<R: Files + AllocGlobal>(
+        &mut self,
+        rt: &R,
+        folder: &str,
+        case: Case<'a>,
+        tally: &mut Tally,
+    ) -> Result<(), Wrong> {
+        if case.line.is_empty() || case.line.trim_start().starts_with('#') {
+            return Ok(());
+        }
+        match case.line.strip_prefix("  ") {
+            Some(line) => self.take_indented(Case { line, ..case }, tally),
+            None => {
+                self.end(tally)?;
+                self.begun = case;
+                self.block = self.begin(rt, folder, case, tally)?;
+                Ok(())
+            }
+        }
+    }
+
+    /// Ends the block that is being told.
+    pub fn end(&mut self, tally: &mut Tally) -> Result<(), Wrong> {
+        let block = self.block;
+        self.block = Block::None;
+        match block {
+            Block::Events => self.try_events(self.begun, tally),
+            _ => Ok(()),
+        }
+    }
+
+    /// The line that the block began with.
+    pub fn begun(&self) -> Case<'a> {
+        self.begun
+    }
+
+    /// Does what a line says that isn't indented, and gives the block that follows it.
+    fn begin<R: Files + AllocGlobal>(
+        &mut self,
+        rt: &R,
+        folder: &str,
+        case: Case<'a>,
+        tally: &mut Tally,
+    ) -> Result<Block<'a>, Wrong> {
+        let (word, words) = case.line.split_once(' ').unwrap_or((case.line, ""));
+        match (word, words) {
+            ("system", name) => self.read_system(rt, folder, name)?,
+            ("run", answer) => {
+                self.try_given(self.texts.given(), answer, (File::Table, 1), case, tally)?
+            }
+            ("beginnings", words) => self.try_beginnings(words, case, tally)?,
+            ("in", words) => return changes_in(words),
+            ("each", "event") => return Ok(Block::EachEvent),
+            ("events", "") => {
+                self.begin_events()?;
+                return Ok(Block::Events);
+            }
+            (file, words) => return self.begin_text(File::named(file)?, words),
+        }
+        Ok(Block::None)
+    }
+
+    /// Reads the texts of a system.
+    fn read_system<R: Files + AllocGlobal>(
+        &mut self,
+        rt: &R,
+        folder: &str,
+        name: &str,
+    ) -> Result<(), Wrong> {
+        for file in [File::Table, File::Policy, File::Script] {
+            let path = format!(in self.alloc; "{folder}/systems/{name}/{}", file.name())?;
+            *self.texts.text_mut(file) = fs::read_to_string(rt, &path)?;
+        }
+        let path = format!(in self.alloc; "{folder}/systems/{name}/log")?;
+        self.texts.log = fs::read_to_string(rt, &path).unwrap_or(String::new(self.alloc));
+        Ok(())
+    }
+
+    /// Gives a file another text, or another piece: `FILE is`, or ``FILE `OLD` becomes `NEW` ``.
+    fn begin_text(&mut self, file: File, words: &str) -> Result<Block<'a>, Wrong> {
+        if words == "is" {
+            self.texts.text_mut(file).clear();
+            return Ok(Block::Text(file));
+        }
+        let (old, new) = quoted(words)?
+            .split_once("` becomes `")
+            .ok_or(Wrong("a text is, or a piece of it becomes another"))?;
+        let text = replaced(self.alloc, self.texts.text(file), old, new)?;
+        *self.texts.text_mut(file) = text;
+        Ok(Block::None)
+    }
+
+    /// Takes a line of the block, which may be told for many numbers.
+    fn take_indented(&mut self, case: Case<'_>, tally: &mut Tally) -> Result<(), Wrong> {
+        let Some((first, last, line)) = repeat_of(case.line)? else {
+            return self.take_told(case, tally);
+        };
+        for number in first..last.saturating_add(1) {
+            let line = line_for(self.alloc, line, number)?;
+            self.take_told(
+                Case {
+                    line: &line,
+                    ..case
+                },
+                tally,
+            )?;
+        }
+        Ok(())
+    }
+
+    fn take_told(&mut self, case: Case<'_>, tally: &mut Tally) -> Result<(), Wrong> {
+        match self.block {
+            Block::None => Err(Wrong("nothing takes an indented line here")),
+            Block::Changes(file, place) => self.try_change(file, place, case, tally),
+            Block::Text(file) => Ok(writeln!(self.texts.text_mut(file), "{}", case.line)?),
+            Block::Events => self.push_event(case.line),
+            Block::EachEvent => {
+                self.begin_events()?;
+                self.push_event(case.line)?;
+                self.try_events(case, tally)
+            }
+        }
+    }
+
+    /// Tries a change, `ANSWER: CHANGE`.
+    fn try_change(
+        &self,
+        file: File,
+        place: Place<'_>,
+        case: Case<'_>,
+        tally: &mut Tally,
+    ) -> Result<(), Wrong> {
+        let (words, change) = case
+            .line
+            .split_once(": ")
+            .ok_or(Wrong("a case is an answer and a change"))?;
+        let changed = change_text(self.alloc, self.texts.text(file), place, change)?;
+        let given = with(self.texts.given(), file, &changed.bytes);
+        self.try_given(given, words, (file, changed.line), case, tally)
+    }
+
+    /// Tries files of which one was changed, from this line on.
+    fn try_given(
+        &self,
+        given: Given<'_>,
+        words: &str,
+        place: (File, usize),
+        case: Case<'_>,
+        tally: &mut Tally,
+    ) -> Result<(), Wrong> {
+        let logged = (given.script, self.texts.log.as_str());
+        let expected = expected(self.alloc, words, logged, place)?;
+        tally.compare(case, &expected, &answer_to(self.alloc, given));
+        Ok(())
+    }
+
+    /// Tries each beginning of a file but the whole: it has fault 50 at the line that it ends in.
+    fn try_beginnings(&self, words: &str, case: Case<'_>, tally: &mut Tally) -> Result<(), Wrong> {
+        let file = File::named(words.strip_prefix("of ").unwrap_or(words))?;
+        let text = self.texts.text(file);
+        for length in 0..text.len() {
+            if let Some(beginning) = text.get(..length) {
+                let given = with(self.texts.given(), file, beginning.as_bytes());
+                self.try_given(given, "50", (file, last_line(beginning)), case, tally)?;
+            }
+        }
+        Ok(())
+    }
+
+    /// Begins a script and its log.
+    fn begin_events(&mut self) -> Result<(), Wrong> {
+        self.script.clear();
+        self.log.clear();
+        self.script.push_str("confine-script 1\n")?;
+        self.log.push_str("confine-log 1\n")?;
+        Ok(())
+    }
+
+    /// Adds a line of the log, `EVENT = OUTCOME`.
+    fn push_event(&mut self, line: &str) -> Result<(), Wrong> {
+        let (event, _) = line
+            .split_once(" = ")
+            .ok_or(Wrong("an event has an outcome"))?;
+        writeln!(self.script, "{event}")?;
+        writeln!(self.log, "{line}")?;
+        Ok(())
+    }
+
+    /// Tries the script that was told, which has to give its log.
+    fn try_events(&mut self, case: Case<'_>, tally: &mut Tally) -> Result<(), Wrong> {
+        self.script.push_str("end\n")?;
+        self.log.push_str("end\n")?;
+        let expected = Answer {
+            status: 0,
+            text: Vec::from_slice(self.alloc, self.log.as_bytes())?,
+        };
+        let given = with(self.texts.given(), File::Script, self.script.as_bytes());
+        tally.compare(case, &expected, &answer_to(self.alloc, given));
+        Ok(())
+    }
+}
+
+/// The changes of a file at a place, `FILE PLACE`.
+fn changes_in(words: &str) -> Result<Block<'_>, Wrong> {
+    let (file, place) = words.split_once(' ').unwrap_or((words, ""));
+    Ok(Block::Changes(File::named(file)?, place_of(place)?))
+}
+
+/// The text with another piece in the place of one.
+fn replaced(alloc: Global, text: &str, old: &str, new: &str) -> Result<String, Wrong> {
+    let old = text_of(alloc, old)?;
+    let new = text_of(alloc, new)?;
+    let (before, after) = text
+        .split_once(old.as_str())
+        .ok_or(Wrong("the text has no such piece"))?;
+    Ok(format!(in alloc; "{before}{new}{after}")?)
+}
