@@ -1,5 +1,5 @@
 -- What a machine becomes when one entry is changed or added, or threads are linked otherwise.
-use Rattle.std.proofs.Common.{◌≡◌, ◌≢◌, ℕ, suc, ◌+◌, ◌<◌, List, [], replicate, Bool, true, false, cond, length, refl, sym, ap}
+use Rattle.std.proofs.Common.{◌≡◌, ◌≢◌, ℕ, ◌+◌, ◌<◌, List, [], replicate, Bool, true, false, cond, length, refl, sym, ap}
 use Rattle.std.proofs.Common.{subst, ◌∙◌}
 use Rattle.std.specs.Prelude.{Option, Some, None, option_map, option_and_then, slice_get}
 use Rattle.base.specs.declared.ids.ObjId.{ObjId}

@@ -20,7 +20,7 @@ use Rattle.machine.specs.declared.object.Object.{Object}
 use Rattle.machine.specs.Objects.{slot_count}
 use Rattle.machine.specs.Machine.{Machine, same_id, object_of, has_slot, with_cap, with_parent, with_object}
 use Rattle.machine.proofs.LookUps.{id_total, id_apart}
-use Rattle.machine.specs.Machine.{with_queue, with_new, empty_machine, words_of, queue_of}
+use Rattle.machine.specs.Machine.{with_queue, with_new, empty_machine, queue_of}
 use Rattle.machine.proofs.LookUps.{object_of-empty, queue_of-empty}
 use Rattle.machine.proofs.LookUps.{words_of-empty, cap_of-empty, parent_of-empty}
 use Rattle.objects.specs.declared.entry.Entry.{Entry}
@@ -43,7 +43,7 @@ use Rattle.objects.proofs.ChangeLemmas.{tells-put_cap, tells-set_parent, tells-r
 use Rattle.objects.proofs.ChangeLemmas.{changed_here, changed_other, part_kept, links, rest, links_kept}
 use Rattle.objects.proofs.QueueLemmas.{cases_id, walk_none, walk_first, more_numbers, longer_walk}
 use Rattle.objects.proofs.LinkLemmas.{Requeues, relinked_places, stands_nowhere, pushed_requeues, pushed_queue, popped_requeues}
-use Rattle.objects.proofs.LinkLemmas.{popped_queue, queue_there, same_queue}
+use Rattle.objects.proofs.LinkLemmas.{popped_queue}
 
 -- the state with the entry of one object changed
 abbrev pub with_changed : Inside → ObjId → (Entry → Entry) → Inside

@@ -12,9 +12,9 @@ use Rattle.objects.specs.declared.links.Ends.{Ends}
 use Rattle.objects.specs.declared.links.Standing.{Standing}
 use Rattle.objects.specs.Entries.{place_of, entry_of, with_entry, set_ends_in, set_standing_in}
 use Rattle.objects.specs.Links.{ends_of, standing_of, queue_in, AreQueued, with_standing, relinked, pushed, left}
-use Rattle.objects.specs.Queues.{walk, AreQueues}
+use Rattle.objects.specs.Queues.{walk}
 use Rattle.objects.proofs.EntryLemmas.{IsApart, entry_of-with_entry, is_some-changed}
-use Rattle.objects.proofs.ChangeLemmas.{part_kept, changed_here, changed_other, rest}
+use Rattle.objects.proofs.ChangeLemmas.{changed_here, changed_other, rest}
 use Rattle.objects.proofs.QueueLemmas.{Joins, Leaves, cases_id, walk_none, reaches, joined_queues, joined_here, joined_elsewhere}
 use Rattle.objects.proofs.QueueLemmas.{left_queues, left_here, left_elsewhere}
 

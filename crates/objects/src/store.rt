@@ -173,7 +173,8 @@ fn set_previous(
 
 /// Puts the thread at the end of the object's queue, if the object is present.
 pub fn push(places: &BTreeMap<u64, usize>, entries: &mut Slab<Entry>, id: ObjId, thread: ObjId)
-    ensures { entries.new ≡ pushed places.now entries.old id thread (option_map (λ entry. entry.ends) (entry_of places.now entries.old id)) }
+    ensures { entries.new
+        ≡ pushed places.now entries.old id thread (option_map (λ entry. entry.ends) (entry_of places.now entries.old id)) }
 {
     if let Some(ends) = ends(places, entries, id) {
         let standing = Standing {
@@ -194,7 +195,8 @@ pub fn push(places: &BTreeMap<u64, usize>, entries: &mut Slab<Entry>, id: ObjId,
 /// Takes the first thread of the object's queue.
 pub fn pop(places: &BTreeMap<u64, usize>, entries: &mut Slab<Entry>, id: ObjId) -> Option<ObjId>
     ensures value { result ≡ option_and_then (λ entry. entry.ends.first) (entry_of places.now entries.old id) }
-    ensures rest { entries.new ≡ popped places.now entries.old id (option_map (λ entry. entry.ends) (entry_of places.now entries.old id)) }
+    ensures rest { entries.new
+        ≡ popped places.now entries.old id (option_map (λ entry. entry.ends) (entry_of places.now entries.old id)) }
 {
     let ends = ends(places, entries, id)?;
     let first = ends.first?;

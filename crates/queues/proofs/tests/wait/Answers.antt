@@ -1,5 +1,5 @@
 -- Nobody waits where there are no objects, and nobody comes to wait as objects are added.
-use Rattle.std.proofs.Common.{◌≡◌, List, [], Bool, true, false, cond, sym, ap, subst, ◌∙◌, arith}
+use Rattle.std.proofs.Common.{◌≡◌, [], Bool, true, false, cond, sym, ap, subst, ◌∙◌, arith}
 use Rattle.std.specs.Prelude.{Some, is_some, Contains}
 use Rattle.base.specs.declared.ids.ObjId.{ObjId}
 use Rattle.machine.specs.declared.object.Object.{Object}
