@@ -25,7 +25,7 @@ use Rattle.machine.specs.Layout.{Layout, initial_of, initial_parent}
 use Rattle.machine.specs.Machine.{slot_cmp}
 use Rattle.machine.specs.Objects.{address_of, end_of}
 use Rattle.table.specs.Placement.{IsApart, is_aligned, meets}
-use Rattle.table.specs.Rules.{IsLawful, IsObjectOf, IsCapOf, IsBindingOf, IsAtRest, IsWithinLimits, is_control_of, kind_at, slot_total, thread_total}
+use Rattle.table.specs.Rules.{IsLawful, IsObjectOf, IsCapOf, IsBindingOf, IsAtRest, IsWithinLimits, is_control_of, kind_at}
 use Rattle.words.specs.Name.{is_name}
 use Rattle.kernel.specs.Examples.{cnode, thread, notification, context, all_of, two_cores, stuck}
 
@@ -138,7 +138,7 @@ context_of t label address share within known aligned below = record {
 }
 
 pub two_cores_lawful : IsLawful two_cores
-unfolding two_cores initial_of initial_parent kind_at slot_total thread_total pairs_test
+unfolding two_cores initial_of initial_parent kind_at pairs_test
 two_cores_lawful = record {
   few_labels = lit≤ tt;
   label_names = AllPass-from_list_all is_name two_cores.labels refl;
@@ -236,7 +236,7 @@ two_cores_lawful = record {
 }
 
 pub stuck_lawful : IsLawful stuck
-unfolding stuck initial_of initial_parent kind_at slot_total thread_total pairs_test
+unfolding stuck initial_of initial_parent kind_at pairs_test
 stuck_lawful = record {
   few_labels = lit≤ tt;
   label_names = AllPass-from_list_all is_name stuck.labels refl;
