@@ -12,11 +12,14 @@ pub struct CoreNo {
 }
 
 impl Model for CoreNo {
+    ghost use Rattle.std.specs.Prelude.{ℕ, ◌<◌};
+    ghost use Rattle.base.specs.declared.core_number.TheConstants.CoreNo as CoreNo;
+
     ghost Value = { ℕ };
 
     ghost view = { λ core. core.number };
 
-    ghost invariant = { λ core. core.number < 16 };
+    ghost invariant = { λ core. core.number < CoreNo.COUNT };
 
     ghost inverse = { λ number. record { number = number } };
 }
@@ -27,7 +30,7 @@ impl CoreNo {
 
     /// The core of this number, which is below [`CoreNo::COUNT`].
     pub fn new(number: u64) -> Option<CoreNo>
-        ensures valid { IsSome result ↔ (number < 16) }
+        ensures valid { IsSome result ↔ (number < CoreNo.COUNT) }
         ensures value { IfSome result (λ core. core ≡ number) }
     {
         if number < CoreNo::COUNT {
@@ -42,7 +45,7 @@ impl CoreNo {
     /// The core's number.
     pub fn number(self) -> u8
         ensures value { result ≡ self }
-        ensures below { result < 16 }
+        ensures below { result < CoreNo.COUNT }
     {
         self.number
     }
@@ -54,21 +57,5 @@ impl fmt::Display for CoreNo {
     fn fmt<W: fmt::Write>(&self, f: &mut fmt::Formatter<W>) -> fmt::Result {
         let number = self.number;
         write!(f, "{number}")
-    }
-}
-
-#[cfg(test)]
-mod tests {
-    use super::*;
-    use std::test::Fail;
-
-    #[test]
-    fn cores_below_the_limit(rt: HostRuntime) -> Result<(), Fail> {
-        let core = CoreNo::new(15).ok_or("no core")?;
-        assert_eq!(rt; core.number(), 15);
-        assert_eq!(rt; core.to_string(rt.alloc())?.as_str(), "15");
-        assert_eq!(rt; CoreNo::new(16), None);
-        assert_eq!(rt; CoreNo::new(u64::MAX), None);
-        Ok(())
     }
 }

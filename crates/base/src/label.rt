@@ -9,11 +9,14 @@ pub struct Label {
 }
 
 impl Model for Label {
+    ghost use Rattle.std.specs.Prelude.{ℕ, ◌<◌};
+    ghost use Rattle.base.specs.declared.label.TheConstants.Label as Label;
+
     ghost Value = { ℕ };
 
     ghost view = { λ label. label.number };
 
-    ghost invariant = { λ label. label.number < 64 };
+    ghost invariant = { λ label. label.number < Label.COUNT };
 
     ghost inverse = { λ number. record { number = number } };
 }
@@ -24,7 +27,7 @@ impl Label {
 
     /// The label of this number, which is below [`Label::COUNT`].
     pub fn new(number: u8) -> Option<Label>
-        ensures valid { IsSome result ↔ (number < 64) }
+        ensures valid { IsSome result ↔ (number < Label.COUNT) }
         ensures value { IfSome result (λ label. label ≡ number) }
     {
         if number < Label::COUNT {
@@ -37,22 +40,8 @@ impl Label {
     /// The label's number.
     pub fn number(self) -> u8
         ensures value { result ≡ self }
-        ensures below { result < 64 }
+        ensures below { result < Label.COUNT }
     {
         self.number
-    }
-}
-
-#[cfg(test)]
-mod tests {
-    use super::*;
-    use std::test::Fail;
-
-    #[test]
-    fn labels_below_the_limit(rt: HostRuntime) -> Result<(), Fail> {
-        let label = Label::new(63).ok_or("no label")?;
-        assert_eq!(rt; label.number(), 63);
-        assert_eq!(rt; Label::new(64), None);
-        Ok(())
     }
 }

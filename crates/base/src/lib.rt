@@ -7,6 +7,7 @@ mod edge;
 mod ids;
 mod kind;
 mod label;
+mod limits;
 mod refusal;
 mod rights;
 
@@ -15,5 +16,9 @@ pub use edge::Edge;
 pub use ids::{ObjId, SlotRef};
 pub use kind::{Kind, Kinds, kind_names_are_read_back};
 pub use label::Label;
+pub use limits::{
+    ADDRESS_BITS, ADDRESS_END, MAX_EVENTS, MAX_OBJECTS, MAX_PERIOD, MAX_RADIX, MAX_SLOTS,
+    MAX_THREADS, OBJECT_NUMBERS,
+};
 pub use refusal::{Cause, LookupFailure, Refusal, a_refusal_tells_its_cause};
-pub use rights::{Rights, rights_words_are_read_back, worked_rights};
+pub use rights::{Rights, rights_words_are_read_back};

@@ -11,14 +11,14 @@ use Rattle.machine.specs.Layout.{Layout, initial_of}
 use Rattle.machine.specs.Objects.{kind_of_object}
 use Rattle.table.specs.Building.{AdmitsBinding, is_above_bindings, is_bound, with_binding}
 use Rattle.table.specs.Names.{object_named}
-use Rattle.table.specs.Parts.{BindingPart}
+use Rattle.table.specs.Items.{BindingItem}
 use Rattle.table.specs.Rules.{IsLawful, kind_at}
 use Rattle.words.specs.declared.faults.Wrong.TheVariants as wrong
 use Rattle.words.specs.Reading.{bind, ended_at}
 use Rattle.words.proofs.WordLaws.{ended_then, name_then, name_again}
 use Rattle.captext.specs.Tables.{thread_rises, is_thread_and_context, bind_line}
 use Rattle.captext.specs.TableText.{object_name}
-use Rattle.captext.proofs.LineLaws.{TakesPart, then_words, same_ok}
+use Rattle.captext.proofs.LineLaws.{TakesItem, then_words, same_ok}
 use Rattle.captext.proofs.NameLaws.{object_takes, object_again, is_object_name}
 use Rattle.captext.proofs.StepLaws.{demand_then, value_then}
 
@@ -28,7 +28,7 @@ kinds_take (Some kind.Tcb) (Some kind.Context) h = (refl, refl)
 kinds_take _ _ h = absurd (false≢true h)
 
 pub bind_line_takes : (t : Layout) (words : List (List ℕ)) (next : Layout) → bind_line t words ≡ Ok next
-    → TakesPart t (codes "bind" ∷ words) next
+    → TakesItem t (codes "bind" ∷ words) next
 unfolding bind_line
 bind_line_takes t words next h =
     let first = name_then _ words next h in
@@ -43,7 +43,7 @@ bind_line_takes t words next h =
     let one = object_takes t first.name thread.0 thread.1 in
     let other = object_takes t second.name context.0 context.1 in
     let rising : is_above_bindings t thread.0 ≡ true = ap (thread_rises t) (sym thread.1) ∙ above.0 in (
-      BindingPart (record { thread = thread.0; context = context.0 }),
+      BindingItem (record { thread = thread.0; context = context.0 }),
       record {
         now = tt;
         admits = record { rises = rising; thread = are.0; context = are.1; once = not-true _ once.0 };

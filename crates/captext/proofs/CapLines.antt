@@ -20,7 +20,7 @@ use Rattle.machine.specs.Layout.{Layout, initial_of}
 use Rattle.machine.specs.Objects.{kind_of_object}
 use Rattle.table.specs.Building.{declares_slot, fits, fits_target, is_above_caps, is_fitting}
 use Rattle.table.specs.Names.{object_named}
-use Rattle.table.specs.Parts.{CapPart}
+use Rattle.table.specs.Items.{CapItem}
 use Rattle.table.specs.Rules.{kind_at}
 use Rattle.words.specs.declared.faults.Wrong.{Wrong}
 use Rattle.words.specs.declared.faults.Wrong.TheVariants as wrong
@@ -37,7 +37,7 @@ use Rattle.captext.specs.Spelling.{slot_word, term_word, IsPlace, IsTerm}
 use Rattle.captext.specs.Tables.{takes_caps, slot_in, rises, fits_holder, may_fill, is_plain, nothing, badged, guard_in, plain_notification, is_guard, guarded, unguarded, limited_detail, detail_for, capability, filled, cap_line}
 use Rattle.captext.specs.TableText.{object_name, place_in, slot_name, detail_words, cap_words, HasWordBadge}
 use Rattle.captext.proofs.Admits.{admits_cap}
-use Rattle.captext.proofs.LineLaws.{TakesPart, then_words, spelled_then, same_ok, caps_take}
+use Rattle.captext.proofs.LineLaws.{TakesItem, then_words, spelled_then, same_ok, caps_take}
 use Rattle.captext.proofs.NameLaws.{object_takes}
 use Rattle.captext.proofs.SlotLaws.{slot_takes, slot_again, term_takes, term_again}
 use Rattle.captext.proofs.StepLaws.{demand_then, value_then}
@@ -252,7 +252,7 @@ words_are t words rest more first second slot target detail is_first spelled is_
     (then_words (is_first ∙ ap (λ w. w ∷ rest) spelled) (then_words (is_second ∙ ap (λ w. w ∷ more) named) ends))
 
 pub cap_line_takes : (t : Layout) (words : List (List ℕ)) (next : Layout) → cap_line t words ≡ Ok next
-    → TakesPart t (codes "cap" ∷ words) next
+    → TakesItem t (codes "cap" ∷ words) next
 unfolding cap_line filled
 cap_line_takes t words next h =
     let slot = slot_then _ words next h in
@@ -274,7 +274,7 @@ cap_line_takes t words next h =
     place_takes (kind_at t holder.0) holder.0 slot.at (and_parts _ _ fills.0).0 in
     let spelled : slot_word slot.name slot.at ≡ slot_name t (slot_in holder.0 slot.at) =
     (λ i. slot_word (held.1 i) (sym placed i)) in (
-      CapPart (record { slot = slot_in holder.0 slot.at; cap = capability target.0 detail.0 }),
+      CapItem (record { slot = slot_in holder.0 slot.at; cap = capability target.0 detail.0 }),
       record {
         now = caps_take t parts.0;
         admits = admits_cap t holder.0 slot.at target.0 detail.0

@@ -8,6 +8,7 @@ use Rattle.base.specs.declared.ids.ObjId.{ObjId}
 use Rattle.base.specs.declared.ids.SlotRef.{SlotRef}
 use Rattle.base.specs.declared.rights.Rights.{Rights}
 use Rattle.base.specs.Rights.{letter_of, rights_word}
+use Rattle.base.specs.declared.limits.TheConstants.{MAX_RADIX}
 use Rattle.machine.specs.declared.cap.Detail.{Detail}
 use Rattle.machine.specs.declared.cap.Detail.TheVariants as d
 use Rattle.machine.specs.declared.cap.Guard.{Guard}
@@ -22,13 +23,13 @@ use Rattle.machine.specs.Layout.{Layout, initial_of}
 use Rattle.machine.specs.Objects.{kind_of_object, slot_count}
 use Rattle.table.specs.Building.{AdmitsCap, declares_slot, fits, fits_target, has_index, is_above_caps, is_fitting, may_hold, with_filled}
 use Rattle.table.specs.Names.{object_named}
-use Rattle.table.specs.Parts.{BeforePairs}
+use Rattle.table.specs.Items.{BeforePairs}
 use Rattle.table.specs.Rules.{IsBlank, IsLawful, kind_at}
 use Rattle.words.specs.Name.{is_name, name_at}
 use Rattle.words.specs.Reading.{bind}
 use Rattle.words.specs.Text.{IsPlainLine, IsPlainWord}
 use Rattle.words.proofs.TextLaws.{both}
-use Rattle.words.proofs.WordLaws.{name_again, plain_decimal, plain_hexadecimal, plain_name}
+use Rattle.words.proofs.WordLaws.{plain_bytes, name_again, plain_decimal, plain_hexadecimal, plain_name}
 use Rattle.captext.specs.declared.shapes.Place.{Place}
 use Rattle.captext.specs.declared.shapes.Place.TheVariants as place
 use Rattle.captext.specs.declared.shapes.Term.{Term}
@@ -38,7 +39,7 @@ use Rattle.captext.specs.Spelling.{place_word, slot_word, term_word, IsPlace, Is
 use Rattle.captext.specs.Tables.{takes_caps, slot_in, fits_holder, fits_place, may_fill, guarded, unguarded, limited_detail, detail_for, capability, filled, cap_line}
 use Rattle.captext.specs.TableText.{object_name, place_in, slot_name, detail_words, cap_words, IsBroughtObject, HasWordBadge}
 use Rattle.captext.proofs.CapLines.{slot_at_again, two_again, option_words, IsOptionTerm, detail_by, detail_is}
-use Rattle.captext.proofs.LineLaws.{caps_again, plain_bytes}
+use Rattle.captext.proofs.LineLaws.{caps_again}
 use Rattle.captext.proofs.NameLaws.{object_again, is_object_name}
 
 abbrev terms_of : Detail → Option Term × Option Term
@@ -115,7 +116,7 @@ HasPlace object slot =
 place_again : (object : Object) (slot : SlotRef) → IsBlank object → slot.index < slot_count object → HasPlace object slot
 place_again (o.CNode node) slot blank within =
     let few = blank.1 in
-    let powers : 2 ^ node.radix ≤ 2 ^ 12 = pow_mono {i = node.radix} {j = 12} few in
+    let powers : 2 ^ node.radix ≤ 2 ^ MAX_RADIX = pow_mono {i = node.radix} {j = MAX_RADIX} few in
     (omega arith, refl, refl)
 place_again (o.Tcb _) slot blank within =
     let first : 0 ≡ slot.index = omega arith in

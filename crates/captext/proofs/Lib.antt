@@ -10,4 +10,3 @@ mod CapLines
 mod CapTexts
 mod BindLines
 mod TableLaws
-mod Examples

@@ -1,18 +1,16 @@
--- What the steps of a table's line say where it was read: the words it has, the tests it passed, and the part it adds.
-use Rattle.std.proofs.Common.{◌≡◌, ℕ, true, nat_lt, List, [], ◌∷◌, Option, Some, None, Result, Ok, refl, ap, ◌∙◌}
-use Rattle.std.specs.List.{list_all}
-use Rattle.std.proofs.lemmas.Bool.{and_parts, and_from, ltb-true}
+-- What the steps of a table's line say where it was read: the words it has, the tests it passed, and the item it adds.
+use Rattle.std.proofs.Common.{◌≡◌, ℕ, true, List, [], ◌∷◌, Option, Some, None, Result, Ok, refl, ap, ◌∙◌}
+use Rattle.std.proofs.lemmas.Bool.{and_parts, and_from}
 use Rattle.machine.specs.Layout.{Layout}
-use Rattle.table.specs.Parts.{Part, BeforePairs, BeforeCaps, BeforeObjects}
+use Rattle.table.specs.Items.{Item, BeforePairs, BeforeCaps, BeforeObjects}
 use Rattle.words.specs.declared.faults.Wrong.{Wrong}
 use Rattle.words.specs.Reading.{bind, or_syntax}
-use Rattle.words.specs.Text.{IsPlainWord}
 use Rattle.captext.specs.Tables.{is_nil, takes_caps, takes_objects, takes_labels}
 use Rattle.captext.specs.TableText.{IsLineOf}
 
--- a line was read: it adds a part
-abbrev pub TakesPart : Layout → List (List ℕ) → Layout → Type 0
-TakesPart t words next = (part : Part) × IsLineOf t words next part
+-- a line was read: it adds an item
+abbrev pub TakesItem : Layout → List (List ℕ) → Layout → Type 0
+TakesItem t words next = (item : Item) × IsLineOf t words next item
 
 -- a word and the words after it
 pub then_words : {word : List ℕ} {words rest more : List (List ℕ)} → words ≡ word ∷ rest → rest ≡ more → words ≡ word ∷ more
@@ -54,8 +52,3 @@ objects_again t now = and_from _ _ (nil_again t.caps now.0) (caps_again t now.1)
 
 pub labels_again : (t : Layout) → BeforeObjects t → takes_labels t ≡ true
 labels_again t now = and_from _ _ (nil_again t.objects now.0) (objects_again t now.1)
-
--- bytes above the space are those of a plain word
-pub plain_bytes : (bytes : List ℕ) → list_all (λ b. nat_lt 32 b) bytes ≡ true → IsPlainWord bytes
-plain_bytes [] h = tt
-plain_bytes (b ∷ bytes) h = let parts = and_parts _ _ h in (ltb-true 32 b parts.0, plain_bytes bytes parts.1)

@@ -6,6 +6,9 @@ use Rattle.std.specs.Fmt.{decimal}
 use Rattle.std.specs.Str.{bytes_eq}
 use Rattle.std.proofs.lemmas.Bool.{and_parts, and_from, not-true, ltb-true, leb-true, lt-ltb, le-leb, cond-true}
 use Rattle.std.proofs.lemmas.Slice.Eq.{bytes_eq-Decides}
+use Rattle.base.specs.declared.core_number.TheConstants.CoreNo as CoreNo
+use Rattle.base.specs.declared.label.TheConstants.Label as Label
+use Rattle.base.specs.declared.limits.TheConstants.{MAX_PERIOD, MAX_RADIX}
 use Rattle.machine.specs.declared.layout.Initial.{Initial}
 use Rattle.machine.specs.declared.object.CNode.{CNode}
 use Rattle.machine.specs.declared.object.Context.{Context}
@@ -20,7 +23,7 @@ use Rattle.machine.specs.declared.thread.Tcb.{Tcb}
 use Rattle.machine.specs.Layout.{Layout}
 use Rattle.table.specs.Building.{AdmitsObject, is_free, repeats_control, with_label, with_initial}
 use Rattle.table.specs.Names.{label_named, object_named}
-use Rattle.table.specs.Parts.{LabelPart, ObjectPart, BeforeCaps, BeforeObjects, Admits}
+use Rattle.table.specs.Items.{LabelItem, ObjectItem, BeforeCaps, BeforeObjects, Admits}
 use Rattle.table.specs.Placement.{is_aligned}
 use Rattle.table.specs.Rules.{IsAtRest, IsBlank, IsLawful, IsWithinLimits}
 use Rattle.words.specs.declared.faults.Wrong.{Wrong}
@@ -34,22 +37,22 @@ use Rattle.captext.specs.declared.shapes.ShareTerms.{ShareTerms}
 use Rattle.captext.specs.PolicyText.{label_name}
 use Rattle.captext.specs.Tables.{takes_objects, takes_labels, label_line, heading, is_within, declared, cnode_line, start_of, tcb_line, notification_line, unshared, shared, share_at, is_share, limited_share, context_line}
 use Rattle.captext.specs.TableText.{kind_word, start_word, share_words, content_words, IsBroughtObject}
-use Rattle.captext.proofs.LineLaws.{TakesPart, then_words, spelled_then, objects_take, labels_take, objects_again, labels_again}
+use Rattle.captext.proofs.LineLaws.{TakesItem, then_words, spelled_then, objects_take, labels_take, objects_again, labels_again}
 use Rattle.captext.proofs.NameLaws.{label_takes, label_again, is_label_name}
 use Rattle.captext.proofs.StepLaws.{demand_then, value_then}
 
 -- a label
 
 pub label_line_takes : (t : Layout) (words : List (List ℕ)) (next : Layout) → label_line t words ≡ Ok next
-    → TakesPart t (codes "label" ∷ words) next
+    → TakesItem t (codes "label" ∷ words) next
 unfolding label_line
 label_line_takes t words next h =
     let name = name_then _ words next h in
     let ended = ended_then _ name.rest next name.goes_on in
     let now = demand_then (takes_labels t) wrong.Syntax _ next ended.1 in
     let fresh = demand_then (not (is_some (label_named t name.name))) wrong.Double _ next now.1 in
-    let room = demand_then (nat_lt (length t.labels) 64) wrong.Limit _ next fresh.1 in (
-      LabelPart name.name,
+    let room = demand_then (nat_lt (length t.labels) Label.COUNT) wrong.Limit _ next fresh.1 in (
+      LabelItem name.name,
       record {
         now = labels_take t now.0;
         admits = record { spelled = name.is; fresh = not-true _ fresh.0; room = ltb-true _ _ room.0 };
@@ -59,11 +62,11 @@ label_line_takes t words next h =
       },
     )
 
-pub label_line_again : (t : Layout) (name : List ℕ) → BeforeObjects t → Admits t (LabelPart name)
+pub label_line_again : (t : Layout) (name : List ℕ) → BeforeObjects t → Admits t (LabelItem name)
     → label_line t (name ∷ []) ≡ Ok (with_label t name)
 unfolding label_line bind ended_at
 label_line_again t name now admits =
-    rw (name_again name [] admits.spelled, labels_again t now, admits.fresh, lt-ltb (length t.labels) 64 admits.room) refl
+    rw (name_again name [] admits.spelled, labels_again t now, admits.fresh, lt-ltb (length t.labels) Label.COUNT admits.room) refl
 
 -- an object's name and label
 
@@ -105,14 +108,14 @@ declared_takes : (t : Layout) (name : List ℕ) (label : ℕ) (object : Object) 
     → is_name name ≡ true → BeforeCaps t → label < length t.labels → is_some (object_named t name) ≡ false
     → IsBlank object → repeats_control t object ≡ false → IsBroughtObject object
     → words ≡ kind_word object ∷ name ∷ label_name t label ∷ content_words object → declared t name label object ≡ Ok next
-    → TakesPart t words next
+    → TakesItem t words next
 unfolding declared
 declared_takes t name label object words next spelled now within fresh blank controls brought words_are h =
     let limits = demand_then (is_within t object) wrong.Limit _ next h in
     let placed = demand_then (is_aligned object && is_free t object) wrong.Misplaced _ next limits.1 in
     let fits = and_parts _ _ limits.0 in
     let lies = and_parts _ _ placed.0 in (
-      ObjectPart name (record { label = label; object = object }),
+      ObjectItem name (record { label = label; object = object }),
       record {
         now = now;
         admits = record {
@@ -141,7 +144,7 @@ declared_again t name initial admits =
 -- a CNode
 
 pub cnode_line_takes : (t : Layout) (words : List (List ℕ)) (next : Layout) → cnode_line t words ≡ Ok next
-    → TakesPart t (codes "cnode" ∷ words) next
+    → TakesItem t (codes "cnode" ∷ words) next
 unfolding cnode_line
 cnode_line_takes t words next h =
     let name = name_then _ words next h in
@@ -150,7 +153,7 @@ cnode_line_takes t words next h =
     let radix = number_then _ address.rest next address.goes_on in
     let ended = ended_then _ radix.rest next radix.goes_on in
     let head = heading_then t name.name label.name _ next ended.1 in
-    let limit = demand_then (nat_lt 0 radix.number && nat_le radix.number 12) wrong.Limit _ next head.goes_on in
+    let limit = demand_then (nat_lt 0 radix.number && nat_le radix.number MAX_RADIX) wrong.Limit _ next head.goes_on in
     let parts = and_parts _ _ limit.0 in
     declared_takes t name.name head.number (o.CNode (record { address = address.number; radix = radix.number }))
     (codes "cnode" ∷ words) next name.is head.now head.within head.fresh
@@ -178,7 +181,7 @@ cnode_line_again t name label node lawful now admits =
       hex_number_again node.address (decimal node.radix ∷ []) low,
       number_again node.radix [] few,
       heading_again t name label lawful now admits.label admits.fresh,
-      and_from _ _ (lt-ltb 0 node.radix blank.0) (le-leb node.radix 12 blank.1),
+      and_from _ _ (lt-ltb 0 node.radix blank.0) (le-leb node.radix MAX_RADIX blank.1),
     ) (declared_again t name (record { label = label; object = o.CNode node }) admits)
 
 -- a thread
@@ -204,7 +207,7 @@ start_again run.Inactive rests = refl
 start_again _ rests = absurd rests
 
 pub tcb_line_takes : (t : Layout) (words : List (List ℕ)) (next : Layout) → tcb_line t words ≡ Ok next
-    → TakesPart t (codes "tcb" ∷ words) next
+    → TakesItem t (codes "tcb" ∷ words) next
 unfolding tcb_line
 tcb_line_takes t words next h =
     let name = name_then _ words next h in
@@ -254,7 +257,7 @@ tcb_line_again t name label thread lawful now admits =
 -- a notification
 
 pub notification_line_takes : (t : Layout) (words : List (List ℕ)) (next : Layout) → notification_line t words ≡ Ok next
-    → TakesPart t (codes "notification" ∷ words) next
+    → TakesItem t (codes "notification" ∷ words) next
 unfolding notification_line
 notification_line_takes t words next h =
     let name = name_then _ words next h in
@@ -370,13 +373,13 @@ unfolding limited_share
 limits_again None within = refl
 limits_again (Some share) within =
     cond-true _ _ _
-    (and_from _ _ (and_from _ _ (lt-ltb share.core 16 within.3) (le-leb 1 share.budget within.0))
-    (and_from _ _ (le-leb share.budget share.period within.1) (le-leb share.period 3600000000 within.2)))
+    (and_from _ _ (and_from _ _ (lt-ltb share.core CoreNo.COUNT within.3) (le-leb 1 share.budget within.0))
+    (and_from _ _ (le-leb share.budget share.period within.1) (le-leb share.period MAX_PERIOD within.2)))
 
 -- a scheduling context
 
 pub context_line_takes : (t : Layout) (words : List (List ℕ)) (next : Layout) → context_line t words ≡ Ok next
-    → TakesPart t (codes "context" ∷ words) next
+    → TakesItem t (codes "context" ∷ words) next
 unfolding context_line
 context_line_takes t words next h =
     let name = name_then _ words next h in

@@ -1,5 +1,5 @@
 -- What a policy that was read says of its text, and that the text of each policy is read back.
-use Rattle.std.proofs.Common.{◌≡◌, ◌≢◌, ℕ, ◌-◌, ◌==◌, ◌&&◌, ◌||◌, ◌↔◌, Bool, true, false, not, nat_lt, List, [], ◌∷◌, ◌++◌, map, length, codes, Option, Some, None, Result, Ok, Err, IfOk, IfErr, IfSome, refl, sym, ap, subst, ◌∙◌, arith, append_assoc}
+use Rattle.std.proofs.Common.{◌≡◌, ℕ, ◌-◌, ◌==◌, ◌&&◌, ◌||◌, ◌↔◌, Bool, true, false, not, nat_lt, List, [], ◌∷◌, ◌++◌, map, length, codes, Option, Some, None, Result, Ok, Err, IfOk, IfSome, refl, sym, ap, subst, ◌∙◌, arith, append_assoc}
 use Rattle.std.specs.declared.cmp.Ordering.TheVariants.{Less, Equal, Greater}
 use Rattle.std.specs.declared.cmp.Ordering.{Ordering}
 use Rattle.std.specs.Bool.{Decides}
@@ -24,18 +24,14 @@ use Rattle.table.specs.Rules.{IsLawful}
 use Rattle.words.specs.declared.faults.Fault.{Fault}
 use Rattle.words.specs.declared.faults.Wrong.{Wrong}
 use Rattle.words.specs.declared.faults.Wrong.TheVariants as wrong
-use Rattle.words.specs.Fault.{fault_at, no_memory}
-use Rattle.words.specs.FirstFault.{IsFirstFault, TellsFirst}
 use Rattle.words.specs.Name.{is_name}
-use Rattle.words.specs.Reading.{bind, last_line, word_at, ended_at, or_syntax, steps, whole_lines, IsNotLast, Reads}
-use Rattle.words.specs.Text.{lines_of, text_of, IsPlainLine}
-use Rattle.words.proofs.FirstFaults.{faults, refused_for}
-use Rattle.words.proofs.WordLaws.{name_then, ended_then, bind_ok, name_again, plain_name}
+use Rattle.words.specs.Reading.{bind, word_at, ended_at, or_syntax, steps, whole_lines, IsNotLast, Reads}
+use Rattle.words.specs.Text.{text_of, IsPlainLine}
+use Rattle.words.proofs.WordLaws.{plain_bytes, plain_lines, name_then, ended_then, bind_ok, name_again, plain_name}
 use Rattle.words.proofs.TextReading.{whole_text_takes, whole_text_again}
 use Rattle.captext.specs.Tables.{demand}
 use Rattle.captext.specs.Policies.{kind_at, keyword_at, may_follow, follows, with_edge, edge_line, read_policy_of}
 use Rattle.captext.specs.PolicyText.{policy_header, label_name, edge_words, policy_text, IsEdgeOf, IsPolicyOf}
-use Rattle.captext.proofs.LineLaws.{plain_bytes}
 use Rattle.captext.proofs.NameLaws.{label_takes, label_again, is_label_name}
 use Rattle.captext.proofs.StepLaws.{demand_then, value_then}
 
@@ -285,15 +281,12 @@ plain_edge t edge lawful within =
     let to = plain_name (label_name t edge.to) (is_label_name t edge.to lawful within.1) in
     (plain_bytes (codes "edge") refl, (from, (kind, (to, tt))))
 
-plain_body : (t : Layout) (edges : List Edge) → IsLawful t → AllByRecursion (IsEdgeOf t) edges
-    → AllByRecursion IsPlainLine (map (edge_words t) edges ++ last_line ∷ [])
-plain_body t [] lawful within = ((plain_bytes (codes "end") refl, tt), tt)
-plain_body t (edge ∷ edges) lawful within = (plain_edge t edge lawful within.0, plain_body t edges lawful within.1)
-
 plain_policy : (t : Layout) (edges : List Edge) → IsLawful t → AllByRecursion (IsEdgeOf t) edges
     → AllByRecursion IsPlainLine (whole_lines policy_header (map (edge_words t) edges))
-plain_policy t edges lawful within =
-    ((plain_bytes (codes "confine-policy") refl, (plain_bytes (codes "1") refl, tt)), plain_body t edges lawful within)
+plain_policy t edges lawful within = (
+  (plain_bytes (codes "confine-policy") refl, (plain_bytes (codes "1") refl, tt)),
+  plain_lines (IsEdgeOf t) (edge_words t) (λ edge edge_within. plain_edge t edge lawful edge_within) edges within,
+)
 
 -- none of its lines is the last
 none_last : (t : Layout) (edges : List Edge) → AllByRecursion IsNotLast (map (edge_words t) edges)
@@ -333,20 +326,6 @@ pub only : (t : Layout) (result : Result (List Edge) Fault) (bytes : List ℕ) �
     → bytes ≡ policy_text t edges → Reads (λ edges. edges) result (Ok edges)
 only t result bytes lawful exact edges is text =
     subst (λ read. Reads (λ edges. edges) result read) (policy_is_read t bytes edges lawful is text) exact
-
-pub first_fault : (t : Layout) (result : Result (List Edge) Fault) (bytes : List ℕ)
-    → Reads (λ edges. edges) result (read_policy_of t bytes)
-    → IfErr result (λ fault. fault ≢ no_memory → TellsFirst policy_header (edge_line t) [] (lines_of bytes) fault)
-unfolding read_policy_of
-first_fault t result bytes exact = faults (λ edges. edges) policy_header (edge_line t) [] (lines_of bytes) result exact
-
-pub refused_so : (t : Layout) (result : Result (List Edge) Fault) (bytes : List ℕ)
-    → Reads (λ edges. edges) result (read_policy_of t bytes)
-    → (line : ℕ) (wrong : Wrong) → IsFirstFault policy_header (edge_line t) [] (lines_of bytes) line wrong
-    → Reads (λ edges. edges) result (Err (fault_at line wrong))
-unfolding read_policy_of
-refused_so t result bytes exact line wrong first =
-    refused_for (λ edges. edges) policy_header (edge_line t) [] (lines_of bytes) result exact line wrong first
 
 pub policy_iff : (t : Layout) (bytes : List ℕ) (edges : List Edge) → IsLawful t
     → (read_policy_of t bytes ≡ Ok edges) ↔ (IsPolicyOf t edges × (bytes ≡ policy_text t edges))

@@ -1,11 +1,12 @@
 -- What a table that was read says of its text, and that the text of each table is read back.
-use Rattle.std.proofs.Common.{◌≡◌, ◌≢◌, ◌↔◌, ℕ, ◌<◌, ◌≤◌, ◌^◌, Bool, true, false, cond, List, [], ◌∷◌, ◌++◌, codes, Option, Some, None, Result, Ok, Err, IfOk, IfErr, refl, sym, ap, subst, ◌∙◌, arith, append_assoc}
+use Rattle.std.proofs.Common.{◌≡◌, ◌↔◌, ℕ, ◌<◌, ◌≤◌, ◌^◌, Bool, true, false, cond, List, [], ◌∷◌, ◌++◌, codes, Option, Some, None, Result, Ok, Err, IfOk, refl, sym, ap, subst, ◌∙◌, arith, append_assoc}
 use Rattle.std.specs.Bool.{Decides}
 use Rattle.std.specs.List.{AllByRecursion}
 use Rattle.std.specs.Str.{bytes_eq}
 use Rattle.std.proofs.lemmas.List.{append-nil}
 use Rattle.std.proofs.lemmas.List.Elements.{All-nil, All-push, All-pop}
 use Rattle.std.proofs.lemmas.Slice.Eq.{bytes_eq-Decides}
+use Rattle.base.specs.declared.limits.TheConstants.{ADDRESS_END}
 use Rattle.machine.specs.declared.layout.Filled.{Filled}
 use Rattle.machine.specs.declared.layout.Initial.{Initial}
 use Rattle.machine.specs.declared.object.Object.{Object}
@@ -17,42 +18,39 @@ use Rattle.machine.specs.declared.thread.RunState.TheVariants as run
 use Rattle.machine.specs.Layout.{Layout, empty_layout}
 use Rattle.machine.specs.Objects.{end_of}
 use Rattle.table.specs.Building.{AdmitsObject, with_initial}
-use Rattle.table.specs.Parts.{Part, LabelPart, ObjectPart, CapPart, BindingPart, Admits, BeforeCaps, ComesNow, IsBuiltUp, none, more, with_part}
+use Rattle.table.specs.Items.{Item, LabelItem, ObjectItem, CapItem, BindingItem, Admits, BeforeCaps, ComesNow, IsBuiltUp, none, more, with_item}
 use Rattle.table.specs.Rules.{IsAtRest, IsBlank, IsLawful, IsWithinLimits}
 use Rattle.words.specs.declared.faults.Fault.{Fault}
 use Rattle.words.specs.declared.faults.Wrong.{Wrong}
-use Rattle.words.specs.Fault.{fault_at, no_memory}
-use Rattle.words.specs.FirstFault.{IsFirstFault, TellsFirst}
 use Rattle.words.specs.Reading.{bind, last_line, word_at, steps, whole_lines, IsNotLast, Reads}
-use Rattle.words.specs.Text.{lines_of, text_of, IsPlainLine, IsPlainWord}
-use Rattle.words.proofs.FirstFaults.{faults, refused_for}
+use Rattle.words.specs.Text.{text_of, IsPlainLine, IsPlainWord}
 use Rattle.words.proofs.TextLaws.{both}
 use Rattle.words.proofs.TextReading.{whole_text_takes, whole_text_again}
-use Rattle.words.proofs.WordLaws.{bind_ok, word_then, plain_decimal, plain_hexadecimal, plain_name}
+use Rattle.words.proofs.WordLaws.{bind_ok, word_then, plain_bytes, plain_decimal, plain_hexadecimal, plain_name}
 use Rattle.captext.specs.PolicyText.{label_name}
 use Rattle.captext.specs.Tables.{line_by, table_line, read_table_of}
-use Rattle.captext.specs.TableText.{table_header, kind_word, start_word, share_words, content_words, object_name, object_words, part_words, table_lines, table_text, IsBroughtObject, HasWordBadge, IsBroughtPart, IsBrought, IsLineOf}
+use Rattle.captext.specs.TableText.{table_header, kind_word, start_word, share_words, content_words, object_name, object_words, item_words, table_lines, table_text, IsBroughtObject, HasWordBadge, IsBroughtItem, IsBrought, IsLineOf}
 use Rattle.captext.proofs.BindLines.{bind_line_takes, bind_line_again, has_name}
 use Rattle.captext.proofs.CapLines.{cap_line_takes}
 use Rattle.captext.proofs.CapTexts.{cap_line_again, cap_plain}
-use Rattle.captext.proofs.LineLaws.{TakesPart, plain_bytes}
+use Rattle.captext.proofs.LineLaws.{TakesItem}
 use Rattle.captext.proofs.NameLaws.{is_label_name, is_object_name}
 use Rattle.captext.proofs.ObjectLines.{label_line_takes, label_line_again, cnode_line_takes, cnode_line_again, tcb_line_takes, tcb_line_again, notification_line_takes, notification_line_again, context_line_takes, context_line_again}
-use Rattle.captext.proofs.TableLines.{part_more}
+use Rattle.captext.proofs.TableLines.{item_more}
 
--- a line that is read is the line of a part
+-- a line that is read is the line of an item
 
 chosen : (t next : Layout) (keyword key : List ℕ) (words : List (List ℕ)) (here other : Result Layout Wrong)
     → cond (bytes_eq keyword key) here other ≡ Ok next
-    → (here ≡ Ok next → TakesPart t (key ∷ words) next) → (other ≡ Ok next → TakesPart t (keyword ∷ words) next)
-    → TakesPart t (keyword ∷ words) next
+    → (here ≡ Ok next → TakesItem t (key ∷ words) next) → (other ≡ Ok next → TakesItem t (keyword ∷ words) next)
+    → TakesItem t (keyword ∷ words) next
 chosen t next keyword key words here other h this that = by (bytes_eq keyword key) (bytes_eq-Decides keyword key) h where
-  by : (same : Bool) → Decides same (keyword ≡ key) → cond same here other ≡ Ok next → TakesPart t (keyword ∷ words) next
-  by true same h = subst (λ k. TakesPart t (k ∷ words) next) (sym (same.0 refl)) (this h)
+  by : (same : Bool) → Decides same (keyword ≡ key) → cond same here other ≡ Ok next → TakesItem t (keyword ∷ words) next
+  by true same h = subst (λ k. TakesItem t (k ∷ words) next) (sym (same.0 refl)) (this h)
   by false same h = that h
 
 line_by_takes : (t next : Layout) (keyword : List ℕ) (words : List (List ℕ)) → line_by keyword t words ≡ Ok next
-    → TakesPart t (keyword ∷ words) next
+    → TakesItem t (keyword ∷ words) next
 unfolding line_by
 line_by_takes t next keyword words h =
     chosen t next keyword (codes "label") words _ _ h (label_line_takes t words next) (λ h.
@@ -64,13 +62,13 @@ line_by_takes t next keyword words h =
     chosen t next keyword (codes "bind") words _ _ h (bind_line_takes t words next) (λ h.
     cc)))))))
 
-line_takes : (t : Layout) (words : List (List ℕ)) (next : Layout) → table_line t words ≡ Ok next → TakesPart t words next
+line_takes : (t : Layout) (words : List (List ℕ)) (next : Layout) → table_line t words ≡ Ok next → TakesItem t words next
 unfolding table_line
 line_takes t words next h =
     let read = word_then _ words next h in
-    subst (λ ws. TakesPart t ws next) (sym read.words_are) (line_by_takes t next read.word read.rest read.goes_on)
+    subst (λ ws. TakesItem t ws next) (sym read.words_are) (line_by_takes t next read.word read.rest read.goes_on)
 
--- and the line of a part is read
+-- and the line of an item is read
 
 object_line_again : (t : Layout) (name : List ℕ) (label : ℕ) (object : Object) → IsLawful t → BeforeCaps t
     → AdmitsObject t name (record { label = label; object = object }) → IsBroughtObject object
@@ -85,25 +83,25 @@ object_line_again t name label (o.Context context) lawful now admits brought =
     context_line_again t name label context lawful now admits
 object_line_again t name label _ lawful now admits brought = absurd brought
 
-line_again : (t : Layout) (part : Part) → IsLawful t → IsBrought t → ComesNow t part → Admits t part → IsBroughtPart part
-    → table_line t (part_words t part) ≡ Ok (with_part t part)
+line_again : (t : Layout) (item : Item) → IsLawful t → IsBrought t → ComesNow t item → Admits t item → IsBroughtItem item
+    → table_line t (item_words t item) ≡ Ok (with_item t item)
 unfolding table_line line_by bind word_at
-line_again t (LabelPart name) lawful brought now admits here = label_line_again t name now admits
-line_again t (ObjectPart name initial) lawful brought now admits here =
+line_again t (LabelItem name) lawful brought now admits here = label_line_again t name now admits
+line_again t (ObjectItem name initial) lawful brought now admits here =
     object_line_again t name initial.label initial.object lawful now admits here
-line_again t (CapPart filled) lawful brought now admits here = cap_line_again t filled lawful brought.objects now admits here
-line_again t (BindingPart binding) lawful brought now admits here = bind_line_again t binding lawful admits
+line_again t (CapItem filled) lawful brought now admits here = cap_line_again t filled lawful brought.objects now admits here
+line_again t (BindingItem binding) lawful brought now admits here = bind_line_again t binding lawful admits
 
--- so a line is read just where it is the line of a part that the table takes next
+-- so a line is read just where it is the line of an item that the table takes next
 
 pub line_iff : (t : Layout) (words : List (List ℕ)) (next : Layout) → IsLawful t → IsBrought t
-    → (table_line t words ≡ Ok next) ↔ ((part : Part) × IsLineOf t words next part)
+    → (table_line t words ≡ Ok next) ↔ ((item : Item) × IsLineOf t words next item)
 line_iff t words next lawful brought = (line_takes t words next, again) where
-  again : (part : Part) × IsLineOf t words next part → table_line t words ≡ Ok next
-  again (part, is) =
-      ap (table_line t) is.words_are ∙ line_again t part lawful brought is.now is.admits is.brought ∙ ap (λ u. Ok u) is.grown
+  again : (item : Item) × IsLineOf t words next item → table_line t words ≡ Ok next
+  again (item, is) =
+      ap (table_line t) is.words_are ∙ line_again t item lawful brought is.now is.admits is.brought ∙ ap (λ u. Ok u) is.grown
 
--- the words of a part's line are plain, and it is not the last line
+-- the words of an item's line are plain, and it is not the last line
 
 plain_share : (share : Option Share) → IsWithinLimits share → AllByRecursion IsPlainWord (share_words share)
 plain_share None within = (plain_bytes (codes "-") refl, tt)
@@ -118,7 +116,7 @@ plain_start run.Ready rests = plain_bytes (codes "ready") refl
 plain_start run.Inactive rests = plain_bytes (codes "inactive") refl
 plain_start _ rests = absurd rests
 
-plain_content : (object : Object) → IsBroughtObject object → IsBlank object → end_of object ≤ 2 ^ 48
+plain_content : (object : Object) → IsBroughtObject object → IsBlank object → end_of object ≤ ADDRESS_END
     → AllByRecursion IsPlainWord (content_words object)
 plain_content (o.CNode node) brought blank end =
     let address : node.address < 2 ^ 64 = omega arith in
@@ -142,11 +140,11 @@ plain_kind (o.Notification _) brought = plain_bytes (codes "notification") refl
 plain_kind (o.Context _) brought = plain_bytes (codes "context") refl
 plain_kind _ brought = absurd brought
 
-plain_part : (t : Layout) (part : Part) → IsLawful t → IsBrought t → Admits t part → IsBroughtPart part
-    → IsPlainLine (part_words t part)
-plain_part t (LabelPart name) lawful brought admits here =
+plain_item : (t : Layout) (item : Item) → IsLawful t → IsBrought t → Admits t item → IsBroughtItem item
+    → IsPlainLine (item_words t item)
+plain_item t (LabelItem name) lawful brought admits here =
     (plain_bytes (codes "label") refl, (plain_name name admits.spelled, tt))
-plain_part t (ObjectPart name initial) lawful brought admits here = (
+plain_item t (ObjectItem name initial) lawful brought admits here = (
   plain_kind initial.object here,
   (
     plain_name name admits.spelled,
@@ -156,8 +154,8 @@ plain_part t (ObjectPart name initial) lawful brought admits here = (
     ),
   ),
 )
-plain_part t (CapPart filled) lawful brought admits here = cap_plain t filled lawful brought.objects admits here
-plain_part t (BindingPart binding) lawful brought admits here = (
+plain_item t (CapItem filled) lawful brought admits here = cap_plain t filled lawful brought.objects admits here
+plain_item t (BindingItem binding) lawful brought admits here = (
   plain_bytes (codes "bind") refl,
   (
     plain_name (object_name t binding.thread)
@@ -182,13 +180,13 @@ object_not_last t name label (o.Context _) = refl
 object_not_last t name label (o.Frame _) = refl
 object_not_last t name label (o.Control _) = refl
 
-not_last : (t : Layout) (part : Part) → IsNotLast (part_words t part)
-not_last t (LabelPart name) = refl
-not_last t (ObjectPart name initial) = object_not_last t name initial.label initial.object
-not_last t (CapPart filled) = refl
-not_last t (BindingPart binding) = refl
+not_last : (t : Layout) (item : Item) → IsNotLast (item_words t item)
+not_last t (LabelItem name) = refl
+not_last t (ObjectItem name initial) = object_not_last t name initial.label initial.object
+not_last t (CapItem filled) = refl
+not_last t (BindingItem binding) = refl
 
--- tables that are brought, with and without their last part
+-- tables that are brought, with and without their last item
 
 brought_empty : IsBrought empty_layout
 brought_empty = record {
@@ -196,35 +194,35 @@ brought_empty = record {
   badges = All-nil (λ (filled : Filled). HasWordBadge filled.cap.detail);
 }
 
-brought_more : (t : Layout) (part : Part) → IsBrought t → IsBroughtPart part → IsBrought (with_part t part)
-brought_more t (LabelPart name) brought here = record { objects = brought.objects; badges = brought.badges }
-brought_more t (ObjectPart name initial) brought here =
+brought_more : (t : Layout) (item : Item) → IsBrought t → IsBroughtItem item → IsBrought (with_item t item)
+brought_more t (LabelItem name) brought here = record { objects = brought.objects; badges = brought.badges }
+brought_more t (ObjectItem name initial) brought here =
     record {
       objects = All-push (λ (initial : Initial). IsBroughtObject initial.object) t.objects initial brought.objects here;
       badges = brought.badges;
     }
-brought_more t (CapPart filled) brought here =
+brought_more t (CapItem filled) brought here =
     record {
       objects = brought.objects;
       badges = All-push (λ (filled : Filled). HasWordBadge filled.cap.detail) t.caps filled brought.badges here;
     }
-brought_more t (BindingPart binding) brought here = record { objects = brought.objects; badges = brought.badges }
+brought_more t (BindingItem binding) brought here = record { objects = brought.objects; badges = brought.badges }
 
-brought_front : (t : Layout) (part : Part) → IsBrought (with_part t part) → IsBrought t × IsBroughtPart part
-brought_front t (LabelPart name) brought = (record { objects = brought.objects; badges = brought.badges }, tt)
-brought_front t (ObjectPart name initial) brought =
+brought_front : (t : Layout) (item : Item) → IsBrought (with_item t item) → IsBrought t × IsBroughtItem item
+brought_front t (LabelItem name) brought = (record { objects = brought.objects; badges = brought.badges }, tt)
+brought_front t (ObjectItem name initial) brought =
     let each =
     All-pop (λ (initial : Initial). IsBroughtObject initial.object) (t.objects ++ initial ∷ []) t.objects
     (Some initial) refl brought.objects in
     (record { objects = each.0; badges = brought.badges }, each.1)
-brought_front t (CapPart filled) brought =
+brought_front t (CapItem filled) brought =
     let each =
     All-pop (λ (filled : Filled). HasWordBadge filled.cap.detail) (t.caps ++ filled ∷ []) t.caps
     (Some filled) refl brought.badges in
     (record { objects = brought.objects; badges = each.0 }, each.1)
-brought_front t (BindingPart binding) brought = (record { objects = brought.objects; badges = brought.badges }, tt)
+brought_front t (BindingItem binding) brought = (record { objects = brought.objects; badges = brought.badges }, tt)
 
--- a law of tables: those that keep the rules are those that are built up part by part
+-- a law of tables: those that keep the rules are those that are built up item by item
 abbrev pub BuildLaw : Type 0
 BuildLaw = (t : Layout) → IsLawful t ↔ IsBuiltUp t
 
@@ -249,8 +247,8 @@ lines_take law t front (line ∷ body) all so_far h =
     let stepped = bind_ok (table_line t line) (λ next. steps table_line next body) all h in
     let takes = line_takes t line stepped.0 stepped.1 in
     let lawful = (law t).1 so_far.built in
-    let lines : table_lines (with_part t takes.0) ≡ front ++ line ∷ [] =
-    part_more t takes.0 lawful.each_named takes.1.now ∙ (λ i. so_far.lines_are i ++ sym takes.1.words_are i ∷ []) in
+    let lines : table_lines (with_item t takes.0) ≡ front ++ line ∷ [] =
+    item_more t takes.0 lawful.each_named takes.1.now ∙ (λ i. so_far.lines_are i ++ sym takes.1.words_are i ∷ []) in
     let next : TakesLines (front ++ line ∷ []) stepped.0 =
     subst (λ u. TakesLines (front ++ line ∷ []) u) takes.1.grown
     (record {
@@ -282,20 +280,20 @@ steps_push s t (first ∷ lines) line h =
 lines_again : BuildLaw → {t : Layout} → IsBuiltUp t → IsBrought t → ReadsLines t
 unfolding steps
 lines_again law none brought = record { stepped = refl; plain = tt; none_last = tt }
-lines_again law (more {t} part built now admits) brought =
-    let front = brought_front t part brought in
+lines_again law (more {t} item built now admits) brought =
+    let front = brought_front t item brought in
     let lawful = (law t).1 built in
     let reads = lines_again law built front.0 in
-    let lines = part_more t part lawful.each_named now in
+    let lines = item_more t item lawful.each_named now in
     record {
       stepped = ap (λ ls. steps table_line empty_layout ls) lines
-          ∙ steps_push empty_layout t (table_lines t) (part_words t part) reads.stepped
-          ∙ line_again t part lawful front.0 now admits front.1;
+          ∙ steps_push empty_layout t (table_lines t) (item_words t item) reads.stepped
+          ∙ line_again t item lawful front.0 now admits front.1;
       plain = subst (AllByRecursion IsPlainLine) (sym lines)
           (both IsPlainLine (table_lines t)
-          (part_words t part ∷ []) reads.plain (plain_part t part lawful front.0 admits front.1, tt));
+          (item_words t item ∷ []) reads.plain (plain_item t item lawful front.0 admits front.1, tt));
       none_last = subst (AllByRecursion IsNotLast) (sym lines)
-          (both IsNotLast (table_lines t) (part_words t part ∷ []) reads.none_last (not_last t part, tt));
+          (both IsNotLast (table_lines t) (item_words t item ∷ []) reads.none_last (not_last t item, tt));
     }
 
 -- the two laws
@@ -349,19 +347,3 @@ pub only : {X : Type 0} (view : X → Layout) (result : Result X Fault) (bytes :
     → Reads view result (Ok t)
 only view result bytes law exact t lawful brought text =
     subst (λ read. Reads view result read) ((law bytes t).1 (lawful, brought, text)) exact
-
--- a text that isn't read is refused for its first fault
-
-pub first_fault : {X : Type 0} (view : X → Layout) (result : Result X Fault) (bytes : List ℕ)
-    → Reads view result (read_table_of bytes)
-    → IfErr result (λ fault. fault ≢ no_memory → TellsFirst table_header table_line empty_layout (lines_of bytes) fault)
-unfolding read_table_of
-first_fault view result bytes exact = faults view table_header table_line empty_layout (lines_of bytes) result exact
-
-pub refused_so : {X : Type 0} (view : X → Layout) (result : Result X Fault) (bytes : List ℕ)
-    → Reads view result (read_table_of bytes)
-    → (line : ℕ) (wrong : Wrong) → IsFirstFault table_header table_line empty_layout (lines_of bytes) line wrong
-    → Reads view result (Err (fault_at line wrong))
-unfolding read_table_of
-refused_so view result bytes exact line wrong first =
-    refused_for view table_header table_line empty_layout (lines_of bytes) result exact line wrong first

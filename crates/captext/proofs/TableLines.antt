@@ -1,4 +1,4 @@
--- The lines of a table with one part more are the lines before it and the line of that part.
+-- The lines of a table with one item more are the lines before it and the line of that item.
 use Rattle.std.proofs.Common.{◌≡◌, ℕ, List, [], ◌∷◌, ◌++◌, map, length, refl, sym, ap, ◌∙◌, arith, append_assoc}
 use Rattle.std.proofs.lemmas.List.{append-nil, map_push}
 use Rattle.std.specs.List.{zip}
@@ -8,9 +8,9 @@ use Rattle.machine.specs.declared.layout.Initial.{Initial}
 use Rattle.machine.specs.declared.layout.Pair.{Pair}
 use Rattle.machine.specs.Layout.{Layout, initial_of}
 use Rattle.table.specs.Building.{with_label, with_initial, with_filled, with_binding}
-use Rattle.table.specs.Parts.{Part, LabelPart, ObjectPart, CapPart, BindingPart, BeforePairs, BeforeCaps, BeforeObjects, ComesNow, with_part}
+use Rattle.table.specs.Items.{Item, LabelItem, ObjectItem, CapItem, BindingItem, BeforePairs, BeforeCaps, BeforeObjects, ComesNow, with_item}
 use Rattle.table.specs.Rules.{kind_at}
-use Rattle.captext.specs.TableText.{label_words, object_words, cap_words, pair_words, binding_words, part_words, object_lines, cap_lines, pair_lines, binding_lines, table_lines}
+use Rattle.captext.specs.TableText.{label_words, object_words, cap_words, pair_words, binding_words, item_words, object_lines, cap_lines, pair_lines, binding_lines, table_lines}
 
 zip_push : {X Y : Type 0} (xs : List X) (ys : List Y) (x : X) (y : Y) → length xs ≡ length ys
     → zip (xs ++ x ∷ []) (ys ++ y ∷ []) ≡ zip xs ys ++ (x, y) ∷ []
@@ -92,9 +92,9 @@ binding_more t binding =
     ∙ ap (λ rest. map label_words t.labels ++ rest) (sym (append_assoc (object_lines t) _ line))
     ∙ sym (append_assoc (map label_words t.labels) _ line)
 
-pub part_more : (t : Layout) (part : Part) → length t.names ≡ length t.objects → ComesNow t part
-    → table_lines (with_part t part) ≡ table_lines t ++ part_words t part ∷ []
-part_more t (LabelPart name) each now = label_more t name now
-part_more t (ObjectPart name initial) each now = object_more t name initial each now
-part_more t (CapPart filled) each now = cap_more t filled now
-part_more t (BindingPart binding) each now = binding_more t binding
+pub item_more : (t : Layout) (item : Item) → length t.names ≡ length t.objects → ComesNow t item
+    → table_lines (with_item t item) ≡ table_lines t ++ item_words t item ∷ []
+item_more t (LabelItem name) each now = label_more t name now
+item_more t (ObjectItem name initial) each now = object_more t name initial each now
+item_more t (CapItem filled) each now = cap_more t filled now
+item_more t (BindingItem binding) each now = binding_more t binding

@@ -4,4 +4,3 @@ pub mod Tables
 pub mod Policies
 pub mod PolicyText
 pub mod TableText
-pub mod Worked

@@ -20,7 +20,7 @@ use Rattle.machine.specs.declared.object.Share.{Share}
 use Rattle.machine.specs.declared.thread.RunState.{RunState}
 use Rattle.machine.specs.declared.thread.RunState.TheVariants as run
 use Rattle.machine.specs.Layout.{Layout}
-use Rattle.table.specs.Parts.{Part, LabelPart, ObjectPart, CapPart, BindingPart, Admits, ComesNow, with_part}
+use Rattle.table.specs.Items.{Item, LabelItem, ObjectItem, CapItem, BindingItem, Admits, ComesNow, with_item}
 use Rattle.table.specs.Rules.{kind_at}
 use Rattle.words.specs.Number.{hexadecimal}
 use Rattle.words.specs.Reading.{whole_lines}
@@ -108,12 +108,12 @@ pair_words t pair = codes "child" ∷ slot_name t pair.parent ∷ slot_name t pa
 abbrev pub binding_words : Layout → Binding → List (List ℕ)
 binding_words t binding = codes "bind" ∷ object_name t binding.thread ∷ object_name t binding.context ∷ []
 
--- the line of a part
-abbrev pub part_words : Layout → Part → List (List ℕ)
-part_words t (LabelPart name) = label_words name
-part_words t (ObjectPart name initial) = object_words t name initial
-part_words t (CapPart filled) = cap_words t filled
-part_words t (BindingPart binding) = binding_words t binding
+-- the line of an item
+abbrev pub item_words : Layout → Item → List (List ℕ)
+item_words t (LabelItem name) = label_words name
+item_words t (ObjectItem name initial) = object_words t name initial
+item_words t (CapItem filled) = cap_words t filled
+item_words t (BindingItem binding) = binding_words t binding
 
 -- the sections
 
@@ -156,22 +156,22 @@ HasWordBadge (d.Endpoint end) = end.badge < 2 ^ 64
 HasWordBadge (d.Notification end) = end.badge < 2 ^ 64
 HasWordBadge _ = ⊤
 
--- a part that is brought
-abbrev pub IsBroughtPart : Part → Type 0
-IsBroughtPart (LabelPart _) = ⊤
-IsBroughtPart (ObjectPart _ initial) = IsBroughtObject initial.object
-IsBroughtPart (CapPart filled) = HasWordBadge filled.cap.detail
-IsBroughtPart (BindingPart _) = ⊤
+-- an item that is brought
+abbrev pub IsBroughtItem : Item → Type 0
+IsBroughtItem (LabelItem _) = ⊤
+IsBroughtItem (ObjectItem _ initial) = IsBroughtObject initial.object
+IsBroughtItem (CapItem filled) = HasWordBadge filled.cap.detail
+IsBroughtItem (BindingItem _) = ⊤
 
 -- every object is a CNode, a thread, a notification or a scheduling context, and badges are words
 pub record IsBrought (t : Layout) : Type 0 where
   pub objects : All (λ initial. IsBroughtObject initial.object) t.objects
   pub badges : All (λ filled. HasWordBadge filled.cap.detail) t.caps
 
--- a line adds a part: the table takes the part next, and the line is that part's
-pub record IsLineOf (t : Layout) (words : List (List ℕ)) (next : Layout) (part : Part) : Type 0 where
-  pub now : ComesNow t part
-  pub admits : Admits t part
-  pub brought : IsBroughtPart part
-  pub words_are : words ≡ part_words t part
-  pub grown : with_part t part ≡ next
+-- a line adds an item: the table takes the item next, and the line is that item's
+pub record IsLineOf (t : Layout) (words : List (List ℕ)) (next : Layout) (item : Item) : Type 0 where
+  pub now : ComesNow t item
+  pub admits : Admits t item
+  pub brought : IsBroughtItem item
+  pub words_are : words ≡ item_words t item
+  pub grown : with_item t item ≡ next

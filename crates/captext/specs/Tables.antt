@@ -1,9 +1,12 @@
--- The text of a capability table, line by line: each line adds one part to the table, or is faulty. Of the faults of one line the
+-- The text of a capability table, line by line: each line adds one item to the table, or is faulty. Of the faults of one line the
 -- first in this order is told: form and order of lines, unknown name, double, wrong kind, limit, place in memory.
 use Rattle.std.specs.Prelude.{ℕ, ◌+◌, ◌^◌, ◌&&◌, not, Bool, true, false, nat_lt, nat_le, List, [], ◌∷◌, length, codes, Option, Some, None, is_some, Result, Ok, Err, if◌then◌else◌}
 use Rattle.std.specs.Str.{bytes_eq}
+use Rattle.base.specs.declared.core_number.TheConstants.CoreNo as CoreNo
 use Rattle.base.specs.declared.ids.ObjId.{ObjId}
 use Rattle.base.specs.declared.ids.SlotRef.{SlotRef}
+use Rattle.base.specs.declared.label.TheConstants.Label as Label
+use Rattle.base.specs.declared.limits.TheConstants.{ADDRESS_END, MAX_PERIOD, MAX_RADIX}
 use Rattle.machine.specs.declared.cap.Badged.{Badged}
 use Rattle.machine.specs.declared.cap.Cap.{Cap}
 use Rattle.machine.specs.declared.cap.Guard.{Guard}
@@ -74,7 +77,7 @@ label_line t words = do
   _ ← ended_at name.1
   _ ← demand (takes_labels t) wrong.Syntax
   _ ← demand (not (is_some (label_named t name.0))) wrong.Double
-  _ ← demand (nat_lt (length t.labels) 64) wrong.Limit
+  _ ← demand (nat_lt (length t.labels) Label.COUNT) wrong.Limit
   Ok (with_label t name.0)
 
 -- the number of an object's label, where an object of this name may be declared now
@@ -87,7 +90,7 @@ heading t name label = do
 
 -- one object more is within the limits, and ends within the addresses that there are
 abbrev pub is_within : Layout → Object → Bool
-is_within t object = has_room t object && nat_le (end_of object) (2 ^ 48)
+is_within t object = has_room t object && nat_le (end_of object) ADDRESS_END
 
 -- an object with its name and label, within the limits and where it may lie
 unfoldable pub declared : Layout → List ℕ → ℕ → Object → Result Layout Wrong
@@ -105,7 +108,7 @@ cnode_line t words = do
   radix ← number_at address.1
   _ ← ended_at radix.1
   number ← heading t name.0 label.0
-  _ ← demand (nat_lt 0 radix.0 && nat_le radix.0 12) wrong.Limit
+  _ ← demand (nat_lt 0 radix.0 && nat_le radix.0 MAX_RADIX) wrong.Limit
   declared t name.0 number (o.CNode (record { address = address.0; radix = radix.0 }))
 
 -- the run state that a table may give a thread
@@ -159,7 +162,7 @@ share_at words = do
 
 abbrev pub is_share : ShareTerms → Bool
 is_share terms =
-    (nat_lt terms.core 16 && nat_le 1 terms.budget) && (nat_le terms.budget terms.period && nat_le terms.period 3600000000)
+    (nat_lt terms.core CoreNo.COUNT && nat_le 1 terms.budget) && (nat_le terms.budget terms.period && nat_le terms.period MAX_PERIOD)
 
 -- a share within the limits
 unfoldable pub limited_share : Option ShareTerms → Result (Option Share) Wrong

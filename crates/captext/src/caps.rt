@@ -5,7 +5,7 @@ ghost use Rattle.machine.specs.Capabilities.{kind_of_detail};
 ghost use Rattle.machine.specs.Objects.{kind_of_object};
 ghost use Rattle.table.specs.Building.{fits, is_fitting};
 ghost use Rattle.table.specs.Rules.{kind_at};
-ghost use Rattle.words.specs.Reading.{Makes};
+ghost use Rattle.words.specs.Reading.{GivesOrStops};
 
 use crate::objects::takes_caps;
 use crate::shapes::{Place, Term, slot, terms};
@@ -13,7 +13,7 @@ use base::{ObjId, Rights, SlotRef};
 use bitflags::Flags;
 use machine::{Badged, Binding, Cap, Detail, Filled, Guard, Object, ObjectKind, Radix};
 use table::Table;
-use words::{Cause, Words, Wrong};
+use words::{LineError, Words, Wrong};
 
 /// The slot at a place of a holder.
 fn slot_in(holder: ObjId, place: Place) -> SlotRef
@@ -201,13 +201,13 @@ fn fill(
     place: Place,
     target: ObjId,
     terms: (Option<Term>, Option<Term>),
-) -> Result<(), Cause>
+) -> Result<(), LineError>
     requires { text.rises table.old (Some holder) place ≡ true }
-    ensures exact { Makes (λ _. table.new) result (text.filled table.old holder place target terms) }
+    ensures exact { GivesOrStops (λ _. table.new) result (text.filled table.old holder place target terms) }
     ensures err { OnErr result (table.new ≡ table.old) }
 {
     if !may_fill(table.kind(holder), place, table.kind(target)) {
-        return Err(Cause::Text(Wrong::WrongKind));
+        return Err(LineError::Text(Wrong::WrongKind));
     }
     let slot = slot_in(holder, place);
     let detail = detail_for(table, target, terms, table.declares_slot(slot))?;
@@ -229,15 +229,15 @@ fn named(table: &Table, name: &str) -> Result<ObjId, Wrong>
 
 /// Reads `SLOT NAME` and what the capability says, after the word `cap`.
 #[tactic(auto, unfolding(crate::specs::Tables::cap_line, words::specs::Reading::bind))]
-pub fn cap_line(table: &mut Table, words: &mut Words<'_>) -> Result<(), Cause>
-    ensures exact { Makes (λ _. table.new) result (text.cap_line table.old words.old) }
+pub fn cap_line(table: &mut Table, words: &mut Words<'_>) -> Result<(), LineError>
+    ensures exact { GivesOrStops (λ _. table.new) result (text.cap_line table.old words.old) }
     ensures err { OnErr result (table.new ≡ table.old) }
 {
     let (holder, place) = slot(words)?;
     let target = words.name()?;
     let terms = terms(words)?;
     if !(takes_caps(table) && rises(table, table.object_named(holder), place)) {
-        return Err(Cause::Text(Wrong::Syntax));
+        return Err(LineError::Text(Wrong::Syntax));
     }
     let holder = named(table, holder)?;
     let target = named(table, target)?;
@@ -266,23 +266,23 @@ fn is_thread_and_context(thread: Option<ObjectKind>, context: Option<ObjectKind>
 
 /// Reads `NAME NAME`, after the word `bind`.
 #[tactic(auto, unfolding(crate::specs::Tables::bind_line, words::specs::Reading::bind))]
-pub fn bind_line(table: &mut Table, words: &mut Words<'_>) -> Result<(), Cause>
-    ensures exact { Makes (λ _. table.new) result (text.bind_line table.old words.old) }
+pub fn bind_line(table: &mut Table, words: &mut Words<'_>) -> Result<(), LineError>
+    ensures exact { GivesOrStops (λ _. table.new) result (text.bind_line table.old words.old) }
     ensures err { OnErr result (table.new ≡ table.old) }
 {
     let thread = words.name()?;
     let context = words.name()?;
     words.end()?;
     if !thread_rises(table, table.object_named(thread)) {
-        return Err(Cause::Text(Wrong::Syntax));
+        return Err(LineError::Text(Wrong::Syntax));
     }
     let thread = named(table, thread)?;
     let context = named(table, context)?;
     if table.is_bound(context) {
-        return Err(Cause::Text(Wrong::Double));
+        return Err(LineError::Text(Wrong::Double));
     }
     if !is_thread_and_context(table.kind(thread), table.kind(context)) {
-        return Err(Cause::Text(Wrong::WrongKind));
+        return Err(LineError::Text(Wrong::WrongKind));
     }
     table.add_binding(Binding { thread, context })?;
     Ok(())

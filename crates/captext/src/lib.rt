@@ -7,12 +7,8 @@ mod policies;
 mod shapes;
 mod spelling;
 mod tables;
-#[cfg(test)]
-mod tests;
-mod worked;
 
-pub use policies::{policies_are_read_back, read_policy, worked_policies};
-pub use spelling::{slots_are_read_back, terms_are_read_back, worked_slots};
+pub use policies::{policies_are_read_back, read_policy};
+pub use spelling::{slots_are_read_back, terms_are_read_back};
 pub use tables::{lines_are_read_back, read_table, tables_are_read_back};
-pub use words::{Fault, Lines};
-pub use worked::worked_tables;
+pub use words::Fault;

@@ -4,33 +4,30 @@ ghost use Rattle.table.specs.Building.{repeats_control};
 ghost use Rattle.table.specs.Names.{object_named};
 ghost use Rattle.words.specs.Name.{is_name};
 ghost use Rattle.table.specs.Rules.{IsAtRest, IsBlank, IsWithinLimits};
-ghost use Rattle.words.specs.Reading.{Makes};
+ghost use Rattle.words.specs.Reading.{GivesOrStops};
 
 use crate::shapes::ShareTerms;
-use base::{CoreNo, Label};
+use base::{CoreNo, Label, MAX_PERIOD};
 use machine::{CNode, Context, Inbox, Initial, Notification, Object, Radix, RunState, Share, Tcb};
 use table::{Table, is_addressable, is_aligned};
-use words::{Cause, Words, Wrong, decimal_of};
-
-/// The longest period of a scheduling context, in microseconds.
-const LONGEST_PERIOD: u64 = 3_600_000_000;
+use words::{LineError, Words, Wrong, decimal_of};
 
 /// Reads `NAME`, after the word `label`.
 #[tactic(auto, unfolding(crate::specs::Tables::label_line, words::specs::Reading::bind))]
-pub fn label_line(table: &mut Table, words: &mut Words<'_>) -> Result<(), Cause>
-    ensures exact { Makes (λ _. table.new) result (text.label_line table.old words.old) }
+pub fn label_line(table: &mut Table, words: &mut Words<'_>) -> Result<(), LineError>
+    ensures exact { GivesOrStops (λ _. table.new) result (text.label_line table.old words.old) }
     ensures err { OnErr result (table.new ≡ table.old) }
 {
     let name = words.name()?;
     words.end()?;
     if !takes_labels(table) {
-        return Err(Cause::Text(Wrong::Syntax));
+        return Err(LineError::Text(Wrong::Syntax));
     }
     if table.label_named(name).is_some() {
-        return Err(Cause::Text(Wrong::Double));
+        return Err(LineError::Text(Wrong::Double));
     }
     if table.label_count() >= usize::from(Label::COUNT) {
-        return Err(Cause::Text(Wrong::Limit));
+        return Err(LineError::Text(Wrong::Limit));
     }
     table.add_label(name)?;
     Ok(())
@@ -83,20 +80,20 @@ fn is_within(table: &Table, object: &Object) -> bool
 
 /// Adds an object that is within the limits and where it may lie.
 #[tactic(auto, unfolding(crate::specs::Tables::declared, words::specs::Reading::bind))]
-fn declare(table: &mut Table, name: &str, label: Label, object: Object) -> Result<(), Cause>
+fn declare(table: &mut Table, name: &str, label: Label, object: Object) -> Result<(), LineError>
     requires spelled { is_name name.now ≡ true }
     requires fresh { is_some (object_named table.old name.now) ≡ false }
     requires label { label < length table.old.labels }
     requires blank { IsBlank object }
     requires control { repeats_control table.old object ≡ false }
-    ensures exact { Makes (λ _. table.new) result (text.declared table.old name.now label object) }
+    ensures exact { GivesOrStops (λ _. table.new) result (text.declared table.old name.now label object) }
     ensures err { OnErr result (table.new ≡ table.old) }
 {
     if !is_within(table, &object) {
-        return Err(Cause::Text(Wrong::Limit));
+        return Err(LineError::Text(Wrong::Limit));
     }
     if !(is_aligned(&object) && table.is_free(&object)) {
-        return Err(Cause::Text(Wrong::Misplaced));
+        return Err(LineError::Text(Wrong::Misplaced));
     }
     table.add_object(name, Initial { label, object })?;
     Ok(())
@@ -104,8 +101,8 @@ fn declare(table: &mut Table, name: &str, label: Label, object: Object) -> Resul
 
 /// Reads `NAME LABEL HEX DEC`, after the word `cnode`.
 #[tactic(auto, unfolding(crate::specs::Tables::cnode_line, words::specs::Reading::bind))]
-pub fn cnode_line(table: &mut Table, words: &mut Words<'_>) -> Result<(), Cause>
-    ensures exact { Makes (λ _. table.new) result (text.cnode_line table.old words.old) }
+pub fn cnode_line(table: &mut Table, words: &mut Words<'_>) -> Result<(), LineError>
+    ensures exact { GivesOrStops (λ _. table.new) result (text.cnode_line table.old words.old) }
     ensures err { OnErr result (table.new ≡ table.old) }
 {
     let name = words.name()?;
@@ -135,8 +132,8 @@ fn start_of(word: &[u8]) -> Option<RunState>
 
 /// Reads `NAME LABEL HEX ready` or `.. inactive`, after the word `tcb`.
 #[tactic(auto, unfolding(crate::specs::Tables::tcb_line, words::specs::Reading::or_syntax, words::specs::Reading::bind))]
-pub fn tcb_line(table: &mut Table, words: &mut Words<'_>) -> Result<(), Cause>
-    ensures exact { Makes (λ _. table.new) result (text.tcb_line table.old words.old) }
+pub fn tcb_line(table: &mut Table, words: &mut Words<'_>) -> Result<(), LineError>
+    ensures exact { GivesOrStops (λ _. table.new) result (text.tcb_line table.old words.old) }
     ensures err { OnErr result (table.new ≡ table.old) }
 {
     let name = words.name()?;
@@ -157,8 +154,8 @@ pub fn tcb_line(table: &mut Table, words: &mut Words<'_>) -> Result<(), Cause>
 
 /// Reads `NAME LABEL HEX`, after the word `notification`.
 #[tactic(auto, unfolding(crate::specs::Tables::notification_line, words::specs::Reading::bind))]
-pub fn notification_line(table: &mut Table, words: &mut Words<'_>) -> Result<(), Cause>
-    ensures exact { Makes (λ _. table.new) result (text.notification_line table.old words.old) }
+pub fn notification_line(table: &mut Table, words: &mut Words<'_>) -> Result<(), LineError>
+    ensures exact { GivesOrStops (λ _. table.new) result (text.notification_line table.old words.old) }
     ensures err { OnErr result (table.new ≡ table.old) }
 {
     let name = words.name()?;
@@ -222,7 +219,7 @@ fn limited_share(terms: Option<ShareTerms>) -> Result<Option<Share>, Wrong>
     let Some(core) = CoreNo::new(core) else {
         return Err(Wrong::Limit);
     };
-    if 1 <= budget && budget <= period && period <= LONGEST_PERIOD {
+    if 1 <= budget && budget <= period && period <= MAX_PERIOD {
         Ok(Some(Share {
             core,
             budget,
@@ -235,8 +232,8 @@ fn limited_share(terms: Option<ShareTerms>) -> Result<Option<Share>, Wrong>
 
 /// Reads `NAME LABEL HEX -` or `NAME LABEL HEX CORE BUDGET PERIOD`, after the word `context`.
 #[tactic(auto, unfolding(crate::specs::Tables::context_line, words::specs::Reading::bind))]
-pub fn context_line(table: &mut Table, words: &mut Words<'_>) -> Result<(), Cause>
-    ensures exact { Makes (λ _. table.new) result (text.context_line table.old words.old) }
+pub fn context_line(table: &mut Table, words: &mut Words<'_>) -> Result<(), LineError>
+    ensures exact { GivesOrStops (λ _. table.new) result (text.context_line table.old words.old) }
     ensures err { OnErr result (table.new ≡ table.old) }
 {
     let name = words.name()?;

@@ -1,6 +1,5 @@
-ghost use Rattle.std.specs.Prelude.{◌≡◌, ◌≢◌, ◌↔◌, ◌<◌, ℕ, List, [], ◌∷◌, length, codes, Some, Ok, Err, IfOk, IfErr, OnErr};
+ghost use Rattle.std.specs.Prelude.{◌≡◌, ◌≢◌, ◌↔◌, ◌<◌, ℕ, List, [], length, codes, Some, Ok, Err, IfOk, IfErr, OnErr};
 ghost use Rattle.base.specs.declared.edge.Edge.{Edge as EdgeOf};
-ghost use Rattle.base.specs.declared.kind.Kind.TheVariants.{Reset, SchedControl};
 ghost use Rattle.captext.specs.Policies as policies;
 ghost use Rattle.captext.specs.PolicyText.{label_name, policy_header, policy_text, IsPolicyOf};
 ghost use Rattle.machine.specs.Layout.{Layout};
@@ -9,14 +8,14 @@ ghost use Rattle.table.specs.Rules.{IsLawful};
 ghost use Rattle.words.specs.declared.faults.Wrong.{Wrong};
 ghost use Rattle.words.specs.Fault.{fault_at, no_memory};
 ghost use Rattle.words.specs.FirstFault.{IsFirstFault, TellsFirst};
-ghost use Rattle.words.specs.Reading.{Gives, Makes, Reads};
+ghost use Rattle.words.specs.Reading.{Gives, GivesOrStops, Reads};
 ghost use Rattle.words.specs.Text.{lines_of};
 
 use base::{Edge, Kind, Label};
 use policy::Policy;
 use std::alloc::Global;
 use table::Table;
-use words::{Cause, Fault, Lines, Words, Wrong};
+use words::{Fault, LineError, Lines, Words, Wrong};
 
 /// The next word as a kind of authority.
 #[tactic(auto, unfolding(crate::specs::Policies::kind_at, words::specs::Reading::word_at, words::specs::Reading::or_syntax, words::specs::Reading::bind))]
@@ -64,23 +63,23 @@ fn follows(last: Option<Edge>, edge: &Edge) -> bool
 
 /// Adds an edge that rises above the last one.
 #[tactic(auto, unfolding(crate::specs::Policies::with_edge, words::specs::Reading::bind))]
-fn add_edge(policy: &mut Policy, edge: Edge) -> Result<(), Cause>
-    ensures exact { Makes (λ _. policy.new) result (policies.with_edge policy.old edge) }
+fn add_edge(policy: &mut Policy, edge: Edge) -> Result<(), LineError>
+    ensures exact { GivesOrStops (λ _. policy.new) result (policies.with_edge policy.old edge) }
     ensures err { OnErr result (policy.new ≡ policy.old) }
 {
     if !follows(policy.last(), &edge) {
-        return Err(Cause::Text(Wrong::Syntax));
+        return Err(LineError::Text(Wrong::Syntax));
     }
     match policy.add(edge) {
         Ok(()) => Ok(()),
-        Err(_) => Err(Cause::Memory),
+        Err(_) => Err(LineError::Memory),
     }
 }
 
 /// Reads `edge LABEL KIND LABEL`, and adds the edge.
 #[tactic(auto, unfolding(crate::specs::Policies::edge_line, words::specs::Reading::bind))]
-fn edge_line(table: &Table, policy: &mut Policy, words: &mut Words<'_>) -> Result<(), Cause>
-    ensures exact { Makes (λ _. policy.new) result (policies.edge_line table.now policy.old words.old) }
+fn edge_line(table: &Table, policy: &mut Policy, words: &mut Words<'_>) -> Result<(), LineError>
+    ensures exact { GivesOrStops (λ _. policy.new) result (policies.edge_line table.now policy.old words.old) }
     ensures err { OnErr result (policy.new ≡ policy.old) }
 {
     keyword(words)?;
@@ -90,7 +89,7 @@ fn edge_line(table: &Table, policy: &mut Policy, words: &mut Words<'_>) -> Resul
     words.end()?;
     let from = table.label_named(from).ok_or(Wrong::UnknownName)?;
     if !may_follow(policy.last(), from, kind) {
-        return Err(Cause::Text(Wrong::Syntax));
+        return Err(LineError::Text(Wrong::Syntax));
     }
     let to = table.label_named(to).ok_or(Wrong::UnknownName)?;
     add_edge(policy, Edge { from, kind, to })
@@ -135,8 +134,8 @@ fn edges_of(alloc: Global, text: &[u8], table: &Table) -> Result<Policy, Fault>
             lines.end()?;
             return Ok(policy);
         }
-        if let Err(cause) = edge_line(table, &mut policy, &mut words) {
-            return Err(lines.stopped(cause));
+        if let Err(error) = edge_line(table, &mut policy, &mut words) {
+            return Err(lines.stopped(error));
         }
     }
     Err(lines.after(Wrong::Syntax))
@@ -153,31 +152,4 @@ pub fn policies_are_read_back()
         ↔ (IsPolicyOf t edges × (text ≡ policy_text t edges)) }
     ensures once { (t : Layout) (one other : List EdgeOf) → IsLawful t
         → IsPolicyOf t one → IsPolicyOf t other → policy_text t one ≡ policy_text t other → one ≡ other }
-{}
-
-/// Texts of policies worked out, for a table with the labels a and b.
-pub fn worked_policies()
-    ensures empty { (t : Layout) → policy_text t [] ≡ codes "confine-policy 1\nend\n" }
-    ensures edges { (t : Layout) → t.labels ≡ codes "a" ∷ codes "b" ∷ []
-        → policy_text t (record { from = 0; kind = Reset; to = 1 } ∷ record { from = 1; kind = SchedControl; to = 0 } ∷ [])
-        ≡ codes "confine-policy 1\nedge a reset b\nedge b schedcontrol a\nend\n" }
-    ensures read { (t : Layout) → t.labels ≡ codes "a" ∷ codes "b" ∷ []
-        → policies.read_policy_of t (codes "confine-policy 1\nedge a reset b\nend\n")
-        ≡ Ok (record { from = 0; kind = Reset; to = 1 } ∷ []) }
-    ensures falling { (t : Layout) → t.labels ≡ codes "a" ∷ codes "b" ∷ []
-        → policies.read_policy_of t (codes "confine-policy 1\nedge a notify b\nedge a reset b\nend\n")
-        ≡ Err (record { number = 50; line = 3 }) }
-    ensures twice { (t : Layout) → t.labels ≡ codes "a" ∷ codes "b" ∷ []
-        → policies.read_policy_of t (codes "confine-policy 1\nedge a reset b\nedge a reset b\nend\n")
-        ≡ Err (record { number = 50; line = 3 }) }
-    ensures unknown_kind { (t : Layout) → t.labels ≡ codes "a" ∷ codes "b" ∷ []
-        → policies.read_policy_of t (codes "confine-policy 1\nedge a own b\nend\n")
-        ≡ Err (record { number = 50; line = 2 }) }
-    ensures unknown_label { (t : Layout) → t.labels ≡ codes "a" ∷ codes "b" ∷ []
-        → policies.read_policy_of t (codes "confine-policy 1\nedge a reset c\nend\n")
-        ≡ Err (record { number = 51; line = 2 }) }
-    ensures no_end { (t : Layout) → policies.read_policy_of t (codes "confine-policy 1\n")
-        ≡ Err (record { number = 50; line = 2 }) }
-    ensures after_end { (t : Layout) → policies.read_policy_of t (codes "confine-policy 1\nend\nend\n")
-        ≡ Err (record { number = 50; line = 3 }) }
 {}

@@ -1,9 +1,8 @@
-ghost use Rattle.std.specs.Prelude.{◌≡◌, ◌↔◌, ℕ, List, codes, Some, None, true};
+ghost use Rattle.std.specs.Prelude.{◌≡◌, ◌↔◌, ℕ, List, Some, true};
 ghost use Rattle.words.specs.Name.{is_name};
 ghost use Rattle.captext.specs.Shapes.{slot_of, term_of};
-ghost use Rattle.captext.specs.Spelling.{place_word, slot_word, term_word, IsPlace, IsTerm};
+ghost use Rattle.captext.specs.Spelling.{slot_word, term_word, IsPlace, IsTerm};
 ghost use Rattle.captext.specs.declared.shapes.Place.{Place as PlaceOf};
-ghost use Rattle.captext.specs.declared.shapes.Place.TheVariants as place;
 ghost use Rattle.captext.specs.declared.shapes.Term.{Term as TermOf};
 
 /// A law about the words of slots: a word is read as a slot just where it is that slot's word, the
@@ -25,32 +24,3 @@ pub fn terms_are_read_back()
     ensures once { (one other : TermOf) → IsTerm one → IsTerm other
         → term_word one ≡ term_word other → one ≡ other }
 {}
-
-/// Words worked out: which spell a slot.
-pub fn worked_slots()
-    ensures first { slot_of (codes "c.0") ≡ Some (codes "c", place.Index 0) }
-    ensures tenth { slot_of (codes "c.10") ≡ Some (codes "c", place.Index 10) }
-    ensures root { slot_of (codes "t.root") ≡ Some (codes "t", place.Root) }
-    ensures leading_zero { slot_of (codes "c.01") ≡ None }
-    ensures hexadecimal { slot_of (codes "c.0x1") ≡ None }
-    ensures root_in_capitals { slot_of (codes "t.Root") ≡ None }
-    ensures no_place { slot_of (codes "c.") ≡ None }
-    ensures no_name { slot_of (codes ".1") ≡ None }
-    ensures no_dot { slot_of (codes "c1") ≡ None }
-    ensures two_dots { slot_of (codes "c.1.2") ≡ None }
-{}
-
-#[cfg(test)]
-mod tests {
-    use super::*;
-    use crate::{policies_are_read_back, worked_policies};
-
-    #[test]
-    fn laws_have_nothing_to_run(_rt: HostRuntime) {
-        slots_are_read_back();
-        terms_are_read_back();
-        worked_slots();
-        policies_are_read_back();
-        worked_policies();
-    }
-}

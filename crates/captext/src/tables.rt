@@ -2,24 +2,24 @@ ghost use Rattle.std.specs.Prelude.{◌≡◌, ◌≢◌, ◌↔◌, ℕ, List, 
 ghost use Rattle.captext.specs.Tables as tables;
 ghost use Rattle.captext.specs.TableText.{table_header, table_text, IsBrought, IsLineOf};
 ghost use Rattle.machine.specs.Layout.{Layout, empty_layout};
-ghost use Rattle.table.specs.Parts.{Part};
+ghost use Rattle.table.specs.Items.{Item};
 ghost use Rattle.table.specs.Rules.{IsLawful};
 ghost use Rattle.words.specs.declared.faults.Wrong.{Wrong};
 ghost use Rattle.words.specs.Fault.{fault_at, no_memory};
 ghost use Rattle.words.specs.FirstFault.{IsFirstFault, TellsFirst};
-ghost use Rattle.words.specs.Reading.{Makes, Reads};
+ghost use Rattle.words.specs.Reading.{GivesOrStops, Reads};
 ghost use Rattle.words.specs.Text.{lines_of};
 
 use crate::caps::{bind_line, cap_line};
 use crate::objects::{cnode_line, context_line, label_line, notification_line, tcb_line};
 use std::alloc::Global;
 use table::{Table, lawful_tables_are_built_up};
-use words::{Cause, Fault, Lines, Words, Wrong};
+use words::{Fault, LineError, Lines, Words, Wrong};
 
-/// Reads one line of a table, and adds its part. A line that is refused adds nothing.
+/// Reads one line of a table, and adds its item. A line that is refused adds nothing.
 #[tactic(auto, unfolding(crate::specs::Tables::table_line, crate::specs::Tables::line_by, words::specs::Reading::bind))]
-fn table_line(table: &mut Table, words: &mut Words<'_>) -> Result<(), Cause>
-    ensures exact { Makes (λ _. table.new) result (tables.table_line table.old words.old) }
+fn table_line(table: &mut Table, words: &mut Words<'_>) -> Result<(), LineError>
+    ensures exact { GivesOrStops (λ _. table.new) result (tables.table_line table.old words.old) }
     ensures err { OnErr result (table.new ≡ table.old) }
 {
     let keyword = words.word()?;
@@ -38,7 +38,7 @@ fn table_line(table: &mut Table, words: &mut Words<'_>) -> Result<(), Cause>
     } else if keyword == b"bind".as_slice() {
         bind_line(table, words)
     } else {
-        Err(Cause::Text(Wrong::Syntax))
+        Err(LineError::Text(Wrong::Syntax))
     }
 }
 
@@ -54,8 +54,8 @@ fn read_into(table: &mut Table, text: &[u8]) -> Result<(), Fault>
         if words.is(b"end") {
             return lines.end();
         }
-        if let Err(cause) = table_line(table, &mut words) {
-            return Err(lines.stopped(cause));
+        if let Err(error) = table_line(table, &mut words) {
+            return Err(lines.stopped(error));
         }
     }
     Err(lines.after(Wrong::Syntax))
@@ -95,10 +95,10 @@ pub fn read_table(alloc: Global, text: &[u8]) -> Result<Table, Fault>
 }
 
 /// A law about a line of a table that keeps the rules so far: it is read just where it is the line of
-/// a part that the table takes next, and then adds that part.
+/// an item that the table takes next, and then adds that item.
 pub fn lines_are_read_back()
     ensures { (t : Layout) (words : List (List ℕ)) (next : Layout) → IsLawful t → IsBrought t
-        → (tables.table_line t words ≡ Ok next) ↔ ((part : Part) × IsLineOf t words next part) }
+        → (tables.table_line t words ≡ Ok next) ↔ ((item : Item) × IsLineOf t words next item) }
 {}
 
 /// A law: a text is read as a table just where the table keeps the rules, is one of those that are

@@ -31,7 +31,7 @@ use Rattle.machine.specs.Machine.{slot_cmp}
 use Rattle.machine.specs.Objects.{address_of, end_of}
 use Rattle.policy.specs.Domain.{EdgeTest}
 use Rattle.table.specs.Placement.{IsApart, meets}
-use Rattle.table.specs.Rules.{IsLawful, IsObjectOf, IsCapOf, IsBindingOf, is_control_of, kind_at, slot_total, thread_total}
+use Rattle.table.specs.Rules.{IsLawful, IsObjectOf, IsCapOf, IsBindingOf, is_control_of, kind_at}
 
 abbrev pub id : ℕ → ObjId
 id n = record { 0 = n }
@@ -138,7 +138,7 @@ pub lawful :
     → All (IsBindingOf (system caps bindings)) bindings → AllPairs (λ one other. one.thread.0 < other.thread.0) bindings
     → AllPairs (λ one other. one.context ≢ other.context) bindings
     → IsLawful (system caps bindings)
-unfolding system slot_total thread_total pairs_test
+unfolding system pairs_test
 lawful caps bindings fit rise once bind bindings_rise contexts_differ = record {
   few_labels = lit≤ tt;
   label_names = search (AllPass-from_list_all);

@@ -3,4 +3,3 @@ mod EventWords
 mod EventLines
 mod Scripts
 mod OneLog
-mod Examples

@@ -1,20 +1,17 @@
 -- What a script that was read says of its text, and that the text of each script is read back.
-use Rattle.std.proofs.Common.{◌≡◌, ◌≢◌, ℕ, ◌+◌, ◌<◌, ◌≤◌, List, [], ◌∷◌, ◌++◌, length, map, codes, Result, Ok, Err, IfOk, IfErr, refl, sym, ap, subst, ◌∙◌, arith, append_assoc}
+use Rattle.std.proofs.Common.{◌≡◌, ℕ, ◌+◌, ◌<◌, ◌≤◌, List, [], ◌∷◌, ◌++◌, length, map, codes, Result, Ok, Err, IfOk, refl, sym, ap, subst, ◌∙◌, arith, append_assoc}
 use Rattle.std.proofs.lemmas.Bool.{and_right}
 use Rattle.std.proofs.lemmas.List.{append-nil, length_push}
 use Rattle.std.specs.List.{AllByRecursion}
+use Rattle.base.specs.declared.limits.TheConstants.{MAX_EVENTS}
 use Rattle.machine.specs.declared.call.Event.{Event}
 use Rattle.machine.specs.Spelling.{event_words}
-use Rattle.words.specs.declared.faults.Wrong.{Wrong}
 use Rattle.words.specs.declared.faults.Fault.{Fault}
-use Rattle.words.specs.Fault.{fault_at, no_memory}
-use Rattle.words.specs.FirstFault.{IsFirstFault, TellsFirst}
 use Rattle.words.specs.Reading.{bind, steps, whole_lines, IsNotLast, Reads}
-use Rattle.words.specs.Text.{lines_of, text_of, IsPlainLine}
-use Rattle.words.proofs.FirstFaults.{faults, refused_for}
+use Rattle.words.specs.Text.{text_of, IsPlainLine}
 use Rattle.words.proofs.TextReading.{whole_text_takes, whole_text_again}
 use Rattle.words.proofs.WordLaws.{bind_ok, plain_bytes, plain_lines}
-use Rattle.evtext.specs.Event.{most_events, HasNumbers, IsSpellable}
+use Rattle.evtext.specs.Event.{HasNumbers, IsSpellable}
 use Rattle.evtext.specs.Script.{read_script_of, script_header, script_line, script_step, script_text, IsScript}
 use Rattle.evtext.proofs.EventLines.{line_read, line_read_back}
 use Rattle.evtext.proofs.EventWords.{plain_event}
@@ -25,9 +22,9 @@ record TakesLines (events : List Event) (body : List (List (List ℕ))) (all : L
   all_are : all ≡ events ++ more
   body_is : body ≡ map event_words more
   spellable : AllByRecursion IsSpellable more
-  few : length all ≤ most_events
+  few : length all ≤ MAX_EVENTS
 
-lines_take : (events : List Event) (body : List (List (List ℕ))) (all : List Event) → length events ≤ most_events
+lines_take : (events : List Event) (body : List (List (List ℕ))) (all : List Event) → length events ≤ MAX_EVENTS
     → steps script_step events body ≡ Ok all → TakesLines events body all
 unfolding steps
 lines_take events [] all few h =
@@ -44,8 +41,8 @@ lines_take events (line ∷ body) all few h =
     let read = bind_ok (script_line (length events) line) _ stepped.0 stepped.1 in
     let takes = line_read (length events) line read.0 read.1 in
     let grown : events ++ read.0 ∷ [] ≡ stepped.0 = cc in
-    let longer : length stepped.0 ≤ most_events =
-    subst (λ es. length es ≤ most_events) grown (rw length_push (omega (arith, takes.2))) in
+    let longer : length stepped.0 ≤ MAX_EVENTS =
+    subst (λ es. length es ≤ MAX_EVENTS) grown (rw length_push (omega (arith, takes.2))) in
     let later = lines_take stepped.0 body all longer stepped.2 in
     record {
       more = read.0 ∷ later.more;
@@ -57,17 +54,17 @@ lines_take events (line ∷ body) all few h =
 
 -- and the lines of events are such steps
 
--- an event of one of sixteen cores has numbers of 64 bits
+-- an event of a core that there can be has numbers of 64 bits
 numbers : (event : Event) → IsSpellable event → HasNumbers event
 numbers event is = (omega (arith, is.0), is.1, is.2)
 
-lines_again : (events more : List Event) → length events + length more ≤ most_events → AllByRecursion IsSpellable more
+lines_again : (events more : List Event) → length events + length more ≤ MAX_EVENTS → AllByRecursion IsSpellable more
     → steps script_step events (map event_words more) ≡ Ok (events ++ more)
 unfolding steps bind
 lines_again events [] few is = ap (λ es. Ok es) (sym (append-nil events))
 lines_again events (event ∷ more) few is =
-    let below : length events < most_events = omega (arith, few) in
-    let fewer : length (events ++ event ∷ []) + length more ≤ most_events = rw length_push (omega (arith, few)) in
+    let below : length events < MAX_EVENTS = omega (arith, few) in
+    let fewer : length (events ++ event ∷ []) + length more ≤ MAX_EVENTS = rw length_push (omega (arith, few)) in
     ap (λ r. bind (bind r (λ e. Ok (events ++ e ∷ []))) (λ next. steps script_step next (map event_words more)))
     (line_read_back (length events) (event_words event) event ((refl, numbers event is.0), is.0.0, below))
     ∙ lines_again (events ++ event ∷ []) more fewer is.1
@@ -118,17 +115,3 @@ pub only : {X : Type 0} (view : X → List Event) (result : Result X Fault) (byt
     → Reads view result (read_script_of bytes) → (events : List Event) → IsScript events → bytes ≡ script_text events
     → Reads view result (Ok events)
 only view result bytes exact events is text = subst (λ read. Reads view result read) (script_is_read bytes events is text) exact
-
--- a text that isn't read is refused for its first fault
-pub first_fault : {X : Type 0} (view : X → List Event) (result : Result X Fault) (bytes : List ℕ)
-    → Reads view result (read_script_of bytes)
-    → IfErr result (λ fault. fault ≢ no_memory → TellsFirst script_header script_step [] (lines_of bytes) fault)
-unfolding read_script_of
-first_fault view result bytes exact = faults view script_header script_step [] (lines_of bytes) result exact
-
-pub refused_so : {X : Type 0} (view : X → List Event) (result : Result X Fault) (bytes : List ℕ)
-    → Reads view result (read_script_of bytes) → (line : ℕ) (wrong : Wrong)
-    → IsFirstFault script_header script_step [] (lines_of bytes) line wrong → Reads view result (Err (fault_at line wrong))
-unfolding read_script_of
-refused_so view result bytes exact line wrong first =
-    refused_for view script_header script_step [] (lines_of bytes) result exact line wrong first

@@ -1,10 +1,11 @@
--- How the words of a line are read as an event: its core, its thread, then a call by its name and operands.
-use Rattle.std.specs.Prelude.{◌≡◌, ℕ, ◌<◌, ◌^◌, ◌&&◌, nat_lt, List, codes, Result, Ok, Err, if◌then◌else◌}
+-- How the words of a line are read as an event: its core, its thread, then a call by its name and operands (confine's own).
+use Rattle.std.specs.Prelude.{ℕ, ◌<◌, ◌^◌, ◌&&◌, nat_lt, List, codes, Result, Ok, Err, if◌then◌else◌}
 use Rattle.std.specs.Str.{bytes_eq}
+use Rattle.base.specs.declared.core_number.TheConstants.CoreNo as CoreNo
+use Rattle.base.specs.declared.limits.TheConstants.{MAX_EVENTS}
 use Rattle.machine.specs.declared.call.Call.{Call}
 use Rattle.machine.specs.declared.call.Call.TheVariants.{Signal, Poll}
 use Rattle.machine.specs.declared.call.Event.{Event}
-use Rattle.machine.specs.Spelling.{event_words}
 use Rattle.words.specs.declared.faults.Wrong.{Wrong}
 use Rattle.words.specs.declared.faults.Wrong.TheVariants.{Syntax, Limit}
 use Rattle.words.specs.Number.{number_at}
@@ -41,27 +42,19 @@ event_at words = do
   call ← call_at thread.1
   Ok (record { core = core.0; thread = record { 0 = thread.0 }; call = call.0 }, call.1)
 
--- how many events a script or a log has at most
-abbrev pub most_events : ℕ
-most_events = 1000000
-
--- an event whose core is one of sixteen, and before which there are not too many
+-- an event of a core that there can be, before which there are not too many
 unfoldable pub within_limits : ℕ → Event → Result Event Wrong
-within_limits before event = if nat_lt event.core 16 && nat_lt before most_events then Ok event else Err Limit
+within_limits before event = if nat_lt event.core CoreNo.COUNT && nat_lt before MAX_EVENTS then Ok event else Err Limit
 
 -- a call whose operands are of 64 bits
 abbrev pub HasWords : Call → Type 0
 HasWords (Signal address) = address < 2 ^ 64
 HasWords (Poll address) = address < 2 ^ 64
 
--- an event that a line can have: on one of sixteen cores, with numbers of 64 bits
+-- an event that a line can have: of a core that there can be, with numbers of 64 bits
 abbrev pub IsSpellable : Event → Type 0
-IsSpellable event = (event.core < 16) × (event.thread.0 < 2 ^ 64) × HasWords event.call
+IsSpellable event = (event.core < CoreNo.COUNT) × (event.thread.0 < 2 ^ 64) × HasWords event.call
 
 -- an event whose numbers are of 64 bits, whichever core it names
 abbrev pub HasNumbers : Event → Type 0
 HasNumbers event = (event.core < 2 ^ 64) × (event.thread.0 < 2 ^ 64) × HasWords event.call
-
--- words that spell an event
-abbrev pub IsEventLine : List (List ℕ) → Event → Type 0
-IsEventLine words event = (words ≡ event_words event) × HasNumbers event

@@ -1,4 +1,3 @@
 pub mod Event
 pub mod Script
 pub mod Log
-pub mod Examples

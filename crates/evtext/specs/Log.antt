@@ -1,4 +1,4 @@
--- The text of a log: the header, a line for each event and its outcome, and `end`.
+-- The text of a log: the header, a line for each event and its outcome, and `end` (confine's own).
 use Rattle.std.specs.Prelude.{◌≡◌, ℕ, ◌<◌, ◌^◌, List, [], ◌∷◌, ◌++◌, length, map, codes}
 use Rattle.std.specs.List.{AllByRecursion}
 use Rattle.machine.specs.declared.call.Answer.{Answer}

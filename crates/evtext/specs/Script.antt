@@ -1,13 +1,15 @@
--- The text of a script, and which script, or which fault at which line, a text is read as: the header, a line for each event, `end`.
+-- The text of a script, and which script, or which fault at which line, a text is read as: the header, a line for each event,
+-- `end` (confine's own).
 use Rattle.std.specs.Prelude.{ℕ, ◌≤◌, List, [], ◌∷◌, ◌++◌, length, map, codes, Result, Ok}
 use Rattle.std.specs.List.{AllByRecursion}
+use Rattle.base.specs.declared.limits.TheConstants.{MAX_EVENTS}
 use Rattle.machine.specs.declared.call.Event.{Event}
 use Rattle.machine.specs.Spelling.{event_words}
 use Rattle.words.specs.declared.faults.Wrong.{Wrong}
 use Rattle.words.specs.declared.faults.Fault.{Fault}
 use Rattle.words.specs.Reading.{◌>>=◌, ended_at, read_text, as_it_is, whole_lines}
 use Rattle.words.specs.Text.{words_of, lines_of, text_of}
-use Rattle.evtext.specs.Event.{event_at, within_limits, most_events, IsSpellable}
+use Rattle.evtext.specs.Event.{event_at, within_limits, IsSpellable}
 
 abbrev pub script_header : List (List ℕ)
 script_header = words_of (codes "confine-script 1")
@@ -16,9 +18,9 @@ script_header = words_of (codes "confine-script 1")
 abbrev pub script_text : List Event → List ℕ
 script_text events = text_of (whole_lines script_header (map event_words events))
 
--- events that a script can have: at most a million, each of which a line can have
+-- events that a script can have: not too many, each of which a line can have
 abbrev pub IsScript : List Event → Type 0
-IsScript events = (length events ≤ most_events) × AllByRecursion IsSpellable events
+IsScript events = (length events ≤ MAX_EVENTS) × AllByRecursion IsSpellable events
 
 -- a line as an event, after as many events as `before`: its form is tested first, then the limits
 unfoldable pub script_line : ℕ → List (List ℕ) → Result Event Wrong

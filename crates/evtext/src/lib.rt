@@ -5,9 +5,7 @@ mod laws;
 mod line;
 mod log;
 mod script;
-mod worked;
 
-pub use laws::{a_text_is_of_one_log, a_text_is_of_one_script, form_is_tested_before_limits};
+pub use laws::{a_text_is_of_one_log, a_text_is_of_one_script};
 pub use log::write_log;
 pub use script::read_script;
-pub use worked::{worked_logs, worked_scripts};

@@ -2,12 +2,9 @@ ghost use Rattle.std.specs.Prelude.{◌≡◌};
 ghost use Rattle.words.specs.Reading.{Gives};
 ghost use Rattle.evtext.specs.Event.{call_at, call_named, event_at, poll_at, signal_at, within_limits};
 
-use base::{CoreNo, ObjId};
+use base::{CoreNo, MAX_EVENTS, ObjId};
 use machine::{Call, Event};
 use words::{Words, Wrong};
-
-/// How many events a script or a log has at most.
-const MOST_EVENTS: usize = 1_000_000;
 
 /// An event as a line has it. Its core's number may be too large.
 #[derive(Clone, Copy)]
@@ -25,7 +22,7 @@ impl Claimed {
             (record { core = self.core; thread = self.thread; call = self.call }) }
     {
         match CoreNo::new(self.core) {
-            Some(core) if before < MOST_EVENTS => Ok(Event {
+            Some(core) if before < MAX_EVENTS => Ok(Event {
                 core,
                 thread: self.thread,
                 call: self.call,

@@ -11,6 +11,7 @@ use Rattle.std.proofs.lemmas.List.Folds.{list_any_none}
 use Rattle.std.proofs.lemmas.Map.Keys.{any_passes_from_place}
 use Rattle.std.proofs.lemmas.Option.{slice_get-get_or}
 use Rattle.base.specs.declared.kind.Kind.{Kind}
+use Rattle.base.specs.declared.label.TheConstants.Label as Label
 use Rattle.base.specs.declared.edge.Edge.{Edge}
 use Rattle.base.specs.Kinds.{kind_number}
 use Rattle.policy.specs.Policy.{edge_cmp, IsRising, IsGap, IsAboveLast, JoinsLabels, allows, is_edge}
@@ -114,8 +115,8 @@ pub no_labels : JoinsLabels []
 unfolding allows
 no_labels from kind to e = absurd (false≢true e)
 
-joined : (edge : Edge) (from to : ℕ) (kind : Kind) → edge.from < 64 → edge.to < 64 → is_edge from kind to edge ≡ true
-    → (from < 64) × (to < 64)
+joined : (edge : Edge) (from to : ℕ) (kind : Kind) → edge.from < Label.COUNT → edge.to < Label.COUNT → is_edge from kind to edge ≡ true
+    → (from < Label.COUNT) × (to < Label.COUNT)
 joined edge from to kind low high e =
     let parts = and_parts (edge.from == from) _ e in
     let ends = and_parts (kind_number edge.kind == kind_number kind) (edge.to == to) parts.1 in
@@ -123,10 +124,10 @@ joined edge from to kind low high e =
     let goes : edge.to ≡ to = eqb-true edge.to to ends.1 in
     (omega (arith, low, starts), omega (arith, high, goes))
 
-pub labels_added : (edges : List Edge) (edge : Edge) (at : ℕ) → edge.from < 64 → edge.to < 64 → JoinsLabels edges
+pub labels_added : (edges : List Edge) (edge : Edge) (at : ℕ) → edge.from < Label.COUNT → edge.to < Label.COUNT → JoinsLabels edges
     → JoinsLabels (insert edges at edge)
 labels_added edges edge at low high old from kind to here = by_edge (is_edge from kind to edge) refl where
-  by_edge : (is : Bool) → is_edge from kind to edge ≡ is → (from < 64) × (to < 64)
+  by_edge : (is : Bool) → is_edge from kind to edge ≡ is → (from < Label.COUNT) × (to < Label.COUNT)
   by_edge true e = joined edge from to kind low high e
   by_edge false e =
       old from kind to (sym (ap (λ b. b || allows edges from kind to) e) ∙ sym (allows-insert edges edge at from kind to) ∙ here)

@@ -8,6 +8,7 @@ use Rattle.std.specs.List.{AllWithin, list_any}
 use Rattle.std.specs.List.Sorted.{IsStrictlySortedBy}
 use Rattle.base.specs.declared.edge.Edge.{Edge}
 use Rattle.base.specs.declared.kind.Kind.{Kind}
+use Rattle.base.specs.declared.label.TheConstants.Label as Label
 use Rattle.base.specs.Kinds.{kind_number}
 
 -- by label, then kind, then label
@@ -28,9 +29,9 @@ is_edge from kind to edge = (edge.from == from) && ((kind_number edge.kind == ki
 unfoldable pub allows : List Edge → ℕ → Kind → ℕ → Bool
 allows edges from kind to = list_any (is_edge from kind to) edges
 
--- each edge joins two of the 64 labels that there can be
+-- each edge joins two of the labels that there can be
 abbrev pub JoinsLabels : List Edge → Type 0
-JoinsLabels edges = (from : ℕ) (kind : Kind) (to : ℕ) → allows edges from kind to ≡ true → (from < 64) × (to < 64)
+JoinsLabels edges = (from : ℕ) (kind : Kind) (to : ℕ) → allows edges from kind to ≡ true → (from < Label.COUNT) × (to < Label.COUNT)
 
 -- what every policy keeps
 pub record IsPolicy (edges : List Edge) : Type 0 where

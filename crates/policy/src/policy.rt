@@ -1,6 +1,7 @@
 ghost use Rattle.std.specs.Prelude.{◌≡◌, ℕ, ◌<◌, ◌||◌, true, List, [], ◌∷◌, ◌++◌, IsOk, OnOk, OnErr, IfErr};
 ghost use Rattle.base.specs.declared.edge.Edge.{Edge};
 ghost use Rattle.base.specs.declared.kind.Kind.{Kind};
+ghost use Rattle.base.specs.declared.label.TheConstants.Label as Label;
 ghost use Rattle.base.specs.Refusals.{out_of_memory};
 ghost use Rattle.policy.specs.Policy.{IsRising, IsPolicy, IsGap, IsAboveLast, JoinsLabels, allows, is_edge, last_edge};
 
@@ -93,59 +94,11 @@ impl Policy {
     }
 }
 
-// An edge joins two labels, which are below 64.
+// An edge joins two labels.
 fn joins_labels(edge: &Edge)
-    ensures from { edge.now.from < 64 }
-    ensures to { edge.now.to < 64 }
+    ensures from { edge.now.from < Label.COUNT }
+    ensures to { edge.now.to < Label.COUNT }
 {
     edge.from.number();
     edge.to.number();
-}
-
-#[cfg(test)]
-mod tests {
-    use super::*;
-    use base::{Kind, Label};
-    use std::test::Fail;
-
-    fn edge(from: u8, kind: Kind, to: u8) -> Result<Edge, Fail> {
-        let from = Label::new(from).ok_or("no label")?;
-        let to = Label::new(to).ok_or("no label")?;
-        Ok(Edge { from, kind, to })
-    }
-
-    #[test]
-    fn keeps_each_edge_once_in_rising_order(rt: HostRuntime) -> Result<(), Fail> {
-        let rising = [
-            edge(0, Kind::Reset, 1)?,
-            edge(0, Kind::Notify, 0)?,
-            edge(0, Kind::Notify, 1)?,
-            edge(1, Kind::Control, 0)?,
-        ];
-        let mut policy = Policy::new(rt.alloc());
-        assert_eq!(rt; policy.last(), None);
-        for i in [1, 3, 0, 3, 2, 0] {
-            policy.add(rising[i])?;
-        }
-        assert_eq!(rt; policy.edges(), rising.as_slice());
-        assert_eq!(rt; policy.last(), Some(rising[3]));
-        Ok(())
-    }
-
-    #[test]
-    fn has_what_was_added(rt: HostRuntime) -> Result<(), Fail> {
-        let mut policy = Policy::new(rt.alloc());
-        let notify = edge(0, Kind::Notify, 1)?;
-        assert!(rt; !policy.has(notify));
-        policy.add(notify)?;
-        assert!(rt; policy.has(notify));
-        for other in [
-            edge(1, Kind::Notify, 1)?,
-            edge(0, Kind::Await, 1)?,
-            edge(0, Kind::Notify, 0)?,
-        ] {
-            assert!(rt; !policy.has(other));
-        }
-        Ok(())
-    }
 }

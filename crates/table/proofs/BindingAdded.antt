@@ -1,17 +1,27 @@
 -- A table with a binding more keeps the rules.
-use Rattle.std.proofs.Common.{◌≡◌, ◌≢◌, ℕ, ◌<◌, true, false, length, get_or, refl, sym, ap, ◌∙◌, arith}
+use Rattle.std.proofs.Common.{◌≡◌, ◌≢◌, ℕ, ◌<◌, ◌||◌, Bool, true, false, cond, List, [], ◌∷◌, ◌++◌, Option, None, Some, option_map, is_some}
+use Rattle.std.proofs.Common.{length, get_or, set, get_or-set_other, get_or-set_same, refl, sym, ap, ◌∙◌, arith}
 use Rattle.std.proofs.lemmas.Bool.{false≢true, ltb-true}
 use Rattle.std.proofs.lemmas.Cmp.{tied_itself}
 use Rattle.std.proofs.lemmas.List.Elements.{All-push}
 use Rattle.std.proofs.lemmas.List.Quantifiers.{all_pairs_push}
+use Rattle.std.proofs.lemmas.List.Folds.{find-append}
+use Rattle.std.proofs.lemmas.Option.{none-some, slice_get_within}
+use Rattle.std.specs.List.{find, list_any}
+use Rattle.std.specs.Option.{option_or}
 use Rattle.std.specs.Ordering.{is_eq}
 use Rattle.base.specs.declared.ids.ObjId.{ObjId}
+use Rattle.base.specs.declared.limits.TheConstants.{OBJECT_NUMBERS}
 use Rattle.machine.specs.declared.layout.Binding.{Binding}
+use Rattle.machine.specs.declared.layout.Initial.{Initial}
+use Rattle.machine.specs.declared.object.ObjectKind.{ObjectKind}
 use Rattle.machine.specs.Layout.{Layout, initial_of}
+use Rattle.machine.specs.Objects.{kind_of_object}
 use Rattle.machine.specs.Machine.{same_id}
-use Rattle.machine.proofs.LookUps.{id_total}
+use Rattle.machine.proofs.LookUps.{id_total, one_id}
+use Rattle.table.specs.Aims.{IsOfThreads, thread_bound_to}
 use Rattle.table.specs.Building.{AdmitsBinding, is_above_bindings, is_above_bound, is_bound, with_binding}
-use Rattle.table.specs.Rules.{IsLawful, IsBindingOf, kind_at, slot_total, thread_total}
+use Rattle.table.specs.Rules.{IsLawful, IsBindingOf, kind_at}
 use Rattle.table.proofs.LawfulKept.{objects_kept, caps_kept, bindings_kept}
 use Rattle.table.proofs.ListLemmas.{all_from_last, not_any}
 
@@ -34,7 +44,7 @@ other_context t context once k d within same =
     false≢true (sym missed ∙ ap (λ id. same_id id context) same ∙ ap is_eq (tied_itself id_total context))
 
 pub lawful_binding : (t : Layout) (binding : Binding) → IsLawful t → AdmitsBinding t binding → IsLawful (with_binding t binding)
-unfolding initial_of kind_at slot_total thread_total
+unfolding initial_of kind_at
 lawful_binding t binding h admits = record {
   few_labels = h.few_labels;
   label_names = h.label_names;
@@ -63,3 +73,78 @@ lawful_binding t binding h admits = record {
       all_pairs_push (λ one other. one.context ≢ other.context) t.bindings binding h.contexts_differ
       (other_context t binding.context admits.once);
 }
+
+-- the number of an object of the table is one that objects may have
+pub context_low :
+    (t : Layout) (id : ObjId) (kind : ObjectKind) → IsLawful t → kind_at t id ≡ Some kind → id.0 < OBJECT_NUMBERS
+unfolding kind_at initial_of
+context_low t id kind h e = by (initial_of t id) refl e where
+  by :
+      (found : Option Initial) → initial_of t id ≡ found → option_map (λ initial. kind_of_object initial.object) found ≡ Some kind
+      → id.0 < OBJECT_NUMBERS
+  by None none at = absurd (none-some kind at)
+  by (Some initial) some at =
+      let within = slice_get_within t.objects id.0 initial some in
+      let few = h.few_objects in
+      omega arith
+
+-- a context is bound where it has a thread
+pub has_thread :
+    (bindings : List Binding) (context : ObjId)
+    → is_some (thread_bound_to bindings context) ≡ list_any (λ binding. same_id binding.context context) bindings
+has_thread [] context = refl
+has_thread (binding ∷ bindings) context =
+    by (same_id binding.context context) (find (λ b. same_id b.context context) bindings) _ (has_thread bindings context)
+  where
+    by :
+        (same : Bool) (found : Option Binding) (any : Bool) → is_some (option_map (λ (b : Binding). b.thread) found) ≡ any
+        → is_some (option_map (λ (b : Binding). b.thread) (cond same (Some binding) found)) ≡ (same || any)
+    by true found any e = refl
+    by false found any e = e
+
+pub not_bound : (t : Layout) (context : ObjId) → is_bound t context ≡ false → thread_bound_to t.bindings context ≡ None
+unfolding is_bound
+not_bound t context free = by (thread_bound_to t.bindings context) (has_thread t.bindings context ∙ free) where
+  by : (thread : Option ObjId) → is_some thread ≡ false → thread ≡ None
+  by None e = refl
+  by (Some thread) e = absurd (false≢true (sym e))
+
+-- one binding more gives its context the thread, and leaves the others what they have
+thread_added :
+    (bindings : List Binding) (binding : Binding) → thread_bound_to bindings binding.context ≡ None → (context : ObjId)
+    → thread_bound_to (bindings ++ binding ∷ []) context
+    ≡ cond (same_id binding.context context) (Some binding.thread) (thread_bound_to bindings context)
+thread_added bindings binding free context =
+    ap (option_map (λ (b : Binding). b.thread)) (find-append (λ b. same_id b.context context) bindings (binding ∷ []))
+    ∙ by (same_id binding.context context) (find (λ b. same_id b.context context) bindings)
+    (λ same. ap (thread_bound_to bindings) (sym (one_id _ _ same)) ∙ free)
+  where
+    by :
+        (same : Bool) (found : Option Binding) → (same ≡ true → option_map (λ (b : Binding). b.thread) found ≡ None)
+        → option_map (λ (b : Binding). b.thread) (option_or found (cond same (Some binding) None))
+        ≡ cond same (Some binding.thread) (option_map (λ (b : Binding). b.thread) found)
+    by true None none = refl
+    by true (Some other) none = absurd (none-some _ (sym (none refl)))
+    by false None none = refl
+    by false (Some other) none = refl
+
+pub threads_with :
+    (bindings : List Binding) (binding : Binding) (threads more : List (Option ObjId)) → IsOfThreads bindings threads
+    → thread_bound_to bindings binding.context ≡ None → ((k : ℕ) → get_or more k None ≡ get_or threads k None)
+    → binding.context.0 < length more
+    → IsOfThreads (bindings ++ binding ∷ []) (set more binding.context.0 (Some binding.thread))
+threads_with bindings binding threads more kept free same within context =
+    by (same_id binding.context context) refl ∙ sym (thread_added bindings binding free context)
+  where
+    by :
+        (is : Bool) → same_id binding.context context ≡ is
+        → get_or (set more binding.context.0 (Some binding.thread)) context.0 None
+        ≡ cond is (Some binding.thread) (thread_bound_to bindings context)
+    by true one =
+        ap (λ (id : ObjId). get_or (set more binding.context.0 (Some binding.thread)) id.0 None) (sym (one_id _ _ one))
+        ∙ get_or-set_same more binding.context.0 (Some binding.thread) None within
+    by false other =
+        let ne : context.0 ≢ binding.context.0 =
+        λ e. false≢true (sym other ∙ ap (λ id. same_id binding.context id) (λ i. record { 0 = e i }) ∙ ap is_eq (tied_itself id_total binding.context)) in
+        get_or-set_other more binding.context.0 context.0 (Some binding.thread) None ne
+        ∙ same context.0 ∙ kept context

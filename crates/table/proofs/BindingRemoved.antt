@@ -1,4 +1,4 @@
--- A table whose last part was a binding kept the rules without it, and admitted it.
+-- A table whose last item was a binding kept the rules without it, and admitted it.
 use Rattle.std.proofs.Common.{◌≡◌, ◌≢◌, ℕ, ◌-◌, ◌<◌, true, length, get_or, slice_get, Option, Some, None, refl, arith}
 use Rattle.std.proofs.lemmas.Bool.{lt-ltb, false_from_ne_true}
 use Rattle.machine.specs.declared.layout.Binding.{Binding}
@@ -6,7 +6,7 @@ use Rattle.machine.specs.Layout.{Layout, initial_of}
 use Rattle.machine.specs.Machine.{same_id}
 use Rattle.machine.proofs.LookUps.{one_id}
 use Rattle.table.specs.Building.{AdmitsBinding, is_above_bindings, is_above_bound, is_bound, with_binding}
-use Rattle.table.specs.Rules.{IsLawful, IsBindingOf, kind_at, slot_total, thread_total}
+use Rattle.table.specs.Rules.{IsLawful, IsBindingOf, kind_at}
 use Rattle.table.proofs.FrontLemmas.{all_front, pairs_front, none_passes, at_last}
 use Rattle.table.proofs.LawfulKept.{objects_kept, caps_kept, bindings_kept}
 
@@ -21,7 +21,7 @@ rises t binding below = by (slice_get t.bindings (length t.bindings - 1)) refl w
   by (Some last) at = lt-ltb _ _ (at_last (λ one. one.thread.0 < binding.thread.0) t.bindings last below at)
 
 pub binding_removed : (t : Layout) (binding : Binding) → IsLawful (with_binding t binding) → IsLawful t × AdmitsBinding t binding
-unfolding initial_of kind_at slot_total thread_total is_bound
+unfolding initial_of kind_at is_bound
 binding_removed t binding h =
     let all = all_front (IsBindingOf (with_binding t binding)) t.bindings binding h.bindings in
     let rise = pairs_front (λ one other. one.thread.0 < other.thread.0) t.bindings binding h.bindings_rise in

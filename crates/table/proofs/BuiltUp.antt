@@ -1,4 +1,4 @@
--- The tables that keep the rules are those that are built up part by part.
+-- The tables that keep the rules are those that are built up item by item.
 use Rattle.std.proofs.Common.{◌≡◌, ℕ, List, [], ◌∷◌, ◌++◌, length, refl, sym, ap, subst, arith}
 use Rattle.std.proofs.lemmas.List.{append-nil, append_assoc}
 use Rattle.machine.specs.declared.layout.Binding.{Binding}
@@ -6,8 +6,8 @@ use Rattle.machine.specs.declared.layout.Filled.{Filled}
 use Rattle.machine.specs.declared.layout.Initial.{Initial}
 use Rattle.machine.specs.declared.layout.Pair.{Pair}
 use Rattle.machine.specs.Layout.{Layout, empty_layout}
-use Rattle.table.specs.Parts.{Part, LabelPart, ObjectPart, CapPart, BindingPart, with_part, Admits, ComesNow, IsBuiltUp, none}
-use Rattle.table.specs.Parts.{more}
+use Rattle.table.specs.Items.{Item, LabelItem, ObjectItem, CapItem, BindingItem, with_item, Admits, ComesNow, IsBuiltUp, none}
+use Rattle.table.specs.Items.{more}
 use Rattle.table.specs.Rules.{IsLawful}
 use Rattle.table.proofs.LawfulKept.{lawful_empty}
 use Rattle.table.proofs.LabelAdded.{lawful_label}
@@ -20,28 +20,28 @@ use Rattle.table.proofs.CapRemoved.{cap_removed}
 use Rattle.table.proofs.BindingRemoved.{binding_removed}
 use Rattle.table.proofs.FrontLemmas.{from_front}
 
-lawful_part : (t : Layout) (part : Part) → IsLawful t → Admits t part → IsLawful (with_part t part)
-lawful_part t (LabelPart name) h admits = lawful_label t name h admits
-lawful_part t (ObjectPart name initial) h admits = lawful_initial t name initial h admits
-lawful_part t (CapPart filled) h admits = lawful_filled t filled h admits
-lawful_part t (BindingPart binding) h admits = lawful_binding t binding h admits
+lawful_item : (t : Layout) (item : Item) → IsLawful t → Admits t item → IsLawful (with_item t item)
+lawful_item t (LabelItem name) h admits = lawful_label t name h admits
+lawful_item t (ObjectItem name initial) h admits = lawful_initial t name initial h admits
+lawful_item t (CapItem filled) h admits = lawful_filled t filled h admits
+lawful_item t (BindingItem binding) h admits = lawful_binding t binding h admits
 
 pub lawful_from_built : {t : Layout} → IsBuiltUp t → IsLawful t
 lawful_from_built none = lawful_empty
-lawful_from_built (more {t} part built now admits) = lawful_part t part (lawful_from_built built) admits
+lawful_from_built (more {t} item built now admits) = lawful_item t item (lawful_from_built built) admits
 
-part_removed : (t : Layout) (part : Part) → ComesNow t part → IsLawful (with_part t part) → IsLawful t × Admits t part
-part_removed t (LabelPart name) now h = label_removed t name now h
-part_removed t (ObjectPart name initial) now h = object_removed t name initial now h
-part_removed t (CapPart filled) now h = cap_removed t filled now h
-part_removed t (BindingPart binding) now h = binding_removed t binding h
+item_removed : (t : Layout) (item : Item) → ComesNow t item → IsLawful (with_item t item) → IsLawful t × Admits t item
+item_removed t (LabelItem name) now h = label_removed t name now h
+item_removed t (ObjectItem name initial) now h = object_removed t name initial now h
+item_removed t (CapItem filled) now h = cap_removed t filled now h
+item_removed t (BindingItem binding) now h = binding_removed t binding h
 
 -- a table that is built up where it keeps the rules
 abbrev Builds : Layout → Type 0
 Builds t = IsLawful t → IsBuiltUp t
 
-one_more : (t : Layout) (part : Part) → ComesNow t part → Builds t → Builds (with_part t part)
-one_more t part now builds h = let front = part_removed t part now h in more part (builds front.0) now front.1
+one_more : (t : Layout) (item : Item) → ComesNow t item → Builds t → Builds (with_item t item)
+one_more t item now builds h = let front = item_removed t item now h in more item (builds front.0) now front.1
 
 -- the first parts of a table
 
@@ -61,7 +61,7 @@ with_bindings t bindings =
 by_labels : (labels : List (List ℕ)) → Builds (with_labels labels)
 by_labels labels =
     from_front (λ front. Builds (with_labels front))
-    (λ front name. one_more (with_labels front) (LabelPart name) (refl, (refl, (refl, refl)))) [] labels (λ _. none)
+    (λ front name. one_more (with_labels front) (LabelItem name) (refl, (refl, (refl, refl)))) [] labels (λ _. none)
 
 by_objects :
     (labels front : List (List ℕ)) (first : List Initial) (names : List (List ℕ)) (objects : List Initial)
@@ -75,20 +75,20 @@ by_objects labels front first (name ∷ names) [] same h = absurd (omega arith)
 by_objects labels front first (name ∷ names) (initial ∷ objects) same h =
     let longer =
     by_objects labels (front ++ name ∷ []) (first ++ initial ∷ []) names objects (omega arith)
-    (one_more (with_objects labels front first) (ObjectPart name initial) (refl, (refl, refl)) h) in
+    (one_more (with_objects labels front first) (ObjectItem name initial) (refl, (refl, refl)) h) in
     subst (λ os. Builds (with_objects labels (front ++ name ∷ names) os)) (append_assoc first (initial ∷ []) objects)
     (subst (λ ns. Builds (with_objects labels ns ((first ++ initial ∷ []) ++ objects))) (append_assoc front (name ∷ []) names)
     longer)
 
 by_caps : (t : Layout) → Builds (with_caps t []) → Builds (with_caps t t.caps)
 by_caps t start =
-    from_front (λ front. Builds (with_caps t front)) (λ front filled. one_more (with_caps t front) (CapPart filled) (refl, refl))
+    from_front (λ front. Builds (with_caps t front)) (λ front filled. one_more (with_caps t front) (CapItem filled) (refl, refl))
     [] t.caps start
 
 by_bindings : (t : Layout) → Builds (with_bindings t []) → Builds (with_bindings t t.bindings)
 by_bindings t start =
     from_front (λ front. Builds (with_bindings t front))
-    (λ front binding. one_more (with_bindings t front) (BindingPart binding) tt) [] t.bindings start
+    (λ front binding. one_more (with_bindings t front) (BindingItem binding) tt) [] t.bindings start
 
 pub built_from_lawful : (t : Layout) → IsLawful t → IsBuiltUp t
 built_from_lawful t h =

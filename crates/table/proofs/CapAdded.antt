@@ -9,6 +9,7 @@ use Rattle.std.specs.declared.cmp.Ordering.{Ordering}
 use Rattle.std.proofs.lemmas.Cmp.{tied_itself}
 use Rattle.std.proofs.lemmas.Option.{slice_get_within}
 use Rattle.base.specs.declared.ids.SlotRef.{SlotRef}
+use Rattle.base.specs.declared.limits.TheConstants.{OBJECT_NUMBERS}
 use Rattle.machine.specs.declared.cap.Cap.{Cap}
 use Rattle.machine.specs.declared.cap.Detail.{Detail}
 use Rattle.machine.specs.declared.cap.Detail.TheVariants as d
@@ -24,7 +25,7 @@ use Rattle.machine.proofs.LookUps.{slot_total, id_total}
 use Rattle.machine.specs.Objects.{kind_of_object, slot_count}
 use Rattle.table.specs.Building.{AdmitsCap, declares_slot, is_above_caps, has_index, may_hold, fits, fits_target, is_fitting}
 use Rattle.table.specs.Building.{is_above_filled, is_for_untyped, has_cap_to, repeats_untyped, with_filled}
-use Rattle.table.specs.Rules.{IsLawful, IsCapOf, IsDetailOf, is_tcb, slot_total as table_slots, thread_total}
+use Rattle.table.specs.Rules.{IsLawful, IsCapOf, IsDetailOf, is_tcb}
 use Rattle.table.proofs.LawfulKept.{objects_kept, caps_kept, bindings_kept}
 use Rattle.table.proofs.ListLemmas.{all_from_last, not_any}
 
@@ -66,7 +67,7 @@ no_tcb (o.Frame _) e at = cc
 no_tcb (o.Control _) e at = cc
 
 -- a capability that fits is for an object with a small number
-pub aimed_low : (t : Layout) (cap : Cap) → IsLawful t → is_fitting t cap ≡ true → cap.object.0 < 281474976710656
+pub aimed_low : (t : Layout) (cap : Cap) → IsLawful t → is_fitting t cap ≡ true → cap.object.0 < OBJECT_NUMBERS
 unfolding initial_of is_fitting
 aimed_low t cap h e =
     let target = target_of _ _ e in
@@ -124,7 +125,7 @@ other_object t cap once at k d within same =
     false≢true (sym missed ∙ ap (λ id. same_id id cap.object) same ∙ ap is_eq (tied_itself id_total cap.object))
 
 pub lawful_filled : (t : Layout) (filled : Filled) → IsLawful t → AdmitsCap t filled → IsLawful (with_filled t filled)
-unfolding initial_of declares_slot is_fitting table_slots thread_total
+unfolding initial_of declares_slot is_fitting
 lawful_filled t filled h admits = record {
   few_labels = h.few_labels;
   label_names = h.label_names;

@@ -1,4 +1,4 @@
--- A table whose last part was a filled slot kept the rules without it, and admitted it.
+-- A table whose last item was a filled slot kept the rules without it, and admitted it.
 use Rattle.std.proofs.Common.{◌≡◌, ◌≢◌, ℕ, ◌-◌, ◌<◌, true, false, not, length, get_or, slice_get, [], Option, None, Some, refl}
 use Rattle.std.proofs.Common.{ap, option_map, ◌∙◌, arith}
 use Rattle.std.proofs.lemmas.Bool.{false_from_ne_true, lt-ltb, le-leb, and_from}
@@ -20,8 +20,8 @@ use Rattle.machine.proofs.LookUps.{one_id}
 use Rattle.machine.specs.Objects.{kind_of_object}
 use Rattle.table.specs.Building.{AdmitsCap, declares_slot, is_above_caps, has_index, may_hold, fits, fits_target, is_fitting}
 use Rattle.table.specs.Building.{is_above_filled, has_cap_to, repeats_untyped, with_filled}
-use Rattle.table.specs.Parts.{BeforePairs}
-use Rattle.table.specs.Rules.{IsLawful, IsCapOf, IsBindingOf, IsDetailOf, is_tcb, slot_total, thread_total}
+use Rattle.table.specs.Items.{BeforePairs}
+use Rattle.table.specs.Rules.{IsLawful, IsCapOf, IsBindingOf, IsDetailOf, is_tcb}
 use Rattle.table.proofs.FrontLemmas.{all_front, pairs_front, all_of_none, none_passes, at_last}
 use Rattle.table.proofs.LawfulKept.{objects_kept, caps_kept}
 
@@ -102,7 +102,7 @@ no_parent t none filled =
 
 pub cap_removed :
     (t : Layout) (filled : Filled) → BeforePairs t → IsLawful (with_filled t filled) → IsLawful t × AdmitsCap t filled
-unfolding initial_of initial_parent declares_slot is_fitting slot_total thread_total
+unfolding initial_of initial_parent declares_slot is_fitting
 cap_removed t filled empty h =
     let all = all_front (IsCapOf (with_filled t filled)) t.caps filled h.caps in
     let cap = all.1 in

@@ -1,4 +1,4 @@
--- How many bytes an object of so many bits takes, and that those of an object below `2^48` are few.
+-- How many bytes an object of so many bits takes, and that those of an object below the addresses' end are few.
 use Rattle.std.proofs.Common.{◌≡◌, ℕ, ◌+◌, ◌-◌, ◌*◌, ◌%◌, ◌^◌, ◌<◌, ◌≤◌, ◌⊎◌, nat_le, nat_lt, ◌&&◌, ◌||◌, List, [], ◌∷◌, ◌++◌, map}
 use Rattle.std.proofs.Common.{Some, None, refl, sym, subst, ap, ◌∙◌, arith, inl, inr}
 use Rattle.std.proofs.lemmas.Bool.{cases_lt}
@@ -10,6 +10,7 @@ use Rattle.std.proofs.lemmas.Option.{same_Some, none-some}
 use Rattle.std.specs.List.{list_any}
 use Rattle.std.specs.List.Sorted.{IsPermutation}
 use Rattle.std.proofs.lemmas.List.Sorted.{IsPermutation-push_more, list_any-IsPermutation}
+use Rattle.base.specs.declared.limits.TheConstants.{ADDRESS_BITS, ADDRESS_END}
 use Rattle.machine.specs.declared.layout.Initial.{Initial}
 use Rattle.machine.specs.declared.object.Object.{Object}
 use Rattle.machine.specs.declared.object.Object.TheVariants as o
@@ -40,43 +41,43 @@ size_of-none (o.Context _) e = absurd (none-some 8 (sym e))
 size_of-none (o.Frame _) e = absurd (none-some 12 (sym e))
 size_of-none (o.Control _) e = refl
 
--- more than 48 bits don't fit below `2^48`
-few_bits : (start bits : ℕ) → start + 2 ^ bits ≤ 281474976710656 → bits ≤ 48
-few_bits start bits h = by (cases_lt 48 bits) where
-  by : (48 < bits) ⊎ (bits ≤ 48) → bits ≤ 48
+-- more bits than an address has don't fit below the addresses' end
+few_bits : (start bits : ℕ) → start + 2 ^ bits ≤ ADDRESS_END → bits ≤ ADDRESS_BITS
+few_bits start bits h = by (cases_lt ADDRESS_BITS bits) where
+  by : (ADDRESS_BITS < bits) ⊎ (bits ≤ ADDRESS_BITS) → bits ≤ ADDRESS_BITS
   by (inr few) = few
   by (inl many) = let large : 562949953421312 ≤ 2 ^ bits = pow_mono {i = 49} {j = bits} many in omega (arith, large)
 
-pub small : (object : Object) (bits : ℕ) → size_bits object ≡ Some bits → end_of object ≤ 281474976710656 → bits ≤ 48
+pub small : (object : Object) (bits : ℕ) → size_bits object ≡ Some bits → end_of object ≤ ADDRESS_END → bits ≤ ADDRESS_BITS
 small object bits e h =
     few_bits (address_of object) bits
     (let same : size_of object ≡ 2 ^ bits = size_of-bits object bits e in omega (arith, same, h))
 
-pub shifted : (bits : ℕ) → bits ≤ 48 → (1 * 2 ^ bits % 18446744073709551616 ≡ 2 ^ bits) × (2 ^ bits ≤ 281474976710656)
+pub shifted : (bits : ℕ) → bits ≤ ADDRESS_BITS → (1 * 2 ^ bits % 18446744073709551616 ≡ 2 ^ bits) × (2 ^ bits ≤ ADDRESS_END)
 shifted bits few = ((one_shifted bits 18446744073709551615 refl (omega arith)).0, pow_mono {i = bits} {j = 48} few)
 
-pub few_fit : (object : Object) (bits : ℕ) → size_bits object ≡ Some bits → bits ≤ 48
-    → nat_le (address_of object) (281474976710656 - 1 * 2 ^ bits % 18446744073709551616) ≡ nat_le (end_of object) 281474976710656
+pub few_fit : (object : Object) (bits : ℕ) → size_bits object ≡ Some bits → bits ≤ ADDRESS_BITS
+    → nat_le (address_of object) (ADDRESS_END - 1 * 2 ^ bits % 18446744073709551616) ≡ nat_le (end_of object) ADDRESS_END
 few_fit object bits e few =
     let size : size_of object ≡ 2 ^ bits = size_of-bits object bits e in
     let shift : 1 * 2 ^ bits % 18446744073709551616 ≡ 2 ^ bits = (shifted bits few).0 in
-    let below : 2 ^ bits ≤ 281474976710656 = (shifted bits few).1 in
+    let below : 2 ^ bits ≤ ADDRESS_END = (shifted bits few).1 in
     rw shift (compared (address_of object) (2 ^ bits) (size_of object) size below) where
       compared :
-          (start power size : ℕ) → size ≡ power → power ≤ 281474976710656
-          → nat_le start (281474976710656 - power) ≡ nat_le (start + size) 281474976710656
+          (start power size : ℕ) → size ≡ power → power ≤ ADDRESS_END
+          → nat_le start (ADDRESS_END - power) ≡ nat_le (start + size) ADDRESS_END
       compared start power size e h = grind (arith, nat_tests)
 
 pub many_exceed :
-    (object : Object) (bits : ℕ) → size_bits object ≡ Some bits → 48 < bits
-    → nat_le bits 48 ≡ nat_le (end_of object) 281474976710656
+    (object : Object) (bits : ℕ) → size_bits object ≡ Some bits → ADDRESS_BITS < bits
+    → nat_le bits ADDRESS_BITS ≡ nat_le (end_of object) ADDRESS_END
 many_exceed object bits e many =
     let size : size_of object ≡ 2 ^ bits = size_of-bits object bits e in
     let large : 562949953421312 ≤ 2 ^ bits = pow_mono {i = 49} {j = bits} many in
     compared (address_of object) bits (2 ^ bits) (size_of object) size large many where
       compared :
-          (start bits power size : ℕ) → size ≡ power → 562949953421312 ≤ power → 48 < bits
-          → nat_le bits 48 ≡ nat_le (start + size) 281474976710656
+          (start bits power size : ℕ) → size ≡ power → 562949953421312 ≤ power → ADDRESS_BITS < bits
+          → nat_le bits ADDRESS_BITS ≡ nat_le (start + size) ADDRESS_END
       compared start bits power size e h many = grind (arith, nat_tests)
 
 -- an object meets the extents of others where it meets the others

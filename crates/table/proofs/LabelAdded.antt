@@ -10,7 +10,7 @@ use Rattle.machine.specs.Layout.{Layout, initial_of}
 use Rattle.table.specs.Building.{AdmitsLabel, with_label}
 use Rattle.table.specs.Names.{label_named}
 use Rattle.words.specs.Name.{is_name}
-use Rattle.table.specs.Rules.{IsLawful, slot_total, thread_total}
+use Rattle.table.specs.Rules.{IsLawful}
 use Rattle.table.proofs.LawfulKept.{objects_kept, caps_kept, bindings_kept}
 use Rattle.table.proofs.ListLemmas.{not_any}
 use Rattle.table.proofs.NameLemmas.{list_any-none}
@@ -25,7 +25,7 @@ differs name names none k d within same =
     false≢true (sym missed ∙ (bytes_eq-Decides name (get_or names k d)).1 (sym same))
 
 pub lawful_label : (t : Layout) (name : List ℕ) → IsLawful t → AdmitsLabel t name → IsLawful (with_label t name)
-unfolding label_named initial_of slot_total thread_total
+unfolding label_named initial_of
 lawful_label t name h admits = record {
   few_labels = let size = length_push t.labels name in let room = admits.room in omega arith;
   label_names = All-push (λ label. is_name label ≡ true) t.labels name h.label_names admits.spelled;

@@ -1,17 +1,17 @@
--- A table whose last part was a label kept the rules without it, and admitted it.
+-- A table whose last item was a label kept the rules without it, and admitted it.
 use Rattle.std.proofs.Common.{◌≡◌, ◌≢◌, ℕ, true, List, arith}
 use Rattle.std.proofs.lemmas.List.{length_push}
 use Rattle.machine.specs.Layout.{Layout}
 use Rattle.words.specs.Name.{is_name}
 use Rattle.table.specs.Building.{AdmitsLabel, with_label}
 use Rattle.table.specs.Names.{label_named}
-use Rattle.table.specs.Parts.{BeforeObjects}
-use Rattle.table.specs.Rules.{IsLawful, IsObjectOf, IsCapOf, IsBindingOf, slot_total, thread_total}
+use Rattle.table.specs.Items.{BeforeObjects}
+use Rattle.table.specs.Rules.{IsLawful, IsObjectOf, IsCapOf, IsBindingOf}
 use Rattle.table.proofs.FrontLemmas.{all_front, pairs_front, all_of_none, no_place}
 
 pub label_removed :
     (t : Layout) (name : List ℕ) → BeforeObjects t → IsLawful (with_label t name) → IsLawful t × AdmitsLabel t name
-unfolding label_named slot_total thread_total
+unfolding label_named
 label_removed t name empty h =
     let size = length_push t.labels name in
     let names = all_front (λ label. is_name label ≡ true) t.labels name h.label_names in

@@ -11,11 +11,10 @@ use Rattle.machine.specs.declared.object.ObjectKind.{ObjectKind}
 use Rattle.machine.specs.Machine.{same_slot}
 use Rattle.machine.specs.Layout.{Layout, empty_layout, initial_of, initial_parent}
 use Rattle.machine.specs.Objects.{kind_of_object}
-use Rattle.table.specs.Rules.{kind_at, IsObjectOf, IsCapOf, IsBindingOf, IsLawful, slot_total, thread_total}
+use Rattle.table.specs.Rules.{kind_at, IsObjectOf, IsCapOf, IsBindingOf, IsLawful}
 use Rattle.table.proofs.ListLemmas.{no_pair}
 
 pub lawful_empty : IsLawful empty_layout
-unfolding slot_total thread_total
 lawful_empty = record {
   few_labels = omega arith;
   label_names = All-nil _;

@@ -2,6 +2,7 @@
 use Rattle.std.proofs.Common.{◌≡◌, ℕ, zero, suc, ◌-◌, ◌<◌, ◌≤◌, ◌⊎◌, Bool, false, List, [], ◌∷◌, ◌++◌, length, get_or, slice_get}
 use Rattle.std.proofs.Common.{Some, All, AllPairs, sym, ◌∙◌, subst, inl, inr, arith}
 use Rattle.std.proofs.lemmas.Bool.{false_from_ne_true, false≢true, cases_lt}
+use Rattle.std.proofs.lemmas.List.{get_or_past}
 use Rattle.std.proofs.lemmas.List.Folds.{list_any_at}
 use Rattle.std.proofs.lemmas.Option.{none-some, slice_get-get_or}
 use Rattle.std.specs.List.{list_any}
@@ -33,3 +34,14 @@ all_from_last R P down xs rising last k d within = by (cases_lt k (length xs - 1
   by : (k < length xs - 1) ⊎ (length xs - 1 ≤ k) → P (get_or xs k d)
   by (inl lower) = let lt : length xs - 1 < length xs = omega arith in down _ _ (rising k (length xs - 1) d lower lt) (at_last lt)
   by (inr upper) = let same : length xs - 1 ≡ k = omega arith in subst (λ i. P (get_or xs i d)) same (at_last (omega arith))
+
+-- a list that is lengthened by a value has it past the end too, where a look-up gives that value
+pub lengthened : {X : Type 0} (xs ys : List X) (d : X) (n : ℕ) → length ys ≡ n
+    → ((k : ℕ) → k < n → k < length xs → get_or ys k d ≡ get_or xs k d) → ((k : ℕ) → length xs ≤ k → k < n → get_or ys k d ≡ d)
+    → length xs ≤ n → (k : ℕ) → get_or ys k d ≡ get_or xs k d
+lengthened xs ys d n size same new longer k = by (cases_lt k (length xs)) (cases_lt k n) where
+  by : (k < length xs) ⊎ (length xs ≤ k) → (k < n) ⊎ (n ≤ k) → get_or ys k d ≡ get_or xs k d
+  by (inl old) (inl low) = same k low old
+  by (inl old) (inr high) = absurd (omega arith)
+  by (inr past) (inl low) = new k past low ∙ sym (get_or_past xs k d past)
+  by (inr past) (inr high) = get_or_past ys k d (omega arith) ∙ sym (get_or_past xs k d past)

@@ -7,6 +7,7 @@ use Rattle.std.proofs.lemmas.List.{length_push}
 use Rattle.std.proofs.lemmas.List.Elements.{All-push}
 use Rattle.std.proofs.lemmas.List.Quantifiers.{all_pairs_push}
 use Rattle.std.proofs.lemmas.List.Sums.{sum_by_push}
+use Rattle.base.specs.declared.limits.TheConstants.{MAX_OBJECTS, MAX_SLOTS, MAX_THREADS}
 use Rattle.machine.specs.declared.layout.Initial.{Initial}
 use Rattle.machine.specs.declared.object.Object.{Object}
 use Rattle.machine.specs.declared.object.Object.TheVariants as o
@@ -16,7 +17,7 @@ use Rattle.table.specs.Building.{AdmitsObject, has_room, is_free, has_control, r
 use Rattle.table.specs.Names.{object_named}
 use Rattle.words.specs.Name.{is_name}
 use Rattle.table.specs.Placement.{IsApart, meets}
-use Rattle.table.specs.Rules.{IsLawful, IsObjectOf, is_control_of, is_tcb, slot_total, thread_total}
+use Rattle.table.specs.Rules.{IsLawful, IsObjectOf, is_control_of, is_tcb, slots_in, threads_in}
 use Rattle.table.proofs.LabelAdded.{differs}
 use Rattle.table.proofs.LawfulKept.{objects_kept, Keeps, caps_kept, bindings_kept}
 use Rattle.table.proofs.ListLemmas.{not_any, slice_get-append_left}
@@ -50,20 +51,20 @@ keeps_initial t name initial id found e = slice_get-append_left t.objects (initi
 -- what room for an object says of the three counts
 within_limits :
     (objects slots more threads : ℕ) (thread : Bool)
-    → ((nat_lt objects 4096 && nat_le (slots + more) 65536) && (nat_lt threads 1024 || not thread)) ≡ true → threads ≤ 1024
-    → (objects < 4096) × (slots + more ≤ 65536) × (threads + cond thread 1 0 ≤ 1024)
+    → ((nat_lt objects MAX_OBJECTS && nat_le (slots + more) MAX_SLOTS) && (nat_lt threads MAX_THREADS || not thread)) ≡ true → threads ≤ MAX_THREADS
+    → (objects < MAX_OBJECTS) × (slots + more ≤ MAX_SLOTS) × (threads + cond thread 1 0 ≤ MAX_THREADS)
 within_limits objects slots more threads thread e few =
     let parts = and_parts _ _ e in
     let counts = and_parts _ _ parts.0 in
     (ltb-true _ _ counts.0, leb-true _ _ counts.1, more_threads thread parts.1) where
-      more_threads : (thread : Bool) → (nat_lt threads 1024 || not thread) ≡ true → threads + cond thread 1 0 ≤ 1024
+      more_threads : (thread : Bool) → (nat_lt threads MAX_THREADS || not thread) ≡ true → threads + cond thread 1 0 ≤ MAX_THREADS
       more_threads true e = grind (arith, nat_tests)
       more_threads false e = omega arith
 
 pub lawful_initial :
     (t : Layout) (name : List ℕ) (initial : Initial) → IsLawful t → AdmitsObject t name initial
     → IsLawful (with_initial t name initial)
-unfolding object_named slot_total thread_total has_room is_free has_control
+unfolding object_named has_room is_free has_control
 lawful_initial t name initial h admits = record {
   few_labels = h.few_labels;
   label_names = h.label_names;
@@ -103,10 +104,10 @@ lawful_initial t name initial h admits = record {
   contexts_differ = h.contexts_differ;
 } where
   limits :
-      (length t.objects < 4096) × (slot_total t + slot_count initial.object ≤ 65536)
-      × (thread_total t + cond (is_tcb initial.object) 1 0 ≤ 1024)
+      (length t.objects < MAX_OBJECTS) × (slots_in t.objects + slot_count initial.object ≤ MAX_SLOTS)
+      × (threads_in t.objects + cond (is_tcb initial.object) 1 0 ≤ MAX_THREADS)
   limits =
-      within_limits (length t.objects) (slot_total t) (slot_count initial.object) (thread_total t) (is_tcb initial.object)
+      within_limits (length t.objects) (slots_in t.objects) (slot_count initial.object) (threads_in t.objects) (is_tcb initial.object)
       admits.room h.few_threads
 
   other_core :

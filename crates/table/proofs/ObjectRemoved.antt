@@ -1,4 +1,4 @@
--- A table whose last part was an object kept the rules without it, and admitted it.
+-- A table whose last item was an object kept the rules without it, and admitted it.
 use Rattle.std.proofs.Common.{◌≡◌, ◌≢◌, ℕ, ◌+◌, ◌<◌, ◌≤◌, ◌⊎◌, inl, inr, Bool, true, false, cond, not, nat_lt, ◌||◌, List, length}
 use Rattle.std.proofs.Common.{get_or, refl, sym, ◌∙◌, arith}
 use Rattle.std.proofs.lemmas.Bool.{false_from_ne_true, false≢true, and_from, lt-ltb, le-leb, ltb-true, and_parts, cases_lt}
@@ -7,6 +7,7 @@ use Rattle.std.proofs.lemmas.Bool.Decides.{nat_tests}
 use Rattle.std.proofs.lemmas.List.{length_push}
 use Rattle.std.proofs.lemmas.List.Sums.{sum_by_push}
 use Rattle.std.proofs.lemmas.Nat.{pow_pos}
+use Rattle.base.specs.declared.limits.TheConstants.{MAX_OBJECTS, MAX_SLOTS, MAX_THREADS}
 use Rattle.machine.specs.declared.layout.Initial.{Initial}
 use Rattle.machine.specs.declared.object.Object.{Object}
 use Rattle.machine.specs.declared.object.Object.TheVariants as o
@@ -15,9 +16,9 @@ use Rattle.machine.specs.Objects.{address_of, end_of, slot_count}
 use Rattle.words.specs.Name.{is_name}
 use Rattle.table.specs.Building.{AdmitsObject, has_room, is_free, has_control, repeats_control, with_initial}
 use Rattle.table.specs.Names.{object_named}
-use Rattle.table.specs.Parts.{BeforeCaps}
+use Rattle.table.specs.Items.{BeforeCaps}
 use Rattle.table.specs.Placement.{IsApart, meets}
-use Rattle.table.specs.Rules.{IsLawful, IsObjectOf, IsCapOf, IsBindingOf, is_control_of, is_tcb, slot_total, thread_total}
+use Rattle.table.specs.Rules.{IsLawful, IsObjectOf, IsCapOf, IsBindingOf, is_control_of, is_tcb, slots_in, threads_in}
 use Rattle.table.proofs.FrontLemmas.{all_front, pairs_front, all_of_none, none_passes, no_place}
 use Rattle.table.proofs.LawfulKept.{objects_kept}
 use Rattle.table.proofs.NameLemmas.{is_some-option_map}
@@ -72,14 +73,14 @@ no_repeat t (o.Context _) differ = refl
 no_repeat t (o.Frame _) differ = refl
 
 -- a thread more is within the limit
-threads_fit : (threads : ℕ) (thread : Bool) → threads + cond thread 1 0 ≤ 1024 → (nat_lt threads 1024 || not thread) ≡ true
+threads_fit : (threads : ℕ) (thread : Bool) → threads + cond thread 1 0 ≤ MAX_THREADS → (nat_lt threads MAX_THREADS || not thread) ≡ true
 threads_fit threads true few = grind (arith, nat_tests)
 threads_fit threads false few = grind (arith, nat_tests)
 
 pub object_removed :
     (t : Layout) (name : List ℕ) (initial : Initial) → BeforeCaps t → IsLawful (with_initial t name initial)
     → IsLawful t × AdmitsObject t name initial
-unfolding object_named slot_total thread_total has_room is_free
+unfolding object_named has_room is_free
 object_removed t name initial empty h =
     let size = length_push t.objects initial in
     let named = length_push t.names name in
@@ -89,9 +90,9 @@ object_removed t name initial empty h =
     let fit = h.few_slots in
     let threads = sum_by_push (λ (i : Initial). cond (is_tcb i.object) 1 0) t.objects initial in
     let run = h.few_threads in
-    let within : length t.objects < 4096 = omega arith in
-    let fewer : slot_total t + slot_count initial.object ≤ 65536 = omega arith in
-    let alive : thread_total t + cond (is_tcb initial.object) 1 0 ≤ 1024 = omega arith in
+    let within : length t.objects < MAX_OBJECTS = omega arith in
+    let fewer : slots_in t.objects + slot_count initial.object ≤ MAX_SLOTS = omega arith in
+    let alive : threads_in t.objects + cond (is_tcb initial.object) 1 0 ≤ MAX_THREADS = omega arith in
     let names = all_front (λ other. is_name other ≡ true) t.names name h.object_names in
     let differ = pairs_front ◌≢◌ t.names name h.names_differ in
     let objects = all_front (IsObjectOf (with_initial t name initial)) t.objects initial h.objects in

@@ -1,7 +1,9 @@
--- Marks at the objects that some capability is for.
-use Rattle.std.specs.Prelude.{◌≡◌, Bool, false, List, slice_index_or}
-use Rattle.std.specs.List.{list_any}
+-- What is kept at each object's number: whether some capability is for the object, and which thread is bound to it (confine's
+-- own).
+use Rattle.std.specs.Prelude.{◌≡◌, Bool, false, List, Option, None, option_map, slice_index_or}
+use Rattle.std.specs.List.{find, list_any}
 use Rattle.base.specs.declared.ids.ObjId.{ObjId}
+use Rattle.machine.specs.declared.layout.Binding.{Binding}
 use Rattle.machine.specs.declared.layout.Filled.{Filled}
 use Rattle.machine.specs.Machine.{same_id}
 
@@ -9,3 +11,12 @@ use Rattle.machine.specs.Machine.{same_id}
 abbrev pub Marks : List Filled → List Bool → Type 0
 Marks caps marks =
     (object : ObjId) → slice_index_or marks object.0 false ≡ list_any (λ filled. same_id filled.cap.object object) caps
+
+-- the thread that a context is bound to
+abbrev pub thread_bound_to : List Binding → ObjId → Option ObjId
+thread_bound_to bindings context =
+    option_map (λ binding. binding.thread) (find (λ binding. same_id binding.context context) bindings)
+
+-- at the number of each context stands the thread that it is bound to, and none where it is bound to none
+abbrev pub IsOfThreads : List Binding → List (Option ObjId) → Type 0
+IsOfThreads bindings threads = (context : ObjId) → slice_index_or threads context.0 None ≡ thread_bound_to bindings context

@@ -1,11 +1,13 @@
 -- How a capability table is built up: what may be added to it, told by tests that a reader of tables makes, and the table with
--- that part added (confine's own).
+-- that item added (confine's own).
 use Rattle.std.specs.Prelude.{◌≡◌, ℕ, ◌+◌, ◌-◌, ◌^◌, ◌<◌, ◌≤◌, ◌&&◌, ◌||◌, Bool, true, false, not, nat_lt, nat_le, List, [], ◌∷◌}
 use Rattle.std.specs.Prelude.{◌++◌, length, Option, Some, None, slice_get, is_some}
 use Rattle.std.specs.List.{list_any}
 use Rattle.std.specs.Ordering.{is_lt}
 use Rattle.base.specs.declared.ids.ObjId.{ObjId}
 use Rattle.base.specs.declared.ids.SlotRef.{SlotRef}
+use Rattle.base.specs.declared.label.TheConstants.Label as Label
+use Rattle.base.specs.declared.limits.TheConstants.{ADDRESS_END, MAX_OBJECTS, MAX_SLOTS, MAX_THREADS}
 use Rattle.machine.specs.declared.cap.Cap.{Cap}
 use Rattle.machine.specs.declared.cap.Detail.{Detail}
 use Rattle.machine.specs.declared.cap.Detail.TheVariants as d
@@ -21,15 +23,15 @@ use Rattle.machine.specs.Objects.{slot_count, end_of}
 use Rattle.table.specs.Names.{label_named, object_named}
 use Rattle.words.specs.Name.{is_name}
 use Rattle.table.specs.Placement.{is_aligned, meets}
-use Rattle.table.specs.Rules.{IsBlank, is_control_of, is_tcb, kind_at, slot_total, thread_total}
+use Rattle.table.specs.Rules.{IsBlank, is_control_of, is_tcb, kind_at, slots_in, threads_in}
 
 -- the tests
 
--- whether one object more stays within the limits: 4,096 objects, 65,536 slots and 1,024 threads
+-- whether one object more stays within the limits of objects, slots and threads
 unfoldable pub has_room : Layout → Object → Bool
 has_room t object =
-    (nat_lt (length t.objects) 4096 && nat_le (slot_total t + slot_count object) 65536)
-    && (nat_lt (thread_total t) 1024 || not (is_tcb object))
+    (nat_lt (length t.objects) MAX_OBJECTS && nat_le (slots_in t.objects + slot_count object) MAX_SLOTS)
+    && (nat_lt (threads_in t.objects) MAX_THREADS || not (is_tcb object))
 
 -- whether an object overlaps none of the table's
 unfoldable pub is_free : Layout → Object → Bool
@@ -123,7 +125,7 @@ is_bound t context = list_any (λ binding. same_id binding.context context) t.bi
 pub record AdmitsLabel (t : Layout) (name : List ℕ) : Type 0 where
   pub spelled : is_name name ≡ true
   pub fresh : is_some (label_named t name) ≡ false
-  pub room : length t.labels < 64
+  pub room : length t.labels < Label.COUNT
 
 pub record AdmitsObject (t : Layout) (name : List ℕ) (initial : Initial) : Type 0 where
   pub spelled : is_name name ≡ true
@@ -132,7 +134,7 @@ pub record AdmitsObject (t : Layout) (name : List ℕ) (initial : Initial) : Typ
   pub blank : IsBlank initial.object
   pub controls : repeats_control t initial.object ≡ false
   pub room : has_room t initial.object ≡ true
-  pub end : end_of initial.object ≤ 2 ^ 48
+  pub end : end_of initial.object ≤ ADDRESS_END
   pub aligned : is_aligned initial.object ≡ true
   pub free : is_free t initial.object ≡ true
 
@@ -150,7 +152,7 @@ pub record AdmitsBinding (t : Layout) (binding : Binding) : Type 0 where
   pub context : kind_at t binding.context ≡ Some kind.Context
   pub once : is_bound t binding.context ≡ false
 
--- the table with one part more, which goes last
+-- the table with one item more, which goes last
 
 abbrev pub with_label : Layout → List ℕ → Layout
 with_label t name = record t { labels = t.labels ++ name ∷ [] }

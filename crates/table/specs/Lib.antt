@@ -4,4 +4,4 @@ pub mod Rules
 pub mod Building
 pub mod Inventory
 pub mod Aims
-pub mod Parts
+pub mod Items

@@ -1,9 +1,12 @@
 -- The rules that a capability table keeps: how it names things, what its objects are like at boot and where they lie, which
 -- slots it fills and with what, and which threads it binds to contexts (compare the seL4 manual, "Bootstrapping").
-use Rattle.std.specs.Prelude.{⊤, ◌≡◌, ◌≢◌, ℕ, ◌+◌, ◌^◌, ◌<◌, ◌≤◌, ◌==◌, Bool, true, false, [], length, Option, Some, None}
+use Rattle.std.specs.Prelude.{⊤, ◌≡◌, ◌≢◌, ℕ, ◌+◌, ◌^◌, ◌<◌, ◌≤◌, ◌==◌, Bool, true, false, List, [], length, Option, Some, None}
 use Rattle.std.specs.Prelude.{option_map, All, AllPairs, sum_by, count_by}
 use Rattle.std.specs.declared.cmp.Ordering.TheVariants.{Less}
+use Rattle.base.specs.declared.core_number.TheConstants.CoreNo as CoreNo
 use Rattle.base.specs.declared.ids.ObjId.{ObjId}
+use Rattle.base.specs.declared.label.TheConstants.Label as Label
+use Rattle.base.specs.declared.limits.TheConstants.{ADDRESS_END, MAX_OBJECTS, MAX_PERIOD, MAX_RADIX, MAX_SLOTS, MAX_THREADS}
 use Rattle.machine.specs.declared.cap.Detail.{Detail}
 use Rattle.machine.specs.declared.cap.Detail.TheVariants as d
 use Rattle.machine.specs.declared.layout.Binding.{Binding}
@@ -34,19 +37,19 @@ IsAtRest _ = ⊥
 -- a context is not configured yet, or has a share within the limits
 abbrev pub IsWithinLimits : Option Share → Type 0
 IsWithinLimits None = ⊤
-IsWithinLimits (Some share) = (1 ≤ share.budget) × (share.budget ≤ share.period) × (share.period ≤ 3600000000) × (share.core < 16)
+IsWithinLimits (Some share) = (1 ≤ share.budget) × (share.budget ≤ share.period) × (share.period ≤ MAX_PERIOD) × (share.core < CoreNo.COUNT)
 
 -- an object as it is at boot: nothing made of it, nothing queued, received, pending or bound
 abbrev pub IsBlank : Object → Type 0
 IsBlank (o.Untyped memory) = (4 ≤ memory.bits) × (memory.bits ≤ 47) × (memory.watermark ≡ memory.base)
-IsBlank (o.CNode node) = (0 < node.radix) × (node.radix ≤ 12)
+IsBlank (o.CNode node) = (0 < node.radix) × (node.radix ≤ MAX_RADIX)
 IsBlank (o.Tcb thread) = IsAtRest thread.state × (thread.inbox ≡ inbox.Empty) × (thread.context ≡ None)
 IsBlank (o.Endpoint _) = ⊤
 IsBlank (o.Notification notification) = notification.pending ≡ None
 IsBlank (o.Reply answer) = answer.state ≡ reply.Free
 IsBlank (o.Context context) = IsWithinLimits context.share × (context.thread ≡ None)
 IsBlank (o.Frame _) = ⊤
-IsBlank (o.Control control) = control.core < 16
+IsBlank (o.Control control) = control.core < CoreNo.COUNT
 
 -- a capability's detail fits its object: it is of the object's kind, has only rights that the kind knows, and a guard that leaves
 -- room for the radix
@@ -75,20 +78,20 @@ is_tcb _ = false
 unfoldable pub kind_at : Layout → ObjId → Option ObjectKind
 kind_at t id = option_map (λ initial. kind_of_object initial.object) (initial_of t id)
 
--- how many slots the table's objects have
-unfoldable pub slot_total : Layout → ℕ
-slot_total t = sum_by (λ initial. slot_count initial.object) t.objects
+-- how many slots objects have
+abbrev pub slots_in : List Initial → ℕ
+slots_in objects = sum_by (λ initial. slot_count initial.object) objects
 
--- how many threads the table has
-unfoldable pub thread_total : Layout → ℕ
-thread_total t = count_by (λ initial. is_tcb initial.object) t.objects
+-- how many of the objects are threads
+abbrev pub threads_in : List Initial → ℕ
+threads_in objects = count_by (λ initial. is_tcb initial.object) objects
 
 -- an object that the table may declare
 pub record IsObjectOf (t : Layout) (initial : Initial) : Type 0 where
   pub label : initial.label < length t.labels
   pub blank : IsBlank initial.object
   pub aligned : is_aligned initial.object ≡ true
-  pub end : end_of initial.object ≤ 2 ^ 48
+  pub end : end_of initial.object ≤ ADDRESS_END
 
 -- a slot that the table may fill, and a capability for it
 pub record IsCapOf (t : Layout) (filled : Filled) : Type 0 where
@@ -110,15 +113,15 @@ pub record IsBindingOf (t : Layout) (binding : Binding) : Type 0 where
 
 -- what every capability table keeps
 pub record IsLawful (t : Layout) : Type 0 where
-  pub few_labels : length t.labels ≤ 64
+  pub few_labels : length t.labels ≤ Label.COUNT
   pub label_names : All (λ name. is_name name ≡ true) t.labels
   pub labels_differ : AllPairs (λ one other. one ≢ other) t.labels
   pub object_names : All (λ name. is_name name ≡ true) t.names
   pub names_differ : AllPairs (λ one other. one ≢ other) t.names
   pub each_named : length t.names ≡ length t.objects
-  pub few_objects : length t.objects ≤ 4096
-  pub few_slots : slot_total t ≤ 65536
-  pub few_threads : thread_total t ≤ 1024
+  pub few_objects : length t.objects ≤ MAX_OBJECTS
+  pub few_slots : slots_in t.objects ≤ MAX_SLOTS
+  pub few_threads : threads_in t.objects ≤ MAX_THREADS
   pub objects : All (IsObjectOf t) t.objects
   pub objects_apart : AllPairs (λ one other. IsApart one.object other.object) t.objects
   pub controls_differ :

@@ -1,5 +1,6 @@
-ghost use Rattle.std.specs.Prelude.{◌≡◌, ◌<◌, ◌^◌, ◌++◌, ◌∷◌, [], OnOk, OnErr};
+ghost use Rattle.std.specs.Prelude.{◌≡◌, ◌<◌, ◌++◌, ◌∷◌, [], OnOk, OnErr};
 ghost use Rattle.std.specs.List.{list_any};
+ghost use Rattle.base.specs.declared.limits.TheConstants.{OBJECT_NUMBERS};
 ghost use Rattle.machine.specs.Machine.{same_id};
 
 use base::ObjId;
@@ -57,7 +58,7 @@ impl Caps {
 
     /// Adds a filled slot.
     pub fn add(&mut self, filled: Filled) -> Result<(), AllocError>
-        requires { filled.cap.object.0 < 2 ^ 48 }
+        requires { filled.cap.object.0 < OBJECT_NUMBERS }
         ensures ok { OnOk result (self.new ≡ self.old ++ filled ∷ []) }
         ensures err { OnErr result (self.new ≡ self.old) }
     {

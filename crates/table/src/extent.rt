@@ -1,4 +1,4 @@
-ghost use Rattle.std.specs.Prelude.{◌≡◌, ◌≤◌, ◌<◌, ◌^◌, ◌∷◌, false, length, nat_le, vec_len};
+ghost use Rattle.std.specs.Prelude.{◌≡◌, ◌≤◌, ◌<◌, ◌∷◌, false, length, nat_le, vec_len};
 ghost use Rattle.std.specs.List.{list_any};
 ghost use Rattle.std.specs.List.Sorted.{IsPartitionPoint, IsPermutation};
 ghost use Rattle.std.specs.Vec.{vec_capacity};
@@ -6,6 +6,7 @@ ghost use Rattle.machine.specs.Objects.{address_of, end_of, size_bits};
 ghost use Rattle.table.specs.Placement.{AreApart, touches};
 ghost use Rattle.table.specs.Placement as placement;
 
+use base::{ADDRESS_BITS, ADDRESS_END};
 use machine::Object;
 
 /// The addresses from `start` on and below `end`.
@@ -18,7 +19,7 @@ pub struct Extent {
 impl Extent {
     /// The addresses of an object.
     pub fn of(object: &Object) -> Extent
-        requires { end_of object.now ≤ 2 ^ 48 }
+        requires { end_of object.now ≤ ADDRESS_END }
         ensures start { result.start ≡ address_of object.now }
         ensures end { result.end ≡ end_of object.now }
         ensures upward { result.start ≤ result.end }
@@ -73,19 +74,19 @@ fn count_below(rising: &[Extent], address: u64) -> usize
     rising.partition_point(|other| other.start < address)
 }
 
-/// Whether all addresses of an object are below `2^48`.
+/// Whether all addresses of an object are below [`ADDRESS_END`].
 pub fn is_addressable(object: &Object) -> bool
-    ensures { result ≡ nat_le (end_of object.now) (2 ^ 48) }
+    ensures { result ≡ nat_le (end_of object.now) ADDRESS_END }
 {
     match size_bits(object) {
         None => true,
-        Some(bits) => bits <= 48 && address(object) <= (1 << 48) - (1 << bits),
+        Some(bits) => bits <= ADDRESS_BITS && address(object) <= ADDRESS_END - (1 << bits),
     }
 }
 
 /// Whether an object's address is a multiple of its size.
 pub fn is_aligned(object: &Object) -> bool
-    requires { end_of object.now ≤ 2 ^ 48 }
+    requires { end_of object.now ≤ ADDRESS_END }
     ensures { result ≡ placement.is_aligned object.now }
 {
     match size_bits(object) {

@@ -1,9 +1,10 @@
 //! Capability tables: which labels, objects, capabilities and bindings a system starts with.
 //!
-//! A [`Table`] is built up part by part, and keeps the rules of capability tables from the first
-//! part on. A contract sees it as a `Layout`.
+//! A [`Table`] is built up item by item, and keeps the rules of capability tables from the first
+//! item on. A contract sees it as a `Layout`.
 #![tactic(auto)]
 
+mod bindings;
 mod boot_law;
 mod caps;
 mod extent;

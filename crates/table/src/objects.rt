@@ -1,4 +1,4 @@
-ghost use Rattle.std.specs.Prelude.{◌≡◌, ◌≤◌, ◌<◌, ◌+◌, ◌^◌, ◌++◌, ◌∷◌, [], length, true, slice_get, position, is_some, not};
+ghost use Rattle.std.specs.Prelude.{◌≡◌, ◌≤◌, ◌<◌, ◌+◌, ◌++◌, ◌∷◌, [], length, true, slice_get, position, is_some, not};
 ghost use Rattle.std.specs.Prelude.{false, vec_len, OnOk, OnErr, if◌then◌else◌};
 ghost use Rattle.std.specs.List.{list_any};
 ghost use Rattle.std.specs.Option.{option_copied};
@@ -6,8 +6,8 @@ ghost use Rattle.std.specs.Str.{bytes_eq};
 ghost use Rattle.std.specs.Vec.{vec_capacity};
 ghost use Rattle.machine.specs.Objects.{end_of, slot_count};
 ghost use Rattle.table.specs.Placement.{meets};
-ghost use Rattle.table.specs.Rules.{is_tcb};
-ghost use Rattle.table.specs.Inventory.{slots_of, threads_of};
+ghost use Rattle.base.specs.declared.limits.TheConstants.{ADDRESS_END, MAX_SLOTS, MAX_THREADS};
+ghost use Rattle.table.specs.Rules.{is_tcb, slots_in, threads_in};
 
 use crate::extent::{Extent, insert_within, meets_any};
 use crate::names::Names;
@@ -29,8 +29,9 @@ pub struct Objects {
 impl Model for Objects {
     ghost use Rattle.std.specs.Prelude.{◌≡◌, length, map};
     ghost use Rattle.std.specs.List.Sorted.{IsPermutation};
-    ghost use Rattle.table.specs.Inventory.{Inventory, extent_of, slots_of, threads_of};
+    ghost use Rattle.table.specs.Inventory.{Inventory, extent_of};
     ghost use Rattle.table.specs.Placement.{AreApart};
+    ghost use Rattle.table.specs.Rules.{slots_in, threads_in};
 
     ghost Value = { Inventory };
 
@@ -40,8 +41,8 @@ impl Model for Objects {
       named : length o.names ≡ length o.items.items;
       extents : IsPermutation (map (λ initial. extent_of initial.object) o.items.items) o.extents.items;
       apart : AreApart o.extents.items;
-      slots : o.slots ≡ slots_of o.items.items;
-      threads : o.threads ≡ threads_of o.items.items;
+      slots : o.slots ≡ slots_in o.items.items;
+      threads : o.threads ≡ threads_in o.items.items;
     } };
 }
 
@@ -93,21 +94,21 @@ impl Objects {
 
     /// How many slots the objects have.
     pub fn slots(&self) -> u64
-        ensures { result ≡ slots_of self.now.objects }
+        ensures { result ≡ slots_in self.now.objects }
     {
         self.slots
     }
 
     /// How many of the objects are threads.
     pub fn threads(&self) -> u64
-        ensures { result ≡ threads_of self.now.objects }
+        ensures { result ≡ threads_in self.now.objects }
     {
         self.threads
     }
 
     /// Whether an object overlaps none of these.
     pub fn is_free(&self, object: &Object) -> bool
-        requires { end_of object.now ≤ 2 ^ 48 }
+        requires { end_of object.now ≤ ADDRESS_END }
         ensures { result ≡ not (list_any (λ initial. meets initial.object object.now) self.now.objects) }
     {
         !meets_any(self.extents.as_slice(), &Extent::of(object))
@@ -116,10 +117,10 @@ impl Objects {
     /// Adds an object under a new name.
     pub fn add(&mut self, name: &str, initial: Initial) -> Result<(), AllocError>
         requires fresh { is_some (position (λ other. bytes_eq name.now other) self.old.names) ≡ false }
-        requires end { end_of initial.object ≤ 2 ^ 48 }
+        requires end { end_of initial.object ≤ ADDRESS_END }
         requires free { not (list_any (λ other. meets other.object initial.object) self.old.objects) ≡ true }
-        requires slots { slots_of self.old.objects + slot_count initial.object ≤ 65536 }
-        requires threads { threads_of self.old.objects + (if is_tcb initial.object then 1 else 0) ≤ 1024 }
+        requires slots { slots_in self.old.objects + slot_count initial.object ≤ MAX_SLOTS }
+        requires threads { threads_in self.old.objects + (if is_tcb initial.object then 1 else 0) ≤ MAX_THREADS }
         ensures names { OnOk result (self.new.names ≡ self.old.names ++ name.now ∷ []) }
         ensures objects { OnOk result (self.new.objects ≡ self.old.objects ++ initial ∷ []) }
         ensures err { OnErr result (self.new ≡ self.old) }

@@ -1,21 +1,21 @@
-ghost use Rattle.std.specs.Prelude.{◌≡◌, ◌≤◌, ◌<◌, ◌^◌, AllPairs, length, slice_get, is_some, IfSome, OnOk, OnErr};
+ghost use Rattle.std.specs.Prelude.{◌≡◌, ◌≤◌, ◌<◌, AllPairs, length, slice_get, is_some, IfSome, OnOk, OnErr};
 ghost use Rattle.std.specs.List.{list_any, find};
-ghost use Rattle.std.specs.declared.cmp.Ordering.TheVariants.{Less};
 ghost use Rattle.std.specs.Option.{option_copied};
-ghost use Rattle.machine.specs.Layout.{empty_layout, initial_of, initial_cap, initial_parent, bound_context, bound_thread};
-ghost use Rattle.machine.specs.Machine.{same_id, same_slot, slot_cmp};
+ghost use Rattle.machine.specs.Layout.{empty_layout, initial_of, bound_context, bound_thread};
+ghost use Rattle.machine.specs.Machine.{same_id};
 ghost use Rattle.machine.specs.Objects.{end_of};
 ghost use Rattle.table.specs.Names.{label_named, object_named};
-ghost use Rattle.table.specs.Rules.{kind_at, slot_total, thread_total, is_control_of, IsLawful};
+ghost use Rattle.table.specs.Rules.{kind_at, is_control_of, IsLawful};
 ghost use Rattle.table.specs.Building.{has_room, is_free, has_control, declares_slot, last_cap, is_above_caps, may_hold, fits};
 ghost use Rattle.table.specs.Building.{is_fitting, has_cap_to, last_binding, is_above_bindings, is_bound};
 ghost use Rattle.table.specs.Building.{AdmitsLabel, AdmitsObject, AdmitsCap, AdmitsBinding};
 ghost use Rattle.table.specs.Building.{with_label, with_initial, with_filled, with_binding};
 
+use crate::bindings::Bindings;
 use crate::caps::Caps;
 use crate::names::Names;
 use crate::objects::Objects;
-use base::{CoreNo, Label, ObjId, SlotRef};
+use base::{ADDRESS_END, CoreNo, Label, MAX_OBJECTS, MAX_SLOTS, MAX_THREADS, ObjId, SlotRef};
 use bitflags::Flags;
 use machine::{Binding, Cap, Detail, Filled, Initial, Object, ObjectKind, Pair};
 use std::alloc::{AllocError, Global};
@@ -23,7 +23,7 @@ use std::marker::Model;
 
 /// A capability table: what a system starts with.
 ///
-/// Labels and objects are numbered from 0 in the order in which they were added. Parts are added in
+/// Labels and objects are numbered from 0 in the order in which they were added. Items are added in
 /// the order of a table's text: labels, objects, capabilities, bindings.
 #[derive(Drop)]
 pub struct Table {
@@ -31,7 +31,7 @@ pub struct Table {
     objects: Objects,
     caps: Caps,
     pairs: Vec<Pair>,
-    bindings: Vec<Binding>,
+    bindings: Bindings,
 }
 
 impl Model for Table {
@@ -46,7 +46,7 @@ impl Model for Table {
       objects = t.objects.objects;
       caps = t.caps;
       pairs = t.pairs.items;
-      bindings = t.bindings.items;
+      bindings = t.bindings;
     } };
 
     ghost invariant = { λ t. IsLawful (record {
@@ -55,18 +55,11 @@ impl Model for Table {
       objects = t.objects.objects;
       caps = t.caps;
       pairs = t.pairs.items;
-      bindings = t.bindings.items;
+      bindings = t.bindings;
     }) };
 }
 
 impl Table {
-    /// How many objects there can be.
-    pub const MAX_OBJECTS: usize = 4096;
-    /// How many slots the objects can have.
-    pub const MAX_SLOTS: u64 = 65536;
-    /// How many of the objects can be threads.
-    pub const MAX_THREADS: u64 = 1024;
-
     /// The table that says nothing.
     pub fn new(alloc: Global) -> Table
         ensures { result ≡ empty_layout }
@@ -76,7 +69,7 @@ impl Table {
             objects: Objects::new(alloc),
             caps: Caps::new(alloc),
             pairs: Vec::new(alloc),
-            bindings: Vec::new(alloc),
+            bindings: Bindings::new(alloc),
         }
     }
 
@@ -104,7 +97,7 @@ impl Table {
         Label::new(number as u8)
     }
 
-    /// How many objects there are, at most [`Table::MAX_OBJECTS`].
+    /// How many objects there are, at most [`MAX_OBJECTS`].
     pub fn object_count(&self) -> usize
         ensures { result ≡ length self.now.objects }
     {
@@ -155,38 +148,20 @@ impl Table {
         self.objects.as_slice()
     }
 
-    /// How many slots the objects have, at most [`Table::MAX_SLOTS`].
-    #[tactic(auto, unfolding(crate::specs::Rules::slot_total))]
-    pub fn slot_count(&self) -> u64
-        ensures total { result ≡ slot_total self.now }
-        ensures most { result ≤ 65536 }
-    {
-        self.objects.slots()
-    }
-
-    /// How many of the objects are threads, at most [`Table::MAX_THREADS`].
-    #[tactic(auto, unfolding(crate::specs::Rules::thread_total))]
-    pub fn thread_count(&self) -> u64
-        ensures total { result ≡ thread_total self.now }
-        ensures most { result ≤ 1024 }
-    {
-        self.objects.threads()
-    }
-
     /// Whether one object more stays within the limits.
-    #[tactic(auto, unfolding(crate::specs::Building::has_room, crate::specs::Rules::slot_total, crate::specs::Rules::thread_total))]
+    #[tactic(auto, unfolding(crate::specs::Building::has_room))]
     pub fn has_room(&self, object: &Object) -> bool
         ensures { result ≡ has_room self.now object.now }
     {
-        self.object_count() < Table::MAX_OBJECTS
-            && object.slot_count() <= Table::MAX_SLOTS - self.objects.slots()
-            && (self.objects.threads() < Table::MAX_THREADS || !matches!(object, Object::Tcb(_)))
+        self.object_count() < MAX_OBJECTS
+            && object.slot_count() <= MAX_SLOTS - self.objects.slots()
+            && (self.objects.threads() < MAX_THREADS || !matches!(object, Object::Tcb(_)))
     }
 
     /// Whether an object overlaps none of the table's.
     #[tactic(auto, unfolding(crate::specs::Building::is_free))]
     pub fn is_free(&self, object: &Object) -> bool
-        requires { end_of object.now ≤ 2 ^ 48 }
+        requires { end_of object.now ≤ ADDRESS_END }
         ensures { result ≡ is_free self.now object.now }
     {
         self.objects.is_free(object)
@@ -224,15 +199,6 @@ impl Table {
         ensures { result ≡ last_cap self.now }
     {
         self.caps.as_slice().last().copied()
-    }
-
-    /// The capability in a slot.
-    #[tactic(auto, unfolding(machine::specs::Layout::initial_cap))]
-    pub fn cap(&self, slot: SlotRef) -> Option<Cap>
-        ensures { result ≡ initial_cap self.now slot }
-    {
-        let filled = filled_at(self.caps.as_slice(), slot)?;
-        Some(filled.cap)
     }
 
     /// Whether a slot is above those that the table fills.
@@ -286,15 +252,6 @@ impl Table {
         self.pairs.as_slice()
     }
 
-    /// The slot that a slot's capability was derived from.
-    #[tactic(auto, unfolding(machine::specs::Layout::initial_parent))]
-    pub fn parent(&self, slot: SlotRef) -> Option<SlotRef>
-        ensures { result ≡ initial_parent self.now slot }
-    {
-        let pair = pair_of(self.pairs.as_slice(), slot)?;
-        Some(pair.parent)
-    }
-
     /// The bound threads with their contexts, rising by thread.
     pub fn bindings(&self) -> &[Binding]
         ensures bindings { result.now ≡ self.now.bindings }
@@ -307,7 +264,7 @@ impl Table {
     pub fn last_binding(&self) -> Option<Binding>
         ensures { result ≡ last_binding self.now }
     {
-        self.bindings.last().copied()
+        self.bindings.as_slice().last().copied()
     }
 
     /// The context that a thread is bound to.
@@ -315,7 +272,7 @@ impl Table {
     pub fn bound_context(&self, thread: ObjId) -> Option<ObjId>
         ensures { result ≡ bound_context self.now thread }
     {
-        let binding = binding_of_thread(self.bindings.as_slice(), thread)?;
+        let binding = binding_of(self.bindings.as_slice(), thread)?;
         Some(binding.context)
     }
 
@@ -324,8 +281,7 @@ impl Table {
     pub fn bound_thread(&self, context: ObjId) -> Option<ObjId>
         ensures { result ≡ bound_thread self.now context }
     {
-        let binding = binding_of_context(self.bindings.as_slice(), context)?;
-        Some(binding.thread)
+        self.bindings.thread(context)
     }
 
     /// Whether a thread is above those that the table binds.
@@ -333,18 +289,18 @@ impl Table {
     pub fn is_above_bindings(&self, thread: ObjId) -> bool
         ensures { result ≡ is_above_bindings self.now thread }
     {
-        match self.bindings.last() {
+        match self.bindings.as_slice().last() {
             Some(last) => last.thread.0 < thread.0,
             None => true,
         }
     }
 
     /// Whether a context is bound to a thread.
-    #[tactic(auto, unfolding(crate::specs::Building::is_bound))]
+    #[tactic(auto, using(crate::proofs::BindingAdded::has_thread), unfolding(crate::specs::Building::is_bound))]
     pub fn is_bound(&self, context: ObjId) -> bool
         ensures { result ≡ is_bound self.now context }
     {
-        is_taken(self.bindings.as_slice(), context)
+        self.bindings.thread(context).is_some()
     }
 
     /// Adds a label.
@@ -359,7 +315,7 @@ impl Table {
     }
 
     /// Adds an object under a name.
-    #[tactic(auto, unfolding(crate::specs::Names::object_named, crate::specs::Building::has_room, crate::specs::Building::is_free, crate::specs::Rules::slot_total, crate::specs::Rules::thread_total))]
+    #[tactic(auto, unfolding(crate::specs::Names::object_named, crate::specs::Building::has_room, crate::specs::Building::is_free))]
     pub fn add_object(&mut self, name: &str, initial: Initial) -> Result<(), AllocError>
         requires { AdmitsObject self.old name.now initial }
         ensures ok { OnOk result (self.new ≡ with_initial self.old name.now initial) }
@@ -385,7 +341,7 @@ impl Table {
         ensures ok { OnOk result (self.new ≡ with_binding self.old binding) }
         ensures err { OnErr result (self.new ≡ self.old) }
     {
-        self.bindings.push(binding)?;
+        self.bindings.add(binding)?;
         Ok(())
     }
 }
@@ -426,46 +382,13 @@ fn fits(object: &Object, detail: &Detail) -> bool
     }
 }
 
-fn is_taken(bindings: &[Binding], context: ObjId) -> bool
-    ensures { result ≡ list_any (λ binding. same_id binding.context context) bindings.now }
+/// The binding of a thread among those that rise by thread.
+fn binding_of(bindings: &[Binding], thread: ObjId) -> Option<Binding>
+    requires { AllPairs (λ one other. one.thread.0 < other.thread.0) bindings.now }
+    ensures { result ≡ find (λ binding. same_id binding.thread thread) bindings.now }
 {
-    bindings.iter().any(|binding| binding.context == context)
-}
-
-/// The filled slot among rising ones that is this slot.
-fn filled_at(caps: &[Filled], slot: SlotRef) -> Option<Filled>
-    requires { AllPairs (λ one other. slot_cmp one.slot other.slot ≡ Less) caps.now }
-    ensures { result ≡ find (λ filled. same_slot filled.slot slot) caps.now }
-{
-    match caps.binary_search_by_key(&slot, |filled| filled.slot) {
-        Ok(index) => Some(caps[index]),
+    match bindings.binary_search_by_key(&thread, |binding| binding.thread) {
+        Ok(index) => Some(bindings[index]),
         Err(_) => None,
     }
 }
-
-fn pair_of(pairs: &[Pair], child: SlotRef) -> Option<Pair>
-    ensures { result ≡ find (λ pair. same_slot pair.child child) pairs.now }
-{
-    pairs.iter().copied().find(|pair| pair.child == child)
-}
-
-fn binding_of_thread(bindings: &[Binding], thread: ObjId) -> Option<Binding>
-    ensures { result ≡ find (λ binding. same_id binding.thread thread) bindings.now }
-{
-    bindings
-        .iter()
-        .copied()
-        .find(|binding| binding.thread == thread)
-}
-
-fn binding_of_context(bindings: &[Binding], context: ObjId) -> Option<Binding>
-    ensures { result ≡ find (λ binding. same_id binding.context context) bindings.now }
-{
-    bindings
-        .iter()
-        .copied()
-        .find(|binding| binding.context == context)
-}
-
-#[cfg(test)]
-mod tests;

@@ -84,10 +84,5 @@ dec_again n h =
     let test = and_from _ _ (no_leading_zero-decimal n h) (digits_decimal own n h) in
     cond-true _ _ _ test ∙ ap (λ m. below_limit m) (digits_value-decimal own n h) ∙ limited n h
 
--- so a word that isn't decimal is no number's text
-pub not_a_number : (word : List ℕ) → is_decimal word ≡ false → (n : ℕ) → n < 2 ^ 64 → word ≡ decimal n → None ≡ Some n
-not_a_number word h n small e =
-    sym (not_decimal word h) ∙ ap (λ w. dec_of w) e ∙ dec_again n small
-
 -- what reading a decimal word needs
-pub ruleset decimal_laws = (not_decimal, decimal_is_text, parsed, dec_takes, dec_again, not_a_number)
+pub ruleset decimal_laws = (not_decimal, decimal_is_text, parsed)

@@ -6,9 +6,9 @@ use Rattle.words.specs.declared.faults.Wrong.{Wrong}
 use Rattle.words.specs.declared.faults.Wrong.TheVariants.{Syntax, UnknownName, Double, Misplaced, Limit, WrongKind, Tree}
 use Rattle.words.specs.declared.faults.Fault.{Fault}
 use Rattle.words.specs.Fault.{fault_at, no_memory, number_of}
-use Rattle.words.specs.FirstFault.{ended, BeginsWith, IsGoodUpTo, IsText, IsFirstFault, TellsFirst, Line, TextLines, no_header, no_line, no_step, no_end}
+use Rattle.words.specs.FirstFault.{ended, HasHeader, IsGoodUpTo, IsText, IsFirstFault, TellsFirst, Line, TextLines, no_header, no_line, no_step, no_end}
 use Rattle.words.specs.Reading.{bind, last_line, header_at, end_at, at_line, read_lines, read_text, as_it_is, steps, Reads}
-use Rattle.words.specs.Text.{line_is, IsOver, Place}
+use Rattle.words.specs.Text.{line_is, IsOver, Progress}
 use Rattle.words.proofs.ReadingLaws.{at_step, no_more}
 use Rattle.words.proofs.Splits.{line_same, same_line}
 use Rattle.words.proofs.WordLaws.{bind_ok}
@@ -45,7 +45,7 @@ not_last line other = by_test (line_is line last_line) refl
     by_test false same = refl
 
 -- good lines are read, and what comes after them is read on
-pub goes_through : {S T : Type 0} (step : S → Line → Result S Wrong) (finish : S → Place → Result T Fault) (taken : ℕ)
+pub goes_through : {S T : Type 0} (step : S → Line → Result S Wrong) (finish : S → Progress → Result T Fault) (taken : ℕ)
     (s state : S) (body : List Line) (rest : TextLines)
     → AllByRecursion (λ line. line ≢ last_line) body → steps step s body ≡ Ok state
     → read_lines step finish taken s (ended body ++ rest) ≡ read_lines step finish (taken + length body) state rest
@@ -68,7 +68,7 @@ header_again : (header : Line) (lines : TextLines)
 unfolding header_at
 header_again header lines = cond-true _ _ _ (same_line header)
 
-pub good_text : {S T : Type 0} (header : Line) (step : S → Line → Result S Wrong) (finish : S → Place → Result T Fault)
+pub good_text : {S T : Type 0} (header : Line) (step : S → Line → Result S Wrong) (finish : S → Progress → Result T Fault)
     (start state : S) (lines : TextLines) (body : List Line) (rest : TextLines)
     → IsGoodUpTo header step start lines body state rest
     → read_text header step finish start lines ≡ read_lines step finish (length body + 1) state rest
@@ -82,7 +82,7 @@ good_text header step finish start state lines body rest good =
 
 -- the four faults
 
-without_header : (header : Line) (lines : TextLines) → ¬ BeginsWith header lines
+without_header : (header : Line) (lines : TextLines) → ¬ HasHeader header lines
     → header_at header (record { taken = 0; lines = lines }) ≡ Err (fault_at 1 Syntax)
 unfolding header_at
 without_header header [] other = refl
@@ -90,14 +90,14 @@ without_header header (None ∷ lines) other = refl
 without_header header (Some line ∷ lines) other = by_test (line_is line header) refl
   where
     by_test : (same : Bool) → line_is line header ≡ same
-        → ◌≡◌ {A = Result Place Fault} (cond same (Ok (record {
+        → ◌≡◌ {A = Result Progress Fault} (cond same (Ok (record {
           taken = 1;
           lines = lines;
         })) (Err (fault_at 1 Syntax))) (Err (fault_at 1 Syntax))
     by_test true same = absurd (other (lines, ap (λ l. Some l ∷ lines) (line_same line header same)))
     by_test false same = refl
 
-stops_at : {S T : Type 0} (step : S → Line → Result S Wrong) (finish : S → Place → Result T Fault) (taken : ℕ) (s : S)
+stops_at : {S T : Type 0} (step : S → Line → Result S Wrong) (finish : S → Progress → Result T Fault) (taken : ℕ) (s : S)
     (line : Line) (lines : TextLines) (wrong : Wrong)
     → line ≢ last_line → step s line ≡ Err wrong
     → read_lines step finish taken s (Some line ∷ lines) ≡ Err (fault_at (taken + 1) wrong)
@@ -107,7 +107,7 @@ stops_at step finish taken s line lines wrong other failed =
     ∙ ap (λ r. at_line (taken + 1) r (λ next. read_lines step finish (taken + 1) next lines)) failed
 
 -- `end` was reached: what is read is what the state and the place after it give
-pub reaches_end : {S T : Type 0} (step : S → Line → Result S Wrong) (finish : S → Place → Result T Fault) (taken : ℕ) (s : S)
+pub reaches_end : {S T : Type 0} (step : S → Line → Result S Wrong) (finish : S → Progress → Result T Fault) (taken : ℕ) (s : S)
     (lines : TextLines)
     → read_lines step finish taken s (Some last_line ∷ lines) ≡ finish s (record { taken = taken + 1; lines = lines })
 unfolding read_lines
@@ -204,13 +204,13 @@ scans {S = S} step s (Some line ∷ lines) = by_test (line_is line last_line) re
         by_step (step s line) refl (λ is. absurd (cc (sym same ∙ ap (λ l. line_is l last_line) is ∙ same_line last_line))) later
 
 -- the first line is the header or isn't
-begins_or_not : (header : Line) (lines : TextLines) → BeginsWith header lines ⊎ (¬ BeginsWith header lines)
+begins_or_not : (header : Line) (lines : TextLines) → HasHeader header lines ⊎ (¬ HasHeader header lines)
 begins_or_not header [] = inr (λ begins. cc (begins.1))
 begins_or_not header (None ∷ lines) = inr (λ begins. cc (begins.1))
 begins_or_not header (Some line ∷ lines) = by_test (line_is line header) refl
   where
     by_test : (same : Bool) → line_is line header ≡ same
-        → BeginsWith header (Some line ∷ lines) ⊎ (¬ BeginsWith header (Some line ∷ lines))
+        → HasHeader header (Some line ∷ lines) ⊎ (¬ HasHeader header (Some line ∷ lines))
     by_test true same = inl (lines, ap (λ l. Some l ∷ lines) (line_same line header same))
     by_test false same = inr (λ begins.
         let is : line ≡ header = cc (begins.1) in
@@ -248,7 +248,7 @@ pub read_or_refused : {S : Type 0} (header : Line) (step : S → Line → Result
     → Ends header step start lines
 read_or_refused header step start lines = by_header (begins_or_not header lines)
   where
-    by_header : BeginsWith header lines ⊎ (¬ BeginsWith header lines) → Ends header step start lines
+    by_header : HasHeader header lines ⊎ (¬ HasHeader header lines) → Ends header step start lines
     by_header (inr other) = inr (1, Syntax, no_header other refl refl)
     by_header (inl begins) =
         let found = scans step start begins.0 in

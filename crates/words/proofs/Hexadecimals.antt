@@ -1,9 +1,8 @@
 -- What hexadecimal digits spell, and that a number has one hexadecimal spelling.
-use Rattle.std.proofs.Common.{◌≡◌, ◌≢◌, ℕ, ◌<◌, ◌^◌, true, false, cond, List, [], ◌∷◌, ◌++◌, take, drop, length, get_or, Option, Some, None, Result, Ok, Err, sym, ap, subst, ◌∙◌, ltb-true, arith}
+use Rattle.std.proofs.Common.{◌≡◌, ◌≢◌, ℕ, ◌<◌, ◌^◌, true, false, cond, List, [], ◌∷◌, ◌++◌, take, drop, length, get_or, Some, None, Result, Ok, Err, sym, ap, subst, ◌∙◌, ltb-true, arith}
 use Rattle.std.specs.List.{list_all}
 use Rattle.std.specs.Str.{IsUtf8, bytes_eq}
 use Rattle.std.specs.Fmt.{digits}
-use Rattle.std.specs.Option.{IfSome}
 use Rattle.std.proofs.lemmas.Slice.Eq.{bytes_eq-Decides}
 use Rattle.std.proofs.lemmas.Option.{cond_some}
 use Rattle.std.proofs.lemmas.List.{take-append-drop}
@@ -90,14 +89,6 @@ hex_takes word n h =
 pub hex_again : (n : ℕ) → n < 2 ^ 64 → hex_of (hexadecimal n) ≡ Some n
 unfolding hex_of
 hex_again n small = hex_digits_again n small
-
--- where a word spells nothing, it is no number's text
-pub hex_only : (word : List ℕ) (r : Option ℕ) → r ≡ hex_of word → (n : ℕ) → n < 2 ^ 64 → word ≡ hexadecimal n → r ≡ Some n
-hex_only word r e n small text = e ∙ ap (λ w. hex_of w) text ∙ hex_again n small
-
-pub hex_found : (word : List ℕ) (r : Option ℕ) → r ≡ hex_of word → IfSome r (λ n. word ≡ hexadecimal n)
-hex_found word None e = tt
-hex_found word (Some n) e = (hex_takes word n (sym e)).0
 
 -- what reading hexadecimal digits needs
 pub ruleset hexadecimal_laws = (not_hexadecimal, hexadecimal_is_text, parsed)

@@ -2,16 +2,16 @@
 use Rattle.std.proofs.Common.{◌≡◌, ◌≢◌, ℕ, ◌+◌, true, false, cond, List, [], ◌∷◌, Option, Some, None, Result, Ok, Err, refl, sym, ap, ◌∙◌}
 use Rattle.words.specs.declared.faults.Wrong.{Wrong}
 use Rattle.words.specs.declared.faults.Wrong.TheVariants.{Syntax}
-use Rattle.words.specs.declared.faults.Cause.{Cause}
-use Rattle.words.specs.declared.faults.Cause.TheVariants.{Memory, Text}
+use Rattle.words.specs.declared.faults.LineError.{LineError}
+use Rattle.words.specs.declared.faults.LineError.TheVariants.{Memory, Text}
 use Rattle.words.specs.declared.faults.Fault.{Fault}
 use Rattle.words.specs.Fault.{fault_at, fault_of, no_memory}
-use Rattle.words.specs.Text.{line_is, IsOver, Place}
+use Rattle.words.specs.Text.{line_is, IsOver, Progress}
 use Rattle.words.specs.Reading.{bind, last_line, header_at, end_at, at_line, read_lines, read_text, as_it_is, StopsBy}
 
 -- the header was taken: the loop begins
 pub begins : {S T : Type 0} (header : List (List ℕ)) (step : S → List (List ℕ) → Result S Wrong)
-    (finish : S → Place → Result T Fault) (s : S) (lines : List (Option (List (List ℕ)))) (place : Place)
+    (finish : S → Progress → Result T Fault) (s : S) (lines : List (Option (List (List ℕ)))) (place : Progress)
     → header_at header (record { taken = 0; lines = lines }) ≡ Ok place
     → read_lines step finish place.taken s place.lines ≡ read_text header step finish s lines
 unfolding read_text bind
@@ -20,14 +20,14 @@ begins header step finish s lines place taken =
 
 -- it wasn't: its fault is the text's
 pub no_beginning : {S T : Type 0} (header : List (List ℕ)) (step : S → List (List ℕ) → Result S Wrong)
-    (finish : S → Place → Result T Fault) (s : S) (lines : List (Option (List (List ℕ)))) (fault : Fault)
+    (finish : S → Progress → Result T Fault) (s : S) (lines : List (Option (List (List ℕ)))) (fault : Fault)
     → header_at header (record { taken = 0; lines = lines }) ≡ Err fault → read_text header step finish s lines ≡ Err fault
 unfolding read_text bind
 no_beginning header step finish s lines fault failed =
     ap (λ r. bind r (λ at. read_lines step finish at.taken s at.lines)) failed
 
 -- a line that isn't the last is a step
-pub at_step : {S T : Type 0} (step : S → List (List ℕ) → Result S Wrong) (finish : S → Place → Result T Fault) (taken : ℕ) (s : S)
+pub at_step : {S T : Type 0} (step : S → List (List ℕ) → Result S Wrong) (finish : S → Progress → Result T Fault) (taken : ℕ) (s : S)
     (line : List (List ℕ)) (lines : List (Option (List (List ℕ))))
     → line_is line last_line ≡ false
     → read_lines step finish taken s (Some line ∷ lines)
@@ -40,7 +40,7 @@ at_step step finish taken s line lines other =
     })) (at_line (taken + 1) (step s line) (λ next. read_lines step finish (taken + 1) next lines))) other
 
 -- the step gave a state: the loop goes on with it
-pub goes_on : {S T : Type 0} (step : S → List (List ℕ) → Result S Wrong) (finish : S → Place → Result T Fault) (old new : Place)
+pub goes_on : {S T : Type 0} (step : S → List (List ℕ) → Result S Wrong) (finish : S → Progress → Result T Fault) (old new : Progress)
     (s next : S) (line : List (List ℕ)) (read : Result T Fault)
     → read_lines step finish old.taken s old.lines ≡ read → old.lines ≡ Some line ∷ new.lines → new.taken ≡ old.taken + 1
     → line_is line last_line ≡ false → step s line ≡ Ok next → read_lines step finish new.taken next new.lines ≡ read
@@ -53,7 +53,7 @@ goes_on step finish old new s next line read so_far taken counted other stepped 
     ∙ so_far
 
 -- the step found a fault: it is the text's, at the line that was taken
-pub stops : {S T : Type 0} (step : S → List (List ℕ) → Result S Wrong) (finish : S → Place → Result T Fault) (old new : Place)
+pub stops : {S T : Type 0} (step : S → List (List ℕ) → Result S Wrong) (finish : S → Progress → Result T Fault) (old new : Progress)
     (s : S) (line : List (List ℕ)) (wrong : Wrong) (fault : Fault) (read : Result T Fault)
     → read_lines step finish old.taken s old.lines ≡ read → old.lines ≡ Some line ∷ new.lines → new.taken ≡ old.taken + 1
     → line_is line last_line ≡ false → step s line ≡ Err wrong → fault ≡ fault_at new.taken wrong → read ≡ Err fault
@@ -67,10 +67,10 @@ stops step finish old new s line wrong fault read so_far taken counted other ste
     ∙ sym (ap (λ f. Err f) told)
 
 -- the same of a step that takes memory, where its want is no fault of the text
-pub stops_by : {S T : Type 0} (step : S → List (List ℕ) → Result S Wrong) (finish : S → Place → Result T Fault) (old new : Place)
-    (s : S) (line : List (List ℕ)) (cause : Cause) (fault : Fault) (read : Result T Fault)
+pub stops_by : {S T : Type 0} (step : S → List (List ℕ) → Result S Wrong) (finish : S → Progress → Result T Fault) (old new : Progress)
+    (s : S) (line : List (List ℕ)) (error : LineError) (fault : Fault) (read : Result T Fault)
     → read_lines step finish old.taken s old.lines ≡ read → old.lines ≡ Some line ∷ new.lines → new.taken ≡ old.taken + 1
-    → line_is line last_line ≡ false → StopsBy cause (step s line) → fault ≡ fault_of new.taken cause → fault ≢ no_memory
+    → line_is line last_line ≡ false → StopsBy error (step s line) → fault ≡ fault_of new.taken error → fault ≢ no_memory
     → read ≡ Err fault
 unfolding fault_of
 stops_by step finish old new s line Memory fault read so_far taken counted other stepped told lacked = absurd (lacked told)
@@ -78,7 +78,7 @@ stops_by step finish old new s line (Text wrong) fault read so_far taken counted
     stops step finish old new s line wrong fault read so_far taken counted other stepped told
 
 -- the last line was taken: what is read is what the state and the place give
-ends : {S T : Type 0} (step : S → List (List ℕ) → Result S Wrong) (finish : S → Place → Result T Fault) (old new : Place) (s : S)
+ends : {S T : Type 0} (step : S → List (List ℕ) → Result S Wrong) (finish : S → Progress → Result T Fault) (old new : Progress) (s : S)
     (line : List (List ℕ)) (read : Result T Fault)
     → read_lines step finish old.taken s old.lines ≡ read → old.lines ≡ Some line ∷ new.lines → new.taken ≡ old.taken + 1
     → line_is line last_line ≡ true → read ≡ finish s new
@@ -91,7 +91,7 @@ ends step finish old new s line read so_far taken counted last =
     ∙ ap (λ n. finish s (record { taken = n; lines = new.lines })) (sym counted)
 
 -- they give a value: it is what is read
-pub finishes : {S T : Type 0} (step : S → List (List ℕ) → Result S Wrong) (finish : S → Place → Result T Fault) (old new : Place)
+pub finishes : {S T : Type 0} (step : S → List (List ℕ) → Result S Wrong) (finish : S → Progress → Result T Fault) (old new : Progress)
     (s : S) (line : List (List ℕ)) (t : T) (read : Result T Fault)
     → read_lines step finish old.taken s old.lines ≡ read → old.lines ≡ Some line ∷ new.lines → new.taken ≡ old.taken + 1
     → line_is line last_line ≡ true → finish s new ≡ Ok t → read ≡ Ok t
@@ -99,15 +99,15 @@ finishes step finish old new s line t read so_far taken counted last finished =
     ends step finish old new s line read so_far taken counted last ∙ finished
 
 -- they give a fault: it is the text's
-pub finishes_badly : {S T : Type 0} (step : S → List (List ℕ) → Result S Wrong) (finish : S → Place → Result T Fault)
-    (old new : Place) (s : S) (line : List (List ℕ)) (fault : Fault) (read : Result T Fault)
+pub finishes_badly : {S T : Type 0} (step : S → List (List ℕ) → Result S Wrong) (finish : S → Progress → Result T Fault)
+    (old new : Progress) (s : S) (line : List (List ℕ)) (fault : Fault) (read : Result T Fault)
     → read_lines step finish old.taken s old.lines ≡ read → old.lines ≡ Some line ∷ new.lines → new.taken ≡ old.taken + 1
     → line_is line last_line ≡ true → finish s new ≡ Err fault → read ≡ Err fault
 finishes_badly step finish old new s line fault read so_far taken counted last failed =
     ends step finish old new s line read so_far taken counted last ∙ failed
 
 -- no ended line comes next: the fault is the missing line's
-pub no_more : {S T : Type 0} (step : S → List (List ℕ) → Result S Wrong) (finish : S → Place → Result T Fault) (place : Place)
+pub no_more : {S T : Type 0} (step : S → List (List ℕ) → Result S Wrong) (finish : S → Progress → Result T Fault) (place : Progress)
     (s : S) (read : Result T Fault)
     → read_lines step finish place.taken s place.lines ≡ read → IsOver place.lines
     → read ≡ Err (fault_at (place.taken + 1) Syntax)
@@ -121,7 +121,7 @@ no_more step finish place s read so_far over = sym so_far ∙ by_lines place.lin
     by_lines (Some line ∷ lines) over = absurd over
 
 -- nothing follows the last line: the state is what is read
-pub ends_well : {S : Type 0} (step : S → List (List ℕ) → Result S Wrong) (old new : Place) (s : S) (line : List (List ℕ))
+pub ends_well : {S : Type 0} (step : S → List (List ℕ) → Result S Wrong) (old new : Progress) (s : S) (line : List (List ℕ))
     (read : Result S Fault)
     → read_lines step as_it_is old.taken s old.lines ≡ read → old.lines ≡ Some line ∷ new.lines → new.taken ≡ old.taken + 1
     → line_is line last_line ≡ true → end_at new ≡ Ok tt → read ≡ Ok s
@@ -130,7 +130,7 @@ ends_well step old new s line read so_far taken counted last nothing =
     finishes step as_it_is old new s line s read so_far taken counted last (ap (λ r. bind r (λ _. Ok s)) nothing)
 
 -- something does: its fault is the text's
-pub ends_badly : {S : Type 0} (step : S → List (List ℕ) → Result S Wrong) (old new : Place) (s : S) (line : List (List ℕ))
+pub ends_badly : {S : Type 0} (step : S → List (List ℕ) → Result S Wrong) (old new : Progress) (s : S) (line : List (List ℕ))
     (fault : Fault) (read : Result S Fault)
     → read_lines step as_it_is old.taken s old.lines ≡ read → old.lines ≡ Some line ∷ new.lines → new.taken ≡ old.taken + 1
     → line_is line last_line ≡ true → end_at new ≡ Err fault → read ≡ Err fault

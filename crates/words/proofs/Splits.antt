@@ -11,7 +11,7 @@ use Rattle.std.proofs.lemmas.List.Sums.{fails_before_first}
 use Rattle.words.specs.declared.faults.Wrong.TheVariants.{Syntax}
 use Rattle.words.specs.Fault.{fault_at}
 use Rattle.words.specs.FirstFault.{Line, TextLines}
-use Rattle.words.specs.Text.{words_of, lines_of, lines_of_parts, line_is, IsOver, Place}
+use Rattle.words.specs.Text.{words_of, lines_of, lines_of_parts, line_is, IsOver, Progress}
 use Rattle.words.specs.Reading.{after_line, ended_at, end_at}
 
 -- there is a part at least
@@ -139,11 +139,11 @@ stays_at taken [] over = refl
 stays_at taken (None ∷ lines) over = refl
 stays_at taken (Some line ∷ lines) over = absurd over
 
-pub stays : (old new : Place) → IsOver old.lines → new ≡ old → new ≡ after_line old
+pub stays : (old new : Progress) → IsOver old.lines → new ≡ old → new ≡ after_line old
 stays old new over same = same ∙ sym (stays_at old.taken old.lines over)
 
 -- and after a line that was taken it stands behind it
-pub moves : (old new : Place) (line : List (List ℕ)) → old.lines ≡ Some line ∷ new.lines → new.taken ≡ old.taken + 1
+pub moves : (old new : Progress) (line : List (List ℕ)) → old.lines ≡ Some line ∷ new.lines → new.taken ≡ old.taken + 1
     → new ≡ after_line old
 unfolding after_line
 moves old new line is counted =

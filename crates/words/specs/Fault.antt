@@ -1,9 +1,9 @@
--- What a text is refused for, by number and line, and what stands for want of memory.
+-- What a text is refused for, by number and line, and what stands for want of memory (confine's own).
 use Rattle.std.specs.Prelude.{ℕ}
 use Rattle.words.specs.declared.faults.Wrong.{Wrong}
 use Rattle.words.specs.declared.faults.Wrong.TheVariants.{Syntax, UnknownName, Double, Misplaced, Limit, WrongKind, Tree}
-use Rattle.words.specs.declared.faults.Cause.{Cause}
-use Rattle.words.specs.declared.faults.Cause.TheVariants.{Memory, Text}
+use Rattle.words.specs.declared.faults.LineError.{LineError}
+use Rattle.words.specs.declared.faults.LineError.TheVariants.{Memory, Text}
 use Rattle.words.specs.declared.faults.Fault.{Fault}
 
 -- the number by which a fault is told
@@ -25,6 +25,6 @@ abbrev pub no_memory : Fault
 no_memory = record { number = 40; line = 0 }
 
 -- the fault of a line whose reading stopped
-unfoldable pub fault_of : ℕ → Cause → Fault
+unfoldable pub fault_of : ℕ → LineError → Fault
 fault_of line Memory = no_memory
 fault_of line (Text wrong) = fault_at line wrong

@@ -22,8 +22,8 @@ abbrev pub ended : List Line → TextLines
 ended lines = map (λ line. Some line) lines
 
 -- the first line of a text is its header
-abbrev pub BeginsWith : Line → TextLines → Type 0
-BeginsWith header lines = (rest : TextLines) × (lines ≡ Some header ∷ rest)
+abbrev pub HasHeader : Line → TextLines → Type 0
+HasHeader header lines = (rest : TextLines) × (lines ≡ Some header ∷ rest)
 
 -- a text begins with its header and these lines, which are good: none is the line `end`, each is a step of the state before it
 pub record IsGoodUpTo {S : Type 0} (header : Line) (step : S → Line → Result S Wrong) (start : S) (lines : TextLines)
@@ -41,7 +41,7 @@ IsText header step start lines state =
 pub data IsFirstFault {S : Type 0} (header : Line) (step : S → Line → Result S Wrong) (start : S) (lines : TextLines)
     (number : ℕ) (wrong : Wrong) : Type 0 where
   -- the first line isn't the header
-  no_header : ¬ BeginsWith header lines → number ≡ 1 → wrong ≡ Syntax → IsFirstFault header step start lines number wrong
+  no_header : ¬ HasHeader header lines → number ≡ 1 → wrong ≡ Syntax → IsFirstFault header step start lines number wrong
   -- the line after the good ones is missing, or isn't ended
   no_line :
       (body : List Line) (state : S) (rest : TextLines) → IsGoodUpTo header step start lines body state rest → IsOver rest

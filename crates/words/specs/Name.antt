@@ -1,8 +1,9 @@
--- Names as texts spell them: 1 to 31 lower-case letters, digits and `_`, the first a letter.
-use Rattle.std.specs.Prelude.{ℕ, ◌==◌, ◌&&◌, ◌||◌, Bool, false, nat_lt, List, [], ◌∷◌, length, Option, Some, None, Result, Ok, if◌then◌else◌}
+-- Names as texts spell them, which are confine's own: 1 to 31 lower-case letters, digits and `_`, the first a letter.
+use Rattle.std.specs.Prelude.{ℕ, ◌==◌, ◌&&◌, ◌||◌, Bool, false, nat_le, List, [], ◌∷◌, length, Option, Some, None, Result, Ok, if◌then◌else◌}
 use Rattle.std.specs.List.{list_all}
 use Rattle.std.specs.Char.{is_ascii_digit, is_ascii_lowercase}
 use Rattle.words.specs.declared.faults.Wrong.{Wrong}
+use Rattle.words.specs.declared.names.TheConstants.{MAX_NAME_LENGTH}
 use Rattle.words.specs.Reading.{◌>>=◌, word_at, or_syntax}
 
 -- a byte that may stand in a name, where 95 is `_`
@@ -16,7 +17,7 @@ starts_with_letter (b ∷ bs) = is_ascii_lowercase b
 
 -- a name
 abbrev pub is_name : List ℕ → Bool
-is_name word = (starts_with_letter word && nat_lt (length word) 32) && list_all is_name_byte word
+is_name word = (starts_with_letter word && nat_le (length word) MAX_NAME_LENGTH) && list_all is_name_byte word
 
 -- the name that a word is
 unfoldable pub name_of : List ℕ → Option (List ℕ)

@@ -1,4 +1,5 @@
--- Numbers as texts spell them, below 2 ^ 64: decimal without a leading zero, and hexadecimal after `0x` in lower case without one.
+-- Numbers as texts spell them, below 2 ^ 64: decimal without a leading zero, and hexadecimal after `0x` in lower case without one
+-- (confine's own).
 use Rattle.std.specs.Prelude.{ℕ, ◌^◌, ◌==◌, ◌&&◌, ◌||◌, not, Bool, true, false, nat_lt, List, [], ◌∷◌, ◌++◌, take, drop, codes, Option, Some, None, Result, Ok, if◌then◌else◌}
 use Rattle.std.specs.List.{list_all}
 use Rattle.std.specs.Char.{is_ascii_digit}

@@ -1,13 +1,13 @@
 -- Reading as functions on lists: the words of a line are taken one after another, and so are the lines of a text. The first fault
--- ends it.
+-- ends it. The functions are confine's own.
 use Rattle.std.specs.Prelude.{◌≡◌, ◌≢◌, ℕ, ◌+◌, List, [], ◌∷◌, ◌++◌, false, Option, Some, None, Result, Ok, Err, if◌then◌else◌, codes}
 use Rattle.words.specs.declared.faults.Wrong.{Wrong}
 use Rattle.words.specs.declared.faults.Wrong.TheVariants.{Syntax}
-use Rattle.words.specs.declared.faults.Cause.{Cause}
-use Rattle.words.specs.declared.faults.Cause.TheVariants.{Memory, Text}
+use Rattle.words.specs.declared.faults.LineError.{LineError}
+use Rattle.words.specs.declared.faults.LineError.TheVariants.{Memory, Text}
 use Rattle.words.specs.declared.faults.Fault.{Fault}
 use Rattle.words.specs.Fault.{fault_at, no_memory}
-use Rattle.words.specs.Text.{words_of, line_is, Place}
+use Rattle.words.specs.Text.{words_of, line_is, Progress}
 
 -- one step of reading after another: a fault ends it
 unfoldable pub bind : {E X Y : Type 0} → Result X E → (X → Result Y E) → Result Y E
@@ -38,16 +38,16 @@ abbrev pub last_line : List (List ℕ)
 last_line = words_of (codes "end")
 
 -- the place after the next line, which is the same place where no ended line comes next
-unfoldable pub after_line : Place → Place
+unfoldable pub after_line : Progress → Progress
 after_line place = after place.lines
   where
-    after : List (Option (List (List ℕ))) → Place
+    after : List (Option (List (List ℕ))) → Progress
     after [] = place
     after (None ∷ lines) = place
     after (Some line ∷ lines) = record { taken = place.taken + 1; lines = lines }
 
 -- nothing follows the lines that were taken
-unfoldable pub end_at : Place → Result (Unit {0}) Fault
+unfoldable pub end_at : Progress → Result (Unit {0}) Fault
 end_at place = end_of place.lines
   where
     end_of : List (Option (List (List ℕ))) → Result (Unit {0}) Fault
@@ -55,10 +55,10 @@ end_at place = end_of place.lines
     end_of (line ∷ lines) = Err (fault_at (place.taken + 1) Syntax)
 
 -- the next line is the header
-unfoldable pub header_at : List (List ℕ) → Place → Result Place Fault
+unfoldable pub header_at : List (List ℕ) → Progress → Result Progress Fault
 header_at header place = header_of place.lines
   where
-    header_of : List (Option (List (List ℕ))) → Result Place Fault
+    header_of : List (Option (List (List ℕ))) → Result Progress Fault
     header_of [] = Err (fault_at (place.taken + 1) Syntax)
     header_of (None ∷ lines) = Err (fault_at (place.taken + 1) Syntax)
     header_of (Some line ∷ lines) =
@@ -72,7 +72,7 @@ at_line line (Ok s) next = next s
 at_line line (Err wrong) next = Err (fault_at line wrong)
 
 -- the lines up to `end`, each a step of a state; then what the state and the place after `end` give
-unfoldable pub read_lines : {S T : Type 0} → (S → List (List ℕ) → Result S Wrong) → (S → Place → Result T Fault) → ℕ → S
+unfoldable pub read_lines : {S T : Type 0} → (S → List (List ℕ) → Result S Wrong) → (S → Progress → Result T Fault) → ℕ → S
     → List (Option (List (List ℕ))) → Result T Fault
 read_lines step finish taken s [] = Err (fault_at (taken + 1) Syntax)
 read_lines step finish taken s (None ∷ lines) = Err (fault_at (taken + 1) Syntax)
@@ -95,11 +95,11 @@ abbrev pub IsNotLast : List (List ℕ) → Type 0
 IsNotLast line = line_is line last_line ≡ false
 
 -- a text that ends with its `end` line gives the state as it is
-unfoldable pub as_it_is : {S : Type 0} → S → Place → Result S Fault
+unfoldable pub as_it_is : {S : Type 0} → S → Progress → Result S Fault
 as_it_is s place = bind (end_at place) (λ _. Ok s)
 
 -- a whole text: its header, its lines, and what they give
-unfoldable pub read_text : {S T : Type 0} → List (List ℕ) → (S → List (List ℕ) → Result S Wrong) → (S → Place → Result T Fault)
+unfoldable pub read_text : {S T : Type 0} → List (List ℕ) → (S → List (List ℕ) → Result S Wrong) → (S → Progress → Result T Fault)
     → S → List (Option (List (List ℕ))) → Result T Fault
 read_text header step finish s lines =
     bind (header_at header (record { taken = 0; lines = lines })) (λ place. read_lines step finish place.taken s place.lines)
@@ -109,15 +109,15 @@ abbrev pub Gives : {E X Y : Type 0} → (X → Y) → Result X E → Result Y E 
 Gives view (Ok x) read = read ≡ Ok (view x)
 Gives view (Err e) read = read ≡ Err e
 
--- reading stops for this cause: where memory was refused, nothing is said of the text
-abbrev pub StopsBy : {Y : Type 0} → Cause → Result Y Wrong → Type 0
+-- reading stops for this reason: where memory was refused, nothing is said of the text
+abbrev pub StopsBy : {Y : Type 0} → LineError → Result Y Wrong → Type 0
 StopsBy Memory read = Unit {0}
 StopsBy (Text wrong) read = read ≡ Err wrong
 
 -- a result of a call that takes memory is what reading gives
-abbrev pub Makes : {X Y : Type 0} → (X → Y) → Result X Cause → Result Y Wrong → Type 0
-Makes view (Ok x) read = read ≡ Ok (view x)
-Makes view (Err cause) read = StopsBy cause read
+abbrev pub GivesOrStops : {X Y : Type 0} → (X → Y) → Result X LineError → Result Y Wrong → Type 0
+GivesOrStops view (Ok x) read = read ≡ Ok (view x)
+GivesOrStops view (Err error) read = StopsBy error read
 
 -- and of a whole text
 abbrev pub Reads : {X Y : Type 0} → (X → Y) → Result X Fault → Result Y Fault → Type 0

@@ -1,4 +1,5 @@
--- A text as a list of lines and a line as a list of words: a line ends with a line feed, words are parted by one space.
+-- A text as a list of lines and a line as a list of words: a line ends with a line feed, words are parted by one space
+-- (confine's own).
 use Rattle.std.specs.Prelude.{ℕ, ◌==◌, ◌<◌, Bool, List, [], ◌∷◌, ◌++◌, Option, Some, None}
 use Rattle.std.specs.List.{slice_split, flat_map, join_with_byte, AllByRecursion}
 use Rattle.std.specs.Str.{bytes_eq}
@@ -37,7 +38,7 @@ abbrev pub line_is : List (List ℕ) → List (List ℕ) → Bool
 line_is line words = pointwise bytes_eq line words
 
 -- where a reader stands: how many lines it has taken, and the lines that are left
-pub record Place : Type 0 where
+pub record Progress : Type 0 where
   pub taken : ℕ
   pub lines : List (Option (List (List ℕ)))
 

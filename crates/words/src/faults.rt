@@ -1,5 +1,5 @@
 ghost use Rattle.std.specs.Prelude.{◌≡◌};
-ghost use Rattle.words.specs.declared.faults.Cause.TheVariants.{Memory, Text};
+ghost use Rattle.words.specs.declared.faults.LineError.TheVariants.{Memory, Text};
 ghost use Rattle.words.specs.Fault.{fault_at, no_memory, number_of};
 
 use std::alloc::{AllocError, AllocFailed};
@@ -27,7 +27,7 @@ pub enum Wrong {
 
 impl Wrong {
     /// The number by which reports tell it, 50 to 56.
-    pub fn number(self) -> u64
+    pub(crate) fn number(self) -> u64
         ensures { result ≡ number_of self }
     {
         match self {
@@ -44,34 +44,34 @@ impl Wrong {
 
 /// Why the reading of a line stopped: memory was refused, or the text is wrong.
 #[derive(Clone, Copy, Debug, PartialEq, Eq, Hash, Error)]
-pub enum Cause {
+pub enum LineError {
     #[error("no memory")]
     Memory,
     #[error("{0}")]
     Text(Wrong),
 }
 
-impl From<Wrong> for Cause {
-    ghost from_gives = { λ wrong cause. cause ≡ Text wrong };
+impl From<Wrong> for LineError {
+    ghost from_gives = { λ wrong error. error ≡ Text wrong };
 
-    fn from(wrong: Wrong) -> Cause {
-        Cause::Text(wrong)
+    fn from(wrong: Wrong) -> LineError {
+        LineError::Text(wrong)
     }
 }
 
-impl From<AllocError> for Cause {
-    ghost from_gives = { λ _ cause. cause ≡ Memory };
+impl From<AllocError> for LineError {
+    ghost from_gives = { λ _ error. error ≡ Memory };
 
-    fn from(_error: AllocError) -> Cause {
-        Cause::Memory
+    fn from(_error: AllocError) -> LineError {
+        LineError::Memory
     }
 }
 
-impl<T: Drop> From<AllocFailed<T>> for Cause {
-    ghost from_gives = { λ _ cause. cause ≡ Memory };
+impl<T: Drop> From<AllocFailed<T>> for LineError {
+    ghost from_gives = { λ _ error. error ≡ Memory };
 
-    fn from(_error: AllocFailed<T>) -> Cause {
-        Cause::Memory
+    fn from(_error: AllocFailed<T>) -> LineError {
+        LineError::Memory
     }
 }
 
@@ -93,7 +93,7 @@ impl Fault {
 
     /// The fault of a line, which is counted from 1.
     #[tactic(auto, unfolding(crate::specs::Fault::fault_at))]
-    pub fn at(wrong: Wrong, line: u64) -> Fault
+    pub(crate) fn at(wrong: Wrong, line: u64) -> Fault
         ensures { result ≡ fault_at line wrong }
     {
         Fault {

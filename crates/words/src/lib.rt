@@ -8,15 +8,11 @@ mod line;
 mod names;
 mod numbers;
 mod split;
-#[cfg(test)]
-mod tests;
 mod text;
-mod worked;
 
-pub use faults::{Cause, Fault, Wrong};
+pub use faults::{Fault, LineError, Wrong};
 pub use first_fault::{a_text_is_refused_for_its_first_fault, a_text_that_is_cut_is_refused};
 pub use line::Words;
-pub use names::{is_name, name_of, names_are_read_back};
+pub use names::{MAX_NAME_LENGTH, name_of, names_are_read_back};
 pub use numbers::{decimal_of, hexadecimal_of, numbers_are_read_back};
 pub use text::Lines;
-pub use worked::{worked_lines, worked_words};

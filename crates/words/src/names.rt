@@ -6,13 +6,13 @@ ghost use Rattle.words.specs.Name.{is_name, is_name_byte, name_of, starts_with_l
 use std::str;
 
 /// How many letters, digits and `_` a name has at most.
-const LONGEST_NAME: usize = 31;
+pub const MAX_NAME_LENGTH: usize = 31;
 
-/// Whether a word is a name: 1 to 31 of `a-z`, `0-9` and `_`, the first a letter.
-pub fn is_name(word: &[u8]) -> bool
+/// Whether a word is a name: 1 to [`MAX_NAME_LENGTH`] of `a-z`, `0-9` and `_`, the first a letter.
+fn is_name(word: &[u8]) -> bool
     ensures { result ≡ is_name word.now }
 {
-    starts_with_letter(word) && word.len() <= LONGEST_NAME && has_name_bytes(word)
+    starts_with_letter(word) && word.len() <= MAX_NAME_LENGTH && has_name_bytes(word)
 }
 
 /// A word as a name, if it is one.

@@ -1,4 +1,4 @@
-ghost use Rattle.std.specs.Prelude.{◌≡◌, ◌≢◌, ◌↔◌, ◌^◌, ◌<◌, ℕ, List, Some, IfSome};
+ghost use Rattle.std.specs.Prelude.{◌≡◌, ◌≢◌, ◌↔◌, ◌^◌, ◌<◌, ℕ, List, Some};
 ghost use Rattle.std.specs.Fmt.{decimal};
 ghost use Rattle.std.specs.List.{list_all};
 ghost use Rattle.std.specs.Char.{is_ascii_digit};
@@ -9,9 +9,7 @@ use std::str;
 /// The number that a word spells in decimal, where it is below 2^64.
 #[tactic(auto, using(crate::proofs::Decimals::decimal_laws))]
 pub fn decimal_of(word: &[u8]) -> Option<u64>
-    ensures exact { result ≡ dec_of word.now }
-    ensures found { IfSome result (λ n. word.now ≡ decimal n) }
-    ensures only { (n : ℕ) → n < 2 ^ 64 → word.now ≡ decimal n → result ≡ Some n }
+    ensures { result ≡ dec_of word.now }
 {
     if !is_decimal(word) {
         return None;
@@ -23,9 +21,7 @@ pub fn decimal_of(word: &[u8]) -> Option<u64>
 /// The number that a word spells in hexadecimal, as `0x1f`, where it is below 2^64.
 #[tactic(auto, unfolding(crate::specs::Number::hex_of))]
 pub fn hexadecimal_of(word: &[u8]) -> Option<u64>
-    ensures exact { result ≡ hex_of word.now }
-    ensures found { IfSome result (λ n. word.now ≡ hexadecimal n) }
-    ensures only { (n : ℕ) → n < 2 ^ 64 → word.now ≡ hexadecimal n → result ≡ Some n }
+    ensures { result ≡ hex_of word.now }
 {
     hex_digits_of(word.strip_prefix(b"0x")?)
 }

@@ -4,7 +4,7 @@ ghost use Rattle.words.specs.Text.{lines_of, text_of, words_of, IsOver, IsPlainL
 ghost use Rattle.words.specs.Fault.{fault_at, fault_of};
 ghost use Rattle.words.specs.Reading.{Gives, after_line, header_at, end_at};
 
-use crate::faults::{Cause, Fault, Wrong};
+use crate::faults::{Fault, LineError, Wrong};
 use crate::line::Words;
 use crate::split::split_first_at;
 use std::marker::Model;
@@ -18,9 +18,9 @@ pub struct Lines<'a> {
 
 impl<'a> Model for Lines<'a> {
     ghost use Rattle.std.specs.Prelude.{◌+◌, ◌^◌, ◌<◌, length};
-    ghost use Rattle.words.specs.Text.{lines_of, Place};
+    ghost use Rattle.words.specs.Text.{lines_of, Progress};
 
-    ghost Value = { Place };
+    ghost Value = { Progress };
 
     ghost view = { λ l. record { taken = l.taken; lines = lines_of l.rest.now } };
 
@@ -97,12 +97,12 @@ impl<'a> Lines<'a> {
 
     /// What stopped the line that was taken last, as a fault of the text.
     #[tactic(auto, unfolding(crate::specs::Fault::fault_of))]
-    pub fn stopped(&self, cause: Cause) -> Fault
-        ensures { result ≡ fault_of self.now.taken cause }
+    pub fn stopped(&self, error: LineError) -> Fault
+        ensures { result ≡ fault_of self.now.taken error }
     {
-        match cause {
-            Cause::Memory => Fault::MEMORY,
-            Cause::Text(wrong) => self.here(wrong),
+        match error {
+            LineError::Memory => Fault::MEMORY,
+            LineError::Text(wrong) => self.here(wrong),
         }
     }
 }

@@ -1,12 +1,20 @@
 -- What is read is what the definition says, and the laws of that.
-use Rattle.captext.proofs.PolicyLaws.{found, only, first_fault, refused_so}
+use Rattle.std.proofs.Common.{[]}
+use Rattle.words.proofs.FirstFaults.{faults, refused_for}
+use Rattle.words.specs.Text.{lines_of}
+use Rattle.captext.specs.Policies.{edge_line, read_policy_of}
+use Rattle.captext.specs.PolicyText.{policy_header}
+use Rattle.captext.proofs.PolicyLaws.{found, only}
 use Rattle.captext.proofs.policies.read_policy.Goals as goal
 
 pub returns : goal.returns
-returns c = record {
-  exact = c.edges_of.ensures;
-  found = found c.args.table.now c.edges_of.result c.args.text.now c.edges_of.ensures;
-  only = only c.args.table.now c.edges_of.result c.args.text.now c.objects.ensures.lawful c.edges_of.ensures;
-  faults = first_fault c.args.table.now c.edges_of.result c.args.text.now c.edges_of.ensures;
-  refused = refused_so c.args.table.now c.edges_of.result c.args.text.now c.edges_of.ensures;
-}
+unfolding read_policy_of
+returns c =
+    let read = c.edges_of.ensures in
+    record {
+      exact = read;
+      found = found c.args.table.now c.edges_of.result c.args.text.now read;
+      only = only c.args.table.now c.edges_of.result c.args.text.now c.objects.ensures.lawful read;
+      faults = faults _ policy_header (edge_line c.args.table.now) [] (lines_of c.args.text.now) c.edges_of.result read;
+      refused = refused_for _ policy_header (edge_line c.args.table.now) [] (lines_of c.args.text.now) c.edges_of.result read;
+    }

@@ -1,14 +1,21 @@
 -- What is read is tied to its text by the law of texts, and what isn't to its first fault.
-use Rattle.captext.proofs.TableLaws.{found, only, first_fault, refused_so}
+use Rattle.machine.specs.Layout.{empty_layout}
+use Rattle.words.proofs.FirstFaults.{faults, refused_for}
+use Rattle.words.specs.Text.{lines_of}
+use Rattle.captext.specs.Tables.{read_table_of, table_line}
+use Rattle.captext.specs.TableText.{table_header}
+use Rattle.captext.proofs.TableLaws.{found, only}
 use Rattle.captext.proofs.tables.read_table.Goals as goal
 
 pub returns : goal.returns
+unfolding read_table_of
 returns c =
     let law = c.tables_are_read_back.ensures.named in
+    let read = c.table_of.ensures in
     record {
-      exact = c.table_of.ensures;
-      found = found _ c.table_of.result c.args.text.now law c.table_of.ensures;
-      only = only _ c.table_of.result c.args.text.now law c.table_of.ensures;
-      faults = first_fault _ c.table_of.result c.args.text.now c.table_of.ensures;
-      refused = refused_so _ c.table_of.result c.args.text.now c.table_of.ensures;
+      exact = read;
+      found = found _ c.table_of.result c.args.text.now law read;
+      only = only _ c.table_of.result c.args.text.now law read;
+      faults = faults _ table_header table_line empty_layout (lines_of c.args.text.now) c.table_of.result read;
+      refused = refused_for _ table_header table_line empty_layout (lines_of c.args.text.now) c.table_of.result read;
     }

@@ -1,11 +1,19 @@
-use Rattle.evtext.proofs.Scripts.{found, only, first_fault, refused_so}
+-- What is read is what the definition says, and the laws of that.
+use Rattle.std.proofs.Common.{[]}
+use Rattle.words.proofs.FirstFaults.{faults, refused_for}
+use Rattle.words.specs.Text.{lines_of}
+use Rattle.evtext.specs.Script.{read_script_of, script_header, script_step}
+use Rattle.evtext.proofs.Scripts.{found, only}
 use Rattle.evtext.proofs.script.read_script.Goals as goal
 
 pub returns : goal.returns
-returns c = record {
-  exact = c.events_of.ensures.exact;
-  found = found (λ events. events.items) c.events_of.result c.args.text.now c.events_of.ensures.exact;
-  only = only (λ events. events.items) c.events_of.result c.args.text.now c.events_of.ensures.exact;
-  faults = first_fault (λ events. events.items) c.events_of.result c.args.text.now c.events_of.ensures.exact;
-  refused = refused_so (λ events. events.items) c.events_of.result c.args.text.now c.events_of.ensures.exact;
-}
+unfolding read_script_of
+returns c =
+    let read = c.events_of.ensures.exact in
+    record {
+      exact = read;
+      found = found _ c.events_of.result c.args.text.now read;
+      only = only _ c.events_of.result c.args.text.now read;
+      faults = faults _ script_header script_step [] (lines_of c.args.text.now) c.events_of.result read;
+      refused = refused_for _ script_header script_step [] (lines_of c.args.text.now) c.events_of.result read;
+    }

@@ -1,15 +1,15 @@
--- Up to 48 bits the sum is compared without overflow, and more bits don't fit.
+-- Up to the bits of an address the sum is compared without overflow, and more bits don't fit.
 use Rattle.std.proofs.Common.{sym, ◌∙◌}
 use Rattle.table.proofs.ExtentLemmas.{shifted, few_fit, many_exceed}
 use Rattle.table.proofs.extent.is_addressable.Goals as goal
 
 pub overflow_sub-result : goal.overflow_sub-result
-overflow_sub-result c = rw (shifted c.in-Some.bits c.if-bits-le48.true).0 (shifted c.in-Some.bits c.if-bits-le48.true).1
+overflow_sub-result c = rw (shifted c.in-Some.bits c.if-bits-le-ADDRESS_BITS.true).0 (shifted c.in-Some.bits c.if-bits-le-ADDRESS_BITS.true).1
 
-pub returns-then-bits-le48 : goal.returns-then-bits-le48
-returns-then-bits-le48 c =
-    rw (c.address.ensures) (few_fit c.args.object.now c.in-Some.bits (sym c.size_bits.ensures ∙ c.in-Some.is) c.if-bits-le48.true)
+pub returns-then-bits-le-ADDRESS_BITS : goal.returns-then-bits-le-ADDRESS_BITS
+returns-then-bits-le-ADDRESS_BITS c =
+    rw (c.address.ensures) (few_fit c.args.object.now c.in-Some.bits (sym c.size_bits.ensures ∙ c.in-Some.is) c.if-bits-le-ADDRESS_BITS.true)
 
-pub returns-else-bits-le48 : goal.returns-else-bits-le48
-returns-else-bits-le48 c =
-    many_exceed c.args.object.now c.in-Some.bits (sym c.size_bits.ensures ∙ c.in-Some.is) c.if-bits-le48.false
+pub returns-else-bits-le-ADDRESS_BITS : goal.returns-else-bits-le-ADDRESS_BITS
+returns-else-bits-le-ADDRESS_BITS c =
+    many_exceed c.args.object.now c.in-Some.bits (sym c.size_bits.ensures ∙ c.in-Some.is) c.if-bits-le-ADDRESS_BITS.false

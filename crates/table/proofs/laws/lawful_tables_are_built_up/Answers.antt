@@ -1,4 +1,4 @@
--- A part is added or taken away.
+-- A item is added or taken away.
 use Rattle.table.proofs.BuiltUp.{built_from_lawful, lawful_from_built}
 use Rattle.table.proofs.laws.lawful_tables_are_built_up.Goals as goal
 

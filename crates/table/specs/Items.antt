@@ -1,0 +1,52 @@
+-- How a capability table is built up from the empty one: its items, which item the table takes next, and the tables that come
+-- about so (confine's own; the order is that of a table's text).
+use Rattle.std.specs.Prelude.{◌≡◌, ℕ, List, []}
+use Rattle.machine.specs.declared.layout.Binding.{Binding}
+use Rattle.machine.specs.declared.layout.Filled.{Filled}
+use Rattle.machine.specs.declared.layout.Initial.{Initial}
+use Rattle.machine.specs.Layout.{Layout, empty_layout}
+use Rattle.table.specs.Building.{AdmitsLabel, AdmitsObject, AdmitsCap, AdmitsBinding, with_label, with_initial, with_filled}
+use Rattle.table.specs.Building.{with_binding}
+
+-- a label by its name, an object with its name, a filled slot, or a thread's binding
+pub data Item : Type 0 where
+  LabelItem : (name : List ℕ) → Item
+  ObjectItem : (name : List ℕ) (initial : Initial) → Item
+  CapItem : (filled : Filled) → Item
+  BindingItem : (binding : Binding) → Item
+
+-- the table with one item more
+abbrev pub with_item : Layout → Item → Layout
+with_item t (LabelItem name) = with_label t name
+with_item t (ObjectItem name initial) = with_initial t name initial
+with_item t (CapItem filled) = with_filled t filled
+with_item t (BindingItem binding) = with_binding t binding
+
+-- what comes after an item in the order labels, objects, capabilities, pairs, bindings has not begun
+
+abbrev pub BeforePairs : Layout → Type 0
+BeforePairs t = (t.pairs ≡ []) × (t.bindings ≡ [])
+
+abbrev pub BeforeCaps : Layout → Type 0
+BeforeCaps t = (t.caps ≡ []) × BeforePairs t
+
+abbrev pub BeforeObjects : Layout → Type 0
+BeforeObjects t = (t.objects ≡ []) × BeforeCaps t
+
+abbrev pub ComesNow : Layout → Item → Type 0
+ComesNow t (LabelItem _) = BeforeObjects t
+ComesNow t (ObjectItem _ _) = BeforeCaps t
+ComesNow t (CapItem _) = BeforePairs t
+ComesNow t (BindingItem _) = Unit {0}
+
+-- the table admits an item
+abbrev pub Admits : Layout → Item → Type 0
+Admits t (LabelItem name) = AdmitsLabel t name
+Admits t (ObjectItem name initial) = AdmitsObject t name initial
+Admits t (CapItem filled) = AdmitsCap t filled
+Admits t (BindingItem binding) = AdmitsBinding t binding
+
+-- a table that is built up from the empty one, each item in its order and where the table so far admits it
+pub data IsBuiltUp : Layout → Type 0 where
+  none : IsBuiltUp empty_layout
+  more : {t : Layout} (item : Item) → IsBuiltUp t → ComesNow t item → Admits t item → IsBuiltUp (with_item t item)
