@@ -8,28 +8,23 @@ use Rattle.std.specs.List.{find}
 use Rattle.base.specs.declared.ids.ObjId.{ObjId}
 use Rattle.base.specs.declared.ids.SlotRef.{SlotRef}
 use Rattle.base.specs.declared.kind.Kind.{Kind}
-use Rattle.base.specs.declared.kind.Kind.TheVariants as authority
 use Rattle.machine.specs.declared.layout.Initial.{Initial}
 use Rattle.machine.specs.declared.layout.Pair.{Pair}
 use Rattle.machine.specs.declared.object.Object.{Object}
 use Rattle.machine.specs.declared.object.Object.TheVariants as o
-use Rattle.machine.specs.declared.object.Reply.{Reply}
-use Rattle.machine.specs.declared.object.ReplyState.TheVariants as reply
 use Rattle.machine.specs.declared.object.Untyped.{Untyped}
 use Rattle.machine.specs.declared.thread.RunState.{RunState}
 use Rattle.machine.specs.declared.thread.RunState.TheVariants as state
-use Rattle.machine.specs.declared.thread.Tcb.{Tcb}
-use Rattle.machine.specs.Authority.{has_memory_at, holds_thread, label_at, label_of, links, state_links}
+use Rattle.machine.specs.Authority.{has_memory_at, label_at, label_of, state_links}
 use Rattle.machine.specs.Boot.{IsBoot, bound, booted}
 use Rattle.machine.proofs.Bound.{address-bound, kind-bound}
-use Rattle.machine.specs.Layout.{Layout, initial_of, declared_label, initial_parent, bound_context}
+use Rattle.machine.specs.Layout.{Layout, initial_of, declared_label, initial_parent}
 use Rattle.machine.specs.Machine.{Machine, object_of, same_slot}
 use Rattle.machine.specs.Objects.{kind_of_object, address_of, end_of}
 use Rattle.machine.specs.WellFormed.{kind_of}
 use Rattle.table.specs.Placement.{IsApart, Lies}
-use Rattle.table.specs.Rules.{IsLawful, IsObjectOf, IsBlank, IsAtRest, kind_at}
+use Rattle.table.specs.Rules.{IsLawful, IsObjectOf, IsAtRest, kind_at}
 use Rattle.certificate.specs.OfTable.{IsOfTable}
-use Rattle.certificate.proofs.Links.{link_names}
 use Rattle.certificate.proofs.Lookups.{found_first, pair_at}
 
 -- a booted object is a declared one with its links
@@ -84,7 +79,7 @@ boot_label t m boot id = ap labelled (boot.objects id) ∙ by_initial (initial_o
 
 -- the table
 
-initial_lawful :
+pub initial_lawful :
     (t : Layout) → IsLawful t → (id : ObjId) (initial : Initial) → initial_of t id ≡ Some initial → IsObjectOf t initial
 unfolding initial_of
 initial_lawful t lawful id initial e =
@@ -92,41 +87,10 @@ initial_lawful t lawful id initial e =
     (lawful.objects id.0 initial (slice_get_within t.objects id.0 initial e))
 
 -- at rest a thread has no recorded rights
-rest_links : (run : RunState) (k : Kind) (end : ObjId) → IsAtRest run → state_links run k end ≡ false
+pub rest_links : (run : RunState) (k : Kind) (end : ObjId) → IsAtRest run → state_links run k end ≡ false
 rest_links state.Ready k end rest = refl
 rest_links state.Inactive k end rest = refl
-rest_links (state.Sending _) k end rest = absurd rest
-rest_links (state.Receiving _) k end rest = absurd rest
-rest_links (state.Waiting _) k end rest = absurd rest
-rest_links (state.Called _) k end rest = absurd rest
-
--- a booted object's links are those of its binding
-pub record IsBinding (t : Layout) (id end : ObjId) (k : Kind) : Type 0 where
-  pub runs : k ≡ authority.Runs
-  pub bound_to : bound_context t id ≡ Some end
-
-thread_link :
-    (t : Layout) (id : ObjId) (thread : Tcb) (k : Kind) (end : ObjId) → IsAtRest thread.state
-    → links (bound t id (o.Tcb thread)) k end ≡ true → IsBinding t id end k
-thread_link t id thread authority.Runs end rest e = record { runs = refl; bound_to = link_names (bound_context t id) end e }
-thread_link t id thread k end rest e = absurd (false≢true (sym (rest_links thread.state k end rest) ∙ e))
-
-free_link : (answers : Reply) (k : Kind) (end : ObjId) → answers.state ≡ reply.Free → links (o.Reply answers) k end ≡ false
-free_link answers authority.Holds end free = ap (λ held. holds_thread held end) free
-free_link answers _ end free = refl
-
-boot_link :
-    (t : Layout) (id : ObjId) (object : Object) (k : Kind) (end : ObjId) → IsBlank object
-    → links (bound t id object) k end ≡ true → IsBinding t id end k
-boot_link t id (o.Tcb thread) k end blank e = thread_link t id thread k end blank.0 e
-boot_link t id (o.Reply answers) k end blank e = absurd (false≢true (sym (free_link answers k end blank) ∙ e))
-boot_link t id (o.Untyped _) k end blank e = cc
-boot_link t id (o.CNode _) k end blank e = cc
-boot_link t id (o.Endpoint _) k end blank e = cc
-boot_link t id (o.Notification _) k end blank e = cc
-boot_link t id (o.Context _) k end blank e = cc
-boot_link t id (o.Frame _) k end blank e = cc
-boot_link t id (o.Control _) k end blank e = cc
+rest_links _ k end rest = absurd rest
 
 -- no capability is derived from another
 pub no_parent : (t : Layout) → IsLawful t → (slot parent : SlotRef) → initial_parent t slot ≡ Some parent → ⊥
@@ -134,15 +98,6 @@ unfolding initial_parent
 no_parent t lawful slot parent e =
     none-some parent
     (sym (ap (λ (pairs : List Pair). option_map (λ (pair : Pair). pair.parent) (find (λ (pair : Pair). same_slot pair.child slot) pairs)) lawful.underived) ∙ e)
-
--- what a booted object is linked to is bound to it
-pub bound_link :
-    (t : Layout) (m : Machine) → IsLawful t → IsBoot t m → (id end : ObjId) (object : Object) (k : Kind)
-    → object_of m id ≡ Some object → links object k end ≡ true → IsBinding t id end k
-bound_link t m lawful boot id end object k at linked =
-    let declared = declared_at t m boot id object at in
-    let blank = (initial_lawful t lawful id declared.initial declared.declares).blank in
-    boot_link t id declared.initial.object k end blank (ap (λ x. links x k end) (sym declared.object_is) ∙ linked)
 
 -- untyped memory that has an address
 memory_at :
@@ -191,14 +146,7 @@ bound_memory :
     (t : Layout) (id : ObjId) (object : Object) (memory : Untyped) → o.Untyped memory ≡ bound t id object
     → object ≡ o.Untyped memory
 bound_memory t id (o.Untyped _) memory e = sym e
-bound_memory t id (o.Tcb _) memory e = cc
-bound_memory t id (o.Context _) memory e = cc
-bound_memory t id (o.CNode _) memory e = cc
-bound_memory t id (o.Endpoint _) memory e = cc
-bound_memory t id (o.Notification _) memory e = cc
-bound_memory t id (o.Reply _) memory e = cc
-bound_memory t id (o.Frame _) memory e = cc
-bound_memory t id (o.Control _) memory e = cc
+bound_memory t id _ memory e = cc
 
 label_declared :
     (t : Layout) (id : ObjId) (initial : Initial) → initial_of t id ≡ Some initial → declared_label t id ≡ Some initial.label

@@ -13,9 +13,9 @@ use Rattle.machine.specs.declared.object.Object.{Object}
 use Rattle.machine.specs.Boot.{IsBoot, bound, booted}
 use Rattle.machine.specs.Layout.{Layout, initial_of, initial_cap, initial_parent}
 use Rattle.machine.specs.Machine.{Machine, id_cmp, slot_cmp, same_id, same_slot, object_of, queue_of, words_of, cap_of, parent_of}
-use Rattle.machine.proofs.LookUps.{id_total, slot_total}
 use Rattle.machine.specs.Objects.{word_count}
-use Rattle.certificate.proofs.Links.{id_itself}
+use Rattle.machine.proofs.Ids.{itself}
+use Rattle.machine.proofs.LookUps.{id_total, slot_total}
 
 abbrev id : ℕ → ObjId
 id n = record { 0 = n }
@@ -36,7 +36,7 @@ numbered_at f n k [] q at = refl
 numbered_at f n zero (initial ∷ more) q at =
     let number : q.0 ≡ n = omega arith in
     let here : q ≡ id n = ap id number in
-    let found : same_id q (id n) ≡ true = ap (λ (x : ObjId). same_id x (id n)) here ∙ id_itself (id n) in
+    let found : same_id q (id n) ≡ true = ap (λ (x : ObjId). same_id x (id n)) here ∙ itself (id n) in
     ap (λ b. cond b (Some (f (id n) initial)) (map.find id_cmp q (numbered f (n + 1) more))) found
     ∙ ap (λ (x : ObjId). Some (f x initial)) (sym here)
 numbered_at f n (suc k) (initial ∷ more) q at =

@@ -1,6 +1,6 @@
 -- What a capability table has in a slot or binds to a thread is what one of its lists says at one place, and the other way round.
 use Rattle.std.proofs.Common.{◌≡◌, ℕ, suc, zero, ◌<◌, Bool, true, false, cond, List, [], ◌∷◌, length, get_or, Option, None, Some, option_map, refl, sym, ap, ◌∙◌, arith}
-use Rattle.std.specs.declared.cmp.Ordering.TheVariants.{Less, Equal}
+use Rattle.std.specs.declared.cmp.Ordering.TheVariants.{Less}
 use Rattle.std.specs.List.{find, slice_get, AllPairs}
 use Rattle.std.specs.Ordering.{is_eq}
 use Rattle.std.proofs.lemmas.Cmp.{tied_itself}
@@ -11,8 +11,9 @@ use Rattle.machine.specs.declared.cap.Cap.{Cap}
 use Rattle.machine.specs.declared.layout.Binding.{Binding}
 use Rattle.machine.specs.declared.layout.Filled.{Filled}
 use Rattle.machine.specs.Layout.{Layout, initial_cap, bound_context}
-use Rattle.machine.specs.Machine.{id_cmp, slot_cmp, same_id, same_slot}
-use Rattle.machine.proofs.LookUps.{id_total, slot_total, one_id, one_slot}
+use Rattle.machine.specs.Machine.{slot_cmp, same_id, same_slot}
+use Rattle.machine.proofs.Ids.{itself}
+use Rattle.machine.proofs.LookUps.{slot_total, one_id, one_slot}
 use Rattle.table.specs.Rules.{IsLawful}
 
 -- an element that is found: where it is, and that it passes
@@ -57,26 +58,33 @@ pair_at R xs i j x y all lt at_i at_j =
     rw (sym (get_or_from_slice_get xs i x x at_i), sym (get_or_from_slice_get xs j y x at_j))
     (all i j x lt (slice_get_within xs j y at_j))
 
--- a filled slot stands in the list
-pub record FilledAt (t : Layout) (slot : SlotRef) (held : Cap) : Type 0 where
+-- what a list has under a key stands in it
+pub record KeyedAt {K V X : Type 0} (key : X → K) (value : X → V) (xs : List X) (k : K) (v : V) : Type 0 where
   pub at : ℕ
-  pub filled : Filled
-  pub here : slice_get t.caps at ≡ Some filled
-  pub slot_is : filled.slot ≡ slot
-  pub held_is : filled.cap ≡ held
+  pub element : X
+  pub here : slice_get xs at ≡ Some element
+  pub key_is : key element ≡ k
+  pub value_is : value element ≡ v
 
-pub filled_at : (t : Layout) (slot : SlotRef) (held : Cap) → initial_cap t slot ≡ Some held → FilledAt t slot held
+keyed_at :
+    {K V X : Type 0} (same : K → K → Bool) (one : (a b : K) → same a b ≡ true → a ≡ b) (key : X → K) (value : X → V)
+    (xs : List X) (k : K) (v : V)
+    → option_map value (find (λ x. same (key x) k) xs) ≡ Some v → KeyedAt key value xs k v
+keyed_at {X = X} same one key value xs k v is = by (find (λ x. same (key x) k) xs) refl is where
+  by : (found : Option X) → find (λ x. same (key x) k) xs ≡ found → option_map value found ≡ Some v → KeyedAt key value xs k v
+  by None found is = absurd (none-some v is)
+  by (Some element) found is =
+      let at = found_at (λ x. same (key x) k) xs element found in
+      record { at = at.at; element = element; here = at.here; key_is = one (key element) k at.passes; value_is = same_Some (value element) v is }
+
+-- a filled slot stands in the table's list, and what stands there is in the slot
+
+pub filled_at :
+    (t : Layout) (slot : SlotRef) (held : Cap) → initial_cap t slot ≡ Some held
+    → KeyedAt (λ (f : Filled). f.slot) (λ f. f.cap) t.caps slot held
 unfolding initial_cap
-filled_at t slot held is = by (find (λ filled. same_slot filled.slot slot) t.caps) refl is where
-  by :
-      (found : Option Filled) → find (λ filled. same_slot filled.slot slot) t.caps ≡ found
-      → option_map (λ filled. filled.cap) found ≡ Some held → FilledAt t slot held
-  by None found is = absurd (none-some held is)
-  by (Some filled) found is =
-      let at = found_at (λ filled. same_slot filled.slot slot) t.caps filled found in
-      record { at = at.at; filled = filled; here = at.here; slot_is = one_slot filled.slot slot at.passes; held_is = same_Some filled.cap held is }
+filled_at t slot held is = keyed_at same_slot one_slot (λ (f : Filled). f.slot) (λ f. f.cap) t.caps slot held is
 
--- and what stands in the list is in the slot
 pub cap_from :
     (t : Layout) → IsLawful t → (k : ℕ) (filled : Filled) → slice_get t.caps k ≡ Some filled
     → initial_cap t filled.slot ≡ Some filled.cap
@@ -84,30 +92,16 @@ unfolding initial_cap
 cap_from t lawful k filled here =
     ap (option_map (λ (f : Filled). f.cap))
     (found_first (λ (f : Filled). same_slot f.slot filled.slot) t.caps k filled here
-    (ap is_eq (slot_itself filled.slot))
+    (ap is_eq (tied_itself slot_total filled.slot))
     (λ i other lt at. ap is_eq (pair_at (λ (one other : Filled). slot_cmp one.slot other.slot ≡ Less) t.caps i k other filled lawful.caps_rise lt at here)))
-  where
-    slot_itself : (slot : SlotRef) → slot_cmp slot slot ≡ Equal
-    slot_itself slot = tied_itself slot_total slot
 
--- a bound thread stands in the list
-pub record BoundAt (t : Layout) (thread context : ObjId) : Type 0 where
-  pub at : ℕ
-  pub binding : Binding
-  pub here : slice_get t.bindings at ≡ Some binding
-  pub thread_is : binding.thread ≡ thread
-  pub context_is : binding.context ≡ context
+-- so does a bound thread
 
-pub bound_at : (t : Layout) (thread context : ObjId) → bound_context t thread ≡ Some context → BoundAt t thread context
+pub bound_at :
+    (t : Layout) (thread context : ObjId) → bound_context t thread ≡ Some context
+    → KeyedAt (λ (b : Binding). b.thread) (λ b. b.context) t.bindings thread context
 unfolding bound_context
-bound_at t thread context is = by (find (λ binding. same_id binding.thread thread) t.bindings) refl is where
-  by :
-      (found : Option Binding) → find (λ binding. same_id binding.thread thread) t.bindings ≡ found
-      → option_map (λ binding. binding.context) found ≡ Some context → BoundAt t thread context
-  by None found is = absurd (none-some context is)
-  by (Some binding) found is =
-      let at = found_at (λ binding. same_id binding.thread thread) t.bindings binding found in
-      record { at = at.at; binding = binding; here = at.here; thread_is = one_id binding.thread thread at.passes; context_is = same_Some binding.context context is }
+bound_at t thread context is = keyed_at same_id one_id (λ (b : Binding). b.thread) (λ b. b.context) t.bindings thread context is
 
 pub bound_from :
     (t : Layout) → IsLawful t → (k : ℕ) (binding : Binding) → slice_get t.bindings k ≡ Some binding
@@ -116,11 +110,8 @@ unfolding bound_context
 bound_from t lawful k binding here =
     ap (option_map (λ (b : Binding). b.context))
     (found_first (λ (b : Binding). same_id b.thread binding.thread) t.bindings k binding here
-    (ap is_eq (id_itself binding.thread))
+    (itself binding.thread)
     (λ i other lt at. id_below other.thread binding.thread (pair_at (λ (one other : Binding). one.thread.0 < other.thread.0) t.bindings i k other binding lawful.bindings_rise lt at here)))
   where
-    id_itself : (id : ObjId) → id_cmp id id ≡ Equal
-    id_itself id = tied_itself id_total id
-
     id_below : (a b : ObjId) → a.0 < b.0 → same_id a b ≡ false
     id_below a b lt = grind arith

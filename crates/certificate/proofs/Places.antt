@@ -1,95 +1,108 @@
--- The least broken place, found part by part: a property that splits into parts, each of which comes before the next, has its
--- least place in the first part that has one.
-use Rattle.std.proofs.Common.{◌≡◌, ℕ, ◌+◌, ◌<◌, List, [], ◌∷◌, ◌++◌, ◌⊎◌, sym, ap, ◌∙◌, subst, inl, inr, arith}
+-- The search for the first place: in a list whose elements add rising numbers to a beginning, the first element under which a
+-- place has a property has the first such place under it.
+use Rattle.std.proofs.Common.{◌≡◌, ℕ, ◌+◌, ◌<◌, ◌≤◌, List, [], ◌∷◌, ◌++◌, ◌⊎◌, Some, sym, ap, ◌∙◌, subst, inl, inr, arith, slice_get, length}
 use mathlib.Core.Bool.{false≢true}
 use Rattle.std.specs.declared.cmp.Ordering.{Ordering}
 use Rattle.std.specs.declared.cmp.Ordering.TheVariants.{Less}
 use Rattle.std.specs.Ordering.{nat_cmp, ordering_then, is_lt}
-use Rattle.std.specs.Cmp.Lexicographic.{slice_cmp}
 use Rattle.std.proofs.lemmas.Bool.{cases_order}
-use Rattle.machine.specs.Layout.{Layout}
-use Rattle.policy.specs.Domain.{EdgeTest}
-use Rattle.certificate.specs.declared.denial.Denial.{Denial}
-use Rattle.certificate.specs.Verdict.{IsLeast, ComesBefore, place_of}
-use Rattle.certificate.specs.Search.{Begins, BreaksUnder, IsNone}
+use Rattle.std.proofs.lemmas.Option.{same_Some, slice_get_within}
+use Rattle.certificate.specs.Places.{ComesBefore, Begins, IsLeast, IsNone, IsUnder}
 
 -- what comes first decides
 pub decided : (x y : ℕ) (rest : Ordering) → ordering_then (nat_cmp x y) rest ≡ Less → (x < y) ⊎ ((x ≡ y) × (rest ≡ Less))
 decided x y rest less = grind (arith, less)
 
--- of two lists that begin alike, the one that goes on with the smaller number comes first
-pub apart :
-    (beginning xs ys : List ℕ) (i j : ℕ) → i < j → Begins (beginning ++ i ∷ []) xs → Begins (beginning ++ j ∷ []) ys
-    → slice_cmp nat_cmp ys xs ≡ Less → ⊥
-apart [] [] ys i j lt left right less = absurd left
-apart [] (x ∷ xs) [] i j lt left right less = absurd right
-apart [] (x ∷ xs) (y ∷ ys) i j lt left right less = elim (decided y x _ less) [ inl before ↦ omega (arith, left.0, right.0) | inr same ↦ omega (arith, left.0, right.0, same.0) ]
-apart (b ∷ bs) [] ys i j lt left right less = absurd left
-apart (b ∷ bs) (x ∷ xs) [] i j lt left right less = absurd right
-apart (b ∷ bs) (x ∷ xs) (y ∷ ys) i j lt left right less = elim (decided y x _ less) [ inl before ↦ omega (arith, left.0, right.0) | inr same ↦ apart bs xs ys i j lt left.1 right.1 same.1 ]
+pub not_before_itself : (place : List ℕ) → ComesBefore place place → ⊥
+not_before_itself [] less = false≢true (ap is_lt less)
+not_before_itself (x ∷ xs) less = elim (decided x x _ less) [ inl before ↦ omega arith | inr same ↦ not_before_itself xs same.1 ]
 
-pub begins_front : (beginning more ys : List ℕ) → Begins (beginning ++ more) ys → Begins beginning ys
+-- the first number in which two lists differ, which both have, is smaller in the first
+abbrev pub IsBelow : List ℕ → List ℕ → Type 0
+IsBelow [] other = ⊥
+IsBelow (x ∷ xs) [] = ⊥
+IsBelow (x ∷ xs) (y ∷ ys) = (x < y) ⊎ ((x ≡ y) × IsBelow xs ys)
+
+below_joined : (beginning one other : List ℕ) → IsBelow one other → IsBelow (beginning ++ one) (beginning ++ other)
+below_joined [] one other below = below
+below_joined (b ∷ bs) one other below = inr ((λ i. b), below_joined bs one other below)
+
+-- what begins with the smaller comes first
+apart :
+    (one other low high : List ℕ) → IsBelow one other → Begins one low → Begins other high → ComesBefore high low → ⊥
+apart [] other low high below left right less = below
+apart (a ∷ one) [] low high below left right less = below
+apart (a ∷ one) (b ∷ other) [] high below left right less = left
+apart (a ∷ one) (b ∷ other) (x ∷ low) [] below left right less = right
+apart (a ∷ one) (b ∷ other) (x ∷ low) (y ∷ high) below left right less = elim (decided y x _ less) [
+  | inl before ↦ elim below [ inl lt ↦ omega (arith, left.0, right.0) | inr same ↦ omega (arith, left.0, right.0, same.0) ]
+  | inr tied ↦ elim below [ inl lt ↦ omega (arith, left.0, right.0, tied.0) | inr same ↦ apart one other low high same.1 left.1 right.1 tied.1 ]
+]
+
+begins_front : (beginning more ys : List ℕ) → Begins (beginning ++ more) ys → Begins beginning ys
 begins_front [] more ys h = tt
 begins_front (b ∷ bs) more [] h = h
 begins_front (b ∷ bs) more (y ∷ ys) h = (h.0, begins_front bs more ys h.1)
 
--- a property is that of one of the parts below a number, which rise
-pub record Splits (P : Denial → Type 0) (count : ℕ) (Part : ℕ → Denial → Type 0) : Type 0 where
-  pub covers : (denial : Denial) → P denial → (k : ℕ) × (k < count) × Part k denial
-  pub within : (k : ℕ) (denial : Denial) → k < count → Part k denial → P denial
-  pub rises : (i j : ℕ) (low high : Denial) → i < j → j < count → Part i low → Part j high → ComesBefore high low → ⊥
+-- a list goes on after a beginning with the number that it has there
+pub begins_next : (beginning ys : List ℕ) (n : ℕ) → Begins beginning ys → slice_get ys (length beginning) ≡ Some n → Begins (beginning ++ n ∷ []) ys
+begins_next [] [] n h at = cc
+begins_next [] (y ∷ ys) n h at = (sym (same_Some y n at), tt)
+begins_next (b ∷ bs) [] n h at = h
+begins_next (b ∷ bs) (y ∷ ys) n h at = (h.0, begins_next bs ys n h.1 at)
 
-module _ {P : Denial → Type 0} {count : ℕ} {Part : ℕ → Denial → Type 0} (splits : Splits P count Part) where
-  -- one part more, whose number is also known otherwise
+-- under each place of the property there is an element of the list, and the elements rise
+pub record Searches
+    {X A : Type 0} (place : X → List ℕ) (P : X → Type 0) (beginning : List ℕ) (xs : List A) (adds : A → List ℕ) : Type 0 where
+  pub covers :
+      (x : X) → IsUnder place P beginning x
+      → (k : ℕ) × (a : A) × (slice_get xs k ≡ Some a) × Begins (beginning ++ adds a) (place x)
+  pub rises :
+      (i j : ℕ) (a b : A) → i < j → slice_get xs i ≡ Some a → slice_get xs j ≡ Some b → IsBelow (adds a) (adds b)
+
+-- under the first elements of a list no place has the property
+abbrev pub NoneSoFar :
+    {X A : Type 0} → (X → List ℕ) → (X → Type 0) → List ℕ → List A → (A → List ℕ) → ℕ → Type 0
+NoneSoFar {X} {A} place P beginning xs adds n =
+    (k : ℕ) (a : A) → k < n → slice_get xs k ≡ Some a → IsNone (IsUnder place P (beginning ++ adds a))
+
+module _
+    {X A : Type 0} {place : X → List ℕ} {P : X → Type 0} {beginning : List ℕ} {xs : List A} {adds : A → List ℕ}
+    (search : Searches place P beginning xs adds) where
+  -- one element more
   pub none_more :
-      (i j : ℕ) → j ≡ i → ((k : ℕ) → k < i → IsNone (Part k)) → IsNone (Part j) → (k : ℕ) → k < i + 1 → IsNone (Part k)
-  none_more i j same before here k lt =
-      elim (cases_order k i) [
-        | inl last ↦ subst (λ (n : ℕ). IsNone (Part n)) (same ∙ sym last) here
-        | inr (inl below) ↦ before k below
-        | inr (inr above) ↦ absurd (omega arith)
-      ]
+      (n : ℕ) (a : A) → slice_get xs n ≡ Some a → NoneSoFar place P beginning xs adds n
+      → IsNone (IsUnder place P (beginning ++ adds a)) → NoneSoFar place P beginning xs adds (n + 1)
+  none_more n a here before none k b lt at = elim (cases_order k n) [
+    | inl last ↦ subst (λ (c : A). IsNone (IsUnder place P (beginning ++ adds c))) (same_Some a b (sym here ∙ ap (slice_get xs) (sym last) ∙ at)) none
+    | inr (inl below) ↦ before k b below at
+    | inr (inr above) ↦ absurd (omega arith)
+  ]
 
-  pub none_in_parts : ((k : ℕ) → k < count → IsNone (Part k)) → IsNone P
-  none_in_parts none denial has = let part = splits.covers denial has in none part.0 part.1 denial part.2
+  pub none_at_all : (n : ℕ) → length xs ≤ n → NoneSoFar place P beginning xs adds n → IsNone (IsUnder place P beginning)
+  none_at_all n all none x under =
+      let at = search.covers x under in
+      let within = slice_get_within xs at.0 at.1 at.2 in
+      none at.0 at.1 (omega (arith, within, all)) at.2 x (at.3, under.1)
 
-  pub least_in_part :
-      (i j : ℕ) → j ≡ i → i < count → ((k : ℕ) → k < i → IsNone (Part k)) → (denial : Denial) → IsLeast (Part j) denial
-      → IsLeast P denial
-  least_in_part i j same lt none denial least = record {
-    has = splits.within i denial lt (subst (λ (n : ℕ). Part n denial) same least.has);
-    first = λ other has before.
-        let part = splits.covers other has in
-        elim (cases_order part.0 i) [
-          | inl here ↦ least.first other (subst (λ (n : ℕ). Part n other) (here ∙ sym same) part.2) before
-          | inr (inl below) ↦ none part.0 below other part.2
-          | inr (inr above) ↦ splits.rises i part.0 denial other above part.1 (subst (λ (n : ℕ). Part n denial) same least.has) part.2 before
+  pub least_here :
+      (n : ℕ) (a : A) → slice_get xs n ≡ Some a → NoneSoFar place P beginning xs adds n → (x : X)
+      → IsLeast place (IsUnder place P (beginning ++ adds a)) x → IsLeast place (IsUnder place P beginning) x
+  least_here n a here none x least = record {
+    has = (begins_front beginning (adds a) (place x) least.has.0, least.has.1);
+    first = λ other under before.
+        let at = search.covers other under in
+        elim (cases_order at.0 n) [
+          | inl same ↦ least.first other (subst (λ (c : A). Begins (beginning ++ adds c) (place other)) (same_Some at.1 a (sym at.2 ∙ ap (slice_get xs) same ∙ here)) at.3, under.1) before
+          | inr (inl below) ↦ none at.0 at.1 below at.2 other (at.3, under.1)
+          | inr (inr above) ↦ apart (beginning ++ adds a) (beginning ++ adds at.1) (place x) (place other) (below_joined beginning (adds a) (adds at.1) (search.rises n at.0 a at.1 above here at.2)) least.has.0 at.3 before
         ];
   }
 
--- broken places that begin alike are split by the number that follows
-pub splits_by_next :
-    (t : Layout) (allowed : EdgeTest) (beginning : List ℕ) (count : ℕ) →
-    ((denial : Denial) → BreaksUnder t allowed beginning denial → (k : ℕ) × (k < count) × Begins (beginning ++ k ∷ []) (place_of denial))
-    → Splits (BreaksUnder t allowed beginning) count (λ k. BreaksUnder t allowed (beginning ++ k ∷ []))
-splits_by_next t allowed beginning count next = record {
-  covers = λ denial broken. let found = next denial broken in (found.0, found.1, (found.2, broken.1));
-  within = λ k denial lt broken. (begins_front beginning (k ∷ []) (place_of denial) broken.0, broken.1);
-  rises = λ i j low high lt _ left right. apart beginning (place_of low) (place_of high) i j lt left.0 right.0;
-}
-
--- a place comes before none that it begins with
-pub not_before : (beginning place : List ℕ) → Begins beginning place → slice_cmp nat_cmp place beginning ≡ Less → ⊥
-not_before [] [] h less = absurd (false≢true (ap is_lt less))
-not_before [] (y ∷ ys) h less = absurd (false≢true (ap is_lt less))
-not_before (b ∷ bs) [] h less = h
-not_before (b ∷ bs) (y ∷ ys) h less = elim (decided y b _ less) [ inl before ↦ omega (arith, h.0) | inr same ↦ not_before bs ys h.1 same.1 ]
-
--- where all of a place is given, it is the only one
-pub least_alone :
-    (t : Layout) (allowed : EdgeTest) (beginning : List ℕ) (denial : Denial) → place_of denial ≡ beginning
-    → BreaksUnder t allowed beginning denial → IsLeast (BreaksUnder t allowed beginning) denial
-least_alone t allowed beginning denial same broken = record {
-  has = broken;
-  first = λ other under before. not_before beginning (place_of other) under.0 (subst (λ (place : List ℕ). slice_cmp nat_cmp (place_of other) place ≡ Less) same before);
+-- the only one that has a property
+pub only_least :
+    {X : Type 0} (place : X → List ℕ) (P : X → Type 0) (x : X) → P x → ((other : X) → P other → other ≡ x) → IsLeast place P x
+only_least place P x has only = record {
+  has = has;
+  first = λ other also before. not_before_itself (place x) (subst (λ y. ComesBefore (place y) (place x)) (only other also) before);
 }

@@ -59,18 +59,12 @@ lessens_lessens a b c (unbound was is x y address share thread) (unbound was' is
     let same : was' ≡ is = same_context was' is (sym x' ∙ y) in
     unbound was is' x y' (address' ∙ ap (λ (t : Context). t.address) same ∙ address)
     (share' ∙ ap (λ (t : Context). t.share) same ∙ share) thread'
-lessens_lessens a b c (released was is x y address stops context) (freed was' is' x' y' address' free') =
-    let e : o.Tcb is ≡ o.Reply was' = sym y ∙ x' in cc
-lessens_lessens a b c (released was is x y address stops context) (unbound was' is' x' y' address' share' thread') =
-    let e : o.Tcb is ≡ o.Context was' = sym y ∙ x' in cc
-lessens_lessens a b c (freed was is x y address free) (released was' is' x' y' address' stops' context') =
-    let e : o.Reply is ≡ o.Tcb was' = sym y ∙ x' in cc
-lessens_lessens a b c (freed was is x y address free) (unbound was' is' x' y' address' share' thread') =
-    let e : o.Reply is ≡ o.Context was' = sym y ∙ x' in cc
-lessens_lessens a b c (unbound was is x y address share thread) (released was' is' x' y' address' stops' context') =
-    let e : o.Context is ≡ o.Tcb was' = sym y ∙ x' in cc
-lessens_lessens a b c (unbound was is x y address share thread) (freed was' is' x' y' address' free') =
-    let e : o.Context is ≡ o.Reply was' = sym y ∙ x' in cc
+lessens_lessens a b c (released was is x y address stops context) (freed was' is' x' y' address' free') = cc
+lessens_lessens a b c (released was is x y address stops context) (unbound was' is' x' y' address' share' thread') = cc
+lessens_lessens a b c (freed was is x y address free) (released was' is' x' y' address' stops' context') = cc
+lessens_lessens a b c (freed was is x y address free) (unbound was' is' x' y' address' share' thread') = cc
+lessens_lessens a b c (unbound was is x y address share thread) (released was' is' x' y' address' stops' context') = cc
+lessens_lessens a b c (unbound was is x y address share thread) (freed was' is' x' y' address' free') = cc
 
 lost_lost : (a b c : Option Cap) → (b ≡ a) ⊎ (b ≡ None) → (c ≡ b) ⊎ (c ≡ None) → (c ≡ a) ⊎ (c ≡ None)
 lost_lost a b c (inl one) (inl two) = inl (two ∙ one)

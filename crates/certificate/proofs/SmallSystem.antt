@@ -1,6 +1,6 @@
--- A small system whose slots and bindings are open: a CNode of label 1, a thread of label 0, a notification of label 2, and a
--- scheduling context of label 0 for core 0.
-use Rattle.std.proofs.Common.{◌≡◌, ◌≢◌, ℕ, ◌<◌, Bool, true, false, not, ◌&&◌, nat_lt, List, [], ◌∷◌, get_or, Option, Some, None, refl, sym, ap, ◌∙◌, arith, lit<, lit≤}
+-- A small system: a CNode of label 1, a thread of label 0, a notification of label 2, and a scheduling context of label 0 for core
+-- 0. The thread finds the notification at the address 0, and runs on the context.
+use Rattle.std.proofs.Common.{◌≡◌, ◌≢◌, ℕ, Bool, true, false, not, ◌&&◌, nat_lt, List, [], ◌∷◌, get_or, Option, Some, None, refl, sym, ap, ◌∙◌, arith, lit<, lit≤}
 use Rattle.std.specs.Prelude.{codes}
 use Rattle.std.specs.List.{All, AllPairs, list_all}
 use Rattle.std.specs.Str.{bytes_eq}
@@ -17,7 +17,6 @@ use Rattle.base.specs.declared.ids.ObjId.{ObjId}
 use Rattle.base.specs.declared.ids.SlotRef.{SlotRef}
 use Rattle.machine.specs.declared.cap.Cap.{Cap}
 use Rattle.machine.specs.declared.cap.Detail.TheVariants as d
-use Rattle.machine.specs.declared.layout.Binding.{Binding}
 use Rattle.machine.specs.declared.layout.Filled.{Filled}
 use Rattle.machine.specs.declared.layout.Initial.{Initial}
 use Rattle.machine.specs.declared.object.Object.{Object}
@@ -67,15 +66,18 @@ labelled label object = record { label = label; object = object }
 abbrev pub no_edges : EdgeTest
 no_edges from k to = false
 
-unfoldable pub system : List Filled → List Binding → Layout
-system caps bindings = record {
+abbrev pub filled : SlotRef → Cap → Filled
+filled place held = record { slot = place; cap = held }
+
+unfoldable pub signalling : Layout
+signalling = record {
   labels = codes "a" ∷ codes "b" ∷ codes "c" ∷ [];
   names = codes "space" ∷ codes "thread" ∷ codes "word" ∷ codes "context" ∷ [];
   objects =
       labelled 1 node ∷ labelled 0 (thread None) ∷ labelled 2 (notification None) ∷ labelled 0 (context None) ∷ [];
-  caps = caps;
+  caps = filled (slot 0 0) signal_cap ∷ filled (slot 1 0) space_cap ∷ [];
   pairs = [];
-  bindings = bindings;
+  bindings = record { thread = id 1; context = id 3 } ∷ [];
 }
 
 -- what holds of each element and each later one, by a test
@@ -126,61 +128,12 @@ all_apart initials e = λ i j d below within.
 abbrev NoControl : Initial → Type 0
 NoControl initial = (core : ℕ) → is_control_of initial.object core ≡ false
 
-no_control : (caps : List Filled) (bindings : List Binding) → All NoControl (system caps bindings).objects
-unfolding system
-no_control caps bindings =
-    All-from_recursion NoControl (system caps bindings).objects ((λ _. refl), ((λ _. refl), ((λ _. refl), ((λ _. refl), tt))))
-
-pub lawful :
-    (caps : List Filled) (bindings : List Binding) → All (IsCapOf (system caps bindings)) caps
-    → AllPairs (λ one other. slot_cmp one.slot other.slot ≡ Less) caps
-    → AllPairs (λ one other. kind_of_detail other.cap.detail ≡ kind.Untyped → one.cap.object ≢ other.cap.object) caps
-    → All (IsBindingOf (system caps bindings)) bindings → AllPairs (λ one other. one.thread.0 < other.thread.0) bindings
-    → AllPairs (λ one other. one.context ≢ other.context) bindings
-    → IsLawful (system caps bindings)
-unfolding system pairs_test
-lawful caps bindings fit rise once bind bindings_rise contexts_differ = record {
-  few_labels = lit≤ tt;
-  label_names = search (AllPass-from_list_all);
-  labels_differ = names_differ (system caps bindings).labels refl;
-  object_names = search (AllPass-from_list_all);
-  names_differ = names_differ (system caps bindings).names refl;
-  each_named = refl;
-  few_objects = lit≤ tt;
-  few_slots = lit≤ tt;
-  few_threads = lit≤ tt;
-  objects =
-      All-from_recursion (IsObjectOf (system caps bindings)) (system caps bindings).objects (
-        record { label = lit< tt; blank = (lit< tt, lit≤ tt); aligned = refl; end = lit≤ tt },
-        (
-          record { label = lit< tt; blank = (tt, refl, refl); aligned = refl; end = lit≤ tt },
-          (
-            record { label = lit< tt; blank = refl; aligned = refl; end = lit≤ tt },
-            (record { label = lit< tt; blank = ((lit≤ tt, lit≤ tt, lit≤ tt, lit< tt), refl); aligned = refl; end = lit≤ tt }, tt),
-          ),
-        ),
-      );
-  objects_apart = all_apart (system caps bindings).objects refl;
-  controls_differ = λ i j d below within core is. no_control caps bindings j d within core;
-  caps = fit;
-  caps_rise = rise;
-  untypeds_once = once;
-  underived = refl;
-  bindings = bind;
-  bindings_rise = bindings_rise;
-  contexts_differ = contexts_differ;
-}
-
-abbrev pub filled : SlotRef → Cap → Filled
-filled place held = record { slot = place; cap = held }
-
--- the slots are filled so that the thread finds the notification at the address 0, and the thread runs on the context
-unfoldable pub signalling : Layout
-signalling =
-    system (filled (slot 0 0) signal_cap ∷ filled (slot 1 0) space_cap ∷ []) (record { thread = id 1; context = id 3 } ∷ [])
+no_control : All NoControl signalling.objects
+unfolding signalling
+no_control = All-from_recursion NoControl signalling.objects ((λ _. refl), ((λ _. refl), ((λ _. refl), ((λ _. refl), tt))))
 
 signal_fits : IsCapOf signalling (filled (slot 0 0) signal_cap)
-unfolding signalling system initial_of initial_parent
+unfolding signalling initial_of initial_parent
 signal_fits = record {
   holder = labelled 1 node;
   target = labelled 2 (notification None);
@@ -193,7 +146,7 @@ signal_fits = record {
 }
 
 space_fits : IsCapOf signalling (filled (slot 1 0) space_cap)
-unfolding signalling system initial_of initial_parent
+unfolding signalling initial_of initial_parent
 space_fits = record {
   holder = labelled 0 (thread None);
   target = labelled 1 node;
@@ -206,27 +159,41 @@ space_fits = record {
 }
 
 no_untyped : All (λ filled. kind_of_detail filled.cap.detail ≢ kind.Untyped) signalling.caps
-unfolding signalling system
+unfolding signalling
 no_untyped =
     All-from_recursion (λ filled. kind_of_detail filled.cap.detail ≢ kind.Untyped) signalling.caps ((λ e. cc), ((λ e. cc), tt))
 
 pub signalling_lawful : IsLawful signalling
-unfolding signalling system initial_of kind_at pairs_test
-signalling_lawful =
-    lawful signalling.caps signalling.bindings
-    (All-from_recursion (IsCapOf signalling) signalling.caps (signal_fits, (space_fits, tt)))
-    (λ i j d below within. less _ (pairs_pass (λ a b. is_lt (slot_cmp a.slot b.slot)) signalling.caps refl i j d below within))
-    (λ i j d below within untyped. absurd (no_untyped j d within untyped))
-    (All-from_recursion (IsBindingOf signalling) signalling.bindings (record { thread = refl; context = refl }, tt))
-    (λ i j d below within. absurd (omega arith)) (λ i j d below within. absurd (omega arith))
-
--- no slot is filled, and the thread runs on no context
-unfoldable pub bare : Layout
-bare = system [] []
-
-pub bare_lawful : IsLawful bare
-unfolding bare system
-bare_lawful =
-    lawful [] []
-    (λ i d within. absurd (omega arith)) (λ i j d below within. absurd (omega arith)) (λ i j d below within. absurd (omega arith))
-    (λ i d within. absurd (omega arith)) (λ i j d below within. absurd (omega arith)) (λ i j d below within. absurd (omega arith))
+unfolding signalling initial_of kind_at pairs_test
+signalling_lawful = record {
+  few_labels = lit≤ tt;
+  label_names = search (AllPass-from_list_all);
+  labels_differ = names_differ signalling.labels refl;
+  object_names = search (AllPass-from_list_all);
+  names_differ = names_differ signalling.names refl;
+  each_named = refl;
+  few_objects = lit≤ tt;
+  few_slots = lit≤ tt;
+  few_threads = lit≤ tt;
+  objects =
+      All-from_recursion (IsObjectOf signalling) signalling.objects (
+        record { label = lit< tt; blank = (lit< tt, lit≤ tt); aligned = refl; end = lit≤ tt },
+        (
+          record { label = lit< tt; blank = (tt, refl, refl); aligned = refl; end = lit≤ tt },
+          (
+            record { label = lit< tt; blank = refl; aligned = refl; end = lit≤ tt },
+            (record { label = lit< tt; blank = ((lit≤ tt, lit≤ tt, lit≤ tt, lit< tt), refl); aligned = refl; end = lit≤ tt }, tt),
+          ),
+        ),
+      );
+  objects_apart = all_apart signalling.objects refl;
+  controls_differ = λ i j d below within core is. no_control j d within core;
+  caps = All-from_recursion (IsCapOf signalling) signalling.caps (signal_fits, (space_fits, tt));
+  caps_rise = λ i j d below within.
+      less _ (pairs_pass (λ a b. is_lt (slot_cmp a.slot b.slot)) signalling.caps refl i j d below within);
+  untypeds_once = λ i j d below within untyped. absurd (no_untyped j d within untyped);
+  underived = refl;
+  bindings = All-from_recursion (IsBindingOf signalling) signalling.bindings (record { thread = refl; context = refl }, tt);
+  bindings_rise = λ i j d below within. absurd (omega arith);
+  contexts_differ = λ i j d below within. absurd (omega arith);
+}

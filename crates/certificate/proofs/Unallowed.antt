@@ -21,7 +21,8 @@ use Rattle.machine.specs.Lookup.{lookup_of, level_at, walk, hop}
 use Rattle.machine.specs.Machine.{Machine, object_of, queue_of, cap_of}
 use Rattle.machine.proofs.LookUps.{object_of-with_object}
 use Rattle.machine.specs.Step.{Step, step_of, made_by, admitted}
-use Rattle.machine.specs.Step.Find.{find_notification}
+use Rattle.machine.specs.Step.Step.{ends}
+use Rattle.machine.specs.Step.Find.{find_cap, find_notification}
 use Rattle.machine.specs.Step.Signal.{signal_of, signalled}
 use Rattle.policy.specs.Domain.{EdgeTest}
 use Rattle.policy.specs.Full.{IsFull, is_modifying}
@@ -32,7 +33,7 @@ use Rattle.certificate.specs.Shrinks.{IsSame, Shrinks}
 use Rattle.certificate.proofs.AtBoot.{boot_label}
 use Rattle.certificate.proofs.BootState.{boot_state, boot_state_is}
 use Rattle.certificate.proofs.Gains.{word_grows}
-use Rattle.certificate.proofs.SmallSystem.{id, slot, node, thread, notification, context, space_cap, signal_cap, no_edges, system, signalling, signalling_lawful}
+use Rattle.certificate.proofs.SmallSystem.{id, slot, node, thread, notification, context, space_cap, signal_cap, no_edges, signalling, signalling_lawful}
 
 -- a change of a notification's word, without full authority
 
@@ -96,31 +97,31 @@ signal = record { core = 0; thread = id 1; call = Signal 0 }
 
 module _ (m : Machine) (boot : IsBoot signalling m) where
   caller : object_of m (id 1) ≡ Some (thread (Some (id 3)))
-  unfolding signalling system initial_of bound_context
+  unfolding signalling initial_of bound_context
   caller = boot.objects (id 1)
 
   runs_on : object_of m (id 3) ≡ Some (context (Some (id 1)))
-  unfolding signalling system initial_of bound_thread
+  unfolding signalling initial_of bound_thread
   runs_on = boot.objects (id 3)
 
   space : object_of m (id 0) ≡ Some node
-  unfolding signalling system initial_of
+  unfolding signalling initial_of
   space = boot.objects (id 0)
 
   silent : object_of m (id 2) ≡ Some (notification None)
-  unfolding signalling system initial_of
+  unfolding signalling initial_of
   silent = boot.objects (id 2)
 
   nobody : queue_of m (id 2) ≡ Some []
-  unfolding signalling system initial_of
+  unfolding signalling initial_of
   nobody = boot.queues (id 2)
 
   root : cap_of m (slot 1 0) ≡ Some space_cap
-  unfolding signalling system initial_cap
+  unfolding signalling initial_cap
   root = boot.caps (slot 1 0)
 
   held : cap_of m (slot 0 0) ≡ Some signal_cap
-  unfolding signalling system initial_cap
+  unfolding signalling initial_cap
   held = boot.caps (slot 0 0)
 
   admits : admitted m 0 (id 1) ≡ Ok (record { core = 0; budget = 10; period = 10 })
@@ -128,26 +129,29 @@ module _ (m : Machine) (boot : IsBoot signalling m) where
   admits = rw (caller, runs_on) refl
 
   pub finds : find_notification m (id 1) 0 ≡ Ok (id 2, record { rights = record { 0 = 2 }; badge = 1 })
-  unfolding find_notification lookup_of level_at walk hop
+  unfolding find_notification find_cap lookup_of level_at walk hop
   finds = rw (caller, root, space, held) refl
 
   pub after_signal : Machine
   after_signal = with_pending m (id 2) (Some 1)
 
-  pub signals : Step m signal (Done Nothing) after_signal
+  made : step_of m signal ≡ (Done Nothing, after_signal)
   unfolding signal after_signal step_of made_by signal_of signalled first_waiting
-  signals = rw (admits, finds, nobody, silent) refl
+  made = rw (admits, finds, nobody, silent) refl
+
+  pub signals : Step m signal (Done Nothing) after_signal
+  signals = ends made
 
   pending : object_of after_signal (id 2) ≡ Some (notification (Some 1))
   unfolding after_signal with_pending
   pending = rw silent (object_of-with_object m (id 2) (notification (Some 1)) (id 2))
 
   pub caller_label : label_of signalling m (id 1) ≡ Some 0
-  unfolding signalling system initial_of declared_label
+  unfolding signalling initial_of declared_label
   caller_label = boot_label signalling m boot (id 1)
 
   pub notification_label : label_of signalling m (id 2) ≡ Some 2
-  unfolding signalling system initial_of declared_label
+  unfolding signalling initial_of declared_label
   notification_label = boot_label signalling m boot (id 2)
 
   -- a policy that allows it has an edge from label 0 that isn't structural

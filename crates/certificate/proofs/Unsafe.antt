@@ -34,7 +34,7 @@ use Rattle.certificate.specs.Safe.{IsReached, IsSafe}
 use Rattle.certificate.proofs.AtBoot.{boot_kind, boot_label}
 use Rattle.certificate.proofs.BootState.{boot_state, boot_state_is}
 use Rattle.certificate.proofs.Lookups.{filled_at}
-use Rattle.certificate.proofs.SmallSystem.{id, slot, filled, node, thread, notification, context, space_cap, signal_cap, system, signalling, signalling_lawful}
+use Rattle.certificate.proofs.SmallSystem.{id, slot, filled, node, thread, notification, context, space_cap, signal_cap, signalling, signalling_lawful}
 use Rattle.certificate.proofs.Unallowed.{signal, signals, signal_unallowed, after_signal}
 
 -- the policy
@@ -42,7 +42,7 @@ use Rattle.certificate.proofs.Unallowed.{signal, signals, signal_unallowed, afte
 abbrev edge : ℕ → Kind → ℕ → Edge
 edge from k to = record { from = from; kind = k; to = to }
 
-abbrev edges : List Edge
+abbrev pub edges : List Edge
 edges = edge 0 Space 1 ∷ edge 0 Runs 0 ∷ edge 1 Reset 2 ∷ edge 1 Notify 2 ∷ edge 1 Derive 1 ∷ []
 
 -- the edges of a kind
@@ -157,8 +157,8 @@ abbrev IsFilled : SlotRef → Cap → Type 0
 IsFilled q held = ((q ≡ slot 0 0) × (held ≡ signal_cap)) ⊎ ((q ≡ slot 1 0) × (held ≡ space_cap))
 
 filled_slots : (q : SlotRef) (held : Cap) → initial_cap signalling q ≡ Some held → IsFilled q held
-unfolding signalling system
-filled_slots q held e = let f = filled_at signalling q held e in by f.at f.filled f.here f.slot_is f.held_is where
+unfolding signalling
+filled_slots q held e = let f = filled_at signalling q held e in by f.at f.element f.here f.key_is f.value_is where
   by : (at : ℕ) (line : Filled) → slice_get signalling.caps at ≡ Some line → line.slot ≡ q → line.cap ≡ held → IsFilled q held
   by zero line here slot_is held_is =
       let is = same_Some line (filled (slot 0 0) signal_cap) (sym here) in
@@ -182,7 +182,7 @@ module _ (m : Machine) (boot : IsBoot signalling m) where
       (q : SlotRef) (held : Cap) (from : ℕ) (k : Kind) (to : ℕ) → IsFilled q held → kind_of m q.holder ≡ Some kind.CNode
       → gives held.detail k ≡ true → label_of signalling m q.holder ≡ Some from → label_of signalling m held.object ≡ Some to
       → allows edges from k to ≡ true
-  unfolding signalling system initial_of declared_label kind_at
+  unfolding signalling initial_of declared_label kind_at
   by_capability q held from k to (inl here) is_node given source target =
       let from_is = label_is q.holder (id 0) from 1 (ap (λ (s : SlotRef). s.holder) here.0) refl source in
       let to_is = label_is held.object (id 2) to 2 (ap (λ (c : Cap). c.object) here.1) refl target in
@@ -196,7 +196,7 @@ module _ (m : Machine) (boot : IsBoot signalling m) where
       (q : SlotRef) (held : Cap) (from to : ℕ) → IsFilled q held → kind_of m q.holder ≡ Some kind.Tcb
       → label_of signalling m q.holder ≡ Some from → label_of signalling m held.object ≡ Some to
       → allows edges from Space to ≡ true
-  unfolding signalling system initial_of declared_label kind_at allows
+  unfolding signalling initial_of declared_label kind_at allows
   by_space q held from to (inl here) is_thread source target =
       let is_node = kind_is q.holder (id 0) (ap (λ (s : SlotRef). s.holder) here.0) in
       let clash : Some kind.CNode ≡ Some kind.Tcb = sym is_node ∙ is_thread in
@@ -217,7 +217,7 @@ module _ (m : Machine) (boot : IsBoot signalling m) where
       (n : ℕ) (object : Object) (from : ℕ) (k : Kind) (to : ℕ) (end : ObjId) → object_of m (id n) ≡ Some object
       → links object k end ≡ true
       → label_of signalling m (id n) ≡ Some from → label_of signalling m end ≡ Some to → allows edges from k to ≡ true
-  unfolding signalling system initial_of bound_context bound_thread declared_label allows
+  unfolding signalling initial_of bound_context bound_thread declared_label allows
   by_object zero object from k to end at linked source target =
       absurd (unlinked object node k end (object_is (id 0) object node (boot.objects (id 0)) at) refl linked)
   by_object (suc zero) object from k to end at linked source target =
@@ -236,10 +236,10 @@ module _ (m : Machine) (boot : IsBoot signalling m) where
       absurd (none-some object (sym (boot.objects (id (suc (suc (suc (suc n)))))) ∙ at))
 
   no_pair : (q parent : SlotRef) → parent_of m q ≡ Some parent → ⊥
-  unfolding signalling system initial_parent
+  unfolding signalling initial_parent
   no_pair q parent e = none-some parent (sym (boot.parents q) ∙ e)
 
-  confined : IsConfined signalling (allows edges) m
+  pub confined : IsConfined signalling (allows edges) m
   confined from k to (by_cap q held filled is_node given source target) =
       by_capability q held from k to (filled_slots q held (sym (boot.caps q) ∙ filled)) is_node given source target
   confined from k to (by_root q held filled is_thread source target) =

@@ -22,11 +22,13 @@ use Rattle.policy.specs.Domain.{EdgeTest}
 abbrev pub invoked : Call → ℕ
 invoked (call.Signal address) = address
 invoked (call.Poll address) = address
+invoked (call.Wait address) = address
 
 -- whether a call configures a context
 abbrev pub is_configure : Call → Bool
 is_configure (call.Signal _) = false
 is_configure (call.Poll _) = false
+is_configure (call.Wait _) = false
 
 -- the call configures a context, through a control's capability, and the caller's label has the edges that this takes
 pub record MayConfigure (t : Layout) (allowed : EdgeTest) (m : Machine) (event : Event) (context : ObjId) : Type 0 where

@@ -1,5 +1,7 @@
+pub mod Places
+pub mod Sources
+pub mod Rules
 pub mod Verdict
-pub mod Search
 pub mod System
 pub mod Confined
 pub mod Shrinks
@@ -9,4 +11,3 @@ pub mod Safe
 pub mod OfTable
 pub mod Invariant
 pub mod Counterexamples
-pub mod Outside

@@ -1,8 +1,9 @@
 ghost use Rattle.std.specs.Prelude.{◌≡◌, ◌∷◌, [], Some};
 ghost use Rattle.machine.specs.Layout.{bound_context};
 ghost use Rattle.policy.specs.Policy.{allows};
-ghost use Rattle.certificate.specs.Verdict.{a4};
-ghost use Rattle.certificate.specs.Search.{BreaksUnder, FindsLeast};
+ghost use Rattle.certificate.specs.Rules.{a4};
+ghost use Rattle.certificate.specs.Verdict.{BreaksUnder, place_of};
+ghost use Rattle.certificate.specs.Places.{FindsLeast};
 
 use crate::Denial;
 use crate::labels::label_of;
@@ -14,7 +15,7 @@ use table::Table;
 /// The least place where A4 is broken: threads have runs edges to the contexts that they are bound
 /// to.
 pub fn first_binding(table: &Table, policy: &Policy) -> Option<Denial>
-    ensures { FindsLeast (BreaksUnder table.now (allows policy.now) (a4 ∷ [])) result }
+    ensures { FindsLeast place_of (BreaksUnder table.now (allows policy.now) (a4 ∷ [])) result }
 {
     for binding in table.bindings() {
         if let Some(denial) = binding_excess(table, policy, binding) {
@@ -27,7 +28,7 @@ pub fn first_binding(table: &Table, policy: &Policy) -> Option<Denial>
 // The place of this thread, if A4 is broken there.
 fn binding_excess(table: &Table, policy: &Policy, binding: &Binding) -> Option<Denial>
     requires { bound_context table.now binding.now.thread ≡ Some binding.now.context }
-    ensures { FindsLeast (BreaksUnder table.now (allows policy.now) (a4 ∷ binding.now.thread.0 ∷ [])) result }
+    ensures { FindsLeast place_of (BreaksUnder table.now (allows policy.now) (a4 ∷ binding.now.thread.0 ∷ [])) result }
 {
     let edge = Edge {
         from: label_of(table, binding.thread)?,

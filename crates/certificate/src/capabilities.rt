@@ -2,8 +2,9 @@ ghost use Rattle.std.specs.Prelude.{◌≡◌, ◌↔◌, ◌∷◌, [], Some, t
 ghost use Rattle.machine.specs.Capabilities.{gives};
 ghost use Rattle.machine.specs.Layout.{initial_cap};
 ghost use Rattle.policy.specs.Policy.{allows};
-ghost use Rattle.certificate.specs.Verdict.{a1};
-ghost use Rattle.certificate.specs.Search.{BreaksUnder, FindsLeast};
+ghost use Rattle.certificate.specs.Rules.{a1};
+ghost use Rattle.certificate.specs.Verdict.{BreaksUnder, place_of};
+ghost use Rattle.certificate.specs.Places.{FindsLeast};
 
 use crate::Denial;
 use crate::labels::label_of;
@@ -14,7 +15,7 @@ use table::Table;
 
 /// The least place where A1 is broken: what the capabilities in CNodes give is in the policy.
 pub fn first_capability(table: &Table, policy: &Policy) -> Option<Denial>
-    ensures { FindsLeast (BreaksUnder table.now (allows policy.now) (a1 ∷ [])) result }
+    ensures { FindsLeast place_of (BreaksUnder table.now (allows policy.now) (a1 ∷ [])) result }
 {
     for filled in table.caps() {
         if let Some(denial) = capability_excess(table, policy, filled) {
@@ -27,7 +28,7 @@ pub fn first_capability(table: &Table, policy: &Policy) -> Option<Denial>
 // The least place in this slot.
 fn capability_excess(table: &Table, policy: &Policy, filled: &Filled) -> Option<Denial>
     requires { initial_cap table.now filled.now.slot ≡ Some filled.now.cap }
-    ensures { FindsLeast
+    ensures { FindsLeast place_of
         (BreaksUnder table.now (allows policy.now) (a1 ∷ filled.now.slot.holder.0 ∷ filled.now.slot.index ∷ []))
         result }
 {

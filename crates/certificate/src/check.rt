@@ -1,9 +1,9 @@
 ghost use Rattle.std.specs.Prelude.{IsOk, IfOk};
 ghost use Rattle.policy.specs.Policy.{allows};
 ghost use Rattle.certificate.specs.Safe.{StaysConfined, KeepsIntegrity, GuardsBudgets};
-ghost use Rattle.certificate.specs.Search.{FindsLeast};
+ghost use Rattle.certificate.specs.Places.{FindsLeast};
 ghost use Rattle.certificate.specs.System.{IsVerdict};
-ghost use Rattle.certificate.specs.Verdict.{Breaks};
+ghost use Rattle.certificate.specs.Verdict.{Breaks, place_of};
 
 use crate::bindings::first_binding;
 use crate::capabilities::first_capability;
@@ -42,7 +42,7 @@ pub fn first_check<'a>(
 }
 
 fn first_broken(table: &Table, policy: &Policy) -> Option<Denial>
-    ensures { FindsLeast (Breaks table.now (allows policy.now)) result }
+    ensures { FindsLeast place_of (Breaks table.now (allows policy.now)) result }
 {
     if let Some(denial) = first_disagreement(policy) {
         return Some(denial);

@@ -1,9 +1,11 @@
-ghost use Rattle.std.specs.Prelude.{◌≡◌, ◌≢◌, ◌↔◌, ℕ, ◌<◌, false, List, Result, Some, None, length};
+ghost use Rattle.std.specs.Prelude.{◌≡◌, ◌≢◌, ◌↔◌, ◌⊎◌, ℕ, ◌<◌, true, false, Some, None};
+ghost use Rattle.std.specs.Prelude.{List, [], ◌∷◌, ◌++◌, length, All};
 ghost use Rattle.base.specs.declared.edge.Edge.{Edge};
 ghost use Rattle.base.specs.declared.ids.ObjId.{ObjId as Id};
 ghost use Rattle.base.specs.declared.ids.SlotRef.{SlotRef as Slot};
 ghost use Rattle.base.specs.declared.kind.Kind.{Kind};
 ghost use Rattle.base.specs.declared.kind.Kind.TheVariants as authority;
+ghost use Rattle.base.specs.Kinds.{is_structural};
 ghost use Rattle.machine.specs.declared.call.Event.{Event};
 ghost use Rattle.machine.specs.declared.cap.Cap.{Cap};
 ghost use Rattle.machine.specs.declared.object.Context.{Context};
@@ -11,13 +13,18 @@ ghost use Rattle.machine.specs.declared.object.Notification.{Notification};
 ghost use Rattle.machine.specs.declared.object.Object.{Object};
 ghost use Rattle.machine.specs.declared.object.Object.TheVariants as o;
 ghost use Rattle.machine.specs.declared.object.ObjectKind.TheVariants as kind;
+ghost use Rattle.machine.specs.declared.object.Reply.{Reply};
+ghost use Rattle.machine.specs.declared.object.ReplyState.TheVariants as answers;
 ghost use Rattle.machine.specs.declared.thread.Inbox.TheVariants as inbox;
+ghost use Rattle.machine.specs.declared.thread.RunState.TheVariants as run;
 ghost use Rattle.machine.specs.declared.thread.Tcb.{Tcb};
 ghost use Rattle.machine.specs.Authority.{label_of};
 ghost use Rattle.machine.specs.Boot.{IsBoot};
 ghost use Rattle.machine.specs.Layout.{Layout};
-ghost use Rattle.machine.specs.Machine.{Machine, object_of, queue_of, words_of, cap_of, with_cap, with_object, with_parent};
+ghost use Rattle.machine.specs.Machine.{Machine, object_of, queue_of, words_of, cap_of};
+ghost use Rattle.machine.specs.Machine.{with_cap, with_object, with_parent, with_queue};
 ghost use Rattle.machine.specs.WellFormed.{kind_of};
+ghost use Rattle.policy.specs.Cut.{IsBase, IsCut, IsHolding, IsNear, is_link};
 ghost use Rattle.policy.specs.Domain.{EdgeTest, SubjectsAgree};
 ghost use Rattle.policy.specs.Full.{IsFull};
 ghost use Rattle.policy.specs.Needed.{subjects_agree};
@@ -28,11 +35,10 @@ ghost use Rattle.certificate.specs.Allowed.{IsAllowedStep};
 ghost use Rattle.certificate.specs.Budgets.{KeepsBudgets};
 ghost use Rattle.certificate.specs.Confined.{IsConfined};
 ghost use Rattle.certificate.specs.Counterexamples.{UnallowedSignal, UnsafeWithout};
-ghost use Rattle.certificate.specs.Outside.{BindingOutside, CapabilityOutside, RootOutside};
-ghost use Rattle.certificate.specs.Outside.{Excess, Exceeds, IsOutside, excess_of};
+ghost use Rattle.certificate.specs.Rules.{Excess, Exceeds};
 ghost use Rattle.certificate.specs.Shrinks.{Shrinks};
-ghost use Rattle.certificate.specs.System.{IsVerdict, System};
-ghost use Rattle.certificate.specs.Verdict.{BindingExceeds, CapabilityExceeds, IsAccepted, IsLeastBroken, RootExceeds};
+ghost use Rattle.certificate.specs.Sources.{of_machine};
+ghost use Rattle.certificate.specs.Verdict.{Breaks, IsAccepted, IsLeastBroken, IsOutside, excess_of};
 
 /// A law: an object doesn't shrink whose pending word, or whose core, budget or period changes; at
 /// which more threads wait than before; which gets a capability, a message, a word or a context; whose
@@ -151,7 +157,7 @@ pub fn safety_needs_agreeing_subjects()
 /// rules A1 to A6.
 pub fn confined_states_have_nothing_outside()
     ensures { (t : Layout) (allowed : EdgeTest) (m : Machine)
-        → IsConfined t allowed m ↔ ((place : Excess) → ¬ Exceeds t allowed m place) }
+        → IsConfined t allowed m ↔ ((place : Excess) → ¬ Exceeds (of_machine t m) allowed place) }
 {}
 
 /// A law: the verdict on a table is one on its boot state. A rule is broken at a place exactly where
@@ -159,16 +165,11 @@ pub fn confined_states_have_nothing_outside()
 /// table and a policy are accepted exactly if labels of one domain may do the same and the boot state
 /// is confined.
 pub fn a_verdict_is_on_the_boot_state()
-    ensures capability { (t : Layout) (allowed : EdgeTest) (boot : Machine) (slot : Slot) (k : Kind) (label : ℕ)
-        → IsBoot t boot
-        → CapabilityExceeds t allowed slot k label ↔ CapabilityOutside t allowed boot slot k label }
-    ensures root { (t : Layout) (allowed : EdgeTest) (boot : Machine) (slot : Slot) (label : ℕ)
-        → IsBoot t boot
-        → RootExceeds t allowed slot label ↔ RootOutside t allowed boot slot label }
-    ensures binding { (t : Layout) (allowed : EdgeTest) (boot : Machine) (thread context : Id)
+    ensures place { (t : Layout) (allowed : EdgeTest) (boot : Machine) (denial : Denial) (place : Excess)
         → IsLawful t
         → IsBoot t boot
-        → BindingExceeds t allowed thread context ↔ BindingOutside t allowed boot thread context }
+        → excess_of denial ≡ Some place
+        → Breaks t allowed denial ↔ Exceeds (of_machine t boot) allowed place }
     ensures first { (t : Layout) (allowed : EdgeTest) (boot : Machine) (denial : Denial) (place : Excess)
         → IsLawful t
         → IsBoot t boot
@@ -182,12 +183,68 @@ pub fn a_verdict_is_on_the_boot_state()
         ↔ (SubjectsAgree (allows edges) × ((boot : Machine) → IsBoot t boot → IsConfined t (allows edges) boot)) }
 {}
 
-/// A law: on each capability table with each policy there is a verdict, and only one. So where a rule
-/// is broken there is a first place where one is.
-pub fn a_system_has_one_verdict()
-    ensures some { (t : Layout) (edges : List Edge) → (verdict : Result System Denial) × IsVerdict t edges verdict }
-    ensures one { (t : Layout) (edges : List Edge) (verdict other : Result System Denial)
-        → IsVerdict t edges verdict
-        → IsVerdict t edges other
-        → verdict ≡ other }
+/// A law: an object shrinks that vanishes; of which only a capability is removed, or one of the threads
+/// that wait at it, or its link to a thread or a context; a reply that becomes free; and a thread that
+/// waits for something, and is aborted or halted.
+pub fn losses_are_shrinking()
+    ensures vanished { (m next : Machine) (id : Id) → object_of next id ≡ None → Shrinks m next id }
+    ensures capability { (m next : Machine) (slot : Slot) (object : Object) (threads : List Id)
+        → object_of m slot.holder ≡ Some object
+        → queue_of m slot.holder ≡ Some threads
+        → object_of next slot.holder ≡ object_of m slot.holder
+        → queue_of next slot.holder ≡ queue_of m slot.holder
+        → words_of next slot.holder ≡ words_of m slot.holder
+        → cap_of next slot ≡ None
+        → ((other : Slot) → other.holder ≡ slot.holder → other.index ≢ slot.index → cap_of next other ≡ cap_of m other)
+        → Shrinks m next slot.holder }
+    ensures member { (m : Machine) (id thread : Id) (object : Object) (before after : List Id)
+        → object_of m id ≡ Some object
+        → queue_of m id ≡ Some (before ++ thread ∷ after)
+        → Shrinks m (with_queue m id (before ++ after)) id }
+    ensures freed { (m : Machine) (id : Id) (reply : Reply) (threads : List Id)
+        → object_of m id ≡ Some (o.Reply reply)
+        → queue_of m id ≡ Some threads
+        → Shrinks m (with_object m id (o.Reply (record reply { state = answers.Free }))) id }
+    ensures aborted { (m : Machine) (id : Id) (thread : Tcb) (threads : List Id)
+        → object_of m id ≡ Some (o.Tcb thread)
+        → queue_of m id ≡ Some threads
+        → thread.state ≢ run.Ready
+        → thread.state ≢ run.Inactive
+        → Shrinks m (with_object m id (o.Tcb (record thread { state = run.Ready; inbox = inbox.Aborted }))) id }
+    ensures halted { (m : Machine) (id : Id) (thread : Tcb) (threads : List Id)
+        → object_of m id ≡ Some (o.Tcb thread)
+        → queue_of m id ≡ Some threads
+        → thread.state ≢ run.Ready
+        → thread.state ≢ run.Inactive
+        → Shrinks m (with_object m id (o.Tcb (record thread { state = run.Inactive }))) id }
+    ensures context { (m : Machine) (id : Id) (thread : Tcb) (threads : List Id)
+        → object_of m id ≡ Some (o.Tcb thread)
+        → queue_of m id ≡ Some threads
+        → Shrinks m (with_object m id (o.Tcb (record thread { context = None }))) id }
+    ensures thread { (m : Machine) (id : Id) (context : Context) (threads : List Id)
+        → object_of m id ≡ Some (o.Context context)
+        → queue_of m id ≡ Some threads
+        → Shrinks m (with_object m id (o.Context (record context { thread = None }))) id }
+{}
+
+/// A law: a label has cut authority on each label that it leads to by at most one control edge, then at
+/// most one derive edge, then at most one edge by which a capability is held, and then at most two steps
+/// along links, either way.
+pub fn cuts_follow_paths()
+    ensures base { (allowed : EdgeTest) (a controlled base : ℕ)
+        → (a ≡ controlled) ⊎ (allowed a authority.Control controlled ≡ true)
+        → (controlled ≡ base) ⊎ (allowed controlled authority.Derive base ≡ true)
+        → IsBase allowed a base }
+    ensures held { (k : Kind) → (is_structural k ≡ false) ⊎ (k ≡ authority.Space) → IsHolding k }
+    ensures links { All (λ k. is_link k ≡ true)
+        (authority.Send ∷ authority.Receive ∷ authority.Await ∷ authority.Reply ∷ authority.Holds ∷ authority.Runs ∷ authority.Space ∷ []) }
+    ensures near { (allowed : EdgeTest) (x y : ℕ)
+        → (x ≡ y) ⊎ ((k : Kind) × (is_link k ≡ true) × ((allowed x k y ≡ true) ⊎ (allowed y k x ≡ true)))
+        → IsNear allowed x y }
+    ensures path { (allowed : EdgeTest) (a base reached near label : ℕ)
+        → IsBase allowed a base
+        → (base ≡ reached) ⊎ ((k : Kind) × IsHolding k × (allowed base k reached ≡ true))
+        → IsNear allowed reached near
+        → IsNear allowed near label
+        → IsCut allowed a label }
 {}

@@ -1,8 +1,9 @@
 ghost use Rattle.std.specs.Prelude.{◌≡◌, ◌∷◌, [], Some};
 ghost use Rattle.machine.specs.Layout.{initial_cap};
 ghost use Rattle.policy.specs.Policy.{allows};
-ghost use Rattle.certificate.specs.Verdict.{a2};
-ghost use Rattle.certificate.specs.Search.{BreaksUnder, FindsLeast};
+ghost use Rattle.certificate.specs.Rules.{a2};
+ghost use Rattle.certificate.specs.Verdict.{BreaksUnder, place_of};
+ghost use Rattle.certificate.specs.Places.{FindsLeast};
 
 use crate::Denial;
 use crate::labels::label_of;
@@ -13,7 +14,7 @@ use table::Table;
 
 /// The least place where A2 is broken: the space edges of threads' root slots are in the policy.
 pub fn first_root(table: &Table, policy: &Policy) -> Option<Denial>
-    ensures { FindsLeast (BreaksUnder table.now (allows policy.now) (a2 ∷ [])) result }
+    ensures { FindsLeast place_of (BreaksUnder table.now (allows policy.now) (a2 ∷ [])) result }
 {
     for filled in table.caps() {
         if let Some(denial) = root_excess(table, policy, filled) {
@@ -26,7 +27,7 @@ pub fn first_root(table: &Table, policy: &Policy) -> Option<Denial>
 // The place of this slot, if A2 is broken there.
 fn root_excess(table: &Table, policy: &Policy, filled: &Filled) -> Option<Denial>
     requires { initial_cap table.now filled.now.slot ≡ Some filled.now.cap }
-    ensures { FindsLeast
+    ensures { FindsLeast place_of
         (BreaksUnder table.now (allows policy.now) (a2 ∷ filled.now.slot.holder.0 ∷ filled.now.slot.index ∷ []))
         result }
 {

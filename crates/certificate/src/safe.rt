@@ -6,7 +6,6 @@ ghost use Rattle.table.specs.Rules.{IsLawful};
 ghost use Rattle.certificate.specs.Safe.{IsSafe};
 ghost use Rattle.certificate.specs.Verdict.{IsAccepted};
 
-use machine::{a_step_does_its_call_or_is_refused, steps_keep_machines_well_formed};
 use table::boot_states_are_well_formed;
 
 /// The headline as a law: where a capability table and a policy are accepted, then after every list
@@ -21,7 +20,5 @@ pub fn accepted_systems_are_safe()
         → IsAccepted t (allows edges)
         → IsSafe t (allows edges) }
 {
-    steps_keep_machines_well_formed();
-    a_step_does_its_call_or_is_refused();
     boot_states_are_well_formed();
 }

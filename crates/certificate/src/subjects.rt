@@ -3,8 +3,9 @@ ghost use Rattle.base.specs.Kinds.{kind_number};
 ghost use Rattle.machine.specs.Layout.{Layout};
 ghost use Rattle.policy.specs.Policy.{allows};
 ghost use Rattle.policy.specs.Domain.{IsInDomain};
-ghost use Rattle.certificate.specs.Verdict.{p1};
-ghost use Rattle.certificate.specs.Search.{BreaksUnder, FindsLeast};
+ghost use Rattle.certificate.specs.Rules.{p1};
+ghost use Rattle.certificate.specs.Verdict.{BreaksUnder, place_of};
+ghost use Rattle.certificate.specs.Places.{FindsLeast};
 
 use crate::Denial;
 use base::{Edge, Kind, Label};
@@ -13,7 +14,7 @@ use policy::Policy;
 /// The least place where P1 is broken: labels of one domain have the same edges, but for structural
 /// ones.
 pub fn first_disagreement(policy: &Policy) -> Option<Denial>
-    ensures { (t : Layout) → FindsLeast (BreaksUnder t (allows policy.now) (p1 ∷ [])) result }
+    ensures { (t : Layout) → FindsLeast place_of (BreaksUnder t (allows policy.now) (p1 ∷ [])) result }
 {
     for number in 0..Label::COUNT {
         let subject = Label::new(number).unwrap();
@@ -27,7 +28,7 @@ pub fn first_disagreement(policy: &Policy) -> Option<Denial>
 // The least place with this subject.
 fn disagreement_of(policy: &Policy, subject: Label) -> Option<Denial>
     requires { subject < 64 }
-    ensures { (t : Layout) → FindsLeast (BreaksUnder t (allows policy.now) (p1 ∷ subject ∷ [])) result }
+    ensures { (t : Layout) → FindsLeast place_of (BreaksUnder t (allows policy.now) (p1 ∷ subject ∷ [])) result }
 {
     for number in 0..Label::COUNT {
         let other = Label::new(number).unwrap();
@@ -42,7 +43,7 @@ fn disagreement_of(policy: &Policy, subject: Label) -> Option<Denial>
 fn disagreement_with(policy: &Policy, subject: Label, other: Label) -> Option<Denial>
     requires subject_known { subject < 64 }
     requires other_known { other < 64 }
-    ensures { (t : Layout) → FindsLeast (BreaksUnder t (allows policy.now) (p1 ∷ subject ∷ other ∷ [])) result }
+    ensures { (t : Layout) → FindsLeast place_of (BreaksUnder t (allows policy.now) (p1 ∷ subject ∷ other ∷ [])) result }
 {
     if subject == other || !is_in_domain(policy, subject, other) {
         return None;
@@ -61,7 +62,7 @@ fn disagreement_in(policy: &Policy, subject: Label, other: Label, kind: Kind) ->
     requires other_known { other < 64 }
     requires domain { IsInDomain (allows policy.now) subject other }
     ensures { (t : Layout)
-        → FindsLeast (BreaksUnder t (allows policy.now) (p1 ∷ subject ∷ other ∷ kind_number kind ∷ [])) result }
+        → FindsLeast place_of (BreaksUnder t (allows policy.now) (p1 ∷ subject ∷ other ∷ kind_number kind ∷ [])) result }
 {
     if kind.is_structural() {
         return None;

@@ -1,11 +1,9 @@
--- the least broken place is at the first that has one
-use Rattle.std.proofs.Common.{length, refl, ap, arith}
-use Rattle.std.proofs.lemmas.Option.{slice_get_within}
+-- the first place is at the first that has one
+use Rattle.std.proofs.Common.{length, ap, arith}
 use Rattle.policy.specs.Policy.{allows}
-use Rattle.certificate.specs.Verdict.{a1}
 use Rattle.certificate.proofs.Lookups.{read_at, cap_from}
-use Rattle.certificate.proofs.Places.{none_more, none_in_parts, least_in_part}
-use Rattle.certificate.proofs.TablePlaces.{capabilities, cap_least, cap_none}
+use Rattle.certificate.proofs.Places.{none_more, none_at_all, least_here}
+use Rattle.certificate.proofs.Searching.{capabilities}
 use Rattle.certificate.proofs.capabilities.first_capability.Goals as goal
 
 pub capability_excess-requires : goal.capability_excess-requires
@@ -16,26 +14,21 @@ capability_excess-requires c =
 pub returns-in-Some : goal.returns-in-Some
 returns-in-Some c =
     let t = c.args.table.now in
-    let allowed = allows c.args.policy.now in
-    let here =
-    read_at c.caps-filled-items.result.now t.caps c.loop-filled.filled-index _ c.caps-filled-items.ensures.caps c.loop-filled-test.true in
-    least_in_part
-    (capabilities t allowed c.caps-filled-items.ensures.lawful) c.loop-filled.filled-index c.loop-filled.filled-index refl
-    (slice_get_within t.caps c.loop-filled.filled-index _ here) c.loop-filled.invariant _
-    (cap_least t allowed a1 c.loop-filled.filled-index _ here _ c.in-Some.ensures)
+    let items = c.caps-filled-items in
+    least_here (capabilities t (allows c.args.policy.now) items.ensures.lawful) c.loop-filled.filled-index _
+    (read_at items.result.now t.caps c.loop-filled.filled-index _ items.ensures.caps c.loop-filled-test.true)
+    c.loop-filled.invariant _ c.in-Some.ensures
 
 pub loop-filled-preserved : goal.loop-filled-preserved
 loop-filled-preserved c =
     let t = c.args.table.now in
-    let allowed = allows c.args.policy.now in
-    let here =
-    read_at c.caps-filled-items.result.now t.caps c.loop-filled.filled-index _ c.caps-filled-items.ensures.caps c.loop-filled-test.true in
-    none_more
-    (capabilities t allowed c.caps-filled-items.ensures.lawful) c.loop-filled.filled-index c.loop-filled.filled-index refl c.loop-filled.invariant
-    (cap_none t allowed a1 c.loop-filled.filled-index _ here c.in_default.ensures)
+    let items = c.caps-filled-items in
+    none_more (capabilities t (allows c.args.policy.now) items.ensures.lawful) c.loop-filled.filled-index _
+    (read_at items.result.now t.caps c.loop-filled.filled-index _ items.ensures.caps c.loop-filled-test.true)
+    c.loop-filled.invariant c.in_default.ensures
 
 pub returns : goal.returns
 returns c =
-    let t = c.args.table.now in
-    none_in_parts (capabilities t (allows c.args.policy.now) c.caps-filled-items.ensures.lawful)
-    (λ k lt. c.loop-filled.invariant k (omega (arith, ap length c.caps-filled-items.ensures.caps)))
+    let items = c.caps-filled-items in
+    none_at_all (capabilities c.args.table.now (allows c.args.policy.now) items.ensures.lawful) c.loop-filled.filled-index
+    (omega (arith, ap length items.ensures.caps)) c.loop-filled.invariant

@@ -1,10 +1,9 @@
--- nothing is broken at the slots so far
-use Rattle.std.proofs.Common.{ℕ, ◌<◌}
+-- nothing is broken so far
+use Rattle.std.proofs.Common.{◌∷◌, []}
 use Rattle.policy.specs.Policy.{allows}
-use Rattle.certificate.specs.Verdict.{a1}
-use Rattle.certificate.specs.Search.{IsNone}
-use Rattle.certificate.proofs.TablePlaces.{AtCap}
+use Rattle.certificate.specs.Rules.{a1}
+use Rattle.certificate.proofs.Searching.{NothingBroken, of_filled}
 use Rattle.certificate.proofs.capabilities.first_capability.Given as goal
 
 abbrev pub invariant-loop-filled : goal.invariant-loop-filled
-invariant-loop-filled l = (k : ℕ) → k < l.filled-index → IsNone (AtCap l.table (allows l.policy) a1 k)
+invariant-loop-filled l = NothingBroken l.table (allows l.policy) (a1 ∷ []) l.table.caps of_filled l.filled-index

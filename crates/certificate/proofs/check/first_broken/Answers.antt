@@ -1,6 +1,6 @@
 -- what breaks the first rule comes before what breaks another
 use Rattle.policy.specs.Policy.{allows}
-use Rattle.certificate.proofs.RuleOrder.{least_of_p1}
+use Rattle.certificate.proofs.Searching.{least_of_p1}
 use Rattle.certificate.proofs.check.first_broken.Goals as goal
 
 pub returns-in-Some : goal.returns-in-Some

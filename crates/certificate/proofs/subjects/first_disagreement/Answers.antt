@@ -1,21 +1,22 @@
--- the least broken place is the first that is met
-use Rattle.std.proofs.Common.{◌≡◌, arith, rules}
+-- the first place is at the first label that has one
+use Rattle.std.proofs.Common.{◌≡◌, Some, arith, rules, ap, ◌∙◌}
 use Rattle.policy.specs.Policy.{allows}
-use Rattle.certificate.proofs.Places.{none_more, none_in_parts, least_in_part}
-use Rattle.certificate.proofs.SubjectPlaces.{subjects}
+use Rattle.certificate.proofs.Places.{none_more, none_at_all, least_here}
+use Rattle.certificate.proofs.Searching.{subjects, label_stands}
 use Rattle.certificate.proofs.subjects.first_disagreement.Goals as goal
 
 pub returns-in-Some : goal.returns-in-Some
 returns-in-Some c = λ t.
-    let number : c.unwrap-subject.result ≡ c.loop-number.number = search rules in
-    least_in_part (subjects t (allows c.args.policy.now)) c.loop-number.number c.unwrap-subject.result number (omega arith)
-    (c.loop-number.invariant t) _ (c.in-Some.ensures t)
+    let number : c.loop-number.number ≡ c.unwrap-subject.result = search rules in
+    least_here (subjects t (allows c.args.policy.now)) c.loop-number.number c.unwrap-subject.result
+    (label_stands c.loop-number.number (omega arith) ∙ ap Some number) (c.loop-number.invariant t) _ (c.in-Some.ensures t)
 
 pub loop-number-preserved : goal.loop-number-preserved
 loop-number-preserved c = λ t.
-    let number : c.unwrap-subject.result ≡ c.loop-number.number = search rules in
-    none_more (subjects t (allows c.args.policy.now)) c.loop-number.number c.unwrap-subject.result number
-    (c.loop-number.invariant t) (c.in_default.ensures t)
+    let number : c.loop-number.number ≡ c.unwrap-subject.result = search rules in
+    none_more (subjects t (allows c.args.policy.now)) c.loop-number.number c.unwrap-subject.result
+    (label_stands c.loop-number.number (omega arith) ∙ ap Some number) (c.loop-number.invariant t) (c.in_default.ensures t)
 
 pub returns : goal.returns
-returns c = λ t. none_in_parts (subjects t (allows c.args.policy.now)) (λ k lt. c.loop-number.invariant t k (omega arith))
+returns c = λ t.
+    none_at_all (subjects t (allows c.args.policy.now)) c.loop-number.number (omega arith) (c.loop-number.invariant t)

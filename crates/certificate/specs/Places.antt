@@ -1,0 +1,31 @@
+-- The order of places, each a list of numbers: what it is to be at the first place, and to find what is there (confine's own).
+use Rattle.std.specs.Prelude.{◌≡◌, ℕ, List, [], ◌∷◌, Option, MatchOption}
+use Rattle.std.specs.declared.cmp.Ordering.TheVariants.{Less}
+use Rattle.std.specs.Ordering.{nat_cmp}
+use Rattle.std.specs.Cmp.Lexicographic.{slice_cmp}
+
+-- the first number in which they differ is smaller
+abbrev pub ComesBefore : List ℕ → List ℕ → Type 0
+ComesBefore one other = slice_cmp nat_cmp one other ≡ Less
+
+-- a list begins with another
+abbrev pub Begins : List ℕ → List ℕ → Type 0
+Begins [] ys = Unit {0}
+Begins (x ∷ xs) [] = ⊥
+Begins (x ∷ xs) (y ∷ ys) = (x ≡ y) × Begins xs ys
+
+-- it has a property, and nothing at an earlier place does
+pub record IsLeast {X : Type 0} (place : X → List ℕ) (P : X → Type 0) (least : X) : Type 0 where
+  pub has : P least
+  pub first : (other : X) → P other → ¬ ComesBefore (place other) (place least)
+
+abbrev pub IsNone : {X : Type 0} → (X → Type 0) → Type 0
+IsNone {X} P = (x : X) → ¬ P x
+
+-- what has a property at a place that begins with these numbers
+abbrev pub IsUnder : {X : Type 0} → (X → List ℕ) → (X → Type 0) → List ℕ → X → Type 0
+IsUnder place P beginning x = Begins beginning (place x) × P x
+
+-- what has a property at the first place, or nothing where nothing has it
+abbrev pub FindsLeast : {X : Type 0} → (X → List ℕ) → (X → Type 0) → Option X → Type 0
+FindsLeast place P found = MatchOption found (IsNone P) (IsLeast place P)

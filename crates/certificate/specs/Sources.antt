@@ -1,0 +1,62 @@
+-- What authority is read off: the capabilities in slots, the derivation tree and the links of a table or of a machine, with the
+-- kinds and labels of objects (compare 'seL4 Enforces Integrity', section 3, the authority of a state).
+use Rattle.std.specs.Prelude.{ℕ, Bool, false, Option, Some, None}
+use Rattle.base.specs.declared.ids.ObjId.{ObjId}
+use Rattle.base.specs.declared.ids.SlotRef.{SlotRef}
+use Rattle.base.specs.declared.kind.Kind.{Kind}
+use Rattle.machine.specs.declared.cap.Cap.{Cap}
+use Rattle.machine.specs.declared.object.Object.{Object}
+use Rattle.machine.specs.declared.object.Object.TheVariants as o
+use Rattle.machine.specs.declared.object.ObjectKind.{ObjectKind}
+use Rattle.machine.specs.Authority.{holds_thread, label_of, state_links}
+use Rattle.machine.specs.Layout.{Layout, declared_label, initial_cap, initial_parent, bound_context}
+use Rattle.machine.specs.Machine.{Machine, object_of, cap_of, parent_of}
+use Rattle.machine.specs.WellFormed.{kind_of}
+use Rattle.table.specs.Rules.{kind_at}
+
+pub record Sources : Type 0 where
+  pub cap : SlotRef → Option Cap
+  pub parent : SlotRef → Option SlotRef
+  pub kind : ObjId → Option ObjectKind
+  pub label : ObjId → Option ℕ
+  -- what a thread runs on
+  pub context : ObjId → Option ObjId
+  -- whether a reply holds a thread
+  pub holds : ObjId → ObjId → Bool
+  -- whether a blocked thread keeps a kind of authority over an object
+  pub keeps : ObjId → Kind → ObjId → Bool
+
+-- a table declares no reply that holds a thread, and no blocked thread
+abbrev pub of_table : Layout → Sources
+of_table t = record {
+  cap = initial_cap t;
+  parent = initial_parent t;
+  kind = kind_at t;
+  label = declared_label t;
+  context = bound_context t;
+  holds = λ reply thread. false;
+  keeps = λ thread k end. false;
+}
+
+abbrev pub context_in : Option Object → Option ObjId
+context_in (Some (o.Tcb tcb)) = tcb.context
+context_in _ = None
+
+abbrev pub holds_in : Option Object → ObjId → Bool
+holds_in (Some (o.Reply answers)) thread = holds_thread answers.state thread
+holds_in _ thread = false
+
+abbrev pub keeps_in : Option Object → Kind → ObjId → Bool
+keeps_in (Some (o.Tcb tcb)) k end = state_links tcb.state k end
+keeps_in _ k end = false
+
+abbrev pub of_machine : Layout → Machine → Sources
+of_machine t m = record {
+  cap = cap_of m;
+  parent = parent_of m;
+  kind = kind_of m;
+  label = label_of t m;
+  context = λ thread. context_in (object_of m thread);
+  holds = λ reply. holds_in (object_of m reply);
+  keeps = λ thread. keeps_in (object_of m thread);
+}
