@@ -1,5 +1,5 @@
 -- What the words of a line that were read as an event say, and that the words of each event are read back.
-use Rattle.std.proofs.Common.{◌≡◌, ℕ, Bool, true, false, cond, List, [], ◌∷◌, ◌++◌, codes, Result, Ok, sym, ap, subst, ◌∙◌, refl}
+use Rattle.std.proofs.Common.{◌≡◌, ℕ, ◌<◌, ◌^◌, Bool, true, false, cond, List, [], ◌∷◌, ◌++◌, codes, Result, Ok, sym, ap, subst, ◌∙◌, refl}
 use Rattle.std.proofs.lemmas.List.{append-nil}
 use Rattle.std.proofs.lemmas.Slice.Eq.{bytes_eq-Decides}
 use Rattle.std.specs.Bool.{Decides}
@@ -15,7 +15,7 @@ use Rattle.words.specs.Number.{number_at}
 use Rattle.words.specs.Reading.{bind, word_at, ended_at}
 use Rattle.words.specs.Text.{IsPlainLine, IsPlainWord}
 use Rattle.words.proofs.WordLaws.{bind_ok, number_again, number_then, plain_bytes, plain_decimal, word_then}
-use Rattle.evtext.specs.Event.{signal_at, poll_at, call_named, call_at, event_at, within_limits, HasNumbers, HasWords}
+use Rattle.evtext.specs.Event.{addressed, call_named, call_at, event_at, within_limits, HasNumbers, HasWords}
 use Rattle.evtext.specs.Script.{script_line}
 
 -- a call was taken, and these words are left
@@ -23,26 +23,16 @@ record TakesCall (words : List (List ℕ)) (taken : Call × List (List ℕ)) : T
   words_are : words ≡ call_words taken.0 ++ taken.1
   fits : HasWords taken.0
 
-signal_takes : (words : List (List ℕ)) (taken : Call × List (List ℕ)) → signal_at words ≡ Ok taken
-    → TakesCall (codes "signal" ∷ words) taken
-unfolding signal_at
-signal_takes words taken h =
+addressed_takes : (key : List ℕ) (call : ℕ → Call) → ((n : ℕ) → call_words (call n) ≡ key ∷ decimal n ∷ [])
+    → ((n : ℕ) → n < 2 ^ 64 → HasWords (call n)) → (words : List (List ℕ)) (taken : Call × List (List ℕ))
+    → addressed call words ≡ Ok taken → TakesCall (key ∷ words) taken
+unfolding addressed
+addressed_takes key call spelled has words taken h =
     let read = number_then _ words taken h in
-    let same : (Signal read.number, read.rest) ≡ taken = cc in
-    subst (λ t. TakesCall (codes "signal" ∷ words) t) same (record {
-      words_are = ap (λ w. codes "signal" ∷ w) read.words_are;
-      fits = read.small;
-    })
-
-poll_takes : (words : List (List ℕ)) (taken : Call × List (List ℕ)) → poll_at words ≡ Ok taken
-    → TakesCall (codes "poll" ∷ words) taken
-unfolding poll_at
-poll_takes words taken h =
-    let read = number_then _ words taken h in
-    let same : (Poll read.number, read.rest) ≡ taken = cc in
-    subst (λ t. TakesCall (codes "poll" ∷ words) t) same (record {
-      words_are = ap (λ w. codes "poll" ∷ w) read.words_are;
-      fits = read.small;
+    let same : (call read.number, read.rest) ≡ taken = cc in
+    subst (λ t. TakesCall (key ∷ words) t) same (record {
+      words_are = ap (λ w. key ∷ w) read.words_are ∙ sym (ap (λ w. w ++ read.rest) (spelled read.number));
+      fits = has read.number read.small;
     })
 
 -- a name is this call's, or another's
@@ -61,8 +51,10 @@ unfolding call_at call_named
 call_takes words taken h =
     let read = word_then _ words taken h in
     subst (λ w. TakesCall w taken) (sym read.words_are)
-    (chosen read.word (codes "signal") read.rest _ _ taken read.goes_on (signal_takes read.rest taken) (λ h.
-    chosen read.word (codes "poll") read.rest _ _ taken h (poll_takes read.rest taken) (λ h. cc)))
+    (chosen read.word (codes "signal") read.rest _ _ taken read.goes_on
+    (addressed_takes (codes "signal") Signal (λ n. refl) (λ n small. small) read.rest taken) (λ h.
+    chosen read.word (codes "poll") read.rest _ _ taken h
+    (addressed_takes (codes "poll") Poll (λ n. refl) (λ n small. small) read.rest taken) (λ h. cc)))
 
 -- an event was taken, and these words are left
 pub record TakesEvent (words : List (List ℕ)) (taken : Event × List (List ℕ)) : Type 0 where
@@ -86,7 +78,7 @@ event_takes words taken h =
 -- each spelling is read back
 
 call_again : (call : Call) (rest : List (List ℕ)) → HasWords call → call_at (call_words call ++ rest) ≡ Ok (call, rest)
-unfolding call_at call_named signal_at poll_at bind word_at
+unfolding call_at call_named addressed bind word_at
 call_again (Signal address) rest fits = ap (λ r. bind r (λ a. Ok (Signal a.0, a.1))) (number_again address rest fits)
 call_again (Poll address) rest fits = ap (λ r. bind r (λ a. Ok (Poll a.0, a.1))) (number_again address rest fits)
 

@@ -11,21 +11,17 @@ use Rattle.words.specs.declared.faults.Wrong.TheVariants.{Syntax, Limit}
 use Rattle.words.specs.Number.{number_at}
 use Rattle.words.specs.Reading.{◌>>=◌, word_at}
 
-unfoldable pub signal_at : List (List ℕ) → Result (Call × List (List ℕ)) Wrong
-signal_at words = do
+-- a call whose one operand is an address
+unfoldable pub addressed : (ℕ → Call) → List (List ℕ) → Result (Call × List (List ℕ)) Wrong
+addressed call words = do
   address ← number_at words
-  Ok (Signal address.0, address.1)
-
-unfoldable pub poll_at : List (List ℕ) → Result (Call × List (List ℕ)) Wrong
-poll_at words = do
-  address ← number_at words
-  Ok (Poll address.0, address.1)
+  Ok (call address.0, address.1)
 
 -- the operands of the call that has a name
 unfoldable pub call_named : List ℕ → List (List ℕ) → Result (Call × List (List ℕ)) Wrong
 call_named name words =
-    if bytes_eq name (codes "signal") then signal_at words else
-    (if bytes_eq name (codes "poll") then poll_at words else
+    if bytes_eq name (codes "signal") then addressed Signal words else
+    (if bytes_eq name (codes "poll") then addressed Poll words else
     Err Syntax)
 
 -- the next words as a call, and the words after it

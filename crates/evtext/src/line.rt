@@ -1,6 +1,6 @@
 ghost use Rattle.std.specs.Prelude.{◌≡◌};
 ghost use Rattle.words.specs.Reading.{Gives};
-ghost use Rattle.evtext.specs.Event.{call_at, call_named, event_at, poll_at, signal_at, within_limits};
+ghost use Rattle.evtext.specs.Event.{call_at, event_at, within_limits};
 
 use base::{CoreNo, MAX_EVENTS, ObjId};
 use machine::{Call, Event};
@@ -50,32 +50,18 @@ pub(crate) fn next_event(words: &mut Words<'_>) -> Result<Claimed, Wrong>
     })
 }
 
-#[tactic(auto, unfolding(crate::specs::Event::call_at, crate::specs::Event::call_named, words::specs::Reading::bind))]
+#[tactic(auto, unfolding(crate::specs::Event::call_at, crate::specs::Event::call_named, crate::specs::Event::addressed, words::specs::Reading::bind))]
 fn next_call(words: &mut Words<'_>) -> Result<Call, Wrong>
     ensures { Gives (λ call. (call, words.new)) result (call_at words.old) }
 {
     let name = words.word()?;
     if name == b"signal".as_slice() {
-        signal_operands(words)
+        let address = words.number()?;
+        Ok(Call::Signal { address })
     } else if name == b"poll".as_slice() {
-        poll_operands(words)
+        let address = words.number()?;
+        Ok(Call::Poll { address })
     } else {
         Err(Wrong::Syntax)
     }
-}
-
-#[tactic(auto, unfolding(crate::specs::Event::signal_at, words::specs::Reading::bind))]
-fn signal_operands(words: &mut Words<'_>) -> Result<Call, Wrong>
-    ensures { Gives (λ call. (call, words.new)) result (signal_at words.old) }
-{
-    let address = words.number()?;
-    Ok(Call::Signal { address })
-}
-
-#[tactic(auto, unfolding(crate::specs::Event::poll_at, words::specs::Reading::bind))]
-fn poll_operands(words: &mut Words<'_>) -> Result<Call, Wrong>
-    ensures { Gives (λ call. (call, words.new)) result (poll_at words.old) }
-{
-    let address = words.number()?;
-    Ok(Call::Poll { address })
 }
