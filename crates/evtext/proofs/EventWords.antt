@@ -7,7 +7,7 @@ use Rattle.std.specs.Fmt.{decimal}
 use Rattle.std.specs.List.{AllByRecursion}
 use Rattle.std.specs.Str.{bytes_eq}
 use Rattle.machine.specs.declared.call.Call.{Call}
-use Rattle.machine.specs.declared.call.Call.TheVariants.{Signal, Poll}
+use Rattle.machine.specs.declared.call.Call.TheVariants.{Signal, Poll, Wait}
 use Rattle.machine.specs.declared.call.Event.{Event}
 use Rattle.machine.specs.Spelling.{call_words, event_words}
 use Rattle.words.specs.declared.faults.Wrong.{Wrong}
@@ -54,7 +54,9 @@ call_takes words taken h =
     (chosen read.word (codes "signal") read.rest _ _ taken read.goes_on
     (addressed_takes (codes "signal") Signal (λ n. refl) (λ n small. small) read.rest taken) (λ h.
     chosen read.word (codes "poll") read.rest _ _ taken h
-    (addressed_takes (codes "poll") Poll (λ n. refl) (λ n small. small) read.rest taken) (λ h. cc)))
+    (addressed_takes (codes "poll") Poll (λ n. refl) (λ n small. small) read.rest taken) (λ h.
+    chosen read.word (codes "wait") read.rest _ _ taken h
+    (addressed_takes (codes "wait") Wait (λ n. refl) (λ n small. small) read.rest taken) (λ h. cc))))
 
 -- an event was taken, and these words are left
 pub record TakesEvent (words : List (List ℕ)) (taken : Event × List (List ℕ)) : Type 0 where
@@ -81,6 +83,7 @@ call_again : (call : Call) (rest : List (List ℕ)) → HasWords call → call_a
 unfolding call_at call_named addressed bind word_at
 call_again (Signal address) rest fits = ap (λ r. bind r (λ a. Ok (Signal a.0, a.1))) (number_again address rest fits)
 call_again (Poll address) rest fits = ap (λ r. bind r (λ a. Ok (Poll a.0, a.1))) (number_again address rest fits)
+call_again (Wait address) rest fits = ap (λ r. bind r (λ a. Ok (Wait a.0, a.1))) (number_again address rest fits)
 
 pub event_again : (event : Event) (rest : List (List ℕ)) → HasNumbers event
     → event_at (event_words event ++ rest) ≡ Ok (event, rest)
@@ -111,6 +114,7 @@ form_again before event has =
 plain_call : (call : Call) → HasWords call → AllByRecursion IsPlainWord (call_words call)
 plain_call (Signal address) fits = (plain_bytes (codes "signal") refl, (plain_decimal address fits, tt))
 plain_call (Poll address) fits = (plain_bytes (codes "poll") refl, (plain_decimal address fits, tt))
+plain_call (Wait address) fits = (plain_bytes (codes "wait") refl, (plain_decimal address fits, tt))
 
 pub plain_event : (event : Event) → HasNumbers event → IsPlainLine (event_words event)
 plain_event event is =

@@ -4,7 +4,7 @@ use Rattle.std.specs.Str.{bytes_eq}
 use Rattle.base.specs.declared.core_number.TheConstants.CoreNo as CoreNo
 use Rattle.base.specs.declared.limits.TheConstants.{MAX_EVENTS}
 use Rattle.machine.specs.declared.call.Call.{Call}
-use Rattle.machine.specs.declared.call.Call.TheVariants.{Signal, Poll}
+use Rattle.machine.specs.declared.call.Call.TheVariants.{Signal, Poll, Wait}
 use Rattle.machine.specs.declared.call.Event.{Event}
 use Rattle.words.specs.declared.faults.Wrong.{Wrong}
 use Rattle.words.specs.declared.faults.Wrong.TheVariants.{Syntax, Limit}
@@ -22,7 +22,8 @@ unfoldable pub call_named : List ℕ → List (List ℕ) → Result (Call × Lis
 call_named name words =
     if bytes_eq name (codes "signal") then addressed Signal words else
     (if bytes_eq name (codes "poll") then addressed Poll words else
-    Err Syntax)
+    (if bytes_eq name (codes "wait") then addressed Wait words else
+    Err Syntax))
 
 -- the next words as a call, and the words after it
 unfoldable pub call_at : List (List ℕ) → Result (Call × List (List ℕ)) Wrong
@@ -46,6 +47,7 @@ within_limits before event = if nat_lt event.core CoreNo.COUNT && nat_lt before 
 abbrev pub HasWords : Call → Type 0
 HasWords (Signal address) = address < 2 ^ 64
 HasWords (Poll address) = address < 2 ^ 64
+HasWords (Wait address) = address < 2 ^ 64
 
 -- an event that a line can have: of a core that there can be, with numbers of 64 bits
 abbrev pub IsSpellable : Event → Type 0

@@ -61,6 +61,9 @@ fn next_call(words: &mut Words<'_>) -> Result<Call, Wrong>
     } else if name == b"poll".as_slice() {
         let address = words.number()?;
         Ok(Call::Poll { address })
+    } else if name == b"wait".as_slice() {
+        let address = words.number()?;
+        Ok(Call::Wait { address })
     } else {
         Err(Wrong::Syntax)
     }
