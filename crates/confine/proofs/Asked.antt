@@ -10,7 +10,7 @@ use Rattle.clap.specs.declared.error.Error.{Error}
 use Rattle.clap.specs.declared.error.kind.ErrorKind.TheVariants.{OutOfMemory}
 use Rattle.clap.specs.declared.parser.matches.ArgMatches.{ArgMatches}
 use Rattle.clap.proofs.OnLiterals.{clap_on_literals}
-use Rattle.confine.specs.CommandLine.{Asks, FileNames, confine_app, files_in, files_run}
+use Rattle.confine.specs.CommandLine.{Asked, Asks, asked_by, asked_in, confine_app, files_in, run}
 
 -- clap's walk gives the matches and the faults of this command line
 pub simple : is_simple confine_app ≡ true
@@ -22,29 +22,29 @@ unfolding clap_on_literals
 simple_and_free = refl
 
 -- an error of a parse is want of memory, where the words have no fault
-pub refused : (app : App) (words : List Text) (e : Error) (files : FileNames) → app ≡ confine_app
-    → (is_simple_and_free app ≡ true → HasKind (fault_of app words) e) → Asks words files → kind_of e ≡ OutOfMemory
-refused app words e files is fails asks =
+pub refused : (app : App) (words : List Text) (e : Error) (wanted : Asked) → app ≡ confine_app
+    → (is_simple_and_free app ≡ true → HasKind (fault_of app words) e) → Asks words wanted → kind_of e ≡ OutOfMemory
+refused app words e wanted is fails asks =
     let fails : HasKind (fault_of confine_app words) e = subst (λ (a : App). HasKind (fault_of a words) e) is (fails (ap is_simple_and_free is ∙ simple_and_free)) in
     let fails : HasKind [] e = subst (λ kinds. HasKind kinds e) asks.0 fails in
     elim fails [ inl memory ↦ memory | inr none ↦ absurd none ]
 
 -- what was found is what the words ask for
-pub asked : (app : App) (words : List Text) (m : ArgMatches) (files : FileNames) → app ≡ confine_app
+pub asked : (app : App) (words : List Text) (m : ArgMatches) (wanted : Asked) → app ≡ confine_app
     → (is_simple_and_free app ≡ true → fault_of app words ≡ []) → HasMatchesOf app words m
-    → Some files ≡ files_run (subcommand_rows_of m) → Asks words files
-asked app words m files is whole matches found = (
+    → Some wanted ≡ asked_by (subcommand_rows_of m) → Asks words wanted
+asked app words m wanted is whole matches found = (
   subst (λ (a : App). fault_of a words ≡ []) is (whole (ap is_simple_and_free is ∙ simple_and_free)),
-  sym (found ∙ ap files_run ((matches (ap is_simple is ∙ simple)).1 ∙ ap (λ (a : App). subcommand_of a words) is)),
+  sym (found ∙ ap asked_by ((matches (ap is_simple is ∙ simple)).1 ∙ ap (λ (a : App). subcommand_of a words) is)),
 )
 
 -- where nothing was found the words ask for nothing
-pub unasked : (app : App) (words : List Text) (m : ArgMatches) (files : FileNames) → app ≡ confine_app
-    → HasMatchesOf app words m → None ≡ files_run (subcommand_rows_of m) → Asks words files → ⊥
-unasked app words m files is matches none asks =
-    let same : files_run (subcommand_rows_of m) ≡ files_run (subcommand_of confine_app words)
-    = ap files_run ((matches (ap is_simple is ∙ simple)).1 ∙ ap (λ (a : App). subcommand_of a words) is) in
-    none-some files (none ∙ same ∙ asks.1)
+pub unasked : (app : App) (words : List Text) (m : ArgMatches) (wanted : Asked) → app ≡ confine_app
+    → HasMatchesOf app words m → None ≡ asked_by (subcommand_rows_of m) → Asks words wanted → ⊥
+unasked app words m wanted is matches none asks =
+    let same : asked_by (subcommand_rows_of m) ≡ asked_by (subcommand_of confine_app words)
+    = ap asked_by ((matches (ap is_simple is ∙ simple)).1 ∙ ap (λ (a : App). subcommand_of a words) is) in
+    none-some wanted (none ∙ same ∙ asks.1)
 
 -- what was found for the arguments, as values and as rows
 files_found : (found : Found) → files_in (first_value found) ≡ files_in (λ name. first_of name (rows_of found))
@@ -57,20 +57,20 @@ map_twice f g (Some x) = refl
 
 files_met : (met : Option (Text × List Row)) (name : Text) (rows : List Row) → Some name ≡ option_map (λ met. met.0) met
     → Some rows ≡ option_map (λ met. met.1) met
-    → files_run met ≡ (if bytes_eq name (codes "run") then files_in (λ name. first_of name rows) else None)
+    → asked_by met ≡ (if bytes_eq name (codes "run") then asked_in (λ name. first_of name rows) else None)
 files_met None name rows named found = absurd (none-some name (sym named))
 files_met (Some met) name rows named found = rw (ap (λ o. unwrap_or o name) named, ap (λ o. unwrap_or o rows) found) refl
 
--- the files of a subcommand of this name, for which this was found
+-- what a subcommand of this name asks for, for which this was found
 pub files_met_by : (m : ArgMatches) (name : Text) (found : Found) → Some name ≡ subcommand_name_of m
     → Some (rows_of found) ≡ option_map (λ met. met.1) (subcommand_rows_of m)
-    → files_run (subcommand_rows_of m) ≡ (if bytes_eq name (codes "run") then files_in (first_value found) else None)
+    → asked_by (subcommand_rows_of m) ≡ (if bytes_eq name (codes "run") then asked_in (first_value found) else None)
 files_met_by m name found named rows =
     files_met (subcommand_rows_of m) name (rows_of found) (named ∙ sym (map_twice (λ met. met.0) _ _)) rows
-    ∙ ap (λ files. if bytes_eq name (codes "run") then files else None) (sym (files_found found))
+    ∙ ap (λ wanted. if bytes_eq name (codes "run") then wanted else None) (sym (ap (option_map run) (files_found found)))
 
 -- the same, where it is `run`
 pub run_met_by : (m : ArgMatches) (name : Text) (found : Found) → Some name ≡ subcommand_name_of m
     → Some (rows_of found) ≡ option_map (λ met. met.1) (subcommand_rows_of m) → name ≡ codes "run"
-    → files_in (first_value found) ≡ files_run (subcommand_rows_of m)
-run_met_by m name found named rows run = sym (files_met_by m name found named rows ∙ rw run refl)
+    → asked_in (first_value found) ≡ asked_by (subcommand_rows_of m)
+run_met_by m name found named rows is = sym (files_met_by m name found named rows ∙ rw is refl)

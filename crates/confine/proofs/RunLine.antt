@@ -1,18 +1,18 @@
 -- The words of a run, `PROGRAM run TABLE POLICY SCRIPT`, ask for it.
-use Rattle.std.proofs.Common.{◌≡◌, ◌∙◌, ◌==◌, ◌&&◌, ℕ, Bool, true, false, List, [], ◌∷◌, Some, None, Result, Ok, Err, refl, sym, ap, codes}
+use Rattle.std.proofs.Common.{option_map, ◌≡◌, ◌∙◌, ◌==◌, ◌&&◌, ℕ, Bool, true, false, List, [], ◌∷◌, Some, None, Result, Ok, Err, refl, sym, ap, codes}
 use Rattle.std.proofs.lemmas.Option.{none-some}
 use Rattle.std.specs.Prelude.{if◌then◌else◌, find, unwrap_or, IfOk, IfErr}
 use Rattle.std.specs.Str.{bytes_eq}
 use Rattle.clap.specs.Words.{Rule, Shape, Text, built, fault_of, first_of, kind_of, subcommand_of}
 use Rattle.clap.specs.declared.error.Error.{Error}
 use Rattle.clap.specs.declared.error.kind.ErrorKind.TheVariants.{OutOfMemory}
-use Rattle.confine.specs.declared.request.Run.{Run}
+use Rattle.confine.specs.declared.request.Request.{Request}
 use Rattle.clap.specs.Walk.{Held, Walk, answers_to, arg_by_index, idle, nothing_held, rows_after, to_positional, value, walk, walk_from, walked}
 use Rattle.clap.specs.Simple.{label_of, names_of}
 use Rattle.clap.specs.Kinds.{or_else}
 use Rattle.clap.specs.Faults.{defaults_fault, level_fault, step_fault, walk_fault}
 use Rattle.clap.proofs.OnLiterals.{clap_on_literals}
-use Rattle.confine.specs.CommandLine.{ArePlain, Asks, FileNames, IsPlainWord, confine_app, files_in, files_of, files_run, run_app, run_words}
+use Rattle.confine.specs.CommandLine.{ArePlain, Asked, Asks, FileNames, IsPlainWord, asked_by, asked_of, confine_app, files_in, run, run_app, run_words}
 
 not_both : (is more : Bool) (xs : Text) → (if is then Some xs else None) ≡ None → (is && more) ≡ false
 not_both true more xs none = absurd (none-some xs (sym none))
@@ -89,19 +89,19 @@ module _ (program : Text) (files : FileNames) (plain : ArePlain files) where
   whole = ap (λ below. level_fault (built confine_app).top (names_of (built confine_app)) nothing_held (codes "run" ∷ file_words files) true below)
       (run_is_whole files plain)
 
-  met : files_run (subcommand_of confine_app (run_words program files)) ≡ Some files
+  met : asked_by (subcommand_of confine_app (run_words program files)) ≡ Some (run files)
   unfolding clap_on_literals
-  met = run_is_met files plain
+  met = ap (option_map run) (run_is_met files plain)
 
-  run_asked : Asks (run_words program files) files
+  run_asked : Asks (run_words program files) (run files)
   run_asked = (whole, met)
 
 -- what is read of the words of a run
-pub run_read : (r : Result Run Error) (words : List Text) → IfOk r (λ run. Asks words (files_of run))
-    → IfErr r (λ e. (files : FileNames) → Asks words files → kind_of e ≡ OutOfMemory)
+pub run_read : (r : Result Request Error) (words : List Text) → IfOk r (λ request. Asks words (asked_of request))
+    → IfErr r (λ e. (asked : Asked) → Asks words asked → kind_of e ≡ OutOfMemory)
     → (program : Text) (files : FileNames) → words ≡ run_words program files → ArePlain files
-    → IfOk r (λ run. files_of run ≡ files) × IfErr r (λ e. kind_of e ≡ OutOfMemory)
-run_read (Ok run) words asked refused program files are plain =
-    let same : Some (files_of run) ≡ Some files = sym asked.1 ∙ rw are (met program files plain) in
-    (ap (λ o. unwrap_or o files) same, tt)
-run_read (Err e) words asked refused program files are plain = (tt, refused files (rw are (run_asked program files plain)))
+    → IfOk r (λ request. asked_of request ≡ run files) × IfErr r (λ e. kind_of e ≡ OutOfMemory)
+run_read (Ok request) words asked refused program files are plain =
+    let same : Some (asked_of request) ≡ Some (run files) = sym asked.1 ∙ rw are (met program files plain) in
+    (ap (λ o. unwrap_or o (run files)) same, tt)
+run_read (Err e) words asked refused program files are plain = (tt, refused (run files) (rw are (run_asked program files plain)))

@@ -1,4 +1,4 @@
--- The command line of confine, as what clap is told of it, and what its words ask for.
+-- The command line of confine, as what clap is told of it, and what its words ask for (confine's own).
 use Rattle.std.specs.Prelude.{◌≡◌, true, if◌then◌else◌, List, [], ◌∷◌, Option, Some, None, codes}
 use Rattle.std.specs.Prelude.{option_and_then, option_map}
 use Rattle.std.specs.Str.{bytes_eq}
@@ -6,7 +6,8 @@ use Rattle.clap.specs.Lexer.{strip_byte}
 use Rattle.clap.specs.Words.{App, Row, Rule, Text, fault_of, first_of, new_app, new_rule, subcommand_of, with_rule, with_subcommand}
 use Rattle.clap.specs.Simple.{on_top}
 use Rattle.clap.specs.declared.builder.action.ArgAction.TheVariants.{Set}
-use Rattle.confine.specs.declared.request.Run.{Run}
+use Rattle.confine.specs.declared.request.Request.{Request}
+use Rattle.confine.specs.declared.request.Request.TheVariants as request
 
 -- an argument that names a file: one word, which has to be there
 abbrev pub file_rule : Text → Rule
@@ -28,9 +29,13 @@ pub record FileNames : Type 0 where
   pub policy : Text
   pub script : Text
 
--- the files of a run
-abbrev pub files_of : Run → FileNames
-files_of run = record { table = run.table.now; policy = run.policy.now; script = run.script.now }
+-- what a command line asks for
+pub data Asked : Type 0 where
+  run : FileNames → Asked
+
+-- what a request is
+abbrev pub asked_of : Request → Asked
+asked_of (request.Run table policy script) = run (record { table = table.now; policy = policy.now; script = script.now })
 
 -- the files among what was found for the arguments of `run`, where all three are there
 abbrev pub files_in : (Text → Option Text) → Option FileNames
@@ -39,13 +44,17 @@ files_in found =
     (λ script. record { table = table; policy = policy; script = script })
     (found (codes "script"))) (found (codes "policy"))) (found (codes "table"))
 
--- the files of the subcommand that was met, where it is `run`
-abbrev pub files_run : Option (Text × List Row) → Option FileNames
-files_run = option_and_then (λ met. if bytes_eq met.0 (codes "run") then files_in (λ name. first_of name met.1) else None)
+-- a run, with these files
+abbrev pub asked_in : (Text → Option Text) → Option Asked
+asked_in found = option_map run (files_in found)
 
--- the words, of which the first is the program's name, are a command line without a fault, which asks for a run of these files
-abbrev pub Asks : List Text → FileNames → Type 0
-Asks words files = (fault_of confine_app words ≡ []) × (files_run (subcommand_of confine_app words) ≡ Some files)
+-- what the subcommand that was met asks for
+abbrev pub asked_by : Option (Text × List Row) → Option Asked
+asked_by = option_and_then (λ met. if bytes_eq met.0 (codes "run") then asked_in (λ name. first_of name met.1) else None)
+
+-- the words, of which the first is the program's name, are a command line without a fault, which asks for this
+abbrev pub Asks : List Text → Asked → Type 0
+Asks words asked = (fault_of confine_app words ≡ []) × (asked_by (subcommand_of confine_app words) ≡ Some asked)
 
 -- the words `PROGRAM run TABLE POLICY SCRIPT`
 abbrev pub run_words : Text → FileNames → List Text

@@ -1,34 +1,28 @@
--- What opening a file gives: the file, or why it couldn't be opened; and what a run of the files that were opened ends with.
-use Rattle.std.specs.Prelude.{◌≡◌, ◌⊎◌, ℕ, List, Option, None, Result, Ok, Err}
-use Rattle.report.specs.Answers.{Answers}
-use Rattle.report.specs.Ends.{IfStatus, status_of}
-use Rattle.report.specs.Loading.{IfKnown}
-use Rattle.report.specs.declared.end.End.{End}
-use Rattle.confine.specs.CommandLine.{FileNames}
+-- What is done with files that were opened by the names that a command line gives (confine's own).
+use Rattle.std.specs.Prelude.{◌≡◌, ◌⊎◌, ℕ, List, Option, Result}
 use Rattle.std.specs.declared.io.Error.{Error}
-use Rattle.std.specs.declared.io.ErrorKind.{ErrorKind}
-use Rattle.confine.specs.declared.files.Unopened.{Unopened}
+use Rattle.report.specs.Ends.{status_of}
+use Rattle.report.specs.Opening.{IsRunOn}
+use Rattle.report.specs.declared.end.End.{End}
+use Rattle.confine.specs.CommandLine.{Asked, FileNames, run}
 
--- a file that couldn't be opened, for this reason
-abbrev pub unopened : ErrorKind → Unopened
-unopened kind = record { 0 = kind }
-
--- the bytes of a file that was opened, where they are known
-abbrev pub bytes_of : {F : Type 0} → (F → Option (List ℕ)) → Result F Error → Option (List ℕ)
-bytes_of remaining (Ok file) = remaining file
-bytes_of remaining (Err error) = None
-
--- files were opened by these names, and the status of an end is that of the answer to them
-pub record Serves {F : Type 0} (opens : List ℕ → Result F Error → Type 0) (remaining : F → Option (List ℕ)) (names : FileNames) (end : End) : Type 0 where
+-- files were opened by these names, and a script was run on what that gave
+pub record ServesRun
+    {F W : Type 0} (opens : List ℕ → Result F Error → Type 0) (remaining : F → Option (List ℕ)) (contents : W → Option (List ℕ))
+    (names : FileNames) (out : W) (end : End) : Type 0 where
   pub table : Result F Error
   pub policy : Result F Error
   pub script : Result F Error
+  pub back : W
   pub opens_table : opens names.table table
   pub opens_policy : opens names.policy policy
   pub opens_script : opens names.script script
-  pub answered : IfKnown (bytes_of remaining table) (bytes_of remaining policy) (bytes_of remaining script)
-      (λ t p s. IfStatus end (λ status. (text : List ℕ) × Answers t p s text status))
+  pub ran : IsRunOn remaining contents table policy script out end back
+
+-- what was asked for was done
+abbrev pub Serves : {F W : Type 0} → (List ℕ → Result F Error → Type 0) → (F → Option (List ℕ)) → (W → Option (List ℕ)) → Asked → W → End → Type 0
+Serves opens remaining contents (run names) out end = ServesRun opens remaining contents names out end
 
 -- an exit status is that of a run of these files, or tells that there was none
-abbrev pub IsStatusOfRun : {F : Type 0} → (List ℕ → Result F Error → Type 0) → (F → Option (List ℕ)) → FileNames → ℕ → Type 0
-IsStatusOfRun opens remaining names status = (status ≡ 2) ⊎ ((end : End) × Serves opens remaining names end × (status_of end ≡ status))
+abbrev pub IsStatusOfRun : {F W : Type 0} → (List ℕ → Result F Error → Type 0) → (F → Option (List ℕ)) → (W → Option (List ℕ)) → FileNames → W → ℕ → Type 0
+IsStatusOfRun opens remaining contents names out status = (status ≡ 2) ⊎ ((end : End) × ServesRun opens remaining contents names out end × (status_of end ≡ status))

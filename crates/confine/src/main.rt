@@ -2,27 +2,26 @@
 #![tactic(auto)]
 
 ghost use Rattle.std.specs.Prelude.{◌≡◌, ◌≤◌, IfOk, OnErr, map};
+ghost use Rattle.std.specs.Fn.{FnReturnsAt};
 ghost use Rattle.std.specs.String.{string_bytes};
 ghost use Rattle.report.specs.Ends.{status_of};
-ghost use Rattle.std.specs.Fn.{FnReturnsAt};
-ghost use Rattle.confine.specs.CommandLine.{Asks, FileNames, files_of};
+ghost use Rattle.confine.specs.CommandLine.{Asked, Asks, FileNames, asked_of, run};
 ghost use Rattle.confine.specs.Opening.{IsStatusOfRun, Serves};
 
-mod files;
 mod request;
 
 use clap::error::ErrorKind;
-use files::run_on;
-use report::End;
-use request::{Run, read_request};
+use report::{End, run_on};
+use request::{Request, read_request};
+use std::alloc::Global;
 use std::env::Env;
-use std::io::Read;
+use std::io::{Read, Write};
 use std::process::ExitCode;
 use std::{env, fs, io};
 
 fn main(rt: HostRuntime) -> ExitCode {
     let opener = |path: &str| fs::open(&rt, path);
-    ExitCode::from(answer(&rt, words(&rt), opener))
+    ExitCode::from(answer(&rt, words(&rt), opener, io::writer(&rt)))
 }
 
 /// The words of the command line, of which the first is the program's name.
@@ -30,17 +29,18 @@ fn words<R: Env + AllocGlobal>(rt: &R) -> io::Result<Vec<String>> {
     Ok(env::args(rt)?.collect(rt.alloc())?)
 }
 
-/// Does what the words of the command line ask for, on files that `opener` opens by their names; gives
-/// the exit status.
-fn answer<R, F, O>(rt: &R, words: io::Result<Vec<String>>, opener: O) -> u8
+/// Does what the words of the command line ask for, on files that `opener` opens by their names, and
+/// writes the answer to `out`; gives the exit status.
+fn answer<R, F, O, W>(rt: &R, words: io::Result<Vec<String>>, opener: O, out: W) -> u8
 where
-    R: Print + Eprint + AllocGlobal,
+    R: Eprint + AllocGlobal,
     F: Read + Drop,
     O: Fn(&str) -> io::Result<F> + Drop,
+    W: Write + Drop,
     requires { O.IsAlwaysCallable opener }
-    ensures run { IfOk words (λ words. (names : FileNames) → Asks (map string_bytes words.items) names
-        → IsStatusOfRun (FnReturnsAt O.Fn opener) F.remaining names result) }
-    ensures misuse { IfOk words (λ words. ((names : FileNames) → ¬ Asks (map string_bytes words.items) names) → result ≡ 2) }
+    ensures run { IfOk words (λ words. (names : FileNames) → Asks (map string_bytes words.items) (run names)
+        → IsStatusOfRun (FnReturnsAt O.Fn opener) F.remaining W.contents names out result) }
+    ensures misuse { IfOk words (λ words. ((asked : Asked) → ¬ Asks (map string_bytes words.items) asked) → result ≡ 2) }
     ensures unread { OnErr words (result ≡ 2) }
     ensures exit { result ≤ 2 }
 {
@@ -50,27 +50,34 @@ where
         Err(_) => return misuse(rt, "confine: an argument isn't UTF-8\n"),
     };
     match read_request(rt.alloc(), &words) {
-        Ok(run) => tell(rt, serve(rt, run, opener)),
+        Ok(request) => tell(rt, serve(rt.alloc(), request, opener, out)),
         Err(error) if error.kind() == ErrorKind::OutOfMemory => tell(rt, End::NoMemory),
         Err(error) => misuse(rt, error),
     }
 }
 
-/// Does a run, on the files that it names.
-fn serve<R, F, O>(rt: &R, run: Run<'_>, opener: O) -> End
+/// Does what was asked for, on the files that it names.
+fn serve<F, O, W>(alloc: Global, request: Request<'_>, opener: O, out: W) -> End
 where
-    R: Print + AllocGlobal,
     F: Read + Drop,
     O: Fn(&str) -> io::Result<F> + Drop,
+    W: Write + Drop,
     requires { O.IsAlwaysCallable opener }
-    ensures run { Serves (FnReturnsAt O.Fn opener) F.remaining (files_of run.entry) result }
+    ensures served { Serves (FnReturnsAt O.Fn opener) F.remaining W.contents (asked_of request.entry) out result }
     ensures exit { status_of result ≤ 2 }
 {
-    let table = opener(run.table);
-    let policy = opener(run.policy);
-    let script = opener(run.script);
-    let (end, _) = run_on(rt.alloc(), table, policy, script, io::writer(rt));
-    end
+    match request {
+        Request::Run {
+            table,
+            policy,
+            script,
+        } => {
+            let table = opener(table);
+            let policy = opener(policy);
+            let script = opener(script);
+            run_on(alloc, table, policy, script, out).0
+        }
+    }
 }
 
 /// Says on standard error why there is no answer, where there is none; gives the exit status. That

@@ -1,19 +1,21 @@
 ghost use Rattle.std.specs.Prelude.{◌≡◌, ◌∷◌, [], Some, false, IfErr, IfOk, map, option_map};
 ghost use Rattle.clap.specs.Words.{Text, app_of, first_value, found_of, items_of, kind_of, rule_of, subcommand_rows_of};
 ghost use Rattle.std.specs.String.{string_bytes};
-ghost use Rattle.confine.specs.CommandLine.{ArePlain, Asks, FileNames, confine_app, file_rule, files_in, files_of, files_run, run_app, run_words};
+ghost use Rattle.confine.specs.CommandLine.{ArePlain, Asked, Asks, FileNames, asked_by, asked_in, asked_of, confine_app, file_rule, run, run_app, run_words};
 
 use clap::error::ErrorKind;
 use clap::{Arg, ArgAction, ArgMatches, Command, Error};
 use std::alloc::{AllocError, Global};
 
-/// A run: checks a table against a policy, and runs a script where it is accepted. By the names of
-/// the files.
+/// What a command line asks for, with the names of the files.
 #[derive(Clone, Copy)]
-pub struct Run<'a> {
-    pub table: &'a str,
-    pub policy: &'a str,
-    pub script: &'a str,
+pub enum Request<'a> {
+    /// Checks a table against a policy, and runs a script where it is accepted.
+    Run {
+        table: &'a str,
+        policy: &'a str,
+        script: &'a str,
+    },
 }
 
 const ABOUT: &str =
@@ -113,14 +115,14 @@ With a table that stops after its second line it ends with status 2:
 ";
 
 /// Reads the command line; an `Err` is for its user, and so is a request for help.
-pub fn read_request<'a>(alloc: Global, words: &'a [String]) -> Result<Run<'a>, Error>
-    ensures ok { IfOk result (λ run. Asks (map string_bytes words.now) (files_of run)) }
-    ensures err { IfErr result (λ error. (files : FileNames) → Asks (map string_bytes words.now) files
+pub fn read_request<'a>(alloc: Global, words: &'a [String]) -> Result<Request<'a>, Error>
+    ensures ok { IfOk result (λ request. Asks (map string_bytes words.now) (asked_of request)) }
+    ensures err { IfErr result (λ error. (asked : Asked) → Asks (map string_bytes words.now) asked
         → kind_of error ≡ ErrorKind.OutOfMemory) }
 
     // `PROGRAM run TABLE POLICY SCRIPT` is read as a run of these files.
     ensures run { (program : Text) (files : FileNames) → map string_bytes words.now ≡ run_words program files → ArePlain files
-        → IfOk result (λ run. files_of run ≡ files) × IfErr result (λ error. kind_of error ≡ ErrorKind.OutOfMemory) }
+        → IfOk result (λ request. asked_of request ≡ run files) × IfErr result (λ error. kind_of error ≡ ErrorKind.OutOfMemory) }
 {
     let mut command = command(alloc)?;
     let matches = command.try_get_matches_from_mut(words)?;
@@ -131,8 +133,8 @@ pub fn read_request<'a>(alloc: Global, words: &'a [String]) -> Result<Run<'a>, E
 }
 
 // What the subcommand asks for.
-fn request_of<'a>(matches: &ArgMatches<'a>) -> Option<Run<'a>>
-    ensures { option_map files_of result ≡ files_run (subcommand_rows_of matches.now) }
+fn request_of<'a>(matches: &ArgMatches<'a>) -> Option<Request<'a>>
+    ensures { option_map asked_of result ≡ asked_by (subcommand_rows_of matches.now) }
 {
     match matches.subcommand()? {
         ("run", files) => run_of(files),
@@ -141,10 +143,10 @@ fn request_of<'a>(matches: &ArgMatches<'a>) -> Option<Run<'a>>
 }
 
 // A run, where all three files are named.
-fn run_of<'a>(files: &ArgMatches<'a>) -> Option<Run<'a>>
-    ensures { option_map files_of result ≡ files_in (first_value (found_of files.now)) }
+fn run_of<'a>(files: &ArgMatches<'a>) -> Option<Request<'a>>
+    ensures { option_map asked_of result ≡ asked_in (first_value (found_of files.now)) }
 {
-    Some(Run {
+    Some(Request::Run {
         table: files.get_str("table")?,
         policy: files.get_str("policy")?,
         script: files.get_str("script")?,

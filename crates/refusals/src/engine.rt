@@ -1,7 +1,7 @@
 //! The engine of `run`, for a log, for a denial and for a fault.
 use crate::bell::{LOG, POLICY, SCRIPT, TABLE};
 use crate::memory::{prepared, refused, spend};
-use report::{Counted, End, run};
+use report::{End, Watched, run};
 use std::process::Abort;
 use std::test::Fail;
 
@@ -26,12 +26,12 @@ fn answers<R: Abort + AllocGlobal>(
 ) -> Result<(), Fail> {
     spend(rt.alloc(), count)?;
     let page = prepared(Vec::with_capacity(rt.alloc(), answer.len()))?;
-    let mut out = Counted::new(page);
+    let mut out = Watched::new(page);
     let end = run(
         rt.alloc(),
-        &mut Counted::new(table.as_bytes()),
-        &mut Counted::new(policy.as_bytes()),
-        &mut Counted::new(SCRIPT.as_bytes()),
+        &mut Watched::new(table.as_bytes()),
+        &mut Watched::new(policy.as_bytes()),
+        &mut Watched::new(SCRIPT.as_bytes()),
         &mut out,
     );
     let written = out.into_inner();

@@ -1,13 +1,3 @@
 mod Names
-mod Reading
-mod Writing
-mod Stops
 mod Runs
-mod Answering
-mod Booting
-mod FunctionOfFiles
-mod OnLiterals
-mod TwoCores
-mod Accepting
-mod TwoCoresRun
-mod TwoCoresAnswers
+mod Loads

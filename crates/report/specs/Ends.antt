@@ -1,5 +1,5 @@
--- How the program ends: its exit status, what it says on standard error, and what an end tells of the devices and of what was written.
-use Rattle.std.specs.Prelude.{◌≡◌, ◌≢◌, ◌+◌, ℕ, List, ◌++◌, codes, Option, Some, None}
+-- How the program ends: its exit status, what it says on standard error, and what an end tells of the devices and of what was written (confine's own).
+use Rattle.std.specs.Prelude.{ℕ, Bool, true, false, List, ◌++◌, codes, Option, Some, None}
 use Rattle.report.specs.declared.end.File.{File}
 use Rattle.report.specs.declared.end.File.TheVariants.{Table, Policy, Script}
 use Rattle.report.specs.declared.end.End.{End}
@@ -25,9 +25,19 @@ status_of NoMemory = 2
 status_of (CannotRead file) = 2
 status_of CannotWrite = 2
 
--- a device's failure is told exactly where one call of it failed, by its count of failures before and after
-abbrev pub TellsFailure : End → End → ℕ → ℕ → Type 0
-TellsFailure end told old new = (end ≡ told → new ≡ old + 1) × (end ≢ told → new ≡ old)
+-- the file that couldn't be read
+abbrev pub unread_file : End → Option File
+unread_file (Status status) = None
+unread_file NoMemory = None
+unread_file (CannotRead file) = Some file
+unread_file CannotWrite = None
+
+-- the answer couldn't be written
+abbrev pub is_unwritable : End → Bool
+is_unwritable (Status status) = false
+is_unwritable NoMemory = false
+is_unwritable (CannotRead file) = false
+is_unwritable CannotWrite = true
 
 -- a fact for an end whose answer was written
 abbrev pub IfStatus : End → (ℕ → Type 0) → Type 0
@@ -49,10 +59,3 @@ IfCannotWrite (Status status) P = Unit {0}
 IfCannotWrite NoMemory P = Unit {0}
 IfCannotWrite (CannotRead file) P = Unit {0}
 IfCannotWrite CannotWrite P = P
-
--- an end that blames no file
-abbrev pub BlamesNoFile : End → Type 0
-BlamesNoFile (Status status) = Unit {0}
-BlamesNoFile NoMemory = Unit {0}
-BlamesNoFile (CannotRead file) = ⊥
-BlamesNoFile CannotWrite = Unit {0}

@@ -1,7 +1,7 @@
-pub mod Devices
 pub mod Ends
 pub mod Reports
 pub mod Places
-pub mod Loading
+pub mod Files
+pub mod Commands
 pub mod Answers
-pub mod TwoCores
+pub mod Opening

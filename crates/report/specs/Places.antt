@@ -1,4 +1,4 @@
--- The names that stand at a place: labels, kinds and objects by their names, slots as the texts spell them.
+-- The names that stand at a place: labels, kinds and objects by their names, slots as the texts spell them (confine's own).
 use Rattle.std.specs.Prelude.{ℕ, List, [], ◌∷◌, ◌++◌, codes, decimal, unwrap_or, slice_get}
 use Rattle.base.specs.Kinds.{kind_name}
 use Rattle.base.specs.declared.ids.ObjId.{ObjId}

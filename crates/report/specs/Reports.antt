@@ -1,4 +1,4 @@
--- The reports: each is one JSON object on a line, without spaces, its keys in the order of their bytes.
+-- The reports: each is one JSON object on a line, without spaces, its keys in the order of their bytes (confine's own).
 use Rattle.std.specs.Prelude.{ℕ, List, [], ◌∷◌, ◌++◌, codes, map}
 use Rattle.serde_json.specs.Data.{Data, number, unsigned, string, array, object, member, no_members}
 use Rattle.serde_json.specs.View.{items_of}

@@ -71,35 +71,3 @@ impl End {
         }
     }
 }
-
-#[cfg(test)]
-mod tests {
-    use super::*;
-
-    #[test]
-    fn says_why_it_ends(rt: HostRuntime) {
-        for (end, status, message) in [
-            (End::Status(1), 1, None),
-            (End::NoMemory, 2, Some("confine: no memory")),
-            (
-                End::CannotRead(File::Table),
-                2,
-                Some("confine: cannot read table"),
-            ),
-            (
-                End::CannotRead(File::Policy),
-                2,
-                Some("confine: cannot read policy"),
-            ),
-            (
-                End::CannotRead(File::Script),
-                2,
-                Some("confine: cannot read script"),
-            ),
-            (End::CannotWrite, 2, Some("confine: cannot write")),
-        ] {
-            assert_eq!(rt; end.status(), status);
-            assert_eq!(rt; end.message(), message);
-        }
-    }
-}

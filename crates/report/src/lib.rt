@@ -2,17 +2,14 @@
 //! how they end.
 #![tactic(auto)]
 
-mod device;
+mod command;
 mod end;
 mod engine;
-mod examples;
-mod laws;
 mod load;
 mod places;
 mod reports;
+mod running;
 
-pub use device::{Counted, ReadError, Sink, Source, WriteError};
+pub use devices::{ReadError, Sink, Source, Unopened, Watched, WriteError};
 pub use end::{End, File};
-pub use engine::run;
-pub use examples::two_cores_answers;
-pub use laws::an_answer_is_a_function_of_the_files;
+pub use running::{run, run_on};

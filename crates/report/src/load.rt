@@ -1,25 +1,23 @@
-ghost use Rattle.std.specs.Prelude.{◌≡◌, ◌≢◌, ◌^◌, ◌<◌, Ok, Err, IfOk, IfErr, IfSome, IsErr};
+ghost use Rattle.std.specs.Prelude.{◌≡◌, ◌≢◌, ◌⊎◌, false, Ok, Err, IfOk, IfErr, IfSome};
 ghost use Rattle.captext.specs.Policies.{read_policy_of};
 ghost use Rattle.captext.specs.Tables.{read_table_of};
-ghost use Rattle.evtext.specs.Script.{read_script_of};
-ghost use Rattle.machine.specs.Layout.{Layout};
-ghost use Rattle.report.specs.Loading.{IfKnown, IsDeviceStop, IsStopOf, LoadsAll, LoadsAs, StopsAt, TellsDevice};
+ghost use Rattle.report.specs.Commands.{HasPolicy, HasTable, first_failed, input};
+ghost use Rattle.report.specs.Files.{Gives, IsDeviceStop, IsStopOf, LoadsAs, contents_of, is_unread, unread_of};
 ghost use Rattle.words.specs.Fault.{no_memory};
 
+use crate::command::Command;
 use crate::{File, ReadError, Source};
 use captext::{Fault, read_policy, read_table};
-use evtext::read_script;
-use machine::Event;
 use policy::Policy;
 use std::alloc::Global;
 use table::Table;
 
 /// What the three files hold.
 #[derive(Drop)]
-pub(crate) struct Loaded {
+pub(crate) struct Loaded<X: Drop> {
     pub table: Table,
     pub policy: Policy,
-    pub events: Vec<Event>,
+    pub third: X,
 }
 
 /// Why a file wasn't loaded.
@@ -32,10 +30,10 @@ pub(crate) enum Stop {
 
 /// The bytes of a file.
 fn read_file<S: Source>(alloc: Global, file: File, source: &mut S) -> Result<Vec<u8>, Stop>
-    requires { S.failures source.old < 2 ^ 63 }
+    requires { S.failed source.old ≡ false }
     ensures bytes { IfOk result (λ v. IfSome (S.remaining source.old) (λ bytes. v.items ≡ bytes)) }
     ensures stops { IfErr result (λ stop. IsDeviceStop file stop) }
-    ensures device { TellsDevice result file (S.failures source.old) (S.failures source.new) }
+    ensures device { S.failed source.new ≡ is_unread result }
 {
     match source.read_whole(alloc) {
         Ok(bytes) => Ok(bytes),
@@ -58,11 +56,11 @@ fn stopped(file: File, fault: Fault) -> Stop
 
 /// The table; the bytes are let go.
 fn load_table<S: Source>(alloc: Global, source: &mut S) -> Result<Table, Stop>
-    requires { S.failures source.old < 2 ^ 63 }
+    requires { S.failed source.old ≡ false }
     ensures loaded { IfSome (S.remaining source.old) (λ bytes.
         LoadsAs (λ t. t) result (read_table_of bytes)) }
     ensures stops { IfErr result (λ stop. IsStopOf File.Table stop) }
-    ensures device { TellsDevice result File.Table (S.failures source.old) (S.failures source.new) }
+    ensures device { S.failed source.new ≡ is_unread result }
 {
     let bytes = read_file(alloc, File::Table, source)?;
     match read_table(alloc, &bytes) {
@@ -73,11 +71,11 @@ fn load_table<S: Source>(alloc: Global, source: &mut S) -> Result<Table, Stop>
 
 /// The policy, with the labels of the table; the bytes are let go.
 fn load_policy<S: Source>(alloc: Global, table: &Table, source: &mut S) -> Result<Policy, Stop>
-    requires { S.failures source.old < 2 ^ 63 }
+    requires { S.failed source.old ≡ false }
     ensures loaded { IfSome (S.remaining source.old) (λ bytes.
         LoadsAs (λ p. p) result (read_policy_of table.now bytes)) }
     ensures stops { IfErr result (λ stop. IsStopOf File.Policy stop) }
-    ensures device { TellsDevice result File.Policy (S.failures source.old) (S.failures source.new) }
+    ensures device { S.failed source.new ≡ is_unread result }
 {
     let bytes = read_file(alloc, File::Policy, source)?;
     match read_policy(alloc, &bytes, table) {
@@ -86,62 +84,47 @@ fn load_policy<S: Source>(alloc: Global, table: &Table, source: &mut S) -> Resul
     }
 }
 
-/// The events of the script; the bytes are let go.
-fn load_events<S: Source>(alloc: Global, source: &mut S) -> Result<Vec<Event>, Stop>
-    requires { S.failures source.old < 2 ^ 63 }
+/// What the third file holds; its bytes are let go.
+fn load_third<C: Command, S: Source>(
+    alloc: Global,
+    table: &Table,
+    source: &mut S,
+) -> Result<C::Third, Stop>
+    requires { S.failed source.old ≡ false }
     ensures loaded { IfSome (S.remaining source.old) (λ bytes.
-        LoadsAs (λ events. events.items) result (read_script_of bytes)) }
-    ensures stops { IfErr result (λ stop. IsStopOf File.Script stop) }
-    ensures device { TellsDevice result File.Script (S.failures source.old) (S.failures source.new) }
+        LoadsAs C.held result (C.read_of table.now bytes)) }
+    ensures stops { IfErr result (λ stop. IsStopOf C.third_file stop) }
+    ensures device { S.failed source.new ≡ is_unread result }
 {
-    let bytes = read_file(alloc, File::Script, source)?;
-    match read_script(alloc, &bytes) {
-        Ok(events) => Ok(events),
-        Err(fault) => Err(stopped(File::Script, fault)),
+    let bytes = read_file(alloc, C::third_file(), source)?;
+    match C::read_third(alloc, table, &bytes) {
+        Ok(third) => Ok(third),
+        Err(fault) => Err(stopped(C::third_file(), fault)),
     }
 }
 
 /// Loads the files one after another, up to the first that stops it.
-pub(crate) fn load<T: Source, P: Source, S: Source>(
+pub(crate) fn load<C: Command, T: Source, P: Source, S: Source>(
     alloc: Global,
     table: &mut T,
     policy: &mut P,
-    script: &mut S,
-) -> Result<Loaded, Stop>
-    requires table { T.failures table.old < 2 ^ 63 }
-    requires policy { P.failures policy.old < 2 ^ 63 }
-    requires script { S.failures script.old < 2 ^ 63 }
-
-    ensures loaded { IfKnown (T.remaining table.old) (P.remaining policy.old) (S.remaining script.old)
-        (λ t p s. LoadsAll t p s result) }
-
-    // A fault stops it whatever the files after it are.
-    ensures table_faulty { IfSome (T.remaining table.old) (λ t. (fault : Fault) → read_table_of t ≡ Err fault
-        → StopsAt result File.Table fault) }
-    ensures policy_faulty { IfSome (T.remaining table.old) (λ t. IfSome (P.remaining policy.old) (λ p.
-        (layout : Layout) (fault : Fault) → read_table_of t ≡ Ok layout → read_policy_of layout p ≡ Err fault
-        → StopsAt result File.Policy fault)) }
-
-    // Each file is parsed before the next is read.
-    ensures table_first { IfSome (T.remaining table.old) (λ t. IsErr (read_table_of t)
-        → (policy.new ≡ policy.old) × (script.new ≡ script.old)) }
-    ensures policy_first { IfSome (T.remaining table.old) (λ t. IfSome (P.remaining policy.old) (λ p.
-        (layout : Layout) → read_table_of t ≡ Ok layout → IsErr (read_policy_of layout p)
-        → script.new ≡ script.old)) }
-    ensures table_unread { result ≡ Err (Stop.CannotRead File.Table)
-        → (policy.new ≡ policy.old) × (script.new ≡ script.old) }
-    ensures policy_unread { result ≡ Err (Stop.CannotRead File.Policy) → script.new ≡ script.old }
-
-    ensures table { TellsDevice result File.Table (T.failures table.old) (T.failures table.new) }
-    ensures policy { TellsDevice result File.Policy (P.failures policy.old) (P.failures policy.new) }
-    ensures script { TellsDevice result File.Script (S.failures script.old) (S.failures script.new) }
+    third: &mut S,
+) -> Result<Loaded<C::Third>, Stop>
+    requires table { T.failed table.old ≡ false }
+    requires policy { P.failed policy.old ≡ false }
+    requires third { S.failed third.old ≡ false }
+    ensures loaded { Gives C.held (contents_of C.third_file C.read_of (T.remaining table.old) (P.remaining policy.old) (S.remaining third.old)) result }
+    ensures policy_waits { (policy.new ≡ policy.old) ⊎ HasTable (input T.remaining T.failed table.old table.new) }
+    ensures third_waits { (third.new ≡ third.old)
+        ⊎ HasPolicy (input T.remaining T.failed table.old table.new) (input P.remaining P.failed policy.old policy.new) }
+    ensures unread { unread_of result ≡ first_failed C.third_file (T.failed table.new) (P.failed policy.new) (S.failed third.new) }
 {
     let table = load_table(alloc, table)?;
     let policy = load_policy(alloc, &table, policy)?;
-    let events = load_events(alloc, script)?;
+    let third = load_third::<C, S>(alloc, &table, third)?;
     Ok(Loaded {
         table,
         policy,
-        events,
+        third,
     })
 }

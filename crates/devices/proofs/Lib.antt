@@ -1,0 +1,3 @@
+mod Interrupted
+mod Reading
+mod Writing

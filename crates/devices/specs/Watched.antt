@@ -1,0 +1,19 @@
+-- A reader or a writer, and what is kept of its calls (confine's own).
+use Rattle.std.specs.Prelude.{Bool, true, false}
+use Rattle.devices.specs.declared.watched.Watched.{Watched}
+
+-- one that hasn't been called
+abbrev pub watched : {D : Type 0} → D → Watched D
+watched device = record { device = device; failed = false; is_flushed = true }
+
+-- the reader or writer
+abbrev pub device_of : {D : Type 0} → Watched D → D
+device_of watched = watched.device
+
+-- whether one of its calls failed
+abbrev pub failed_of : {D : Type 0} → Watched D → Bool
+failed_of watched = watched.failed
+
+-- whether a flush came after all that was written
+abbrev pub is_flushed_of : {D : Type 0} → Watched D → Bool
+is_flushed_of watched = watched.is_flushed

@@ -1,0 +1,15 @@
+//! What a program reads from and writes to: devices that tell whether they failed.
+#![tactic(auto)]
+
+mod opened;
+mod sink;
+mod source;
+mod watched;
+
+pub use opened::{Unopened, open_result};
+pub use sink::{Sink, WriteError};
+pub use source::{ReadError, Source};
+pub use watched::Watched;
+
+#[cfg(test)]
+mod tests;

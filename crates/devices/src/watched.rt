@@ -1,0 +1,141 @@
+ghost use Rattle.std.specs.Prelude.{◌≡◌, ◌<◌, ◌↔◌, Ok, IfOk, OnErr, IsErr, IsErrAnd, IsTrue};
+ghost use Rattle.std.specs.Io.{ReadsAtMost, WritesAtMost};
+ghost use Rattle.std.specs.Io.KnownBytes.{ReadConsumes, WriteAppends};
+ghost use Rattle.std.specs.IoError.{error_kind};
+
+use crate::{ReadError, Sink, Source, WriteError};
+use std::io::{self, ErrorKind, Read, Write};
+
+/// A reader or a writer that keeps whether one of its calls failed. One that was interrupted is asked
+/// again, as by the calls of `std::io`, and has failed only if it is interrupted 2^64 - 1 times.
+#[derive(Drop)]
+pub struct Watched<D> {
+    device: D,
+    failed: bool,
+    is_flushed: bool,
+}
+
+impl<D> Watched<D> {
+    ghost use Rattle.devices.specs.Watched.{watched, device_of};
+
+    /// A device that hasn't failed.
+    pub fn new(device: D) -> Watched<D>
+        ensures { result ≡ watched device }
+    {
+        Watched {
+            device,
+            failed: false,
+            is_flushed: true,
+        }
+    }
+
+    /// The device itself.
+    pub fn into_inner(self) -> D
+        ensures { result ≡ device_of self }
+    {
+        self.device
+    }
+}
+
+/// Whether a device asks for another try.
+fn is_interrupted<T>(answer: &io::Result<T>) -> bool
+    ensures { IsTrue result ↔ IsErrAnd answer.now (λ error. error_kind error ≡ ErrorKind.Interrupted) }
+{
+    match answer {
+        Ok(_) => false,
+        Err(error) => error.kind() == ErrorKind::Interrupted,
+    }
+}
+
+/// Asks a reader until it isn't interrupted.
+#[tactic(auto, using(crate::proofs::Interrupted::none_made, crate::proofs::Interrupted::one_read, crate::proofs::Interrupted::then_read))]
+fn read_from<R: Read>(reader: &mut R, buf: &mut [u8]) -> io::Result<usize>
+    ensures bound { ReadsAtMost result buf.new }
+    ensures bytes { ReadConsumes (R.remaining reader.old) (R.remaining reader.new) result buf.new }
+{
+    for _ in 0..u64::MAX {
+        let answer = reader.read(buf);
+        if !is_interrupted(&answer) {
+            return answer;
+        }
+    }
+    Err(io::Error::from(ErrorKind::Interrupted))
+}
+
+/// Asks a writer until it isn't interrupted.
+#[tactic(auto, using(crate::proofs::Interrupted::none_made, crate::proofs::Interrupted::one_written, crate::proofs::Interrupted::then_written))]
+fn write_to<W: Write>(writer: &mut W, bytes: &[u8]) -> io::Result<usize>
+    ensures bound { WritesAtMost result bytes.now }
+    ensures bytes { WriteAppends (W.contents writer.old) (W.contents writer.new) result bytes.now }
+{
+    for _ in 0..u64::MAX {
+        let answer = writer.write(bytes);
+        if !is_interrupted(&answer) {
+            return answer;
+        }
+    }
+    Err(io::Error::from(ErrorKind::Interrupted))
+}
+
+/// What the answer of a writer that was given so many bytes comes to. One that takes none of them has
+/// failed.
+fn taken(given: usize, answer: io::Result<usize>) -> Result<usize, WriteError>
+    ensures some { IfOk answer (λ n. 0 < n → result ≡ Ok n) }
+    ensures none { IfOk answer (λ n. n ≡ 0 → given ≡ 0 → result ≡ Ok n) }
+    ensures stuck { IfOk answer (λ n. n ≡ 0 → 0 < given → IsErr result) }
+    ensures err { OnErr answer (IsErr result) }
+{
+    match answer {
+        Ok(count) if count > 0 || given == 0 => Ok(count),
+        Ok(_) | Err(_) => Err(WriteError),
+    }
+}
+
+impl<R: Read> Source for Watched<R> {
+    ghost use Rattle.devices.specs.Watched.{device_of, failed_of};
+
+    ghost remaining = { λ s. R.remaining (device_of s) };
+
+    ghost failed = { λ s. failed_of s };
+
+    fn read(&mut self, buf: &mut [u8]) -> Result<usize, ReadError> {
+        match read_from(&mut self.device, buf) {
+            Ok(count) => Ok(count),
+            Err(error) => {
+                let told = ReadError::from(error);
+                self.failed = told == ReadError::Failed;
+                Err(told)
+            }
+        }
+    }
+}
+
+impl<W: Write> Sink for Watched<W> {
+    ghost use Rattle.devices.specs.Watched.{device_of, failed_of, is_flushed_of};
+
+    ghost contents = { λ s. W.contents (device_of s) };
+
+    ghost failed = { λ s. failed_of s };
+
+    ghost is_flushed = { λ s. is_flushed_of s };
+
+    fn write(&mut self, bytes: &[u8]) -> Result<usize, WriteError> {
+        self.is_flushed = false;
+        let result = taken(bytes.len(), write_to(&mut self.device, bytes));
+        self.failed = result.is_err();
+        result
+    }
+
+    fn flush(&mut self) -> Result<(), WriteError> {
+        match self.device.flush() {
+            Ok(()) => {
+                self.is_flushed = true;
+                Ok(())
+            }
+            Err(_) => {
+                self.failed = true;
+                Err(WriteError)
+            }
+        }
+    }
+}
