@@ -1,5 +1,5 @@
 //! A run of the engine over texts in memory.
-use report::{Counted, run};
+use report::{Watched, run};
 use std::alloc::Global;
 
 /// The bytes of the three files of a run.
@@ -19,10 +19,10 @@ pub struct Answer {
 
 /// The answer to these files.
 pub fn answer_to(alloc: Global, given: Given<'_>) -> Answer {
-    let mut table = Counted::new(given.table);
-    let mut policy = Counted::new(given.policy);
-    let mut script = Counted::new(given.script);
-    let mut out = Counted::new(Vec::new(alloc));
+    let mut table = Watched::new(given.table);
+    let mut policy = Watched::new(given.policy);
+    let mut script = Watched::new(given.script);
+    let mut out = Watched::new(Vec::new(alloc));
     let end = run(alloc, &mut table, &mut policy, &mut script, &mut out);
     Answer {
         status: end.status(),

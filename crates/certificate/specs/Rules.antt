@@ -6,6 +6,7 @@ use Rattle.base.specs.declared.ids.ObjId.{ObjId}
 use Rattle.base.specs.declared.ids.SlotRef.{SlotRef}
 use Rattle.base.specs.declared.kind.Kind.{Kind}
 use Rattle.base.specs.declared.kind.Kind.TheVariants as authority
+use Rattle.base.specs.declared.label.TheConstants.Label as Label
 use Rattle.base.specs.Kinds.{kind_number, is_structural}
 use Rattle.machine.specs.declared.cap.Cap.{Cap}
 use Rattle.machine.specs.declared.object.ObjectKind.TheVariants as object
@@ -38,9 +39,9 @@ a6 = 13
 
 -- P1: one label is in the other's domain, and only one of the two has an edge
 pub record SubjectsDisagree (allowed : EdgeTest) (subject other : ℕ) (kind : Kind) (target : ℕ) : Type 0 where
-  pub subject_known : subject < 64
-  pub other_known : other < 64
-  pub target_known : target < 64
+  pub subject_known : subject < Label.COUNT
+  pub other_known : other < Label.COUNT
+  pub target_known : target < Label.COUNT
   pub domain : IsInDomain allowed subject other
   pub of_use : is_structural kind ≡ false
   pub differ : allowed subject kind target ≢ allowed other kind target

@@ -27,7 +27,7 @@ pub fn first_disagreement(policy: &Policy) -> Option<Denial>
 
 // The least place with this subject.
 fn disagreement_of(policy: &Policy, subject: Label) -> Option<Denial>
-    requires { subject < 64 }
+    requires { subject < Label.COUNT }
     ensures { (t : Layout) → FindsLeast place_of (BreaksUnder t (allows policy.now) (p1 ∷ subject ∷ [])) result }
 {
     for number in 0..Label::COUNT {
@@ -41,8 +41,8 @@ fn disagreement_of(policy: &Policy, subject: Label) -> Option<Denial>
 
 // The least place with this subject and this other label.
 fn disagreement_with(policy: &Policy, subject: Label, other: Label) -> Option<Denial>
-    requires subject_known { subject < 64 }
-    requires other_known { other < 64 }
+    requires subject_known { subject < Label.COUNT }
+    requires other_known { other < Label.COUNT }
     ensures { (t : Layout) → FindsLeast place_of (BreaksUnder t (allows policy.now) (p1 ∷ subject ∷ other ∷ [])) result }
 {
     if subject == other || !is_in_domain(policy, subject, other) {
@@ -58,8 +58,8 @@ fn disagreement_with(policy: &Policy, subject: Label, other: Label) -> Option<De
 
 // The least place with these labels, one in the domain of the other, and this kind.
 fn disagreement_in(policy: &Policy, subject: Label, other: Label, kind: Kind) -> Option<Denial>
-    requires subject_known { subject < 64 }
-    requires other_known { other < 64 }
+    requires subject_known { subject < Label.COUNT }
+    requires other_known { other < Label.COUNT }
     requires domain { IsInDomain (allows policy.now) subject other }
     ensures { (t : Layout)
         → FindsLeast place_of (BreaksUnder t (allows policy.now) (p1 ∷ subject ∷ other ∷ kind_number kind ∷ [])) result }

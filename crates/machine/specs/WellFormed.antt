@@ -1,8 +1,9 @@
 -- Well-formed machines: what slots, the parts of objects, the links between objects, and numbers and ranges keep, for all nine kinds
 -- (seL4 manual, "Capability Spaces", "Capability Derivation Tree", "Untyped Memory" and "Scheduling Contexts").
-use Rattle.std.specs.Prelude.{◌≡◌, ◌≢◌, ℕ, ◌^◌, ◌<◌, ◌≤◌, ◌⊎◌, List, length, Option, Some, Contains, AllPairs, option_map}
+use Rattle.std.specs.Prelude.{◌≡◌, ◌≢◌, ℕ, ◌<◌, ◌≤◌, ◌⊎◌, List, length, Option, Some, Contains, AllPairs, option_map}
 use Rattle.base.specs.declared.ids.ObjId.{ObjId}
 use Rattle.base.specs.declared.ids.SlotRef.{SlotRef}
+use Rattle.base.specs.declared.limits.TheConstants.{ADDRESS_END}
 use Rattle.machine.specs.declared.cap.Cap.{Cap}
 use Rattle.machine.specs.declared.object.Context.{Context}
 use Rattle.machine.specs.declared.object.Object.{Object}
@@ -146,8 +147,8 @@ pub record PartsFit (m : Machine) : Type 0 where
 
 -- untyped memory has 4 to 47 bits, and every range ends at or below 2^48
 abbrev pub IsRanged : Object → Type 0
-IsRanged (o.Untyped memory) = (4 ≤ memory.bits) × (memory.bits ≤ 47) × (end_of (o.Untyped memory) ≤ 2 ^ 48)
-IsRanged object = end_of object ≤ 2 ^ 48
+IsRanged (o.Untyped memory) = (4 ≤ memory.bits) × (memory.bits ≤ 47) × (end_of (o.Untyped memory) ≤ ADDRESS_END)
+IsRanged object = end_of object ≤ ADDRESS_END
 
 -- numbers of objects and their ranges of memory
 pub record NumbersFit (m : Machine) : Type 0 where

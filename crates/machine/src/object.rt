@@ -1,4 +1,5 @@
-ghost use Rattle.std.specs.Prelude.{◌≡◌, ◌≤◌};
+ghost use Rattle.std.specs.Prelude.{◌≡◌, ◌≤◌, ◌^◌};
+ghost use Rattle.base.specs.declared.limits.TheConstants.{MAX_RADIX};
 ghost use Rattle.machine.specs.Objects.{kind_of_object, slot_count, word_count};
 
 use crate::{Radix, Tcb};
@@ -134,7 +135,7 @@ impl Object {
     /// How many slots the object has: a CNode `2^radix`, a TCB its root slot alone.
     pub fn slot_count(&self) -> u64
         ensures count { result ≡ slot_count self.now }
-        ensures most { result ≤ 4096 }
+        ensures most { result ≤ 2 ^ MAX_RADIX }
     {
         match self {
             Object::CNode(node) => node.radix.slots(),

@@ -1,5 +1,7 @@
+ghost use Rattle.base.specs.declared.limits.TheConstants.{MAX_RADIX};
 ghost use Rattle.std.specs.Prelude.{◌≡◌, ℕ, ◌<◌, ◌≤◌, ◌^◌, ◌↔◌, IsSome, IfSome};
 
+use base::MAX_RADIX;
 use std::marker::Model;
 
 /// How many bits of an address a CNode takes to select a slot: 1 to 12. It has `2^radix` slots.
@@ -9,11 +11,14 @@ pub struct Radix {
 }
 
 impl Model for Radix {
+    ghost use Rattle.std.specs.Prelude.{◌<◌, ◌≤◌};
+    ghost use Rattle.base.specs.declared.limits.TheConstants.{MAX_RADIX};
+
     ghost Value = { ℕ };
 
     ghost view = { λ radix. radix.bits };
 
-    ghost invariant = { λ radix. (0 < radix.bits) × (radix.bits ≤ 12) };
+    ghost invariant = { λ radix. (0 < radix.bits) × (radix.bits ≤ MAX_RADIX) };
 
     ghost inverse = { λ bits. record { bits = bits } };
 }
@@ -21,10 +26,10 @@ impl Model for Radix {
 impl Radix {
     /// The radix of that many bits.
     pub fn new(bits: u64) -> Option<Radix>
-        ensures valid { IsSome result ↔ ((0 < bits) × (bits ≤ 12)) }
+        ensures valid { IsSome result ↔ ((0 < bits) × (bits ≤ MAX_RADIX)) }
         ensures value { IfSome result (λ radix. radix ≡ bits) }
     {
-        if 0 < bits && bits <= 12 {
+        if 0 < bits && bits <= u64::from(MAX_RADIX) {
             Some(Radix { bits: bits as u8 })
         } else {
             None
@@ -35,7 +40,7 @@ impl Radix {
     pub fn bits(self) -> u8
         ensures value { result ≡ self }
         ensures least { 0 < result }
-        ensures most { result ≤ 12 }
+        ensures most { result ≤ MAX_RADIX }
     {
         self.bits
     }
@@ -43,7 +48,7 @@ impl Radix {
     /// How many slots a CNode of this radix has.
     pub fn slots(self) -> u64
         ensures value { result ≡ 2 ^ self }
-        ensures most { result ≤ 4096 }
+        ensures most { result ≤ 2 ^ MAX_RADIX }
     {
         1 << self.bits
     }

@@ -1,10 +1,11 @@
 -- How many bits of an address a CNode takes to select one of its slots (seL4 manual, "Capability Address Lookup"; the limits are
 -- confine's own).
 use Rattle.std.specs.Prelude.{◌<◌, ◌≤◌}
+use Rattle.base.specs.declared.limits.TheConstants.{MAX_RADIX}
 use Rattle.machine.specs.declared.object.Object.{Object}
 use Rattle.machine.specs.declared.object.Object.TheVariants as o
 
 -- a CNode takes 1 to 12 bits
 abbrev pub HasRadix : Object → Type 0
-HasRadix (o.CNode node) = (0 < node.radix) × (node.radix ≤ 12)
+HasRadix (o.CNode node) = (0 < node.radix) × (node.radix ≤ MAX_RADIX)
 HasRadix _ = Unit {0}

@@ -1,5 +1,5 @@
 -- What contracts see of a `State`, and what is true of each.
-use Rattle.std.specs.Prelude.{◌≡◌, ℕ, ◌<◌, ◌≤◌, ◌^◌, List, [], map, length, Option, Some, None, IsSome, option_map}
+use Rattle.std.specs.Prelude.{◌≡◌, ℕ, ◌<◌, ◌≤◌, List, [], map, length, Option, Some, None, IsSome, option_map}
 use Rattle.std.specs.Prelude.{option_and_then}
 use Rattle.std.specs.List.{flat_map, range_with_len}
 use Rattle.std.specs.Ordering.{nat_cmp}
@@ -7,6 +7,7 @@ use Rattle.std.specs.BTreeMap as tree
 use Rattle.slab.specs.Slab as slab
 use Rattle.base.specs.declared.ids.ObjId.{ObjId}
 use Rattle.base.specs.declared.ids.SlotRef.{SlotRef}
+use Rattle.base.specs.declared.limits.TheConstants.{OBJECT_NUMBERS}
 use Rattle.machine.specs.Machine.{Machine}
 use Rattle.machine.specs.Objects.{slot_count}
 use Rattle.objects.specs.declared.entry.Entry.{Entry}
@@ -48,6 +49,6 @@ pub record IsConsistent (s : Inside) : Type 0 where
   pub apart : (a b place : ℕ) → tree.get nat_cmp s.places a ≡ Some place → tree.get nat_cmp s.places b ≡ Some place → a ≡ b
   pub held : (a place : ℕ) → tree.get nat_cmp s.places a ≡ Some place → IsSome (slab.get s.entries place)
   pub fresh : (a : ℕ) → IsSome (tree.get nat_cmp s.places a) → a < s.next
-  pub bounded : s.next ≤ 2 ^ 48
+  pub bounded : s.next ≤ OBJECT_NUMBERS
   pub sized : (id : ObjId) (entry : Entry) → entry_of s.places s.entries id ≡ Some entry → IsSized entry
   pub queued : AreQueued (entry_of s.places s.entries) s.next

@@ -39,9 +39,10 @@ impl Model for State {
 
 impl State {
     ghost use Rattle.base.specs.declared.ids.ObjId.{ObjId as Id};
+    ghost use Rattle.base.specs.declared.limits.TheConstants.{MAX_RADIX, OBJECT_NUMBERS};
     ghost use Rattle.machine.specs.declared.object.CNode.{CNode};
     ghost use Rattle.machine.specs.declared.object.Object.TheVariants as o;
-    ghost use Rattle.std.specs.Prelude.{◌≡◌, ◌<◌, ◌≤◌, ◌^◌, IsTrue, IfOk, OnErr, OnOk, option_copied};
+    ghost use Rattle.std.specs.Prelude.{◌≡◌, ◌<◌, ◌≤◌, IsTrue, IfOk, OnErr, OnOk, option_copied};
     ghost use Rattle.std.specs.Prelude.{IsSome, IfSome};
     ghost use Rattle.machine.specs.Machine.{empty_machine, object_of, cap_of, has_slot, with_new, with_cap};
     ghost use Rattle.machine.specs.Machine.{with_parent, with_object};
@@ -64,7 +65,7 @@ impl State {
     /// The number that the next object gets.
     pub fn next_id(&self) -> u64
         ensures value { result ≡ self.now.next }
-        ensures bounded { result ≤ 2 ^ 48 }
+        ensures bounded { result ≤ OBJECT_NUMBERS }
     {
         self.next
     }
@@ -72,7 +73,7 @@ impl State {
     /// Each CNode takes 1 to 12 bits of an address to select a slot.
     pub fn cnodes_take_bits(&self)
         ensures { (id : Id) (node : CNode) → object_of self.now id ≡ Some (o.CNode node)
-            → (0 < node.radix) × (node.radix ≤ 12) }
+            → (0 < node.radix) × (node.radix ≤ MAX_RADIX) }
     {
         // Reading a field makes known what the type keeps.
         let _ = &self.next;
@@ -114,7 +115,7 @@ impl State {
     ///
     /// Fails where memory runs out.
     pub fn add_object(&mut self, object: Object) -> Result<ObjId, AllocError>
-        requires { self.old.next < 2 ^ 48 }
+        requires { self.old.next < OBJECT_NUMBERS }
         ensures made { OnOk result (self.new ≡ with_new self.old object) }
         ensures numbered { IfOk result (λ id. id ≡ record { 0 = self.old.next }) }
         ensures err { OnErr result (self.new ≡ self.old) }

@@ -1,6 +1,6 @@
 //! A run over devices.
 use crate::devices::{Given, Page};
-use report::{Counted, End, File, run};
+use report::{Watched, End, File, run};
 use std::alloc::Global;
 use std::test::Fail;
 
@@ -68,10 +68,10 @@ pub struct Ending {
 
 /// A run that reads these files and writes onto this page.
 pub fn run_onto(alloc: Global, files: Files<'_>, page: Page) -> Result<Ending, Fail> {
-    let mut table = Counted::new(files.table.reader());
-    let mut policy = Counted::new(files.policy.reader());
-    let mut script = Counted::new(files.script.reader());
-    let mut out = Counted::new(page);
+    let mut table = Watched::new(files.table.reader());
+    let mut policy = Watched::new(files.policy.reader());
+    let mut script = Watched::new(files.script.reader());
+    let mut out = Watched::new(page);
     let end = run(alloc, &mut table, &mut policy, &mut script, &mut out);
     let written = String::from_utf8(out.into_inner().written)
         .ok()

@@ -1,8 +1,9 @@
 -- In a boot state each object has a queue and its words, and nothing else has; and ranges are those that the table's rules allow.
-use Rattle.std.proofs.Common.{◌≡◌, ℕ, ◌≤◌, ◌^◌, List, [], length, replicate, sym, ap, ◌∙◌, subst}
+use Rattle.std.proofs.Common.{◌≡◌, ℕ, ◌≤◌, List, [], length, replicate, sym, ap, ◌∙◌, subst}
 use Rattle.std.proofs.lemmas.List.{length-replicate}
 use Rattle.std.specs.Prelude.{Some, option_map}
 use Rattle.base.specs.declared.ids.ObjId.{ObjId}
+use Rattle.base.specs.declared.limits.TheConstants.{ADDRESS_END}
 use Rattle.machine.specs.declared.object.Object.{Object}
 use Rattle.machine.specs.declared.object.Object.TheVariants as o
 use Rattle.machine.specs.Boot.{IsBoot, booted, bound}
@@ -34,7 +35,7 @@ boot-parts t m boot = record {
       (there.0, boot.objects id ∙ there.1);
 }
 
-ranged-bound : (t : Layout) (id : ObjId) (object : Object) → IsBlank object → end_of object ≤ 2 ^ 48 → IsRanged (bound t id object)
+ranged-bound : (t : Layout) (id : ObjId) (object : Object) → IsBlank object → end_of object ≤ ADDRESS_END → IsRanged (bound t id object)
 ranged-bound t id (o.Untyped _) blank ends = (blank.0, blank.1, ends)
 ranged-bound t id (o.Tcb _) blank ends = ends
 ranged-bound t id (o.Context _) blank ends = ends

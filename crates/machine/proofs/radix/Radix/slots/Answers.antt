@@ -1,9 +1,10 @@
 -- A radix is at most 12, so there are at most 2^12 slots.
 use Rattle.std.proofs.Common.{arith, ◌^◌, ◌≤◌}
 use Rattle.std.proofs.Math.Pow.{pow_mono}
+use Rattle.base.specs.declared.limits.TheConstants.{MAX_RADIX}
 use Rattle.machine.proofs.radix.Radix.slots.Goals as goal
 
 pub returns-clause-most : goal.returns-clause-most
 returns-clause-most c =
-    let most : 2 ^ c.self.inside.bits ≤ 4096 = pow_mono {i = c.self.inside.bits} {j = 12} c.self.invariant.1 in
+    let most : 2 ^ c.self.inside.bits ≤ 2 ^ MAX_RADIX = pow_mono {i = c.self.inside.bits} {j = MAX_RADIX} c.self.invariant.1 in
     omega (arith, most)
