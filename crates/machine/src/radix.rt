@@ -11,9 +11,6 @@ pub struct Radix {
 }
 
 impl Model for Radix {
-    ghost use Rattle.std.specs.Prelude.{◌<◌, ◌≤◌};
-    ghost use Rattle.base.specs.declared.limits.TheConstants.{MAX_RADIX};
-
     ghost Value = { ℕ };
 
     ghost view = { λ radix. radix.bits };
