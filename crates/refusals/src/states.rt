@@ -74,3 +74,8 @@ fn runs<R: Abort + AllocGlobal>(rt: &R, count: u64) -> Result<(), Fail> {
 fn run_after_80(rt: HostRuntime) -> Result<(), Fail> {
     runs(&rt, 80)
 }
+
+#[test]
+fn run_after_75(rt: HostRuntime) -> Result<(), Fail> {
+    runs(&rt, 75)
+}

@@ -37,6 +37,11 @@ fn read_table_after_85(rt: HostRuntime) -> Result<(), Fail> {
     reads_the_table(&rt, 85)
 }
 
+#[test]
+fn read_table_after_80(rt: HostRuntime) -> Result<(), Fail> {
+    reads_the_table(&rt, 80)
+}
+
 fn reads_the_policy_for<R: Abort + AllocGlobal>(rt: &R, table: &Table) -> Result<(), Fail> {
     match read_policy(rt.alloc(), POLICY.as_bytes(), table) {
         Ok(policy) => {
