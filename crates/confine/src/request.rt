@@ -57,7 +57,8 @@ The kernel calls. Its lines, between `confine-script 1` and `end`, where THREAD 
 of an object:
 
   CORE THREAD signal ADDRESS
-  CORE THREAD poll ADDRESS";
+  CORE THREAD poll ADDRESS
+  CORE THREAD wait ADDRESS";
 
 const EXAMPLE: &str = "\
 Example, to be pasted into a shell: a thread `main` signals a bell, and polls it twice.

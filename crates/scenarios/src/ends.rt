@@ -1,5 +1,5 @@
 //! How a run ends whose devices fail: its message, its status, and what it has written by then.
-use crate::devices::{Given, Page};
+use crate::failing::{Given, Page};
 use crate::session::{Ending, Files, run_onto};
 use report::File;
 use std::alloc::Global;

@@ -2,8 +2,8 @@
 #![tactic(auto)]
 
 #[cfg(test)]
-mod devices;
-#[cfg(test)]
 mod ends;
+#[cfg(test)]
+mod failing;
 #[cfg(test)]
 mod session;

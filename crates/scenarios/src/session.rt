@@ -1,6 +1,6 @@
 //! A run over devices.
-use crate::devices::{Given, Page};
-use report::{Watched, End, File, run};
+use crate::failing::{Given, Page};
+use report::{End, File, Watched, run};
 use std::alloc::Global;
 use std::test::Fail;
 
