@@ -83,6 +83,11 @@ fn engine_log_after_69(rt: HostRuntime) -> Result<(), Fail> {
     logs(&rt, 69)
 }
 
+#[test]
+fn engine_log_after_64(rt: HostRuntime) -> Result<(), Fail> {
+    logs(&rt, 64)
+}
+
 fn denies<R: Abort + AllocGlobal>(rt: &R, count: u64) -> Result<(), Fail> {
     answers(rt, count, TABLE, EMPTY_POLICY, 1, DENIAL)
 }
