@@ -51,6 +51,9 @@ pub enum Outcome {
     Refused(Refusal),
 }
 
+/// A log: events with what they came to.
+pub type Log = Vec<(Event, Outcome)>;
+
 impl From<Made> for Outcome {
     fn from(made: Made) -> Outcome
         ensures { result ≡ outcome_of made }

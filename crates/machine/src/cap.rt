@@ -1,8 +1,10 @@
-ghost use Rattle.std.specs.Prelude.{◌≡◌};
+ghost use Rattle.std.specs.Prelude.{◌≡◌, ◌<◌, ◌^◌};
+ghost use Rattle.base.specs.Kinds.{is_among};
+ghost use Rattle.base.specs.declared.kind.Kind.{Kind as KindOf};
 ghost use Rattle.machine.specs.Capabilities.{kind_of_detail, gives};
 
 use crate::ObjectKind;
-use base::{Kind, ObjId, Rights};
+use base::{Kind, Kinds, ObjId, Rights, kind_names_are_read_back};
 
 /// Bits that an address has to begin with: the low `size` bits of `value` (seL4 manual, "CNode
 /// Guards").
@@ -92,5 +94,22 @@ impl Cap {
             (Detail::Control, Kind::SchedControl) => true,
             _ => false,
         }
+    }
+
+    /// All kinds of authority that the capability, in a slot of a CNode, gives over its object.
+    pub fn kinds(&self) -> Kinds
+        ensures each { (kind : KindOf) → is_among result.0 kind ≡ gives self.now.detail kind }
+        ensures alone { result.0 < 2 ^ 17 }
+    {
+        use bitflags::Flags;
+
+        kind_names_are_read_back();
+        let mut kinds = Kinds::empty();
+        for kind in &Kind::ALL {
+            if self.gives(*kind) {
+                kinds.insert(Kinds::from(*kind));
+            }
+        }
+        kinds
     }
 }

@@ -15,7 +15,7 @@ mod step_laws;
 mod thread;
 
 pub use authority_laws::{authority_grows_with_capabilities, rights_alone_decide_kinds};
-pub use call::{Answer, Call, Event, Made, Outcome};
+pub use call::{Answer, Call, Event, Log, Made, Outcome};
 pub use cap::{Badged, Cap, Detail, Guard};
 pub use layout::{Binding, Filled, Initial, Pair};
 pub use object::{

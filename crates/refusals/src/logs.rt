@@ -1,14 +1,13 @@
 //! `evtext::write_log`.
 use crate::bell::{DONE, LOG, WORD, events};
-use crate::memory::{NO_MEMORY, refused, spend};
+use crate::memory::{NO_MEMORY, prepared, refused, spend};
 use evtext::write_log;
+use machine::Log;
 use std::process::Abort;
 use std::test::Fail;
 
-fn writes_the_log<R: Abort + AllocGlobal>(rt: &R, count: u64) -> Result<(), Fail> {
-    spend(rt.alloc(), count)?;
-    let events = events()?;
-    match write_log(rt.alloc(), &events, &[DONE, WORD]) {
+fn writes_the<R: Abort + AllocGlobal>(rt: &R, log: &Log) -> Result<(), Fail> {
+    match write_log(rt.alloc(), log) {
         Ok(text) => {
             assert_eq!(rt; text.as_slice(), LOG.as_bytes());
             Ok(())
@@ -18,6 +17,14 @@ fn writes_the_log<R: Abort + AllocGlobal>(rt: &R, count: u64) -> Result<(), Fail
             Err(refused())
         }
     }
+}
+
+fn writes_the_log<R: Abort + AllocGlobal>(rt: &R, count: u64) -> Result<(), Fail> {
+    spend(rt.alloc(), count)?;
+    let [signal, poll] = events()?;
+    let entries = [(signal, DONE), (poll, WORD)];
+    let log = prepared(Vec::from_slice(rt.alloc(), &entries))?;
+    writes_the(rt, &log)
 }
 
 #[test]

@@ -1,3 +1,2 @@
 mod Names
-mod Runs
 mod Loads
