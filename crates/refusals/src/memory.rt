@@ -1,4 +1,6 @@
 //! Allocations of a test's own, and how a test ends that met a refusal.
+ghost use Rattle.std.specs.Prelude.{◌≡◌, IfOk, Ok};
+
 use base::Refusal;
 use captext::Fault;
 use std::alloc::Global;
@@ -25,7 +27,9 @@ pub fn spend(alloc: Global, count: u64) -> Result<(), Fail> {
 }
 
 /// What a test made before its call.
-pub fn prepared<T, E: Drop>(made: Result<T, E>) -> Result<T, Fail> {
+pub fn prepared<T, E: Drop>(made: Result<T, E>) -> Result<T, Fail>
+    ensures { IfOk result (λ value. made ≡ Ok value) }
+{
     made.map_err(|_| Fail::new("refused before the call"))
 }
 

@@ -1,4 +1,7 @@
 //! `kernel::boot` and `kernel::run`.
+ghost use Rattle.std.specs.Prelude.{IfOk};
+ghost use Rattle.machine.specs.WellFormed.{IsWellFormed};
+
 use crate::bell::{DONE, TABLE, WORD, events, is_booted};
 use crate::memory::{NO_MEMORY, prepared, refused, spend};
 use captext::read_table;
@@ -38,7 +41,9 @@ fn boot_after_80(rt: HostRuntime) -> Result<(), Fail> {
 }
 
 /// Runs the script's events on the boot state: a run that is refused has made no step.
-fn runs_on<R: Abort + AllocGlobal>(rt: &R, state: &mut State) -> Result<(), Fail> {
+fn runs_on<R: Abort + AllocGlobal>(rt: &R, state: &mut State) -> Result<(), Fail>
+    requires { IsWellFormed state.old }
+{
     let events = events()?;
     let mut outcomes = Vec::new(rt.alloc());
     match run(state, &events, &mut outcomes) {
@@ -55,7 +60,9 @@ fn runs_on<R: Abort + AllocGlobal>(rt: &R, state: &mut State) -> Result<(), Fail
     }
 }
 
-fn booted<R: Abort + AllocGlobal>(rt: &R, table: &Table) -> Result<State, Fail> {
+fn booted<R: Abort + AllocGlobal>(rt: &R, table: &Table) -> Result<State, Fail>
+    ensures { IfOk result IsWellFormed }
+{
     prepared(boot(rt.alloc(), table))
 }
 
