@@ -11,4 +11,4 @@ mod tables;
 pub use policies::{policies_are_read_back, read_policy};
 pub use spelling::{slots_are_read_back, terms_are_read_back};
 pub use tables::{lines_are_read_back, read_table, tables_are_read_back};
-pub use words::Fault;
+pub use words::{Fault, Lines};

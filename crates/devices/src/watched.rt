@@ -1,4 +1,4 @@
-ghost use Rattle.std.specs.Prelude.{◌≡◌, ◌<◌, ◌↔◌, Ok, IfOk, OnErr, IsErr, IsErrAnd, IsTrue};
+ghost use Rattle.std.specs.Prelude.{◌≡◌, ◌<◌, ◌↔◌, Ok, IfOk, OnErr, OnOk, IsErr, IsErrAnd, IsOk, IsTrue};
 ghost use Rattle.std.specs.Io.{ReadsAtMost, WritesAtMost};
 ghost use Rattle.std.specs.Io.KnownBytes.{ReadConsumes, WriteAppends};
 ghost use Rattle.std.specs.IoError.{error_kind};
@@ -91,6 +91,17 @@ fn taken(given: usize, answer: io::Result<usize>) -> Result<usize, WriteError>
     }
 }
 
+/// What the answer of a writer to a flush comes to.
+fn flushed(answer: io::Result<()>) -> Result<(), WriteError>
+    ensures ok { OnOk answer (IsOk result) }
+    ensures err { OnErr answer (IsErr result) }
+{
+    match answer {
+        Ok(()) => Ok(()),
+        Err(_) => Err(WriteError),
+    }
+}
+
 impl<R: Read> Source for Watched<R> {
     ghost use Rattle.devices.specs.Watched.{device_of, failed_of};
 
@@ -127,15 +138,9 @@ impl<W: Write> Sink for Watched<W> {
     }
 
     fn flush(&mut self) -> Result<(), WriteError> {
-        match self.device.flush() {
-            Ok(()) => {
-                self.is_flushed = true;
-                Ok(())
-            }
-            Err(_) => {
-                self.failed = true;
-                Err(WriteError)
-            }
-        }
+        let result = flushed(self.device.flush());
+        self.is_flushed = result.is_ok();
+        self.failed = result.is_err();
+        result
     }
 }

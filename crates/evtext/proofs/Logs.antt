@@ -1,12 +1,17 @@
--- The line of an entry of a log.
-use Rattle.std.proofs.Common.{◌≡◌, ℕ, List, [], ◌∷◌, ◌++◌, refl, sym, ap, ◌∙◌, append_assoc, codes}
+-- The text of a log grows by a line with each entry.
+use Rattle.std.proofs.Common.{◌≡◌, ℕ, ◌+◌, ◌<◌, List, [], ◌∷◌, ◌++◌, length, take, map, min, get_or, refl, sym, ap, ◌∙◌, arith, append_assoc, codes}
 use Rattle.std.specs.Fmt.{decimal}
+use Rattle.std.proofs.lemmas.List.{map-append, take_all, take_more, flat_map_more}
+use Rattle.std.proofs.lemmas.Slice.Zip.{length-zip, get_or-zip}
+use Rattle.std.specs.List.{zip}
 use Rattle.machine.specs.declared.call.Answer.TheVariants as answer
 use Rattle.machine.specs.declared.call.Event.{Event}
 use Rattle.machine.specs.declared.call.Outcome.{Outcome}
 use Rattle.machine.specs.declared.call.Outcome.TheVariants as outcome
 use Rattle.machine.specs.Spelling.{call_words, entry_words, event_words, outcome_words, spelled}
-use Rattle.evtext.specs.Log.{line_of}
+use Rattle.words.specs.Reading.{last_line}
+use Rattle.words.specs.Text.{text_of}
+use Rattle.evtext.specs.Log.{line_of, log_header, log_text}
 
 -- words after words: a space stands between them
 spelled-append : (word : List ℕ) (words : List (List ℕ)) (next : List ℕ) (others : List (List ℕ))
@@ -36,3 +41,35 @@ line_of_entry event outcome =
     ∙ ap (λ line. line ++ 10 ∷ [])
     (sym (spelled-append (decimal event.core) (decimal event.thread.0 ∷ call_words event.call)
     (codes "=") (outcome_words outcome)))
+
+-- the lines so far, and one more
+pub lines_more : (events : List Event) (outcomes : List Outcome) (n : ℕ) (event : Event) (outcome : Outcome) (text : List ℕ)
+    → n < length events → n < length outcomes → ((d : Event) → event ≡ get_or events n d)
+    → ((d : Outcome) → outcome ≡ get_or outcomes n d)
+    → text ≡ text_of (log_header ∷ map entry_words (take n (zip events outcomes)))
+    → text ++ line_of (entry_words (event, outcome)) ≡ text_of (log_header ∷ map entry_words (take (n + 1) (zip events outcomes)))
+lines_more events outcomes n event outcome text more_events more_outcomes is_event is_outcome so_far =
+    let entry : Event × Outcome = (event, outcome) in
+    let here : get_or (zip events outcomes) n entry ≡ entry =
+    get_or-zip events outcomes n entry more_events more_outcomes
+    ∙ ap (λ (e : Event). (e, get_or outcomes n outcome)) (sym (is_event event))
+    ∙ ap (λ (o : Outcome). (event, o)) (sym (is_outcome outcome)) in
+    let grown : take (n + 1) (zip events outcomes) ≡ take n (zip events outcomes) ++ entry ∷ [] =
+    take_more (zip events outcomes) n entry (omega (arith, length-zip events outcomes))
+    ∙ ap (λ e. take n (zip events outcomes) ++ e ∷ []) here in
+    ap (λ bytes. bytes ++ line_of (entry_words entry)) so_far
+    ∙ flat_map_more (λ line. spelled line ++ 10 ∷ []) (spelled log_header ++ 10 ∷ [])
+    (map entry_words (take n (zip events outcomes))) (entry_words entry)
+    ∙ ap (λ lines. text_of (log_header ∷ lines)) (sym (map-append entry_words (take n (zip events outcomes)) (entry ∷ [])))
+    ∙ ap (λ entries. text_of (log_header ∷ map entry_words entries)) (sym grown)
+
+-- the last line ends the lines of all entries
+pub lines_all : (events : List Event) (outcomes : List Outcome) (n : ℕ) (text : List ℕ)
+    → n ≡ min (length events) (length outcomes) → text ≡ text_of (log_header ∷ map entry_words (take n (zip events outcomes)))
+    → text ++ codes "end\n" ≡ log_text (zip events outcomes)
+lines_all events outcomes n text all so_far =
+    ap (λ bytes. bytes ++ codes "end\n") so_far
+    ∙ ap (λ entries. text_of (log_header ∷ map entry_words entries) ++ codes "end\n")
+    (take_all n (zip events outcomes) (omega (arith, length-zip events outcomes)))
+    ∙ flat_map_more (λ line. spelled line ++ 10 ∷ []) (spelled log_header ++ 10 ∷ [])
+    (map entry_words (zip events outcomes)) last_line

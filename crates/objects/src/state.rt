@@ -44,7 +44,7 @@ impl State {
     ghost use Rattle.machine.specs.declared.object.Object.TheVariants as o;
     ghost use Rattle.std.specs.Prelude.{◌≡◌, ◌<◌, ◌≤◌, IsTrue, IfOk, OnErr, OnOk, option_copied};
     ghost use Rattle.std.specs.Prelude.{IsSome, IfSome};
-    ghost use Rattle.machine.specs.Machine.{empty_machine, object_of, cap_of, has_slot, with_new, with_cap};
+    ghost use Rattle.machine.specs.Machine.{empty_machine, object_of, cap_of, parent_of, has_slot, with_new, with_cap};
     ghost use Rattle.machine.specs.Machine.{with_parent, with_object};
     ghost use Rattle.machine.specs.Objects.{slot_count};
     ghost use Rattle.objects.specs.Waiting.{WaitsNowhere};
@@ -91,6 +91,14 @@ impl State {
         ensures { result ≡ cap_of self.now slot }
     {
         store::cap(&self.places, &self.entries, slot)
+    }
+
+    /// The slot whose capability that in this one was derived from, if it was derived (seL4 manual,
+    /// "Capability Derivation Tree").
+    pub fn parent(&self, slot: SlotRef) -> Option<SlotRef>
+        ensures { result ≡ parent_of self.now slot }
+    {
+        store::parent(&self.places, &self.entries, slot)
     }
 
     /// Whether there is such a slot, filled or not.

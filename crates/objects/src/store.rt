@@ -1,7 +1,7 @@
 //! The entry of an object, found by its number: a map from numbers to places, and the entries at
 //! these.
 ghost use Rattle.std.specs.Prelude.{◌≡◌, option_copied, option_map, option_and_then, OnOk, OnErr};
-ghost use Rattle.objects.specs.Entries.{entry_of, cap_in, with_entry, put_cap_in, set_parent_in, replace_in};
+ghost use Rattle.objects.specs.Entries.{entry_of, cap_in, parent_in, with_entry, put_cap_in, set_parent_in, replace_in};
 ghost use Rattle.objects.specs.Entries.{new_entry, AddsEntry, SameEntries, set_ends_in, set_standing_in};
 ghost use Rattle.objects.specs.Links.{standing_of, with_standing, pushed, popped};
 
@@ -46,6 +46,20 @@ pub fn cap(places: &BTreeMap<u64, usize>, entries: &Slab<Entry>, slot: SlotRef) 
         .slots
         .get(slot.index)?
         .cap
+}
+
+/// The parent of the slot.
+pub fn parent(
+    places: &BTreeMap<u64, usize>,
+    entries: &Slab<Entry>,
+    slot: SlotRef,
+) -> Option<SlotRef>
+    ensures { result ≡ option_and_then (λ entry. parent_in entry slot.index) (entry_of places.now entries.now slot.holder) }
+{
+    entry(places, entries, slot.holder)?
+        .slots
+        .get(slot.index)?
+        .parent
 }
 
 // The ends of the queue at the object.

@@ -1,7 +1,5 @@
 ghost use Rattle.std.specs.Prelude.{◌≡◌, ◌≤◌, List, false, IfOk};
-ghost use Rattle.std.specs.List.{zip};
 ghost use Rattle.certificate.specs.Verdict.{IsAccepted, IsLeastBroken};
-ghost use Rattle.evtext.specs.Log.{log_text};
 ghost use Rattle.evtext.specs.Script.{read_script_of};
 ghost use Rattle.machine.specs.declared.call.Event.{Event};
 ghost use Rattle.policy.specs.Policy.{allows};
@@ -18,11 +16,11 @@ use crate::{End, File, Sink, Source};
 use base::Refusal;
 use captext::Fault;
 use certificate::{Denial, first_check};
-use evtext::{read_script, write_log};
+use evtext::{read_script, write_run};
 use kernel::boot;
-use machine::{Event, Log, Outcome};
+use machine::Event;
 use policy::Policy;
-use std::alloc::{AllocError, Global};
+use std::alloc::Global;
 use std::io::{self, Read, Write};
 use table::Table;
 
@@ -137,29 +135,10 @@ fn denied(
 fn log_of_run(alloc: Global, table: &Table, events: &[Event]) -> Result<Vec<u8>, Refusal>
     ensures { IfOk result (λ text. answers.IsLogOfRun table.now events.now text.items) }
 {
-    let log = run_from_boot(alloc, table, events)?;
-    write_log(alloc, &log)
-}
-
-/// The log of a run of the events from the boot state of the table.
-fn run_from_boot(alloc: Global, table: &Table, events: &[Event]) -> Result<Log, Refusal>
-    ensures { IfOk result (λ log. answers.IsLogOfRun table.now events.now (log_text log.items)) }
-{
     let mut state = boot(alloc, table)?;
     let mut outcomes = Vec::new(alloc);
     kernel::run(&mut state, events, &mut outcomes)?;
-    Ok(log_of(alloc, events, &outcomes)?)
-}
-
-/// The log that has these events with these outcomes.
-fn log_of(alloc: Global, events: &[Event], outcomes: &[Outcome]) -> Result<Log, AllocError>
-    ensures { IfOk result (λ log. log.items ≡ zip events.now outcomes.now) }
-{
-    events
-        .iter()
-        .copied()
-        .zip(outcomes.iter().copied())
-        .collect(alloc)
+    write_run(alloc, events, &outcomes)
 }
 
 #[cfg(test)]
