@@ -13,22 +13,14 @@ use Rattle.words.specs.declared.faults.Wrong.{Wrong}
 use Rattle.words.specs.Number.{number_at}
 use Rattle.words.specs.Text.{IsPlainLine, IsPlainWord}
 use Rattle.words.proofs.OneText.{one_body, one_by_map}
+use Rattle.words.proofs.Parts.{part_once}
 use Rattle.words.proofs.TextLaws.{both}
 use Rattle.words.proofs.WordLaws.{number_again, plain_bytes, plain_decimal, plain_lines}
-use Rattle.evtext.specs.Event.{event_at, HasNumbers}
+use Rattle.evtext.specs.Event.{HasNumbers}
 use Rattle.evtext.specs.Log.{log_header, log_text, IsEntry, IsOutcome}
 use Rattle.evtext.specs.Script.{script_header, script_text}
-use Rattle.evtext.proofs.EventWords.{event_again, plain_event}
+use Rattle.evtext.proofs.EventWords.{event_part, plain_event}
 use Rattle.evtext.proofs.Scripts.{plain_header}
-
--- words that begin with those of an event begin with those of no other
-one_event : (event other : Event) (rest later : List (List ℕ)) → HasNumbers event → HasNumbers other
-    → event_words event ++ rest ≡ event_words other ++ later → (event ≡ other) × (rest ≡ later)
-one_event event other rest later this that same =
-    let read : ◌≡◌ {A = Result (Event × List (List ℕ)) Wrong} (Ok (event, rest)) (Ok (other, later)) =
-    sym (event_again event rest this) ∙ ap event_at same ∙ event_again other later that in
-    let taken : ◌≡◌ {A = Event × List (List ℕ)} (event, rest) (other, later) = cc in
-    (ap (λ (p : Event × List (List ℕ)). p.0) taken, ap (λ (p : Event × List (List ℕ)). p.1) taken)
 
 -- the number of a decimal word
 
@@ -102,7 +94,7 @@ outcome_back (outcome.Refused refusal) is =
 one_entry : (entry other : Event × Outcome) → IsEntry entry → IsEntry other → entry_words entry ≡ entry_words other
     → entry ≡ other
 one_entry entry other this that same =
-    let parts = one_event entry.0 other.0 (codes "=" ∷ outcome_words entry.1)
+    let parts = part_once event_part entry.0 other.0 (codes "=" ∷ outcome_words entry.1)
     (codes "=" ∷ outcome_words other.1) this.0 that.0 same in
     let words : outcome_words entry.1 ≡ outcome_words other.1 = cc in
     let outcomes : entry.1 ≡ other.1 = sym (outcome_back entry.1 this.1) ∙ ap outcome_of words ∙ outcome_back other.1 that.1 in
@@ -110,7 +102,7 @@ one_entry entry other this that same =
 
 one_line : (event other : Event) → HasNumbers event → HasNumbers other → event_words event ≡ event_words other → event ≡ other
 one_line event other this that same =
-    (one_event event other [] [] this that (append-nil (event_words event) ∙ same ∙ sym (append-nil (event_words other)))).0
+    (part_once event_part event other [] [] this that (append-nil (event_words event) ∙ same ∙ sym (append-nil (event_words other)))).0
 
 -- and they are plain
 

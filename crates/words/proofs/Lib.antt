@@ -7,6 +7,7 @@ mod NameText
 mod Beginnings
 pub mod Spellings
 pub mod WordLaws
+pub mod Parts
 pub mod TextLaws
 pub mod ReadingLaws
 pub mod FirstFaults
