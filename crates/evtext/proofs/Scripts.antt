@@ -12,7 +12,7 @@ use Rattle.words.specs.Text.{text_of, IsPlainLine}
 use Rattle.words.proofs.TextReading.{whole_text_takes, whole_text_again}
 use Rattle.words.proofs.WordLaws.{bind_ok, plain_bytes, plain_lines}
 use Rattle.evtext.specs.Event.{HasNumbers, IsSpellable}
-use Rattle.evtext.specs.Script.{read_script_of, script_header, script_line, script_step, script_text, IsScript}
+use Rattle.evtext.specs.Script.{read_script_of, script_format, script_header, script_line, script_step, script_text, IsScript}
 use Rattle.evtext.proofs.EventLines.{line_read, line_read_back}
 use Rattle.evtext.proofs.EventWords.{plain_event}
 
@@ -91,19 +91,20 @@ pub read_is_script : (bytes : List ℕ) (events : List Event) → read_script_of
     → IsScript events × (bytes ≡ script_text events)
 unfolding read_script_of
 read_is_script bytes events h =
-    let text = whole_text_takes script_header script_step [] events bytes h in
-    let lines = lines_take [] text.0 events (omega arith) text.2 in
+    let text = whole_text_takes script_format events bytes h in
+    let came : text.1 ≡ events = cc (text.4) in
+    let lines = lines_take [] text.0 events (omega arith) (text.3 ∙ ap (λ es. Ok es) came) in
     let same : lines.more ≡ events = sym lines.all_are in (
       (lines.few, subst (λ es. AllByRecursion IsSpellable es) same lines.spellable),
-      text.1 ∙ ap (λ b. text_of (whole_lines script_header b)) lines.body_is ∙ ap (λ es. script_text es) same,
+      text.2 ∙ ap (λ b. text_of (whole_lines script_header b)) lines.body_is ∙ ap (λ es. script_text es) same,
     )
 
 pub script_is_read : (bytes : List ℕ) (events : List Event) → IsScript events → bytes ≡ script_text events
     → read_script_of bytes ≡ Ok events
 unfolding read_script_of
 script_is_read bytes events is text =
-    whole_text_again script_header script_step [] events (map event_words events) bytes (plain_script events is.1)
-    (none_last events) (lines_again [] events (omega (arith, is.0)) is.1) text
+    whole_text_again script_format events events (map event_words events) bytes (plain_script events is.1)
+    (none_last events) (lines_again [] events (omega (arith, is.0)) is.1) refl text
 
 -- and of what reads as a text does
 pub found : {X : Type 0} (view : X → List Event) (result : Result X Fault) (bytes : List ℕ)

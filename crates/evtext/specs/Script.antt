@@ -7,7 +7,7 @@ use Rattle.machine.specs.declared.call.Event.{Event}
 use Rattle.machine.specs.Spelling.{event_words}
 use Rattle.words.specs.declared.faults.Wrong.{Wrong}
 use Rattle.words.specs.declared.faults.Fault.{Fault}
-use Rattle.words.specs.Reading.{◌>>=◌, ended_at, read_text, as_it_is, whole_lines}
+use Rattle.words.specs.Reading.{◌>>=◌, as_read, ended_at, read_format, whole_lines, Format}
 use Rattle.words.specs.Text.{words_of, lines_of, text_of}
 use Rattle.evtext.specs.Event.{event_at, within_limits, IsSpellable}
 
@@ -35,6 +35,10 @@ script_step events words = do
   event ← script_line (length events) words
   Ok (events ++ event ∷ [])
 
+-- scripts, line by line
+abbrev pub script_format : Format (List Event) (List Event)
+script_format = record { header = script_header; step = script_step; whole = as_read; start = [] }
+
 -- what a text is read as
 unfoldable pub read_script_of : List ℕ → Result (List Event) Fault
-read_script_of bytes = read_text script_header script_step as_it_is [] (lines_of bytes)
+read_script_of bytes = read_format script_format (lines_of bytes)

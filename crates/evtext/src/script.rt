@@ -1,11 +1,11 @@
-ghost use Rattle.std.specs.Prelude.{◌≡◌, ◌≢◌, ℕ, IfOk, IfErr, List, []};
+ghost use Rattle.std.specs.Prelude.{◌≡◌, ◌≢◌, ℕ, IfOk, IfErr, List};
 ghost use Rattle.machine.specs.declared.call.Event.{Event};
 ghost use Rattle.words.specs.declared.faults.Wrong.{Wrong};
 ghost use Rattle.words.specs.Fault.{fault_at, no_memory};
 ghost use Rattle.words.specs.FirstFault.{IsFirstFault, TellsFirst};
 ghost use Rattle.words.specs.Reading.{Reads};
 ghost use Rattle.words.specs.Text.{lines_of};
-ghost use Rattle.evtext.specs.Script.{read_script_of, script_header, script_line, script_step, script_text, IsScript};
+ghost use Rattle.evtext.specs.Script.{read_script_of, script_format, script_line, script_text, IsScript};
 
 use crate::line::next_event;
 use machine::Event;
@@ -27,9 +27,9 @@ pub fn read_script(alloc: Global, text: &[u8]) -> Result<Vec<Event>, Fault>
 
     // One that isn't read is refused for its first fault, unless memory was refused.
     ensures faults { IfErr result (λ fault. fault ≢ no_memory
-        → TellsFirst script_header script_step [] (lines_of text.now) fault) }
+        → TellsFirst script_format (lines_of text.now) fault) }
     ensures refused { (line : ℕ) (wrong : Wrong)
-        → IsFirstFault script_header script_step [] (lines_of text.now) line wrong
+        → IsFirstFault script_format (lines_of text.now) line wrong
         → Reads (λ events. events.items) result (Err (fault_at line wrong)) }
 {
     events_of(alloc, text)

@@ -94,15 +94,41 @@ whole_lines header body = header ∷ (body ++ last_line ∷ [])
 abbrev pub IsNotLast : List (List ℕ) → Type 0
 IsNotLast line = line_is line last_line ≡ false
 
--- a text that ends with its `end` line gives the state as it is
-unfoldable pub as_it_is : {S : Type 0} → S → Progress → Result S Fault
-as_it_is s place = bind (end_at place) (λ _. Ok s)
+-- what the lines of a text came to, or the fault of one of them
+abbrev pub Whole : Type 0 → Type 0
+Whole T = Result T (ℕ × Wrong)
+
+abbrev pub faulted : {T : Type 0} → Whole T → Result T Fault
+faulted (Ok t) = Ok t
+faulted (Err (line, wrong)) = Err (fault_at line wrong)
+
+-- what the lines came to is judged once the line `end` was read; then nothing may follow
+unfoldable pub judged : {S T : Type 0} → (S → Whole T) → S → Progress → Result T Fault
+judged whole s place = do
+  t ← faulted (whole s)
+  _ ← end_at place
+  Ok t
+
+-- the lines come to the state as it is
+abbrev pub as_read : {S : Type 0} → S → Whole S
+as_read s = Ok s
 
 -- a whole text: its header, its lines, and what they give
 unfoldable pub read_text : {S T : Type 0} → List (List ℕ) → (S → List (List ℕ) → Result S Wrong) → (S → Progress → Result T Fault)
     → S → List (Option (List (List ℕ))) → Result T Fault
 read_text header step finish s lines =
     bind (header_at header (record { taken = 0; lines = lines })) (λ place. read_lines step finish place.taken s place.lines)
+
+-- a format of texts: the header, what each line makes of the state, what the state comes to at the end, and the state before the lines
+pub record Format (S T : Type 0) : Type 0 where
+  pub header : List (List ℕ)
+  pub step : S → List (List ℕ) → Result S Wrong
+  pub whole : S → Whole T
+  pub start : S
+
+-- what a text of this format is read as, or its first fault
+abbrev pub read_format : {S T : Type 0} → Format S T → List (Option (List (List ℕ))) → Result T Fault
+read_format f lines = read_text f.header f.step (judged f.whole) f.start lines
 
 -- a result is just what reading gives, seen by `view`
 abbrev pub Gives : {E X Y : Type 0} → (X → Y) → Result X E → Result Y E → Type 0

@@ -1,8 +1,7 @@
 -- What is read is what the definition says, and the laws of that.
-use Rattle.std.proofs.Common.{[]}
 use Rattle.words.proofs.FirstFaults.{faults, refused_for}
 use Rattle.words.specs.Text.{lines_of}
-use Rattle.evtext.specs.Script.{read_script_of, script_header, script_step}
+use Rattle.evtext.specs.Script.{read_script_of, script_format}
 use Rattle.evtext.proofs.Scripts.{found, only}
 use Rattle.evtext.proofs.script.read_script.Goals as goal
 
@@ -14,6 +13,6 @@ returns c =
       exact = read;
       found = found _ c.events_of.result c.args.text.now read;
       only = only _ c.events_of.result c.args.text.now read;
-      faults = faults _ script_header script_step [] (lines_of c.args.text.now) c.events_of.result read;
-      refused = refused_for _ script_header script_step [] (lines_of c.args.text.now) c.events_of.result read;
+      faults = faults _ script_format (lines_of c.args.text.now) c.events_of.result read;
+      refused = refused_for _ script_format (lines_of c.args.text.now) c.events_of.result read;
     }
