@@ -28,7 +28,7 @@ use Rattle.words.proofs.TextLaws.{both}
 use Rattle.words.proofs.TextReading.{whole_text_takes, whole_text_again}
 use Rattle.words.proofs.WordLaws.{bind_ok, word_then, plain_bytes, plain_decimal, plain_hexadecimal, plain_name}
 use Rattle.captext.specs.PolicyText.{label_name}
-use Rattle.captext.specs.Tables.{line_by, table_line, read_table_of}
+use Rattle.captext.specs.Tables.{line_by, table_line, table_format, read_table_of}
 use Rattle.captext.specs.TableText.{table_header, kind_word, start_word, share_words, content_words, object_name, object_words, item_words, table_lines, table_text, IsBroughtObject, HasWordBadge, IsBroughtItem, IsBrought, IsLineOf}
 use Rattle.captext.proofs.BindLines.{bind_line_takes, bind_line_again, has_name}
 use Rattle.captext.proofs.CapLines.{cap_line_takes}
@@ -302,10 +302,15 @@ pub read_is_table : BuildLaw → (bytes : List ℕ) (t : Layout) → read_table_
     → IsLawful t × IsBrought t × (bytes ≡ table_text t)
 unfolding read_table_of
 read_is_table law bytes t h =
-    let text = whole_text_takes table_header table_line empty_layout t bytes h in
+    let text = whole_text_takes table_format t bytes h in
+    let came : text.1 ≡ t = cc (text.4) in
     let lines =
-    lines_take law empty_layout [] text.0 t (record { built = none; brought = brought_empty; lines_are = refl }) text.2 in
-    ((law t).1 lines.built, lines.brought, text.1 ∙ ap (λ body. text_of (whole_lines table_header body)) (sym lines.lines_are))
+    lines_take law empty_layout [] text.0 t (record {
+      built = none;
+      brought = brought_empty;
+      lines_are = refl;
+    }) (text.3 ∙ ap (λ s. Ok s) came) in
+    ((law t).1 lines.built, lines.brought, text.2 ∙ ap (λ body. text_of (whole_lines table_header body)) (sym lines.lines_are))
 
 pub table_is_read : BuildLaw → (bytes : List ℕ) (t : Layout) → IsLawful t → IsBrought t → bytes ≡ table_text t
     → read_table_of bytes ≡ Ok t
@@ -317,7 +322,7 @@ table_is_read law bytes t lawful brought text =
       (plain_bytes (codes "confine-table") refl, (plain_bytes (codes "1") refl, tt)),
       both IsPlainLine (table_lines t) (last_line ∷ []) lines.plain last,
     ) in
-    whole_text_again table_header table_line empty_layout t (table_lines t) bytes plain lines.none_last lines.stepped text
+    whole_text_again table_format t t (table_lines t) bytes plain lines.none_last lines.stepped refl text
 
 pub table_iff : BuildLaw → (bytes : List ℕ) (t : Layout)
     → (read_table_of bytes ≡ Ok t) ↔ (IsLawful t × IsBrought t × (bytes ≡ table_text t))

@@ -32,7 +32,7 @@ use Rattle.words.specs.declared.faults.Wrong.{Wrong}
 use Rattle.words.specs.declared.faults.Wrong.TheVariants as wrong
 use Rattle.words.specs.Name.{name_at}
 use Rattle.words.specs.Number.{dec_of, hex_at, number_at}
-use Rattle.words.specs.Reading.{◌>>=◌, word_at, ended_at, or_syntax, read_text, as_it_is}
+use Rattle.words.specs.Reading.{◌>>=◌, as_read, word_at, ended_at, or_syntax, read_format, Format}
 use Rattle.words.specs.Text.{words_of, lines_of}
 use Rattle.captext.specs.declared.shapes.Place.{Place}
 use Rattle.captext.specs.declared.shapes.Place.TheVariants as place
@@ -334,6 +334,10 @@ table_line t words = do
   keyword ← word_at words
   line_by keyword.0 t keyword.1
 
+-- tables, line by line
+abbrev pub table_format : Format Layout Layout
+table_format = record { header = words_of (codes "confine-table 1"); step = table_line; whole = as_read; start = empty_layout }
+
 -- the capability table that a text spells, or its first fault
 unfoldable pub read_table_of : List ℕ → Result Layout Fault
-read_table_of bytes = read_text (words_of (codes "confine-table 1")) table_line as_it_is empty_layout (lines_of bytes)
+read_table_of bytes = read_format table_format (lines_of bytes)

@@ -1,6 +1,6 @@
 ghost use Rattle.std.specs.Prelude.{◌≡◌, ◌≢◌, ◌↔◌, ℕ, List, Ok, Err, IfOk, IfErr, OnErr};
 ghost use Rattle.captext.specs.Tables as tables;
-ghost use Rattle.captext.specs.TableText.{table_header, table_text, IsBrought, IsLineOf};
+ghost use Rattle.captext.specs.TableText.{table_text, IsBrought, IsLineOf};
 ghost use Rattle.machine.specs.Layout.{Layout, empty_layout};
 ghost use Rattle.table.specs.Items.{Item};
 ghost use Rattle.table.specs.Rules.{IsLawful};
@@ -85,9 +85,9 @@ pub fn read_table(alloc: Global, text: &[u8]) -> Result<Table, Fault>
 
     // One that isn't read is refused for its first fault, unless memory was refused.
     ensures faults { IfErr result (λ fault. fault ≢ no_memory
-        → TellsFirst table_header tables.table_line empty_layout (lines_of text.now) fault) }
+        → TellsFirst tables.table_format (lines_of text.now) fault) }
     ensures refused { (line : ℕ) (wrong : Wrong)
-        → IsFirstFault table_header tables.table_line empty_layout (lines_of text.now) line wrong
+        → IsFirstFault tables.table_format (lines_of text.now) line wrong
         → Reads (λ table. table) result (Err (fault_at line wrong)) }
 {
     tables_are_read_back();

@@ -128,6 +128,12 @@ after_word {X} {Y} {read} {spell_part} part key f spell Is spelled is words take
     subst (λ t. (key ∷ words ≡ spell t.0 ++ t.1) × Is t.0) same
     (ap (λ ws. key ∷ ws) of_part.0 ∙ ap (λ ws. ws ++ a.0.1) (sym (spelled a.0.0)), is a.0.0 of_part.1)
 
+-- a part as it is, after its word
+pub after_key : {X : Type 0} {read : Reader X} {spell_part : X → List (List ℕ)} {Is : X → Type 0} → IsPart read spell_part Is
+    → (key : List ℕ) → IsChoice (λ x. key ∷ spell_part x) Is (key, read)
+after_key part key words taken h =
+    let of_part = part.takes words taken h in (ap (λ ws. key ∷ ws) of_part.0, of_part.1)
+
 -- and what it is spelled as is read as it
 pub read_as_again : {X Y : Type 0} {read : Reader X} {spell : X → List (List ℕ)} {Is : X → Type 0} → IsPart read spell Is
     → (f : X → Y) (x : X) (rest : List (List ℕ)) → Is x → read_as f read (spell x ++ rest) ≡ Ok (f x, rest)

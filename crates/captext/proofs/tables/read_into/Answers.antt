@@ -2,7 +2,7 @@
 use Rattle.std.proofs.Common.{◌≡◌, Ok, codes, sym, ap, ◌∙◌, subst}
 use Rattle.std.proofs.lemmas.Result.{err_from_is_err_and}
 use Rattle.machine.specs.Layout.{empty_layout}
-use Rattle.words.specs.Reading.{header_at, as_it_is}
+use Rattle.words.specs.Reading.{as_read, header_at, judged}
 use Rattle.words.specs.Text.{Progress, words_of}
 use Rattle.words.proofs.ReadingLaws.{begins, no_beginning}
 use Rattle.captext.specs.Tables.{table_line, read_table_of}
@@ -12,11 +12,11 @@ pub loop-words-init : goal.loop-words-init
 unfolding read_table_of
 loop-words-init c =
     let read = subst (λ (at : Progress). header_at (words_of (codes "confine-table 1")) at ≡ Ok c.header.new.self) c.new-lines.ensures.exact c.in_ok-header.ensures.exact in
-    rw c.requires (begins _ table_line as_it_is empty_layout _ _ read)
+    rw c.requires (begins _ table_line (judged as_read) empty_layout _ _ read)
 
 pub returns-in_err-header : goal.returns-in_err-header
 unfolding read_table_of
 returns-in_err-header c =
     let starts = ap (λ (at : Progress). header_at (words_of (codes "confine-table 1")) at) c.new-lines.ensures.exact in
     let p = err_from_is_err_and c.from_residual.result c.from_residual.ensures.1 in
-    rw (p.1, p.2) (λ _. no_beginning _ table_line as_it_is empty_layout _ _ (sym starts ∙ c.in_err-header.ensures.exact))
+    rw (p.1, p.2) (λ _. no_beginning _ table_line (judged as_read) empty_layout _ _ (sym starts ∙ c.in_err-header.ensures.exact))
