@@ -1,5 +1,6 @@
 pub mod Places
 pub mod KindNumbers
+pub mod OneVerdict
 pub mod Lookups
 pub mod Searching
 pub mod Broken

@@ -1,5 +1,5 @@
 ghost use Rattle.std.specs.Prelude.{◌≡◌, ◌≢◌, ◌↔◌, ◌⊎◌, ℕ, ◌<◌, true, false, Some, None};
-ghost use Rattle.std.specs.Prelude.{List, [], ◌∷◌, ◌++◌, length, All};
+ghost use Rattle.std.specs.Prelude.{List, [], ◌∷◌, ◌++◌, length, All, Result};
 ghost use Rattle.base.specs.declared.edge.Edge.{Edge};
 ghost use Rattle.base.specs.declared.ids.ObjId.{ObjId as Id};
 ghost use Rattle.base.specs.declared.ids.SlotRef.{SlotRef as Slot};
@@ -38,6 +38,7 @@ ghost use Rattle.certificate.specs.Counterexamples.{UnallowedSignal, UnsafeWitho
 ghost use Rattle.certificate.specs.Rules.{Excess, Exceeds};
 ghost use Rattle.certificate.specs.Shrinks.{Shrinks};
 ghost use Rattle.certificate.specs.Sources.{of_machine};
+ghost use Rattle.certificate.specs.System.{System, IsVerdict};
 ghost use Rattle.certificate.specs.Verdict.{Breaks, IsAccepted, IsLeastBroken, IsOutside, excess_of};
 
 /// A law: an object doesn't shrink whose pending word, or whose core, budget or period changes; at
@@ -181,6 +182,15 @@ pub fn a_verdict_is_on_the_boot_state()
         → JoinsLabels edges
         → IsAccepted t (allows edges)
         ↔ (SubjectsAgree (allows edges) × ((boot : Machine) → IsBoot t boot → IsConfined t (allows edges) boot)) }
+{}
+
+/// A law: a table and a policy have one verdict. They aren't both accepted and denied, nor denied with
+/// two places.
+pub fn a_system_has_one_verdict()
+    ensures one { (t : Layout) (edges : List Edge) (verdict other : Result System Denial)
+        → IsVerdict t edges verdict
+        → IsVerdict t edges other
+        → verdict ≡ other }
 {}
 
 /// A law: an object shrinks that vanishes; of which only a capability is removed, or one of the threads

@@ -103,18 +103,35 @@ pub const WORD: Outcome = Outcome::Done(Answer::Word(4));
 /// Asserts that a table is the system's.
 pub fn is_the_system(rt: &impl Abort, table: &Table) -> Result<(), Fail> {
     assert_eq!(rt; table.object_count(), 4);
-    assert_eq!(rt; table.object_named("n"), Some(NOTIFICATION));
-    let last = table.last_cap().ok_or("cap")?;
-    assert_eq!(rt; last.cap.object, ObjId(0));
-    let bound = table.last_binding().ok_or("binding")?;
-    assert_eq!(rt; (bound.thread, bound.context), (THREAD, CONTEXT));
+    assert!(rt; names_the_notification(table));
+    assert!(rt; has_the_root(table));
+    assert!(rt; has_the_binding(table));
     Ok(())
 }
 
+fn names_the_notification(table: &Table) -> bool {
+    table.object_named("n") == Some(NOTIFICATION)
+}
+
+fn has_the_root(table: &Table) -> bool {
+    match table.last_cap() {
+        Some(last) => last.cap.object == ObjId(0),
+        None => false,
+    }
+}
+
+fn has_the_binding(table: &Table) -> bool {
+    match table.last_binding() {
+        Some(bound) => bound.thread == THREAD && bound.context == CONTEXT,
+        None => false,
+    }
+}
+
 /// Asserts that a state is that of the system before a call.
-pub fn is_booted(rt: &impl Abort, state: &State) {
+pub fn is_booted(rt: &impl Abort, state: &State) -> Result<(), Fail> {
     assert_eq!(rt; state.next_id(), 4);
     assert!(rt; is_unsignalled(state));
+    Ok(())
 }
 
 fn is_unsignalled(state: &State) -> bool {

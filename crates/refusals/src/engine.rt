@@ -1,7 +1,7 @@
 //! The engine of `run`, for a log, for a denial and for a fault.
 use crate::bell::{LOG, POLICY, SCRIPT, TABLE};
-use crate::memory::{prepared, refused, spend};
-use report::{End, Watched, run};
+use crate::memory::{are, prepared, refused, spend};
+use report::{End, run_on};
 use std::process::Abort;
 use std::test::Fail;
 
@@ -26,22 +26,30 @@ fn answers<R: Abort + AllocGlobal>(
 ) -> Result<(), Fail> {
     spend(rt.alloc(), count)?;
     let page = prepared(Vec::with_capacity(rt.alloc(), answer.len()))?;
-    let mut out = Watched::new(page);
-    let end = run(
+    let (end, written) = run_on(
         rt.alloc(),
-        &mut Watched::new(table.as_bytes()),
-        &mut Watched::new(policy.as_bytes()),
-        &mut Watched::new(SCRIPT.as_bytes()),
-        &mut out,
+        Ok(table.as_bytes()),
+        Ok(policy.as_bytes()),
+        Ok(SCRIPT.as_bytes()),
+        page,
     );
-    let written = out.into_inner();
+    has_ended(rt, end, status, &written, answer)
+}
+
+/// A run that is refused memory has written nothing.
+fn has_ended(
+    rt: &impl Abort,
+    end: End,
+    status: u8,
+    written: &[u8],
+    answer: &str,
+) -> Result<(), Fail> {
     if end == End::NoMemory {
         assert_eq!(rt; written.len(), 0);
         return Err(refused());
     }
     assert_eq!(rt; end, End::Status(status));
-    assert_eq!(rt; written.as_slice(), answer.as_bytes());
-    Ok(())
+    are(rt, written, answer.as_bytes())
 }
 
 fn logs<R: Abort + AllocGlobal>(rt: &R, count: u64) -> Result<(), Fail> {

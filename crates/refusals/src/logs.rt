@@ -1,22 +1,14 @@
 //! `evtext::write_log`.
 use crate::bell::{DONE, LOG, WORD, events};
-use crate::memory::{NO_MEMORY, prepared, refused, spend};
+use crate::memory::{NO_MEMORY, answered, are, lend, prepared, spend};
 use evtext::write_log;
 use machine::Log;
 use std::process::Abort;
 use std::test::Fail;
 
 fn writes_the<R: Abort + AllocGlobal>(rt: &R, log: &Log) -> Result<(), Fail> {
-    match write_log(rt.alloc(), log) {
-        Ok(text) => {
-            assert_eq!(rt; text.as_slice(), LOG.as_bytes());
-            Ok(())
-        }
-        Err(refusal) => {
-            assert_eq!(rt; refusal, NO_MEMORY);
-            Err(refused())
-        }
-    }
+    let text = answered(rt, write_log(rt.alloc(), log), NO_MEMORY);
+    lend(text, |text| are(rt, text, LOG.as_bytes()))
 }
 
 fn writes_the_log<R: Abort + AllocGlobal>(rt: &R, count: u64) -> Result<(), Fail> {

@@ -1,23 +1,15 @@
 //! `evtext::read_script`.
 use crate::bell::{SCRIPT, events};
-use crate::memory::{UNREAD, refused, spend};
+use crate::memory::{UNREAD, answered, are, lend, spend};
 use evtext::read_script;
 use std::process::Abort;
 use std::test::Fail;
 
 fn reads_the_script<R: Abort + AllocGlobal>(rt: &R, count: u64) -> Result<(), Fail> {
     spend(rt.alloc(), count)?;
-    match read_script(rt.alloc(), SCRIPT.as_bytes()) {
-        Ok(read) => {
-            let events = events()?;
-            assert_eq!(rt; read.as_slice(), events.as_slice());
-            Ok(())
-        }
-        Err(fault) => {
-            assert_eq!(rt; fault, UNREAD);
-            Err(refused())
-        }
-    }
+    let events = events()?;
+    let read = answered(rt, read_script(rt.alloc(), SCRIPT.as_bytes()), UNREAD);
+    lend(read, |read| are(rt, read, &events))
 }
 
 #[test]

@@ -2,32 +2,24 @@
 ghost use Rattle.std.specs.Prelude.{IfOk};
 ghost use Rattle.machine.specs.WellFormed.{IsWellFormed};
 
-use crate::bell::{DONE, TABLE, WORD, events, is_booted};
-use crate::memory::{NO_MEMORY, prepared, refused, spend};
-use captext::read_table;
+use crate::bell::{DONE, WORD, events, is_booted};
+use crate::memory::{NO_MEMORY, answered, are, lend, prepared};
+use crate::tables::with_table;
+use base::Refusal;
 use kernel::{boot, run};
+use machine::Outcome;
 use objects::State;
 use std::process::Abort;
 use std::test::Fail;
 use table::Table;
 
 fn boots_the<R: Abort + AllocGlobal>(rt: &R, table: &Table) -> Result<(), Fail> {
-    match boot(rt.alloc(), table) {
-        Ok(state) => {
-            is_booted(rt, &state);
-            Ok(())
-        }
-        Err(refusal) => {
-            assert_eq!(rt; refusal, NO_MEMORY);
-            Err(refused())
-        }
-    }
+    let state = answered(rt, boot(rt.alloc(), table), NO_MEMORY);
+    lend(state, |state| is_booted(rt, state))
 }
 
 fn boots<R: Abort + AllocGlobal>(rt: &R, count: u64) -> Result<(), Fail> {
-    spend(rt.alloc(), count)?;
-    let table = prepared(read_table(rt.alloc(), TABLE.as_bytes()))?;
-    boots_the(rt, &table)
+    with_table(rt, count, |table| boots_the(rt, table))
 }
 
 #[test]
@@ -40,24 +32,28 @@ fn boot_after_80(rt: HostRuntime) -> Result<(), Fail> {
     boots(&rt, 80)
 }
 
-/// Runs the script's events on the boot state: a run that is refused has made no step.
+/// A run of the script's events on the boot state: one that is refused has made no step.
+fn has_run(
+    rt: &impl Abort,
+    answer: Result<(), Refusal>,
+    state: &State,
+    outcomes: &[Outcome],
+) -> Result<(), Fail> {
+    if answer.is_err() {
+        assert_eq!(rt; outcomes.len(), 0);
+        is_booted(rt, state)?;
+    }
+    answered(rt, answer, NO_MEMORY)?;
+    are(rt, outcomes, &[DONE, WORD])
+}
+
 fn runs_on<R: Abort + AllocGlobal>(rt: &R, state: &mut State) -> Result<(), Fail>
     requires { IsWellFormed state.old }
 {
     let events = events()?;
     let mut outcomes = Vec::new(rt.alloc());
-    match run(state, &events, &mut outcomes) {
-        Ok(()) => {
-            assert_eq!(rt; outcomes.as_slice(), [DONE, WORD].as_slice());
-            Ok(())
-        }
-        Err(refusal) => {
-            assert_eq!(rt; refusal, NO_MEMORY);
-            assert_eq!(rt; outcomes.len(), 0);
-            is_booted(rt, state);
-            Err(refused())
-        }
-    }
+    let answer = run(state, &events, &mut outcomes);
+    has_run(rt, answer, state, &outcomes)
 }
 
 fn booted<R: Abort + AllocGlobal>(rt: &R, table: &Table) -> Result<State, Fail>
@@ -72,9 +68,7 @@ fn runs_after_boot<R: Abort + AllocGlobal>(rt: &R, table: &Table) -> Result<(), 
 }
 
 fn runs<R: Abort + AllocGlobal>(rt: &R, count: u64) -> Result<(), Fail> {
-    spend(rt.alloc(), count)?;
-    let table = prepared(read_table(rt.alloc(), TABLE.as_bytes()))?;
-    runs_after_boot(rt, &table)
+    with_table(rt, count, |table| runs_after_boot(rt, table))
 }
 
 #[test]

@@ -1,6 +1,6 @@
 //! `captext::read_table` and `captext::read_policy`.
 use crate::bell::{POLICY, TABLE, edges, is_the_system};
-use crate::memory::{UNREAD, prepared, refused, spend};
+use crate::memory::{UNREAD, answered, are, lend, prepared, spend};
 use captext::{read_policy, read_table};
 use std::process::Abort;
 use std::test::Fail;
@@ -8,13 +8,8 @@ use table::Table;
 
 fn reads_the_table<R: Abort + AllocGlobal>(rt: &R, count: u64) -> Result<(), Fail> {
     spend(rt.alloc(), count)?;
-    match read_table(rt.alloc(), TABLE.as_bytes()) {
-        Ok(table) => is_the_system(rt, &table),
-        Err(fault) => {
-            assert_eq!(rt; fault, UNREAD);
-            Err(refused())
-        }
-    }
+    let read = answered(rt, read_table(rt.alloc(), TABLE.as_bytes()), UNREAD);
+    lend(read, |table| is_the_system(rt, table))
 }
 
 #[test]
@@ -43,23 +38,29 @@ fn read_table_after_80(rt: HostRuntime) -> Result<(), Fail> {
 }
 
 fn reads_the_policy_for<R: Abort + AllocGlobal>(rt: &R, table: &Table) -> Result<(), Fail> {
-    match read_policy(rt.alloc(), POLICY.as_bytes(), table) {
-        Ok(policy) => {
-            let edges = edges()?;
-            assert_eq!(rt; policy.edges(), edges.as_slice());
-            Ok(())
-        }
-        Err(fault) => {
-            assert_eq!(rt; fault, UNREAD);
-            Err(refused())
-        }
-    }
+    let edges = edges()?;
+    let read = answered(
+        rt,
+        read_policy(rt.alloc(), POLICY.as_bytes(), table),
+        UNREAD,
+    );
+    lend(read, |policy| are(rt, policy.edges(), &edges))
+}
+
+/// Makes so many allocations, and lends the system's table to the rest of a test.
+pub fn with_table<R: Abort + AllocGlobal, F: FnOnce(&Table) -> Result<(), Fail> + Drop>(
+    rt: &R,
+    count: u64,
+    test: F,
+) -> Result<(), Fail>
+    requires { F.IsAlwaysCallable test }
+{
+    spend(rt.alloc(), count)?;
+    lend(prepared(read_table(rt.alloc(), TABLE.as_bytes())), test)
 }
 
 fn reads_the_policy<R: Abort + AllocGlobal>(rt: &R, count: u64) -> Result<(), Fail> {
-    spend(rt.alloc(), count)?;
-    let table = prepared(read_table(rt.alloc(), TABLE.as_bytes()))?;
-    reads_the_policy_for(rt, &table)
+    with_table(rt, count, |table| reads_the_policy_for(rt, table))
 }
 
 #[test]

@@ -1,7 +1,8 @@
 //! `certificate::first_check`, which takes no memory.
-use crate::bell::{POLICY, TABLE};
-use crate::memory::{prepared, spend};
-use captext::{read_policy, read_table};
+use crate::bell::POLICY;
+use crate::memory::prepared;
+use crate::tables::with_table;
+use captext::read_policy;
 use certificate::first_check;
 use policy::Policy;
 use std::process::Abort;
@@ -19,9 +20,7 @@ fn accepts_the<R: Abort + AllocGlobal>(rt: &R, table: &Table) -> Result<(), Fail
 }
 
 fn accepts<R: Abort + AllocGlobal>(rt: &R, count: u64) -> Result<(), Fail> {
-    spend(rt.alloc(), count)?;
-    let table = prepared(read_table(rt.alloc(), TABLE.as_bytes()))?;
-    accepts_the(rt, &table)
+    with_table(rt, count, |table| accepts_the(rt, table))
 }
 
 #[test]

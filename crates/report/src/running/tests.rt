@@ -1,9 +1,6 @@
-ghost use Rattle.std.specs.Prelude.{◌≡◌, false};
-ghost use Rattle.devices.specs.Watched.{failed_of};
-
 use super::*;
-use crate::Watched;
 use std::io::{self, Read, Write};
+use std::process::Abort;
 
 /// One thread with a notification of its own.
 const TABLE: &str = "\
@@ -59,6 +56,8 @@ end
 
 const DENIAL: &str = "{\"place\":[\"c.0\",\"reset\",\"a\"],\"rule\":\"A1\",\"verdict\":\"deny\"}\n";
 
+const FAULT: &str = "{\"fault\":50,\"file\":\"table\",\"line\":2}\n";
+
 /// Gives its text, or fails at once.
 #[derive(Drop)]
 enum Text<'a> {
@@ -96,63 +95,65 @@ impl Write for Narrow {
 }
 
 /// A file that gives the text, or fails.
-fn file(text: Option<&str>) -> Watched<Text<'_>>
-    ensures { failed_of result ≡ false }
-{
-    match text {
-        Some(text) => Watched::new(Text::Good(text.as_bytes())),
-        None => Watched::new(Text::Bad),
-    }
+fn file(text: Option<&str>) -> io::Result<Text<'_>> {
+    Ok(match text {
+        Some(text) => Text::Good(text.as_bytes()),
+        None => Text::Bad,
+    })
 }
 
-/// How the engine ends, and what it wrote into so much room.
-fn ends(
+/// How the engine ends on a table, a policy and a script, and the page with so much room, with what
+/// it wrote onto it.
+fn run_onto(
     alloc: Global,
-    table: Option<&str>,
-    policy: Option<&str>,
-    script: Option<&str>,
+    [table, policy, script]: [Option<&str>; 3],
     room: usize,
-) -> (End, Vec<u8>) {
-    let mut out = Watched::new(Narrow {
+) -> (End, Narrow) {
+    let page = Narrow {
         taken: Vec::new(alloc),
         room,
-    });
-    let end = run(
-        alloc,
-        &mut file(table),
-        &mut file(policy),
-        &mut file(script),
-        &mut out,
-    );
-    (end, out.into_inner().taken)
+    };
+    run_on(alloc, file(table), file(policy), file(script), page)
+}
+
+fn is_the_end(rt: &impl Abort, found: (End, &[u8]), expected: (End, &[u8]), room: usize) {
+    assert_eq!(rt; found.0, expected.0, "room for {room} bytes");
+    assert!(rt; found.1 == expected.1, "room for {room} bytes");
+}
+
+/// Asserts how the engine ends, and what it has written by then.
+fn ends<R: Abort + AllocGlobal>(
+    rt: &R,
+    files: [Option<&str>; 3],
+    room: usize,
+    end: End,
+    written: &[u8],
+) {
+    let (found, page) = run_onto(rt.alloc(), files, room);
+    is_the_end(rt, (found, page.taken.as_slice()), (end, written), room);
 }
 
 #[test]
 fn tells_the_first_file_that_fails(rt: HostRuntime) {
-    for (table, policy, script, file) in [
-        (None, None, None, File::Table),
-        (Some(TABLE), None, None, File::Policy),
-        (Some(TABLE), Some(POLICY), None, File::Script),
+    for (table, policy, file) in [
+        (None, None, File::Table),
+        (Some(TABLE), None, File::Policy),
+        (Some(TABLE), Some(POLICY), File::Script),
     ] {
-        let (end, written) = ends(rt.alloc(), table, policy, script, 1000);
-        assert!(rt; end == End::CannotRead(file), "{file}");
-        assert!(rt; written.is_empty(), "{file}");
+        ends(&rt, [table, policy, None], 1000, End::CannotRead(file), &[]);
     }
-    let (end, _) = ends(rt.alloc(), Some("confine-table 1\n"), None, None, 1000);
-    assert!(rt; end == End::Status(2));
+    let faulty = [Some("confine-table 1\n"), None, None];
+    ends(&rt, faulty, 1000, End::Status(2), FAULT.as_bytes());
 }
 
 #[test]
 fn writes_a_beginning_where_there_is_no_room(rt: HostRuntime) {
-    for (policy, expected) in [(POLICY, LOG), (NARROW_POLICY, DENIAL)] {
-        for room in 0..=expected.len() {
-            let (end, written) = ends(rt.alloc(), Some(TABLE), Some(policy), Some(SCRIPT), room);
-            let is_whole = room == expected.len();
-            assert!(rt; (end == End::CannotWrite) != is_whole, "{room}");
-            assert!(rt;
-                written.as_slice() == &expected.as_bytes()[..room],
-                "{room}"
-            );
+    for (policy, status, answer) in [(POLICY, 0, LOG), (NARROW_POLICY, 1, DENIAL)] {
+        let files = [Some(TABLE), Some(policy), Some(SCRIPT)];
+        let answer = answer.as_bytes();
+        for room in 0..answer.len() {
+            ends(&rt, files, room, End::CannotWrite, &answer[..room]);
         }
+        ends(&rt, files, answer.len(), End::Status(status), answer);
     }
 }
