@@ -11,7 +11,7 @@ use Rattle.std.proofs.lemmas.List.{append-nil, length_push, get_or_push}
 use Rattle.std.proofs.lemmas.Option.{slice_get-get_or}
 use Rattle.base.specs.declared.edge.Edge.{Edge}
 use Rattle.base.specs.declared.kind.Kind.{Kind}
-use Rattle.base.specs.declared.kind.Kind.TheVariants.{Control, Reset, Send, Receive, Grant, Call, Notify, Await, Read, Write, Reply, Context, SchedControl, Space, Derive, Runs, Holds}
+use Rattle.base.specs.declared.kind.Kind.TheVariants.{Control}
 use Rattle.base.specs.Kinds.{kind_name, kind_named, kind_number}
 use Rattle.base.proofs.KindNames.{kind_is_named, kind_again}
 use Rattle.machine.specs.Layout.{Layout}
@@ -39,22 +39,7 @@ use Rattle.captext.proofs.StepLaws.{demand_then, value_then}
 
 kind_is_name : (kind : Kind) → is_name (kind_name kind) ≡ true
 kind_is_name Control = refl
-kind_is_name Reset = refl
-kind_is_name Send = refl
-kind_is_name Receive = refl
-kind_is_name Grant = refl
-kind_is_name Call = refl
-kind_is_name Notify = refl
-kind_is_name Await = refl
-kind_is_name Read = refl
-kind_is_name Write = refl
-kind_is_name Reply = refl
-kind_is_name Context = refl
-kind_is_name SchedControl = refl
-kind_is_name Space = refl
-kind_is_name Derive = refl
-kind_is_name Runs = refl
-kind_is_name Holds = refl
+kind_is_name _ = refl
 
 kind_part : IsPart kind_at (λ kind. kind_name kind ∷ []) (λ kind. ⊤)
 unfolding kind_at bind word_at or_syntax

@@ -20,6 +20,7 @@ use Rattle.machine.specs.declared.object.Share.{Share}
 use Rattle.machine.specs.declared.thread.RunState.{RunState}
 use Rattle.machine.specs.declared.thread.RunState.TheVariants as run
 use Rattle.machine.specs.Layout.{Layout}
+use Rattle.machine.specs.Objects.{kind_of_object}
 use Rattle.table.specs.Items.{Item, LabelItem, ObjectItem, CapItem, BindingItem, Admits, ComesNow, with_item}
 use Rattle.table.specs.Rules.{kind_at}
 use Rattle.words.specs.Number.{hexadecimal}
@@ -28,7 +29,7 @@ use Rattle.words.specs.Text.{words_of, text_of}
 use Rattle.captext.specs.declared.shapes.Place.{Place}
 use Rattle.captext.specs.declared.shapes.Place.TheVariants as place
 use Rattle.captext.specs.PolicyText.{label_name}
-use Rattle.captext.specs.Spelling.{slot_word}
+use Rattle.captext.specs.Spelling.{object_kind_word, slot_word}
 
 abbrev pub table_header : List (List ℕ)
 table_header = words_of (codes "confine-table 1")
@@ -43,15 +44,7 @@ label_words name = codes "label" ∷ name ∷ []
 
 -- the word that begins the line of an object
 abbrev pub kind_word : Object → List ℕ
-kind_word (o.Untyped _) = codes "untyped"
-kind_word (o.CNode _) = codes "cnode"
-kind_word (o.Tcb _) = codes "tcb"
-kind_word (o.Endpoint _) = codes "endpoint"
-kind_word (o.Notification _) = codes "notification"
-kind_word (o.Reply _) = codes "reply"
-kind_word (o.Context _) = codes "context"
-kind_word (o.Frame _) = codes "frame"
-kind_word (o.Control _) = codes "control"
+kind_word object = object_kind_word (kind_of_object object)
 
 -- how a thread starts: ready, or else inactive
 abbrev pub start_word : RunState → List ℕ
@@ -140,15 +133,7 @@ table_lines t = label_lines t ++ (object_lines t ++ (cap_lines t ++ (pair_lines 
 abbrev pub table_text : Layout → List ℕ
 table_text t = text_of (whole_lines table_header (table_lines t))
 
--- the tables that have been brought so far
-
--- an object of a kind whose lines are read
-abbrev pub IsBroughtObject : Object → Type 0
-IsBroughtObject (o.CNode _) = ⊤
-IsBroughtObject (o.Tcb _) = ⊤
-IsBroughtObject (o.Notification _) = ⊤
-IsBroughtObject (o.Context _) = ⊤
-IsBroughtObject _ = ⊥
+-- the tables that have a text
 
 -- a badge is a word of 64 bits
 abbrev pub HasWordBadge : Detail → Type 0
@@ -156,17 +141,14 @@ HasWordBadge (d.Endpoint end) = end.badge < 2 ^ 64
 HasWordBadge (d.Notification end) = end.badge < 2 ^ 64
 HasWordBadge _ = ⊤
 
--- an item that is brought
+-- an item whose badge, if it has one, is a word
 abbrev pub IsBroughtItem : Item → Type 0
-IsBroughtItem (LabelItem _) = ⊤
-IsBroughtItem (ObjectItem _ initial) = IsBroughtObject initial.object
 IsBroughtItem (CapItem filled) = HasWordBadge filled.cap.detail
-IsBroughtItem (BindingItem _) = ⊤
+IsBroughtItem _ = ⊤
 
--- every object is a CNode, a thread, a notification or a scheduling context, and badges are words
-pub record IsBrought (t : Layout) : Type 0 where
-  pub objects : All (λ initial. IsBroughtObject initial.object) t.objects
-  pub badges : All (λ filled. HasWordBadge filled.cap.detail) t.caps
+-- badges are words
+abbrev pub IsBrought : Layout → Type 0
+IsBrought t = All (λ filled. HasWordBadge filled.cap.detail) t.caps
 
 -- a line adds an item: the table takes the item next, and the line is that item's
 pub record IsLineOf (t : Layout) (words : List (List ℕ)) (next : Layout) (item : Item) : Type 0 where

@@ -1,10 +1,6 @@
-ghost use Rattle.std.specs.Prelude.{◌≡◌, ◌≢◌, true, Some, IfOk, OnErr, OnOk};
+ghost use Rattle.std.specs.Prelude.{◌≡◌, true, Some, OnErr};
+ghost use Rattle.captext.specs.Spelling.{AreTerms};
 ghost use Rattle.captext.specs.Tables as text;
-ghost use Rattle.captext.specs.Tables.{capability, fits_radix};
-ghost use Rattle.machine.specs.Capabilities.{kind_of_detail};
-ghost use Rattle.machine.specs.Objects.{kind_of_object};
-ghost use Rattle.table.specs.Building.{fits, is_fitting};
-ghost use Rattle.table.specs.Rules.{kind_at};
 ghost use Rattle.words.specs.Reading.{GivesOrStops};
 
 use crate::objects::takes_caps;
@@ -70,36 +66,6 @@ fn is_plain(rights: Rights) -> bool
     rights.bits() < 4
 }
 
-/// Nothing after the object.
-fn nothing(first: Option<Term>, second: Option<Term>, detail: Detail) -> Option<Detail>
-    ensures { result ≡ text.nothing first second detail }
-{
-    match (first, second) {
-        (None, None) => Some(detail),
-        _ => None,
-    }
-}
-
-/// `RIGHTS DEC`.
-fn badged(first: Option<Term>, second: Option<Term>) -> Option<Badged>
-    ensures { result ≡ text.badged first second }
-{
-    match (first, second) {
-        (Some(Term::Rights(rights)), Some(Term::Decimal(badge))) => Some(Badged { rights, badge }),
-        _ => None,
-    }
-}
-
-/// What a notification's capability says.
-fn plain_notification(end: Option<Badged>) -> Option<Detail>
-    ensures { result ≡ text.plain_notification end }
-{
-    match end {
-        Some(end) if is_plain(end.rights) => Some(Detail::Notification(end)),
-        _ => None,
-    }
-}
-
 /// Whether a guard and the radix together take at most 64 bits, and the value fits the size.
 fn is_guard(radix: Radix, size: u64, value: u64) -> bool
     ensures { result ≡ text.is_guard radix size value }
@@ -108,89 +74,77 @@ fn is_guard(radix: Radix, size: u64, value: u64) -> bool
     size <= 64 && size + radix <= 64 && value < 1 << size
 }
 
-/// What the capability of a CNode says, where its own slot's index is within its holder or not.
-#[tactic(auto, unfolding(crate::specs::Tables::guarded))]
-fn guarded(
-    radix: Radix,
-    first: Option<Term>,
-    second: Option<Term>,
-    within: bool,
-) -> Result<Detail, Wrong>
-    ensures exact { result ≡ text.guarded radix (text.guard_in first second) within }
-    ensures within { OnOk result (within ≡ true) }
-    ensures fits { IfOk result (λ detail. fits_radix radix detail ≡ true) }
+/// A guard that fits the radix.
+fn guarded(radix: Radix, size: u64, value: u64) -> Result<Detail, Wrong>
+    ensures { result ≡ text.guarded radix size value }
 {
-    match (first, second) {
-        (Some(Term::Decimal(size)), Some(Term::Hexadecimal(value))) => {
-            if within && is_guard(radix, size, value) {
-                let size = size as u8;
-                Ok(Detail::CNode(Guard { size, value }))
-            } else {
-                Err(Wrong::Limit)
-            }
-        }
-        _ => Err(Wrong::WrongKind),
-    }
-}
-
-/// What another capability says, alike.
-#[tactic(auto, unfolding(crate::specs::Tables::unguarded))]
-fn unguarded(detail: Option<Detail>, within: bool) -> Result<Detail, Wrong>
-    ensures exact { result ≡ text.unguarded detail within }
-    ensures within { OnOk result (within ≡ true) }
-    ensures given { IfOk result (λ given. detail ≡ Some given) }
-{
-    let detail = detail.ok_or(Wrong::WrongKind)?;
-    if within {
-        Ok(detail)
+    if is_guard(radix, size, value) {
+        let size = size as u8;
+        Ok(Detail::CNode(Guard { size, value }))
     } else {
         Err(Wrong::Limit)
     }
 }
 
-/// What a capability says, by the kind of its object, where its slot's index is within its holder
-/// or not.
-#[tactic(auto, unfolding(crate::specs::Tables::limited_detail))]
-fn limited_detail(
-    target: &Object,
-    first: Option<Term>,
-    second: Option<Term>,
-    within: bool,
-) -> Result<Detail, Wrong>
-    ensures exact { result ≡ text.limited_detail target.now first second within }
-    ensures within { OnOk result (within ≡ true) }
-    ensures fits { IfOk result (λ detail. fits target.now detail ≡ true) }
-    ensures kind { IfOk result (λ detail. kind_of_object target.now ≡ kind_of_detail detail) }
-    ensures typed { IfOk result (λ detail. kind_of_detail detail ≢ ObjectKind.Untyped) }
+/// What a capability with these rights says, if they are only `r` and `w`.
+fn plain(rights: Rights, detail: Detail) -> Result<Detail, Wrong>
+    ensures { result ≡ text.plain rights detail }
 {
-    let detail = match target {
-        Object::CNode(node) => return guarded(node.radix, first, second, within),
-        Object::Tcb(_) => nothing(first, second, Detail::Tcb),
-        Object::Notification(_) => plain_notification(badged(first, second)),
-        Object::Context(_) => nothing(first, second, Detail::Context),
-        _ => return Err(Wrong::WrongKind),
-    };
-    unguarded(detail, within)
+    if is_plain(rights) {
+        Ok(detail)
+    } else {
+        Err(Wrong::WrongKind)
+    }
+}
+
+/// What a capability to an object says: a guard's size and value, rights and a badge, rights, or
+/// nothing.
+fn detail_of(target: &Object, first: Option<Term>, second: Option<Term>) -> Result<Detail, Wrong>
+    ensures { result ≡ text.detail_of target.now first second }
+{
+    match (target, first, second) {
+        (Object::CNode(node), Some(Term::Decimal(size)), Some(Term::Hexadecimal(value))) => {
+            guarded(node.radix, size, value)
+        }
+        (Object::Endpoint(_), Some(Term::Rights(rights)), Some(Term::Decimal(badge))) => {
+            Ok(Detail::Endpoint(Badged { rights, badge }))
+        }
+        (Object::Notification(_), Some(Term::Rights(rights)), Some(Term::Decimal(badge))) => {
+            plain(rights, Detail::Notification(Badged { rights, badge }))
+        }
+        (Object::Frame(_), Some(Term::Rights(rights)), None) => plain(
+            rights,
+            Detail::Frame(rights),
+        ),
+        (Object::Untyped(_), None, None) => Ok(Detail::Untyped),
+        (Object::Tcb(_), None, None) => Ok(Detail::Tcb),
+        (Object::Reply(_), None, None) => Ok(Detail::Reply),
+        (Object::Context(_), None, None) => Ok(Detail::Context),
+        (Object::Control(_), None, None) => Ok(Detail::Control),
+        _ => Err(Wrong::WrongKind),
+    }
 }
 
 /// What a capability to an object of the table says.
-#[tactic(auto, unfolding(crate::specs::Tables::detail_for, table::specs::Building::is_fitting, table::specs::Rules::kind_at))]
+#[tactic(auto, unfolding(crate::specs::Tables::detail_for, words::specs::Reading::bind))]
 fn detail_for(
     table: &Table,
     target: ObjId,
     terms: (Option<Term>, Option<Term>),
-    within: bool,
 ) -> Result<Detail, Wrong>
-    ensures exact { result ≡ text.detail_for table.now target terms within }
-    ensures within { OnOk result (within ≡ true) }
-    ensures fits { IfOk result (λ detail. is_fitting table.now (capability target detail) ≡ true) }
-    ensures kind { IfOk result (λ detail. kind_at table.now target ≡ Some (kind_of_detail detail)) }
-    ensures typed { IfOk result (λ detail. kind_of_detail detail ≢ ObjectKind.Untyped) }
+    ensures { result ≡ text.detail_for table.now target terms }
 {
     match table.object(target) {
-        Some(initial) => limited_detail(&initial.object, terms.0, terms.1, within),
+        Some(initial) => detail_of(&initial.object, terms.0, terms.1),
         None => Err(Wrong::UnknownName),
     }
+}
+
+/// Whether the object is an untyped that has a capability.
+fn is_claimed(table: &Table, target: ObjId) -> bool
+    ensures { result ≡ text.is_claimed table.now target }
+{
+    table.kind(target) == Some(ObjectKind::Untyped) && table.has_cap_to(target)
 }
 
 /// Adds a capability to the target in a slot of the holder.
@@ -202,15 +156,22 @@ fn fill(
     target: ObjId,
     terms: (Option<Term>, Option<Term>),
 ) -> Result<(), LineError>
-    requires { text.rises table.old (Some holder) place ≡ true }
+    requires rises { text.rises table.old (Some holder) place ≡ true }
+    requires spelled { AreTerms terms }
     ensures exact { GivesOrStops (λ _. table.new) result (text.filled table.old holder place target terms) }
     ensures err { OnErr result (table.new ≡ table.old) }
 {
+    if is_claimed(table, target) {
+        return Err(LineError::Text(Wrong::Double));
+    }
     if !may_fill(table.kind(holder), place, table.kind(target)) {
         return Err(LineError::Text(Wrong::WrongKind));
     }
+    let detail = detail_for(table, target, terms)?;
     let slot = slot_in(holder, place);
-    let detail = detail_for(table, target, terms, table.declares_slot(slot))?;
+    if !table.declares_slot(slot) {
+        return Err(LineError::Text(Wrong::Limit));
+    }
     let cap = Cap {
         object: target,
         detail,

@@ -11,13 +11,13 @@ ghost use Rattle.words.specs.Reading.{GivesOrStops, Reads};
 ghost use Rattle.words.specs.Text.{lines_of};
 
 use crate::caps::{bind_line, cap_line};
-use crate::objects::{cnode_line, context_line, label_line, notification_line, tcb_line};
+use crate::objects::{label_line, object_kind_of, object_line};
 use std::alloc::Global;
 use table::{Table, lawful_tables_are_built_up};
 use words::{Fault, LineError, Lines, Words, Wrong};
 
 /// Reads one line of a table, and adds its item. A line that is refused adds nothing.
-#[tactic(auto, unfolding(crate::specs::Tables::table_line, crate::specs::Tables::line_by, words::specs::Reading::bind))]
+#[tactic(auto, unfolding(crate::specs::Tables::table_line, crate::specs::Tables::line_by, crate::specs::Tables::declaration, words::specs::Reading::or_syntax, words::specs::Reading::bind))]
 fn table_line(table: &mut Table, words: &mut Words<'_>) -> Result<(), LineError>
     ensures exact { GivesOrStops (λ _. table.new) result (tables.table_line table.old words.old) }
     ensures err { OnErr result (table.new ≡ table.old) }
@@ -25,20 +25,13 @@ fn table_line(table: &mut Table, words: &mut Words<'_>) -> Result<(), LineError>
     let keyword = words.word()?;
     if keyword == b"label".as_slice() {
         label_line(table, words)
-    } else if keyword == b"cnode".as_slice() {
-        cnode_line(table, words)
-    } else if keyword == b"tcb".as_slice() {
-        tcb_line(table, words)
-    } else if keyword == b"notification".as_slice() {
-        notification_line(table, words)
-    } else if keyword == b"context".as_slice() {
-        context_line(table, words)
     } else if keyword == b"cap".as_slice() {
         cap_line(table, words)
     } else if keyword == b"bind".as_slice() {
         bind_line(table, words)
     } else {
-        Err(LineError::Text(Wrong::Syntax))
+        let kind = object_kind_of(keyword).ok_or(Wrong::Syntax)?;
+        object_line(table, kind, words)
     }
 }
 
@@ -97,12 +90,12 @@ pub fn read_table(alloc: Global, text: &[u8]) -> Result<Table, Fault>
 /// A law about a line of a table that keeps the rules so far: it is read just where it is the line of
 /// an item that the table takes next, and then adds that item.
 pub fn lines_are_read_back()
-    ensures { (t : Layout) (words : List (List ℕ)) (next : Layout) → IsLawful t → IsBrought t
+    ensures { (t : Layout) (words : List (List ℕ)) (next : Layout) → IsLawful t
         → (tables.table_line t words ≡ Ok next) ↔ ((item : Item) × IsLineOf t words next item) }
 {}
 
-/// A law: a text is read as a table just where the table keeps the rules, is one of those that are
-/// brought so far, and the text is its text. So different tables have different texts.
+/// A law: a text is read as a table just where the table keeps the rules, its badges are words, and
+/// the text is its text. So different tables have different texts.
 pub fn tables_are_read_back()
     ensures named { (bytes : List ℕ) (t : Layout) → (tables.read_table_of bytes ≡ Ok t)
         ↔ (IsLawful t × IsBrought t × (bytes ≡ table_text t)) }
