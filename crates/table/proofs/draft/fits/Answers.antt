@@ -3,7 +3,7 @@ use Rattle.std.proofs.Common.{◌≡◌, ℕ, ◌+◌, ◌*◌, ◌/◌, ◌^◌
 use Rattle.std.proofs.lemmas.Bool.{cases_lt, eq-eqb, lt-ltb, le-ltb, le-leb, ne_eqb}
 use Rattle.std.proofs.lemmas.Nat.{pow_pos}
 use Rattle.std.proofs.Math.Nat.{div-lt_iff_lt-mul}
-use Rattle.table.proofs.table.fits.Goals as goal
+use Rattle.table.proofs.draft.fits.Goals as goal
 
 shifted_out : (value power : ℕ) → 0 < power → nat_eq (value / power) 0 ≡ nat_lt value power
 shifted_out value power pos = by (cases_lt value power) where
