@@ -11,20 +11,20 @@ use Rattle.words.specs.declared.faults.Fault.{Fault}
 use Rattle.words.specs.declared.faults.Wrong.{Wrong}
 use Rattle.words.specs.declared.faults.Wrong.TheVariants as wrong
 use Rattle.words.specs.Name.{name_at}
-use Rattle.words.specs.Parts.{Reader, in_turn, keyed}
+use Rattle.words.specs.Parts.{PartReader, in_turn, keyed}
 use Rattle.words.specs.Reading.{◌>>=◌, as_read, word_at, ended_at, or_syntax, read_format, Format}
 use Rattle.words.specs.Text.{words_of, lines_of}
 use Rattle.captext.specs.Tables.{demand, value_or}
 
 -- the next word as a kind of authority
-unfoldable pub kind_at : Reader Kind
+unfoldable pub kind_at : PartReader Kind
 kind_at words = do
   word ← word_at words
   kind ← or_syntax (kind_named word.0)
   Ok (kind, word.1)
 
 -- edge LABEL KIND LABEL, by the names of the labels
-unfoldable pub named_edge_at : Reader (List ℕ × (Kind × List ℕ))
+unfoldable pub named_edge_at : PartReader (List ℕ × (Kind × List ℕ))
 named_edge_at = keyed ((codes "edge", in_turn name_at (in_turn kind_at name_at)) ∷ [])
 
 -- whether an edge from this label of this kind may come after the last one, by these two entries

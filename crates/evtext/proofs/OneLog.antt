@@ -1,5 +1,5 @@
 -- A text is the text of one script, or of one log.
-use Rattle.std.proofs.Common.{◌≡◌, ℕ, ◌<◌, ◌^◌, Bool, true, false, cond, List, [], ◌∷◌, ◌++◌, length, map, codes, Result, Ok, Err, refl, sym, ap, ◌∙◌, arith}
+use Rattle.std.proofs.Common.{◌≡◌, ℕ, ◌<◌, ◌^◌, Bool, true, false, cond, List, [], ◌∷◌, ◌++◌, length, codes, Result, Ok, Err, refl, sym, ap, ◌∙◌, arith}
 use Rattle.std.proofs.lemmas.List.{append-nil}
 use Rattle.std.specs.Fmt.{decimal}
 use Rattle.std.specs.List.{AllByRecursion}
@@ -12,10 +12,10 @@ use Rattle.machine.specs.Spelling.{event_words, entry_words, flag_word, message_
 use Rattle.words.specs.declared.faults.Wrong.{Wrong}
 use Rattle.words.specs.Number.{number_at}
 use Rattle.words.specs.Text.{IsPlainLine, IsPlainWord}
-use Rattle.words.proofs.OneText.{one_body, one_by_map}
+use Rattle.words.proofs.ListLaws.{one_list}
 use Rattle.words.proofs.Parts.{part_once}
 use Rattle.words.proofs.TextLaws.{both}
-use Rattle.words.proofs.WordLaws.{number_again, plain_bytes, plain_decimal, plain_lines}
+use Rattle.words.proofs.WordLaws.{number_again, plain_bytes, plain_decimal}
 use Rattle.evtext.specs.Event.{HasNumbers}
 use Rattle.evtext.specs.Log.{log_header, log_text, IsEntry, IsOutcome}
 use Rattle.evtext.specs.Script.{script_header, script_text}
@@ -146,19 +146,10 @@ plain_entry entry is =
 
 pub one_script : (script other : List Event) → AllByRecursion HasNumbers script → AllByRecursion HasNumbers other
     → script_text script ≡ script_text other → script ≡ other
-one_script script other this that same =
-    one_by_map HasNumbers event_words one_line script other this that
-    (one_body script_header (map event_words script) (map event_words other)
-    (plain_header, plain_lines HasNumbers event_words plain_event script this)
-    (plain_header, plain_lines HasNumbers event_words plain_event other that) same)
+one_script = one_list script_header event_words HasNumbers plain_header plain_event one_line
 
 pub one_log : (log other : List (Event × Outcome)) → AllByRecursion IsEntry log → AllByRecursion IsEntry other
     → log_text log ≡ log_text other → log ≡ other
-one_log log other this that same =
-    one_by_map IsEntry entry_words one_entry log other this that
-    (one_body log_header (map entry_words log) (map entry_words other)
-    (header, plain_lines IsEntry entry_words plain_entry log this)
-    (header, plain_lines IsEntry entry_words plain_entry other that) same)
-  where
-    header : IsPlainLine log_header
-    header = (plain_bytes (codes "confine-log") refl, (plain_bytes (codes "1") refl, tt))
+one_log =
+    one_list log_header entry_words IsEntry
+    (plain_bytes (codes "confine-log") refl, (plain_bytes (codes "1") refl, tt)) plain_entry one_entry

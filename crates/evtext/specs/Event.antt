@@ -8,10 +8,10 @@ use Rattle.machine.specs.declared.call.Event.{Event}
 use Rattle.words.specs.declared.faults.Wrong.{Wrong}
 use Rattle.words.specs.declared.faults.Wrong.TheVariants.{Limit}
 use Rattle.words.specs.Number.{number_at}
-use Rattle.words.specs.Parts.{Reader, in_turn, keyed, read_as}
+use Rattle.words.specs.Parts.{PartReader, in_turn, keyed, read_as}
 
 -- the next words as a call: its name, then its operands
-unfoldable pub call_at : Reader Call
+unfoldable pub call_at : PartReader Call
 call_at = keyed (
     (codes "signal", read_as Signal number_at)
     ∷ (codes "poll", read_as Poll number_at)
@@ -23,7 +23,7 @@ abbrev pub event_of : ℕ × (ℕ × Call) → Event
 event_of parts = record { core = parts.0; thread = record { 0 = parts.1.0 }; call = parts.1.1 }
 
 -- the next words as an event, whatever its core's number
-unfoldable pub event_at : Reader Event
+unfoldable pub event_at : PartReader Event
 event_at = read_as event_of (in_turn number_at (in_turn number_at call_at))
 
 -- an event of a core that there can be, before which there are not too many

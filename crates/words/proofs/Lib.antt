@@ -13,3 +13,4 @@ pub mod ReadingLaws
 pub mod FirstFaults
 pub mod TextReading
 pub mod OneText
+pub mod ListLaws

@@ -9,7 +9,7 @@ use Rattle.std.proofs.lemmas.Slice.Eq.{bytes_eq-Decides}
 use Rattle.words.specs.declared.faults.Wrong.{Wrong}
 use Rattle.words.specs.Name.{is_name, name_at}
 use Rattle.words.specs.Number.{hexadecimal, hex_at, number_at}
-use Rattle.words.specs.Parts.{Reader, in_turn, read_as, by_word, keyed, IsPart}
+use Rattle.words.specs.Parts.{PartReader, in_turn, read_as, by_word, keyed, IsPart}
 use Rattle.words.specs.Reading.{bind, ended_at, word_at}
 use Rattle.words.specs.Text.{IsPlainWord}
 use Rattle.words.proofs.TextLaws.{both}
@@ -49,7 +49,7 @@ name_part = record { takes = takes; again = name_again; plain = λ name is. (pla
       subst (λ t. (words ≡ t.0 ∷ t.1) × (is_name t.0 ≡ true)) same (read.words_are, read.is)
 
 -- one part after another
-pub both_parts : {X Y : Type 0} {one : Reader X} {other : Reader Y} {spell : X → List (List ℕ)} {spell_other : Y → List (List ℕ)}
+pub both_parts : {X Y : Type 0} {one : PartReader X} {other : PartReader Y} {spell : X → List (List ℕ)} {spell_other : Y → List (List ℕ)}
     {Is : X → Type 0} {IsOther : Y → Type 0} → IsPart one spell Is → IsPart other spell_other IsOther
     → IsPart (in_turn one other) (λ p. spell p.0 ++ spell_other p.1) (λ p. Is p.0 × IsOther p.1)
 unfolding in_turn bind
@@ -81,7 +81,7 @@ both_parts {X} {Y} {one} {other} {spell} {spell_other} {Is} {IsOther} first seco
         ∙ ap (λ r. bind r (λ b. Ok ((p.0, b.0), b.1))) (second.again p.1 rest is.1)
 
 -- a part as another type's value
-pub part_as : {X Y : Type 0} {read : Reader X} {spell : X → List (List ℕ)} {Is : X → Type 0} → IsPart read spell Is → (f : X → Y)
+pub part_as : {X Y : Type 0} {read : PartReader X} {spell : X → List (List ℕ)} {Is : X → Type 0} → IsPart read spell Is → (f : X → Y)
     (spell_as : Y → List (List ℕ)) (IsAs : Y → Type 0) → ((x : X) → spell_as (f x) ≡ spell x) → ((x : X) → Is x → IsAs (f x))
     → ((y : Y) → IsAs y → (x : X) × (f x ≡ y) × Is x) → IsPart (read_as f read) spell_as IsAs
 unfolding read_as bind
@@ -111,13 +111,13 @@ part_as {X} {Y} {read} {spell} {Is} part f spell_as IsAs same_words is of =
       (subst (AllByRecursion IsPlainWord) (sym (same_words x.0)) (part.plain x.0 x.2))
 
 -- a choice by a word: what is read after each word has to spell the word again
-abbrev pub IsChoice : {X : Type 0} → (X → List (List ℕ)) → (X → Type 0) → List ℕ × Reader X → Type 0
+abbrev pub IsChoice : {X : Type 0} → (X → List (List ℕ)) → (X → Type 0) → List ℕ × PartReader X → Type 0
 IsChoice {X} spell Is choice =
     (words : List (List ℕ)) (taken : X × List (List ℕ)) → choice.1 words ≡ Ok taken
     → (choice.0 ∷ words ≡ spell taken.0 ++ taken.1) × Is taken.0
 
 -- a part after its word
-pub after_word : {X Y : Type 0} {read : Reader X} {spell_part : X → List (List ℕ)} {IsX : X → Type 0} → IsPart read spell_part IsX
+pub after_word : {X Y : Type 0} {read : PartReader X} {spell_part : X → List (List ℕ)} {IsX : X → Type 0} → IsPart read spell_part IsX
     → (key : List ℕ) (f : X → Y) (spell : Y → List (List ℕ)) (Is : Y → Type 0) → ((x : X) → spell (f x) ≡ key ∷ spell_part x)
     → ((x : X) → IsX x → Is (f x)) → IsChoice spell Is (key, read_as f read)
 unfolding read_as
@@ -129,18 +129,18 @@ after_word {X} {Y} {read} {spell_part} part key f spell Is spelled is words take
     (ap (λ ws. key ∷ ws) of_part.0 ∙ ap (λ ws. ws ++ a.0.1) (sym (spelled a.0.0)), is a.0.0 of_part.1)
 
 -- a part as it is, after its word
-pub after_key : {X : Type 0} {read : Reader X} {spell_part : X → List (List ℕ)} {Is : X → Type 0} → IsPart read spell_part Is
+pub after_key : {X : Type 0} {read : PartReader X} {spell_part : X → List (List ℕ)} {Is : X → Type 0} → IsPart read spell_part Is
     → (key : List ℕ) → IsChoice (λ x. key ∷ spell_part x) Is (key, read)
 after_key part key words taken h =
     let of_part = part.takes words taken h in (ap (λ ws. key ∷ ws) of_part.0, of_part.1)
 
 -- and what it is spelled as is read as it
-pub read_as_again : {X Y : Type 0} {read : Reader X} {spell : X → List (List ℕ)} {Is : X → Type 0} → IsPart read spell Is
+pub read_as_again : {X Y : Type 0} {read : PartReader X} {spell : X → List (List ℕ)} {Is : X → Type 0} → IsPart read spell Is
     → (f : X → Y) (x : X) (rest : List (List ℕ)) → Is x → read_as f read (spell x ++ rest) ≡ Ok (f x, rest)
 unfolding read_as bind
 read_as_again part f x rest is = ap (λ r. bind r (λ a. Ok (f a.0, a.1))) (part.again x rest is)
 
-by_word_takes : {X : Type 0} (spell : X → List (List ℕ)) (Is : X → Type 0) (choices : List (List ℕ × Reader X))
+by_word_takes : {X : Type 0} (spell : X → List (List ℕ)) (Is : X → Type 0) (choices : List (List ℕ × PartReader X))
     → AllByRecursion (IsChoice spell Is) choices → (word : List ℕ) (words : List (List ℕ)) (taken : X × List (List ℕ))
     → by_word choices word words ≡ Ok taken → (word ∷ words ≡ spell taken.0 ++ taken.1) × Is taken.0
 unfolding by_word
@@ -156,7 +156,7 @@ by_word_takes {X} spell Is (choice ∷ choices) all word words taken h =
         subst (λ w. (w ∷ words ≡ spell taken.0 ++ taken.1) × Is taken.0) (sym (same.0 refl)) (all.0 words taken h)
     by_test false same later h = later h
 
-pub keyed_part : {X : Type 0} (spell : X → List (List ℕ)) (Is : X → Type 0) (choices : List (List ℕ × Reader X))
+pub keyed_part : {X : Type 0} (spell : X → List (List ℕ)) (Is : X → Type 0) (choices : List (List ℕ × PartReader X))
     → AllByRecursion (IsChoice spell Is) choices
     → ((x : X) (rest : List (List ℕ)) → Is x → keyed choices (spell x ++ rest) ≡ Ok (x, rest))
     → ((x : X) → Is x → AllByRecursion IsPlainWord (spell x)) → IsPart (keyed choices) spell Is
@@ -170,7 +170,7 @@ keyed_part {X} spell Is choices all again plain = record { takes = takes; again 
       (by_word_takes spell Is choices all read.word read.rest taken read.goes_on)
 
 -- words that begin with those of a value begin with those of no other
-pub part_once : {X : Type 0} {read : Reader X} {spell : X → List (List ℕ)} {Is : X → Type 0} → IsPart read spell Is
+pub part_once : {X : Type 0} {read : PartReader X} {spell : X → List (List ℕ)} {Is : X → Type 0} → IsPart read spell Is
     → (one other : X) (rest later : List (List ℕ)) → Is one → Is other → spell one ++ rest ≡ spell other ++ later
     → (one ≡ other) × (rest ≡ later)
 part_once {X} {read} part one other rest later this that same =
@@ -180,7 +180,7 @@ part_once {X} {read} part one other rest later this that same =
     (ap (λ (p : X × List (List ℕ)). p.0) both, ap (λ (p : X × List (List ℕ)). p.1) both)
 
 -- a line whose words are one part, and nothing after it
-pub alone_again : {X Y : Type 0} {read : Reader X} {spell : X → List (List ℕ)} {Is : X → Type 0} → IsPart read spell Is
+pub alone_again : {X Y : Type 0} {read : PartReader X} {spell : X → List (List ℕ)} {Is : X → Type 0} → IsPart read spell Is
     → (next : X → Result Y Wrong) (x : X) → Is x → bind (read (spell x)) (λ x. bind (ended_at x.1) (λ _. next x.0)) ≡ next x
 unfolding bind ended_at
 alone_again {X} {Y} {read} {spell} part next x is =
@@ -188,7 +188,7 @@ alone_again {X} {Y} {read} {spell} part next x is =
     ∙ ap (λ r. bind r (λ x. bind (ended_at x.1) (λ _. next x.0))) (part.again x [] is)
 
 -- a line whose words were one part, and nothing after it
-pub alone_takes : {X Y : Type 0} {read : Reader X} {spell : X → List (List ℕ)} {Is : X → Type 0} → IsPart read spell Is
+pub alone_takes : {X Y : Type 0} {read : PartReader X} {spell : X → List (List ℕ)} {Is : X → Type 0} → IsPart read spell Is
     → (next : X → Result Y Wrong) (words : List (List ℕ)) (y : Y) → bind (read words) (λ x. bind (ended_at x.1) (λ _. next x.0)) ≡ Ok y
     → (x : X) × (words ≡ spell x) × Is x × (next x ≡ Ok y)
 alone_takes {X} {Y} {read} {spell} {Is} part next words y h =

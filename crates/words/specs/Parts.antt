@@ -9,35 +9,35 @@ use Rattle.words.specs.Reading.{bind, ◌>>=◌, word_at}
 use Rattle.words.specs.Text.{IsPlainWord}
 
 -- what reads a value off the words that are left, and says which words are left after it
-abbrev pub Reader : Type 0 → Type 0
-Reader X = List (List ℕ) → Result (X × List (List ℕ)) Wrong
+abbrev pub PartReader : Type 0 → Type 0
+PartReader X = List (List ℕ) → Result (X × List (List ℕ)) Wrong
 
 -- one part, and then another
-unfoldable pub in_turn : {X Y : Type 0} → Reader X → Reader Y → Reader (X × Y)
+unfoldable pub in_turn : {X Y : Type 0} → PartReader X → PartReader Y → PartReader (X × Y)
 in_turn one other words = do
   first ← one words
   second ← other first.1
   Ok ((first.0, second.0), second.1)
 
 -- a part as a value of another type
-unfoldable pub read_as : {X Y : Type 0} → (X → Y) → Reader X → Reader Y
+unfoldable pub read_as : {X Y : Type 0} → (X → Y) → PartReader X → PartReader Y
 read_as f part words = do
   read ← part words
   Ok (f read.0, read.1)
 
 -- what follows a word, by the first of these words that it is
-unfoldable pub by_word : {X : Type 0} → List (List ℕ × Reader X) → List ℕ → Reader X
+unfoldable pub by_word : {X : Type 0} → List (List ℕ × PartReader X) → List ℕ → PartReader X
 by_word [] word words = Err Syntax
 by_word (choice ∷ choices) word words = if bytes_eq word choice.0 then choice.1 words else by_word choices word words
 
 -- one of these words, and then what follows it
-unfoldable pub keyed : {X : Type 0} → List (List ℕ × Reader X) → Reader X
+unfoldable pub keyed : {X : Type 0} → List (List ℕ × PartReader X) → PartReader X
 keyed choices words = do
   word ← word_at words
   by_word choices word.0 word.1
 
 -- reading and spelling are one another's inverse, for the values that can be spelled; what they spell are plain words
-pub record IsPart {X : Type 0} (read : Reader X) (spell : X → List (List ℕ)) (Is : X → Type 0) : Type 0 where
+pub record IsPart {X : Type 0} (read : PartReader X) (spell : X → List (List ℕ)) (Is : X → Type 0) : Type 0 where
   pub takes :
       (words : List (List ℕ)) (taken : X × List (List ℕ)) → read words ≡ Ok taken
       → (words ≡ spell taken.0 ++ taken.1) × Is taken.0
