@@ -3,6 +3,7 @@ pub mod SlotLaws
 mod StepLaws
 mod PolicyLaws
 mod NameLaws
+mod Written
 mod TableLines
 mod LineLaws
 mod ObjectLines

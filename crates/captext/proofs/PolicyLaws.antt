@@ -1,13 +1,13 @@
 -- What a policy that was read says of its text, and that the text of each policy is read back.
-use Rattle.std.proofs.Common.{◌≡◌, ℕ, ◌-◌, ◌==◌, ◌&&◌, ◌||◌, ◌↔◌, Bool, true, false, not, nat_lt, List, [], ◌∷◌, ◌++◌, map, length, codes, Option, Some, None, Result, Ok, Err, IfOk, IfSome, refl, sym, ap, subst, ◌∙◌, arith, append_assoc}
+use Rattle.std.proofs.Common.{◌≡◌, ℕ, ◌-◌, ◌==◌, ◌&&◌, ◌||◌, ◌↔◌, Bool, true, false, not, nat_lt, List, [], ◌∷◌, ◌++◌, length, codes, Option, Some, None, Result, Ok, IfSome, refl, sym, ap, subst, ◌∙◌, arith}
 use Rattle.std.specs.declared.cmp.Ordering.TheVariants.{Less, Equal, Greater}
 use Rattle.std.specs.declared.cmp.Ordering.{Ordering}
 use Rattle.std.specs.Bool.{⊤}
-use Rattle.std.specs.List.{AllByRecursion}
 use Rattle.std.specs.Ordering.{is_lt, nat_cmp, ordering_then}
 use Rattle.std.specs.List.Sorted.{IsStrictlySortedBy}
 use Rattle.std.proofs.lemmas.Bool.Decides.{nat_tests}
-use Rattle.std.proofs.lemmas.List.{append-nil, length_push, get_or_push}
+use Rattle.std.proofs.lemmas.List.{length_push, get_or_append_left, get_or_push}
+use Rattle.std.proofs.lemmas.Map.Keys.{Less-from_sorted}
 use Rattle.std.proofs.lemmas.Option.{slice_get-get_or}
 use Rattle.base.specs.declared.edge.Edge.{Edge}
 use Rattle.base.specs.declared.kind.Kind.{Kind}
@@ -15,22 +15,20 @@ use Rattle.base.specs.declared.kind.Kind.TheVariants.{Control}
 use Rattle.base.specs.Kinds.{kind_name, kind_named, kind_number}
 use Rattle.base.proofs.KindNames.{kind_is_named, kind_again}
 use Rattle.machine.specs.Layout.{Layout}
-use Rattle.policy.specs.Policy.{edge_cmp, last_edge, IsRising}
-use Rattle.policy.proofs.Order.{edge_total}
+use Rattle.policy.specs.Policy.{edge_cmp, last_edge, IsAboveLast, IsRising}
+use Rattle.policy.proofs.Edges.{gap_at_end, pushed, rising_added}
 use Rattle.table.specs.Names.{label_named}
 use Rattle.table.specs.Rules.{IsLawful}
-use Rattle.words.specs.declared.faults.Fault.{Fault}
-use Rattle.words.specs.declared.faults.Wrong.{Wrong}
 use Rattle.words.specs.declared.faults.Wrong.TheVariants as wrong
 use Rattle.words.specs.Name.{is_name, name_at}
 use Rattle.words.specs.Parts.{by_word, in_turn, keyed, IsPart}
-use Rattle.words.specs.Reading.{bind, word_at, or_syntax, steps, whole_lines, IsNotLast, Reads}
-use Rattle.words.specs.Text.{text_of, IsPlainLine}
+use Rattle.words.specs.Reading.{bind, word_at, or_syntax}
+use Rattle.words.specs.Text.{IsPlainLine}
+use Rattle.words.proofs.ListLaws.{IsListFormat, all_front, all_last, list_again, list_once, list_takes}
 use Rattle.words.proofs.Parts.{after_key, alone_again, alone_takes, both_parts, keyed_part, name_part}
-use Rattle.words.proofs.WordLaws.{plain_bytes, plain_lines, bind_ok, plain_name}
-use Rattle.words.proofs.TextReading.{whole_text_takes, whole_text_again}
-use Rattle.captext.specs.Tables.{demand}
-use Rattle.captext.specs.Policies.{kind_at, named_edge_at, may_follow, follows, with_edge, labelled_edge, edge_line, policy_format, read_policy_of}
+use Rattle.words.proofs.TextLaws.{both}
+use Rattle.words.proofs.WordLaws.{plain_bytes, plain_name}
+use Rattle.captext.specs.Policies.{kind_at, named_edge_at, may_follow, follows, with_edge, labelled_edge, edge_line, read_policy_of}
 use Rattle.captext.specs.PolicyText.{policy_header, label_name, edge_words, policy_text, IsEdgeOf, IsPolicyOf}
 use Rattle.captext.proofs.NameLaws.{label_takes, label_again, is_label_name}
 use Rattle.captext.proofs.StepLaws.{demand_then, value_then}
@@ -117,77 +115,46 @@ line_takes t edges words next h =
       grown = joins.1;
     }
 
--- edges that come after these: they rise, above the last of these
-record Continues (edges more : List Edge) : Type 0 where
-  above : IfSome (last_edge edges) (λ last. AllByRecursion (λ edge. edge_cmp last edge ≡ Less) more)
-  rising : IsRising more
+-- an edge above the last joins edges that rise, and where it joined them it is above their last
 
-last_push : (edges : List Edge) (edge : Edge) → last_edge (edges ++ edge ∷ []) ≡ Some edge
-last_push edges edge =
-    let size = length_push edges edge in
-    let at : length edges ≡ length (edges ++ edge ∷ []) - 1 = omega arith in
-    slice_get-get_or (edges ++ edge ∷ []) (length (edges ++ edge ∷ []) - 1) edge (omega arith)
-    ∙ ap (λ e. Some e) (get_or_push edges edge edge (length (edges ++ edge ∷ []) - 1) at)
-
-less_from_test : (order : Ordering) → is_lt order ≡ true → order ≡ Less
-less_from_test Less h = refl
-less_from_test Equal h = cc
-less_from_test Greater h = cc
-
--- what is above an edge is above those below it
-above_more : (last edge : Edge) (more : List Edge) → edge_cmp last edge ≡ Less
-    → AllByRecursion (λ other. edge_cmp edge other ≡ Less) more → AllByRecursion (λ other. edge_cmp last other ≡ Less) more
-above_more last edge [] less h = tt
-above_more last edge (next ∷ more) less h = (edge_total.trans last edge next less h.0, above_more last edge more less h.1)
-
-joins : (edges : List Edge) (edge : Edge) (more : List Edge) → follows (last_edge edges) edge ≡ true
-    → Continues (edges ++ edge ∷ []) more → Continues edges (edge ∷ more)
-unfolding IsStrictlySortedBy
-joins edges edge more above later = record { above = over (last_edge edges) above; rising = (rest, later.rising) }
+above_from_test : (last : Option Edge) (edge : Edge) → follows last edge ≡ true → IfSome last (λ last. edge_cmp last edge ≡ Less)
+above_from_test None edge passed = tt
+above_from_test (Some last) edge passed = less_from_test (edge_cmp last edge) passed
   where
-    rest : AllByRecursion (λ other. edge_cmp edge other ≡ Less) more
-    rest =
-        subst (λ last. IfSome last (λ last. AllByRecursion (λ other. edge_cmp last other ≡ Less) more))
-        (last_push edges edge) later.above
+    less_from_test : (order : Ordering) → is_lt order ≡ true → order ≡ Less
+    less_from_test Less h = refl
+    less_from_test Equal h = cc
+    less_from_test Greater h = cc
 
-    over : (last : Option Edge) → follows last edge ≡ true
-        → IfSome last (λ last. AllByRecursion (λ other. edge_cmp last other ≡ Less) (edge ∷ more))
-    over None passed = tt
-    over (Some last) passed = let less = less_from_test (edge_cmp last edge) passed in (less, above_more last edge more less rest)
+rising_push : (edges : List Edge) (edge : Edge) → IsRising edges → IsAboveLast edges edge → IsRising (edges ++ edge ∷ [])
+rising_push edges edge rising above =
+    let gap = gap_at_end edges edge rising above in
+    subst IsRising (pushed edges edge (length edges) rising gap above) (rising_added edges edge (length edges) rising gap)
 
--- lines that were steps from some edges to all: they are the lines of those that came
-record TakesLines (t : Layout) (edges : List Edge) (body : List (List (List ℕ))) (all : List Edge) : Type 0 where
-  more : List Edge
-  all_are : all ≡ edges ++ more
-  body_is : body ≡ map (edge_words t) more
-  within : AllByRecursion (IsEdgeOf t) more
-  continues : Continues edges more
-
-none_more : (edges : List Edge) → Continues edges []
+rising_front : (edges more : List Edge) → IsRising (edges ++ more) → IsRising edges
 unfolding IsStrictlySortedBy
-none_more edges = record { above = nothing (last_edge edges); rising = tt } where
-  nothing : (last : Option Edge) → IfSome last (λ last. AllByRecursion (λ edge. edge_cmp last edge ≡ Less) [])
-  nothing None = tt
-  nothing (Some last) = tt
+rising_front [] more rising = tt
+rising_front (edge ∷ edges) more rising = (all_front _ edges more rising.0, rising_front edges more rising.1)
 
-lines_take : (t : Layout) (edges : List Edge) (body : List (List (List ℕ))) (all : List Edge)
-    → steps (edge_line t) edges body ≡ Ok all → TakesLines t edges body all
-unfolding steps
-lines_take t edges [] all h =
-    let same : all ≡ edges = cc in
-    record { more = []; all_are = same ∙ sym (append-nil edges); body_is = refl; within = tt; continues = none_more edges }
-lines_take t edges (line ∷ body) all h =
-    let stepped = bind_ok (edge_line t edges line) _ all h in
-    let taken = line_takes t edges line stepped.0 stepped.1 in
-    let later = lines_take t stepped.0 body all stepped.2 in
-    record {
-      more = taken.edge ∷ later.more;
-      all_are = later.all_are ∙ ap (λ es. es ++ later.more) taken.grown ∙ append_assoc edges (taken.edge ∷ []) later.more;
-      body_is = ap (λ l. l ∷ body) taken.words_are ∙ ap (λ b. edge_words t taken.edge ∷ b) later.body_is;
-      within = (taken.within, later.within);
-      continues = joins edges taken.edge later.more taken.above
-          (subst (λ es. Continues es later.more) taken.grown later.continues);
-    }
+rising_last : (edges : List Edge) (edge : Edge) → IsRising (edges ++ edge ∷ []) → IsAboveLast edges edge
+rising_last [] edge rising = tt
+rising_last (first ∷ rest) edge rising =
+    let edges = first ∷ rest in
+    let k = length edges - 1 in
+    let less =
+    Less-from_sorted edge_cmp (edges ++ edge ∷ []) k (length edges) edge rising (omega arith) (rw length_push (omega arith)) in
+    let last = slice_get-get_or edges k edge (omega arith) in
+    rw last
+    (rw (get_or_append_left edges (edge ∷ []) edge k (omega arith), get_or_push edges edge edge (length edges) refl) at less)
+
+takes : (t : Layout) (edges : List Edge) (words : List (List ℕ)) (next : List Edge) → IsPolicyOf t edges
+    → edge_line t edges words ≡ Ok next
+    → (edge : Edge) × (words ≡ edge_words t edge) × (edges ++ edge ∷ [] ≡ next) × IsPolicyOf t next
+takes t edges words next is h =
+    let taken = line_takes t edges words next h in
+    let rises = rising_push edges taken.edge is.0 (above_from_test (last_edge edges) taken.edge taken.above) in
+    let within = both (IsEdgeOf t) edges (taken.edge ∷ []) is.1 (taken.within, tt) in
+    (taken.edge, taken.words_are, sym taken.grown, subst (IsPolicyOf t) (sym taken.grown) (rises, within))
 
 -- and its edges are read back
 
@@ -215,26 +182,6 @@ line_again t edges edge lawful within above =
     alone_again named_edge_part (labelled_edge t edges) (label_name t edge.from, (edge.kind, label_name t edge.to)) names
     ∙ rw (one, tests.0, other, tests.1) refl
 
-lines_again : (t : Layout) (edges more : List Edge) → IsLawful t → AllByRecursion (IsEdgeOf t) more → Continues edges more
-    → steps (edge_line t) edges (map (edge_words t) more) ≡ Ok (edges ++ more)
-unfolding steps bind IsStrictlySortedBy
-lines_again t edges [] lawful within continues = ap (λ es. Ok es) (sym (append-nil edges))
-lines_again t edges (edge ∷ more) lawful within continues =
-    let above : IfSome (last_edge edges) (λ last. edge_cmp last edge ≡ Less) = first (last_edge edges) continues.above in
-    let later : Continues (edges ++ edge ∷ []) more = record {
-      above = subst (λ last. IfSome last (λ last. AllByRecursion (λ other. edge_cmp last other ≡ Less) more))
-          (sym (last_push edges edge)) continues.rising.0;
-      rising = continues.rising.1;
-    } in
-    ap (λ r. bind r (λ next. steps (edge_line t) next (map (edge_words t) more))) (line_again t edges edge lawful within.0 above)
-    ∙ lines_again t (edges ++ edge ∷ []) more lawful within.1 later
-    ∙ ap (λ es. Ok es) (append_assoc edges (edge ∷ []) more)
-  where
-    first : (last : Option Edge) → IfSome last (λ last. AllByRecursion (λ other. edge_cmp last other ≡ Less) (edge ∷ more))
-        → IfSome last (λ last. edge_cmp last edge ≡ Less)
-    first None above = tt
-    first (Some last) above = above.0
-
 -- its words are plain
 
 plain_edge : (t : Layout) (edge : Edge) → IsLawful t → IsEdgeOf t edge → IsPlainLine (edge_words t edge)
@@ -243,61 +190,34 @@ plain_edge t edge lawful within =
     named_edge_part.plain (label_name t edge.from, (edge.kind, label_name t edge.to))
     (is_label_name t edge.from lawful within.0, (tt, is_label_name t edge.to lawful within.1))
 
-plain_policy : (t : Layout) (edges : List Edge) → IsLawful t → AllByRecursion (IsEdgeOf t) edges
-    → AllByRecursion IsPlainLine (whole_lines policy_header (map (edge_words t) edges))
-plain_policy t edges lawful within = (
-  (plain_bytes (codes "confine-policy") refl, (plain_bytes (codes "1") refl, tt)),
-  plain_lines (IsEdgeOf t) (edge_words t) (λ edge edge_within. plain_edge t edge lawful edge_within) edges within,
-)
+pub plain_header : IsPlainLine policy_header
+plain_header = (plain_bytes (codes "confine-policy") refl, (plain_bytes (codes "1") refl, tt))
 
--- none of its lines is the last
-none_last : (t : Layout) (edges : List Edge) → AllByRecursion IsNotLast (map (edge_words t) edges)
-none_last t [] = tt
-none_last t (edge ∷ edges) = (refl, none_last t edges)
+-- so a policy is a list of edges
 
--- the two laws
-
-pub read_is_policy : (t : Layout) (bytes : List ℕ) (edges : List Edge) → read_policy_of t bytes ≡ Ok edges
-    → IsPolicyOf t edges × (bytes ≡ policy_text t edges)
-unfolding read_policy_of
-read_is_policy t bytes edges h =
-    let text = whole_text_takes (policy_format t) edges bytes h in
-    let came : text.1 ≡ edges = cc (text.4) in
-    let lines = lines_take t [] text.0 edges (text.3 ∙ ap (λ es. Ok es) came) in
-    let same : lines.more ≡ edges = sym lines.all_are in (
-      (subst (λ es. IsRising es) same lines.continues.rising, subst (λ es. AllByRecursion (IsEdgeOf t) es) same lines.within),
-      text.2 ∙ ap (λ b. text_of (whole_lines policy_header b)) lines.body_is ∙ ap (λ es. policy_text t es) same,
-    )
+pub format : (t : Layout) → IsLawful t → IsListFormat (edge_words t) (edge_line t) (IsPolicyOf t)
+unfolding IsStrictlySortedBy
+format t lawful = record {
+  none = (tt, tt);
+  front = λ edges more is. (rising_front edges more is.0, all_front (IsEdgeOf t) edges more is.1);
+  takes = takes t;
+  again = λ edges edge is.
+      line_again t edges edge lawful (all_last (IsEdgeOf t) edges edge is.1) (rising_last edges edge is.0);
+  plain = λ edges edge is. (plain_edge t edge lawful (all_last (IsEdgeOf t) edges edge is.1), refl);
+}
 
 pub policy_is_read : (t : Layout) (bytes : List ℕ) (edges : List Edge) → IsLawful t → IsPolicyOf t edges
     → bytes ≡ policy_text t edges → read_policy_of t bytes ≡ Ok edges
 unfolding read_policy_of
-policy_is_read t bytes edges lawful is text =
-    let lines = lines_again t [] edges lawful is.1 (record { above = tt; rising = is.0 }) in
-    let plain = plain_policy t edges lawful is.1 in
-    whole_text_again (policy_format t) edges edges (map (edge_words t) edges) bytes plain (none_last t edges) lines refl text
-
--- and of what reads as a text does
-pub found : (t : Layout) (result : Result (List Edge) Fault) (bytes : List ℕ)
-    → Reads (λ edges. edges) result (read_policy_of t bytes)
-    → IfOk result (λ edges. IsPolicyOf t edges × (bytes ≡ policy_text t edges))
-found t (Ok edges) bytes exact = read_is_policy t bytes edges exact
-found t (Err fault) bytes exact = tt
-
-pub only : (t : Layout) (result : Result (List Edge) Fault) (bytes : List ℕ) → IsLawful t
-    → Reads (λ edges. edges) result (read_policy_of t bytes) → (edges : List Edge) → IsPolicyOf t edges
-    → bytes ≡ policy_text t edges → Reads (λ edges. edges) result (Ok edges)
-only t result bytes lawful exact edges is text =
-    subst (λ read. Reads (λ edges. edges) result read) (policy_is_read t bytes edges lawful is text) exact
+policy_is_read t bytes edges lawful is text = list_again (format t lawful) policy_header bytes edges plain_header is text
 
 pub policy_iff : (t : Layout) (bytes : List ℕ) (edges : List Edge) → IsLawful t
     → (read_policy_of t bytes ≡ Ok edges) ↔ (IsPolicyOf t edges × (bytes ≡ policy_text t edges))
-policy_iff t bytes edges lawful = (read_is_policy t bytes edges, λ h. policy_is_read t bytes edges lawful h.0 h.1)
+unfolding read_policy_of
+policy_iff t bytes edges lawful =
+    (list_takes (format t lawful) policy_header bytes edges, λ h. policy_is_read t bytes edges lawful h.0 h.1)
 
 -- different policies have different texts
 pub policy_once : (t : Layout) (one other : List Edge) → IsLawful t → IsPolicyOf t one → IsPolicyOf t other
     → policy_text t one ≡ policy_text t other → one ≡ other
-policy_once t one other lawful is_one is_other same =
-    let this = policy_is_read t (policy_text t one) one lawful is_one refl in
-    let that = policy_is_read t (policy_text t one) other lawful is_other same in
-    let both : ◌≡◌ {A = Result (List Edge) Fault} (Ok one) (Ok other) = sym this ∙ that in cc
+policy_once t one other lawful = list_once (format t lawful) policy_header one other plain_header

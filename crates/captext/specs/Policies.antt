@@ -12,7 +12,7 @@ use Rattle.words.specs.declared.faults.Wrong.{Wrong}
 use Rattle.words.specs.declared.faults.Wrong.TheVariants as wrong
 use Rattle.words.specs.Name.{name_at}
 use Rattle.words.specs.Parts.{PartReader, in_turn, keyed}
-use Rattle.words.specs.Reading.{◌>>=◌, as_read, word_at, ended_at, or_syntax, read_format, Format}
+use Rattle.words.specs.Reading.{◌>>=◌, list_format, word_at, ended_at, or_syntax, read_format, Format}
 use Rattle.words.specs.Text.{words_of, lines_of}
 use Rattle.captext.specs.Tables.{demand, value_or}
 
@@ -62,7 +62,7 @@ edge_line t edges words = do
 
 -- policies for the labels of a table, line by line
 abbrev pub policy_format : Layout → Format (List Edge) (List Edge)
-policy_format t = record { header = words_of (codes "confine-policy 1"); step = edge_line t; whole = as_read; start = [] }
+policy_format t = list_format (words_of (codes "confine-policy 1")) (edge_line t)
 
 -- the policy that a text spells for the labels of a table, or its first fault
 unfoldable pub read_policy_of : Layout → List ℕ → Result (List Edge) Fault

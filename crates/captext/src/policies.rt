@@ -15,7 +15,7 @@ use base::{Edge, Kind, Label};
 use policy::Policy;
 use std::alloc::Global;
 use table::Table;
-use words::{Fault, LineError, Lines, Words, Wrong};
+use words::{Fault, LineError, Reader, Words, Wrong, read_text};
 
 /// The next word as a kind of authority.
 #[tactic(auto, unfolding(crate::specs::Policies::kind_at, words::specs::Reading::word_at, words::specs::Reading::or_syntax, words::specs::Reading::bind))]
@@ -129,23 +129,35 @@ pub fn read_policy(alloc: Global, text: &[u8], table: &Table) -> Result<Policy, 
 }
 
 /// Reads the text of a policy, by the definition alone.
-#[tactic(auto, using(words::proofs::ReadingLaws::begins, words::proofs::ReadingLaws::no_beginning, words::proofs::ReadingLaws::goes_on, words::proofs::ReadingLaws::stops_by, words::proofs::ReadingLaws::no_more, words::proofs::ReadingLaws::ends_well, words::proofs::ReadingLaws::ends_badly), unfolding(crate::specs::Policies::read_policy_of, words::specs::Reading::bind))]
+#[tactic(auto, unfolding(crate::specs::Policies::read_policy_of))]
 fn edges_of(alloc: Global, text: &[u8], table: &Table) -> Result<Policy, Fault>
     ensures { Reads (λ policy. policy) result (policies.read_policy_of table.now text.now) }
 {
-    let mut lines = Lines::new(text);
-    lines.header(b"confine-policy 1")?;
-    let mut policy = Policy::new(alloc);
-    while let Some(mut words) = lines.next_line() {
-        if words.is(b"end") {
-            lines.end()?;
-            return Ok(policy);
-        }
-        if let Err(error) = edge_line(table, &mut policy, &mut words) {
-            return Err(lines.stopped(error));
-        }
+    let mut edges = Edges {
+        table,
+        policy: Policy::new(alloc),
+    };
+    read_text(&mut edges, b"confine-policy 1", text)?;
+    Ok(edges.policy)
+}
+
+/// The edges of the lines so far.
+#[derive(Drop)]
+struct Edges<'a> {
+    table: &'a Table,
+    policy: Policy,
+}
+
+impl<'a> Reader for Edges<'a> {
+    ghost Seen = { List EdgeOf };
+
+    ghost seen = { λ edges. edges.policy };
+
+    ghost step = { λ edges. policies.edge_line edges.table.now };
+
+    fn take_line(&mut self, words: &mut Words<'_>) -> Result<(), LineError> {
+        edge_line(self.table, &mut self.policy, words)
     }
-    Err(lines.after(Wrong::Syntax))
 }
 
 /// A law about the texts of policies for a table: a name is read as a label just where it is that
