@@ -175,9 +175,9 @@ line_again : (t : Layout) (edges : List Edge) (edge : Edge) → IsLawful t → I
 unfolding edge_line labelled_edge with_edge bind named_words
 line_again t edges edge lawful within above =
     let names : HasNames (label_name t edge.from, (edge.kind, label_name t edge.to)) =
-    (is_label_name t edge.from lawful within.0, (tt, is_label_name t edge.to lawful within.1)) in
-    let one = label_again t edge.from lawful within.0 in
-    let other = label_again t edge.to lawful within.1 in
+    (is_label_name t edge.from lawful.draft within.0, (tt, is_label_name t edge.to lawful.draft within.1)) in
+    let one = label_again t edge.from lawful.draft within.0 in
+    let other = label_again t edge.to lawful.draft within.1 in
     let tests = passes (last_edge edges) edge above in
     alone_again named_edge_part (labelled_edge t edges) (label_name t edge.from, (edge.kind, label_name t edge.to)) names
     ∙ rw (one, tests.0, other, tests.1) refl
@@ -188,7 +188,7 @@ plain_edge : (t : Layout) (edge : Edge) → IsLawful t → IsEdgeOf t edge → I
 unfolding named_words
 plain_edge t edge lawful within =
     named_edge_part.plain (label_name t edge.from, (edge.kind, label_name t edge.to))
-    (is_label_name t edge.from lawful within.0, (tt, is_label_name t edge.to lawful within.1))
+    (is_label_name t edge.from lawful.draft within.0, (tt, is_label_name t edge.to lawful.draft within.1))
 
 pub plain_header : IsPlainLine policy_header
 plain_header = (plain_bytes (codes "confine-policy") refl, (plain_bytes (codes "1") refl, tt))
