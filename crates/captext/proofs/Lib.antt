@@ -8,5 +8,6 @@ mod LineLaws
 mod ObjectLines
 mod CapLines
 mod CapTexts
+mod PairLines
 mod BindLines
 mod TableLaws

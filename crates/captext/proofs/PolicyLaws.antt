@@ -1,5 +1,5 @@
 -- What a policy that was read says of its text, and that the text of each policy is read back.
-use Rattle.std.proofs.Common.{◌≡◌, ℕ, ◌-◌, ◌==◌, ◌&&◌, ◌||◌, ◌↔◌, Bool, true, false, not, nat_lt, List, [], ◌∷◌, ◌++◌, map, length, codes, Option, Some, None, Result, Ok, Err, IfOk, IfSome, refl, sym, ap, subst, ◌∙◌, arith, append_assoc}
+use Rattle.std.proofs.Common.{◌≡◌, ℕ, ◌-◌, ◌==◌, ◌&&◌, ◌||◌, ◌↔◌, true, not, nat_lt, List, [], ◌∷◌, ◌++◌, map, length, codes, Option, Some, None, Result, Ok, Err, IfOk, IfSome, refl, sym, ap, subst, ◌∙◌, arith, append_assoc}
 use Rattle.std.specs.declared.cmp.Ordering.TheVariants.{Less, Equal, Greater}
 use Rattle.std.specs.declared.cmp.Ordering.{Ordering}
 use Rattle.std.specs.Bool.{⊤}
@@ -20,7 +20,6 @@ use Rattle.policy.proofs.Order.{edge_total}
 use Rattle.table.specs.Names.{label_named}
 use Rattle.table.specs.Rules.{IsLawful}
 use Rattle.words.specs.declared.faults.Fault.{Fault}
-use Rattle.words.specs.declared.faults.Wrong.{Wrong}
 use Rattle.words.specs.declared.faults.Wrong.TheVariants as wrong
 use Rattle.words.specs.Name.{is_name, name_at}
 use Rattle.words.specs.Parts.{by_word, in_turn, keyed, IsPart}
@@ -29,7 +28,6 @@ use Rattle.words.specs.Text.{text_of, IsPlainLine}
 use Rattle.words.proofs.Parts.{after_key, alone_again, alone_takes, both_parts, keyed_part, name_part}
 use Rattle.words.proofs.WordLaws.{plain_bytes, plain_lines, bind_ok, plain_name}
 use Rattle.words.proofs.TextReading.{whole_text_takes, whole_text_again}
-use Rattle.captext.specs.Tables.{demand}
 use Rattle.captext.specs.Policies.{kind_at, named_edge_at, may_follow, follows, with_edge, labelled_edge, edge_line, policy_format, read_policy_of}
 use Rattle.captext.specs.PolicyText.{policy_header, label_name, edge_words, policy_text, IsEdgeOf, IsPolicyOf}
 use Rattle.captext.proofs.NameLaws.{label_takes, label_again, is_label_name}
@@ -208,9 +206,9 @@ line_again : (t : Layout) (edges : List Edge) (edge : Edge) → IsLawful t → I
 unfolding edge_line labelled_edge with_edge bind named_words
 line_again t edges edge lawful within above =
     let names : HasNames (label_name t edge.from, (edge.kind, label_name t edge.to)) =
-    (is_label_name t edge.from lawful within.0, (tt, is_label_name t edge.to lawful within.1)) in
-    let one = label_again t edge.from lawful within.0 in
-    let other = label_again t edge.to lawful within.1 in
+    (is_label_name t edge.from lawful.draft within.0, (tt, is_label_name t edge.to lawful.draft within.1)) in
+    let one = label_again t edge.from lawful.draft within.0 in
+    let other = label_again t edge.to lawful.draft within.1 in
     let tests = passes (last_edge edges) edge above in
     alone_again named_edge_part (labelled_edge t edges) (label_name t edge.from, (edge.kind, label_name t edge.to)) names
     ∙ rw (one, tests.0, other, tests.1) refl
@@ -241,7 +239,7 @@ plain_edge : (t : Layout) (edge : Edge) → IsLawful t → IsEdgeOf t edge → I
 unfolding named_words
 plain_edge t edge lawful within =
     named_edge_part.plain (label_name t edge.from, (edge.kind, label_name t edge.to))
-    (is_label_name t edge.from lawful within.0, (tt, is_label_name t edge.to lawful within.1))
+    (is_label_name t edge.from lawful.draft within.0, (tt, is_label_name t edge.to lawful.draft within.1))
 
 plain_policy : (t : Layout) (edges : List Edge) → IsLawful t → AllByRecursion (IsEdgeOf t) edges
     → AllByRecursion IsPlainLine (whole_lines policy_header (map (edge_words t) edges))
