@@ -8,8 +8,9 @@ use Rattle.machine.specs.declared.object.ObjectKind.{ObjectKind}
 use Rattle.machine.specs.Capabilities.{kind_of_detail}
 use Rattle.machine.specs.Layout.{Layout, initial_of}
 use Rattle.machine.specs.Objects.{kind_of_object}
-use Rattle.table.specs.Building.{may_hold, is_for_untyped, has_cap_to, repeats_untyped, AdmitsCap, is_above_caps, declares_slot, is_fitting}
+use Rattle.table.specs.Building.{may_hold, has_cap_to, repeats_untyped, AdmitsCap, is_above_caps, declares_slot, is_fitting}
 use Rattle.table.specs.Rules.{kind_at}
+use Rattle.table.specs.Tree.{is_for_untyped}
 use Rattle.captext.specs.declared.shapes.Place.{Place}
 use Rattle.captext.specs.Tables.{is_untyped, is_claimed, may_fill, slot_in, capability}
 

@@ -1,8 +1,9 @@
 -- A line for a capability is read just where it is the line of a filled slot that the table takes next.
-use Rattle.std.proofs.Common.{◌≡◌, ℕ, ◌&&◌, Bool, true, false, not, cond, List, [], ◌∷◌, ◌++◌, codes, option_map, Option, Some, None, Result, Ok, Err, refl, sym, ap, subst, ◌∙◌}
-use Rattle.std.proofs.lemmas.Bool.{and_parts, not-true, lt-ltb, false≢true}
+use Rattle.std.proofs.Common.{◌≡◌, ℕ, ◌^◌, ◌<◌, ◌&&◌, Bool, true, false, not, cond, List, [], ◌∷◌, ◌++◌, codes, option_map, Option, Some, None, Result, Ok, Err, refl, sym, ap, subst, ◌∙◌}
+use Rattle.std.proofs.lemmas.Bool.{and_parts, and_from, not-true, lt-ltb, ltb-true, false≢true}
 use Rattle.base.specs.declared.ids.ObjId.{ObjId}
 use Rattle.base.specs.declared.ids.SlotRef.{SlotRef}
+use Rattle.base.specs.declared.rights.Rights.{Rights}
 use Rattle.machine.specs.declared.cap.Detail.{Detail}
 use Rattle.machine.specs.declared.layout.Initial.{Initial}
 use Rattle.machine.specs.declared.object.Object.{Object}
@@ -12,7 +13,7 @@ use Rattle.machine.specs.declared.object.ObjectKind.TheVariants as kind
 use Rattle.machine.specs.Capabilities.{kind_of_detail}
 use Rattle.machine.specs.Layout.{Layout, initial_of}
 use Rattle.machine.specs.Objects.{kind_of_object}
-use Rattle.table.specs.Building.{declares_slot, fits, fits_target, is_above_caps, is_fitting}
+use Rattle.table.specs.Building.{declares_slot, fits, fits_target, is_above_caps, is_badged, is_fitting}
 use Rattle.table.specs.Names.{object_named}
 use Rattle.table.specs.Items.{CapItem}
 use Rattle.table.specs.Rules.{kind_at}
@@ -28,7 +29,7 @@ use Rattle.captext.specs.declared.shapes.Term.TheVariants as term
 use Rattle.captext.specs.Shapes.{slot_of, slot_at, term_of, terms_from, terms_at}
 use Rattle.captext.specs.Spelling.{option_words, slot_word, term_word, AreTerms, IsPlace, IsTerm}
 use Rattle.captext.specs.Tables.{takes_caps, slot_in, rises, fits_holder, may_fill, is_claimed, is_plain, is_guard, detail_of, detail_for, capability, filled, cap_line}
-use Rattle.captext.specs.TableText.{object_name, place_in, slot_name, detail_words, cap_words, HasWordBadge}
+use Rattle.captext.specs.TableText.{object_name, place_in, slot_name, detail_words, cap_words}
 use Rattle.captext.proofs.Admits.{admits_cap}
 use Rattle.captext.proofs.LineLaws.{TakesItem, then_words, spelled_then, same_ok, caps_take}
 use Rattle.captext.proofs.NameLaws.{object_takes}
@@ -37,15 +38,15 @@ use Rattle.captext.proofs.StepLaws.{demand_then, value_then}
 
 -- a slot was taken
 
-record ReadsSlot {Y : Type 0} (f : (List ℕ × Place) × List (List ℕ) → Result Y Wrong) (words : List (List ℕ))
+pub record ReadsSlot {Y : Type 0} (f : (List ℕ × Place) × List (List ℕ) → Result Y Wrong) (words : List (List ℕ))
     (y : Y) : Type 0 where
-  name : List ℕ
-  at : Place
-  rest : List (List ℕ)
-  words_are : words ≡ slot_word name at ∷ rest
-  goes_on : f ((name, at), rest) ≡ Ok y
+  pub name : List ℕ
+  pub at : Place
+  pub rest : List (List ℕ)
+  pub words_are : words ≡ slot_word name at ∷ rest
+  pub goes_on : f ((name, at), rest) ≡ Ok y
 
-slot_then : {Y : Type 0} (f : (List ℕ × Place) × List (List ℕ) → Result Y Wrong) (words : List (List ℕ)) (y : Y)
+pub slot_then : {Y : Type 0} (f : (List ℕ × Place) × List (List ℕ) → Result Y Wrong) (words : List (List ℕ)) (y : Y)
     → bind (slot_at words) f ≡ Ok y → ReadsSlot f words y
 unfolding slot_at bind word_at or_syntax
 slot_then f [] y h = cc
@@ -103,35 +104,39 @@ record TakesDetail (object : Object) (terms : Option Term × Option Term) (detai
   fitting : fits object detail ≡ true
   kind_is : kind_of_object object ≡ kind_of_detail detail
   words_are : option_words terms.0 ++ option_words terms.1 ≡ detail_words detail
-  badge : HasWordBadge detail
 
 told : (object : Object) (terms : Option Term × Option Term) (made detail : Detail)
     → ◌≡◌ {A = Result Detail Wrong} (Ok made) (Ok detail) → fits object made ≡ true → kind_of_object object ≡ kind_of_detail made
-    → option_words terms.0 ++ option_words terms.1 ≡ detail_words made → HasWordBadge made → TakesDetail object terms detail
-told object terms made detail h fitting kind_is words_are badge =
+    → option_words terms.0 ++ option_words terms.1 ≡ detail_words made → TakesDetail object terms detail
+told object terms made detail h fitting kind_is words_are =
     subst (TakesDetail object terms) (same_ok made detail h)
-    (record { fitting = fitting; kind_is = kind_is; words_are = words_are; badge = badge })
+    (record { fitting = fitting; kind_is = kind_is; words_are = words_are })
 
 passed : (test : Bool) (made detail : Detail) (fault : Wrong) → cond test (Ok made) (Err fault) ≡ Ok detail
     → (test ≡ true) × (◌≡◌ {A = Result Detail Wrong} (Ok made) (Ok detail))
 passed true made detail fault h = (refl, h)
 passed false made detail fault h = cc
 
+badged_again : (rights : Rights) (badge all : ℕ) → rights.0 < all → badge < 2 ^ 64
+    → is_badged all (record { rights = rights; badge = badge }) ≡ true
+badged_again rights badge all few word = and_from _ _ (lt-ltb rights.0 all few) (lt-ltb badge (2 ^ 64) word)
+
 detail_takes : (object : Object) (terms : Option Term × Option Term) (detail : Detail) → AreTerms terms
     → detail_of object terms.0 terms.1 ≡ Ok detail → TakesDetail object terms detail
 detail_takes (o.CNode node) (Some (term.Decimal size), Some (term.Hexadecimal value)) detail is h =
-    let limit = passed (is_guard node.radix size value) _ detail wrong.Limit h in told _ _ _ detail limit.1 limit.0 refl refl tt
+    let limit = passed (is_guard node.radix size value) _ detail wrong.Limit h in told _ _ _ detail limit.1 limit.0 refl refl
 detail_takes (o.Endpoint _) (Some (term.Rights rights), Some (term.Decimal badge)) detail is h =
-    told _ _ _ detail h (lt-ltb rights.0 16 is.0) refl refl is.1
+    told _ _ _ detail h (badged_again rights badge 16 is.0 is.1) refl refl
 detail_takes (o.Notification _) (Some (term.Rights rights), Some (term.Decimal badge)) detail is h =
-    let plain = passed (is_plain rights) _ detail wrong.WrongKind h in told _ _ _ detail plain.1 plain.0 refl refl is.1
+    let plain = passed (is_plain rights) _ detail wrong.WrongKind h in
+    told _ _ _ detail plain.1 (badged_again rights badge 4 (ltb-true _ _ plain.0) is.1) refl refl
 detail_takes (o.Frame _) (Some (term.Rights rights), None) detail is h =
-    let plain = passed (is_plain rights) _ detail wrong.WrongKind h in told _ _ _ detail plain.1 plain.0 refl refl tt
-detail_takes (o.Untyped _) (None, None) detail is h = told _ _ _ detail h refl refl refl tt
-detail_takes (o.Tcb _) (None, None) detail is h = told _ _ _ detail h refl refl refl tt
-detail_takes (o.Reply _) (None, None) detail is h = told _ _ _ detail h refl refl refl tt
-detail_takes (o.Context _) (None, None) detail is h = told _ _ _ detail h refl refl refl tt
-detail_takes (o.Control _) (None, None) detail is h = told _ _ _ detail h refl refl refl tt
+    let plain = passed (is_plain rights) _ detail wrong.WrongKind h in told _ _ _ detail plain.1 plain.0 refl refl
+detail_takes (o.Untyped _) (None, None) detail is h = told _ _ _ detail h refl refl refl
+detail_takes (o.Tcb _) (None, None) detail is h = told _ _ _ detail h refl refl refl
+detail_takes (o.Reply _) (None, None) detail is h = told _ _ _ detail h refl refl refl
+detail_takes (o.Context _) (None, None) detail is h = told _ _ _ detail h refl refl refl
+detail_takes (o.Control _) (None, None) detail is h = told _ _ _ detail h refl refl refl
 detail_takes _ _ detail is h = cc
 
 -- a capability to an object of the table
@@ -140,7 +145,6 @@ pub record TakesCap (t : Layout) (target : ObjId) (terms : Option Term × Option
   pub fitting : is_fitting t (capability target detail) ≡ true
   pub kind_is : kind_at t target ≡ Some (kind_of_detail detail)
   pub words_are : option_words terms.0 ++ option_words terms.1 ≡ detail_words detail
-  pub badge : HasWordBadge detail
 
 pub target_takes : (t : Layout) (target : ObjId) (terms : Option Term × Option Term) (detail : Detail) → AreTerms terms
     → detail_for t target terms ≡ Ok detail → TakesCap t target terms detail
@@ -152,7 +156,6 @@ target_takes t target terms detail is h =
       fitting = ap (λ found. fits_target found detail) found.1 ∙ told.fitting;
       kind_is = ap (option_map (λ (initial : Initial). kind_of_object initial.object)) found.1 ∙ ap (λ k. Some k) told.kind_is;
       words_are = told.words_are;
-      badge = told.badge;
     }
 
 -- a place that fits its holder is the place of its slot
@@ -161,6 +164,11 @@ place_takes : (holder : Option ObjectKind) (id : ObjId) (at : Place) → fits_ho
 place_takes (Some kind.CNode) id (place.Index index) h = refl
 place_takes (Some kind.Tcb) id place.Root h = refl
 place_takes _ id _ h = absurd (false≢true h)
+
+-- so the words of a slot that was found are its own
+pub slot_spelled : (t : Layout) (name : List ℕ) (id : ObjId) (at : Place) → name ≡ object_name t id
+    → fits_holder (kind_at t id) at ≡ true → slot_word name at ≡ slot_name t (slot_in id at)
+slot_spelled t name id at named fits = λ i. slot_word (named i) (sym (place_takes (kind_at t id) id at fits) i)
 
 words_are :
     (t : Layout) (words rest more : List (List ℕ)) (first second : List ℕ) (slot : SlotRef) (target : ObjId) (detail : Detail)
@@ -179,7 +187,7 @@ cap_line_takes t words next h =
     let name = name_then _ slot.rest next slot.goes_on in
     let terms = bind_ok (terms_at name.rest) _ next name.goes_on in
     let are = terms_take name.rest terms.0 terms.1 in
-    let tests = demand_then (takes_caps t && rises t (object_named t slot.name) slot.at) wrong.Syntax _ next terms.2 in
+    let tests = demand_then (takes_caps t && rises (is_above_caps t) (object_named t slot.name) slot.at) wrong.Syntax _ next terms.2 in
     let parts = and_parts _ _ tests.0 in
     let holder = value_then (object_named t slot.name) wrong.UnknownName _ next tests.1 in
     let target = value_then (object_named t name.name) wrong.UnknownName _ next holder.2 in
@@ -191,17 +199,13 @@ cap_line_takes t words next h =
     let within = demand_then (declares_slot t (slot_in holder.0 slot.at)) wrong.Limit _ next detail.2 in
     let told = target_takes t target.0 terms.0 detail.0 are.1 detail.1 in
     let rising : is_above_caps t (slot_in holder.0 slot.at) ≡ true =
-    ap (λ found. rises t found slot.at) (sym holder.1) ∙ parts.1 in
-    let placed : place_in (kind_at t holder.0) (slot_in holder.0 slot.at).index ≡ slot.at =
-    place_takes (kind_at t holder.0) holder.0 slot.at (and_parts _ _ fills.0).0 in
-    let spelled : slot_word slot.name slot.at ≡ slot_name t (slot_in holder.0 slot.at) =
-    (λ i. slot_word (held.1 i) (sym placed i)) in (
+    ap (λ found. rises (is_above_caps t) found slot.at) (sym holder.1) ∙ parts.1 in
+    let spelled = slot_spelled t slot.name holder.0 slot.at held.1 (and_parts _ _ fills.0).0 in (
       CapItem (record { slot = slot_in holder.0 slot.at; cap = capability target.0 detail.0 }),
       record {
         now = caps_take t parts.0;
         admits = admits_cap t holder.0 slot.at target.0 detail.0
             rising within.0 fills.0 told.fitting told.kind_is (not-true _ once.0);
-        brought = told.badge;
         words_are = words_are t words slot.rest name.rest (slot_word slot.name slot.at) name.name
             (slot_in holder.0 slot.at) target.0 detail.0 slot.words_are spelled name.words_are aimed.1 (are.0 ∙ told.words_are);
         grown = same_ok _ _ within.1;

@@ -9,5 +9,6 @@ mod LineLaws
 mod ObjectLines
 mod CapLines
 mod CapTexts
+mod PairLines
 mod BindLines
 mod TableLaws

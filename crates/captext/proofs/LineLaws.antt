@@ -6,10 +6,10 @@ use Rattle.std.specs.Str.{bytes_eq}
 use Rattle.std.proofs.lemmas.Bool.{and_parts, and_from}
 use Rattle.std.proofs.lemmas.Slice.Eq.{bytes_eq-Decides}
 use Rattle.machine.specs.Layout.{Layout}
-use Rattle.table.specs.Items.{Item, BeforePairs, BeforeCaps, BeforeObjects}
+use Rattle.table.specs.Items.{Item, BeforeBindings, BeforePairs, BeforeCaps, BeforeObjects}
 use Rattle.words.specs.declared.faults.Wrong.{Wrong}
 use Rattle.words.specs.Reading.{bind, or_syntax}
-use Rattle.captext.specs.Tables.{is_nil, takes_caps, takes_objects, takes_labels}
+use Rattle.captext.specs.Tables.{is_nil, takes_pairs, takes_caps, takes_objects, takes_labels}
 use Rattle.captext.specs.TableText.{IsLineOf}
 
 -- a line was read: it adds an item
@@ -52,8 +52,11 @@ nil_takes (x ∷ xs) h = cc
 nil_again : {X : Type 0} (xs : List X) → xs ≡ [] → is_nil xs ≡ true
 nil_again xs none = ap is_nil none
 
+pub pairs_take : (t : Layout) → takes_pairs t ≡ true → BeforeBindings t
+pairs_take t h = nil_takes t.bindings h
+
 pub caps_take : (t : Layout) → takes_caps t ≡ true → BeforePairs t
-caps_take t h = let parts = and_parts _ _ h in (nil_takes t.pairs parts.0, nil_takes t.bindings parts.1)
+caps_take t h = let parts = and_parts _ _ h in (nil_takes t.pairs parts.0, pairs_take t parts.1)
 
 pub objects_take : (t : Layout) → takes_objects t ≡ true → BeforeCaps t
 objects_take t h = let parts = and_parts _ _ h in (nil_takes t.caps parts.0, caps_take t parts.1)
@@ -61,8 +64,11 @@ objects_take t h = let parts = and_parts _ _ h in (nil_takes t.caps parts.0, cap
 pub labels_take : (t : Layout) → takes_labels t ≡ true → BeforeObjects t
 labels_take t h = let parts = and_parts _ _ h in (nil_takes t.objects parts.0, objects_take t parts.1)
 
+pub pairs_again : (t : Layout) → BeforeBindings t → takes_pairs t ≡ true
+pairs_again t now = nil_again t.bindings now
+
 pub caps_again : (t : Layout) → BeforePairs t → takes_caps t ≡ true
-caps_again t now = and_from _ _ (nil_again t.pairs now.0) (nil_again t.bindings now.1)
+caps_again t now = and_from _ _ (nil_again t.pairs now.0) (pairs_again t now.1)
 
 pub objects_again : (t : Layout) → BeforeCaps t → takes_objects t ≡ true
 objects_again t now = and_from _ _ (nil_again t.caps now.0) (caps_again t now.1)

@@ -24,7 +24,7 @@ use Rattle.table.specs.Building.{AdmitsObject, is_free, repeats_control, with_la
 use Rattle.table.specs.Names.{label_named, object_named}
 use Rattle.table.specs.Items.{LabelItem, ObjectItem, BeforeCaps, BeforeObjects, Admits}
 use Rattle.table.specs.Placement.{is_aligned}
-use Rattle.table.specs.Rules.{IsAtRest, IsBlank, IsLawful, IsWithinLimits}
+use Rattle.table.specs.Rules.{IsAtRest, IsBlank, IsDraft, IsWithinLimits}
 use Rattle.words.specs.declared.faults.Wrong.{Wrong}
 use Rattle.words.specs.declared.faults.Wrong.TheVariants as wrong
 use Rattle.words.specs.Name.{is_name}
@@ -55,7 +55,6 @@ label_line_takes t words next h =
       record {
         now = labels_take t now.0;
         admits = record { spelled = name.is; fresh = not-true _ fresh.0; room = ltb-true _ _ room.0 };
-        brought = tt;
         words_are = ap (λ ws. codes "label" ∷ ws) (then_words name.words_are ended.0);
         grown = cc;
       },
@@ -96,10 +95,10 @@ heading_then t name label f y h =
       goes_on = ap f same ∙ read.2;
     }
 
-heading_again : (t : Layout) (name : List ℕ) (number : ℕ) → IsLawful t → BeforeCaps t → number < length t.labels
+heading_again : (t : Layout) (name : List ℕ) (number : ℕ) → IsDraft t → BeforeCaps t → number < length t.labels
     → is_some (object_named t name) ≡ false → heading t name (label_name t number) ≡ Ok number
 unfolding heading bind
-heading_again t name number lawful now within fresh = rw (objects_again t now, label_again t number lawful within, fresh) refl
+heading_again t name number draft now within fresh = rw (objects_again t now, label_again t number draft within, fresh) refl
 
 -- an object that the line spells is declared
 
@@ -128,7 +127,6 @@ declared_takes t name label object words next spelled now within fresh blank con
           aligned = lies.0;
           free = lies.1;
         };
-        brought = tt;
         words_are = words_are;
         grown = cc;
       },
@@ -365,16 +363,16 @@ object_line_takes kind t words next h =
     declared_takes t name.name head.number object.0 (object_kind_word kind ∷ words) next name.is head.now head.within head.fresh
     is.2 (not-true _ once.0) (λ i. object_kind_word (sym is.0 i) ∷ named i) once.1
 
-pub object_line_again : (t : Layout) (name : List ℕ) (initial : Initial) → IsLawful t → BeforeCaps t → AdmitsObject t name initial
+pub object_line_again : (t : Layout) (name : List ℕ) (initial : Initial) → IsDraft t → BeforeCaps t → AdmitsObject t name initial
     → object_line (kind_of_object initial.object) t (name ∷ label_name t initial.label ∷ content_words initial.object)
     ≡ Ok (with_initial t name initial)
 unfolding object_line bind
-object_line_again t name initial lawful now admits =
+object_line_again t name initial draft now admits =
     let words = content_words initial.object in
     rw (
       name_again name (label_name t initial.label ∷ words) admits.spelled,
-      name_again (label_name t initial.label) words (is_label_name t initial.label lawful admits.label),
+      name_again (label_name t initial.label) words (is_label_name t initial.label draft admits.label),
       object_again initial.object admits.blank admits.end,
-      heading_again t name initial.label lawful now admits.label admits.fresh,
+      heading_again t name initial.label draft now admits.label admits.fresh,
       admits.controls,
     ) (declared_again t name initial admits)

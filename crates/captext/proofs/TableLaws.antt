@@ -1,11 +1,12 @@
 -- What a table that was read says of its text, and that the text of each table is read back.
-use Rattle.std.proofs.Common.{◌≡◌, ◌↔◌, ℕ, ◌<◌, ◌≤◌, ◌^◌, Bool, true, false, cond, List, [], ◌∷◌, ◌++◌, codes, Option, Some, None, Result, Ok, Err, IfOk, refl, sym, ap, subst, ◌∙◌, arith, append_assoc}
+use Rattle.std.proofs.Common.{◌≡◌, ◌↔◌, ℕ, ◌<◌, ◌≤◌, ◌^◌, Bool, true, false, not, cond, length, List, [], ◌∷◌, ◌++◌, map, codes, Option, Some, None, Result, Ok, Err, IfOk, refl, sym, ap, subst, ◌∙◌, arith, append_assoc}
 use Rattle.std.specs.Bool.{⊤, Decides}
 use Rattle.std.specs.List.{AllByRecursion}
 use Rattle.std.specs.Str.{bytes_eq}
 use Rattle.std.proofs.lemmas.List.{append-nil}
-use Rattle.std.proofs.lemmas.List.Elements.{All-nil, All-push, All-pop}
+use Rattle.std.proofs.lemmas.List.Quantifiers.{position-Some}
 use Rattle.std.proofs.lemmas.Slice.Eq.{bytes_eq-Decides}
+use Rattle.base.specs.declared.ids.SlotRef.{SlotRef}
 use Rattle.base.specs.declared.limits.TheConstants.{ADDRESS_END}
 use Rattle.machine.specs.declared.layout.Filled.{Filled}
 use Rattle.machine.specs.declared.object.Object.{Object}
@@ -15,10 +16,12 @@ use Rattle.machine.specs.declared.object.ObjectKind.TheVariants as kind
 use Rattle.machine.specs.declared.object.Share.{Share}
 use Rattle.machine.specs.declared.thread.RunState.{RunState}
 use Rattle.machine.specs.declared.thread.RunState.TheVariants as run
-use Rattle.machine.specs.Layout.{Layout, empty_layout}
+use Rattle.machine.specs.Layout.{Layout, empty_layout, initial_of}
 use Rattle.machine.specs.Objects.{kind_of_object, end_of}
-use Rattle.table.specs.Items.{Item, LabelItem, ObjectItem, CapItem, BindingItem, Admits, ComesNow, IsBuiltUp, none, more, with_item}
-use Rattle.table.specs.Rules.{IsAtRest, IsBlank, IsLawful, IsWithinLimits}
+use Rattle.table.specs.Items.{Item, LabelItem, ObjectItem, CapItem, PairItem, BindingItem, Admits, ComesNow, IsBuiltUp, none, more, with_item}
+use Rattle.table.specs.Rules.{IsAtRest, IsBlank, IsDraft, IsLawful, IsWithinLimits, kind_at}
+use Rattle.table.specs.Tree.{is_kin, tree_fault, with_mark, with_originals}
+use Rattle.table.proofs.BuiltUp.{draft_from_built}
 use Rattle.words.specs.declared.faults.Fault.{Fault}
 use Rattle.words.specs.declared.faults.Wrong.{Wrong}
 use Rattle.words.specs.Reading.{bind, last_line, word_at, or_syntax, steps, whole_lines, IsNotLast, Reads}
@@ -28,14 +31,15 @@ use Rattle.words.proofs.TextReading.{whole_text_takes, whole_text_again}
 use Rattle.words.proofs.WordLaws.{bind_ok, word_then, plain_bytes, plain_decimal, plain_hexadecimal, plain_name}
 use Rattle.captext.specs.PolicyText.{label_name}
 use Rattle.captext.specs.Spelling.{object_kinds, object_kind_word}
-use Rattle.captext.specs.Tables.{object_line, object_kind_of, declaration, line_by, table_line, table_format, read_table_of}
-use Rattle.captext.specs.TableText.{table_header, start_word, share_words, content_words, object_name, item_words, table_lines, table_text, HasWordBadge, IsBroughtItem, IsBrought, IsLineOf}
+use Rattle.captext.specs.Tables.{object_line, object_kind_of, declaration, line_by, table_line, grown, grown_by, table_format, read_table_of}
+use Rattle.captext.specs.TableText.{table_header, start_word, share_words, content_words, object_name, cap_words, item_words, label_lines, object_lines, pair_lines, binding_lines, table_lines, table_text, IsLineOf}
 use Rattle.captext.proofs.BindLines.{bind_line_takes, bind_line_again, has_name}
 use Rattle.captext.proofs.CapLines.{cap_line_takes}
 use Rattle.captext.proofs.CapTexts.{cap_line_again, cap_plain}
 use Rattle.captext.proofs.LineLaws.{TakesItem, spelled_then, found_word}
 use Rattle.captext.proofs.NameLaws.{is_label_name, is_object_name}
 use Rattle.captext.proofs.ObjectLines.{label_line_takes, label_line_again, object_line_takes, object_line_again}
+use Rattle.captext.proofs.PairLines.{child_line_takes, child_line_again, pair_plain}
 use Rattle.captext.proofs.TableLines.{item_more}
 
 -- a line that is read is the line of an item
@@ -62,10 +66,11 @@ unfolding line_by declaration
 line_by_takes t next keyword words h =
     chosen t next keyword (codes "label") words _ _ h (label_line_takes t words next) (λ h.
     chosen t next keyword (codes "cap") words _ _ h (cap_line_takes t words next) (λ h.
+    chosen t next keyword (codes "child") words _ _ h (child_line_takes t words next) (λ h.
     chosen t next keyword (codes "bind") words _ _ h (bind_line_takes t words next) (λ h.
     let kind = spelled_then (object_kind_of keyword) _ next h in
     subst (λ k. TakesItem t (k ∷ words) next) (sym (kind_takes keyword kind.0 kind.1))
-    (object_line_takes kind.0 t words next kind.2))))
+    (object_line_takes kind.0 t words next kind.2)))))
 
 line_takes : (t : Layout) (words : List (List ℕ)) (next : Layout) → table_line t words ≡ Ok next → TakesItem t words next
 unfolding table_line
@@ -81,23 +86,24 @@ unfolding line_by declaration object_kind_of bind or_syntax
 kind_again kind.Untyped t words = refl
 kind_again _ t words = refl
 
-line_again : (t : Layout) (item : Item) → IsLawful t → ComesNow t item → Admits t item → IsBroughtItem item
+line_again : (t : Layout) (item : Item) → IsDraft t → ComesNow t item → Admits t item
     → table_line t (item_words t item) ≡ Ok (with_item t item)
 unfolding table_line line_by bind word_at
-line_again t (LabelItem name) lawful now admits here = label_line_again t name now admits
-line_again t (ObjectItem name initial) lawful now admits here =
-    kind_again (kind_of_object initial.object) t _ ∙ object_line_again t name initial lawful now admits
-line_again t (CapItem filled) lawful now admits here = cap_line_again t filled lawful now admits here
-line_again t (BindingItem binding) lawful now admits here = bind_line_again t binding lawful admits
+line_again t (LabelItem name) draft now admits = label_line_again t name now admits
+line_again t (ObjectItem name initial) draft now admits =
+    kind_again (kind_of_object initial.object) t _ ∙ object_line_again t name initial draft now admits
+line_again t (CapItem filled) draft now admits = cap_line_again t filled draft now admits
+line_again t (PairItem pair) draft now admits = child_line_again t pair draft now admits
+line_again t (BindingItem binding) draft now admits = bind_line_again t binding draft admits
 
 -- so a line is read just where it is the line of an item that the table takes next
 
-pub line_iff : (t : Layout) (words : List (List ℕ)) (next : Layout) → IsLawful t
+pub line_iff : (t : Layout) (words : List (List ℕ)) (next : Layout) → IsDraft t
     → (table_line t words ≡ Ok next) ↔ ((item : Item) × IsLineOf t words next item)
-line_iff t words next lawful = (line_takes t words next, again) where
+line_iff t words next draft = (line_takes t words next, again) where
   again : (item : Item) × IsLineOf t words next item → table_line t words ≡ Ok next
   again (item, is) =
-      ap (table_line t) is.words_are ∙ line_again t item lawful is.now is.admits is.brought ∙ ap (λ u. Ok u) is.grown
+      ap (table_line t) is.words_are ∙ line_again t item draft is.now is.admits ∙ ap (λ u. Ok u) is.grown
 
 -- the words of an item's line are plain, and it is not the last line
 
@@ -134,29 +140,29 @@ plain_kind : (kind : ObjectKind) → IsPlainWord (object_kind_word kind)
 plain_kind kind.Untyped = plain_bytes (codes "untyped") refl
 plain_kind kind = plain_bytes (object_kind_word kind) refl
 
-plain_item : (t : Layout) (item : Item) → IsLawful t → Admits t item → IsBroughtItem item
-    → IsPlainLine (item_words t item)
-plain_item t (LabelItem name) lawful admits here =
+plain_item : (t : Layout) (item : Item) → IsDraft t → Admits t item → IsPlainLine (item_words t item)
+plain_item t (LabelItem name) draft admits =
     (plain_bytes (codes "label") refl, (plain_name name admits.spelled, tt))
-plain_item t (ObjectItem name initial) lawful admits here = (
+plain_item t (ObjectItem name initial) draft admits = (
   plain_kind (kind_of_object initial.object),
   (
     plain_name name admits.spelled,
     (
-      plain_name (label_name t initial.label) (is_label_name t initial.label lawful admits.label),
+      plain_name (label_name t initial.label) (is_label_name t initial.label draft admits.label),
       plain_content initial.object admits.blank admits.end,
     ),
   ),
 )
-plain_item t (CapItem filled) lawful admits here = cap_plain t filled lawful admits here
-plain_item t (BindingItem binding) lawful admits here = (
+plain_item t (CapItem filled) draft admits = cap_plain t filled draft admits
+plain_item t (PairItem pair) draft admits = pair_plain t pair draft admits
+plain_item t (BindingItem binding) draft admits = (
   plain_bytes (codes "bind") refl,
   (
     plain_name (object_name t binding.thread)
-        (is_object_name t binding.thread lawful (has_name t binding.thread kind.Tcb lawful admits.thread)),
+        (is_object_name t binding.thread draft (has_name t binding.thread kind.Tcb draft admits.thread)),
     (
       plain_name (object_name t binding.context)
-          (is_object_name t binding.context lawful (has_name t binding.context kind.Context lawful admits.context)),
+          (is_object_name t binding.context draft (has_name t binding.context kind.Context draft admits.context)),
       tt,
     ),
   ),
@@ -171,58 +177,35 @@ not_last t (LabelItem name) = refl
 not_last t (ObjectItem name initial) =
     kind_not_last (kind_of_object initial.object) (name ∷ label_name t initial.label ∷ content_words initial.object)
 not_last t (CapItem filled) = refl
+not_last t (PairItem pair) = refl
 not_last t (BindingItem binding) = refl
 
--- tables whose badges are words, with and without their last item
-
-brought_more : (t : Layout) (item : Item) → IsBrought t → IsBroughtItem item → IsBrought (with_item t item)
-brought_more t (CapItem filled) brought here =
-    All-push (λ (filled : Filled). HasWordBadge filled.cap.detail) t.caps filled brought here
-brought_more t _ brought here = brought
-
-brought_front : (t : Layout) (item : Item) → IsBrought (with_item t item) → IsBrought t × IsBroughtItem item
-brought_front t (CapItem filled) brought =
-    All-pop (λ (filled : Filled). HasWordBadge filled.cap.detail) (t.caps ++ filled ∷ []) t.caps (Some filled) refl brought
-brought_front t _ brought = (brought, tt)
-
--- a law of tables: those that keep the rules are those that are built up item by item
-abbrev pub BuildLaw : Type 0
-BuildLaw = (t : Layout) → IsLawful t ↔ IsBuiltUp t
-
--- lines that were read build up a table, and are its lines
+-- lines that were read build up a draft, and are its lines
 
 record TakesLines (lines : List (List (List ℕ))) (all : Layout) : Type 0 where
   built : IsBuiltUp all
-  brought : IsBrought all
   lines_are : table_lines all ≡ lines
 
-lines_take : BuildLaw → (t : Layout) (front body : List (List (List ℕ))) (all : Layout) → TakesLines front t
+lines_take : (t : Layout) (front body : List (List (List ℕ))) (all : Layout) → TakesLines front t
     → steps table_line t body ≡ Ok all → TakesLines (front ++ body) all
 unfolding steps
-lines_take law t front [] all so_far h =
+lines_take t front [] all so_far h =
     let same : t ≡ all = cc in
-    subst (λ u. TakesLines (front ++ []) u) same (record {
-      built = so_far.built;
-      brought = so_far.brought;
-      lines_are = so_far.lines_are ∙ sym (append-nil front);
-    })
-lines_take law t front (line ∷ body) all so_far h =
+    subst (λ u. TakesLines (front ++ []) u) same
+    (record { built = so_far.built; lines_are = so_far.lines_are ∙ sym (append-nil front) })
+lines_take t front (line ∷ body) all so_far h =
     let stepped = bind_ok (table_line t line) (λ next. steps table_line next body) all h in
     let takes = line_takes t line stepped.0 stepped.1 in
-    let lawful = (law t).1 so_far.built in
+    let draft = (draft_from_built so_far.built).0 in
     let lines : table_lines (with_item t takes.0) ≡ front ++ line ∷ [] =
-    item_more t takes.0 lawful.each_named takes.1.now ∙ (λ i. so_far.lines_are i ++ sym takes.1.words_are i ∷ []) in
+    item_more t takes.0 draft.objects.named takes.1.now ∙ (λ i. so_far.lines_are i ++ sym takes.1.words_are i ∷ []) in
     let next : TakesLines (front ++ line ∷ []) stepped.0 =
     subst (λ u. TakesLines (front ++ line ∷ []) u) takes.1.grown
-    (record {
-      built = more takes.0 so_far.built takes.1.now takes.1.admits;
-      brought = brought_more t takes.0 so_far.brought takes.1.brought;
-      lines_are = lines;
-    }) in
+    (record { built = more takes.0 so_far.built takes.1.now takes.1.admits; lines_are = lines }) in
     subst (λ ls. TakesLines ls all) (append_assoc front (line ∷ []) body)
-    (lines_take law stepped.0 (front ++ line ∷ []) body all next stepped.2)
+    (lines_take stepped.0 (front ++ line ∷ []) body all next stepped.2)
 
--- and the lines of a table are read
+-- and the lines of a draft are read
 
 record ReadsLines (t : Layout) : Type 0 where
   stepped : steps table_line empty_layout (table_lines t) ≡ Ok t
@@ -240,78 +223,104 @@ steps_push s t (first ∷ lines) line h =
     let stepped = bind_ok (table_line s first) (λ next. steps table_line next lines) t h in
     ap (λ r. bind r (λ next. steps table_line next (lines ++ line ∷ []))) stepped.1 ∙ steps_push stepped.0 t lines line stepped.2
 
-lines_again : BuildLaw → {t : Layout} → IsBuiltUp t → IsBrought t → ReadsLines t
+lines_again : {t : Layout} → IsBuiltUp t → ReadsLines t
 unfolding steps
-lines_again law none brought = record { stepped = refl; plain = tt; none_last = tt }
-lines_again law (more {t} item built now admits) brought =
-    let front = brought_front t item brought in
-    let lawful = (law t).1 built in
-    let reads = lines_again law built front.0 in
-    let lines = item_more t item lawful.each_named now in
+lines_again none = record { stepped = refl; plain = tt; none_last = tt }
+lines_again (more {t} item built now admits) =
+    let draft = (draft_from_built built).0 in
+    let reads = lines_again built in
+    let lines = item_more t item draft.objects.named now in
     record {
       stepped = ap (λ ls. steps table_line empty_layout ls) lines
           ∙ steps_push empty_layout t (table_lines t) (item_words t item) reads.stepped
-          ∙ line_again t item lawful now admits front.1;
+          ∙ line_again t item draft now admits;
       plain = subst (AllByRecursion IsPlainLine) (sym lines)
-          (both IsPlainLine (table_lines t)
-          (item_words t item ∷ []) reads.plain (plain_item t item lawful admits front.1, tt));
+          (both IsPlainLine (table_lines t) (item_words t item ∷ []) reads.plain (plain_item t item draft admits, tt));
       none_last = subst (AllByRecursion IsNotLast) (sym lines)
           (both IsNotLast (table_lines t) (item_words t item ∷ []) reads.none_last (not_last t item, tt));
     }
 
+-- a draft becomes a table; its marks aren't spelled
+
+grown_takes : (draft t : Layout) → grown draft ≡ Ok t → (tree_fault (with_originals draft) ≡ None) × (t ≡ with_originals draft)
+unfolding grown
+grown_takes draft t h = by (tree_fault (with_originals draft)) refl h where
+  by : (fault : Option ℕ) → tree_fault (with_originals draft) ≡ fault → grown_by draft fault ≡ Ok t
+      → (tree_fault (with_originals draft) ≡ None) × (t ≡ with_originals draft)
+  by None is h = let same : t ≡ with_originals draft = cc in (is, same)
+  by (Some number) is h = cc
+
+-- the pair that breaks a rule is one of the draft's
+pub fault_within : (draft : Layout) (number : ℕ) → tree_fault (with_originals draft) ≡ Some number → number < length draft.pairs
+unfolding tree_fault
+fault_within draft number h =
+    let slot : SlotRef = record { holder = record { 0 = 0 }; index = 0 } in
+    (position-Some (λ pair. not (is_kin (with_originals draft) pair)) draft.pairs number
+    (record { parent = slot; child = slot }) h).0
+
+marked_lines : (t : Layout) → table_lines (with_originals t) ≡ table_lines t
+unfolding kind_at initial_of
+marked_lines t = ap (λ caps. label_lines t ++ (object_lines t ++ (caps ++ (pair_lines t ++ binding_lines t)))) (same t.caps) where
+  same : (caps : List Filled) → map (cap_words t) (map (with_mark t) caps) ≡ map (cap_words t) caps
+  same [] = refl
+  same (filled ∷ caps) = ap (λ lines. cap_words t filled ∷ lines) (same caps)
+
+-- a law of tables: those that keep the rules are the drafts that are built up item by item, marked, where the tree keeps its rules
+abbrev pub BuildLaw : Type 0
+BuildLaw =
+    (t : Layout) → IsLawful t
+    ↔ ((draft : Layout) × IsBuiltUp draft × (tree_fault (with_originals draft) ≡ None) × (t ≡ with_originals draft))
+
 -- the two laws
 
-pub read_is_table : BuildLaw → (bytes : List ℕ) (t : Layout) → read_table_of bytes ≡ Ok t
-    → IsLawful t × IsBrought t × (bytes ≡ table_text t)
+pub read_is_table : BuildLaw → (bytes : List ℕ) (t : Layout) → read_table_of bytes ≡ Ok t → IsLawful t × (bytes ≡ table_text t)
 unfolding read_table_of
 read_is_table law bytes t h =
     let text = whole_text_takes table_format t bytes h in
-    let came : text.1 ≡ t = cc (text.4) in
-    let lines =
-    lines_take law empty_layout [] text.0 t (record {
-      built = none;
-      brought = All-nil (λ (filled : Filled). HasWordBadge filled.cap.detail);
-      lines_are = refl;
-    }) (text.3 ∙ ap (λ s. Ok s) came) in
-    ((law t).1 lines.built, lines.brought, text.2 ∙ ap (λ body. text_of (whole_lines table_header body)) (sym lines.lines_are))
+    let lines = lines_take empty_layout [] text.0 text.1 (record { built = none; lines_are = refl }) text.3 in
+    let came = grown_takes text.1 t text.4 in
+    let same : table_lines t ≡ text.0 = ap table_lines came.1 ∙ marked_lines text.1 ∙ lines.lines_are in (
+      (law t).1 (text.1, lines.built, came.0, came.1),
+      text.2 ∙ ap (λ body. text_of (whole_lines table_header body)) (sym same),
+    )
 
-pub table_is_read : BuildLaw → (bytes : List ℕ) (t : Layout) → IsLawful t → IsBrought t → bytes ≡ table_text t
-    → read_table_of bytes ≡ Ok t
-unfolding read_table_of
-table_is_read law bytes t lawful brought text =
-    let lines = lines_again law ((law t).0 lawful) brought in
+pub table_is_read : BuildLaw → (bytes : List ℕ) (t : Layout) → IsLawful t → bytes ≡ table_text t → read_table_of bytes ≡ Ok t
+unfolding read_table_of grown
+table_is_read law bytes t lawful text =
+    let built = (law t).0 lawful in
+    let draft = built.0 in
+    let lines = lines_again built.1 in
     let last : AllByRecursion IsPlainLine (last_line ∷ []) = ((plain_bytes (codes "end") refl, tt), tt) in
-    let plain : AllByRecursion IsPlainLine (whole_lines table_header (table_lines t)) = (
+    let plain : AllByRecursion IsPlainLine (whole_lines table_header (table_lines draft)) = (
       (plain_bytes (codes "confine-table") refl, (plain_bytes (codes "1") refl, tt)),
-      both IsPlainLine (table_lines t) (last_line ∷ []) lines.plain last,
+      both IsPlainLine (table_lines draft) (last_line ∷ []) lines.plain last,
     ) in
-    whole_text_again table_format t t (table_lines t) bytes plain lines.none_last lines.stepped refl text
+    let came : grown draft ≡ Ok t = ap (grown_by draft) built.2 ∙ ap (λ u. Ok u) (sym built.3) in
+    let same : table_lines t ≡ table_lines draft = ap table_lines built.3 ∙ marked_lines draft in
+    whole_text_again table_format draft t (table_lines draft) bytes plain lines.none_last lines.stepped came
+    (text ∙ ap (λ body. text_of (whole_lines table_header body)) same)
 
-pub table_iff : BuildLaw → (bytes : List ℕ) (t : Layout)
-    → (read_table_of bytes ≡ Ok t) ↔ (IsLawful t × IsBrought t × (bytes ≡ table_text t))
-table_iff law bytes t = (read_is_table law bytes t, λ h. table_is_read law bytes t h.0 h.1 h.2)
+pub table_iff : BuildLaw → (bytes : List ℕ) (t : Layout) → (read_table_of bytes ≡ Ok t) ↔ (IsLawful t × (bytes ≡ table_text t))
+table_iff law bytes t = (read_is_table law bytes t, λ h. table_is_read law bytes t h.0 h.1)
 
 -- different tables have different texts
-pub table_once : BuildLaw → (one other : Layout) → IsLawful one → IsBrought one → IsLawful other → IsBrought other
-    → table_text one ≡ table_text other → one ≡ other
-table_once law one other is_one brought is_other brought_other same =
+pub table_once : BuildLaw → (one other : Layout) → IsLawful one → IsLawful other → table_text one ≡ table_text other → one ≡ other
+table_once law one other is_one is_other same =
     let both : ◌≡◌ {A = Result Layout Fault} (Ok one) (Ok other) =
-    sym (table_is_read law (table_text one) one is_one brought refl)
-    ∙ table_is_read law (table_text one) other is_other brought_other same in
+    sym (table_is_read law (table_text one) one is_one refl) ∙ table_is_read law (table_text one) other is_other same in
     cc
 
 -- and of what reads as a text does
 
 abbrev pub TextLaw : Type 0
-TextLaw = (bytes : List ℕ) (t : Layout) → (read_table_of bytes ≡ Ok t) ↔ (IsLawful t × IsBrought t × (bytes ≡ table_text t))
+TextLaw = (bytes : List ℕ) (t : Layout) → (read_table_of bytes ≡ Ok t) ↔ (IsLawful t × (bytes ≡ table_text t))
 
-pub found : {X : Type 0} (view : X → Layout) (result : Result X Fault) (bytes : List ℕ) → TextLaw
-    → Reads view result (read_table_of bytes) → IfOk result (λ x. IsBrought (view x) × (bytes ≡ table_text (view x)))
-found view (Ok x) bytes law exact = let read = (law bytes (view x)).0 exact in (read.1, read.2)
-found view (Err fault) bytes law exact = tt
+pub found : (result : Result Layout Fault) (bytes : List ℕ) → TextLaw → Reads (λ t. t) result (read_table_of bytes)
+    → IfOk result (λ t. bytes ≡ table_text t)
+found (Ok t) bytes law exact = ((law bytes t).0 exact).1
+found (Err fault) bytes law exact = tt
 
-pub only : {X : Type 0} (view : X → Layout) (result : Result X Fault) (bytes : List ℕ) → TextLaw
-    → Reads view result (read_table_of bytes) → (t : Layout) → IsLawful t → IsBrought t → bytes ≡ table_text t
-    → Reads view result (Ok t)
-only view result bytes law exact t lawful brought text =
-    subst (λ read. Reads view result read) ((law bytes t).1 (lawful, brought, text)) exact
+pub only : (result : Result Layout Fault) (bytes : List ℕ) → TextLaw → Reads (λ t. t) result (read_table_of bytes)
+    → (t : Layout) → IsLawful t → bytes ≡ table_text t → Reads (λ t. t) result (Ok t)
+only result bytes law exact t lawful text =
+    subst (λ read. Reads (λ t. t) result read) ((law bytes t).1 (lawful, text)) exact

@@ -1,6 +1,6 @@
 -- The text of a capability table: a header, a line for each label, object, filled slot, pair of the derivation tree and binding,
 -- and `end` (confine's own; what it says is a system's initial state, seL4 manual, "Bootstrapping").
-use Rattle.std.specs.Prelude.{⊤, ◌≡◌, ℕ, ◌<◌, ◌^◌, List, [], ◌∷◌, ◌++◌, map, codes, Option, Some, None, slice_index_or, All}
+use Rattle.std.specs.Prelude.{◌≡◌, ℕ, List, [], ◌∷◌, ◌++◌, map, codes, Option, Some, None, slice_index_or}
 use Rattle.std.specs.Fmt.{decimal}
 use Rattle.std.specs.List.{zip}
 use Rattle.base.specs.declared.ids.ObjId.{ObjId}
@@ -21,7 +21,7 @@ use Rattle.machine.specs.declared.thread.RunState.{RunState}
 use Rattle.machine.specs.declared.thread.RunState.TheVariants as run
 use Rattle.machine.specs.Layout.{Layout}
 use Rattle.machine.specs.Objects.{kind_of_object}
-use Rattle.table.specs.Items.{Item, LabelItem, ObjectItem, CapItem, BindingItem, Admits, ComesNow, with_item}
+use Rattle.table.specs.Items.{Item, LabelItem, ObjectItem, CapItem, PairItem, BindingItem, Admits, ComesNow, with_item}
 use Rattle.table.specs.Rules.{kind_at}
 use Rattle.words.specs.Number.{hexadecimal}
 use Rattle.words.specs.Reading.{whole_lines}
@@ -106,6 +106,7 @@ abbrev pub item_words : Layout → Item → List (List ℕ)
 item_words t (LabelItem name) = label_words name
 item_words t (ObjectItem name initial) = object_words t name initial
 item_words t (CapItem filled) = cap_words t filled
+item_words t (PairItem pair) = pair_words t pair
 item_words t (BindingItem binding) = binding_words t binding
 
 -- the sections
@@ -133,27 +134,9 @@ table_lines t = label_lines t ++ (object_lines t ++ (cap_lines t ++ (pair_lines 
 abbrev pub table_text : Layout → List ℕ
 table_text t = text_of (whole_lines table_header (table_lines t))
 
--- the tables that have a text
-
--- a badge is a word of 64 bits
-abbrev pub HasWordBadge : Detail → Type 0
-HasWordBadge (d.Endpoint end) = end.badge < 2 ^ 64
-HasWordBadge (d.Notification end) = end.badge < 2 ^ 64
-HasWordBadge _ = ⊤
-
--- an item whose badge, if it has one, is a word
-abbrev pub IsBroughtItem : Item → Type 0
-IsBroughtItem (CapItem filled) = HasWordBadge filled.cap.detail
-IsBroughtItem _ = ⊤
-
--- badges are words
-abbrev pub IsBrought : Layout → Type 0
-IsBrought t = All (λ filled. HasWordBadge filled.cap.detail) t.caps
-
 -- a line adds an item: the table takes the item next, and the line is that item's
 pub record IsLineOf (t : Layout) (words : List (List ℕ)) (next : Layout) (item : Item) : Type 0 where
   pub now : ComesNow t item
   pub admits : Admits t item
-  pub brought : IsBroughtItem item
   pub words_are : words ≡ item_words t item
   pub grown : with_item t item ≡ next

@@ -22,16 +22,17 @@ use Rattle.machine.specs.declared.thread.RunState.{RunState}
 use Rattle.machine.specs.declared.thread.RunState.TheVariants as run
 use Rattle.machine.specs.Layout.{Layout, empty_layout, initial_of}
 use Rattle.machine.specs.Objects.{end_of}
-use Rattle.table.specs.Building.{declares_slot, has_cap_to, has_room, repeats_control, is_free, is_above_caps, is_above_bindings, is_bound, with_label, with_initial, with_filled, with_binding}
+use Rattle.table.specs.Building.{declares_slot, has_cap_to, has_room, repeats_control, is_free, is_above_caps, is_above_pairs, is_above_bindings, is_bound, with_label, with_initial, with_filled, with_pair, with_binding}
 use Rattle.table.specs.Names.{label_named, object_named}
 use Rattle.table.specs.Placement.{is_aligned}
 use Rattle.table.specs.Rules.{kind_at}
+use Rattle.table.specs.Tree.{tree_fault, with_originals}
 use Rattle.words.specs.declared.faults.Fault.{Fault}
 use Rattle.words.specs.declared.faults.Wrong.{Wrong}
 use Rattle.words.specs.declared.faults.Wrong.TheVariants as wrong
 use Rattle.words.specs.Name.{name_at}
 use Rattle.words.specs.Number.{dec_of, hex_at, number_at}
-use Rattle.words.specs.Reading.{◌>>=◌, as_read, word_at, ended_at, or_syntax, read_format, Format}
+use Rattle.words.specs.Reading.{◌>>=◌, word_at, ended_at, or_syntax, read_format, Format, Whole}
 use Rattle.words.specs.Text.{words_of, lines_of}
 use Rattle.captext.specs.declared.shapes.Place.{Place}
 use Rattle.captext.specs.declared.shapes.Place.TheVariants as place
@@ -58,11 +59,11 @@ is_nil (x ∷ xs) = false
 
 -- the sections come in the order label, object, cap, child, bind
 
-abbrev pub takes_bindings : Layout → Bool
-takes_bindings t = true
+abbrev pub takes_pairs : Layout → Bool
+takes_pairs t = is_nil t.bindings
 
 abbrev pub takes_caps : Layout → Bool
-takes_caps t = is_nil t.pairs && is_nil t.bindings
+takes_caps t = is_nil t.pairs && takes_pairs t
 
 abbrev pub takes_objects : Layout → Bool
 takes_objects t = is_nil t.caps && takes_caps t
@@ -217,10 +218,10 @@ slot_in holder at = record { holder = holder; index = index_of at } where
   index_of (place.Index index) = index
   index_of place.Root = 0
 
--- the slot rises above those that are filled; that of an unknown holder isn't compared
-abbrev pub rises : Layout → Option ObjId → Place → Bool
-rises t None at = true
-rises t (Some holder) at = is_above_caps t (slot_in holder at)
+-- the slot is above those before it; that of an unknown holder isn't compared
+abbrev pub rises : (SlotRef → Bool) → Option ObjId → Place → Bool
+rises is_above None at = true
+rises is_above (Some holder) at = is_above (slot_in holder at)
 
 -- a place fits its holder: an index a CNode, and the root slot a TCB
 abbrev pub fits_holder : Option ObjectKind → Place → Bool
@@ -307,10 +308,28 @@ cap_line t words = do
   slot ← slot_at words
   name ← name_at slot.1
   terms ← terms_at name.1
-  _ ← demand (takes_caps t && rises t (object_named t slot.0.0) slot.0.1) wrong.Syntax
+  _ ← demand (takes_caps t && rises (is_above_caps t) (object_named t slot.0.0) slot.0.1) wrong.Syntax
   holder ← named t slot.0.0
   target ← named t name.0
   filled t holder slot.0.1 target terms
+
+-- the capability in the slot of the first holder and place is the parent of that in the slot of the second
+unfoldable pub paired : Layout → ObjId × Place → ObjId × Place → Result Layout Wrong
+paired t parent child = do
+  _ ← demand (fits_holder (kind_at t parent.0) parent.1 && fits_holder (kind_at t child.0) child.1) wrong.WrongKind
+  _ ← demand (declares_slot t (slot_in parent.0 parent.1) && declares_slot t (slot_in child.0 child.1)) wrong.Limit
+  Ok (with_pair t (record { parent = slot_in parent.0 parent.1; child = slot_in child.0 child.1 }))
+
+-- child SLOT SLOT
+unfoldable pub child_line : Layout → List (List ℕ) → Result Layout Wrong
+child_line t words = do
+  parent ← slot_at words
+  child ← slot_at parent.1
+  _ ← ended_at child.1
+  _ ← demand (takes_pairs t && rises (is_above_pairs t) (object_named t child.0.0) child.0.1) wrong.Syntax
+  above ← named t parent.0.0
+  below ← named t child.0.0
+  paired t (above, parent.0.1) (below, child.0.1)
 
 -- the thread rises above those that are bound; an unknown name isn't compared
 abbrev pub thread_rises : Layout → Option ObjId → Bool
@@ -345,17 +364,31 @@ unfoldable pub line_by : List ℕ → Layout → List (List ℕ) → Result Layo
 line_by keyword t words =
     if bytes_eq keyword (codes "label") then label_line t words else
     (if bytes_eq keyword (codes "cap") then cap_line t words else
+    (if bytes_eq keyword (codes "child") then child_line t words else
     (if bytes_eq keyword (codes "bind") then bind_line t words else
-    declaration keyword t words))
+    declaration keyword t words)))
 
 unfoldable pub table_line : Layout → List (List ℕ) → Result Layout Wrong
 table_line t words = do
   keyword ← word_at words
   line_by keyword.0 t keyword.1
 
+-- the line of the pair of this number: the header, the labels, the objects and the capabilities come before the pairs
+abbrev pub pair_line : Layout → ℕ → ℕ
+pair_line t number = number + 2 + (length t.labels + length t.objects + length t.caps)
+
+-- the table where no pair breaks a rule of the derivation tree, else the fault of the first that does
+abbrev pub grown_by : Layout → Option ℕ → Whole Layout
+grown_by t None = Ok (with_originals t)
+grown_by t (Some number) = Err (pair_line t number, wrong.Tree)
+
+-- what the lines come to: the table with its capabilities marked, if its derivation tree keeps the rules
+unfoldable pub grown : Layout → Whole Layout
+grown t = grown_by t (tree_fault (with_originals t))
+
 -- tables, line by line
 abbrev pub table_format : Format Layout Layout
-table_format = record { header = words_of (codes "confine-table 1"); step = table_line; whole = as_read; start = empty_layout }
+table_format = record { header = words_of (codes "confine-table 1"); step = table_line; whole = grown; start = empty_layout }
 
 -- the capability table that a text spells, or its first fault
 unfoldable pub read_table_of : List ℕ → Result Layout Fault

@@ -11,102 +11,109 @@ use machine::{
     CNode, Context, Control, Endpoint, Frame, Inbox, Initial, Notification, Object, ObjectKind,
     Radix, Reply, ReplyState, RunState, Share, Tcb, Untyped,
 };
-use table::{Table, is_addressable, is_aligned};
+use table::{Draft, is_addressable, is_aligned};
 use words::{LineError, Words, Wrong, decimal_of};
 
 /// Reads `NAME`, after the word `label`.
 #[tactic(auto, unfolding(crate::specs::Tables::label_line, words::specs::Reading::bind))]
-pub fn label_line(table: &mut Table, words: &mut Words<'_>) -> Result<(), LineError>
-    ensures exact { GivesOrStops (λ _. table.new) result (text.label_line table.old words.old) }
-    ensures err { OnErr result (table.new ≡ table.old) }
+pub fn label_line(draft: &mut Draft, words: &mut Words<'_>) -> Result<(), LineError>
+    ensures exact { GivesOrStops (λ _. draft.new) result (text.label_line draft.old words.old) }
+    ensures err { OnErr result (draft.new ≡ draft.old) }
 {
     let name = words.name()?;
     words.end()?;
-    if !takes_labels(table) {
+    if !takes_labels(draft) {
         return Err(LineError::Text(Wrong::Syntax));
     }
-    if table.label_named(name).is_some() {
+    if draft.label_named(name).is_some() {
         return Err(LineError::Text(Wrong::Double));
     }
-    if table.label_count() >= usize::from(Label::COUNT) {
+    if draft.label_count() >= usize::from(Label::COUNT) {
         return Err(LineError::Text(Wrong::Limit));
     }
-    table.add_label(name)?;
+    draft.add_label(name)?;
     Ok(())
 }
 
 /// Whether a label may come now.
-fn takes_labels(table: &Table) -> bool
-    ensures { result ≡ text.takes_labels table.now }
+fn takes_labels(draft: &Draft) -> bool
+    ensures { result ≡ text.takes_labels draft.now }
 {
-    table.objects().is_empty() && takes_objects(table)
+    draft.objects().is_empty() && takes_objects(draft)
 }
 
 /// Whether an object may come now.
-fn takes_objects(table: &Table) -> bool
-    ensures { result ≡ text.takes_objects table.now }
+fn takes_objects(draft: &Draft) -> bool
+    ensures { result ≡ text.takes_objects draft.now }
 {
-    table.caps().is_empty() && takes_caps(table)
+    draft.caps().is_empty() && takes_caps(draft)
 }
 
 /// Whether a capability may come now.
-pub fn takes_caps(table: &Table) -> bool
-    ensures { result ≡ text.takes_caps table.now }
+pub fn takes_caps(draft: &Draft) -> bool
+    ensures { result ≡ text.takes_caps draft.now }
 {
-    table.pairs().is_empty() && table.bindings().is_empty()
+    draft.pairs().is_empty() && takes_pairs(draft)
+}
+
+/// Whether a pair of the derivation tree may come now.
+pub fn takes_pairs(draft: &Draft) -> bool
+    ensures { result ≡ text.takes_pairs draft.now }
+{
+    draft.bindings().is_empty()
 }
 
 /// The label of that name, where an object may come now and its name is new.
 #[tactic(auto, unfolding(crate::specs::Tables::heading, words::specs::Reading::bind))]
-fn heading(table: &Table, name: &str, label: &str) -> Result<Label, Wrong>
-    ensures exact { result ≡ text.heading table.now name.now label.now }
-    ensures within { IfOk result (λ label. label < length table.now.labels) }
-    ensures fresh { OnOk result (is_some (object_named table.now name.now) ≡ false) }
+fn heading(draft: &Draft, name: &str, label: &str) -> Result<Label, Wrong>
+    ensures exact { result ≡ text.heading draft.now name.now label.now }
+    ensures within { IfOk result (λ label. label < length draft.now.labels) }
+    ensures fresh { OnOk result (is_some (object_named draft.now name.now) ≡ false) }
 {
-    if !takes_objects(table) {
+    if !takes_objects(draft) {
         return Err(Wrong::Syntax);
     }
-    let label = table.label_named(label).ok_or(Wrong::UnknownName)?;
-    if table.object_named(name).is_some() {
+    let label = draft.label_named(label).ok_or(Wrong::UnknownName)?;
+    if draft.object_named(name).is_some() {
         return Err(Wrong::Double);
     }
     Ok(label)
 }
 
 /// Whether one object more is within the limits, and ends within the addresses that there are.
-fn is_within(table: &Table, object: &Object) -> bool
-    ensures { result ≡ text.is_within table.now object.now }
+fn is_within(draft: &Draft, object: &Object) -> bool
+    ensures { result ≡ text.is_within draft.now object.now }
 {
-    table.has_room(object) && is_addressable(object)
+    draft.has_room(object) && is_addressable(object)
 }
 
 /// Adds an object that is within the limits and where it may lie.
 #[tactic(auto, unfolding(crate::specs::Tables::declared, words::specs::Reading::bind))]
-fn declare(table: &mut Table, name: &str, label: Label, object: Object) -> Result<(), LineError>
+fn declare(draft: &mut Draft, name: &str, label: Label, object: Object) -> Result<(), LineError>
     requires spelled { is_name name.now ≡ true }
-    requires fresh { is_some (object_named table.old name.now) ≡ false }
-    requires label { label < length table.old.labels }
+    requires fresh { is_some (object_named draft.old name.now) ≡ false }
+    requires label { label < length draft.old.labels }
     requires blank { IsBlank object }
-    requires control { repeats_control table.old object ≡ false }
-    ensures exact { GivesOrStops (λ _. table.new) result (text.declared table.old name.now label object) }
-    ensures err { OnErr result (table.new ≡ table.old) }
+    requires control { repeats_control draft.old object ≡ false }
+    ensures exact { GivesOrStops (λ _. draft.new) result (text.declared draft.old name.now label object) }
+    ensures err { OnErr result (draft.new ≡ draft.old) }
 {
-    if !is_within(table, &object) {
+    if !is_within(draft, &object) {
         return Err(LineError::Text(Wrong::Limit));
     }
-    if !(is_aligned(&object) && table.is_free(&object)) {
+    if !(is_aligned(&object) && draft.is_free(&object)) {
         return Err(LineError::Text(Wrong::Misplaced));
     }
-    table.add_object(name, Initial { label, object })?;
+    draft.add_object(name, Initial { label, object })?;
     Ok(())
 }
 
 /// Whether the object is the control of a core that the table has the control of.
-fn repeats_control(table: &Table, object: &Object) -> bool
-    ensures { result ≡ repeats_control table.now object.now }
+fn repeats_control(draft: &Draft, object: &Object) -> bool
+    ensures { result ≡ repeats_control draft.now object.now }
 {
     match object {
-        Object::Control(control) => table.has_control(control.core),
+        Object::Control(control) => draft.has_control(control.core),
         _ => false,
     }
 }
@@ -114,12 +121,12 @@ fn repeats_control(table: &Table, object: &Object) -> bool
 /// Reads an object's `NAME LABEL` and its kind's own words, after the kind's word.
 #[tactic(auto, unfolding(crate::specs::Tables::object_line, words::specs::Reading::bind))]
 pub fn object_line(
-    table: &mut Table,
+    draft: &mut Draft,
     kind: ObjectKind,
     words: &mut Words<'_>,
 ) -> Result<(), LineError>
-    ensures exact { GivesOrStops (λ _. table.new) result (text.object_line kind table.old words.old) }
-    ensures err { OnErr result (table.new ≡ table.old) }
+    ensures exact { GivesOrStops (λ _. draft.new) result (text.object_line kind draft.old words.old) }
+    ensures err { OnErr result (draft.new ≡ draft.old) }
 {
     let name = words.name()?;
     let label = words.name()?;
@@ -127,14 +134,14 @@ pub fn object_line(
         Ok(object) => object,
         Err(wrong) => return Err(LineError::Text(wrong)),
     };
-    let label = heading(table, name, label)?;
+    let label = heading(draft, name, label)?;
     let Some(object) = object else {
         return Err(LineError::Text(Wrong::Limit));
     };
-    if repeats_control(table, &object) {
+    if repeats_control(draft, &object) {
         return Err(LineError::Text(Wrong::Double));
     }
-    declare(table, name, label, object)
+    declare(draft, name, label, object)
 }
 
 /// The object at boot that its kind's own words tell, if it is within the limits of the kind.

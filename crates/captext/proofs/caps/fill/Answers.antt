@@ -9,7 +9,7 @@ use Rattle.captext.proofs.caps.fill.Goals as goal
 
 pub add_cap-requires : goal.add_cap-requires
 add_cap-requires c =
-    let t = c.args.table.now in
+    let t = c.args.draft.now in
     let told = target_takes t c.args.target c.args.terms c.in_ok-detail.detail c.requires.spelled (sym c.in_ok-detail.ensures) in
     let once : is_claimed t c.args.target ≡ false = sym c.is_claimed.ensures ∙ c.if-is_claimed.false in
     let fills : may_fill (kind_at t c.args.holder) c.args.place (kind_at t c.args.target) ≡ true =

@@ -12,8 +12,8 @@ returns c =
     let read = c.table_of.ensures in
     record {
       exact = read;
-      found = found _ c.table_of.result c.args.text.now law read;
-      only = only _ c.table_of.result c.args.text.now law read;
+      found = found c.table_of.result c.args.text.now law read;
+      only = only c.table_of.result c.args.text.now law read;
       faults = faults _ table_format (lines_of c.args.text.now) c.table_of.result read;
       refused = refused_for _ table_format (lines_of c.args.text.now) c.table_of.result read;
     }
