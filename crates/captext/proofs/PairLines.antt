@@ -1,8 +1,6 @@
 -- A line for a pair of the derivation tree is read just where it is the line of a pair that the table takes next.
-use Rattle.std.proofs.Common.{◌≡◌, ℕ, ◌&&◌, true, List, [], ◌∷◌, codes, Some, Ok, refl, sym, ap, ◌∙◌}
+use Rattle.std.proofs.Common.{◌≡◌, ℕ, ◌&&◌, true, List, [], ◌∷◌, codes, Ok, refl, sym, ap, ◌∙◌}
 use Rattle.std.proofs.lemmas.Bool.{and_parts, and_from}
-use Rattle.base.specs.declared.ids.ObjId.{ObjId}
-use Rattle.base.specs.declared.ids.SlotRef.{SlotRef}
 use Rattle.machine.specs.declared.layout.Pair.{Pair}
 use Rattle.machine.specs.Layout.{Layout}
 use Rattle.table.specs.Building.{AdmitsPair, declares_slot, is_above_pairs, with_pair}
@@ -11,16 +9,14 @@ use Rattle.table.specs.Names.{object_named}
 use Rattle.table.specs.Rules.{IsDraft, kind_at}
 use Rattle.words.specs.declared.faults.Wrong.TheVariants as wrong
 use Rattle.words.specs.Reading.{bind, ended_at}
-use Rattle.words.specs.Text.{IsPlainLine, IsPlainWord}
+use Rattle.words.specs.Text.{IsPlainLine}
 use Rattle.words.proofs.WordLaws.{ended_then, plain_bytes}
-use Rattle.captext.specs.declared.shapes.Place.{Place}
-use Rattle.captext.specs.Shapes.{slot_at}
 use Rattle.captext.specs.Tables.{takes_pairs, slot_in, rises, fits_holder, paired, child_line}
-use Rattle.captext.specs.TableText.{object_name, place_in, slot_name, pair_words}
-use Rattle.captext.proofs.CapLines.{slot_then, slot_at_again, slot_spelled}
-use Rattle.captext.proofs.CapTexts.{placed, plain_slot}
+use Rattle.captext.specs.TableText.{slot_name, pair_words}
+use Rattle.captext.proofs.CapLines.{slot_then, slot_spelled}
+use Rattle.captext.proofs.CapTexts.{placed}
 use Rattle.captext.proofs.LineLaws.{TakesItem, then_words, same_ok, pairs_take, pairs_again}
-use Rattle.captext.proofs.NameLaws.{object_takes, object_again, is_object_name}
+use Rattle.captext.proofs.NameLaws.{object_takes}
 use Rattle.captext.proofs.StepLaws.{demand_then, value_then}
 
 pub child_line_takes : (t : Layout) (words : List (List ℕ)) (next : Layout) → child_line t words ≡ Ok next

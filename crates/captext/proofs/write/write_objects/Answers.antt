@@ -10,7 +10,7 @@ loop-id-preserved c =
     let own = c.objects-initial-items.ensures in
     let initial = c.initial-item.result in
     named_more (λ named. object_words t named.0 named.1) t.names t.objects c.loop-id.id [] initial _ _ _
-    own.lawful.each_named (omega (arith, ap length own.objects))
+    own.lawful.draft.objects.named (omega (arith, ap length own.objects))
     (c.initial-item.is ∙ ap (λ objects. get_or objects c.loop-id.id initial) own.objects)
     c.loop-id.invariant c.in_ok-write_object.ensures
 
@@ -19,4 +19,4 @@ returns c =
     let t = c.args.table.now in
     let own = c.objects-initial-items.ensures in
     named_all (λ named. object_words t named.0 named.1) t.names t.objects c.loop-id.id _ _
-    own.lawful.each_named (omega (arith, ap length own.objects)) c.loop-id.invariant
+    own.lawful.draft.objects.named (omega (arith, ap length own.objects)) c.loop-id.invariant
