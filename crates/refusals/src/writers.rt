@@ -38,11 +38,7 @@ fn writes_the_policy<R: Abort + AllocGlobal>(
     policy: &Policy,
     table: &Table,
 ) -> Result<(), Fail> {
-    let text = answered(
-        rt,
-        write_policy(rt.alloc(), policy, table),
-        NO_MEMORY,
-    );
+    let text = answered(rt, write_policy(rt.alloc(), policy, table), NO_MEMORY);
     lend(text, |text| are(rt, text, POLICY.as_bytes()))
 }
 

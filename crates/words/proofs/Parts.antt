@@ -87,28 +87,28 @@ pub part_as : {X Y : Type 0} {read : PartReader X} {spell : X → List (List ℕ
 unfolding read_as bind
 part_as {X} {Y} {read} {spell} {Is} part f spell_as IsAs same_words is of =
     record { takes = takes; again = again; plain = plain } where
-  takes : (words : List (List ℕ)) (taken : Y × List (List ℕ)) → read_as f read words ≡ Ok taken
-      → (words ≡ spell_as taken.0 ++ taken.1) × IsAs taken.0
-  takes words taken h =
-      let a = bind_ok (read words) _ taken h in
-      let of_part = part.takes words a.0 a.1 in
-      let same : (f a.0.0, a.0.1) ≡ taken = cc in
-      subst (λ t. (words ≡ spell_as t.0 ++ t.1) × IsAs t.0) same
-      (of_part.0 ∙ ap (λ ws. ws ++ a.0.1) (sym (same_words a.0.0)), is a.0.0 of_part.1)
+      takes : (words : List (List ℕ)) (taken : Y × List (List ℕ)) → read_as f read words ≡ Ok taken
+          → (words ≡ spell_as taken.0 ++ taken.1) × IsAs taken.0
+      takes words taken h =
+          let a = bind_ok (read words) _ taken h in
+          let of_part = part.takes words a.0 a.1 in
+          let same : (f a.0.0, a.0.1) ≡ taken = cc in
+          subst (λ t. (words ≡ spell_as t.0 ++ t.1) × IsAs t.0) same
+          (of_part.0 ∙ ap (λ ws. ws ++ a.0.1) (sym (same_words a.0.0)), is a.0.0 of_part.1)
 
-  again : (y : Y) (rest : List (List ℕ)) → IsAs y → read_as f read (spell_as y ++ rest) ≡ Ok (y, rest)
-  again y rest is_as =
-      let x = of y is_as in
-      ap (λ v. read_as f read (spell_as v ++ rest)) (sym x.1)
-      ∙ ap (λ ws. read_as f read (ws ++ rest)) (same_words x.0)
-      ∙ ap (λ r. bind r (λ a. Ok (f a.0, a.1))) (part.again x.0 rest x.2)
-      ∙ ap (λ v. Ok (v, rest)) x.1
+      again : (y : Y) (rest : List (List ℕ)) → IsAs y → read_as f read (spell_as y ++ rest) ≡ Ok (y, rest)
+      again y rest is_as =
+          let x = of y is_as in
+          ap (λ v. read_as f read (spell_as v ++ rest)) (sym x.1)
+          ∙ ap (λ ws. read_as f read (ws ++ rest)) (same_words x.0)
+          ∙ ap (λ r. bind r (λ a. Ok (f a.0, a.1))) (part.again x.0 rest x.2)
+          ∙ ap (λ v. Ok (v, rest)) x.1
 
-  plain : (y : Y) → IsAs y → AllByRecursion IsPlainWord (spell_as y)
-  plain y is_as =
-      let x = of y is_as in
-      subst (λ v. AllByRecursion IsPlainWord (spell_as v)) x.1
-      (subst (AllByRecursion IsPlainWord) (sym (same_words x.0)) (part.plain x.0 x.2))
+      plain : (y : Y) → IsAs y → AllByRecursion IsPlainWord (spell_as y)
+      plain y is_as =
+          let x = of y is_as in
+          subst (λ v. AllByRecursion IsPlainWord (spell_as v)) x.1
+          (subst (AllByRecursion IsPlainWord) (sym (same_words x.0)) (part.plain x.0 x.2))
 
 -- a choice by a word: what is read after each word has to spell the word again
 abbrev pub IsChoice : {X : Type 0} → (X → List (List ℕ)) → (X → Type 0) → List ℕ × PartReader X → Type 0

@@ -27,10 +27,10 @@ HasHeader header lines = (rest : TextLines) × (lines ≡ Some header ∷ rest)
 
 -- a text begins with its header and these lines, which are good: none is the line `end`, each is a step of the state before it
 pub record IsGoodUpTo {S T : Type 0} (f : Format S T) (lines : TextLines) (body : List Line) (state : S) (rest : TextLines) : Type 0
-    where
-  pub lines_are : lines ≡ ended (f.header ∷ body) ++ rest
-  pub inner : AllByRecursion (λ line. line ≢ last_line) body
-  pub stepped : steps f.step f.start body ≡ Ok state
+  where
+    pub lines_are : lines ≡ ended (f.header ∷ body) ++ rest
+    pub inner : AllByRecursion (λ line. line ≢ last_line) body
+    pub stepped : steps f.step f.start body ≡ Ok state
 
 -- a text without a fault: its lines up to `end` are good, what they give comes to a value, and nothing follows
 pub record IsText {S T : Type 0} (f : Format S T) (lines : TextLines) (value : T) : Type 0 where
