@@ -43,10 +43,10 @@ EMPTY_POLICY = "confine-policy 1\nend\n"
 SIGNAL = "1 2 signal 0"
 POLL = "0 3 poll 0"
 
-# All kinds of authority in the order of their numbers, but for schedcontrol.
+# All kinds of authority in the order of their numbers.
 KINDS = (
     "control reset send receive grant call notify await read write reply context "
-    "space derive runs holds"
+    "schedcontrol space derive runs holds"
 ).split()
 
 # A CNode of the tables of many objects has 2^5 slots. With 1,024 CNodes and 1,024 threads a table has
@@ -105,7 +105,7 @@ def table(objects):
 
 
 def table_policy():
-    """The policy that accepts those tables: the label may do everything to itself but schedcontrol."""
+    """The policy that accepts tables of one label: it may do everything to itself."""
     return text("confine-policy 1", [f"edge a {kind} a" for kind in KINDS])
 
 
@@ -122,4 +122,87 @@ def table_script(objects):
 
 def table_log(objects):
     signal, poll = table_events(objects)
+    return text("confine-log 1", [f"{signal} = done", f"{poll} = done word 1"])
+
+
+# The full tables: all nine kinds of object, nearly all slots filled, and a derivation tree. With 448 groups there are
+# 4,096 objects, 58,000 filled slots of 58,240, and 20,000 pairs. A CNode of them has 2^7 slots.
+FULL_RADIX = 7
+FULL_GUARD = 64 - FULL_RADIX
+FULL_SLOTS = 2**FULL_RADIX
+FULL_OBJECTS = 9
+# Slots of a group's CNode: those before ENDPOINT_SLOT hold its other objects and a spare, those behind it more for endpoints.
+NOTIFICATION_SLOT, ENDPOINT_SLOT = 7, 9
+
+
+def full_spares(groups):
+    """What only some groups have, by its name: untyped memory and the controls of cores."""
+    untypeds = [(f"u{i}", f"untyped u{i} a {0x8000000 + i * 0x1000:#x} 12") for i in range(groups * 3 // 28)]
+    controls = [(f"k{i}", f"control k{i} a {i}") for i in range(groups // 28)]
+    return untypeds + controls
+
+
+def full_objects(i):
+    """The nine objects of a group."""
+    yield f"cnode c{i} a {0x1000000 + i * 0x1000:#x} {FULL_RADIX}"
+    for t in (2 * i, 2 * i + 1):
+        yield f"tcb t{t} a {0x2000000 + t * 0x400:#x} ready"
+    yield f"endpoint e{i} a {0x3000000 + i * 0x10:#x}"
+    yield f"notification n{i} a {0x4000000 + i * 0x20:#x}"
+    yield f"reply p{i} a {0x5000000 + i * 0x20:#x}"
+    for x in (2 * i, 2 * i + 1):
+        yield f"context x{x} a {0x6000000 + x * 0x100:#x} {x % CORES} 10 10"
+    yield f"frame f{i} a {0x7000000 + i * 0x1000:#x}"
+
+
+def full_caps(i, groups, spare):
+    """The capabilities of a group: in its CNode 127 or 128, and two roots.
+
+    Every second one behind the endpoint's is for the endpoint of the next group, so that pairs lead from CNode to CNode.
+    """
+    t, u = 2 * i, 2 * i + 1
+    own = [f"c{i} {FULL_GUARD} 0x0", f"t{t}", f"t{u}", f"p{i}", f"x{t}", f"x{u}", f"f{i} rw", f"n{i} rw 1", spare]
+    yield from (f"cap c{i}.{slot} {what}" for slot, what in enumerate(own))
+    yield f"cap c{i}.{ENDPOINT_SLOT} e{i} rwgy 0"
+    for slot in range(ENDPOINT_SLOT + 1, FULL_SLOTS if i % 28 < 13 else FULL_SLOTS - 1):
+        yield f"cap c{i}.{slot} e{(i + slot % 2) % groups} rw {slot // 4}"
+    yield from (f"cap t{thread}.root c{i} {FULL_GUARD} 0x0" for thread in (t, u))
+
+
+def full_pairs(i, groups):
+    """The pairs of a group: 42 or 43 capabilities for its endpoint and the next one's, and its two roots."""
+    for k in range(43 if i % 28 < 18 else 42):
+        slot = ENDPOINT_SLOT + 1 + k
+        yield f"child c{(i + slot % 2) % groups}.{ENDPOINT_SLOT} c{i}.{slot}"
+    yield from (f"child c{i}.0 t{thread}.root" for thread in (2 * i, 2 * i + 1))
+
+
+def full_table(groups):
+    """A table of all kinds of line, in groups of nine objects."""
+    spares = full_spares(groups)
+    lines = ["label a"]
+    for i in range(groups):
+        lines.extend(full_objects(i))
+    lines.extend(line for _, line in spares)
+    for i in range(groups):
+        lines.extend(full_caps(i, groups, spares[i][0] if i < len(spares) else f"t{2 * i}"))
+    for i in range(groups):
+        lines.extend(full_pairs(i, groups))
+    lines.extend(f"bind t{t} x{t}" for t in range(2 * groups))
+    return text("confine-table 1", lines)
+
+
+def full_events(groups):
+    """Two events of a full table's last thread: it signals its group's notification, and polls it."""
+    last = groups - 1
+    caller = f"{(2 * last + 1) % CORES} {FULL_OBJECTS * last + 2}"
+    return [f"{caller} signal {NOTIFICATION_SLOT}", f"{caller} poll {NOTIFICATION_SLOT}"]
+
+
+def full_script(groups):
+    return text("confine-script 1", full_events(groups))
+
+
+def full_log(groups):
+    signal, poll = full_events(groups)
     return text("confine-log 1", [f"{signal} = done", f"{poll} = done word 1"])

@@ -1,18 +1,18 @@
 -- The tests of a capability's line are what the table asks of a capability.
-use Rattle.std.proofs.Common.{◌≡◌, ◌≢◌, true, false, Option, Some, refl, arith, option_map}
+use Rattle.std.proofs.Common.{◌≡◌, ◌&&◌, true, false, Option, Some, refl, sym, ap, ◌∙◌, arith, option_map}
 use Rattle.base.specs.declared.ids.ObjId.{ObjId}
 use Rattle.machine.specs.declared.cap.Detail.{Detail}
 use Rattle.machine.specs.declared.cap.Detail.TheVariants as d
 use Rattle.machine.specs.declared.layout.Initial.{Initial}
 use Rattle.machine.specs.declared.object.ObjectKind.{ObjectKind}
-use Rattle.machine.specs.declared.object.ObjectKind.TheVariants as kind
 use Rattle.machine.specs.Capabilities.{kind_of_detail}
 use Rattle.machine.specs.Layout.{Layout, initial_of}
 use Rattle.machine.specs.Objects.{kind_of_object}
-use Rattle.table.specs.Building.{may_hold, repeats_untyped, AdmitsCap, is_above_caps, declares_slot, is_fitting}
+use Rattle.table.specs.Building.{may_hold, has_cap_to, repeats_untyped, AdmitsCap, is_above_caps, declares_slot, is_fitting}
 use Rattle.table.specs.Rules.{kind_at}
+use Rattle.table.specs.Tree.{is_for_untyped}
 use Rattle.captext.specs.declared.shapes.Place.{Place}
-use Rattle.captext.specs.Tables.{may_fill, slot_in, capability}
+use Rattle.captext.specs.Tables.{is_untyped, is_claimed, may_fill, slot_in, capability}
 
 -- a capability that may be at its place may be in its holder
 held_at : (holder : Option Initial) (at : Place) (target : Option ObjectKind) (detail : Detail)
@@ -26,31 +26,28 @@ may_be_held : (t : Layout) (holder : ObjId) (at : Place) (target : ObjId) (detai
 unfolding kind_at
 may_be_held t holder at target detail fills is = held_at (initial_of t holder) at _ detail fills is
 
-never_repeats : (t : Layout) (target : ObjId) (detail : Detail) → kind_of_detail detail ≢ kind.Untyped
-    → repeats_untyped t (capability target detail) ≡ false
-never_repeats t target d.Untyped typed = absurd (typed refl)
-never_repeats t target (d.CNode _) typed = refl
-never_repeats t target d.Tcb typed = refl
-never_repeats t target (d.Endpoint _) typed = refl
-never_repeats t target (d.Notification _) typed = refl
-never_repeats t target d.Reply typed = refl
-never_repeats t target d.Context typed = refl
-never_repeats t target (d.Frame _) typed = refl
-never_repeats t target d.Control typed = refl
+-- an untyped that has a capability is given no other
+pub claims : (t : Layout) (target : ObjId) (detail : Detail) → kind_at t target ≡ Some (kind_of_detail detail)
+    → repeats_untyped t (capability target detail) ≡ is_claimed t target
+claims t target detail is =
+    ap (λ b. b && has_cap_to t target) (same detail) ∙ ap (λ k. is_untyped k && has_cap_to t target) (sym is) where
+      same : (detail : Detail) → is_for_untyped detail ≡ is_untyped (Some (kind_of_detail detail))
+      same d.Untyped = refl
+      same _ = refl
 
 -- the table asks no more
 pub admits_cap :
     (t : Layout) (holder : ObjId) (at : Place) (target : ObjId) (detail : Detail) → is_above_caps t (slot_in holder at) ≡ true
     → declares_slot t (slot_in holder at) ≡ true
     → may_fill (kind_at t holder) at (kind_at t target) ≡ true → is_fitting t (capability target detail) ≡ true
-    → kind_at t target ≡ Some (kind_of_detail detail) → kind_of_detail detail ≢ kind.Untyped
+    → kind_at t target ≡ Some (kind_of_detail detail) → is_claimed t target ≡ false
     → AdmitsCap t (record { slot = slot_in holder at; cap = capability target detail })
-admits_cap t holder at target detail rises within fills fitting is typed =
+admits_cap t holder at target detail rises within fills fitting is once =
     record {
       rises = rises;
       slot = within;
       root = may_be_held t holder at target detail fills is;
       fits = fitting;
-      once = never_repeats t target detail typed;
+      once = claims t target detail is ∙ once;
       original = refl;
     }

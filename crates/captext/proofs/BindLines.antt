@@ -12,7 +12,7 @@ use Rattle.machine.specs.Objects.{kind_of_object}
 use Rattle.table.specs.Building.{AdmitsBinding, is_above_bindings, is_bound, with_binding}
 use Rattle.table.specs.Names.{object_named}
 use Rattle.table.specs.Items.{BindingItem}
-use Rattle.table.specs.Rules.{IsLawful, kind_at}
+use Rattle.table.specs.Rules.{IsDraft, kind_at}
 use Rattle.words.specs.declared.faults.Wrong.TheVariants as wrong
 use Rattle.words.specs.Reading.{bind, ended_at}
 use Rattle.words.proofs.WordLaws.{ended_then, name_then, name_again}
@@ -47,7 +47,6 @@ bind_line_takes t words next h =
       record {
         now = tt;
         admits = record { rises = rising; thread = are.0; context = are.1; once = not-true _ once.0 };
-        brought = tt;
         words_are = ap (λ ws. codes "bind" ∷ ws)
             (then_words (first.words_are ∙ ap (λ w. w ∷ first.rest) one.1)
             (then_words (second.words_are ∙ ap (λ w. w ∷ second.rest) other.1) ended.0));
@@ -56,26 +55,26 @@ bind_line_takes t words next h =
     )
 
 -- an object of a kind has a name
-pub has_name : (t : Layout) (id : ObjId) (kind : ObjectKind) → IsLawful t → kind_at t id ≡ Some kind → id.0 < length t.names
+pub has_name : (t : Layout) (id : ObjId) (kind : ObjectKind) → IsDraft t → kind_at t id ≡ Some kind → id.0 < length t.names
 unfolding kind_at initial_of
-has_name t id kind lawful h = by (initial_of t id) refl h where
+has_name t id kind draft h = by (initial_of t id) refl h where
   by : (found : Option Initial) → initial_of t id ≡ found
       → option_map (λ (initial : Initial). kind_of_object initial.object) found ≡ Some kind → id.0 < length t.names
   by None at h = absurd (none-some kind h)
-  by (Some initial) at h = let within = slice_get_within t.objects id.0 initial at in let each = lawful.each_named in omega arith
+  by (Some initial) at h = let within = slice_get_within t.objects id.0 initial at in let each = draft.objects.named in omega arith
 
-pub bind_line_again : (t : Layout) (binding : Binding) → IsLawful t → AdmitsBinding t binding
+pub bind_line_again : (t : Layout) (binding : Binding) → IsDraft t → AdmitsBinding t binding
     → bind_line t (object_name t binding.thread ∷ object_name t binding.context ∷ []) ≡ Ok (with_binding t binding)
 unfolding bind_line bind ended_at
-bind_line_again t binding lawful admits =
-    let thread = has_name t binding.thread kind.Tcb lawful admits.thread in
-    let context = has_name t binding.context kind.Context lawful admits.context in
+bind_line_again t binding draft admits =
+    let thread = has_name t binding.thread kind.Tcb draft admits.thread in
+    let context = has_name t binding.context kind.Context draft admits.context in
     rw (
       name_again (object_name t binding.thread) (object_name t binding.context ∷ [])
-          (is_object_name t binding.thread lawful thread),
-      name_again (object_name t binding.context) [] (is_object_name t binding.context lawful context),
-      object_again t binding.thread lawful thread,
-      object_again t binding.context lawful context,
+          (is_object_name t binding.thread draft thread),
+      name_again (object_name t binding.context) [] (is_object_name t binding.context draft context),
+      object_again t binding.thread draft thread,
+      object_again t binding.context draft context,
       admits.rises,
       admits.once,
       admits.thread,

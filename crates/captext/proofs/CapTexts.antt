@@ -1,5 +1,5 @@
 -- The line of a filled slot that the table takes next is read, and its words are plain.
-use Rattle.std.proofs.Common.{All, ◌≡◌, ℕ, ◌+◌, ◌^◌, ◌<◌, ◌≤◌, Bool, true, false, cond, List, [], ◌∷◌, ◌++◌, length, codes, option_map, Option, Some, None, Ok, refl, sym, ap, subst, ◌∙◌, arith, lit<}
+use Rattle.std.proofs.Common.{◌≡◌, ℕ, ◌+◌, ◌^◌, ◌<◌, ◌≤◌, Bool, true, false, cond, List, [], ◌∷◌, ◌++◌, length, codes, option_map, Option, Some, None, Ok, refl, sym, ap, subst, ◌∙◌, arith, lit<}
 use Rattle.std.specs.List.{AllByRecursion}
 use Rattle.std.proofs.lemmas.Bool.{cond-true, and_parts, and_from, ltb-true, leb-true, false≢true}
 use Rattle.std.proofs.lemmas.Option.{slice_get_within, get_or_from_slice_get}
@@ -7,11 +7,12 @@ use Rattle.std.proofs.Math.Pow.{pow_mono}
 use Rattle.base.specs.declared.ids.ObjId.{ObjId}
 use Rattle.base.specs.declared.ids.SlotRef.{SlotRef}
 use Rattle.base.specs.declared.rights.Rights.{Rights}
-use Rattle.base.specs.Rights.{letter_of, rights_word}
+use Rattle.base.specs.Rights.{letter_of, rights_word, IsRights}
 use Rattle.base.specs.declared.limits.TheConstants.{MAX_RADIX}
 use Rattle.machine.specs.declared.cap.Detail.{Detail}
 use Rattle.machine.specs.declared.cap.Detail.TheVariants as d
 use Rattle.machine.specs.declared.cap.Guard.{Guard}
+use Rattle.machine.specs.Capabilities.{kind_of_detail}
 use Rattle.machine.specs.declared.layout.Filled.{Filled}
 use Rattle.machine.specs.declared.layout.Initial.{Initial}
 use Rattle.machine.specs.declared.object.Object.{Object}
@@ -24,7 +25,7 @@ use Rattle.machine.specs.Objects.{kind_of_object, slot_count}
 use Rattle.table.specs.Building.{AdmitsCap, declares_slot, fits, fits_target, has_index, is_above_caps, is_fitting, may_hold, with_filled}
 use Rattle.table.specs.Names.{object_named}
 use Rattle.table.specs.Items.{BeforePairs}
-use Rattle.table.specs.Rules.{IsBlank, IsLawful, kind_at}
+use Rattle.table.specs.Rules.{IsBlank, IsDraft, kind_at}
 use Rattle.words.specs.Name.{is_name, name_at}
 use Rattle.words.specs.Reading.{bind}
 use Rattle.words.specs.Text.{IsPlainLine, IsPlainWord}
@@ -35,10 +36,11 @@ use Rattle.captext.specs.declared.shapes.Place.TheVariants as place
 use Rattle.captext.specs.declared.shapes.Term.{Term}
 use Rattle.captext.specs.declared.shapes.Term.TheVariants as term
 use Rattle.captext.specs.Shapes.{slot_at, terms_at}
-use Rattle.captext.specs.Spelling.{place_word, slot_word, term_word, IsPlace, IsTerm}
-use Rattle.captext.specs.Tables.{takes_caps, slot_in, fits_holder, fits_place, may_fill, guarded, unguarded, limited_detail, detail_for, capability, filled, cap_line}
-use Rattle.captext.specs.TableText.{object_name, place_in, slot_name, detail_words, cap_words, IsBroughtObject, HasWordBadge}
-use Rattle.captext.proofs.CapLines.{slot_at_again, two_again, option_words, IsOptionTerm, detail_by, detail_is}
+use Rattle.captext.specs.Spelling.{option_words, place_word, slot_word, term_word, AreTerms, IsOptionTerm, IsPlace, IsTerm}
+use Rattle.captext.specs.Tables.{takes_caps, slot_in, fits_holder, fits_place, may_fill, is_claimed, is_plain, detail_of, detail_for, capability, filled, cap_line}
+use Rattle.captext.specs.TableText.{object_name, place_in, slot_name, detail_words, cap_words}
+use Rattle.captext.proofs.Admits.{claims}
+use Rattle.captext.proofs.CapLines.{slot_at_again, one_again, two_again}
 use Rattle.captext.proofs.LineLaws.{caps_again}
 use Rattle.captext.proofs.NameLaws.{object_again, is_object_name}
 
@@ -51,48 +53,43 @@ terms_of _ = (None, None)
 
 words_of_terms : (detail : Detail) → detail_words detail ≡ option_words (terms_of detail).0 ++ option_words (terms_of detail).1
 words_of_terms d.Untyped = refl
-words_of_terms (d.CNode _) = refl
-words_of_terms d.Tcb = refl
-words_of_terms (d.Endpoint _) = refl
-words_of_terms (d.Notification _) = refl
-words_of_terms d.Reply = refl
-words_of_terms d.Context = refl
-words_of_terms (d.Frame _) = refl
-words_of_terms d.Control = refl
+words_of_terms _ = refl
+
+terms_again : (detail : Detail) → AreTerms (terms_of detail) → terms_at (detail_words detail) ≡ Ok (terms_of detail)
+unfolding terms_at
+terms_again (d.CNode guard) is = two_again (term.Decimal guard.size) (term.Hexadecimal guard.value) is.0 is.1
+terms_again (d.Endpoint end) is = two_again (term.Rights end.rights) (term.Decimal end.badge) is.0 is.1
+terms_again (d.Notification end) is = two_again (term.Rights end.rights) (term.Decimal end.badge) is.0 is.1
+terms_again (d.Frame rights) is = one_again (term.Rights rights) is.0
+terms_again _ is = refl
 
 abbrev ReadsDetail : Object → Detail → Type 0
 ReadsDetail object detail =
-    (terms_at (detail_words detail) ≡ Ok (terms_of detail))
-    × (limited_detail object (terms_of detail).0 (terms_of detail).1 true ≡ Ok detail) × IsOptionTerm (terms_of detail).0
-    × IsOptionTerm (terms_of detail).1
+    (detail_of object (terms_of detail).0 (terms_of detail).1 ≡ Ok detail) × AreTerms (terms_of detail)
+    × (kind_of_object object ≡ kind_of_detail detail)
 
-detail_again : (object : Object) (detail : Detail) → IsBroughtObject object → fits object detail ≡ true → HasWordBadge detail
-    → ReadsDetail object detail
-unfolding limited_detail guarded unguarded terms_at
-detail_again (o.Untyped _) detail brought fitting badge = absurd brought
-detail_again (o.Endpoint _) detail brought fitting badge = absurd brought
-detail_again (o.Reply _) detail brought fitting badge = absurd brought
-detail_again (o.Frame _) detail brought fitting badge = absurd brought
-detail_again (o.Control _) detail brought fitting badge = absurd brought
-detail_again (o.CNode node) (d.CNode guard) brought fitting badge =
+plain_is : (rights : Rights) → is_plain rights ≡ true → IsRights rights
+plain_is rights plain = let low : rights.0 < 4 = ltb-true _ _ plain in omega arith
+
+detail_again : (object : Object) (detail : Detail) → fits object detail ≡ true → ReadsDetail object detail
+detail_again (o.CNode node) (d.CNode guard) fitting =
     let parts = and_parts _ _ fitting in
     let few : guard.size + node.radix ≤ 64 = leb-true _ _ parts.0 in
     let low : guard.value < 2 ^ guard.size = ltb-true _ _ parts.1 in
     let powers : 2 ^ guard.size ≤ 2 ^ 64 = pow_mono {i = guard.size} {j = 64} (omega arith) in
     let size : guard.size < 2 ^ 64 = omega arith in
-    let value : guard.value < 2 ^ 64 = omega arith in
-    (two_again (term.Decimal guard.size) (term.Hexadecimal guard.value) size value, cond-true _ _ _ fitting, size, value)
-detail_again (o.Tcb _) d.Tcb brought fitting badge = (refl, refl, tt, tt)
-detail_again (o.Notification _) (d.Notification end) brought fitting badge =
-    let plain : end.rights.0 < 4 = ltb-true _ _ fitting in
-    let rights : end.rights.0 < 16 = omega arith in (
-      two_again (term.Rights end.rights) (term.Decimal end.badge) rights badge,
-      ap (λ test. unguarded (cond test (Some (d.Notification end)) None) true) fitting,
-      rights,
-      badge,
-    )
-detail_again (o.Context _) d.Context brought fitting badge = (refl, refl, tt, tt)
-detail_again _ _ brought fitting badge = absurd (false≢true fitting)
+    let value : guard.value < 2 ^ 64 = omega arith in (cond-true _ _ _ fitting, (size, value), refl)
+detail_again (o.Endpoint _) (d.Endpoint end) fitting = let parts = and_parts _ _ fitting in (refl, (ltb-true _ _ parts.0, ltb-true _ _ parts.1), refl)
+detail_again (o.Notification _) (d.Notification end) fitting =
+    let parts = and_parts _ _ fitting in
+    (cond-true _ _ _ parts.0, (plain_is end.rights parts.0, ltb-true _ _ parts.1), refl)
+detail_again (o.Frame _) (d.Frame rights) fitting = (cond-true _ _ _ fitting, (plain_is rights fitting, tt), refl)
+detail_again (o.Untyped _) d.Untyped fitting = (refl, (tt, tt), refl)
+detail_again (o.Tcb _) d.Tcb fitting = (refl, (tt, tt), refl)
+detail_again (o.Reply _) d.Reply fitting = (refl, (tt, tt), refl)
+detail_again (o.Context _) d.Context fitting = (refl, (tt, tt), refl)
+detail_again (o.Control _) d.Control fitting = (refl, (tt, tt), refl)
+detail_again _ _ fitting = absurd (false≢true fitting)
 
 -- what is found is there
 
@@ -121,13 +118,53 @@ place_again (o.CNode node) slot blank within =
 place_again (o.Tcb _) slot blank within =
     let first : 0 ≡ slot.index = omega arith in
     (tt, ap (λ (index : ℕ). record { holder = slot.holder; index = index }) first, refl)
-place_again (o.Untyped _) slot blank within = absurd (omega arith)
-place_again (o.Endpoint _) slot blank within = absurd (omega arith)
-place_again (o.Notification _) slot blank within = absurd (omega arith)
-place_again (o.Reply _) slot blank within = absurd (omega arith)
-place_again (o.Context _) slot blank within = absurd (omega arith)
-place_again (o.Frame _) slot blank within = absurd (omega arith)
-place_again (o.Control _) slot blank within = absurd (omega arith)
+place_again _ slot blank within = absurd (omega arith)
+
+-- its word is plain
+
+plain_place : (at : Place) → IsPlace at → IsPlainWord (place_word at)
+plain_place (place.Index index) is = plain_decimal index is
+plain_place place.Root is = plain_bytes (codes "root") refl
+
+plain_slot : (name : List ℕ) (at : Place) → is_name name ≡ true → IsPlace at → IsPlainWord (slot_word name at)
+plain_slot name at is place = both (λ b. 32 < b) name _ (plain_name name is) (lit< tt, plain_place at place)
+
+-- the word of a slot that the table declares is read as that slot, which fits its holder
+pub record IsPlaced (t : Layout) (slot : SlotRef) : Type 0 where
+  pub read :
+      (rest : List (List ℕ))
+      → slot_at (slot_name t slot ∷ rest)
+      ≡ Ok ((object_name t slot.holder, place_in (kind_at t slot.holder) slot.index), rest)
+  pub plain : IsPlainWord (slot_name t slot)
+  pub found : object_named t (object_name t slot.holder) ≡ Some slot.holder
+  pub slot_is : slot_in slot.holder (place_in (kind_at t slot.holder) slot.index) ≡ slot
+  pub fits : fits_holder (kind_at t slot.holder) (place_in (kind_at t slot.holder) slot.index) ≡ true
+
+pub placed : (t : Layout) (slot : SlotRef) → IsDraft t → declares_slot t slot ≡ true → IsPlaced t slot
+unfolding initial_of kind_at declares_slot
+placed t slot draft declares =
+    let id = slot.holder in
+    let each = draft.objects.named in
+    let holder = some_holder (initial_of t id) slot.index declares in
+    let held : id.0 < length t.objects = slice_get_within t.objects id.0 holder.0 holder.1 in
+    let blank : IsBlank holder.0.object =
+    subst (λ (i : Initial). IsBlank i.object) (get_or_from_slice_get t.objects id.0 holder.0 holder.0 holder.1)
+    (draft.objects.each id.0 holder.0 held).blank in
+    let kind_held : kind_at t id ≡ Some (kind_of_object holder.0.object) =
+    ap (option_map (λ (i : Initial). kind_of_object i.object)) holder.1 in
+    let there : place_in (kind_at t id) slot.index ≡ place_in (Some (kind_of_object holder.0.object)) slot.index =
+    ap (λ k. place_in k slot.index) kind_held in
+    let place = place_again holder.0.object slot blank holder.2 in
+    let named : id.0 < length t.names = omega arith in
+    let is_name = is_object_name t id draft named in
+    let is_place = subst IsPlace (sym there) place.0 in
+    record {
+      read = λ rest. slot_at_again (object_name t id) (place_in (kind_at t id) slot.index) rest is_name is_place;
+      plain = plain_slot (object_name t id) (place_in (kind_at t id) slot.index) is_name is_place;
+      found = object_again t id draft named;
+      slot_is = ap (slot_in id) there ∙ place.1;
+      fits = (λ i. fits_holder (kind_held i) (there i)) ∙ place.2;
+    }
 
 -- a thread's root slot takes the capability of a CNode alone
 cnode_target : (target : Object) (guard : Guard) → fits target (d.CNode guard) ≡ true → kind_of_object target ≡ kind.CNode
@@ -153,95 +190,78 @@ cap_line_is :
     (terms : Option Term × Option Term) (detail : Detail)
     → slot_at line ≡ Ok ((name, at), rest) → name_at rest ≡ Ok (other, more) → terms_at more ≡ Ok terms → takes_caps t ≡ true
     → object_named t name ≡ Some holder → is_above_caps t (slot_in holder at) ≡ true → object_named t other ≡ Some target
-    → may_fill (kind_at t holder) at (kind_at t target) ≡ true
-    → detail_for t target terms (declares_slot t (slot_in holder at)) ≡ Ok detail
+    → is_claimed t target ≡ false → may_fill (kind_at t holder) at (kind_at t target) ≡ true
+    → detail_for t target terms ≡ Ok detail → declares_slot t (slot_in holder at) ≡ true
     → cap_line t line ≡ Ok (with_filled t (record { slot = slot_in holder at; cap = capability target detail }))
 unfolding cap_line filled bind
-cap_line_is t line rest more name other at holder target terms detail slot named spelled now held rising aimed fills told =
-    rw (slot, named, spelled, held, and_from _ _ now rising, aimed, fills, told) refl
+cap_line_is t line rest more name other at holder target terms detail slot named spelled now held rising aimed
+    once fills told within =
+    rw (slot, named, spelled, held, and_from _ _ now rising, aimed, once, fills, told, within) refl
 
--- what a slot and a capability that the table takes have to do with its objects
+-- what a capability that the table takes has to do with its objects
 record Places (t : Layout) (filled : Filled) : Type 0 where
-  holder : filled.slot.holder.0 < length t.names
+  place : IsPlaced t filled.slot
   target : filled.cap.object.0 < length t.names
-  is : IsPlace (place_in (kind_at t filled.slot.holder) filled.slot.index)
-  slot : slot_in filled.slot.holder (place_in (kind_at t filled.slot.holder) filled.slot.index) ≡ filled.slot
   fills : may_fill (kind_at t filled.slot.holder) (place_in (kind_at t filled.slot.holder) filled.slot.index)
       (kind_at t filled.cap.object)
       ≡ true
-  told : detail_for t filled.cap.object (terms_of filled.cap.detail) true ≡ Ok filled.cap.detail
-  reads : terms_at (detail_words filled.cap.detail) ≡ Ok (terms_of filled.cap.detail)
-  first : IsOptionTerm (terms_of filled.cap.detail).0
-  second : IsOptionTerm (terms_of filled.cap.detail).1
+  once : is_claimed t filled.cap.object ≡ false
+  told : detail_for t filled.cap.object (terms_of filled.cap.detail) ≡ Ok filled.cap.detail
+  terms : AreTerms (terms_of filled.cap.detail)
 
-abbrev IsBroughtTable : Layout → Type 0
-IsBroughtTable t = All (λ initial. IsBroughtObject initial.object) t.objects
-
-places : (t : Layout) (filled : Filled) → IsLawful t → IsBroughtTable t → AdmitsCap t filled → HasWordBadge filled.cap.detail
-    → Places t filled
-unfolding initial_of kind_at declares_slot is_fitting detail_by
-places t filled lawful brought admits badge =
+places : (t : Layout) (filled : Filled) → IsDraft t → AdmitsCap t filled → Places t filled
+unfolding initial_of kind_at declares_slot is_fitting detail_for bind
+places t filled draft admits =
     let id = filled.slot.holder in
     let to = filled.cap.object in
     let detail = filled.cap.detail in
-    let each = lawful.each_named in
+    let each = draft.objects.named in
+    let place = placed t filled.slot draft admits.slot in
     let holder = some_holder (initial_of t id) filled.slot.index admits.slot in
     let target = some_target (initial_of t to) detail admits.fits in
-    let held : id.0 < length t.objects = slice_get_within t.objects id.0 holder.0 holder.1 in
     let aimed : to.0 < length t.objects = slice_get_within t.objects to.0 target.0 target.1 in
-    let blank : IsBlank holder.0.object =
-    subst (λ (i : Initial). IsBlank i.object) (get_or_from_slice_get t.objects id.0 holder.0 holder.0 holder.1)
-    (lawful.objects id.0 holder.0 held).blank in
-    let here : IsBroughtObject target.0.object =
-    subst (λ (i : Initial). IsBroughtObject i.object) (get_or_from_slice_get t.objects to.0 target.0 target.0 target.1)
-    (brought to.0 target.0 aimed) in
     let kind_held : kind_at t id ≡ Some (kind_of_object holder.0.object) =
     ap (option_map (λ (i : Initial). kind_of_object i.object)) holder.1 in
     let kind_aimed : kind_at t to ≡ Some (kind_of_object target.0.object) =
     ap (option_map (λ (i : Initial). kind_of_object i.object)) target.1 in
-    let there : place_in (kind_at t id) filled.slot.index ≡ place_in (Some (kind_of_object holder.0.object)) filled.slot.index =
-    ap (λ k. place_in k filled.slot.index) kind_held in
-    let placed = place_again holder.0.object filled.slot blank holder.2 in
     let root : may_hold (Some holder.0) detail ≡ true = ap (λ found. may_hold found detail) (sym holder.1) ∙ admits.root in
-    let reads = detail_again target.0.object detail here target.2 badge in
+    let reads = detail_again target.0.object detail target.2 in
     record {
-      holder = omega arith;
+      place = place;
       target = omega arith;
-      is = subst IsPlace (sym there) placed.0;
-      slot = ap (slot_in id) there ∙ placed.1;
-      fills = (λ i. may_fill (kind_held i) (there i) (kind_aimed i))
-          ∙ and_from _ _ placed.2
-          (place_fits holder.0.label holder.0.object target.0.object filled.slot.index detail root target.2);
-      told = detail_is t to (terms_of detail) true ∙ ap (detail_by (terms_of detail) true) target.1 ∙ reads.1;
-      reads = reads.0;
-      first = reads.2;
-      second = reads.3;
+      fills = and_from _ _ place.fits
+          ((λ i. fits_place (place_in (kind_held i) filled.slot.index) (kind_aimed i))
+          ∙ place_fits holder.0.label holder.0.object target.0.object filled.slot.index detail root target.2);
+      once = sym (claims t to detail (kind_aimed ∙ ap (λ k. Some k) reads.2)) ∙ admits.once;
+      told = rw target.1 reads.0;
+      terms = reads.1;
     }
 
-pub cap_line_again : (t : Layout) (filled : Filled) → IsLawful t → IsBroughtTable t → BeforePairs t → AdmitsCap t filled
-    → HasWordBadge filled.cap.detail
+pub cap_line_again : (t : Layout) (filled : Filled) → IsDraft t → BeforePairs t → AdmitsCap t filled
     → cap_line t (slot_name t filled.slot ∷ object_name t filled.cap.object ∷ detail_words filled.cap.detail)
     ≡ Ok (with_filled t filled)
-cap_line_again t filled lawful brought now admits badge =
+cap_line_again t filled draft now admits =
     let id = filled.slot.holder in
     let to = filled.cap.object in
     let detail = filled.cap.detail in
-    let p = places t filled lawful brought admits badge in
+    let p = places t filled draft admits in
     let at : Place = place_in (kind_at t id) filled.slot.index in
-    let within : declares_slot t (slot_in id at) ≡ true = ap (declares_slot t) p.slot ∙ admits.slot in
+    let within : declares_slot t (slot_in id at) ≡ true = ap (declares_slot t) p.place.slot_is ∙ admits.slot in
     let same : (record { slot = slot_in id at; cap = capability to detail }) ≡ filled =
-    (λ i. record { slot = p.slot i; cap = record { object = to; detail = detail; original = sym admits.original i } }) in
+    (λ i. record { slot = p.place.slot_is i; cap = record { object = to; detail = detail; original = sym admits.original i } }) in
     cap_line_is t (slot_name t filled.slot ∷ object_name t to ∷ detail_words detail) (object_name t to ∷ detail_words detail)
     (detail_words detail) (object_name t id) (object_name t to) at id to (terms_of detail) detail
-    (slot_at_again (object_name t id) at (object_name t to ∷ detail_words detail) (is_object_name t id lawful p.holder) p.is)
-    (name_again (object_name t to) (detail_words detail) (is_object_name t to lawful p.target))
-    p.reads
+    (p.place.read (object_name t to ∷ detail_words detail))
+    (name_again (object_name t to) (detail_words detail) (is_object_name t to draft p.target))
+    (terms_again detail p.terms)
     (caps_again t now)
-    (object_again t id lawful p.holder)
-    (ap (is_above_caps t) p.slot ∙ admits.rises)
-    (object_again t to lawful p.target)
+    p.place.found
+    (ap (is_above_caps t) p.place.slot_is ∙ admits.rises)
+    (object_again t to draft p.target)
+    p.once
     p.fills
-    (ap (detail_for t to (terms_of detail)) within ∙ p.told)
+    p.told
+    within
     ∙ ap (λ (f : Filled). Ok (with_filled t f)) same
 
 -- its words are plain
@@ -272,26 +292,18 @@ plain_option : (t : Option Term) → IsOptionTerm t → AllByRecursion IsPlainWo
 plain_option None is = tt
 plain_option (Some t) is = (plain_term t is, tt)
 
-plain_place : (at : Place) → IsPlace at → IsPlainWord (place_word at)
-plain_place (place.Index index) is = plain_decimal index is
-plain_place place.Root is = plain_bytes (codes "root") refl
-
-plain_slot : (name : List ℕ) (at : Place) → is_name name ≡ true → IsPlace at → IsPlainWord (slot_word name at)
-plain_slot name at is place = both (λ b. 32 < b) name _ (plain_name name is) (lit< tt, plain_place at place)
-
-pub cap_plain : (t : Layout) (filled : Filled) → IsLawful t → IsBroughtTable t → AdmitsCap t filled
-    → HasWordBadge filled.cap.detail → IsPlainLine (cap_words t filled)
-cap_plain t filled lawful brought admits badge =
-    let p = places t filled lawful brought admits badge in
+pub cap_plain : (t : Layout) (filled : Filled) → IsDraft t → AdmitsCap t filled
+    → IsPlainLine (cap_words t filled)
+cap_plain t filled draft admits =
+    let p = places t filled draft admits in
     let terms =
     both IsPlainWord (option_words (terms_of filled.cap.detail).0) (option_words (terms_of filled.cap.detail).1)
-    (plain_option _ p.first) (plain_option _ p.second) in (
+    (plain_option _ p.terms.0) (plain_option _ p.terms.1) in (
       plain_bytes (codes "cap") refl,
       (
-        plain_slot (object_name t filled.slot.holder) (place_in (kind_at t filled.slot.holder) filled.slot.index)
-            (is_object_name t filled.slot.holder lawful p.holder) p.is,
+        p.place.plain,
         (
-          plain_name (object_name t filled.cap.object) (is_object_name t filled.cap.object lawful p.target),
+          plain_name (object_name t filled.cap.object) (is_object_name t filled.cap.object draft p.target),
           subst (AllByRecursion IsPlainWord) (sym (words_of_terms filled.cap.detail)) terms,
         ),
       ),

@@ -1,11 +1,15 @@
 -- What the steps of a table's line say where it was read: the words it has, the tests it passed, and the item it adds.
-use Rattle.std.proofs.Common.{◌≡◌, ℕ, true, List, [], ◌∷◌, Option, Some, None, Result, Ok, refl, ap, ◌∙◌}
+use Rattle.std.proofs.Common.{◌≡◌, ℕ, Bool, true, false, cond, List, [], ◌∷◌, Option, Some, None, Result, Ok, refl, ap, subst, ◌∙◌}
+use Rattle.std.specs.Bool.{Decides}
+use Rattle.std.specs.List.{find, AllByRecursion}
+use Rattle.std.specs.Str.{bytes_eq}
 use Rattle.std.proofs.lemmas.Bool.{and_parts, and_from}
+use Rattle.std.proofs.lemmas.Slice.Eq.{bytes_eq-Decides}
 use Rattle.machine.specs.Layout.{Layout}
-use Rattle.table.specs.Items.{Item, BeforePairs, BeforeCaps, BeforeObjects}
+use Rattle.table.specs.Items.{Item, BeforeBindings, BeforePairs, BeforeCaps, BeforeObjects}
 use Rattle.words.specs.declared.faults.Wrong.{Wrong}
 use Rattle.words.specs.Reading.{bind, or_syntax}
-use Rattle.captext.specs.Tables.{is_nil, takes_caps, takes_objects, takes_labels}
+use Rattle.captext.specs.Tables.{is_nil, takes_pairs, takes_caps, takes_objects, takes_labels}
 use Rattle.captext.specs.TableText.{IsLineOf}
 
 -- a line was read: it adds an item
@@ -23,6 +27,19 @@ unfolding bind or_syntax
 spelled_then (Some v) f y h = (v, refl, h)
 spelled_then None f y h = cc
 
+-- a word that was found among the words of values is the word of the one that was found
+pub found_word : {X : Type 0} (spell : X → List ℕ) (P : X → Type 0) (word : List ℕ) (xs : List X) (x : X) → AllByRecursion P xs
+    → find (λ y. bytes_eq word (spell y)) xs ≡ Some x → (word ≡ spell x) × P x
+found_word spell P word [] x all h = cc
+found_word spell P word (first ∷ xs) x all h =
+    by (bytes_eq word (spell first)) (bytes_eq-Decides word (spell first)) (found_word spell P word xs x all.1) h
+  where
+    by : (same : Bool) → Decides same (word ≡ spell first)
+        → (find (λ y. bytes_eq word (spell y)) xs ≡ Some x → (word ≡ spell x) × P x)
+        → cond same (Some first) (find (λ y. bytes_eq word (spell y)) xs) ≡ Some x → (word ≡ spell x) × P x
+    by true same later h = let is : first ≡ x = cc in subst (λ y. (word ≡ spell y) × P y) is (same.0 refl, all.0)
+    by false same later h = later h
+
 pub same_ok : {X : Type 0} (x y : X) → ◌≡◌ {A = Result X Wrong} (Ok x) (Ok y) → x ≡ y
 same_ok x y h = cc
 
@@ -35,8 +52,11 @@ nil_takes (x ∷ xs) h = cc
 nil_again : {X : Type 0} (xs : List X) → xs ≡ [] → is_nil xs ≡ true
 nil_again xs none = ap is_nil none
 
+pub pairs_take : (t : Layout) → takes_pairs t ≡ true → BeforeBindings t
+pairs_take t h = nil_takes t.bindings h
+
 pub caps_take : (t : Layout) → takes_caps t ≡ true → BeforePairs t
-caps_take t h = let parts = and_parts _ _ h in (nil_takes t.pairs parts.0, nil_takes t.bindings parts.1)
+caps_take t h = let parts = and_parts _ _ h in (nil_takes t.pairs parts.0, pairs_take t parts.1)
 
 pub objects_take : (t : Layout) → takes_objects t ≡ true → BeforeCaps t
 objects_take t h = let parts = and_parts _ _ h in (nil_takes t.caps parts.0, caps_take t parts.1)
@@ -44,8 +64,11 @@ objects_take t h = let parts = and_parts _ _ h in (nil_takes t.caps parts.0, cap
 pub labels_take : (t : Layout) → takes_labels t ≡ true → BeforeObjects t
 labels_take t h = let parts = and_parts _ _ h in (nil_takes t.objects parts.0, objects_take t parts.1)
 
+pub pairs_again : (t : Layout) → BeforeBindings t → takes_pairs t ≡ true
+pairs_again t now = nil_again t.bindings now
+
 pub caps_again : (t : Layout) → BeforePairs t → takes_caps t ≡ true
-caps_again t now = and_from _ _ (nil_again t.pairs now.0) (nil_again t.bindings now.1)
+caps_again t now = and_from _ _ (nil_again t.pairs now.0) (pairs_again t now.1)
 
 pub objects_again : (t : Layout) → BeforeCaps t → takes_objects t ≡ true
 objects_again t now = and_from _ _ (nil_again t.caps now.0) (caps_again t now.1)

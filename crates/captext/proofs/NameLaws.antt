@@ -10,7 +10,7 @@ use Rattle.std.proofs.lemmas.Slice.Eq.{bytes_eq-Decides}
 use Rattle.base.specs.declared.ids.ObjId.{ObjId}
 use Rattle.machine.specs.Layout.{Layout}
 use Rattle.table.specs.Names.{label_named, object_named}
-use Rattle.table.specs.Rules.{IsLawful}
+use Rattle.table.specs.Rules.{IsDraft}
 use Rattle.words.specs.Name.{is_name}
 use Rattle.captext.specs.PolicyText.{label_name}
 use Rattle.captext.specs.TableText.{object_name}
@@ -43,21 +43,21 @@ pub label_takes : (t : Layout) (name : List ℕ) (label : ℕ) → label_named t
 unfolding label_named
 label_takes t name label h = found_at t.labels name label h
 
-pub label_again : (t : Layout) (label : ℕ) → IsLawful t → label < length t.labels
+pub label_again : (t : Layout) (label : ℕ) → IsDraft t → label < length t.labels
     → label_named t (label_name t label) ≡ Some label
 unfolding label_named
-label_again t label lawful within = again_at t.labels label lawful.labels_differ within
+label_again t label draft within = again_at t.labels label draft.labels.differ within
 
 -- a name is a label's number just where it is that label's name
-pub label_iff : (t : Layout) (name : List ℕ) (label : ℕ) → IsLawful t
+pub label_iff : (t : Layout) (name : List ℕ) (label : ℕ) → IsDraft t
     → (label_named t name ≡ Some label) ↔ ((name ≡ label_name t label) × (label < length t.labels))
-label_iff t name label lawful = (
+label_iff t name label draft = (
   λ h. let taken = label_takes t name label h in (taken.1, taken.0),
-  λ h. ap (label_named t) h.0 ∙ label_again t label lawful h.1,
+  λ h. ap (label_named t) h.0 ∙ label_again t label draft h.1,
 )
 
-pub is_label_name : (t : Layout) (label : ℕ) → IsLawful t → label < length t.labels → is_name (label_name t label) ≡ true
-is_label_name t label lawful within = lawful.label_names label [] within
+pub is_label_name : (t : Layout) (label : ℕ) → IsDraft t → label < length t.labels → is_name (label_name t label) ≡ true
+is_label_name t label draft within = draft.labels.spelled label [] within
 
 pub object_takes : (t : Layout) (name : List ℕ) (id : ObjId) → object_named t name ≡ Some id
     → (id.0 < length t.names) × (name ≡ object_name t id)
@@ -70,10 +70,10 @@ object_takes t name id h = by (position (λ other. bytes_eq name other) t.names)
       let same : k ≡ id.0 = cc in
       found_at t.names name id.0 (at ∙ ap (λ n. Some n) same)
 
-pub object_again : (t : Layout) (id : ObjId) → IsLawful t → id.0 < length t.names → object_named t (object_name t id) ≡ Some id
+pub object_again : (t : Layout) (id : ObjId) → IsDraft t → id.0 < length t.names → object_named t (object_name t id) ≡ Some id
 unfolding object_named
-object_again t id lawful within =
-    ap (option_map (λ number. record { 0 = number })) (again_at t.names id.0 lawful.names_differ within)
+object_again t id draft within =
+    ap (option_map (λ number. record { 0 = number })) (again_at t.names id.0 draft.objects.differ within)
 
-pub is_object_name : (t : Layout) (id : ObjId) → IsLawful t → id.0 < length t.names → is_name (object_name t id) ≡ true
-is_object_name t id lawful within = lawful.object_names id.0 [] within
+pub is_object_name : (t : Layout) (id : ObjId) → IsDraft t → id.0 < length t.names → is_name (object_name t id) ≡ true
+is_object_name t id draft within = draft.objects.spelled id.0 [] within

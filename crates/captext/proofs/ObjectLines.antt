@@ -1,31 +1,30 @@
 -- A line for a label or an object is read just where it is the line of a label or an object that the table takes next.
-use Rattle.std.proofs.Common.{◌≡◌, ℕ, ◌^◌, ◌<◌, ◌&&◌, Bool, true, false, not, cond, nat_lt, nat_le, List, [], ◌∷◌, length, get_or, codes, is_some, Option, Some, None, Result, Ok, Err, refl, sym, ap, subst, ◌∙◌, arith}
+use Rattle.std.proofs.Common.{◌≡◌, ℕ, ◌^◌, ◌<◌, ◌≤◌, ◌&&◌, Bool, true, false, not, cond, nat_lt, List, [], ◌∷◌, length, get_or, codes, is_some, option_map, Option, Some, None, Result, Ok, refl, sym, ap, subst, ◌∙◌, arith}
 use Rattle.std.specs.Bool.{Decides}
 use Rattle.std.specs.Char.{is_ascii_digit}
 use Rattle.std.specs.Fmt.{decimal}
 use Rattle.std.specs.Str.{bytes_eq}
-use Rattle.std.proofs.lemmas.Bool.{and_parts, and_from, not-true, ltb-true, leb-true, lt-ltb, le-leb, cond-true}
+use Rattle.std.proofs.lemmas.Bool.{and_parts, and_from, not-true, ltb-true, leb-true, lt-ltb, le-leb}
+use Rattle.std.proofs.lemmas.Option.{cond_some}
 use Rattle.std.proofs.lemmas.Slice.Eq.{bytes_eq-Decides}
 use Rattle.base.specs.declared.core_number.TheConstants.CoreNo as CoreNo
 use Rattle.base.specs.declared.label.TheConstants.Label as Label
-use Rattle.base.specs.declared.limits.TheConstants.{MAX_PERIOD, MAX_RADIX}
+use Rattle.base.specs.declared.limits.TheConstants.{ADDRESS_END, MAX_PERIOD, MAX_RADIX}
 use Rattle.machine.specs.declared.layout.Initial.{Initial}
-use Rattle.machine.specs.declared.object.CNode.{CNode}
-use Rattle.machine.specs.declared.object.Context.{Context}
-use Rattle.machine.specs.declared.object.Notification.{Notification}
 use Rattle.machine.specs.declared.object.Object.{Object}
 use Rattle.machine.specs.declared.object.Object.TheVariants as o
+use Rattle.machine.specs.declared.object.ObjectKind.{ObjectKind}
+use Rattle.machine.specs.declared.object.ObjectKind.TheVariants as kind
 use Rattle.machine.specs.declared.object.Share.{Share}
-use Rattle.machine.specs.declared.thread.Inbox.TheVariants as inbox
 use Rattle.machine.specs.declared.thread.RunState.{RunState}
 use Rattle.machine.specs.declared.thread.RunState.TheVariants as run
-use Rattle.machine.specs.declared.thread.Tcb.{Tcb}
 use Rattle.machine.specs.Layout.{Layout}
+use Rattle.machine.specs.Objects.{kind_of_object, end_of}
 use Rattle.table.specs.Building.{AdmitsObject, is_free, repeats_control, with_label, with_initial}
 use Rattle.table.specs.Names.{label_named, object_named}
 use Rattle.table.specs.Items.{LabelItem, ObjectItem, BeforeCaps, BeforeObjects, Admits}
 use Rattle.table.specs.Placement.{is_aligned}
-use Rattle.table.specs.Rules.{IsAtRest, IsBlank, IsLawful, IsWithinLimits}
+use Rattle.table.specs.Rules.{IsAtRest, IsBlank, IsDraft, IsWithinLimits}
 use Rattle.words.specs.declared.faults.Wrong.{Wrong}
 use Rattle.words.specs.declared.faults.Wrong.TheVariants as wrong
 use Rattle.words.specs.Name.{is_name}
@@ -33,11 +32,11 @@ use Rattle.words.specs.Number.{dec_of, hexadecimal}
 use Rattle.words.specs.Reading.{bind, word_at, ended_at, or_syntax}
 use Rattle.words.proofs.Spellings.{decimal_iff, decimal_first}
 use Rattle.words.proofs.WordLaws.{bind_ok, word_then, ended_then, number_then, hex_then, name_then, number_again, hex_number_again, name_again}
-use Rattle.captext.specs.declared.shapes.ShareTerms.{ShareTerms}
 use Rattle.captext.specs.PolicyText.{label_name}
-use Rattle.captext.specs.Tables.{takes_objects, takes_labels, label_line, heading, is_within, declared, cnode_line, start_of, tcb_line, notification_line, unshared, shared, share_at, is_share, limited_share, context_line}
-use Rattle.captext.specs.TableText.{kind_word, start_word, share_words, content_words, IsBroughtObject}
-use Rattle.captext.proofs.LineLaws.{TakesItem, then_words, spelled_then, objects_take, labels_take, objects_again, labels_again}
+use Rattle.captext.specs.Spelling.{object_kind_word}
+use Rattle.captext.specs.Tables.{takes_objects, takes_labels, label_line, heading, is_within, declared, address_at, addressed, sized, start_of, thread_at, unbound, unshared, share_at, shared, context_at, control_at, object_at, object_line}
+use Rattle.captext.specs.TableText.{kind_word, start_word, share_words, content_words}
+use Rattle.captext.proofs.LineLaws.{TakesItem, then_words, spelled_then, found_word, same_ok, objects_take, labels_take, objects_again, labels_again}
 use Rattle.captext.proofs.NameLaws.{label_takes, label_again, is_label_name}
 use Rattle.captext.proofs.StepLaws.{demand_then, value_then}
 
@@ -56,7 +55,6 @@ label_line_takes t words next h =
       record {
         now = labels_take t now.0;
         admits = record { spelled = name.is; fresh = not-true _ fresh.0; room = ltb-true _ _ room.0 };
-        brought = tt;
         words_are = ap (λ ws. codes "label" ∷ ws) (then_words name.words_are ended.0);
         grown = cc;
       },
@@ -97,20 +95,20 @@ heading_then t name label f y h =
       goes_on = ap f same ∙ read.2;
     }
 
-heading_again : (t : Layout) (name : List ℕ) (number : ℕ) → IsLawful t → BeforeCaps t → number < length t.labels
+heading_again : (t : Layout) (name : List ℕ) (number : ℕ) → IsDraft t → BeforeCaps t → number < length t.labels
     → is_some (object_named t name) ≡ false → heading t name (label_name t number) ≡ Ok number
 unfolding heading bind
-heading_again t name number lawful now within fresh = rw (objects_again t now, label_again t number lawful within, fresh) refl
+heading_again t name number draft now within fresh = rw (objects_again t now, label_again t number draft within, fresh) refl
 
 -- an object that the line spells is declared
 
 declared_takes : (t : Layout) (name : List ℕ) (label : ℕ) (object : Object) (words : List (List ℕ)) (next : Layout)
     → is_name name ≡ true → BeforeCaps t → label < length t.labels → is_some (object_named t name) ≡ false
-    → IsBlank object → repeats_control t object ≡ false → IsBroughtObject object
+    → IsBlank object → repeats_control t object ≡ false
     → words ≡ kind_word object ∷ name ∷ label_name t label ∷ content_words object → declared t name label object ≡ Ok next
     → TakesItem t words next
 unfolding declared
-declared_takes t name label object words next spelled now within fresh blank controls brought words_are h =
+declared_takes t name label object words next spelled now within fresh blank controls words_are h =
     let limits = demand_then (is_within t object) wrong.Limit _ next h in
     let placed = demand_then (is_aligned object && is_free t object) wrong.Misplaced _ next limits.1 in
     let fits = and_parts _ _ limits.0 in
@@ -129,7 +127,6 @@ declared_takes t name label object words next spelled now within fresh blank con
           aligned = lies.0;
           free = lies.1;
         };
-        brought = brought;
         words_are = words_are;
         grown = cc;
       },
@@ -141,64 +138,49 @@ unfolding declared bind
 declared_again t name initial admits =
     rw (and_from _ _ admits.room (le-leb _ _ admits.end), and_from _ _ admits.aligned admits.free) refl
 
--- a CNode
+-- the object that a kind's own words tell
 
-pub cnode_line_takes : (t : Layout) (words : List (List ℕ)) (next : Layout) → cnode_line t words ≡ Ok next
-    → TakesItem t (codes "cnode" ∷ words) next
-unfolding cnode_line
-cnode_line_takes t words next h =
-    let name = name_then _ words next h in
-    let label = name_then _ name.rest next name.goes_on in
-    let address = hex_then _ label.rest next label.goes_on in
-    let radix = number_then _ address.rest next address.goes_on in
-    let ended = ended_then _ radix.rest next radix.goes_on in
-    let head = heading_then t name.name label.name _ next ended.1 in
-    let limit = demand_then (nat_lt 0 radix.number && nat_le radix.number MAX_RADIX) wrong.Limit _ next head.goes_on in
+abbrev pub TellsObject : ObjectKind → List (List ℕ) → Object → Type 0
+TellsObject kind words object = (kind_of_object object ≡ kind) × (words ≡ content_words object) × IsBlank object
+
+moved : (kind : ObjectKind) (words spelled : List (List ℕ)) (made object : Object) → words ≡ spelled
+    → ◌≡◌ {A = Option Object} (Some made) (Some object) → TellsObject kind spelled made → TellsObject kind words object
+moved kind words spelled made object is same tells =
+    let here : made ≡ object = cc in subst (TellsObject kind words) here (tells.0, is ∙ tells.1, tells.2)
+
+-- HEX
+
+addressed_takes : (kind : ObjectKind) (make : ℕ → Object) → ((address : ℕ) → TellsObject kind (hexadecimal address ∷ []) (make address))
+    → (words : List (List ℕ)) (object : Object) → addressed make words ≡ Ok (Some object) → TellsObject kind words object
+unfolding addressed address_at
+addressed_takes kind make tells words object h =
+    let read = bind_ok (address_at words) _ (Some object) h in
+    let address = hex_then _ words read.0 read.1 in
+    let ended = ended_then _ address.rest read.0 address.goes_on in
+    moved kind words (hexadecimal address.number ∷ []) (make address.number) object (then_words address.words_are ended.0)
+    (ap (λ a. Some (make a)) (same_ok _ _ ended.1) ∙ same_ok _ _ read.2) (tells address.number)
+
+-- HEX DEC
+
+sized_takes : (kind : ObjectKind) (least most : ℕ) (make : ℕ → ℕ → Object)
+    → ((address n : ℕ) → least ≤ n → n ≤ most → TellsObject kind (hexadecimal address ∷ decimal n ∷ []) (make address n))
+    → (words : List (List ℕ)) (object : Object) → sized least most make words ≡ Ok (Some object) → TellsObject kind words object
+unfolding sized
+sized_takes kind least most make tells words object h =
+    let address = hex_then _ words (Some object) h in
+    let number = number_then _ address.rest (Some object) address.goes_on in
+    let ended = ended_then _ number.rest (Some object) number.goes_on in
+    let limit = cond_some _ _ _ (same_ok _ _ ended.1) in
     let parts = and_parts _ _ limit.0 in
-    declared_takes t name.name head.number (o.CNode (record { address = address.number; radix = radix.number }))
-    (codes "cnode" ∷ words) next name.is head.now head.within head.fresh
-    (ltb-true _ _ parts.0, leb-true _ _ parts.1) refl tt
-    (ap (λ ws. codes "cnode" ∷ ws)
-    (then_words name.words_are
-    (then_words (label.words_are ∙ ap (λ w. w ∷ label.rest) head.label_is)
-    (then_words address.words_are (then_words radix.words_are ended.0)))))
-    limit.1
+    moved kind words (hexadecimal address.number ∷ decimal number.number ∷ []) (make address.number number.number) object
+    (then_words address.words_are (then_words number.words_are ended.0)) (ap (λ o. Some o) limit.1)
+    (tells address.number number.number (leb-true _ _ parts.0) (leb-true _ _ parts.1))
 
-pub cnode_line_again : (t : Layout) (name : List ℕ) (label : ℕ) (node : CNode) → IsLawful t → BeforeCaps t
-    → AdmitsObject t name (record { label = label; object = o.CNode node })
-    → cnode_line t (name ∷ label_name t label ∷ content_words (o.CNode node))
-    ≡ Ok (with_initial t name (record { label = label; object = o.CNode node }))
-unfolding cnode_line bind ended_at
-cnode_line_again t name label node lawful now admits =
-    let end = admits.end in
-    let blank = admits.blank in
-    let low : node.address < 2 ^ 64 = omega arith in
-    let few : node.radix < 2 ^ 64 = omega arith in
-    rw (
-      name_again name (label_name t label ∷ hexadecimal node.address ∷ decimal node.radix ∷ []) admits.spelled,
-      name_again (label_name t label) (hexadecimal node.address ∷ decimal node.radix ∷ [])
-          (is_label_name t label lawful admits.label),
-      hex_number_again node.address (decimal node.radix ∷ []) low,
-      number_again node.radix [] few,
-      heading_again t name label lawful now admits.label admits.fresh,
-      and_from _ _ (lt-ltb 0 node.radix blank.0) (le-leb node.radix MAX_RADIX blank.1),
-    ) (declared_again t name (record { label = label; object = o.CNode node }) admits)
-
--- a thread
+-- HEX START
 
 start_takes : (word : List ℕ) (state : RunState) → start_of word ≡ Some state → (word ≡ start_word state) × IsAtRest state
 unfolding start_of
-start_takes word state h =
-    by (bytes_eq word (codes "ready")) (bytes_eq word (codes "inactive")) (bytes_eq-Decides word (codes "ready"))
-    (bytes_eq-Decides word (codes "inactive")) h where
-      by : (ready inactive : Bool) → Decides ready (word ≡ codes "ready") → Decides inactive (word ≡ codes "inactive")
-          → cond ready (Some run.Ready) (cond inactive (Some run.Inactive) None) ≡ Some state
-          → (word ≡ start_word state) × IsAtRest state
-      by true inactive is_ready is_inactive h =
-          let same : run.Ready ≡ state = cc in subst (λ s. (word ≡ start_word s) × IsAtRest s) same (is_ready.0 refl, tt)
-      by false true is_ready is_inactive h =
-          let same : run.Inactive ≡ state = cc in subst (λ s. (word ≡ start_word s) × IsAtRest s) same (is_inactive.0 refl, tt)
-      by false false is_ready is_inactive h = cc
+start_takes word state h = found_word start_word IsAtRest word (run.Ready ∷ run.Inactive ∷ []) state (tt, (tt, tt)) h
 
 start_again : (state : RunState) → IsAtRest state → start_of (start_word state) ≡ Some state
 unfolding start_of
@@ -206,147 +188,66 @@ start_again run.Ready rests = refl
 start_again run.Inactive rests = refl
 start_again _ rests = absurd rests
 
-pub tcb_line_takes : (t : Layout) (words : List (List ℕ)) (next : Layout) → tcb_line t words ≡ Ok next
-    → TakesItem t (codes "tcb" ∷ words) next
-unfolding tcb_line
-tcb_line_takes t words next h =
-    let name = name_then _ words next h in
-    let label = name_then _ name.rest next name.goes_on in
-    let address = hex_then _ label.rest next label.goes_on in
-    let word = word_then _ address.rest next address.goes_on in
-    let start = spelled_then (start_of word.word) _ next word.goes_on in
-    let ended = ended_then _ word.rest next start.2 in
-    let head = heading_then t name.name label.name _ next ended.1 in
+thread_takes : (words : List (List ℕ)) (object : Object) → thread_at words ≡ Ok (Some object) → TellsObject kind.Tcb words object
+unfolding thread_at
+thread_takes words object h =
+    let address = hex_then _ words (Some object) h in
+    let word = word_then _ address.rest (Some object) address.goes_on in
+    let start = spelled_then (start_of word.word) _ (Some object) word.goes_on in
+    let ended = ended_then _ word.rest (Some object) start.2 in
     let rests = start_takes word.word start.0 start.1 in
-    declared_takes t name.name head.number
-    (o.Tcb (record { address = address.number; state = start.0; inbox = inbox.Empty; context = None }))
-    (codes "tcb" ∷ words) next name.is head.now head.within head.fresh
-    (rests.1, refl, refl) refl tt
-    (ap (λ ws. codes "tcb" ∷ ws)
-    (then_words name.words_are
-    (then_words (label.words_are ∙ ap (λ w. w ∷ label.rest) head.label_is)
-    (then_words address.words_are (then_words (word.words_are ∙ ap (λ w. w ∷ word.rest) rests.0) ended.0)))))
-    head.goes_on
+    moved kind.Tcb words (hexadecimal address.number ∷ start_word start.0 ∷ []) _ object
+    (then_words address.words_are (then_words (word.words_are ∙ ap (λ w. w ∷ word.rest) rests.0) ended.0))
+    (same_ok _ _ ended.1) (refl, refl, (rests.1, refl, refl))
 
-pub tcb_line_again : (t : Layout) (name : List ℕ) (label : ℕ) (thread : Tcb) → IsLawful t → BeforeCaps t
-    → AdmitsObject t name (record { label = label; object = o.Tcb thread })
-    → tcb_line t (name ∷ label_name t label ∷ content_words (o.Tcb thread))
-    ≡ Ok (with_initial t name (record { label = label; object = o.Tcb thread }))
-unfolding tcb_line bind word_at or_syntax ended_at
-tcb_line_again t name label thread lawful now admits =
-    let end = admits.end in
-    let blank = admits.blank in
-    let low : thread.address < 2 ^ 64 = omega arith in
-    let fresh : Tcb = record { address = thread.address; state = thread.state; inbox = inbox.Empty; context = None } in
-    let same : fresh ≡ thread = (λ i. record {
-      address = thread.address;
-      state = thread.state;
-      inbox = sym blank.1 i;
-      context = sym blank.2 i;
-    }) in
-    rw (
-      name_again name (label_name t label ∷ hexadecimal thread.address ∷ start_word thread.state ∷ []) admits.spelled,
-      name_again (label_name t label) (hexadecimal thread.address ∷ start_word thread.state ∷ [])
-          (is_label_name t label lawful admits.label),
-      hex_number_again thread.address (start_word thread.state ∷ []) low,
-      start_again thread.state blank.0,
-      heading_again t name label lawful now admits.label admits.fresh,
-    ) (ap (λ (tcb : Tcb). declared t name label (o.Tcb tcb)) same
-    ∙ declared_again t name (record { label = label; object = o.Tcb thread }) admits)
+-- HEX and a share
 
--- a notification
-
-pub notification_line_takes : (t : Layout) (words : List (List ℕ)) (next : Layout) → notification_line t words ≡ Ok next
-    → TakesItem t (codes "notification" ∷ words) next
-unfolding notification_line
-notification_line_takes t words next h =
-    let name = name_then _ words next h in
-    let label = name_then _ name.rest next name.goes_on in
-    let address = hex_then _ label.rest next label.goes_on in
-    let ended = ended_then _ address.rest next address.goes_on in
-    let head = heading_then t name.name label.name _ next ended.1 in
-    declared_takes t name.name head.number (o.Notification (record { address = address.number; pending = None }))
-    (codes "notification" ∷ words) next name.is head.now head.within head.fresh
-    refl refl tt
-    (ap (λ ws. codes "notification" ∷ ws)
-    (then_words name.words_are
-    (then_words (label.words_are ∙ ap (λ w. w ∷ label.rest) head.label_is) (then_words address.words_are ended.0))))
-    head.goes_on
-
-pub notification_line_again : (t : Layout) (name : List ℕ) (label : ℕ) (notification : Notification) → IsLawful t → BeforeCaps t
-    → AdmitsObject t name (record { label = label; object = o.Notification notification })
-    → notification_line t (name ∷ label_name t label ∷ content_words (o.Notification notification))
-    ≡ Ok (with_initial t name (record { label = label; object = o.Notification notification }))
-unfolding notification_line bind ended_at
-notification_line_again t name label notification lawful now admits =
-    let end = admits.end in
-    let low : notification.address < 2 ^ 64 = omega arith in
-    let fresh : Notification = record { address = notification.address; pending = None } in
-    let same : fresh ≡ notification = (λ i. record { address = notification.address; pending = sym admits.blank i }) in
-    rw (
-      name_again name (label_name t label ∷ hexadecimal notification.address ∷ []) admits.spelled,
-      name_again (label_name t label) (hexadecimal notification.address ∷ []) (is_label_name t label lawful admits.label),
-      hex_number_again notification.address [] low,
-      heading_again t name label lawful now admits.label admits.fresh,
-    ) (ap (λ (n : Notification). declared t name label (o.Notification n)) same
-    ∙ declared_again t name (record { label = label; object = o.Notification notification }) admits)
-
--- a share of a core
-
-abbrev terms_words : Option ShareTerms → List (List ℕ)
-terms_words None = codes "-" ∷ []
-terms_words (Some terms) = decimal terms.core ∷ decimal terms.budget ∷ decimal terms.period ∷ []
-
-shared_takes : (first : List ℕ) (words : List (List ℕ)) (terms : Option ShareTerms) → shared first words ≡ Ok terms
-    → first ∷ words ≡ terms_words terms
-unfolding shared
-shared_takes first words terms h =
-    let core = spelled_then (dec_of first) _ terms h in
-    let budget = number_then _ words terms core.2 in
-    let period = number_then _ budget.rest terms budget.goes_on in
-    let ended = ended_then _ period.rest terms period.goes_on in
-    let same : Some (record { core = core.0; budget = budget.number; period = period.number }) ≡ terms = cc in
+shared_takes : (address : ℕ) (first : List ℕ) (words : List (List ℕ)) (object : Object)
+    → shared address first words ≡ Ok (Some object) → TellsObject kind.Context (hexadecimal address ∷ first ∷ words) object
+unfolding shared share_at
+shared_takes address first words object h =
+    let told = bind_ok (share_at first words) _ (Some object) h in
+    let core = spelled_then (dec_of first) _ told.0 told.1 in
+    let budget = number_then _ words told.0 core.2 in
+    let period = number_then _ budget.rest told.0 budget.goes_on in
+    let ended = ended_then _ period.rest told.0 period.goes_on in
+    let made = some_share address told.0 object (same_ok _ _ told.2) in
+    let limit = cond_some _ _ _ (same_ok _ _ ended.1 ∙ made.1) in
+    let parts = and_parts _ _ limit.0 in
+    let times = and_parts _ _ parts.1 in
+    let budgets = and_parts _ _ times.0 in
     let spells = (decimal_iff first core.0).0 core.1 in
-    subst (λ ts. first ∷ words ≡ terms_words ts) same
-    (then_words (ap (λ w. w ∷ words) spells.0) (then_words budget.words_are (then_words period.words_are ended.0)))
-
-share_takes : (words : List (List ℕ)) (terms : Option ShareTerms) → share_at words ≡ Ok terms → words ≡ terms_words terms
-unfolding share_at unshared
-share_takes words terms h =
-    let first = word_then _ words terms h in
-    first.words_are
-    ∙ by first.word first.rest (bytes_eq first.word (codes "-")) (bytes_eq-Decides first.word (codes "-")) first.goes_on
+    moved kind.Context _ (hexadecimal address ∷ decimal core.0 ∷ decimal budget.number ∷ decimal period.number ∷ []) _ object
+    (ap (λ ws. hexadecimal address ∷ ws)
+    (then_words (ap (λ w. w ∷ words) spells.0) (then_words budget.words_are (then_words period.words_are ended.0))))
+    (ap (λ share. Some (unbound address (Some share))) limit.1 ∙ made.2)
+    (refl, refl, ((leb-true _ _ budgets.0, leb-true _ _ budgets.1, leb-true _ _ times.1, ltb-true _ _ parts.0), refl))
   where
-    by : (first : List ℕ) (rest : List (List ℕ)) (none : Bool) → Decides none (first ≡ codes "-")
-        → cond none (unshared rest) (shared first rest) ≡ Ok terms → first ∷ rest ≡ terms_words terms
-    by first rest true is h =
-        let ended = ended_then _ rest terms h in
-        let same : None ≡ terms = cc in
-        subst (λ ts. first ∷ rest ≡ terms_words ts) same (then_words (ap (λ w. w ∷ rest) (is.0 refl)) ended.0)
-    by first rest false is h = shared_takes first rest terms h
+    some_share : (address : ℕ) (told : Option Share) (object : Object)
+        → option_map (λ share. unbound address (Some share)) told ≡ Some object
+        → (share : Share) × (told ≡ Some share) × (◌≡◌ {A = Option Object} (Some (unbound address (Some share))) (Some object))
+    some_share address None object h = cc
+    some_share address (Some share) object h = (share, refl, h)
 
-limits_take : (terms : Option ShareTerms) (share : Option Share) → limited_share terms ≡ Ok share
-    → (terms_words terms ≡ share_words share) × IsWithinLimits share
-unfolding limited_share
-limits_take None share h =
-    let same : None ≡ share = cc in subst (λ s. (terms_words None ≡ share_words s) × IsWithinLimits s) same (refl, tt)
-limits_take (Some terms) share h = by (is_share terms) refl h where
-  by : (within : Bool) → is_share terms ≡ within
-      → cond within (Ok (Some (record { core = terms.core; budget = terms.budget; period = terms.period })))
-      (Err wrong.Limit) ≡ Ok share
-      → (terms_words (Some terms) ≡ share_words share) × IsWithinLimits share
-  by true is h =
-      let same : Some (record { core = terms.core; budget = terms.budget; period = terms.period }) ≡ share = cc in
-      let parts = and_parts _ _ is in
-      let low = and_parts _ _ parts.0 in
-      let high = and_parts _ _ parts.1 in
-      subst (λ s. (terms_words (Some terms) ≡ share_words s) × IsWithinLimits s) same
-      (refl, (leb-true _ _ low.1, leb-true _ _ high.0, leb-true _ _ high.1, ltb-true _ _ low.0))
-  by false is h = cc
-
-abbrev terms_of : Option Share → Option ShareTerms
-terms_of None = None
-terms_of (Some share) = Some (record { core = share.core; budget = share.budget; period = share.period })
+context_takes : (words : List (List ℕ)) (object : Object) → context_at words ≡ Ok (Some object)
+    → TellsObject kind.Context words object
+unfolding context_at unshared
+context_takes words object h =
+    let address = hex_then _ words (Some object) h in
+    let first = word_then _ address.rest (Some object) address.goes_on in
+    moved kind.Context words (hexadecimal address.number ∷ first.word ∷ first.rest) object object
+    (then_words address.words_are first.words_are) refl
+    (by address.number first.word first.rest (bytes_eq first.word (codes "-")) (bytes_eq-Decides first.word (codes "-"))
+    first.goes_on)
+  where
+    by : (address : ℕ) (first : List ℕ) (rest : List (List ℕ)) (none : Bool) → Decides none (first ≡ codes "-")
+        → cond none (unshared address rest) (shared address first rest) ≡ Ok (Some object)
+        → TellsObject kind.Context (hexadecimal address ∷ first ∷ rest) object
+    by address first rest true is h =
+        let ended = ended_then _ rest (Some object) h in
+        moved kind.Context _ (hexadecimal address ∷ codes "-" ∷ []) _ object
+        (λ i. hexadecimal address ∷ is.0 refl i ∷ ended.0 i) (same_ok _ _ ended.1) (refl, refl, (tt, refl))
+    by address first rest false is h = shared_takes address first rest object h
 
 no_dash : (n : ℕ) → n < 2 ^ 64 → (same : Bool) → Decides same (decimal n ≡ codes "-") → same ≡ false
 no_dash n small false other = refl
@@ -354,68 +255,124 @@ no_dash n small true same =
     let digit : is_ascii_digit 45 ≡ true = ap (λ w. is_ascii_digit (get_or w 0 0)) (sym (same.0 refl)) ∙ decimal_first n small in
     cc
 
-share_again : (share : Option Share) → IsWithinLimits share → share_at (share_words share) ≡ Ok (terms_of share)
-unfolding share_at unshared shared bind word_at or_syntax ended_at
-share_again None within = refl
-share_again (Some share) within =
+context_again : (address : ℕ) (share : Option Share) → address < 2 ^ 64 → IsWithinLimits share
+    → context_at (hexadecimal address ∷ share_words share) ≡ Ok (Some (unbound address share))
+unfolding context_at unshared shared share_at bind word_at or_syntax ended_at
+context_again address None low within = rw (hex_number_again address (codes "-" ∷ []) low) refl
+context_again address (Some share) low within =
     let core : share.core < 2 ^ 64 = omega arith in
     let budget : share.budget < 2 ^ 64 = omega arith in
     let period : share.period < 2 ^ 64 = omega arith in
     rw (
+      hex_number_again address (share_words (Some share)) low,
       no_dash share.core core (bytes_eq (decimal share.core) (codes "-")) (bytes_eq-Decides (decimal share.core) (codes "-")),
       (decimal_iff (decimal share.core) share.core).1 (refl, core),
       number_again share.budget (decimal share.period ∷ []) budget,
       number_again share.period [] period,
+      lt-ltb share.core CoreNo.COUNT within.3,
+      le-leb 1 share.budget within.0,
+      le-leb share.budget share.period within.1,
+      le-leb share.period MAX_PERIOD within.2,
     ) refl
 
-limits_again : (share : Option Share) → IsWithinLimits share → limited_share (terms_of share) ≡ Ok share
-unfolding limited_share
-limits_again None within = refl
-limits_again (Some share) within =
-    cond-true _ _ _
-    (and_from _ _ (and_from _ _ (lt-ltb share.core CoreNo.COUNT within.3) (le-leb 1 share.budget within.0))
-    (and_from _ _ (le-leb share.budget share.period within.1) (le-leb share.period MAX_PERIOD within.2)))
+-- DEC
 
--- a scheduling context
+control_takes : (words : List (List ℕ)) (object : Object) → control_at words ≡ Ok (Some object)
+    → TellsObject kind.Control words object
+unfolding control_at
+control_takes words object h =
+    let core = number_then _ words (Some object) h in
+    let ended = ended_then _ core.rest (Some object) core.goes_on in
+    let limit = cond_some _ _ _ (same_ok _ _ ended.1) in
+    moved kind.Control words (decimal core.number ∷ []) _ object (then_words core.words_are ended.0) (ap (λ o. Some o) limit.1)
+    (refl, refl, ltb-true _ _ limit.0)
 
-pub context_line_takes : (t : Layout) (words : List (List ℕ)) (next : Layout) → context_line t words ≡ Ok next
-    → TakesItem t (codes "context" ∷ words) next
-unfolding context_line
-context_line_takes t words next h =
+-- the words of every kind
+
+pub object_takes : (kind : ObjectKind) (words : List (List ℕ)) (object : Object) → object_at kind words ≡ Ok (Some object)
+    → TellsObject kind words object
+object_takes kind.Untyped = sized_takes kind.Untyped 4 47 _ (λ address n low high. (refl, refl, (low, high, refl)))
+object_takes kind.CNode = sized_takes kind.CNode 1 MAX_RADIX _ (λ address n low high. (refl, refl, (omega arith, high)))
+object_takes kind.Tcb = thread_takes
+object_takes kind.Endpoint = addressed_takes kind.Endpoint _ (λ address. (refl, refl, tt))
+object_takes kind.Notification = addressed_takes kind.Notification _ (λ address. (refl, refl, refl))
+object_takes kind.Reply = addressed_takes kind.Reply _ (λ address. (refl, refl, refl))
+object_takes kind.Context = context_takes
+object_takes kind.Frame = addressed_takes kind.Frame _ (λ address. (refl, refl, tt))
+object_takes kind.Control = control_takes
+
+pub object_again : (object : Object) → IsBlank object → end_of object ≤ ADDRESS_END
+    → object_at (kind_of_object object) (content_words object) ≡ Ok (Some object)
+unfolding sized addressed address_at thread_at control_at bind word_at or_syntax ended_at
+object_again (o.Untyped memory) blank end =
+    let low : memory.base < 2 ^ 64 = omega arith in
+    let few : memory.bits < 2 ^ 64 = omega arith in
+    rw (
+      hex_number_again memory.base (decimal memory.bits ∷ []) low,
+      number_again memory.bits [] few,
+      le-leb 4 memory.bits blank.0,
+      le-leb memory.bits 47 blank.1,
+    ) (λ i. Ok (Some (o.Untyped (record { base = memory.base; bits = memory.bits; watermark = sym blank.2 i }))))
+object_again (o.CNode node) blank end =
+    let low : node.address < 2 ^ 64 = omega arith in
+    let few : node.radix < 2 ^ 64 = omega arith in
+    rw (
+      hex_number_again node.address (decimal node.radix ∷ []) low,
+      number_again node.radix [] few,
+      le-leb 1 node.radix (omega arith),
+      le-leb node.radix MAX_RADIX blank.1,
+    ) refl
+object_again (o.Tcb thread) blank end =
+    let low : thread.address < 2 ^ 64 = omega arith in
+    rw (hex_number_again thread.address (start_word thread.state ∷ []) low, start_again thread.state blank.0)
+    (λ i. Ok (Some (o.Tcb (record {
+      address = thread.address;
+      state = thread.state;
+      inbox = sym blank.1 i;
+      context = sym blank.2 i;
+    }))))
+object_again (o.Endpoint endpoint) blank end = rw (hex_number_again endpoint.address [] (omega arith)) refl
+object_again (o.Notification notification) blank end =
+    rw (hex_number_again notification.address [] (omega arith))
+    (λ i. Ok (Some (o.Notification (record { address = notification.address; pending = sym blank i }))))
+object_again (o.Reply answer) blank end =
+    rw (hex_number_again answer.address [] (omega arith))
+    (λ i. Ok (Some (o.Reply (record { address = answer.address; state = sym blank i }))))
+object_again (o.Context context) blank end =
+    context_again context.address context.share (omega arith) blank.0
+    ∙ (λ i. Ok (Some (o.Context (record { address = context.address; share = context.share; thread = sym blank.1 i }))))
+object_again (o.Frame frame) blank end = rw (hex_number_again frame.address [] (omega arith)) refl
+object_again (o.Control control) blank end =
+    rw (number_again control.core [] (omega arith), lt-ltb control.core CoreNo.COUNT blank) refl
+
+-- an object's line
+
+pub object_line_takes : (kind : ObjectKind) (t : Layout) (words : List (List ℕ)) (next : Layout)
+    → object_line kind t words ≡ Ok next → TakesItem t (object_kind_word kind ∷ words) next
+unfolding object_line
+object_line_takes kind t words next h =
     let name = name_then _ words next h in
     let label = name_then _ name.rest next name.goes_on in
-    let address = hex_then _ label.rest next label.goes_on in
-    let terms = bind_ok (share_at address.rest) _ next address.goes_on in
-    let head = heading_then t name.name label.name _ next terms.2 in
-    let share = bind_ok (limited_share terms.0) _ next head.goes_on in
-    let limits = limits_take terms.0 share.0 share.1 in
-    declared_takes t name.name head.number (o.Context (record { address = address.number; share = share.0; thread = None }))
-    (codes "context" ∷ words) next name.is head.now head.within head.fresh
-    (limits.1, refl) refl tt
-    (ap (λ ws. codes "context" ∷ ws)
-    (then_words name.words_are
-    (then_words (label.words_are ∙ ap (λ w. w ∷ label.rest) head.label_is)
-    (then_words address.words_are (share_takes address.rest terms.0 terms.1 ∙ limits.0)))))
-    share.2
+    let told = bind_ok (object_at kind label.rest) _ next label.goes_on in
+    let head = heading_then t name.name label.name _ next told.2 in
+    let object = value_then told.0 wrong.Limit _ next head.goes_on in
+    let once = demand_then (not (repeats_control t object.0)) wrong.Double _ next object.2 in
+    let is = object_takes kind label.rest object.0 (told.1 ∙ ap (λ o. Ok o) object.1) in
+    let named =
+    then_words name.words_are (then_words (label.words_are ∙ ap (λ w. w ∷ label.rest) head.label_is) is.1) in
+    declared_takes t name.name head.number object.0 (object_kind_word kind ∷ words) next name.is head.now head.within head.fresh
+    is.2 (not-true _ once.0) (λ i. object_kind_word (sym is.0 i) ∷ named i) once.1
 
-pub context_line_again : (t : Layout) (name : List ℕ) (label : ℕ) (context : Context) → IsLawful t → BeforeCaps t
-    → AdmitsObject t name (record { label = label; object = o.Context context })
-    → context_line t (name ∷ label_name t label ∷ content_words (o.Context context))
-    ≡ Ok (with_initial t name (record { label = label; object = o.Context context }))
-unfolding context_line bind
-context_line_again t name label context lawful now admits =
-    let end = admits.end in
-    let blank = admits.blank in
-    let low : context.address < 2 ^ 64 = omega arith in
-    let fresh : Context = record { address = context.address; share = context.share; thread = None } in
-    let same : fresh ≡ context = (λ i. record { address = context.address; share = context.share; thread = sym blank.1 i }) in
+pub object_line_again : (t : Layout) (name : List ℕ) (initial : Initial) → IsDraft t → BeforeCaps t → AdmitsObject t name initial
+    → object_line (kind_of_object initial.object) t (name ∷ label_name t initial.label ∷ content_words initial.object)
+    ≡ Ok (with_initial t name initial)
+unfolding object_line bind
+object_line_again t name initial draft now admits =
+    let words = content_words initial.object in
     rw (
-      name_again name (label_name t label ∷ hexadecimal context.address ∷ share_words context.share) admits.spelled,
-      name_again (label_name t label) (hexadecimal context.address ∷ share_words context.share)
-          (is_label_name t label lawful admits.label),
-      hex_number_again context.address (share_words context.share) low,
-      share_again context.share blank.0,
-      heading_again t name label lawful now admits.label admits.fresh,
-      limits_again context.share blank.0,
-    ) (ap (λ (c : Context). declared t name label (o.Context c)) same
-    ∙ declared_again t name (record { label = label; object = o.Context context }) admits)
+      name_again name (label_name t initial.label ∷ words) admits.spelled,
+      name_again (label_name t initial.label) words (is_label_name t initial.label draft admits.label),
+      object_again initial.object admits.blank admits.end,
+      heading_again t name initial.label draft now admits.label admits.fresh,
+      admits.controls,
+    ) (declared_again t name initial admits)

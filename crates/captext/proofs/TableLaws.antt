@@ -1,41 +1,45 @@
 -- What a table that was read says of its text, and that the text of each table is read back.
-use Rattle.std.proofs.Common.{◌≡◌, ◌↔◌, ℕ, ◌<◌, ◌≤◌, ◌^◌, Bool, true, false, cond, List, [], ◌∷◌, ◌++◌, codes, Option, Some, None, Result, Ok, Err, IfOk, refl, sym, ap, subst, ◌∙◌, arith, append_assoc}
-use Rattle.std.specs.Bool.{Decides}
+use Rattle.std.proofs.Common.{◌≡◌, ◌↔◌, ℕ, ◌<◌, ◌≤◌, ◌^◌, Bool, true, false, not, cond, length, List, [], ◌∷◌, ◌++◌, map, codes, Option, Some, None, Result, Ok, Err, IfOk, refl, sym, ap, subst, ◌∙◌, arith, append_assoc}
+use Rattle.std.specs.Bool.{⊤, Decides}
 use Rattle.std.specs.List.{AllByRecursion}
 use Rattle.std.specs.Str.{bytes_eq}
 use Rattle.std.proofs.lemmas.List.{append-nil}
-use Rattle.std.proofs.lemmas.List.Elements.{All-nil, All-push, All-pop}
+use Rattle.std.proofs.lemmas.List.Quantifiers.{position-Some}
 use Rattle.std.proofs.lemmas.Slice.Eq.{bytes_eq-Decides}
+use Rattle.base.specs.declared.ids.SlotRef.{SlotRef}
 use Rattle.base.specs.declared.limits.TheConstants.{ADDRESS_END}
 use Rattle.machine.specs.declared.layout.Filled.{Filled}
-use Rattle.machine.specs.declared.layout.Initial.{Initial}
 use Rattle.machine.specs.declared.object.Object.{Object}
 use Rattle.machine.specs.declared.object.Object.TheVariants as o
+use Rattle.machine.specs.declared.object.ObjectKind.{ObjectKind}
 use Rattle.machine.specs.declared.object.ObjectKind.TheVariants as kind
 use Rattle.machine.specs.declared.object.Share.{Share}
 use Rattle.machine.specs.declared.thread.RunState.{RunState}
 use Rattle.machine.specs.declared.thread.RunState.TheVariants as run
-use Rattle.machine.specs.Layout.{Layout, empty_layout}
-use Rattle.machine.specs.Objects.{end_of}
-use Rattle.table.specs.Building.{AdmitsObject, with_initial}
-use Rattle.table.specs.Items.{Item, LabelItem, ObjectItem, CapItem, BindingItem, Admits, BeforeCaps, ComesNow, IsBuiltUp, none, more, with_item}
-use Rattle.table.specs.Rules.{IsAtRest, IsBlank, IsLawful, IsWithinLimits}
+use Rattle.machine.specs.Layout.{Layout, empty_layout, initial_of}
+use Rattle.machine.specs.Objects.{kind_of_object, end_of}
+use Rattle.table.specs.Items.{Item, LabelItem, ObjectItem, CapItem, PairItem, BindingItem, Admits, ComesNow, IsBuiltUp, none, more, with_item}
+use Rattle.table.specs.Rules.{IsAtRest, IsBlank, IsDraft, IsLawful, IsWithinLimits, kind_at}
+use Rattle.table.specs.Tree.{is_kin, tree_fault, with_mark, with_originals}
+use Rattle.table.proofs.BuiltUp.{draft_from_built}
 use Rattle.words.specs.declared.faults.Fault.{Fault}
 use Rattle.words.specs.declared.faults.Wrong.{Wrong}
-use Rattle.words.specs.Reading.{bind, last_line, word_at, steps, whole_lines, IsNotLast, Reads}
+use Rattle.words.specs.Reading.{bind, last_line, word_at, or_syntax, steps, whole_lines, IsNotLast, Reads}
 use Rattle.words.specs.Text.{text_of, IsPlainLine, IsPlainWord}
 use Rattle.words.proofs.TextLaws.{both}
 use Rattle.words.proofs.TextReading.{whole_text_takes, whole_text_again}
 use Rattle.words.proofs.WordLaws.{bind_ok, word_then, plain_bytes, plain_decimal, plain_hexadecimal, plain_name}
 use Rattle.captext.specs.PolicyText.{label_name}
-use Rattle.captext.specs.Tables.{line_by, table_line, read_table_of}
-use Rattle.captext.specs.TableText.{table_header, kind_word, start_word, share_words, content_words, object_name, object_words, item_words, table_lines, table_text, IsBroughtObject, HasWordBadge, IsBroughtItem, IsBrought, IsLineOf}
+use Rattle.captext.specs.Spelling.{object_kinds, object_kind_word}
+use Rattle.captext.specs.Tables.{object_line, object_kind_of, declaration, line_by, table_line, grown, grown_by, table_format, read_table_of}
+use Rattle.captext.specs.TableText.{table_header, start_word, share_words, content_words, object_name, cap_words, item_words, label_lines, object_lines, pair_lines, binding_lines, table_lines, table_text, IsLineOf}
 use Rattle.captext.proofs.BindLines.{bind_line_takes, bind_line_again, has_name}
 use Rattle.captext.proofs.CapLines.{cap_line_takes}
 use Rattle.captext.proofs.CapTexts.{cap_line_again, cap_plain}
-use Rattle.captext.proofs.LineLaws.{TakesItem}
+use Rattle.captext.proofs.LineLaws.{TakesItem, spelled_then, found_word}
 use Rattle.captext.proofs.NameLaws.{is_label_name, is_object_name}
-use Rattle.captext.proofs.ObjectLines.{label_line_takes, label_line_again, cnode_line_takes, cnode_line_again, tcb_line_takes, tcb_line_again, notification_line_takes, notification_line_again, context_line_takes, context_line_again}
+use Rattle.captext.proofs.ObjectLines.{label_line_takes, label_line_again, object_line_takes, object_line_again}
+use Rattle.captext.proofs.PairLines.{child_line_takes, child_line_again, pair_plain}
 use Rattle.captext.proofs.TableLines.{item_more}
 
 -- a line that is read is the line of an item
@@ -49,18 +53,24 @@ chosen t next keyword key words here other h this that = by (bytes_eq keyword ke
   by true same h = subst (λ k. TakesItem t (k ∷ words) next) (sym (same.0 refl)) (this h)
   by false same h = that h
 
+-- a word that names a kind begins the lines of its objects
+kind_takes : (word : List ℕ) (kind : ObjectKind) → object_kind_of word ≡ Some kind → word ≡ object_kind_word kind
+unfolding object_kind_of
+kind_takes word kind h =
+    (found_word object_kind_word (λ (kind : ObjectKind). ⊤) word object_kinds kind
+    (tt, (tt, (tt, (tt, (tt, (tt, (tt, (tt, (tt, tt))))))))) h).0
+
 line_by_takes : (t next : Layout) (keyword : List ℕ) (words : List (List ℕ)) → line_by keyword t words ≡ Ok next
     → TakesItem t (keyword ∷ words) next
-unfolding line_by
+unfolding line_by declaration
 line_by_takes t next keyword words h =
     chosen t next keyword (codes "label") words _ _ h (label_line_takes t words next) (λ h.
-    chosen t next keyword (codes "cnode") words _ _ h (cnode_line_takes t words next) (λ h.
-    chosen t next keyword (codes "tcb") words _ _ h (tcb_line_takes t words next) (λ h.
-    chosen t next keyword (codes "notification") words _ _ h (notification_line_takes t words next) (λ h.
-    chosen t next keyword (codes "context") words _ _ h (context_line_takes t words next) (λ h.
     chosen t next keyword (codes "cap") words _ _ h (cap_line_takes t words next) (λ h.
+    chosen t next keyword (codes "child") words _ _ h (child_line_takes t words next) (λ h.
     chosen t next keyword (codes "bind") words _ _ h (bind_line_takes t words next) (λ h.
-    cc)))))))
+    let kind = spelled_then (object_kind_of keyword) _ next h in
+    subst (λ k. TakesItem t (k ∷ words) next) (sym (kind_takes keyword kind.0 kind.1))
+    (object_line_takes kind.0 t words next kind.2)))))
 
 line_takes : (t : Layout) (words : List (List ℕ)) (next : Layout) → table_line t words ≡ Ok next → TakesItem t words next
 unfolding table_line
@@ -70,36 +80,30 @@ line_takes t words next h =
 
 -- and the line of an item is read
 
-object_line_again : (t : Layout) (name : List ℕ) (label : ℕ) (object : Object) → IsLawful t → BeforeCaps t
-    → AdmitsObject t name (record { label = label; object = object }) → IsBroughtObject object
-    → table_line t (object_words t name (record { label = label; object = object }))
-    ≡ Ok (with_initial t name (record { label = label; object = object }))
-unfolding table_line line_by bind word_at
-object_line_again t name label (o.CNode node) lawful now admits brought = cnode_line_again t name label node lawful now admits
-object_line_again t name label (o.Tcb thread) lawful now admits brought = tcb_line_again t name label thread lawful now admits
-object_line_again t name label (o.Notification notification) lawful now admits brought =
-    notification_line_again t name label notification lawful now admits
-object_line_again t name label (o.Context context) lawful now admits brought =
-    context_line_again t name label context lawful now admits
-object_line_again t name label _ lawful now admits brought = absurd brought
+kind_again : (kind : ObjectKind) (t : Layout) (words : List (List ℕ))
+    → line_by (object_kind_word kind) t words ≡ object_line kind t words
+unfolding line_by declaration object_kind_of bind or_syntax
+kind_again kind.Untyped t words = refl
+kind_again _ t words = refl
 
-line_again : (t : Layout) (item : Item) → IsLawful t → IsBrought t → ComesNow t item → Admits t item → IsBroughtItem item
+line_again : (t : Layout) (item : Item) → IsDraft t → ComesNow t item → Admits t item
     → table_line t (item_words t item) ≡ Ok (with_item t item)
 unfolding table_line line_by bind word_at
-line_again t (LabelItem name) lawful brought now admits here = label_line_again t name now admits
-line_again t (ObjectItem name initial) lawful brought now admits here =
-    object_line_again t name initial.label initial.object lawful now admits here
-line_again t (CapItem filled) lawful brought now admits here = cap_line_again t filled lawful brought.objects now admits here
-line_again t (BindingItem binding) lawful brought now admits here = bind_line_again t binding lawful admits
+line_again t (LabelItem name) draft now admits = label_line_again t name now admits
+line_again t (ObjectItem name initial) draft now admits =
+    kind_again (kind_of_object initial.object) t _ ∙ object_line_again t name initial draft now admits
+line_again t (CapItem filled) draft now admits = cap_line_again t filled draft now admits
+line_again t (PairItem pair) draft now admits = child_line_again t pair draft now admits
+line_again t (BindingItem binding) draft now admits = bind_line_again t binding draft admits
 
 -- so a line is read just where it is the line of an item that the table takes next
 
-pub line_iff : (t : Layout) (words : List (List ℕ)) (next : Layout) → IsLawful t → IsBrought t
+pub line_iff : (t : Layout) (words : List (List ℕ)) (next : Layout) → IsDraft t
     → (table_line t words ≡ Ok next) ↔ ((item : Item) × IsLineOf t words next item)
-line_iff t words next lawful brought = (line_takes t words next, again) where
+line_iff t words next draft = (line_takes t words next, again) where
   again : (item : Item) × IsLineOf t words next item → table_line t words ≡ Ok next
   again (item, is) =
-      ap (table_line t) is.words_are ∙ line_again t item lawful brought is.now is.admits is.brought ∙ ap (λ u. Ok u) is.grown
+      ap (table_line t) is.words_are ∙ line_again t item draft is.now is.admits ∙ ap (λ u. Ok u) is.grown
 
 -- the words of an item's line are plain, and it is not the last line
 
@@ -116,150 +120,92 @@ plain_start run.Ready rests = plain_bytes (codes "ready") refl
 plain_start run.Inactive rests = plain_bytes (codes "inactive") refl
 plain_start _ rests = absurd rests
 
-plain_content : (object : Object) → IsBroughtObject object → IsBlank object → end_of object ≤ ADDRESS_END
+plain_content : (object : Object) → IsBlank object → end_of object ≤ ADDRESS_END
     → AllByRecursion IsPlainWord (content_words object)
-plain_content (o.CNode node) brought blank end =
-    let address : node.address < 2 ^ 64 = omega arith in
-    let radix : node.radix < 2 ^ 64 = omega arith in
-    (plain_hexadecimal node.address address, (plain_decimal node.radix radix, tt))
-plain_content (o.Tcb thread) brought blank end =
-    let address : thread.address < 2 ^ 64 = omega arith in
-    (plain_hexadecimal thread.address address, (plain_start thread.state blank.0, tt))
-plain_content (o.Notification notification) brought blank end =
-    let address : notification.address < 2 ^ 64 = omega arith in
-    (plain_hexadecimal notification.address address, tt)
-plain_content (o.Context context) brought blank end =
-    let address : context.address < 2 ^ 64 = omega arith in
-    (plain_hexadecimal context.address address, plain_share context.share blank.0)
-plain_content _ brought blank end = absurd brought
+plain_content (o.Untyped memory) blank end =
+    (plain_hexadecimal memory.base (omega arith), (plain_decimal memory.bits (omega arith), tt))
+plain_content (o.CNode node) blank end =
+    (plain_hexadecimal node.address (omega arith), (plain_decimal node.radix (omega arith), tt))
+plain_content (o.Tcb thread) blank end =
+    (plain_hexadecimal thread.address (omega arith), (plain_start thread.state blank.0, tt))
+plain_content (o.Endpoint endpoint) blank end = (plain_hexadecimal endpoint.address (omega arith), tt)
+plain_content (o.Notification notification) blank end = (plain_hexadecimal notification.address (omega arith), tt)
+plain_content (o.Reply answer) blank end = (plain_hexadecimal answer.address (omega arith), tt)
+plain_content (o.Context context) blank end =
+    (plain_hexadecimal context.address (omega arith), plain_share context.share blank.0)
+plain_content (o.Frame frame) blank end = (plain_hexadecimal frame.address (omega arith), tt)
+plain_content (o.Control control) blank end = (plain_decimal control.core (omega arith), tt)
 
-plain_kind : (object : Object) → IsBroughtObject object → IsPlainWord (kind_word object)
-plain_kind (o.CNode _) brought = plain_bytes (codes "cnode") refl
-plain_kind (o.Tcb _) brought = plain_bytes (codes "tcb") refl
-plain_kind (o.Notification _) brought = plain_bytes (codes "notification") refl
-plain_kind (o.Context _) brought = plain_bytes (codes "context") refl
-plain_kind _ brought = absurd brought
+plain_kind : (kind : ObjectKind) → IsPlainWord (object_kind_word kind)
+plain_kind kind.Untyped = plain_bytes (codes "untyped") refl
+plain_kind kind = plain_bytes (object_kind_word kind) refl
 
-plain_item : (t : Layout) (item : Item) → IsLawful t → IsBrought t → Admits t item → IsBroughtItem item
-    → IsPlainLine (item_words t item)
-plain_item t (LabelItem name) lawful brought admits here =
+plain_item : (t : Layout) (item : Item) → IsDraft t → Admits t item → IsPlainLine (item_words t item)
+plain_item t (LabelItem name) draft admits =
     (plain_bytes (codes "label") refl, (plain_name name admits.spelled, tt))
-plain_item t (ObjectItem name initial) lawful brought admits here = (
-  plain_kind initial.object here,
+plain_item t (ObjectItem name initial) draft admits = (
+  plain_kind (kind_of_object initial.object),
   (
     plain_name name admits.spelled,
     (
-      plain_name (label_name t initial.label) (is_label_name t initial.label lawful admits.label),
-      plain_content initial.object here admits.blank admits.end,
+      plain_name (label_name t initial.label) (is_label_name t initial.label draft admits.label),
+      plain_content initial.object admits.blank admits.end,
     ),
   ),
 )
-plain_item t (CapItem filled) lawful brought admits here = cap_plain t filled lawful brought.objects admits here
-plain_item t (BindingItem binding) lawful brought admits here = (
+plain_item t (CapItem filled) draft admits = cap_plain t filled draft admits
+plain_item t (PairItem pair) draft admits = pair_plain t pair draft admits
+plain_item t (BindingItem binding) draft admits = (
   plain_bytes (codes "bind") refl,
   (
     plain_name (object_name t binding.thread)
-        (is_object_name t binding.thread lawful (has_name t binding.thread kind.Tcb lawful admits.thread)),
+        (is_object_name t binding.thread draft (has_name t binding.thread kind.Tcb draft admits.thread)),
     (
       plain_name (object_name t binding.context)
-          (is_object_name t binding.context lawful (has_name t binding.context kind.Context lawful admits.context)),
+          (is_object_name t binding.context draft (has_name t binding.context kind.Context draft admits.context)),
       tt,
     ),
   ),
 )
 
-object_not_last : (t : Layout) (name : List ℕ) (label : ℕ) (object : Object)
-    → IsNotLast (object_words t name (record { label = label; object = object }))
-object_not_last t name label (o.Untyped _) = refl
-object_not_last t name label (o.CNode _) = refl
-object_not_last t name label (o.Tcb _) = refl
-object_not_last t name label (o.Endpoint _) = refl
-object_not_last t name label (o.Notification _) = refl
-object_not_last t name label (o.Reply _) = refl
-object_not_last t name label (o.Context _) = refl
-object_not_last t name label (o.Frame _) = refl
-object_not_last t name label (o.Control _) = refl
+kind_not_last : (kind : ObjectKind) (words : List (List ℕ)) → IsNotLast (object_kind_word kind ∷ words)
+kind_not_last kind.Untyped words = refl
+kind_not_last _ words = refl
 
 not_last : (t : Layout) (item : Item) → IsNotLast (item_words t item)
 not_last t (LabelItem name) = refl
-not_last t (ObjectItem name initial) = object_not_last t name initial.label initial.object
+not_last t (ObjectItem name initial) =
+    kind_not_last (kind_of_object initial.object) (name ∷ label_name t initial.label ∷ content_words initial.object)
 not_last t (CapItem filled) = refl
+not_last t (PairItem pair) = refl
 not_last t (BindingItem binding) = refl
 
--- tables that are brought, with and without their last item
-
-brought_empty : IsBrought empty_layout
-brought_empty = record {
-  objects = All-nil (λ (initial : Initial). IsBroughtObject initial.object);
-  badges = All-nil (λ (filled : Filled). HasWordBadge filled.cap.detail);
-}
-
-brought_more : (t : Layout) (item : Item) → IsBrought t → IsBroughtItem item → IsBrought (with_item t item)
-brought_more t (LabelItem name) brought here = record { objects = brought.objects; badges = brought.badges }
-brought_more t (ObjectItem name initial) brought here =
-    record {
-      objects = All-push (λ (initial : Initial). IsBroughtObject initial.object) t.objects initial brought.objects here;
-      badges = brought.badges;
-    }
-brought_more t (CapItem filled) brought here =
-    record {
-      objects = brought.objects;
-      badges = All-push (λ (filled : Filled). HasWordBadge filled.cap.detail) t.caps filled brought.badges here;
-    }
-brought_more t (BindingItem binding) brought here = record { objects = brought.objects; badges = brought.badges }
-
-brought_front : (t : Layout) (item : Item) → IsBrought (with_item t item) → IsBrought t × IsBroughtItem item
-brought_front t (LabelItem name) brought = (record { objects = brought.objects; badges = brought.badges }, tt)
-brought_front t (ObjectItem name initial) brought =
-    let each =
-    All-pop (λ (initial : Initial). IsBroughtObject initial.object) (t.objects ++ initial ∷ []) t.objects
-    (Some initial) refl brought.objects in
-    (record { objects = each.0; badges = brought.badges }, each.1)
-brought_front t (CapItem filled) brought =
-    let each =
-    All-pop (λ (filled : Filled). HasWordBadge filled.cap.detail) (t.caps ++ filled ∷ []) t.caps
-    (Some filled) refl brought.badges in
-    (record { objects = brought.objects; badges = each.0 }, each.1)
-brought_front t (BindingItem binding) brought = (record { objects = brought.objects; badges = brought.badges }, tt)
-
--- a law of tables: those that keep the rules are those that are built up item by item
-abbrev pub BuildLaw : Type 0
-BuildLaw = (t : Layout) → IsLawful t ↔ IsBuiltUp t
-
--- lines that were read build up a table, and are its lines
+-- lines that were read build up a draft, and are its lines
 
 record TakesLines (lines : List (List (List ℕ))) (all : Layout) : Type 0 where
   built : IsBuiltUp all
-  brought : IsBrought all
   lines_are : table_lines all ≡ lines
 
-lines_take : BuildLaw → (t : Layout) (front body : List (List (List ℕ))) (all : Layout) → TakesLines front t
+lines_take : (t : Layout) (front body : List (List (List ℕ))) (all : Layout) → TakesLines front t
     → steps table_line t body ≡ Ok all → TakesLines (front ++ body) all
 unfolding steps
-lines_take law t front [] all so_far h =
+lines_take t front [] all so_far h =
     let same : t ≡ all = cc in
-    subst (λ u. TakesLines (front ++ []) u) same (record {
-      built = so_far.built;
-      brought = so_far.brought;
-      lines_are = so_far.lines_are ∙ sym (append-nil front);
-    })
-lines_take law t front (line ∷ body) all so_far h =
+    subst (λ u. TakesLines (front ++ []) u) same
+    (record { built = so_far.built; lines_are = so_far.lines_are ∙ sym (append-nil front) })
+lines_take t front (line ∷ body) all so_far h =
     let stepped = bind_ok (table_line t line) (λ next. steps table_line next body) all h in
     let takes = line_takes t line stepped.0 stepped.1 in
-    let lawful = (law t).1 so_far.built in
+    let draft = (draft_from_built so_far.built).0 in
     let lines : table_lines (with_item t takes.0) ≡ front ++ line ∷ [] =
-    item_more t takes.0 lawful.each_named takes.1.now ∙ (λ i. so_far.lines_are i ++ sym takes.1.words_are i ∷ []) in
+    item_more t takes.0 draft.objects.named takes.1.now ∙ (λ i. so_far.lines_are i ++ sym takes.1.words_are i ∷ []) in
     let next : TakesLines (front ++ line ∷ []) stepped.0 =
     subst (λ u. TakesLines (front ++ line ∷ []) u) takes.1.grown
-    (record {
-      built = more takes.0 so_far.built takes.1.now takes.1.admits;
-      brought = brought_more t takes.0 so_far.brought takes.1.brought;
-      lines_are = lines;
-    }) in
+    (record { built = more takes.0 so_far.built takes.1.now takes.1.admits; lines_are = lines }) in
     subst (λ ls. TakesLines ls all) (append_assoc front (line ∷ []) body)
-    (lines_take law stepped.0 (front ++ line ∷ []) body all next stepped.2)
+    (lines_take stepped.0 (front ++ line ∷ []) body all next stepped.2)
 
--- and the lines of a table are read
+-- and the lines of a draft are read
 
 record ReadsLines (t : Layout) : Type 0 where
   stepped : steps table_line empty_layout (table_lines t) ≡ Ok t
@@ -277,73 +223,104 @@ steps_push s t (first ∷ lines) line h =
     let stepped = bind_ok (table_line s first) (λ next. steps table_line next lines) t h in
     ap (λ r. bind r (λ next. steps table_line next (lines ++ line ∷ []))) stepped.1 ∙ steps_push stepped.0 t lines line stepped.2
 
-lines_again : BuildLaw → {t : Layout} → IsBuiltUp t → IsBrought t → ReadsLines t
+lines_again : {t : Layout} → IsBuiltUp t → ReadsLines t
 unfolding steps
-lines_again law none brought = record { stepped = refl; plain = tt; none_last = tt }
-lines_again law (more {t} item built now admits) brought =
-    let front = brought_front t item brought in
-    let lawful = (law t).1 built in
-    let reads = lines_again law built front.0 in
-    let lines = item_more t item lawful.each_named now in
+lines_again none = record { stepped = refl; plain = tt; none_last = tt }
+lines_again (more {t} item built now admits) =
+    let draft = (draft_from_built built).0 in
+    let reads = lines_again built in
+    let lines = item_more t item draft.objects.named now in
     record {
       stepped = ap (λ ls. steps table_line empty_layout ls) lines
           ∙ steps_push empty_layout t (table_lines t) (item_words t item) reads.stepped
-          ∙ line_again t item lawful front.0 now admits front.1;
+          ∙ line_again t item draft now admits;
       plain = subst (AllByRecursion IsPlainLine) (sym lines)
-          (both IsPlainLine (table_lines t)
-          (item_words t item ∷ []) reads.plain (plain_item t item lawful front.0 admits front.1, tt));
+          (both IsPlainLine (table_lines t) (item_words t item ∷ []) reads.plain (plain_item t item draft admits, tt));
       none_last = subst (AllByRecursion IsNotLast) (sym lines)
           (both IsNotLast (table_lines t) (item_words t item ∷ []) reads.none_last (not_last t item, tt));
     }
 
+-- a draft becomes a table; its marks aren't spelled
+
+grown_takes : (draft t : Layout) → grown draft ≡ Ok t → (tree_fault (with_originals draft) ≡ None) × (t ≡ with_originals draft)
+unfolding grown
+grown_takes draft t h = by (tree_fault (with_originals draft)) refl h where
+  by : (fault : Option ℕ) → tree_fault (with_originals draft) ≡ fault → grown_by draft fault ≡ Ok t
+      → (tree_fault (with_originals draft) ≡ None) × (t ≡ with_originals draft)
+  by None is h = let same : t ≡ with_originals draft = cc in (is, same)
+  by (Some number) is h = cc
+
+-- the pair that breaks a rule is one of the draft's
+pub fault_within : (draft : Layout) (number : ℕ) → tree_fault (with_originals draft) ≡ Some number → number < length draft.pairs
+unfolding tree_fault
+fault_within draft number h =
+    let slot : SlotRef = record { holder = record { 0 = 0 }; index = 0 } in
+    (position-Some (λ pair. not (is_kin (with_originals draft) pair)) draft.pairs number
+    (record { parent = slot; child = slot }) h).0
+
+marked_lines : (t : Layout) → table_lines (with_originals t) ≡ table_lines t
+unfolding kind_at initial_of
+marked_lines t = ap (λ caps. label_lines t ++ (object_lines t ++ (caps ++ (pair_lines t ++ binding_lines t)))) (same t.caps) where
+  same : (caps : List Filled) → map (cap_words t) (map (with_mark t) caps) ≡ map (cap_words t) caps
+  same [] = refl
+  same (filled ∷ caps) = ap (λ lines. cap_words t filled ∷ lines) (same caps)
+
+-- a law of tables: those that keep the rules are the drafts that are built up item by item, marked, where the tree keeps its rules
+abbrev pub BuildLaw : Type 0
+BuildLaw =
+    (t : Layout) → IsLawful t
+    ↔ ((draft : Layout) × IsBuiltUp draft × (tree_fault (with_originals draft) ≡ None) × (t ≡ with_originals draft))
+
 -- the two laws
 
-pub read_is_table : BuildLaw → (bytes : List ℕ) (t : Layout) → read_table_of bytes ≡ Ok t
-    → IsLawful t × IsBrought t × (bytes ≡ table_text t)
+pub read_is_table : BuildLaw → (bytes : List ℕ) (t : Layout) → read_table_of bytes ≡ Ok t → IsLawful t × (bytes ≡ table_text t)
 unfolding read_table_of
 read_is_table law bytes t h =
-    let text = whole_text_takes table_header table_line empty_layout t bytes h in
-    let lines =
-    lines_take law empty_layout [] text.0 t (record { built = none; brought = brought_empty; lines_are = refl }) text.2 in
-    ((law t).1 lines.built, lines.brought, text.1 ∙ ap (λ body. text_of (whole_lines table_header body)) (sym lines.lines_are))
+    let text = whole_text_takes table_format t bytes h in
+    let lines = lines_take empty_layout [] text.0 text.1 (record { built = none; lines_are = refl }) text.3 in
+    let came = grown_takes text.1 t text.4 in
+    let same : table_lines t ≡ text.0 = ap table_lines came.1 ∙ marked_lines text.1 ∙ lines.lines_are in (
+      (law t).1 (text.1, lines.built, came.0, came.1),
+      text.2 ∙ ap (λ body. text_of (whole_lines table_header body)) (sym same),
+    )
 
-pub table_is_read : BuildLaw → (bytes : List ℕ) (t : Layout) → IsLawful t → IsBrought t → bytes ≡ table_text t
-    → read_table_of bytes ≡ Ok t
-unfolding read_table_of
-table_is_read law bytes t lawful brought text =
-    let lines = lines_again law ((law t).0 lawful) brought in
+pub table_is_read : BuildLaw → (bytes : List ℕ) (t : Layout) → IsLawful t → bytes ≡ table_text t → read_table_of bytes ≡ Ok t
+unfolding read_table_of grown
+table_is_read law bytes t lawful text =
+    let built = (law t).0 lawful in
+    let draft = built.0 in
+    let lines = lines_again built.1 in
     let last : AllByRecursion IsPlainLine (last_line ∷ []) = ((plain_bytes (codes "end") refl, tt), tt) in
-    let plain : AllByRecursion IsPlainLine (whole_lines table_header (table_lines t)) = (
+    let plain : AllByRecursion IsPlainLine (whole_lines table_header (table_lines draft)) = (
       (plain_bytes (codes "confine-table") refl, (plain_bytes (codes "1") refl, tt)),
-      both IsPlainLine (table_lines t) (last_line ∷ []) lines.plain last,
+      both IsPlainLine (table_lines draft) (last_line ∷ []) lines.plain last,
     ) in
-    whole_text_again table_header table_line empty_layout t (table_lines t) bytes plain lines.none_last lines.stepped text
+    let came : grown draft ≡ Ok t = ap (grown_by draft) built.2 ∙ ap (λ u. Ok u) (sym built.3) in
+    let same : table_lines t ≡ table_lines draft = ap table_lines built.3 ∙ marked_lines draft in
+    whole_text_again table_format draft t (table_lines draft) bytes plain lines.none_last lines.stepped came
+    (text ∙ ap (λ body. text_of (whole_lines table_header body)) same)
 
-pub table_iff : BuildLaw → (bytes : List ℕ) (t : Layout)
-    → (read_table_of bytes ≡ Ok t) ↔ (IsLawful t × IsBrought t × (bytes ≡ table_text t))
-table_iff law bytes t = (read_is_table law bytes t, λ h. table_is_read law bytes t h.0 h.1 h.2)
+pub table_iff : BuildLaw → (bytes : List ℕ) (t : Layout) → (read_table_of bytes ≡ Ok t) ↔ (IsLawful t × (bytes ≡ table_text t))
+table_iff law bytes t = (read_is_table law bytes t, λ h. table_is_read law bytes t h.0 h.1)
 
 -- different tables have different texts
-pub table_once : BuildLaw → (one other : Layout) → IsLawful one → IsBrought one → IsLawful other → IsBrought other
-    → table_text one ≡ table_text other → one ≡ other
-table_once law one other is_one brought is_other brought_other same =
+pub table_once : BuildLaw → (one other : Layout) → IsLawful one → IsLawful other → table_text one ≡ table_text other → one ≡ other
+table_once law one other is_one is_other same =
     let both : ◌≡◌ {A = Result Layout Fault} (Ok one) (Ok other) =
-    sym (table_is_read law (table_text one) one is_one brought refl)
-    ∙ table_is_read law (table_text one) other is_other brought_other same in
+    sym (table_is_read law (table_text one) one is_one refl) ∙ table_is_read law (table_text one) other is_other same in
     cc
 
 -- and of what reads as a text does
 
 abbrev pub TextLaw : Type 0
-TextLaw = (bytes : List ℕ) (t : Layout) → (read_table_of bytes ≡ Ok t) ↔ (IsLawful t × IsBrought t × (bytes ≡ table_text t))
+TextLaw = (bytes : List ℕ) (t : Layout) → (read_table_of bytes ≡ Ok t) ↔ (IsLawful t × (bytes ≡ table_text t))
 
-pub found : {X : Type 0} (view : X → Layout) (result : Result X Fault) (bytes : List ℕ) → TextLaw
-    → Reads view result (read_table_of bytes) → IfOk result (λ x. IsBrought (view x) × (bytes ≡ table_text (view x)))
-found view (Ok x) bytes law exact = let read = (law bytes (view x)).0 exact in (read.1, read.2)
-found view (Err fault) bytes law exact = tt
+pub found : (result : Result Layout Fault) (bytes : List ℕ) → TextLaw → Reads (λ t. t) result (read_table_of bytes)
+    → IfOk result (λ t. bytes ≡ table_text t)
+found (Ok t) bytes law exact = ((law bytes t).0 exact).1
+found (Err fault) bytes law exact = tt
 
-pub only : {X : Type 0} (view : X → Layout) (result : Result X Fault) (bytes : List ℕ) → TextLaw
-    → Reads view result (read_table_of bytes) → (t : Layout) → IsLawful t → IsBrought t → bytes ≡ table_text t
-    → Reads view result (Ok t)
-only view result bytes law exact t lawful brought text =
-    subst (λ read. Reads view result read) ((law bytes t).1 (lawful, brought, text)) exact
+pub only : (result : Result Layout Fault) (bytes : List ℕ) → TextLaw → Reads (λ t. t) result (read_table_of bytes)
+    → (t : Layout) → IsLawful t → bytes ≡ table_text t → Reads (λ t. t) result (Ok t)
+only result bytes law exact t lawful text =
+    subst (λ read. Reads (λ t. t) result read) ((law bytes t).1 (lawful, text)) exact

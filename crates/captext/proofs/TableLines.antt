@@ -7,8 +7,8 @@ use Rattle.machine.specs.declared.layout.Filled.{Filled}
 use Rattle.machine.specs.declared.layout.Initial.{Initial}
 use Rattle.machine.specs.declared.layout.Pair.{Pair}
 use Rattle.machine.specs.Layout.{Layout, initial_of}
-use Rattle.table.specs.Building.{with_label, with_initial, with_filled, with_binding}
-use Rattle.table.specs.Items.{Item, LabelItem, ObjectItem, CapItem, BindingItem, BeforePairs, BeforeCaps, BeforeObjects, ComesNow, with_item}
+use Rattle.table.specs.Building.{with_label, with_initial, with_filled, with_pair, with_binding}
+use Rattle.table.specs.Items.{Item, LabelItem, ObjectItem, CapItem, PairItem, BindingItem, BeforeBindings, BeforePairs, BeforeCaps, BeforeObjects, ComesNow, with_item}
 use Rattle.table.specs.Rules.{kind_at}
 use Rattle.captext.specs.TableText.{label_words, object_words, cap_words, pair_words, binding_words, item_words, object_lines, cap_lines, pair_lines, binding_lines, table_lines}
 
@@ -34,10 +34,12 @@ grown section longer x after before grows none_after none_before =
 
 -- sections that have not begun
 
+after_pairs : (t : Layout) → BeforeBindings t → binding_lines t ≡ []
+after_pairs t empty = ap (λ (bindings : List Binding). map (binding_words t) bindings) empty
+
 after_caps : (t : Layout) → BeforePairs t → pair_lines t ++ binding_lines t ≡ []
 after_caps t empty =
-    ap (λ (pairs : List Pair). map (pair_words t) pairs ++ binding_lines t) empty.0
-    ∙ ap (λ (bindings : List Binding). map (binding_words t) bindings) empty.1
+    ap (λ (pairs : List Pair). map (pair_words t) pairs ++ binding_lines t) empty.0 ∙ after_pairs t empty.1
 
 after_objects : (t : Layout) → BeforeCaps t → cap_lines t ++ (pair_lines t ++ binding_lines t) ≡ []
 after_objects t empty =
@@ -79,22 +81,38 @@ cap_more t filled empty =
     ∙ ap (λ rest. map label_words t.labels ++ rest) (sym (append_assoc (object_lines t) _ (cap_words t filled ∷ [])))
     ∙ sym (append_assoc (map label_words t.labels) _ (cap_words t filled ∷ []))
 
+-- what goes last after the capabilities goes last
+goes_last : (t : Layout) (rest line : List (List (List ℕ)))
+    → map label_words t.labels ++ (object_lines t ++ (cap_lines t ++ (rest ++ line)))
+    ≡ (map label_words t.labels ++ (object_lines t ++ (cap_lines t ++ rest))) ++ line
+goes_last t rest line =
+    ap (λ rest. map label_words t.labels ++ (object_lines t ++ rest)) (sym (append_assoc (cap_lines t) rest line))
+    ∙ ap (λ rest. map label_words t.labels ++ rest) (sym (append_assoc (object_lines t) _ line))
+    ∙ sym (append_assoc (map label_words t.labels) _ line)
+
+pair_more : (t : Layout) (pair : Pair) → BeforeBindings t
+    → table_lines (with_pair t pair) ≡ table_lines t ++ pair_words t pair ∷ []
+unfolding kind_at initial_of
+pair_more t pair empty =
+    ap (λ rest. map label_words t.labels ++ (object_lines t ++ (cap_lines t ++ rest)))
+    (grown (pair_lines t) (map (pair_words t) (t.pairs ++ pair ∷ [])) (pair_words t pair) _ _
+    (map_push (pair_words t) t.pairs pair) (after_pairs (with_pair t pair) empty) (after_pairs t empty))
+    ∙ goes_last t (pair_lines t ++ binding_lines t) (pair_words t pair ∷ [])
+
 binding_more : (t : Layout) (binding : Binding)
     → table_lines (with_binding t binding) ≡ table_lines t ++ binding_words t binding ∷ []
 unfolding kind_at initial_of
 binding_more t binding =
     let line = binding_words t binding ∷ [] in
-    ap (λ rest. map label_words t.labels ++ (object_lines t ++ (cap_lines t ++ (pair_lines t ++ rest))))
-    (map_push (binding_words t) t.bindings binding)
-    ∙ ap (λ rest. map label_words t.labels ++ (object_lines t ++ (cap_lines t ++ rest)))
-    (sym (append_assoc (pair_lines t) (binding_lines t) line))
-    ∙ ap (λ rest. map label_words t.labels ++ (object_lines t ++ rest)) (sym (append_assoc (cap_lines t) _ line))
-    ∙ ap (λ rest. map label_words t.labels ++ rest) (sym (append_assoc (object_lines t) _ line))
-    ∙ sym (append_assoc (map label_words t.labels) _ line)
+    ap (λ rest. map label_words t.labels ++ (object_lines t ++ (cap_lines t ++ rest)))
+    (ap (λ rest. pair_lines t ++ rest) (map_push (binding_words t) t.bindings binding)
+    ∙ sym (append_assoc (pair_lines t) (binding_lines t) line))
+    ∙ goes_last t (pair_lines t ++ binding_lines t) line
 
 pub item_more : (t : Layout) (item : Item) → length t.names ≡ length t.objects → ComesNow t item
     → table_lines (with_item t item) ≡ table_lines t ++ item_words t item ∷ []
 item_more t (LabelItem name) each now = label_more t name now
 item_more t (ObjectItem name initial) each now = object_more t name initial each now
 item_more t (CapItem filled) each now = cap_more t filled now
+item_more t (PairItem pair) each now = pair_more t pair now
 item_more t (BindingItem binding) each now = binding_more t binding

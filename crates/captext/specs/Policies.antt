@@ -1,7 +1,6 @@
 -- The text of a policy, line by line: each line adds an edge that rises above the one before, or is faulty.
 use Rattle.std.specs.Prelude.{ℕ, ◌==◌, ◌&&◌, ◌||◌, not, Bool, true, nat_lt, List, [], ◌∷◌, ◌++◌, codes, Option, Some, None, Result, Ok}
 use Rattle.std.specs.Ordering.{is_lt}
-use Rattle.std.specs.Str.{bytes_eq}
 use Rattle.base.specs.declared.edge.Edge.{Edge}
 use Rattle.base.specs.declared.kind.Kind.{Kind}
 use Rattle.base.specs.Kinds.{kind_named, kind_number}
@@ -12,23 +11,21 @@ use Rattle.words.specs.declared.faults.Fault.{Fault}
 use Rattle.words.specs.declared.faults.Wrong.{Wrong}
 use Rattle.words.specs.declared.faults.Wrong.TheVariants as wrong
 use Rattle.words.specs.Name.{name_at}
-use Rattle.words.specs.Reading.{◌>>=◌, word_at, ended_at, or_syntax, read_text, as_it_is}
+use Rattle.words.specs.Parts.{PartReader, in_turn, keyed}
+use Rattle.words.specs.Reading.{◌>>=◌, list_format, word_at, ended_at, or_syntax, read_format, Format}
 use Rattle.words.specs.Text.{words_of, lines_of}
 use Rattle.captext.specs.Tables.{demand, value_or}
 
 -- the next word as a kind of authority
-unfoldable pub kind_at : List (List ℕ) → Result (Kind × List (List ℕ)) Wrong
+unfoldable pub kind_at : PartReader Kind
 kind_at words = do
   word ← word_at words
   kind ← or_syntax (kind_named word.0)
   Ok (kind, word.1)
 
--- the next word is this one
-unfoldable pub keyword_at : List ℕ → List (List ℕ) → Result (List (List ℕ)) Wrong
-keyword_at keyword words = do
-  word ← word_at words
-  _ ← demand (bytes_eq word.0 keyword) wrong.Syntax
-  Ok word.1
+-- edge LABEL KIND LABEL, by the names of the labels
+unfoldable pub named_edge_at : PartReader (List ℕ × (Kind × List ℕ))
+named_edge_at = keyed ((codes "edge", in_turn name_at (in_turn kind_at name_at)) ∷ [])
 
 -- whether an edge from this label of this kind may come after the last one, by these two entries
 abbrev pub may_follow : Option Edge → ℕ → Kind → Bool
@@ -47,19 +44,26 @@ with_edge edges edge = do
   _ ← demand (follows (last_edge edges) edge) wrong.Syntax
   Ok (edges ++ edge ∷ [])
 
--- edge LABEL KIND LABEL: the entries are compared from left to right, and an unknown name ends the comparison
+-- the edges with one more, given by the names of its labels: the entries are compared from left to right, and an unknown name ends the
+-- comparison
+unfoldable pub labelled_edge : Layout → List Edge → List ℕ × (Kind × List ℕ) → Result (List Edge) Wrong
+labelled_edge t edges named = do
+  from ← value_or wrong.UnknownName (label_named t named.0)
+  _ ← demand (may_follow (last_edge edges) from named.1.0) wrong.Syntax
+  to ← value_or wrong.UnknownName (label_named t named.1.1)
+  with_edge edges (record { from = from; kind = named.1.0; to = to })
+
+-- edge LABEL KIND LABEL
 unfoldable pub edge_line : Layout → List Edge → List (List ℕ) → Result (List Edge) Wrong
 edge_line t edges words = do
-  rest ← keyword_at (codes "edge") words
-  first ← name_at rest
-  kind ← kind_at first.1
-  second ← name_at kind.1
-  _ ← ended_at second.1
-  from ← value_or wrong.UnknownName (label_named t first.0)
-  _ ← demand (may_follow (last_edge edges) from kind.0) wrong.Syntax
-  to ← value_or wrong.UnknownName (label_named t second.0)
-  with_edge edges (record { from = from; kind = kind.0; to = to })
+  named ← named_edge_at words
+  _ ← ended_at named.1
+  labelled_edge t edges named.0
+
+-- policies for the labels of a table, line by line
+abbrev pub policy_format : Layout → Format (List Edge) (List Edge)
+policy_format t = list_format (words_of (codes "confine-policy 1")) (edge_line t)
 
 -- the policy that a text spells for the labels of a table, or its first fault
 unfoldable pub read_policy_of : Layout → List ℕ → Result (List Edge) Fault
-read_policy_of t bytes = read_text (words_of (codes "confine-policy 1")) (edge_line t) as_it_is [] (lines_of bytes)
+read_policy_of t bytes = read_format (policy_format t) (lines_of bytes)

@@ -1,13 +1,13 @@
 -- The text of a policy for the labels of a table: a header, a line `edge FROM KIND TO` for each edge, and `end` (confine's own;
 -- the edges are those of 'seL4 Enforces Integrity', section 3).
-use Rattle.std.specs.Prelude.{ℕ, ◌<◌, List, [], ◌∷◌, map, length, codes, slice_index_or}
+use Rattle.std.specs.Prelude.{ℕ, ◌<◌, List, [], ◌∷◌, length, codes, slice_index_or}
 use Rattle.std.specs.List.{AllByRecursion}
 use Rattle.base.specs.declared.edge.Edge.{Edge}
 use Rattle.base.specs.Kinds.{kind_name}
 use Rattle.machine.specs.Layout.{Layout}
 use Rattle.policy.specs.Policy.{IsRising}
-use Rattle.words.specs.Reading.{whole_lines}
-use Rattle.words.specs.Text.{words_of, text_of}
+use Rattle.words.specs.Reading.{list_text}
+use Rattle.words.specs.Text.{words_of}
 
 abbrev pub policy_header : List (List ℕ)
 policy_header = words_of (codes "confine-policy 1")
@@ -22,7 +22,7 @@ edge_words t edge = codes "edge" ∷ label_name t edge.from ∷ kind_name edge.k
 
 -- the text of a policy
 abbrev pub policy_text : Layout → List Edge → List ℕ
-policy_text t edges = text_of (whole_lines policy_header (map (edge_words t) edges))
+policy_text t = list_text policy_header (edge_words t)
 
 -- an edge between labels of the table
 abbrev pub IsEdgeOf : Layout → Edge → Type 0

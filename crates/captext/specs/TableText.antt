@@ -1,6 +1,6 @@
 -- The text of a capability table: a header, a line for each label, object, filled slot, pair of the derivation tree and binding,
 -- and `end` (confine's own; what it says is a system's initial state, seL4 manual, "Bootstrapping").
-use Rattle.std.specs.Prelude.{⊤, ◌≡◌, ℕ, ◌<◌, ◌^◌, List, [], ◌∷◌, ◌++◌, map, codes, Option, Some, None, slice_index_or, All}
+use Rattle.std.specs.Prelude.{◌≡◌, ℕ, List, [], ◌∷◌, ◌++◌, map, codes, Option, Some, None, slice_index_or}
 use Rattle.std.specs.Fmt.{decimal}
 use Rattle.std.specs.List.{zip}
 use Rattle.base.specs.declared.ids.ObjId.{ObjId}
@@ -20,7 +20,8 @@ use Rattle.machine.specs.declared.object.Share.{Share}
 use Rattle.machine.specs.declared.thread.RunState.{RunState}
 use Rattle.machine.specs.declared.thread.RunState.TheVariants as run
 use Rattle.machine.specs.Layout.{Layout}
-use Rattle.table.specs.Items.{Item, LabelItem, ObjectItem, CapItem, BindingItem, Admits, ComesNow, with_item}
+use Rattle.machine.specs.Objects.{kind_of_object}
+use Rattle.table.specs.Items.{Item, LabelItem, ObjectItem, CapItem, PairItem, BindingItem, Admits, ComesNow, with_item}
 use Rattle.table.specs.Rules.{kind_at}
 use Rattle.words.specs.Number.{hexadecimal}
 use Rattle.words.specs.Reading.{whole_lines}
@@ -28,7 +29,7 @@ use Rattle.words.specs.Text.{words_of, text_of}
 use Rattle.captext.specs.declared.shapes.Place.{Place}
 use Rattle.captext.specs.declared.shapes.Place.TheVariants as place
 use Rattle.captext.specs.PolicyText.{label_name}
-use Rattle.captext.specs.Spelling.{slot_word}
+use Rattle.captext.specs.Spelling.{object_kind_word, slot_word}
 
 abbrev pub table_header : List (List ℕ)
 table_header = words_of (codes "confine-table 1")
@@ -43,15 +44,7 @@ label_words name = codes "label" ∷ name ∷ []
 
 -- the word that begins the line of an object
 abbrev pub kind_word : Object → List ℕ
-kind_word (o.Untyped _) = codes "untyped"
-kind_word (o.CNode _) = codes "cnode"
-kind_word (o.Tcb _) = codes "tcb"
-kind_word (o.Endpoint _) = codes "endpoint"
-kind_word (o.Notification _) = codes "notification"
-kind_word (o.Reply _) = codes "reply"
-kind_word (o.Context _) = codes "context"
-kind_word (o.Frame _) = codes "frame"
-kind_word (o.Control _) = codes "control"
+kind_word object = object_kind_word (kind_of_object object)
 
 -- how a thread starts: ready, or else inactive
 abbrev pub start_word : RunState → List ℕ
@@ -113,6 +106,7 @@ abbrev pub item_words : Layout → Item → List (List ℕ)
 item_words t (LabelItem name) = label_words name
 item_words t (ObjectItem name initial) = object_words t name initial
 item_words t (CapItem filled) = cap_words t filled
+item_words t (PairItem pair) = pair_words t pair
 item_words t (BindingItem binding) = binding_words t binding
 
 -- the sections
@@ -140,38 +134,9 @@ table_lines t = label_lines t ++ (object_lines t ++ (cap_lines t ++ (pair_lines 
 abbrev pub table_text : Layout → List ℕ
 table_text t = text_of (whole_lines table_header (table_lines t))
 
--- the tables that have been brought so far
-
--- an object of a kind whose lines are read
-abbrev pub IsBroughtObject : Object → Type 0
-IsBroughtObject (o.CNode _) = ⊤
-IsBroughtObject (o.Tcb _) = ⊤
-IsBroughtObject (o.Notification _) = ⊤
-IsBroughtObject (o.Context _) = ⊤
-IsBroughtObject _ = ⊥
-
--- a badge is a word of 64 bits
-abbrev pub HasWordBadge : Detail → Type 0
-HasWordBadge (d.Endpoint end) = end.badge < 2 ^ 64
-HasWordBadge (d.Notification end) = end.badge < 2 ^ 64
-HasWordBadge _ = ⊤
-
--- an item that is brought
-abbrev pub IsBroughtItem : Item → Type 0
-IsBroughtItem (LabelItem _) = ⊤
-IsBroughtItem (ObjectItem _ initial) = IsBroughtObject initial.object
-IsBroughtItem (CapItem filled) = HasWordBadge filled.cap.detail
-IsBroughtItem (BindingItem _) = ⊤
-
--- every object is a CNode, a thread, a notification or a scheduling context, and badges are words
-pub record IsBrought (t : Layout) : Type 0 where
-  pub objects : All (λ initial. IsBroughtObject initial.object) t.objects
-  pub badges : All (λ filled. HasWordBadge filled.cap.detail) t.caps
-
 -- a line adds an item: the table takes the item next, and the line is that item's
 pub record IsLineOf (t : Layout) (words : List (List ℕ)) (next : Layout) (item : Item) : Type 0 where
   pub now : ComesNow t item
   pub admits : Admits t item
-  pub brought : IsBroughtItem item
   pub words_are : words ≡ item_words t item
   pub grown : with_item t item ≡ next

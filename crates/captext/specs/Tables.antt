@@ -1,45 +1,46 @@
 -- The text of a capability table, line by line: each line adds one item to the table, or is faulty. Of the faults of one line the
 -- first in this order is told: form and order of lines, unknown name, double, wrong kind, limit, place in memory.
-use Rattle.std.specs.Prelude.{ℕ, ◌+◌, ◌^◌, ◌&&◌, not, Bool, true, false, nat_lt, nat_le, List, [], ◌∷◌, length, codes, Option, Some, None, is_some, Result, Ok, Err, if◌then◌else◌}
+use Rattle.std.specs.Prelude.{ℕ, ◌+◌, ◌^◌, ◌&&◌, not, Bool, true, false, nat_lt, nat_le, List, [], ◌∷◌, length, codes, option_map, Option, Some, None, is_some, Result, Ok, Err, if◌then◌else◌}
+use Rattle.std.specs.List.{find}
 use Rattle.std.specs.Str.{bytes_eq}
 use Rattle.base.specs.declared.core_number.TheConstants.CoreNo as CoreNo
 use Rattle.base.specs.declared.ids.ObjId.{ObjId}
 use Rattle.base.specs.declared.ids.SlotRef.{SlotRef}
 use Rattle.base.specs.declared.label.TheConstants.Label as Label
 use Rattle.base.specs.declared.limits.TheConstants.{ADDRESS_END, MAX_PERIOD, MAX_RADIX}
-use Rattle.machine.specs.declared.cap.Badged.{Badged}
 use Rattle.machine.specs.declared.cap.Cap.{Cap}
-use Rattle.machine.specs.declared.cap.Guard.{Guard}
 use Rattle.machine.specs.declared.cap.Detail.{Detail}
 use Rattle.machine.specs.declared.cap.Detail.TheVariants as d
-use Rattle.machine.specs.declared.layout.Initial.{Initial}
 use Rattle.machine.specs.declared.object.Object.{Object}
 use Rattle.machine.specs.declared.object.Object.TheVariants as o
 use Rattle.machine.specs.declared.object.ObjectKind.{ObjectKind}
 use Rattle.machine.specs.declared.object.ObjectKind.TheVariants as kind
+use Rattle.machine.specs.declared.object.ReplyState.TheVariants as reply
 use Rattle.machine.specs.declared.object.Share.{Share}
 use Rattle.machine.specs.declared.thread.Inbox.TheVariants as inbox
 use Rattle.machine.specs.declared.thread.RunState.{RunState}
 use Rattle.machine.specs.declared.thread.RunState.TheVariants as run
 use Rattle.machine.specs.Layout.{Layout, empty_layout, initial_of}
 use Rattle.machine.specs.Objects.{end_of}
-use Rattle.table.specs.Building.{declares_slot, has_room, is_free, is_above_caps, is_above_bindings, is_bound, with_label, with_initial, with_filled, with_binding}
+use Rattle.table.specs.Building.{declares_slot, has_cap_to, has_room, repeats_control, is_free, is_above_caps, is_above_pairs, is_above_bindings, is_bound, with_label, with_initial, with_filled, with_pair, with_binding}
 use Rattle.table.specs.Names.{label_named, object_named}
 use Rattle.table.specs.Placement.{is_aligned}
 use Rattle.table.specs.Rules.{kind_at}
+use Rattle.table.specs.Tree.{tree_fault, with_originals}
 use Rattle.words.specs.declared.faults.Fault.{Fault}
 use Rattle.words.specs.declared.faults.Wrong.{Wrong}
 use Rattle.words.specs.declared.faults.Wrong.TheVariants as wrong
 use Rattle.words.specs.Name.{name_at}
 use Rattle.words.specs.Number.{dec_of, hex_at, number_at}
-use Rattle.words.specs.Reading.{◌>>=◌, word_at, ended_at, or_syntax, read_text, as_it_is}
+use Rattle.words.specs.Reading.{◌>>=◌, word_at, ended_at, or_syntax, read_format, Format, Whole}
 use Rattle.words.specs.Text.{words_of, lines_of}
 use Rattle.captext.specs.declared.shapes.Place.{Place}
 use Rattle.captext.specs.declared.shapes.Place.TheVariants as place
 use Rattle.captext.specs.declared.shapes.Term.{Term}
 use Rattle.captext.specs.declared.shapes.Term.TheVariants as term
-use Rattle.captext.specs.declared.shapes.ShareTerms.{ShareTerms}
 use Rattle.captext.specs.Shapes.{slot_at, terms_at}
+use Rattle.captext.specs.Spelling.{object_kinds, object_kind_word}
+use Rattle.captext.specs.TableText.{start_word}
 use Rattle.base.specs.declared.rights.Rights.{Rights}
 
 -- what a line asks for, else a fault
@@ -58,11 +59,11 @@ is_nil (x ∷ xs) = false
 
 -- the sections come in the order label, object, cap, child, bind
 
-abbrev pub takes_bindings : Layout → Bool
-takes_bindings t = true
+abbrev pub takes_pairs : Layout → Bool
+takes_pairs t = is_nil t.bindings
 
 abbrev pub takes_caps : Layout → Bool
-takes_caps t = is_nil t.pairs && is_nil t.bindings
+takes_caps t = is_nil t.pairs && takes_pairs t
 
 abbrev pub takes_objects : Layout → Bool
 takes_objects t = is_nil t.caps && takes_caps t
@@ -99,89 +100,116 @@ declared t name label object = do
   _ ← demand (is_aligned object && is_free t object) wrong.Misplaced
   Ok (with_initial t name (record { label = label; object = object }))
 
--- cnode NAME LABEL HEX DEC
-unfoldable pub cnode_line : Layout → List (List ℕ) → Result Layout Wrong
-cnode_line t words = do
-  name ← name_at words
-  label ← name_at name.1
-  address ← hex_at label.1
-  radix ← number_at address.1
-  _ ← ended_at radix.1
-  number ← heading t name.0 label.0
-  _ ← demand (nat_lt 0 radix.0 && nat_le radix.0 MAX_RADIX) wrong.Limit
-  declared t name.0 number (o.CNode (record { address = address.0; radix = radix.0 }))
+-- an object within the limits of its kind, else none
+abbrev pub within : Bool → Object → Option Object
+within test object = if test then Some object else None
+
+-- HEX alone
+unfoldable pub address_at : List (List ℕ) → Result ℕ Wrong
+address_at words = do
+  address ← hex_at words
+  _ ← ended_at address.1
+  Ok address.0
+
+-- HEX alone, as the object at that address
+unfoldable pub addressed : (ℕ → Object) → List (List ℕ) → Result (Option Object) Wrong
+addressed object words = do
+  address ← address_at words
+  Ok (Some (object address))
+
+-- HEX DEC, as the object at that address with that number, if the number is between these
+unfoldable pub sized : ℕ → ℕ → (ℕ → ℕ → Object) → List (List ℕ) → Result (Option Object) Wrong
+sized least most object words = do
+  address ← hex_at words
+  number ← number_at address.1
+  _ ← ended_at number.1
+  Ok (within (nat_le least number.0 && nat_le number.0 most) (object address.0 number.0))
 
 -- the run state that a table may give a thread
 unfoldable pub start_of : List ℕ → Option RunState
-start_of word =
-    if bytes_eq word (codes "ready") then Some run.Ready else
-    (if bytes_eq word (codes "inactive") then Some run.Inactive else None)
+start_of word = find (λ state. bytes_eq word (start_word state)) (run.Ready ∷ run.Inactive ∷ [])
 
--- tcb NAME LABEL HEX START
-unfoldable pub tcb_line : Layout → List (List ℕ) → Result Layout Wrong
-tcb_line t words = do
-  name ← name_at words
-  label ← name_at name.1
-  address ← hex_at label.1
+-- HEX START
+unfoldable pub thread_at : List (List ℕ) → Result (Option Object) Wrong
+thread_at words = do
+  address ← hex_at words
   word ← word_at address.1
   start ← or_syntax (start_of word.0)
   _ ← ended_at word.1
-  number ← heading t name.0 label.0
-  declared t name.0 number (o.Tcb (record { address = address.0; state = start; inbox = inbox.Empty; context = None }))
+  Ok (Some (o.Tcb (record { address = address.0; state = start; inbox = inbox.Empty; context = None })))
 
--- notification NAME LABEL HEX
-unfoldable pub notification_line : Layout → List (List ℕ) → Result Layout Wrong
-notification_line t words = do
-  name ← name_at words
-  label ← name_at name.1
-  address ← hex_at label.1
-  _ ← ended_at address.1
-  number ← heading t name.0 label.0
-  declared t name.0 number (o.Notification (record { address = address.0; pending = None }))
+-- a share within the limits, else none
+abbrev pub limited_share : ℕ → ℕ → ℕ → Option Share
+limited_share core budget period =
+    if nat_lt core CoreNo.COUNT && ((nat_le 1 budget && nat_le budget period) && nat_le period MAX_PERIOD)
+    then Some (record { core = core; budget = budget; period = period })
+    else None
 
--- no share of a core
-unfoldable pub unshared : List (List ℕ) → Result (Option ShareTerms) Wrong
-unshared words = do
+-- a context that no thread is bound to
+abbrev pub unbound : ℕ → Option Share → Object
+unbound address share = o.Context (record { address = address; share = share; thread = None })
+
+-- `-`, of a context without a share
+unfoldable pub unshared : ℕ → List (List ℕ) → Result (Option Object) Wrong
+unshared address words = do
   _ ← ended_at words
-  Ok None
+  Ok (Some (unbound address None))
 
 -- CORE BUDGET PERIOD, of which the first word was taken
-unfoldable pub shared : List ℕ → List (List ℕ) → Result (Option ShareTerms) Wrong
-shared first words = do
+unfoldable pub share_at : List ℕ → List (List ℕ) → Result (Option Share) Wrong
+share_at first words = do
   core ← or_syntax (dec_of first)
   budget ← number_at words
   period ← number_at budget.1
   _ ← ended_at period.1
-  Ok (Some (record { core = core; budget = budget.0; period = period.0 }))
+  Ok (limited_share core budget.0 period.0)
 
--- the rest of a line: the share of a core, or `-`
-unfoldable pub share_at : List (List ℕ) → Result (Option ShareTerms) Wrong
-share_at words = do
-  first ← word_at words
-  if bytes_eq first.0 (codes "-") then unshared first.1 else shared first.0 first.1
+-- the share of a context
+unfoldable pub shared : ℕ → List ℕ → List (List ℕ) → Result (Option Object) Wrong
+shared address first words = do
+  told ← share_at first words
+  Ok (option_map (λ share. unbound address (Some share)) told)
 
-abbrev pub is_share : ShareTerms → Bool
-is_share terms =
-    (nat_lt terms.core CoreNo.COUNT && nat_le 1 terms.budget) && (nat_le terms.budget terms.period && nat_le terms.period MAX_PERIOD)
+-- HEX and a share of a core, or `-`
+unfoldable pub context_at : List (List ℕ) → Result (Option Object) Wrong
+context_at words = do
+  address ← hex_at words
+  first ← word_at address.1
+  if bytes_eq first.0 (codes "-") then unshared address.0 first.1 else shared address.0 first.0 first.1
 
--- a share within the limits
-unfoldable pub limited_share : Option ShareTerms → Result (Option Share) Wrong
-limited_share None = Ok None
-limited_share (Some terms) =
-    if is_share terms
-    then Ok (Some (record { core = terms.core; budget = terms.budget; period = terms.period }))
-    else Err wrong.Limit
+-- DEC, as the control of that core
+unfoldable pub control_at : List (List ℕ) → Result (Option Object) Wrong
+control_at words = do
+  core ← number_at words
+  _ ← ended_at core.1
+  Ok (within (nat_lt core.0 CoreNo.COUNT) (o.Control (record { core = core.0 })))
 
--- context NAME LABEL HEX SHARE
-unfoldable pub context_line : Layout → List (List ℕ) → Result Layout Wrong
-context_line t words = do
+-- the object at boot that a kind's own words tell, if it is within the limits of the kind
+abbrev pub object_at : ObjectKind → List (List ℕ) → Result (Option Object) Wrong
+object_at kind.Untyped = sized 4 47 (λ base bits. o.Untyped (record { base = base; bits = bits; watermark = base }))
+object_at kind.CNode = sized 1 MAX_RADIX (λ address radix. o.CNode (record { address = address; radix = radix }))
+object_at kind.Tcb = thread_at
+object_at kind.Endpoint = addressed (λ address. o.Endpoint (record { address = address }))
+object_at kind.Notification = addressed (λ address. o.Notification (record { address = address; pending = None }))
+object_at kind.Reply = addressed (λ address. o.Reply (record { address = address; state = reply.Free }))
+object_at kind.Context = context_at
+object_at kind.Frame = addressed (λ address. o.Frame (record { address = address }))
+object_at kind.Control = control_at
+
+-- KIND NAME LABEL and the kind's own words; a control of a core past the limit doubles none
+unfoldable pub object_line : ObjectKind → Layout → List (List ℕ) → Result Layout Wrong
+object_line kind t words = do
   name ← name_at words
   label ← name_at name.1
-  address ← hex_at label.1
-  terms ← share_at address.1
+  told ← object_at kind label.1
   number ← heading t name.0 label.0
-  share ← limited_share terms
-  declared t name.0 number (o.Context (record { address = address.0; share = share; thread = None }))
+  object ← value_or wrong.Limit told
+  _ ← demand (not (repeats_control t object)) wrong.Double
+  declared t name.0 number object
+
+-- the kind of object that a word names
+unfoldable pub object_kind_of : List ℕ → Option ObjectKind
+object_kind_of word = find (λ kind. bytes_eq word (object_kind_word kind)) object_kinds
 
 -- the slot at a place of a holder
 abbrev pub slot_in : ObjId → Place → SlotRef
@@ -190,10 +218,10 @@ slot_in holder at = record { holder = holder; index = index_of at } where
   index_of (place.Index index) = index
   index_of place.Root = 0
 
--- the slot rises above those that are filled; that of an unknown holder isn't compared
-abbrev pub rises : Layout → Option ObjId → Place → Bool
-rises t None at = true
-rises t (Some holder) at = is_above_caps t (slot_in holder at)
+-- the slot is above those before it; that of an unknown holder isn't compared
+abbrev pub rises : (SlotRef → Bool) → Option ObjId → Place → Bool
+rises is_above None at = true
+rises is_above (Some holder) at = is_above (slot_in holder at)
 
 -- a place fits its holder: an index a CNode, and the root slot a TCB
 abbrev pub fits_holder : Option ObjectKind → Place → Bool
@@ -215,69 +243,59 @@ may_fill holder at target = fits_holder holder at && fits_place at target
 abbrev pub is_plain : Rights → Bool
 is_plain rights = nat_lt rights.0 4
 
--- nothing after the object
-abbrev pub nothing : Option Term → Option Term → Detail → Option Detail
-nothing None None detail = Some detail
-nothing _ _ detail = None
-
--- RIGHTS DEC
-abbrev pub badged : Option Term → Option Term → Option Badged
-badged (Some (term.Rights rights)) (Some (term.Decimal badge)) = Some (record { rights = rights; badge = badge })
-badged _ _ = None
-
--- DEC HEX
-abbrev pub guard_in : Option Term → Option Term → Option Guard
-guard_in (Some (term.Decimal size)) (Some (term.Hexadecimal value)) = Some (record { size = size; value = value })
-guard_in _ _ = None
-
-abbrev pub plain_notification : Option Badged → Option Detail
-plain_notification None = None
-plain_notification (Some end) = if is_plain end.rights then Some (d.Notification end) else None
-
 -- a guard and the radix together take at most 64 bits, and the guard's value fits its size
 abbrev pub is_guard : ℕ → ℕ → ℕ → Bool
 is_guard radix size value = nat_le (size + radix) 64 && nat_lt value (2 ^ size)
 
--- whether a detail is a guard that fits a radix
-abbrev pub fits_radix : ℕ → Detail → Bool
-fits_radix radix (d.CNode guard) = is_guard radix guard.size guard.value
-fits_radix radix _ = false
+-- a guard that fits the radix
+abbrev pub guarded : ℕ → ℕ → ℕ → Result Detail Wrong
+guarded radix size value =
+    if is_guard radix size value then Ok (d.CNode (record { size = size; value = value })) else Err wrong.Limit
 
--- what the capability of a CNode says, where its own slot's index is within its holder or not
-unfoldable pub guarded : ℕ → Option Guard → Bool → Result Detail Wrong
-guarded radix None within = Err wrong.WrongKind
-guarded radix (Some guard) within =
-    if within && is_guard radix guard.size guard.value then Ok (d.CNode guard) else Err wrong.Limit
+-- what a capability with these rights says, if they are only `r` and `w`
+abbrev pub plain : Rights → Detail → Result Detail Wrong
+plain rights detail = if is_plain rights then Ok detail else Err wrong.WrongKind
 
--- what another capability says, alike
-unfoldable pub unguarded : Option Detail → Bool → Result Detail Wrong
-unguarded None within = Err wrong.WrongKind
-unguarded (Some detail) within = if within then Ok detail else Err wrong.Limit
-
--- what a capability says, by the kind of its object: a guard's size and value, rights and a badge, or nothing
-unfoldable pub limited_detail : Object → Option Term → Option Term → Bool → Result Detail Wrong
-limited_detail (o.CNode node) first second within = guarded node.radix (guard_in first second) within
-limited_detail (o.Tcb _) first second within = unguarded (nothing first second d.Tcb) within
-limited_detail (o.Notification _) first second within = unguarded (plain_notification (badged first second)) within
-limited_detail (o.Context _) first second within = unguarded (nothing first second d.Context) within
-limited_detail _ first second within = Err wrong.WrongKind
+-- what a capability to an object says: a guard's size and value, rights and a badge, rights, or nothing
+abbrev pub detail_of : Object → Option Term → Option Term → Result Detail Wrong
+detail_of (o.CNode node) (Some (term.Decimal size)) (Some (term.Hexadecimal value)) = guarded node.radix size value
+detail_of (o.Endpoint _) (Some (term.Rights rights)) (Some (term.Decimal badge)) =
+    Ok (d.Endpoint (record { rights = rights; badge = badge }))
+detail_of (o.Notification _) (Some (term.Rights rights)) (Some (term.Decimal badge)) =
+    plain rights (d.Notification (record { rights = rights; badge = badge }))
+detail_of (o.Frame _) (Some (term.Rights rights)) None = plain rights (d.Frame rights)
+detail_of (o.Untyped _) None None = Ok d.Untyped
+detail_of (o.Tcb _) None None = Ok d.Tcb
+detail_of (o.Reply _) None None = Ok d.Reply
+detail_of (o.Context _) None None = Ok d.Context
+detail_of (o.Control _) None None = Ok d.Control
+detail_of _ _ _ = Err wrong.WrongKind
 
 -- what a capability to an object of the table says
-unfoldable pub detail_for : Layout → ObjId → Option Term × Option Term → Bool → Result Detail Wrong
-detail_for t target terms within = by_object (initial_of t target) where
-  by_object : Option Initial → Result Detail Wrong
-  by_object None = Err wrong.UnknownName
-  by_object (Some initial) = limited_detail initial.object terms.0 terms.1 within
+unfoldable pub detail_for : Layout → ObjId → Option Term × Option Term → Result Detail Wrong
+detail_for t target terms = do
+  initial ← value_or wrong.UnknownName (initial_of t target)
+  detail_of initial.object terms.0 terms.1
 
 -- the capability to an object with what it says; it is derived from no other
 abbrev pub capability : ObjId → Detail → Cap
 capability target detail = record { object = target; detail = detail; original = true }
 
+abbrev pub is_untyped : Option ObjectKind → Bool
+is_untyped (Some kind.Untyped) = true
+is_untyped _ = false
+
+-- whether an object is an untyped that has a capability
+abbrev pub is_claimed : Layout → ObjId → Bool
+is_claimed t target = is_untyped (kind_at t target) && has_cap_to t target
+
 -- a capability to an object in a slot of a holder
 unfoldable pub filled : Layout → ObjId → Place → ObjId → Option Term × Option Term → Result Layout Wrong
 filled t holder at target terms = do
+  _ ← demand (not (is_claimed t target)) wrong.Double
   _ ← demand (may_fill (kind_at t holder) at (kind_at t target)) wrong.WrongKind
-  detail ← detail_for t target terms (declares_slot t (slot_in holder at))
+  detail ← detail_for t target terms
+  _ ← demand (declares_slot t (slot_in holder at)) wrong.Limit
   Ok (with_filled t (record { slot = slot_in holder at; cap = capability target detail }))
 
 -- the object of a name
@@ -290,10 +308,28 @@ cap_line t words = do
   slot ← slot_at words
   name ← name_at slot.1
   terms ← terms_at name.1
-  _ ← demand (takes_caps t && rises t (object_named t slot.0.0) slot.0.1) wrong.Syntax
+  _ ← demand (takes_caps t && rises (is_above_caps t) (object_named t slot.0.0) slot.0.1) wrong.Syntax
   holder ← named t slot.0.0
   target ← named t name.0
   filled t holder slot.0.1 target terms
+
+-- the capability in the slot of the first holder and place is the parent of that in the slot of the second
+unfoldable pub paired : Layout → ObjId × Place → ObjId × Place → Result Layout Wrong
+paired t parent child = do
+  _ ← demand (fits_holder (kind_at t parent.0) parent.1 && fits_holder (kind_at t child.0) child.1) wrong.WrongKind
+  _ ← demand (declares_slot t (slot_in parent.0 parent.1) && declares_slot t (slot_in child.0 child.1)) wrong.Limit
+  Ok (with_pair t (record { parent = slot_in parent.0 parent.1; child = slot_in child.0 child.1 }))
+
+-- child SLOT SLOT
+unfoldable pub child_line : Layout → List (List ℕ) → Result Layout Wrong
+child_line t words = do
+  parent ← slot_at words
+  child ← slot_at parent.1
+  _ ← ended_at child.1
+  _ ← demand (takes_pairs t && rises (is_above_pairs t) (object_named t child.0.0) child.0.1) wrong.Syntax
+  above ← named t parent.0.0
+  below ← named t child.0.0
+  paired t (above, parent.0.1) (below, child.0.1)
 
 -- the thread rises above those that are bound; an unknown name isn't compared
 abbrev pub thread_rises : Layout → Option ObjId → Bool
@@ -317,23 +353,43 @@ bind_line t words = do
   _ ← demand (is_thread_and_context (kind_at t thread) (kind_at t context)) wrong.WrongKind
   Ok (with_binding t (record { thread = thread; context = context }))
 
+-- an object's line, by its first word
+unfoldable pub declaration : List ℕ → Layout → List (List ℕ) → Result Layout Wrong
+declaration keyword t words = do
+  kind ← or_syntax (object_kind_of keyword)
+  object_line kind t words
+
 -- a line by its first word
 unfoldable pub line_by : List ℕ → Layout → List (List ℕ) → Result Layout Wrong
 line_by keyword t words =
     if bytes_eq keyword (codes "label") then label_line t words else
-    (if bytes_eq keyword (codes "cnode") then cnode_line t words else
-    (if bytes_eq keyword (codes "tcb") then tcb_line t words else
-    (if bytes_eq keyword (codes "notification") then notification_line t words else
-    (if bytes_eq keyword (codes "context") then context_line t words else
     (if bytes_eq keyword (codes "cap") then cap_line t words else
+    (if bytes_eq keyword (codes "child") then child_line t words else
     (if bytes_eq keyword (codes "bind") then bind_line t words else
-    Err wrong.Syntax))))))
+    declaration keyword t words)))
 
 unfoldable pub table_line : Layout → List (List ℕ) → Result Layout Wrong
 table_line t words = do
   keyword ← word_at words
   line_by keyword.0 t keyword.1
 
+-- the line of the pair of this number: the header, the labels, the objects and the capabilities come before the pairs
+abbrev pub pair_line : Layout → ℕ → ℕ
+pair_line t number = number + 2 + (length t.labels + length t.objects + length t.caps)
+
+-- the table where no pair breaks a rule of the derivation tree, else the fault of the first that does
+abbrev pub grown_by : Layout → Option ℕ → Whole Layout
+grown_by t None = Ok (with_originals t)
+grown_by t (Some number) = Err (pair_line t number, wrong.Tree)
+
+-- what the lines come to: the table with its capabilities marked, if its derivation tree keeps the rules
+unfoldable pub grown : Layout → Whole Layout
+grown t = grown_by t (tree_fault (with_originals t))
+
+-- tables, line by line
+abbrev pub table_format : Format Layout Layout
+table_format = record { header = words_of (codes "confine-table 1"); step = table_line; whole = grown; start = empty_layout }
+
 -- the capability table that a text spells, or its first fault
 unfoldable pub read_table_of : List ℕ → Result Layout Fault
-read_table_of bytes = read_text (words_of (codes "confine-table 1")) table_line as_it_is empty_layout (lines_of bytes)
+read_table_of bytes = read_format table_format (lines_of bytes)

@@ -1,18 +1,15 @@
-ghost use Rattle.std.specs.Prelude.{◌≡◌, ◌≢◌, true, Some, IfOk, OnErr, OnOk};
+ghost use Rattle.std.specs.Prelude.{◌≡◌, true, Some, OnErr};
+ghost use Rattle.captext.specs.Spelling.{AreTerms};
 ghost use Rattle.captext.specs.Tables as text;
-ghost use Rattle.captext.specs.Tables.{capability, fits_radix};
-ghost use Rattle.machine.specs.Capabilities.{kind_of_detail};
-ghost use Rattle.machine.specs.Objects.{kind_of_object};
-ghost use Rattle.table.specs.Building.{fits, is_fitting};
-ghost use Rattle.table.specs.Rules.{kind_at};
+ghost use Rattle.table.specs.Building.{is_above_caps, is_above_pairs};
 ghost use Rattle.words.specs.Reading.{GivesOrStops};
 
-use crate::objects::takes_caps;
+use crate::objects::{takes_caps, takes_pairs};
 use crate::shapes::{Place, Term, slot, terms};
 use base::{ObjId, Rights, SlotRef};
 use bitflags::Flags;
-use machine::{Badged, Binding, Cap, Detail, Filled, Guard, Object, ObjectKind, Radix};
-use table::Table;
+use machine::{Badged, Binding, Cap, Detail, Filled, Guard, Object, ObjectKind, Pair, Radix};
+use table::Draft;
 use words::{LineError, Words, Wrong};
 
 /// The slot at a place of a holder.
@@ -27,11 +24,11 @@ fn slot_in(holder: ObjId, place: Place) -> SlotRef
 }
 
 /// Whether the slot rises above those that are filled. That of an unknown holder isn't compared.
-fn rises(table: &Table, holder: Option<ObjId>, place: Place) -> bool
-    ensures { result ≡ text.rises table.now holder place }
+fn cap_rises(draft: &Draft, holder: Option<ObjId>, place: Place) -> bool
+    ensures { result ≡ text.rises (is_above_caps draft.now) holder place }
 {
     match holder {
-        Some(holder) => table.is_above_caps(slot_in(holder, place)),
+        Some(holder) => draft.is_above_caps(slot_in(holder, place)),
         None => true,
     }
 }
@@ -70,36 +67,6 @@ fn is_plain(rights: Rights) -> bool
     rights.bits() < 4
 }
 
-/// Nothing after the object.
-fn nothing(first: Option<Term>, second: Option<Term>, detail: Detail) -> Option<Detail>
-    ensures { result ≡ text.nothing first second detail }
-{
-    match (first, second) {
-        (None, None) => Some(detail),
-        _ => None,
-    }
-}
-
-/// `RIGHTS DEC`.
-fn badged(first: Option<Term>, second: Option<Term>) -> Option<Badged>
-    ensures { result ≡ text.badged first second }
-{
-    match (first, second) {
-        (Some(Term::Rights(rights)), Some(Term::Decimal(badge))) => Some(Badged { rights, badge }),
-        _ => None,
-    }
-}
-
-/// What a notification's capability says.
-fn plain_notification(end: Option<Badged>) -> Option<Detail>
-    ensures { result ≡ text.plain_notification end }
-{
-    match end {
-        Some(end) if is_plain(end.rights) => Some(Detail::Notification(end)),
-        _ => None,
-    }
-}
-
 /// Whether a guard and the radix together take at most 64 bits, and the value fits the size.
 fn is_guard(radix: Radix, size: u64, value: u64) -> bool
     ensures { result ≡ text.is_guard radix size value }
@@ -108,148 +75,190 @@ fn is_guard(radix: Radix, size: u64, value: u64) -> bool
     size <= 64 && size + radix <= 64 && value < 1 << size
 }
 
-/// What the capability of a CNode says, where its own slot's index is within its holder or not.
-#[tactic(auto, unfolding(crate::specs::Tables::guarded))]
-fn guarded(
-    radix: Radix,
-    first: Option<Term>,
-    second: Option<Term>,
-    within: bool,
-) -> Result<Detail, Wrong>
-    ensures exact { result ≡ text.guarded radix (text.guard_in first second) within }
-    ensures within { OnOk result (within ≡ true) }
-    ensures fits { IfOk result (λ detail. fits_radix radix detail ≡ true) }
+/// A guard that fits the radix.
+fn guarded(radix: Radix, size: u64, value: u64) -> Result<Detail, Wrong>
+    ensures { result ≡ text.guarded radix size value }
 {
-    match (first, second) {
-        (Some(Term::Decimal(size)), Some(Term::Hexadecimal(value))) => {
-            if within && is_guard(radix, size, value) {
-                let size = size as u8;
-                Ok(Detail::CNode(Guard { size, value }))
-            } else {
-                Err(Wrong::Limit)
-            }
-        }
-        _ => Err(Wrong::WrongKind),
-    }
-}
-
-/// What another capability says, alike.
-#[tactic(auto, unfolding(crate::specs::Tables::unguarded))]
-fn unguarded(detail: Option<Detail>, within: bool) -> Result<Detail, Wrong>
-    ensures exact { result ≡ text.unguarded detail within }
-    ensures within { OnOk result (within ≡ true) }
-    ensures given { IfOk result (λ given. detail ≡ Some given) }
-{
-    let detail = detail.ok_or(Wrong::WrongKind)?;
-    if within {
-        Ok(detail)
+    if is_guard(radix, size, value) {
+        let size = size as u8;
+        Ok(Detail::CNode(Guard { size, value }))
     } else {
         Err(Wrong::Limit)
     }
 }
 
-/// What a capability says, by the kind of its object, where its slot's index is within its holder
-/// or not.
-#[tactic(auto, unfolding(crate::specs::Tables::limited_detail))]
-fn limited_detail(
-    target: &Object,
-    first: Option<Term>,
-    second: Option<Term>,
-    within: bool,
-) -> Result<Detail, Wrong>
-    ensures exact { result ≡ text.limited_detail target.now first second within }
-    ensures within { OnOk result (within ≡ true) }
-    ensures fits { IfOk result (λ detail. fits target.now detail ≡ true) }
-    ensures kind { IfOk result (λ detail. kind_of_object target.now ≡ kind_of_detail detail) }
-    ensures typed { IfOk result (λ detail. kind_of_detail detail ≢ ObjectKind.Untyped) }
+/// What a capability with these rights says, if they are only `r` and `w`.
+fn plain(rights: Rights, detail: Detail) -> Result<Detail, Wrong>
+    ensures { result ≡ text.plain rights detail }
 {
-    let detail = match target {
-        Object::CNode(node) => return guarded(node.radix, first, second, within),
-        Object::Tcb(_) => nothing(first, second, Detail::Tcb),
-        Object::Notification(_) => plain_notification(badged(first, second)),
-        Object::Context(_) => nothing(first, second, Detail::Context),
-        _ => return Err(Wrong::WrongKind),
-    };
-    unguarded(detail, within)
+    if is_plain(rights) {
+        Ok(detail)
+    } else {
+        Err(Wrong::WrongKind)
+    }
+}
+
+/// What a capability to an object says: a guard's size and value, rights and a badge, rights, or
+/// nothing.
+fn detail_of(target: &Object, first: Option<Term>, second: Option<Term>) -> Result<Detail, Wrong>
+    ensures { result ≡ text.detail_of target.now first second }
+{
+    match (target, first, second) {
+        (Object::CNode(node), Some(Term::Decimal(size)), Some(Term::Hexadecimal(value))) => {
+            guarded(node.radix, size, value)
+        }
+        (Object::Endpoint(_), Some(Term::Rights(rights)), Some(Term::Decimal(badge))) => {
+            Ok(Detail::Endpoint(Badged { rights, badge }))
+        }
+        (Object::Notification(_), Some(Term::Rights(rights)), Some(Term::Decimal(badge))) => {
+            plain(rights, Detail::Notification(Badged { rights, badge }))
+        }
+        (Object::Frame(_), Some(Term::Rights(rights)), None) => plain(
+            rights,
+            Detail::Frame(rights),
+        ),
+        (Object::Untyped(_), None, None) => Ok(Detail::Untyped),
+        (Object::Tcb(_), None, None) => Ok(Detail::Tcb),
+        (Object::Reply(_), None, None) => Ok(Detail::Reply),
+        (Object::Context(_), None, None) => Ok(Detail::Context),
+        (Object::Control(_), None, None) => Ok(Detail::Control),
+        _ => Err(Wrong::WrongKind),
+    }
 }
 
 /// What a capability to an object of the table says.
-#[tactic(auto, unfolding(crate::specs::Tables::detail_for, table::specs::Building::is_fitting, table::specs::Rules::kind_at))]
+#[tactic(auto, unfolding(crate::specs::Tables::detail_for, words::specs::Reading::bind))]
 fn detail_for(
-    table: &Table,
+    draft: &Draft,
     target: ObjId,
     terms: (Option<Term>, Option<Term>),
-    within: bool,
 ) -> Result<Detail, Wrong>
-    ensures exact { result ≡ text.detail_for table.now target terms within }
-    ensures within { OnOk result (within ≡ true) }
-    ensures fits { IfOk result (λ detail. is_fitting table.now (capability target detail) ≡ true) }
-    ensures kind { IfOk result (λ detail. kind_at table.now target ≡ Some (kind_of_detail detail)) }
-    ensures typed { IfOk result (λ detail. kind_of_detail detail ≢ ObjectKind.Untyped) }
+    ensures { result ≡ text.detail_for draft.now target terms }
 {
-    match table.object(target) {
-        Some(initial) => limited_detail(&initial.object, terms.0, terms.1, within),
+    match draft.object(target) {
+        Some(initial) => detail_of(&initial.object, terms.0, terms.1),
         None => Err(Wrong::UnknownName),
     }
+}
+
+/// Whether the object is an untyped that has a capability.
+fn is_claimed(draft: &Draft, target: ObjId) -> bool
+    ensures { result ≡ text.is_claimed draft.now target }
+{
+    draft.kind(target) == Some(ObjectKind::Untyped) && draft.has_cap_to(target)
 }
 
 /// Adds a capability to the target in a slot of the holder.
 #[tactic(auto, unfolding(crate::specs::Tables::filled, words::specs::Reading::bind))]
 fn fill(
-    table: &mut Table,
+    draft: &mut Draft,
     holder: ObjId,
     place: Place,
     target: ObjId,
     terms: (Option<Term>, Option<Term>),
 ) -> Result<(), LineError>
-    requires { text.rises table.old (Some holder) place ≡ true }
-    ensures exact { GivesOrStops (λ _. table.new) result (text.filled table.old holder place target terms) }
-    ensures err { OnErr result (table.new ≡ table.old) }
+    requires rises { is_above_caps draft.old (text.slot_in holder place) ≡ true }
+    requires spelled { AreTerms terms }
+    ensures exact { GivesOrStops (λ _. draft.new) result (text.filled draft.old holder place target terms) }
+    ensures err { OnErr result (draft.new ≡ draft.old) }
 {
-    if !may_fill(table.kind(holder), place, table.kind(target)) {
+    if is_claimed(draft, target) {
+        return Err(LineError::Text(Wrong::Double));
+    }
+    if !may_fill(draft.kind(holder), place, draft.kind(target)) {
         return Err(LineError::Text(Wrong::WrongKind));
     }
+    let detail = detail_for(draft, target, terms)?;
     let slot = slot_in(holder, place);
-    let detail = detail_for(table, target, terms, table.declares_slot(slot))?;
+    if !draft.declares_slot(slot) {
+        return Err(LineError::Text(Wrong::Limit));
+    }
     let cap = Cap {
         object: target,
         detail,
         original: true,
     };
-    table.add_cap(Filled { slot, cap })?;
+    draft.add_cap(Filled { slot, cap })?;
     Ok(())
 }
 
 /// The object of a name.
-fn named(table: &Table, name: &str) -> Result<ObjId, Wrong>
-    ensures { result ≡ text.named table.now name.now }
+fn named(draft: &Draft, name: &str) -> Result<ObjId, Wrong>
+    ensures { result ≡ text.named draft.now name.now }
 {
-    table.object_named(name).ok_or(Wrong::UnknownName)
+    draft.object_named(name).ok_or(Wrong::UnknownName)
 }
 
 /// Reads `SLOT NAME` and what the capability says, after the word `cap`.
 #[tactic(auto, unfolding(crate::specs::Tables::cap_line, words::specs::Reading::bind))]
-pub fn cap_line(table: &mut Table, words: &mut Words<'_>) -> Result<(), LineError>
-    ensures exact { GivesOrStops (λ _. table.new) result (text.cap_line table.old words.old) }
-    ensures err { OnErr result (table.new ≡ table.old) }
+pub fn cap_line(draft: &mut Draft, words: &mut Words<'_>) -> Result<(), LineError>
+    ensures exact { GivesOrStops (λ _. draft.new) result (text.cap_line draft.old words.old) }
+    ensures err { OnErr result (draft.new ≡ draft.old) }
 {
     let (holder, place) = slot(words)?;
     let target = words.name()?;
     let terms = terms(words)?;
-    if !(takes_caps(table) && rises(table, table.object_named(holder), place)) {
+    if !(takes_caps(draft) && cap_rises(draft, draft.object_named(holder), place)) {
         return Err(LineError::Text(Wrong::Syntax));
     }
-    let holder = named(table, holder)?;
-    let target = named(table, target)?;
-    fill(table, holder, place, target, terms)
+    let holder = named(draft, holder)?;
+    let target = named(draft, target)?;
+    fill(draft, holder, place, target, terms)
+}
+
+/// Whether the slot rises above those that are children. That of an unknown holder isn't compared.
+fn child_rises(draft: &Draft, holder: Option<ObjId>, place: Place) -> bool
+    ensures { result ≡ text.rises (is_above_pairs draft.now) holder place }
+{
+    match holder {
+        Some(holder) => draft.is_above_pairs(slot_in(holder, place)),
+        None => true,
+    }
+}
+
+/// Makes the capability in one slot the parent of that in another.
+#[tactic(auto, unfolding(crate::specs::Tables::paired, words::specs::Reading::bind))]
+fn pair(draft: &mut Draft, parent: (ObjId, Place), child: (ObjId, Place)) -> Result<(), LineError>
+    requires { is_above_pairs draft.old (text.slot_in child.0 child.1) ≡ true }
+    ensures exact { GivesOrStops (λ _. draft.new) result (text.paired draft.old parent child) }
+    ensures err { OnErr result (draft.new ≡ draft.old) }
+{
+    let fit = fits_holder(draft.kind(parent.0), parent.1);
+    if !(fit && fits_holder(draft.kind(child.0), child.1)) {
+        return Err(LineError::Text(Wrong::WrongKind));
+    }
+    let parent = slot_in(parent.0, parent.1);
+    let child = slot_in(child.0, child.1);
+    if !(draft.declares_slot(parent) && draft.declares_slot(child)) {
+        return Err(LineError::Text(Wrong::Limit));
+    }
+    draft.add_pair(Pair { parent, child })?;
+    Ok(())
+}
+
+/// Reads `SLOT SLOT`, of a parent and its child, after the word `child`.
+#[tactic(auto, unfolding(crate::specs::Tables::child_line, words::specs::Reading::bind))]
+pub fn child_line(draft: &mut Draft, words: &mut Words<'_>) -> Result<(), LineError>
+    ensures exact { GivesOrStops (λ _. draft.new) result (text.child_line draft.old words.old) }
+    ensures err { OnErr result (draft.new ≡ draft.old) }
+{
+    let (above, parent) = slot(words)?;
+    let (below, child) = slot(words)?;
+    words.end()?;
+    if !(takes_pairs(draft) && child_rises(draft, draft.object_named(below), child)) {
+        return Err(LineError::Text(Wrong::Syntax));
+    }
+    let above = named(draft, above)?;
+    let below = named(draft, below)?;
+    pair(draft, (above, parent), (below, child))
 }
 
 /// Whether the thread rises above those that are bound. An unknown name isn't compared.
-fn thread_rises(table: &Table, thread: Option<ObjId>) -> bool
-    ensures { result ≡ text.thread_rises table.now thread }
+fn thread_rises(draft: &Draft, thread: Option<ObjId>) -> bool
+    ensures { result ≡ text.thread_rises draft.now thread }
 {
     match thread {
-        Some(thread) => table.is_above_bindings(thread),
+        Some(thread) => draft.is_above_bindings(thread),
         None => true,
     }
 }
@@ -266,24 +275,24 @@ fn is_thread_and_context(thread: Option<ObjectKind>, context: Option<ObjectKind>
 
 /// Reads `NAME NAME`, after the word `bind`.
 #[tactic(auto, unfolding(crate::specs::Tables::bind_line, words::specs::Reading::bind))]
-pub fn bind_line(table: &mut Table, words: &mut Words<'_>) -> Result<(), LineError>
-    ensures exact { GivesOrStops (λ _. table.new) result (text.bind_line table.old words.old) }
-    ensures err { OnErr result (table.new ≡ table.old) }
+pub fn bind_line(draft: &mut Draft, words: &mut Words<'_>) -> Result<(), LineError>
+    ensures exact { GivesOrStops (λ _. draft.new) result (text.bind_line draft.old words.old) }
+    ensures err { OnErr result (draft.new ≡ draft.old) }
 {
     let thread = words.name()?;
     let context = words.name()?;
     words.end()?;
-    if !thread_rises(table, table.object_named(thread)) {
+    if !thread_rises(draft, draft.object_named(thread)) {
         return Err(LineError::Text(Wrong::Syntax));
     }
-    let thread = named(table, thread)?;
-    let context = named(table, context)?;
-    if table.is_bound(context) {
+    let thread = named(draft, thread)?;
+    let context = named(draft, context)?;
+    if draft.is_bound(context) {
         return Err(LineError::Text(Wrong::Double));
     }
-    if !is_thread_and_context(table.kind(thread), table.kind(context)) {
+    if !is_thread_and_context(draft.kind(thread), draft.kind(context)) {
         return Err(LineError::Text(Wrong::WrongKind));
     }
-    table.add_binding(Binding { thread, context })?;
+    draft.add_binding(Binding { thread, context })?;
     Ok(())
 }

@@ -1,125 +1,218 @@
-ghost use Rattle.std.specs.Prelude.{◌≡◌, ◌<◌, true, false, length, is_some, IfOk, IfSome, OnErr, OnOk};
+ghost use Rattle.std.specs.Prelude.{◌≡◌, ◌<◌, true, false, length, is_some, IfOk, OnErr, OnOk};
 ghost use Rattle.captext.specs.Tables as text;
 ghost use Rattle.table.specs.Building.{repeats_control};
 ghost use Rattle.table.specs.Names.{object_named};
 ghost use Rattle.words.specs.Name.{is_name};
-ghost use Rattle.table.specs.Rules.{IsAtRest, IsBlank, IsWithinLimits};
+ghost use Rattle.table.specs.Rules.{IsBlank};
 ghost use Rattle.words.specs.Reading.{GivesOrStops};
 
-use crate::shapes::ShareTerms;
 use base::{CoreNo, Label, MAX_PERIOD};
-use machine::{CNode, Context, Inbox, Initial, Notification, Object, Radix, RunState, Share, Tcb};
-use table::{Table, is_addressable, is_aligned};
+use machine::{
+    CNode, Context, Control, Endpoint, Frame, Inbox, Initial, Notification, Object, ObjectKind,
+    Radix, Reply, ReplyState, RunState, Share, Tcb, Untyped,
+};
+use table::{Draft, is_addressable, is_aligned};
 use words::{LineError, Words, Wrong, decimal_of};
 
 /// Reads `NAME`, after the word `label`.
 #[tactic(auto, unfolding(crate::specs::Tables::label_line, words::specs::Reading::bind))]
-pub fn label_line(table: &mut Table, words: &mut Words<'_>) -> Result<(), LineError>
-    ensures exact { GivesOrStops (λ _. table.new) result (text.label_line table.old words.old) }
-    ensures err { OnErr result (table.new ≡ table.old) }
+pub fn label_line(draft: &mut Draft, words: &mut Words<'_>) -> Result<(), LineError>
+    ensures exact { GivesOrStops (λ _. draft.new) result (text.label_line draft.old words.old) }
+    ensures err { OnErr result (draft.new ≡ draft.old) }
 {
     let name = words.name()?;
     words.end()?;
-    if !takes_labels(table) {
+    if !takes_labels(draft) {
         return Err(LineError::Text(Wrong::Syntax));
     }
-    if table.label_named(name).is_some() {
+    if draft.label_named(name).is_some() {
         return Err(LineError::Text(Wrong::Double));
     }
-    if table.label_count() >= usize::from(Label::COUNT) {
+    if draft.label_count() >= usize::from(Label::COUNT) {
         return Err(LineError::Text(Wrong::Limit));
     }
-    table.add_label(name)?;
+    draft.add_label(name)?;
     Ok(())
 }
 
 /// Whether a label may come now.
-fn takes_labels(table: &Table) -> bool
-    ensures { result ≡ text.takes_labels table.now }
+fn takes_labels(draft: &Draft) -> bool
+    ensures { result ≡ text.takes_labels draft.now }
 {
-    table.objects().is_empty() && takes_objects(table)
+    draft.objects().is_empty() && takes_objects(draft)
 }
 
 /// Whether an object may come now.
-fn takes_objects(table: &Table) -> bool
-    ensures { result ≡ text.takes_objects table.now }
+fn takes_objects(draft: &Draft) -> bool
+    ensures { result ≡ text.takes_objects draft.now }
 {
-    table.caps().is_empty() && takes_caps(table)
+    draft.caps().is_empty() && takes_caps(draft)
 }
 
 /// Whether a capability may come now.
-pub fn takes_caps(table: &Table) -> bool
-    ensures { result ≡ text.takes_caps table.now }
+pub fn takes_caps(draft: &Draft) -> bool
+    ensures { result ≡ text.takes_caps draft.now }
 {
-    table.pairs().is_empty() && table.bindings().is_empty()
+    draft.pairs().is_empty() && takes_pairs(draft)
+}
+
+/// Whether a pair of the derivation tree may come now.
+pub fn takes_pairs(draft: &Draft) -> bool
+    ensures { result ≡ text.takes_pairs draft.now }
+{
+    draft.bindings().is_empty()
 }
 
 /// The label of that name, where an object may come now and its name is new.
 #[tactic(auto, unfolding(crate::specs::Tables::heading, words::specs::Reading::bind))]
-fn heading(table: &Table, name: &str, label: &str) -> Result<Label, Wrong>
-    ensures exact { result ≡ text.heading table.now name.now label.now }
-    ensures within { IfOk result (λ label. label < length table.now.labels) }
-    ensures fresh { OnOk result (is_some (object_named table.now name.now) ≡ false) }
+fn heading(draft: &Draft, name: &str, label: &str) -> Result<Label, Wrong>
+    ensures exact { result ≡ text.heading draft.now name.now label.now }
+    ensures within { IfOk result (λ label. label < length draft.now.labels) }
+    ensures fresh { OnOk result (is_some (object_named draft.now name.now) ≡ false) }
 {
-    if !takes_objects(table) {
+    if !takes_objects(draft) {
         return Err(Wrong::Syntax);
     }
-    let label = table.label_named(label).ok_or(Wrong::UnknownName)?;
-    if table.object_named(name).is_some() {
+    let label = draft.label_named(label).ok_or(Wrong::UnknownName)?;
+    if draft.object_named(name).is_some() {
         return Err(Wrong::Double);
     }
     Ok(label)
 }
 
 /// Whether one object more is within the limits, and ends within the addresses that there are.
-fn is_within(table: &Table, object: &Object) -> bool
-    ensures { result ≡ text.is_within table.now object.now }
+fn is_within(draft: &Draft, object: &Object) -> bool
+    ensures { result ≡ text.is_within draft.now object.now }
 {
-    table.has_room(object) && is_addressable(object)
+    draft.has_room(object) && is_addressable(object)
 }
 
 /// Adds an object that is within the limits and where it may lie.
 #[tactic(auto, unfolding(crate::specs::Tables::declared, words::specs::Reading::bind))]
-fn declare(table: &mut Table, name: &str, label: Label, object: Object) -> Result<(), LineError>
+fn declare(draft: &mut Draft, name: &str, label: Label, object: Object) -> Result<(), LineError>
     requires spelled { is_name name.now ≡ true }
-    requires fresh { is_some (object_named table.old name.now) ≡ false }
-    requires label { label < length table.old.labels }
+    requires fresh { is_some (object_named draft.old name.now) ≡ false }
+    requires label { label < length draft.old.labels }
     requires blank { IsBlank object }
-    requires control { repeats_control table.old object ≡ false }
-    ensures exact { GivesOrStops (λ _. table.new) result (text.declared table.old name.now label object) }
-    ensures err { OnErr result (table.new ≡ table.old) }
+    requires control { repeats_control draft.old object ≡ false }
+    ensures exact { GivesOrStops (λ _. draft.new) result (text.declared draft.old name.now label object) }
+    ensures err { OnErr result (draft.new ≡ draft.old) }
 {
-    if !is_within(table, &object) {
+    if !is_within(draft, &object) {
         return Err(LineError::Text(Wrong::Limit));
     }
-    if !(is_aligned(&object) && table.is_free(&object)) {
+    if !(is_aligned(&object) && draft.is_free(&object)) {
         return Err(LineError::Text(Wrong::Misplaced));
     }
-    table.add_object(name, Initial { label, object })?;
+    draft.add_object(name, Initial { label, object })?;
     Ok(())
 }
 
-/// Reads `NAME LABEL HEX DEC`, after the word `cnode`.
-#[tactic(auto, unfolding(crate::specs::Tables::cnode_line, words::specs::Reading::bind))]
-pub fn cnode_line(table: &mut Table, words: &mut Words<'_>) -> Result<(), LineError>
-    ensures exact { GivesOrStops (λ _. table.new) result (text.cnode_line table.old words.old) }
-    ensures err { OnErr result (table.new ≡ table.old) }
+/// Whether the object is the control of a core that the table has the control of.
+fn repeats_control(draft: &Draft, object: &Object) -> bool
+    ensures { result ≡ repeats_control draft.now object.now }
+{
+    match object {
+        Object::Control(control) => draft.has_control(control.core),
+        _ => false,
+    }
+}
+
+/// Reads an object's `NAME LABEL` and its kind's own words, after the kind's word.
+#[tactic(auto, unfolding(crate::specs::Tables::object_line, words::specs::Reading::bind))]
+pub fn object_line(
+    draft: &mut Draft,
+    kind: ObjectKind,
+    words: &mut Words<'_>,
+) -> Result<(), LineError>
+    ensures exact { GivesOrStops (λ _. draft.new) result (text.object_line kind draft.old words.old) }
+    ensures err { OnErr result (draft.new ≡ draft.old) }
 {
     let name = words.name()?;
     let label = words.name()?;
+    let object = match object(kind, words) {
+        Ok(object) => object,
+        Err(wrong) => return Err(LineError::Text(wrong)),
+    };
+    let label = heading(draft, name, label)?;
+    let Some(object) = object else {
+        return Err(LineError::Text(Wrong::Limit));
+    };
+    if repeats_control(draft, &object) {
+        return Err(LineError::Text(Wrong::Double));
+    }
+    declare(draft, name, label, object)
+}
+
+/// The object at boot that its kind's own words tell, if it is within the limits of the kind.
+#[tactic(auto, unfolding(crate::specs::Tables::addressed, words::specs::Reading::bind))]
+fn object(kind: ObjectKind, words: &mut Words<'_>) -> Result<Option<Object>, Wrong>
+    ensures { result ≡ text.object_at kind words.old }
+{
+    match kind {
+        ObjectKind::Untyped => untyped(words),
+        ObjectKind::CNode => cnode(words),
+        ObjectKind::Tcb => thread(words),
+        ObjectKind::Endpoint => {
+            let address = address(words)?;
+            Ok(Some(Object::Endpoint(Endpoint { address })))
+        }
+        ObjectKind::Notification => {
+            let address = address(words)?;
+            let pending = None;
+            Ok(Some(Object::Notification(Notification { address, pending })))
+        }
+        ObjectKind::Reply => {
+            let address = address(words)?;
+            let state = ReplyState::Free;
+            Ok(Some(Object::Reply(Reply { address, state })))
+        }
+        ObjectKind::Context => context(words),
+        ObjectKind::Frame => {
+            let address = address(words)?;
+            Ok(Some(Object::Frame(Frame { address })))
+        }
+        ObjectKind::Control => control(words),
+    }
+}
+
+/// `HEX DEC`.
+#[tactic(auto, unfolding(crate::specs::Tables::sized, words::specs::Reading::bind))]
+fn untyped(words: &mut Words<'_>) -> Result<Option<Object>, Wrong>
+    ensures { result ≡ text.object_at ObjectKind.Untyped words.old }
+{
+    let base = words.hex()?;
+    let bits = words.number()?;
+    words.end()?;
+    if 4 <= bits && bits <= 47 {
+        Ok(Some(Object::Untyped(Untyped {
+            base,
+            bits: bits as u8,
+            watermark: base,
+        })))
+    } else {
+        Ok(None)
+    }
+}
+
+/// `HEX DEC`.
+#[tactic(auto, unfolding(crate::specs::Tables::sized, words::specs::Reading::bind))]
+fn cnode(words: &mut Words<'_>) -> Result<Option<Object>, Wrong>
+    ensures { result ≡ text.object_at ObjectKind.CNode words.old }
+{
     let address = words.hex()?;
     let radix = words.number()?;
     words.end()?;
-    let label = heading(table, name, label)?;
-    let radix = Radix::new(radix).ok_or(Wrong::Limit)?;
-    declare(table, name, label, Object::CNode(CNode { address, radix }))
+    match Radix::new(radix) {
+        Some(radix) => Ok(Some(Object::CNode(CNode { address, radix }))),
+        None => Ok(None),
+    }
 }
 
 /// The run state that a thread starts with.
 #[tactic(auto, unfolding(crate::specs::Tables::start_of))]
 fn start_of(word: &[u8]) -> Option<RunState>
-    ensures exact { result ≡ text.start_of word.now }
-    ensures rests { IfSome result IsAtRest }
+    ensures { result ≡ text.start_of word.now }
 {
     if word == b"ready".as_slice() {
         Some(RunState::Ready)
@@ -130,122 +223,122 @@ fn start_of(word: &[u8]) -> Option<RunState>
     }
 }
 
-/// Reads `NAME LABEL HEX ready` or `.. inactive`, after the word `tcb`.
-#[tactic(auto, unfolding(crate::specs::Tables::tcb_line, words::specs::Reading::or_syntax, words::specs::Reading::bind))]
-pub fn tcb_line(table: &mut Table, words: &mut Words<'_>) -> Result<(), LineError>
-    ensures exact { GivesOrStops (λ _. table.new) result (text.tcb_line table.old words.old) }
-    ensures err { OnErr result (table.new ≡ table.old) }
+/// `HEX ready` or `HEX inactive`.
+#[tactic(auto, unfolding(crate::specs::Tables::thread_at, words::specs::Reading::or_syntax, words::specs::Reading::bind))]
+fn thread(words: &mut Words<'_>) -> Result<Option<Object>, Wrong>
+    ensures { result ≡ text.object_at ObjectKind.Tcb words.old }
 {
-    let name = words.name()?;
-    let label = words.name()?;
     let address = words.hex()?;
     let word = words.word()?;
     let state = start_of(word).ok_or(Wrong::Syntax)?;
     words.end()?;
-    let label = heading(table, name, label)?;
-    let tcb = Tcb {
+    Ok(Some(Object::Tcb(Tcb {
         address,
         state,
         inbox: Inbox::Empty,
         context: None,
-    };
-    declare(table, name, label, Object::Tcb(tcb))
+    })))
 }
 
-/// Reads `NAME LABEL HEX`, after the word `notification`.
-#[tactic(auto, unfolding(crate::specs::Tables::notification_line, words::specs::Reading::bind))]
-pub fn notification_line(table: &mut Table, words: &mut Words<'_>) -> Result<(), LineError>
-    ensures exact { GivesOrStops (λ _. table.new) result (text.notification_line table.old words.old) }
-    ensures err { OnErr result (table.new ≡ table.old) }
+/// `HEX` alone.
+#[tactic(auto, unfolding(crate::specs::Tables::address_at, words::specs::Reading::bind))]
+fn address(words: &mut Words<'_>) -> Result<u64, Wrong>
+    ensures { result ≡ text.address_at words.old }
 {
-    let name = words.name()?;
-    let label = words.name()?;
     let address = words.hex()?;
     words.end()?;
-    let label = heading(table, name, label)?;
-    let notification = Notification {
-        address,
-        pending: None,
-    };
-    declare(table, name, label, Object::Notification(notification))
+    Ok(address)
 }
 
-/// Reads `CORE BUDGET PERIOD`, of which the first word was taken.
-#[tactic(auto, unfolding(crate::specs::Tables::shared, words::specs::Reading::or_syntax, words::specs::Reading::bind))]
-fn shared(first: &[u8], words: &mut Words<'_>) -> Result<Option<ShareTerms>, Wrong>
-    ensures { result ≡ text.shared first.now words.old }
+/// A share of a core, if it is within the limits.
+fn limited_share(core: u64, budget: u64, period: u64) -> Option<Share>
+    ensures { result ≡ text.limited_share core budget period }
+{
+    let core = CoreNo::new(core)?;
+    if 1 <= budget && budget <= period && period <= MAX_PERIOD {
+        Some(Share {
+            core,
+            budget,
+            period,
+        })
+    } else {
+        None
+    }
+}
+
+/// `CORE BUDGET PERIOD`, of which the first word was taken.
+#[tactic(auto, unfolding(crate::specs::Tables::share_at, words::specs::Reading::or_syntax, words::specs::Reading::bind))]
+fn share(first: &[u8], words: &mut Words<'_>) -> Result<Option<Share>, Wrong>
+    ensures { result ≡ text.share_at first.now words.old }
 {
     let core = decimal_of(first).ok_or(Wrong::Syntax)?;
     let budget = words.number()?;
     let period = words.number()?;
     words.end()?;
-    Ok(Some(ShareTerms {
-        core,
-        budget,
-        period,
-    }))
+    Ok(limited_share(core, budget, period))
 }
 
-/// Reads the rest of a line: the share of a core, or `-`.
-#[tactic(auto, unfolding(crate::specs::Tables::share_at, crate::specs::Tables::unshared, words::specs::Reading::bind))]
-fn share(words: &mut Words<'_>) -> Result<Option<ShareTerms>, Wrong>
-    ensures { result ≡ text.share_at words.old }
+/// `HEX -` or `HEX CORE BUDGET PERIOD`.
+#[tactic(auto, unfolding(crate::specs::Tables::context_at, crate::specs::Tables::unshared, crate::specs::Tables::shared, words::specs::Reading::bind))]
+fn context(words: &mut Words<'_>) -> Result<Option<Object>, Wrong>
+    ensures { result ≡ text.object_at ObjectKind.Context words.old }
 {
-    let first = words.word()?;
-    if first == b"-".as_slice() {
-        words.end()?;
-        Ok(None)
-    } else {
-        shared(first, words)
-    }
-}
-
-/// A share within the limits.
-#[tactic(auto, unfolding(crate::specs::Tables::limited_share))]
-fn limited_share(terms: Option<ShareTerms>) -> Result<Option<Share>, Wrong>
-    ensures exact { result ≡ text.limited_share terms }
-    ensures within { IfOk result IsWithinLimits }
-{
-    let Some(
-        ShareTerms {
-            core,
-            budget,
-            period,
-        },
-    ) = terms
-    else {
-        return Ok(None);
-    };
-    let Some(core) = CoreNo::new(core) else {
-        return Err(Wrong::Limit);
-    };
-    if 1 <= budget && budget <= period && period <= MAX_PERIOD {
-        Ok(Some(Share {
-            core,
-            budget,
-            period,
-        }))
-    } else {
-        Err(Wrong::Limit)
-    }
-}
-
-/// Reads `NAME LABEL HEX -` or `NAME LABEL HEX CORE BUDGET PERIOD`, after the word `context`.
-#[tactic(auto, unfolding(crate::specs::Tables::context_line, words::specs::Reading::bind))]
-pub fn context_line(table: &mut Table, words: &mut Words<'_>) -> Result<(), LineError>
-    ensures exact { GivesOrStops (λ _. table.new) result (text.context_line table.old words.old) }
-    ensures err { OnErr result (table.new ≡ table.old) }
-{
-    let name = words.name()?;
-    let label = words.name()?;
     let address = words.hex()?;
-    let terms = share(words)?;
-    let label = heading(table, name, label)?;
-    let share = limited_share(terms)?;
-    let context = Context {
+    let first = words.word()?;
+    let share = if first == b"-".as_slice() {
+        words.end()?;
+        None
+    } else {
+        match share(first, words)? {
+            Some(share) => Some(share),
+            None => return Ok(None),
+        }
+    };
+    let thread = None;
+    Ok(Some(Object::Context(Context {
         address,
         share,
-        thread: None,
-    };
-    declare(table, name, label, Object::Context(context))
+        thread,
+    })))
+}
+
+/// `DEC`, the core.
+#[tactic(auto, unfolding(crate::specs::Tables::control_at, words::specs::Reading::bind))]
+fn control(words: &mut Words<'_>) -> Result<Option<Object>, Wrong>
+    ensures { result ≡ text.object_at ObjectKind.Control words.old }
+{
+    let core = words.number()?;
+    words.end()?;
+    match CoreNo::new(core) {
+        Some(core) => Ok(Some(Object::Control(Control { core }))),
+        None => Ok(None),
+    }
+}
+
+/// The kind of object that a word names.
+#[tactic(auto, unfolding(crate::specs::Tables::object_kind_of))]
+pub fn object_kind_of(word: &[u8]) -> Option<ObjectKind>
+    ensures { result ≡ text.object_kind_of word.now }
+{
+    if word == b"untyped".as_slice() {
+        Some(ObjectKind::Untyped)
+    } else if word == b"cnode".as_slice() {
+        Some(ObjectKind::CNode)
+    } else if word == b"tcb".as_slice() {
+        Some(ObjectKind::Tcb)
+    } else if word == b"endpoint".as_slice() {
+        Some(ObjectKind::Endpoint)
+    } else if word == b"notification".as_slice() {
+        Some(ObjectKind::Notification)
+    } else if word == b"reply".as_slice() {
+        Some(ObjectKind::Reply)
+    } else if word == b"context".as_slice() {
+        Some(ObjectKind::Context)
+    } else if word == b"frame".as_slice() {
+        Some(ObjectKind::Frame)
+    } else if word == b"control".as_slice() {
+        Some(ObjectKind::Control)
+    } else {
+        None
+    }
 }

@@ -1,7 +1,7 @@
-ghost use Rattle.std.specs.Prelude.{◌≡◌, ◌≢◌, ◌↔◌, ◌<◌, ℕ, List, [], length, codes, Some, Ok, Err, IfOk, IfErr, OnErr};
+ghost use Rattle.std.specs.Prelude.{◌≡◌, ◌≢◌, ◌↔◌, ◌<◌, ℕ, List, length, Some, Ok, Err, IfOk, IfErr, OnErr};
 ghost use Rattle.base.specs.declared.edge.Edge.{Edge as EdgeOf};
 ghost use Rattle.captext.specs.Policies as policies;
-ghost use Rattle.captext.specs.PolicyText.{label_name, policy_header, policy_text, IsPolicyOf};
+ghost use Rattle.captext.specs.PolicyText.{label_name, policy_text, IsPolicyOf};
 ghost use Rattle.machine.specs.Layout.{Layout};
 ghost use Rattle.table.specs.Names.{label_named};
 ghost use Rattle.table.specs.Rules.{IsLawful};
@@ -15,7 +15,7 @@ use base::{Edge, Kind, Label};
 use policy::Policy;
 use std::alloc::Global;
 use table::Table;
-use words::{Fault, LineError, Lines, Words, Wrong};
+use words::{Fault, LineError, Reader, Words, Wrong, read_text};
 
 /// The next word as a kind of authority.
 #[tactic(auto, unfolding(crate::specs::Policies::kind_at, words::specs::Reading::word_at, words::specs::Reading::or_syntax, words::specs::Reading::bind))]
@@ -26,16 +26,26 @@ fn kind(words: &mut Words<'_>) -> Result<Kind, Wrong>
     Kind::from_name(word).ok_or(Wrong::Syntax)
 }
 
-/// The next word, which is to be `edge`.
-#[tactic(auto, unfolding(crate::specs::Policies::keyword_at, words::specs::Reading::bind))]
-fn keyword(words: &mut Words<'_>) -> Result<(), Wrong>
-    ensures { Gives (λ _. words.new) result (policies.keyword_at (codes "edge") words.old) }
+/// An edge by the names of its labels.
+struct NamedEdge<'a> {
+    from: &'a str,
+    kind: Kind,
+    to: &'a str,
+}
+
+/// Reads `edge LABEL KIND LABEL`.
+#[tactic(auto, unfolding(crate::specs::Policies::named_edge_at, words::specs::Parts::by_word, words::specs::Parts::in_turn, words::specs::Parts::keyed, words::specs::Reading::bind))]
+fn named_edge<'a>(words: &mut Words<'a>) -> Result<NamedEdge<'a>, Wrong>
+    ensures { Gives (λ edge. ((edge.from.now, (edge.kind, edge.to.now)), words.new)) result (policies.named_edge_at words.old) }
 {
     let word = words.word()?;
     if word != b"edge".as_slice() {
         return Err(Wrong::Syntax);
     }
-    Ok(())
+    let from = words.name()?;
+    let kind = kind(words)?;
+    let to = words.name()?;
+    Ok(NamedEdge { from, kind, to })
 }
 
 /// Whether an edge from this label of this kind may come after the last one.
@@ -77,15 +87,12 @@ fn add_edge(policy: &mut Policy, edge: Edge) -> Result<(), LineError>
 }
 
 /// Reads `edge LABEL KIND LABEL`, and adds the edge.
-#[tactic(auto, unfolding(crate::specs::Policies::edge_line, words::specs::Reading::bind))]
+#[tactic(auto, unfolding(crate::specs::Policies::edge_line, crate::specs::Policies::labelled_edge, words::specs::Reading::bind))]
 fn edge_line(table: &Table, policy: &mut Policy, words: &mut Words<'_>) -> Result<(), LineError>
     ensures exact { GivesOrStops (λ _. policy.new) result (policies.edge_line table.now policy.old words.old) }
     ensures err { OnErr result (policy.new ≡ policy.old) }
 {
-    keyword(words)?;
-    let from = words.name()?;
-    let kind = kind(words)?;
-    let to = words.name()?;
+    let NamedEdge { from, kind, to } = named_edge(words)?;
     words.end()?;
     let from = table.label_named(from).ok_or(Wrong::UnknownName)?;
     if !may_follow(policy.last(), from, kind) {
@@ -111,9 +118,9 @@ pub fn read_policy(alloc: Global, text: &[u8], table: &Table) -> Result<Policy, 
 
     // One that isn't read is refused for its first fault, unless memory was refused.
     ensures faults { IfErr result (λ fault. fault ≢ no_memory
-        → TellsFirst policy_header (policies.edge_line table.now) [] (lines_of text.now) fault) }
+        → TellsFirst (policies.policy_format table.now) (lines_of text.now) fault) }
     ensures refused { (line : ℕ) (wrong : Wrong)
-        → IsFirstFault policy_header (policies.edge_line table.now) [] (lines_of text.now) line wrong
+        → IsFirstFault (policies.policy_format table.now) (lines_of text.now) line wrong
         → Reads (λ policy. policy) result (Err (fault_at line wrong)) }
 {
     // That no two labels have one name is a rule of the table's own, which it tells with its objects.
@@ -122,23 +129,35 @@ pub fn read_policy(alloc: Global, text: &[u8], table: &Table) -> Result<Policy, 
 }
 
 /// Reads the text of a policy, by the definition alone.
-#[tactic(auto, using(words::proofs::ReadingLaws::begins, words::proofs::ReadingLaws::no_beginning, words::proofs::ReadingLaws::goes_on, words::proofs::ReadingLaws::stops_by, words::proofs::ReadingLaws::no_more, words::proofs::ReadingLaws::ends_well, words::proofs::ReadingLaws::ends_badly), unfolding(crate::specs::Policies::read_policy_of, words::specs::Reading::bind))]
+#[tactic(auto, unfolding(crate::specs::Policies::read_policy_of))]
 fn edges_of(alloc: Global, text: &[u8], table: &Table) -> Result<Policy, Fault>
     ensures { Reads (λ policy. policy) result (policies.read_policy_of table.now text.now) }
 {
-    let mut lines = Lines::new(text);
-    lines.header(b"confine-policy 1")?;
-    let mut policy = Policy::new(alloc);
-    while let Some(mut words) = lines.next_line() {
-        if words.is(b"end") {
-            lines.end()?;
-            return Ok(policy);
-        }
-        if let Err(error) = edge_line(table, &mut policy, &mut words) {
-            return Err(lines.stopped(error));
-        }
+    let mut edges = Edges {
+        table,
+        policy: Policy::new(alloc),
+    };
+    read_text(&mut edges, b"confine-policy 1", text)?;
+    Ok(edges.policy)
+}
+
+/// The edges of the lines so far.
+#[derive(Drop)]
+struct Edges<'a> {
+    table: &'a Table,
+    policy: Policy,
+}
+
+impl<'a> Reader for Edges<'a> {
+    ghost Seen = { List EdgeOf };
+
+    ghost seen = { λ edges. edges.policy };
+
+    ghost step = { λ edges. policies.edge_line edges.table.now };
+
+    fn take_line(&mut self, words: &mut Words<'_>) -> Result<(), LineError> {
+        edge_line(self.table, &mut self.policy, words)
     }
-    Err(lines.after(Wrong::Syntax))
 }
 
 /// A law about the texts of policies for a table: a name is read as a label just where it is that

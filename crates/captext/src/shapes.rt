@@ -22,14 +22,6 @@ pub enum Term {
     Hexadecimal(u64),
 }
 
-/// The share of a core as it is written, within the limits or not.
-#[derive(Clone, Copy, PartialEq, Eq, Debug)]
-pub struct ShareTerms {
-    pub core: u64,
-    pub budget: u64,
-    pub period: u64,
-}
-
 /// A place as it is spelled: an index in decimal, or `root`.
 #[tactic(auto, unfolding(crate::specs::Shapes::place_of))]
 fn place_of(word: &[u8]) -> Option<Place>

@@ -1,73 +1,83 @@
-ghost use Rattle.std.specs.Prelude.{◌≡◌, ◌≢◌, ◌↔◌, ℕ, List, Ok, Err, IfOk, IfErr, OnErr};
+ghost use Rattle.std.specs.Prelude.{◌≡◌, ◌≢◌, ◌↔◌, ℕ, List, Ok, Err, IfOk, IfErr, MatchResult, OnErr};
 ghost use Rattle.captext.specs.Tables as tables;
-ghost use Rattle.captext.specs.TableText.{table_header, table_text, IsBrought, IsLineOf};
-ghost use Rattle.machine.specs.Layout.{Layout, empty_layout};
+ghost use Rattle.captext.specs.TableText.{table_text, IsLineOf};
+ghost use Rattle.machine.specs.Layout.{Layout};
 ghost use Rattle.table.specs.Items.{Item};
-ghost use Rattle.table.specs.Rules.{IsLawful};
+ghost use Rattle.table.specs.Rules.{IsDraft, IsLawful};
 ghost use Rattle.words.specs.declared.faults.Wrong.{Wrong};
+ghost use Rattle.words.specs.declared.faults.Wrong.TheVariants.{Tree};
 ghost use Rattle.words.specs.Fault.{fault_at, no_memory};
 ghost use Rattle.words.specs.FirstFault.{IsFirstFault, TellsFirst};
 ghost use Rattle.words.specs.Reading.{GivesOrStops, Reads};
 ghost use Rattle.words.specs.Text.{lines_of};
 
-use crate::caps::{bind_line, cap_line};
-use crate::objects::{cnode_line, context_line, label_line, notification_line, tcb_line};
+use crate::caps::{bind_line, cap_line, child_line};
+use crate::objects::{label_line, object_kind_of, object_line};
 use std::alloc::Global;
-use table::{Table, lawful_tables_are_built_up};
+use table::{Draft, Table, lawful_tables_are_built_up};
 use words::{Fault, LineError, Lines, Words, Wrong};
 
 /// Reads one line of a table, and adds its item. A line that is refused adds nothing.
-#[tactic(auto, unfolding(crate::specs::Tables::table_line, crate::specs::Tables::line_by, words::specs::Reading::bind))]
-fn table_line(table: &mut Table, words: &mut Words<'_>) -> Result<(), LineError>
-    ensures exact { GivesOrStops (λ _. table.new) result (tables.table_line table.old words.old) }
-    ensures err { OnErr result (table.new ≡ table.old) }
+#[tactic(auto, unfolding(crate::specs::Tables::table_line, crate::specs::Tables::line_by, crate::specs::Tables::declaration, words::specs::Reading::or_syntax, words::specs::Reading::bind))]
+fn table_line(draft: &mut Draft, words: &mut Words<'_>) -> Result<(), LineError>
+    ensures exact { GivesOrStops (λ _. draft.new) result (tables.table_line draft.old words.old) }
+    ensures err { OnErr result (draft.new ≡ draft.old) }
 {
     let keyword = words.word()?;
     if keyword == b"label".as_slice() {
-        label_line(table, words)
-    } else if keyword == b"cnode".as_slice() {
-        cnode_line(table, words)
-    } else if keyword == b"tcb".as_slice() {
-        tcb_line(table, words)
-    } else if keyword == b"notification".as_slice() {
-        notification_line(table, words)
-    } else if keyword == b"context".as_slice() {
-        context_line(table, words)
+        label_line(draft, words)
     } else if keyword == b"cap".as_slice() {
-        cap_line(table, words)
+        cap_line(draft, words)
+    } else if keyword == b"child".as_slice() {
+        child_line(draft, words)
     } else if keyword == b"bind".as_slice() {
-        bind_line(table, words)
+        bind_line(draft, words)
     } else {
-        Err(LineError::Text(Wrong::Syntax))
+        let kind = object_kind_of(keyword).ok_or(Wrong::Syntax)?;
+        object_line(draft, kind, words)
     }
 }
 
-/// Reads the text of a capability table into an empty one.
-#[tactic(auto, using(words::proofs::ReadingLaws::begins, words::proofs::ReadingLaws::no_beginning, words::proofs::ReadingLaws::goes_on, words::proofs::ReadingLaws::stops_by, words::proofs::ReadingLaws::no_more, words::proofs::ReadingLaws::ends_well, words::proofs::ReadingLaws::ends_badly), unfolding(crate::specs::Tables::read_table_of, words::specs::Reading::bind))]
-fn read_into(table: &mut Table, text: &[u8]) -> Result<(), Fault>
-    requires { table.old ≡ empty_layout }
-    ensures { Reads (λ _. table.new) result (tables.read_table_of text.now) }
+/// The table that a draft becomes, or the line of the first pair that breaks a rule of the derivation
+/// tree.
+#[tactic(auto, unfolding(crate::specs::Tables::grown))]
+fn grown(draft: Draft) -> Result<Table, u64>
+    ensures { MatchResult result
+        (λ table. tables.grown draft ≡ Ok table)
+        (λ line. tables.grown draft ≡ Err (line, Tree)) }
+{
+    let before = draft.label_count() + draft.object_count() + draft.caps().len();
+    // The pairs are in memory, so that no pair's number is too large to count its line.
+    let _pairs = draft.pairs().len();
+    match draft.into_table() {
+        Ok(table) => Ok(table),
+        Err(number) => Err((number + 2 + before) as u64),
+    }
+}
+
+/// Reads the text of a capability table, by the definition alone.
+#[tactic(auto, using(words::proofs::ReadingLaws::goes_on, words::proofs::ReadingLaws::ends_judged), unfolding(crate::specs::Tables::read_table_of, words::specs::Reading::bind))]
+fn table_of(alloc: Global, text: &[u8]) -> Result<Table, Fault>
+    ensures { Reads (λ table. table) result (tables.read_table_of text.now) }
 {
     let mut lines = Lines::new(text);
     lines.header(b"confine-table 1")?;
+    let mut draft = Draft::new(alloc);
     while let Some(mut words) = lines.next_line() {
         if words.is(b"end") {
-            return lines.end();
+            return match grown(draft) {
+                Ok(table) => {
+                    lines.end()?;
+                    Ok(table)
+                }
+                Err(line) => Err(Fault::at(Wrong::Tree, line)),
+            };
         }
-        if let Err(error) = table_line(table, &mut words) {
+        if let Err(error) = table_line(&mut draft, &mut words) {
             return Err(lines.stopped(error));
         }
     }
     Err(lines.after(Wrong::Syntax))
-}
-
-/// Reads the text of a capability table, by the definition alone.
-fn table_of(alloc: Global, text: &[u8]) -> Result<Table, Fault>
-    ensures { Reads (λ table. table) result (tables.read_table_of text.now) }
-{
-    let mut table = Table::new(alloc);
-    read_into(&mut table, text)?;
-    Ok(table)
 }
 
 /// Reads the text of a capability table.
@@ -79,35 +89,35 @@ pub fn read_table(alloc: Global, text: &[u8]) -> Result<Table, Fault>
     ensures exact { Reads (λ table. table) result (tables.read_table_of text.now) }
 
     // A text that is read is the table's, and each table's text is read as that table.
-    ensures found { IfOk result (λ table. IsBrought table × (text.now ≡ table_text table)) }
-    ensures only { (t : Layout) → IsLawful t → IsBrought t → text.now ≡ table_text t
+    ensures found { IfOk result (λ table. text.now ≡ table_text table) }
+    ensures only { (t : Layout) → IsLawful t → text.now ≡ table_text t
         → Reads (λ table. table) result (Ok t) }
 
     // One that isn't read is refused for its first fault, unless memory was refused.
     ensures faults { IfErr result (λ fault. fault ≢ no_memory
-        → TellsFirst table_header tables.table_line empty_layout (lines_of text.now) fault) }
+        → TellsFirst tables.table_format (lines_of text.now) fault) }
     ensures refused { (line : ℕ) (wrong : Wrong)
-        → IsFirstFault table_header tables.table_line empty_layout (lines_of text.now) line wrong
+        → IsFirstFault tables.table_format (lines_of text.now) line wrong
         → Reads (λ table. table) result (Err (fault_at line wrong)) }
 {
     tables_are_read_back();
     table_of(alloc, text)
 }
 
-/// A law about a line of a table that keeps the rules so far: it is read just where it is the line of
-/// an item that the table takes next, and then adds that item.
+/// A law about a line of a draft: it is read just where it is the line of an item that the draft takes
+/// next, and then adds that item.
 pub fn lines_are_read_back()
-    ensures { (t : Layout) (words : List (List ℕ)) (next : Layout) → IsLawful t → IsBrought t
+    ensures { (t : Layout) (words : List (List ℕ)) (next : Layout) → IsDraft t
         → (tables.table_line t words ≡ Ok next) ↔ ((item : Item) × IsLineOf t words next item) }
 {}
 
-/// A law: a text is read as a table just where the table keeps the rules, is one of those that are
-/// brought so far, and the text is its text. So different tables have different texts.
+/// A law: a text is read as a table just where the table keeps the rules, and the text is its text. So
+/// different tables have different texts.
 pub fn tables_are_read_back()
     ensures named { (bytes : List ℕ) (t : Layout) → (tables.read_table_of bytes ≡ Ok t)
-        ↔ (IsLawful t × IsBrought t × (bytes ≡ table_text t)) }
-    ensures once { (one other : Layout) → IsLawful one → IsBrought one
-        → IsLawful other → IsBrought other → table_text one ≡ table_text other → one ≡ other }
+        ↔ (IsLawful t × (bytes ≡ table_text t)) }
+    ensures once { (one other : Layout) → IsLawful one → IsLawful other
+        → table_text one ≡ table_text other → one ≡ other }
 {
     lawful_tables_are_built_up();
 }

@@ -1,15 +1,12 @@
 -- What the boot state of a table has of it: kinds, labels, links and the derivation tree; and that it belongs to the table.
-use Rattle.std.proofs.Common.{◌≡◌, ℕ, ◌≤◌, ◌<◌, Bool, true, false, ◌&&◌, List, length, Option, Some, None, option_map, option_and_then, refl, sym, ap, subst, ◌∙◌, arith, nat_le, nat_lt, slice_get, if◌then◌else◌}
+use Rattle.std.proofs.Common.{◌≡◌, ℕ, ◌≤◌, ◌<◌, Bool, true, false, ◌&&◌, length, Option, Some, None, option_map, option_and_then, refl, sym, ap, subst, ◌∙◌, arith, nat_le, nat_lt, slice_get, if◌then◌else◌}
 use mathlib.Core.Bool.{false≢true}
 use Rattle.std.proofs.lemmas.Option.{none-some, same_Some, slice_get_within, get_or_from_slice_get}
 use Rattle.std.proofs.lemmas.Bool.Decides.{Decides-ltb}
 use Rattle.std.proofs.lemmas.Bool.{and_from, and_parts, le-leb, leb-true}
-use Rattle.std.specs.List.{find}
 use Rattle.base.specs.declared.ids.ObjId.{ObjId}
-use Rattle.base.specs.declared.ids.SlotRef.{SlotRef}
 use Rattle.base.specs.declared.kind.Kind.{Kind}
 use Rattle.machine.specs.declared.layout.Initial.{Initial}
-use Rattle.machine.specs.declared.layout.Pair.{Pair}
 use Rattle.machine.specs.declared.object.Object.{Object}
 use Rattle.machine.specs.declared.object.Object.TheVariants as o
 use Rattle.machine.specs.declared.object.Untyped.{Untyped}
@@ -18,8 +15,8 @@ use Rattle.machine.specs.declared.thread.RunState.TheVariants as state
 use Rattle.machine.specs.Authority.{has_memory_at, label_at, label_of, state_links}
 use Rattle.machine.specs.Boot.{IsBoot, bound, booted}
 use Rattle.machine.proofs.Bound.{address-bound, kind-bound}
-use Rattle.machine.specs.Layout.{Layout, initial_of, declared_label, initial_parent}
-use Rattle.machine.specs.Machine.{Machine, object_of, same_slot}
+use Rattle.machine.specs.Layout.{Layout, initial_of, declared_label}
+use Rattle.machine.specs.Machine.{Machine, object_of}
 use Rattle.machine.specs.Objects.{kind_of_object, address_of, end_of}
 use Rattle.machine.specs.WellFormed.{kind_of}
 use Rattle.table.specs.Placement.{IsApart, Lies}
@@ -80,24 +77,17 @@ boot_label t m boot id = ap labelled (boot.objects id) ∙ by_initial (initial_o
 -- the table
 
 pub initial_lawful :
-    (t : Layout) → IsLawful t → (id : ObjId) (initial : Initial) → initial_of t id ≡ Some initial → IsObjectOf t initial
+    (t : Layout) → IsLawful t → (id : ObjId) (initial : Initial) → initial_of t id ≡ Some initial → IsObjectOf (length t.labels) initial
 unfolding initial_of
 initial_lawful t lawful id initial e =
-    subst (IsObjectOf t) (get_or_from_slice_get t.objects id.0 initial initial e)
-    (lawful.objects id.0 initial (slice_get_within t.objects id.0 initial e))
+    subst (IsObjectOf (length t.labels)) (get_or_from_slice_get t.objects id.0 initial initial e)
+    (lawful.draft.objects.each id.0 initial (slice_get_within t.objects id.0 initial e))
 
 -- at rest a thread has no recorded rights
 pub rest_links : (run : RunState) (k : Kind) (end : ObjId) → IsAtRest run → state_links run k end ≡ false
 rest_links state.Ready k end rest = refl
 rest_links state.Inactive k end rest = refl
 rest_links _ k end rest = absurd rest
-
--- no capability is derived from another
-pub no_parent : (t : Layout) → IsLawful t → (slot parent : SlotRef) → initial_parent t slot ≡ Some parent → ⊥
-unfolding initial_parent
-no_parent t lawful slot parent e =
-    none-some parent
-    (sym (ap (λ (pairs : List Pair). option_map (λ (pair : Pair). pair.parent) (find (λ (pair : Pair). same_slot pair.child slot) pairs)) lawful.underived) ∙ e)
 
 -- untyped memory that has an address
 memory_at :
@@ -140,7 +130,7 @@ boot_ranged t lawful id initial memory address declares is above below =
     no_other i other lt at false e = e
     no_other i other lt at true e =
         absurd
-        (pair_at (λ (one two : Initial). IsApart one.object two.object) t.objects i id.0 other initial lawful.objects_apart lt at declares address (lies_by address other other.object refl e) lies)
+        (pair_at (λ (one two : Initial). IsApart one.object two.object) t.objects i id.0 other initial lawful.draft.objects.apart lt at declares address (lies_by address other other.object refl e) lies)
 
 bound_memory :
     (t : Layout) (id : ObjId) (object : Object) (memory : Untyped) → o.Untyped memory ≡ bound t id object

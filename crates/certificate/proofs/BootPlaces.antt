@@ -1,5 +1,5 @@
 -- A table declares the authority that its boot state has: so it breaks a rule where that lies outside the policy, and nowhere else.
-use Rattle.std.proofs.Common.{◌≡◌, ◌↔◌, ℕ, List, false, Option, Some, None, option_map, refl, sym, ap, subst, ◌∙◌}
+use Rattle.std.proofs.Common.{◌≡◌, ◌↔◌, ℕ, false, Option, Some, None, option_map, refl, sym, ap, subst, ◌∙◌}
 use mathlib.Core.Bool.{false≢true}
 use Rattle.std.proofs.lemmas.Option.{none-some, same_Some, slice_get_within, get_or_from_slice_get}
 use Rattle.base.specs.declared.ids.ObjId.{ObjId}
@@ -18,21 +18,22 @@ use Rattle.table.specs.Rules.{IsLawful, IsBindingOf, IsBlank, kind_at}
 use Rattle.certificate.specs.declared.denial.Denial.{Denial}
 use Rattle.certificate.specs.declared.denial.Denial.TheVariants as denial
 use Rattle.certificate.specs.Confined.{IsConfined}
-use Rattle.certificate.specs.Rules.{Excess, Exceeds, capability, root, pair, binding, holding, recorded, excess_place}
+use Rattle.certificate.specs.Rules.{NoneDisagree, Excess, Exceeds, capability, root, pair, binding, holding, recorded, excess_place}
 use Rattle.certificate.specs.Sources.{Sources, of_table, of_machine, context_in, holds_in, keeps_in}
 use Rattle.certificate.specs.Verdict.{Breaks, IsAccepted, IsLeastBroken, IsOutside, excess_of, place_of}
 use Rattle.certificate.specs.Places.{ComesBefore}
-use Rattle.certificate.proofs.AtBoot.{boot_kind, boot_label, initial_lawful, no_parent, rest_links}
+use Rattle.certificate.proofs.AtBoot.{boot_kind, boot_label, initial_lawful, rest_links}
 use Rattle.certificate.proofs.Lookups.{bound_at}
 use Rattle.certificate.proofs.Outsides.{confined_within, within_confined}
 
 -- what a table binds is a thread
 bound_thread : (t : Layout) → IsLawful t → (thread context : ObjId) → bound_context t thread ≡ Some context → kind_at t thread ≡ Some kind.Tcb
+unfolding kind_at initial_of
 bound_thread t lawful thread context is =
     let at = bound_at t thread context is in
     let fits =
-    subst (IsBindingOf t) (get_or_from_slice_get t.bindings at.at at.element at.element at.here)
-    (lawful.bindings at.at at.element (slice_get_within t.bindings at.at at.element at.here)) in
+    subst (IsBindingOf t.objects) (get_or_from_slice_get t.bindings at.at at.element at.element at.here)
+    (lawful.draft.bindings.each at.at at.element (slice_get_within t.bindings at.at at.element at.here)) in
     ap (kind_at t) (sym at.key_is) ∙ fits.thread
 
 unbound :
@@ -86,6 +87,50 @@ boot_keeps t lawful id k end None declares = refl
 boot_keeps t lawful id k end (Some initial) declares =
     blank_keeps t id initial.object k end (initial_lawful t lawful id initial declares).blank
 
+-- P1 comes before all places
+p1_first : (a b : ℕ) (k : Kind) (to : ℕ) (place : Excess) → ComesBefore (place_of (denial.SubjectsDisagree a b k to)) (excess_place place)
+p1_first a b k to (capability _ _ _) = refl
+p1_first a b k to (root _ _) = refl
+p1_first a b k to (pair _ _) = refl
+p1_first a b k to (binding _ _) = refl
+p1_first a b k to (holding _ _) = refl
+p1_first a b k to (recorded _ _ _) = refl
+
+module _ (t : Layout) (allowed : EdgeTest) where
+  -- a denial but by P1 names a place: by the same numbers, and it is broken where the table declares authority outside there
+  record Names (d : Denial) (place : Excess) : Type 0 where
+    numbers : place_of d ≡ excess_place place
+    broken : Breaks t allowed d ↔ Exceeds (of_table t) allowed place
+
+  names : (d : Denial) (place : Excess) → excess_of d ≡ Some place → Names d place
+  names (denial.SubjectsDisagree _ _ _ _) place is = absurd (none-some place is)
+  names (denial.Capability slot k l) place is = rw (sym (same_Some (capability slot k l) place is)) (record { numbers = refl; broken = ((λ x. x), (λ x. x)) })
+  names (denial.Root slot l) place is = rw (sym (same_Some (root slot l) place is)) (record { numbers = refl; broken = ((λ x. x), (λ x. x)) })
+  names (denial.Pair child parent) place is = rw (sym (same_Some (pair child parent) place is)) (record { numbers = refl; broken = ((λ x. x), (λ x. x)) })
+  names (denial.Binding thread context) place is = rw (sym (same_Some (binding thread context) place is)) (record { numbers = refl; broken = ((λ x. x), (λ x. x)) })
+
+  -- where it is the first that is broken, P1 is broken nowhere
+  pub first_agrees : (d : Denial) (place : Excess) → excess_of d ≡ Some place → IsLeastBroken t allowed d → NoneDisagree allowed
+  first_agrees d place is least a b k to broken =
+      least.first (denial.SubjectsDisagree a b k to) broken (rw (names d place is).numbers (p1_first a b k to place))
+
+  -- and where P1 is, each denial of what is broken names a place
+  named : (d : Denial) → NoneDisagree allowed → Breaks t allowed d → (place : Excess) × (excess_of d ≡ Some place)
+  named (denial.SubjectsDisagree a b k to) none broken = absurd (none a b k to broken)
+  named (denial.Capability slot k label) none broken = (capability slot k label, refl)
+  named (denial.Root slot label) none broken = (root slot label, refl)
+  named (denial.Pair child parent) none broken = (pair child parent, refl)
+  named (denial.Binding thread context) none broken = (binding thread context, refl)
+
+  -- each place that a table declares outside has its denial
+  declared : (place : Excess) → Exceeds (of_table t) allowed place → (d : Denial) × (excess_of d ≡ Some place) × Breaks t allowed d
+  declared (capability slot k label) out = (denial.Capability slot k label, refl, out)
+  declared (root slot label) out = (denial.Root slot label, refl, out)
+  declared (pair child parent) out = (denial.Pair child parent, refl, out)
+  declared (binding thread context) out = (denial.Binding thread context, refl, out)
+  declared (holding reply thread) out = absurd (false≢true out.holds)
+  declared (recorded thread k label) out = absurd (false≢true out.kept)
+
 module _ (t : Layout) (m : Machine) (lawful : IsLawful t) (boot : IsBoot t m) where
   -- the authority of a boot state is read off its table
   pub boot_sources : of_table t ≡ of_machine t m
@@ -107,60 +152,32 @@ module _ (t : Layout) (m : Machine) (lawful : IsLawful t) (boot : IsBoot t m) wh
     subst (λ (s : Sources). Exceeds s allowed place) (sym boot_sources),
   )
 
-  -- what a table breaks but P1
-  breaks_excess :
-      (allowed : EdgeTest) (d : Denial) (place : Excess) → excess_of d ≡ Some place
-      → Breaks t allowed d ↔ Exceeds (of_table t) allowed place
-  breaks_excess allowed (denial.SubjectsDisagree _ _ _ _) place is = absurd (none-some place is)
-  breaks_excess allowed (denial.Capability slot k label) place is = rw (sym (same_Some (capability slot k label) place is)) ((λ b. b), (λ b. b))
-  breaks_excess allowed (denial.Root slot label) place is = rw (sym (same_Some (root slot label) place is)) ((λ b. b), (λ b. b))
-  breaks_excess allowed (denial.Binding thread context) place is = rw (sym (same_Some (binding thread context) place is)) ((λ b. b), (λ b. b))
-
   -- a rule is broken at a place where the boot state's authority lies outside there
   pub broken_outside :
       (allowed : EdgeTest) (d : Denial) (place : Excess) → excess_of d ≡ Some place
       → Breaks t allowed d ↔ Exceeds (of_machine t m) allowed place
-  broken_outside allowed d place is =
-      let one = breaks_excess allowed d place is in
-      let other = exceeds_same allowed place in (
-        λ broken. other.0 (one.0 broken),
-        λ out. one.1 (other.1 out),
-      )
+  broken_outside allowed d place is = (
+    λ broken. (exceeds_same allowed place).0 ((names t allowed d place is).broken.0 broken),
+    λ out. (names t allowed d place is).broken.1 ((exceeds_same allowed place).1 out),
+  )
 
   -- and each such place has its denial
-  declared :
-      (allowed : EdgeTest) (place : Excess) → Exceeds (of_table t) allowed place
+  pub outside_declared :
+      (allowed : EdgeTest) (place : Excess) → Exceeds (of_machine t m) allowed place
       → (d : Denial) × (excess_of d ≡ Some place) × Breaks t allowed d
-  declared allowed (capability slot k label) out = (denial.Capability slot k label, refl, out)
-  declared allowed (root slot label) out = (denial.Root slot label, refl, out)
-  declared allowed (binding thread context) out = (denial.Binding thread context, refl, out)
-  declared allowed (pair child parent) out = absurd (no_parent t lawful child parent out.derived)
-  declared allowed (holding reply thread) out = absurd (false≢true out.holds)
-  declared allowed (recorded thread k label) out = absurd (false≢true out.kept)
+  outside_declared allowed place out = declared t allowed place ((exceeds_same allowed place).1 out)
 
   -- so the boot state of an accepted table is confined
   pub boot_confined : (allowed : EdgeTest) → IsAccepted t allowed → IsConfined t allowed m
   boot_confined allowed accepted =
-      confined_within t allowed m (λ place out. let broken = declared allowed place ((exceeds_same allowed place).1 out) in accepted broken.0 broken.2)
+      confined_within t allowed m
+      (λ place out. let broken = outside_declared allowed place out in accepted broken.0 broken.2)
 
   -- and where it is, and labels of one domain agree, no rule is broken
   pub confined_accepted : (allowed : EdgeTest) → SubjectsAgree allowed → IsConfined t allowed m → IsAccepted t allowed
-  confined_accepted allowed agree confined d broken = by d broken where
-    none : (place : Excess) → Exceeds (of_table t) allowed place → ⊥
-    none place out = within_confined t allowed m confined place ((exceeds_same allowed place).0 out)
-
-    by : (d : Denial) → Breaks t allowed d → ⊥
-    by (denial.SubjectsDisagree subject other k target) broken =
-        broken.differ (agree subject other broken.domain k broken.of_use target)
-    by (denial.Capability slot k label) broken = none (capability slot k label) broken
-    by (denial.Root slot label) broken = none (root slot label) broken
-    by (denial.Binding thread context) broken = none (binding thread context) broken
-
-  numbered : (d : Denial) (place : Excess) → excess_of d ≡ Some place → place_of d ≡ excess_place place
-  numbered (denial.SubjectsDisagree _ _ _ _) place is = absurd (none-some place is)
-  numbered (denial.Capability slot k label) place is = ap excess_place (same_Some (capability slot k label) place is)
-  numbered (denial.Root slot label) place is = ap excess_place (same_Some (root slot label) place is)
-  numbered (denial.Binding thread context) place is = ap excess_place (same_Some (binding thread context) place is)
+  confined_accepted allowed agree confined d broken =
+      let place = named t allowed d (λ a b k to h. h.differ (agree a b h.domain k h.of_use to)) broken in
+      within_confined t allowed m confined place.0 ((broken_outside allowed d place.0 place.1).0 broken)
 
   -- the least broken place is the first that lies outside
   pub first_outside :
@@ -169,8 +186,18 @@ module _ (t : Layout) (m : Machine) (lawful : IsLawful t) (boot : IsBoot t m) wh
   first_outside allowed d place is least = record {
     has = (broken_outside allowed d place is).0 least.has;
     first = λ other out before.
-        let broken = declared allowed other ((exceeds_same allowed other).1 out) in
-        least.first broken.0 broken.2
-        (subst (λ (n : List ℕ). ComesBefore n (place_of d)) (sym (numbered broken.0 other broken.1))
-        (subst (λ (n : List ℕ). ComesBefore (excess_place other) n) (sym (numbered d place is)) before));
+        let broken = outside_declared allowed other out in
+        least.first broken.0 broken.2 (rw ((names t allowed broken.0 other broken.1).numbers, (names t allowed d place is).numbers) before);
+  }
+
+  -- and the other way round, where P1 is broken nowhere
+  pub least_broken :
+      (allowed : EdgeTest) (d : Denial) (place : Excess) → excess_of d ≡ Some place → NoneDisagree allowed
+      → IsOutside t allowed m place → IsLeastBroken t allowed d
+  least_broken allowed d place is none outside = record {
+    has = (broken_outside allowed d place is).1 outside.has;
+    first = λ other broken before.
+        let at = named t allowed other none broken in
+        outside.first at.0 ((broken_outside allowed other at.0 at.1).0 broken)
+        (rw (← (names t allowed other at.0 at.1).numbers, ← (names t allowed d place is).numbers) before);
   }

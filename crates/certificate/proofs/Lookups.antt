@@ -1,4 +1,4 @@
--- What a capability table has in a slot or binds to a thread is what one of its lists says at one place, and the other way round.
+-- What a capability table has in a slot, as a slot's parent, or bound to a thread is what one of its lists says at one place, and the other way round.
 use Rattle.std.proofs.Common.{◌≡◌, ℕ, suc, zero, ◌<◌, Bool, true, false, cond, List, [], ◌∷◌, length, get_or, Option, None, Some, option_map, refl, sym, ap, ◌∙◌, arith}
 use Rattle.std.specs.declared.cmp.Ordering.TheVariants.{Less}
 use Rattle.std.specs.List.{find, slice_get, AllPairs}
@@ -10,7 +10,8 @@ use Rattle.base.specs.declared.ids.SlotRef.{SlotRef}
 use Rattle.machine.specs.declared.cap.Cap.{Cap}
 use Rattle.machine.specs.declared.layout.Binding.{Binding}
 use Rattle.machine.specs.declared.layout.Filled.{Filled}
-use Rattle.machine.specs.Layout.{Layout, initial_cap, bound_context}
+use Rattle.machine.specs.declared.layout.Pair.{Pair}
+use Rattle.machine.specs.Layout.{Layout, initial_cap, initial_parent, bound_context}
 use Rattle.machine.specs.Machine.{slot_cmp, same_id, same_slot}
 use Rattle.machine.proofs.Ids.{itself}
 use Rattle.machine.proofs.LookUps.{slot_total, one_id, one_slot}
@@ -77,6 +78,17 @@ keyed_at {X = X} same one key value xs k v is = by (find (λ x. same (key x) k) 
       let at = found_at (λ x. same (key x) k) xs element found in
       record { at = at.at; element = element; here = at.here; key_is = one (key element) k at.passes; value_is = same_Some (value element) v is }
 
+-- what stands in a list that rises by slot is found under its slot
+slot_from :
+    {X V : Type 0} (key : X → SlotRef) (value : X → V) (xs : List X)
+    → AllPairs (λ one other. slot_cmp (key one) (key other) ≡ Less) xs → (k : ℕ) (x : X) → slice_get xs k ≡ Some x
+    → option_map value (find (λ y. same_slot (key y) (key x)) xs) ≡ Some (value x)
+slot_from key value xs rise k x here =
+    ap (option_map value)
+    (found_first (λ y. same_slot (key y) (key x)) xs k x here
+    (ap is_eq (tied_itself slot_total (key x)))
+    (λ i other lt at. ap is_eq (pair_at (λ one two. slot_cmp (key one) (key two) ≡ Less) xs i k other x rise lt at here)))
+
 -- a filled slot stands in the table's list, and what stands there is in the slot
 
 pub filled_at :
@@ -90,12 +102,24 @@ pub cap_from :
     → initial_cap t filled.slot ≡ Some filled.cap
 unfolding initial_cap
 cap_from t lawful k filled here =
-    ap (option_map (λ (f : Filled). f.cap))
-    (found_first (λ (f : Filled). same_slot f.slot filled.slot) t.caps k filled here
-    (ap is_eq (tied_itself slot_total filled.slot))
-    (λ i other lt at. ap is_eq (pair_at (λ (one other : Filled). slot_cmp one.slot other.slot ≡ Less) t.caps i k other filled lawful.caps_rise lt at here)))
+    slot_from (λ (f : Filled). f.slot) (λ f. f.cap) t.caps lawful.draft.caps.rise k filled here
 
--- so does a bound thread
+-- so does a child with its parent
+
+pub parent_at :
+    (t : Layout) (child parent : SlotRef) → initial_parent t child ≡ Some parent
+    → KeyedAt (λ (p : Pair). p.child) (λ p. p.parent) t.pairs child parent
+unfolding initial_parent
+parent_at t child parent is = keyed_at same_slot one_slot (λ (p : Pair). p.child) (λ p. p.parent) t.pairs child parent is
+
+pub parent_from :
+    (t : Layout) → IsLawful t → (k : ℕ) (pair : Pair) → slice_get t.pairs k ≡ Some pair
+    → initial_parent t pair.child ≡ Some pair.parent
+unfolding initial_parent
+parent_from t lawful k pair here =
+    slot_from (λ (p : Pair). p.child) (λ p. p.parent) t.pairs lawful.draft.pairs.rise k pair here
+
+-- and a bound thread with its context
 
 pub bound_at :
     (t : Layout) (thread context : ObjId) → bound_context t thread ≡ Some context
@@ -111,7 +135,7 @@ bound_from t lawful k binding here =
     ap (option_map (λ (b : Binding). b.context))
     (found_first (λ (b : Binding). same_id b.thread binding.thread) t.bindings k binding here
     (itself binding.thread)
-    (λ i other lt at. id_below other.thread binding.thread (pair_at (λ (one other : Binding). one.thread.0 < other.thread.0) t.bindings i k other binding lawful.bindings_rise lt at here)))
+    (λ i other lt at. id_below other.thread binding.thread (pair_at (λ (one other : Binding). one.thread.0 < other.thread.0) t.bindings i k other binding lawful.draft.bindings.rise lt at here)))
   where
     id_below : (a b : ObjId) → a.0 < b.0 → same_id a b ≡ false
     id_below a b lt = grind arith

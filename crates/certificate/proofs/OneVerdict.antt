@@ -45,6 +45,9 @@ same_place (denial.Capability slot kind l) (denial.Capability slot' kind' l') sa
 same_place (denial.Root slot l) (denial.Root slot' l') same =
     λ i. denial.Root (same_slot slot slot' (ap (λ p. get_or p 1 0) same) (ap (λ p. get_or p 2 0) same) i)
     (ap (λ p. get_or p 3 0) same i)
+same_place (denial.Pair child parent) (denial.Pair child' parent') same =
+    λ i. denial.Pair (same_slot child child' (ap (λ p. get_or p 1 0) same) (ap (λ p. get_or p 2 0) same) i)
+    (same_slot parent parent' (ap (λ p. get_or p 3 0) same) (ap (λ p. get_or p 4 0) same) i)
 same_place (denial.Binding thread context) (denial.Binding thread' context') same =
     λ i. denial.Binding (same_id thread thread' (ap (λ p. get_or p 1 0) same) i)
     (same_id context context' (ap (λ p. get_or p 2 0) same) i)

@@ -1,27 +1,27 @@
--- What the searches go through: labels, kinds, filled slots and bindings. Each broken place of a rule stands under one of them.
+-- What the searches go through: labels, kinds, filled slots, pairs and bindings. Each broken place of a rule stands under one of them.
 use Rattle.std.proofs.Common.{◌≡◌, ℕ, ◌<◌, List, [], ◌∷◌, Some, slice_get, length, refl, sym, ap, ◌∙◌, subst, inl, inr, zero-add, arith}
 use Rattle.std.specs.declared.cmp.Ordering.TheVariants.{Less}
-use Rattle.std.specs.List.{range_with_len}
+use Rattle.std.specs.List.{range_with_len, AllPairs}
 use Rattle.std.specs.Ordering.{nat_cmp}
 use Rattle.std.proofs.lemmas.List.FromFn.{get_or-range_with_len, length-range_with_len}
 use Rattle.std.proofs.lemmas.Option.{same_Some, slice_get-get_or, slice_get_within}
 use Rattle.base.specs.declared.ids.SlotRef.{SlotRef}
 use Rattle.base.specs.declared.kind.Kind.{Kind}
 use Rattle.base.specs.Kinds.{kind_number}
-use Rattle.machine.specs.declared.cap.Cap.{Cap}
 use Rattle.machine.specs.declared.layout.Binding.{Binding}
 use Rattle.machine.specs.declared.layout.Filled.{Filled}
-use Rattle.machine.specs.Layout.{Layout, initial_cap}
+use Rattle.machine.specs.declared.layout.Pair.{Pair}
+use Rattle.machine.specs.Layout.{Layout}
 use Rattle.machine.specs.Machine.{slot_cmp}
 use Rattle.policy.specs.Domain.{EdgeTest}
 use Rattle.table.specs.Rules.{IsLawful}
 use Rattle.certificate.specs.declared.denial.Denial.{Denial}
 use Rattle.certificate.specs.declared.denial.Denial.TheVariants as denial
 use Rattle.certificate.specs.Places.{Begins, IsLeast, IsNone}
-use Rattle.certificate.specs.Rules.{p1, a1, a2, a4}
+use Rattle.certificate.specs.Rules.{p1, a1, a2, a3, a4}
 use Rattle.certificate.specs.Verdict.{Breaks, BreaksUnder, IsLeastBroken, place_of}
 use Rattle.certificate.proofs.KindNumbers.{all_kinds, kind_stands, number_stands}
-use Rattle.certificate.proofs.Lookups.{filled_at, bound_at, pair_at}
+use Rattle.certificate.proofs.Lookups.{KeyedAt, filled_at, parent_at, bound_at, pair_at}
 use Rattle.certificate.proofs.Places.{Searches, NoneSoFar, IsBelow, begins_next, decided, least_here}
 
 -- the lists, and what their elements add to a place
@@ -43,6 +43,9 @@ of_slot slot = slot.holder.0 ∷ slot.index ∷ []
 
 abbrev pub of_filled : Filled → List ℕ
 of_filled filled = of_slot filled.slot
+
+abbrev pub of_pair : Pair → List ℕ
+of_pair pair = of_slot pair.child
 
 abbrev pub of_binding : Binding → List ℕ
 of_binding binding = binding.thread.0 ∷ []
@@ -92,18 +95,11 @@ index_below a b less = grind (arith, less)
 slots_rise : (one other : SlotRef) → slot_cmp one other ≡ Less → IsBelow (of_slot one) (of_slot other)
 slots_rise one other less = elim (decided one.holder.0 other.holder.0 _ less) [ inl below ↦ inl below | inr same ↦ inr (same.0, inl (index_below one.index other.index same.1)) ]
 
-caps_rise :
-    (t : Layout) → IsLawful t → (i j : ℕ) (a b : Filled) → i < j → slice_get t.caps i ≡ Some a → slice_get t.caps j ≡ Some b
-    → IsBelow (of_filled a) (of_filled b)
-caps_rise t lawful i j a b lt at_i at_j =
-    slots_rise a.slot b.slot
-    (pair_at (λ (one other : Filled). slot_cmp one.slot other.slot ≡ Less) t.caps i j a b lawful.caps_rise lt at_i at_j)
-
 bindings_rise :
     (t : Layout) → IsLawful t → (i j : ℕ) (a b : Binding) → i < j → slice_get t.bindings i ≡ Some a
     → slice_get t.bindings j ≡ Some b → IsBelow (of_binding a) (of_binding b)
 bindings_rise t lawful i j a b lt at_i at_j =
-    inl (pair_at (λ (one other : Binding). one.thread.0 < other.thread.0) t.bindings i j a b lawful.bindings_rise lt at_i at_j)
+    inl (pair_at (λ (one other : Binding). one.thread.0 < other.thread.0) t.bindings i j a b lawful.draft.bindings.rise lt at_i at_j)
 
 module _ (t : Layout) (allowed : EdgeTest) where
   -- each place that is broken under a beginning goes on with a number, a kind or a slot
@@ -114,8 +110,9 @@ module _ (t : Layout) (allowed : EdgeTest) where
   NextKind : ℕ → Denial → Type 0
   NextKind at d = (kind : Kind) × (slice_get (place_of d) at ≡ Some (kind_number kind))
 
-  NextSlot : ℕ → Denial → Type 0
-  NextSlot rule d = (slot : SlotRef) × (held : Cap) × (initial_cap t slot ≡ Some held) × Begins (rule ∷ of_slot slot) (place_of d)
+  NextSlot : {A V : Type 0} → (A → SlotRef) → (A → V) → List A → ℕ → Denial → Type 0
+  NextSlot {V = V} key value xs rule d =
+      (slot : SlotRef) × (v : V) × KeyedAt key value xs slot v × Begins (rule ∷ of_slot slot) (place_of d)
 
   among_numbers :
       (n : ℕ) (beginning : List ℕ)
@@ -140,16 +137,25 @@ module _ (t : Layout) (allowed : EdgeTest) where
   }
 
   among_slots :
-      IsLawful t → (rule : ℕ) → ((d : Denial) → BreaksUnder t allowed (rule ∷ []) d → NextSlot rule d)
-      → SearchesBroken t allowed (rule ∷ []) t.caps of_filled
+      {A V : Type 0} (key : A → SlotRef) (value : A → V) (xs : List A)
+      → AllPairs (λ one other. slot_cmp (key one) (key other) ≡ Less) xs → (rule : ℕ)
+      → ((d : Denial) → BreaksUnder t allowed (rule ∷ []) d → NextSlot key value xs rule d)
+      → SearchesBroken t allowed (rule ∷ []) xs (λ a. of_slot (key a))
   unfolding NextSlot
-  among_slots lawful rule next = record {
+  among_slots key value xs rise rule next = record {
     covers = λ d h.
         let s = next d h in
-        let f = filled_at t s.0 s.1 s.2 in
+        let f = s.2 in
         (f.at, f.element, f.here, subst (λ (slot : SlotRef). Begins (rule ∷ of_slot slot) (place_of d)) (sym f.key_is) s.3);
-    rises = caps_rise t lawful;
+    rises = λ i j a b lt at_i at_j.
+        slots_rise (key a) (key b) (pair_at (λ one other. slot_cmp (key one) (key other) ≡ Less) xs i j a b rise lt at_i at_j);
   }
+
+  among_caps :
+      IsLawful t → (rule : ℕ)
+      → ((d : Denial) → BreaksUnder t allowed (rule ∷ []) d → NextSlot (λ (f : Filled). f.slot) (λ f. f.cap) t.caps rule d)
+      → SearchesBroken t allowed (rule ∷ []) t.caps of_filled
+  among_caps lawful rule next = among_slots (λ (f : Filled). f.slot) (λ f. f.cap) t.caps lawful.draft.caps.rise rule next
 
   -- the rules
 
@@ -160,12 +166,14 @@ module _ (t : Layout) (allowed : EdgeTest) where
     next (denial.SubjectsDisagree a b kind l) h = (p1, omega arith, refl)
     next (denial.Capability slot kind label) h = (a1, omega arith, refl)
     next (denial.Root slot label) h = (a2, omega arith, refl)
+    next (denial.Pair child parent) h = (a3, omega arith, refl)
     next (denial.Binding thread context) h = (a4, omega arith, refl)
 
   no_rule : IsNone (BreaksUnder t allowed (0 ∷ []))
   no_rule (denial.SubjectsDisagree a b kind l) h = omega (arith, h.0.0)
   no_rule (denial.Capability slot kind label) h = omega (arith, h.0.0)
   no_rule (denial.Root slot label) h = omega (arith, h.0.0)
+  no_rule (denial.Pair child parent) h = omega (arith, h.0.0)
   no_rule (denial.Binding thread context) h = omega (arith, h.0.0)
 
   -- what is least of the first rule that is broken is least of all
@@ -217,9 +225,10 @@ module _ (t : Layout) (allowed : EdgeTest) where
 
   pub capabilities : IsLawful t → SearchesBroken t allowed (a1 ∷ []) t.caps of_filled
   unfolding NextSlot
-  capabilities lawful = among_slots lawful a1 next where
-    next : (d : Denial) → BreaksUnder t allowed (a1 ∷ []) d → NextSlot a1 d
-    next (denial.Capability slot kind label) h = (slot, h.1.held, h.1.filled, (refl, (refl, (refl, tt))))
+  capabilities lawful = among_caps lawful a1 next where
+    next : (d : Denial) → BreaksUnder t allowed (a1 ∷ []) d → NextSlot (λ (f : Filled). f.slot) (λ f. f.cap) t.caps a1 d
+    next (denial.Capability slot kind label) h =
+        (slot, h.1.held, filled_at t slot h.1.held h.1.filled, (refl, (refl, (refl, tt))))
     next _ h = absurd (omega (arith, h.0.0))
 
   pub kinds_given : (slot : SlotRef) → SearchesBroken t allowed (a1 ∷ of_slot slot) all_kinds of_kind
@@ -233,9 +242,18 @@ module _ (t : Layout) (allowed : EdgeTest) where
 
   pub roots : IsLawful t → SearchesBroken t allowed (a2 ∷ []) t.caps of_filled
   unfolding NextSlot
-  roots lawful = among_slots lawful a2 next where
-    next : (d : Denial) → BreaksUnder t allowed (a2 ∷ []) d → NextSlot a2 d
-    next (denial.Root slot label) h = (slot, h.1.held, h.1.filled, (refl, (refl, (refl, tt))))
+  roots lawful = among_caps lawful a2 next where
+    next : (d : Denial) → BreaksUnder t allowed (a2 ∷ []) d → NextSlot (λ (f : Filled). f.slot) (λ f. f.cap) t.caps a2 d
+    next (denial.Root slot label) h = (slot, h.1.held, filled_at t slot h.1.held h.1.filled, (refl, (refl, (refl, tt))))
+    next _ h = absurd (omega (arith, h.0.0))
+
+  -- A3
+
+  pub pairs : IsLawful t → SearchesBroken t allowed (a3 ∷ []) t.pairs of_pair
+  unfolding NextSlot
+  pairs lawful = among_slots (λ (p : Pair). p.child) (λ p. p.parent) t.pairs lawful.draft.pairs.rise a3 next where
+    next : (d : Denial) → BreaksUnder t allowed (a3 ∷ []) d → NextSlot (λ (p : Pair). p.child) (λ p. p.parent) t.pairs a3 d
+    next (denial.Pair child parent) h = (child, parent, parent_at t child parent h.1.derived, (refl, (refl, (refl, tt))))
     next _ h = absurd (omega (arith, h.0.0))
 
   -- A4

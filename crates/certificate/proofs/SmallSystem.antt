@@ -31,6 +31,7 @@ use Rattle.machine.specs.Objects.{address_of, end_of}
 use Rattle.policy.specs.Domain.{EdgeTest}
 use Rattle.table.specs.Placement.{IsApart, meets}
 use Rattle.table.specs.Rules.{IsLawful, IsObjectOf, IsCapOf, IsBindingOf, is_control_of, kind_at}
+use Rattle.table.specs.Tree.{is_original, source_of}
 
 abbrev pub id : ℕ → ObjId
 id n = record { 0 = n }
@@ -132,30 +133,24 @@ no_control : All NoControl signalling.objects
 unfolding signalling
 no_control = All-from_recursion NoControl signalling.objects ((λ _. refl), ((λ _. refl), ((λ _. refl), ((λ _. refl), tt))))
 
-signal_fits : IsCapOf signalling (filled (slot 0 0) signal_cap)
-unfolding signalling initial_of initial_parent
+signal_fits : IsCapOf signalling.objects (filled (slot 0 0) signal_cap)
+unfolding signalling
 signal_fits = record {
-  holder = labelled 1 node;
+  place = record { holder = labelled 1 node; held = refl; within = lit< tt };
   target = labelled 2 (notification None);
-  held = refl;
   aimed = refl;
-  slot = lit< tt;
   root = λ e. cc;
-  detail = lit< tt;
-  original = λ _. refl;
+  detail = (lit< tt, lit< tt);
 }
 
-space_fits : IsCapOf signalling (filled (slot 1 0) space_cap)
-unfolding signalling initial_of initial_parent
+space_fits : IsCapOf signalling.objects (filled (slot 1 0) space_cap)
+unfolding signalling
 space_fits = record {
-  holder = labelled 0 (thread None);
+  place = record { holder = labelled 0 (thread None); held = refl; within = lit< tt };
   target = labelled 1 node;
-  held = refl;
   aimed = refl;
-  slot = lit< tt;
   root = λ _. refl;
   detail = (lit≤ tt, lit< tt);
-  original = λ _. refl;
 }
 
 no_untyped : All (λ filled. kind_of_detail filled.cap.detail ≢ kind.Untyped) signalling.caps
@@ -164,36 +159,49 @@ no_untyped =
     All-from_recursion (λ filled. kind_of_detail filled.cap.detail ≢ kind.Untyped) signalling.caps ((λ e. cc), ((λ e. cc), tt))
 
 pub signalling_lawful : IsLawful signalling
-unfolding signalling initial_of kind_at pairs_test
+unfolding signalling initial_of initial_parent kind_at pairs_test is_original source_of
 signalling_lawful = record {
-  few_labels = lit≤ tt;
-  label_names = search (AllPass-from_list_all);
-  labels_differ = names_differ signalling.labels refl;
-  object_names = search (AllPass-from_list_all);
-  names_differ = names_differ signalling.names refl;
-  each_named = refl;
-  few_objects = lit≤ tt;
-  few_slots = lit≤ tt;
-  few_threads = lit≤ tt;
-  objects =
-      All-from_recursion (IsObjectOf signalling) signalling.objects (
-        record { label = lit< tt; blank = (lit< tt, lit≤ tt); aligned = refl; end = lit≤ tt },
-        (
-          record { label = lit< tt; blank = (tt, refl, refl); aligned = refl; end = lit≤ tt },
-          (
-            record { label = lit< tt; blank = refl; aligned = refl; end = lit≤ tt },
-            (record { label = lit< tt; blank = ((lit≤ tt, lit≤ tt, lit≤ tt, lit< tt), refl); aligned = refl; end = lit≤ tt }, tt),
-          ),
-        ),
-      );
-  objects_apart = all_apart signalling.objects refl;
-  controls_differ = λ i j d below within core is. no_control j d within core;
-  caps = All-from_recursion (IsCapOf signalling) signalling.caps (signal_fits, (space_fits, tt));
-  caps_rise = λ i j d below within.
-      less _ (pairs_pass (λ a b. is_lt (slot_cmp a.slot b.slot)) signalling.caps refl i j d below within);
-  untypeds_once = λ i j d below within untyped. absurd (no_untyped j d within untyped);
-  underived = refl;
-  bindings = All-from_recursion (IsBindingOf signalling) signalling.bindings (record { thread = refl; context = refl }, tt);
-  bindings_rise = λ i j d below within. absurd (omega arith);
-  contexts_differ = λ i j d below within. absurd (omega arith);
+  draft = record {
+    labels = record {
+      few = lit≤ tt;
+      spelled = search (AllPass-from_list_all);
+      differ = names_differ signalling.labels refl;
+    };
+    objects = record {
+      spelled = search (AllPass-from_list_all);
+      differ = names_differ signalling.names refl;
+      named = refl;
+      few = lit≤ tt;
+      few_slots = lit≤ tt;
+      few_threads = lit≤ tt;
+      each =
+          All-from_recursion (IsObjectOf 3) signalling.objects (
+            record { label = lit< tt; blank = (lit< tt, lit≤ tt); aligned = refl; end = lit≤ tt },
+            (
+              record { label = lit< tt; blank = (tt, refl, refl); aligned = refl; end = lit≤ tt },
+              (
+                record { label = lit< tt; blank = refl; aligned = refl; end = lit≤ tt },
+                (record { label = lit< tt; blank = ((lit≤ tt, lit≤ tt, lit≤ tt, lit< tt), refl); aligned = refl; end = lit≤ tt }, tt),
+              ),
+            ),
+          );
+      apart = all_apart signalling.objects refl;
+      controls_differ = λ i j d below within core is. no_control j d within core;
+    };
+    caps = record {
+      each = All-from_recursion (IsCapOf signalling.objects) signalling.caps (signal_fits, (space_fits, tt));
+      rise = λ i j d below within.
+          less _ (pairs_pass (λ a b. is_lt (slot_cmp a.slot b.slot)) signalling.caps refl i j d below within);
+      untypeds_once = λ i j d below within untyped. absurd (no_untyped j d within untyped);
+    };
+    pairs = record { each = λ i d within. absurd (omega arith); rise = λ i j d below within. absurd (omega arith) };
+    bindings = record {
+      each = All-from_recursion (IsBindingOf signalling.objects) signalling.bindings (record { thread = refl; context = refl }, tt);
+      rise = λ i j d below within. absurd (omega arith);
+      contexts_differ = λ i j d below within. absurd (omega arith);
+    };
+  };
+  marked =
+      All-from_recursion (λ filled. filled.cap.original ≡ is_original signalling filled.slot filled.cap.detail) signalling.caps (refl, (refl, tt));
+  tree = λ i d within. absurd (omega arith);
 }

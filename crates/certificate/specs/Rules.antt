@@ -46,6 +46,10 @@ pub record SubjectsDisagree (allowed : EdgeTest) (subject other : ℕ) (kind : K
   pub of_use : is_structural kind ≡ false
   pub differ : allowed subject kind target ≢ allowed other kind target
 
+-- P1 is broken nowhere
+abbrev pub NoneDisagree : EdgeTest → Type 0
+NoneDisagree allowed = (subject other : ℕ) (kind : Kind) (target : ℕ) → ¬ SubjectsDisagree allowed subject other kind target
+
 -- A1: the capability in a slot of a CNode gives a kind of authority over its object that the policy doesn't have
 pub record CapabilityExceeds (s : Sources) (allowed : EdgeTest) (slot : SlotRef) (kind : Kind) (label : ℕ) : Type 0 where
   pub held : Cap

@@ -8,7 +8,7 @@ use Rattle.policy.specs.Domain.{EdgeTest}
 use Rattle.certificate.specs.declared.denial.Denial.{Denial}
 use Rattle.certificate.specs.declared.denial.Denial.TheVariants as denial
 use Rattle.certificate.specs.Places.{IsLeast, IsNone, IsUnder}
-use Rattle.certificate.specs.Rules.{p1, SubjectsDisagree, Excess, capability, root, binding, Exceeds, excess_place}
+use Rattle.certificate.specs.Rules.{p1, SubjectsDisagree, Excess, capability, root, pair, binding, Exceeds, excess_place}
 use Rattle.certificate.specs.Sources.{of_table, of_machine}
 
 -- the table or the policy breaks a rule at a place
@@ -16,6 +16,7 @@ abbrev pub Breaks : Layout → EdgeTest → Denial → Type 0
 Breaks t allowed (denial.SubjectsDisagree subject other kind target) = SubjectsDisagree allowed subject other kind target
 Breaks t allowed (denial.Capability slot kind label) = Exceeds (of_table t) allowed (capability slot kind label)
 Breaks t allowed (denial.Root slot label) = Exceeds (of_table t) allowed (root slot label)
+Breaks t allowed (denial.Pair child parent) = Exceeds (of_table t) allowed (pair child parent)
 Breaks t allowed (denial.Binding thread context) = Exceeds (of_table t) allowed (binding thread context)
 
 -- a denial as numbers: its rule, and then the labels, kinds, objects and slots that it names
@@ -23,12 +24,14 @@ abbrev pub place_of : Denial → List ℕ
 place_of (denial.SubjectsDisagree subject other kind target) = p1 ∷ subject ∷ other ∷ kind_number kind ∷ target ∷ []
 place_of (denial.Capability slot kind label) = excess_place (capability slot kind label)
 place_of (denial.Root slot label) = excess_place (root slot label)
+place_of (denial.Pair child parent) = excess_place (pair child parent)
 place_of (denial.Binding thread context) = excess_place (binding thread context)
 
 abbrev pub rule_name : Denial → List ℕ
 rule_name (denial.SubjectsDisagree _ _ _ _) = codes "P1"
 rule_name (denial.Capability _ _ _) = codes "A1"
 rule_name (denial.Root _ _) = codes "A2"
+rule_name (denial.Pair _ _) = codes "A3"
 rule_name (denial.Binding _ _) = codes "A4"
 
 -- a broken place that begins with these numbers
@@ -46,9 +49,10 @@ IsAccepted t allowed = IsNone (Breaks t allowed)
 abbrev pub IsOutside : Layout → EdgeTest → Machine → Excess → Type 0
 IsOutside t allowed m = IsLeast excess_place (Exceeds (of_machine t m) allowed)
 
--- where a denial by A1, A2 or A4 says that authority lies outside
+-- where a denial by A1 to A4 says that authority lies outside
 abbrev pub excess_of : Denial → Option Excess
 excess_of (denial.SubjectsDisagree subject other kind target) = None
 excess_of (denial.Capability slot kind label) = Some (capability slot kind label)
 excess_of (denial.Root slot label) = Some (root slot label)
+excess_of (denial.Pair child parent) = Some (pair child parent)
 excess_of (denial.Binding thread context) = Some (binding thread context)

@@ -7,6 +7,7 @@ ghost use Rattle.certificate.specs.Verdict.{Breaks, place_of};
 
 use crate::bindings::first_binding;
 use crate::capabilities::first_capability;
+use crate::pairs::first_pair;
 use crate::roots::first_root;
 use crate::subjects::first_disagreement;
 use crate::{Accepted, Denial};
@@ -14,8 +15,8 @@ use base::Refusal;
 use policy::Policy;
 use table::Table;
 
-/// The verdict on a capability table and a policy, by the rules P1, A1, A2 and A4: accepted, or denied
-/// with the first of these rules that is broken and the first place where it is.
+/// The verdict on a capability table and a policy, by the rules P1, A1, A2, A3 and A4: accepted, or
+/// denied with the first of these rules that is broken and the first place where it is.
 ///
 /// Where it accepts them, then after every list of kernel calls by any threads in any interleaving
 /// every capability lies within the policy; no step changes an object of a label on which its caller's
@@ -51,6 +52,9 @@ fn first_broken(table: &Table, policy: &Policy) -> Option<Denial>
         return Some(denial);
     }
     if let Some(denial) = first_root(table, policy) {
+        return Some(denial);
+    }
+    if let Some(denial) = first_pair(table, policy) {
         return Some(denial);
     }
     first_binding(table, policy)

@@ -28,6 +28,12 @@ pub enum Denial {
         slot: SlotRef,
         label: Label,
     },
+    /// A3: a capability is derived from another, and the policy doesn't have the edge of kind derive from
+    /// the label of the parent's holder to that of the child's.
+    Pair {
+        child: SlotRef,
+        parent: SlotRef,
+    },
     /// A4: a thread is bound to a context, and the policy doesn't have the edge of kind runs.
     Binding {
         thread: ObjId,
@@ -46,6 +52,7 @@ impl Denial {
             Denial::SubjectsDisagree { .. } => "P1",
             Denial::Capability { .. } => "A1",
             Denial::Root { .. } => "A2",
+            Denial::Pair { .. } => "A3",
             Denial::Binding { .. } => "A4",
         }
     }

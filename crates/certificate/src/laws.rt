@@ -35,7 +35,7 @@ ghost use Rattle.certificate.specs.Allowed.{IsAllowedStep};
 ghost use Rattle.certificate.specs.Budgets.{KeepsBudgets};
 ghost use Rattle.certificate.specs.Confined.{IsConfined};
 ghost use Rattle.certificate.specs.Counterexamples.{UnallowedSignal, UnsafeWithout};
-ghost use Rattle.certificate.specs.Rules.{Excess, Exceeds};
+ghost use Rattle.certificate.specs.Rules.{NoneDisagree, Excess, Exceeds};
 ghost use Rattle.certificate.specs.Shrinks.{Shrinks};
 ghost use Rattle.certificate.specs.Sources.{of_machine};
 ghost use Rattle.certificate.specs.System.{System, IsVerdict};
@@ -162,7 +162,8 @@ pub fn confined_states_have_nothing_outside()
 {}
 
 /// A law: the verdict on a table is one on its boot state. A rule is broken at a place exactly where
-/// the boot state's authority lies outside the policy there, and the first such place is the same. A
+/// the boot state's authority lies outside the policy there, and each place where it does has its
+/// denial. That denial is the verdict exactly if P1 is broken nowhere and the place is the first. A
 /// table and a policy are accepted exactly if labels of one domain may do the same and the boot state
 /// is confined.
 pub fn a_verdict_is_on_the_boot_state()
@@ -171,12 +172,16 @@ pub fn a_verdict_is_on_the_boot_state()
         → IsBoot t boot
         → excess_of denial ≡ Some place
         → Breaks t allowed denial ↔ Exceeds (of_machine t boot) allowed place }
+    ensures each { (t : Layout) (allowed : EdgeTest) (boot : Machine) (place : Excess)
+        → IsLawful t
+        → IsBoot t boot
+        → Exceeds (of_machine t boot) allowed place
+        → (denial : Denial) × (excess_of denial ≡ Some place) }
     ensures first { (t : Layout) (allowed : EdgeTest) (boot : Machine) (denial : Denial) (place : Excess)
         → IsLawful t
         → IsBoot t boot
         → excess_of denial ≡ Some place
-        → IsLeastBroken t allowed denial
-        → IsOutside t allowed boot place }
+        → IsLeastBroken t allowed denial ↔ (NoneDisagree allowed × IsOutside t allowed boot place) }
     ensures accepted { (t : Layout) (edges : List Edge)
         → IsLawful t
         → JoinsLabels edges

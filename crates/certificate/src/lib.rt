@@ -9,6 +9,7 @@ mod check;
 mod denial;
 mod labels;
 mod laws;
+mod pairs;
 mod roots;
 mod safe;
 mod subjects;

@@ -1,16 +1,15 @@
 -- A line of a script is read just where it spells an event that is within the limits.
 use Rattle.std.proofs.Common.{◌≡◌, ℕ, ◌<◌, ◌&&◌, nat_lt, Bool, true, false, cond, List, ◌++◌, Ok, Err, refl, ap, subst, ◌∙◌, ltb-true, lt-ltb}
 use Rattle.std.proofs.lemmas.Bool.{and_from, and_parts, cond-true}
-use Rattle.std.proofs.lemmas.List.{append-nil}
 use Rattle.base.specs.declared.core_number.TheConstants.CoreNo as CoreNo
 use Rattle.base.specs.declared.limits.TheConstants.{MAX_EVENTS}
 use Rattle.machine.specs.declared.call.Event.{Event}
 use Rattle.machine.specs.Spelling.{event_words}
 use Rattle.words.specs.declared.faults.Wrong.TheVariants.{Limit}
-use Rattle.words.proofs.WordLaws.{bind_ok, ended_then}
-use Rattle.evtext.specs.Event.{event_at, within_limits, HasNumbers}
+use Rattle.words.proofs.Parts.{alone_again, alone_takes}
+use Rattle.evtext.specs.Event.{within_limits, HasNumbers}
 use Rattle.evtext.specs.Script.{script_line}
-use Rattle.evtext.proofs.EventWords.{event_takes, form_again}
+use Rattle.evtext.proofs.EventWords.{event_part}
 
 -- words that spell an event
 abbrev pub IsEventLine : List (List ℕ) → Event → Type 0
@@ -34,18 +33,14 @@ pub line_read : (before : ℕ) (words : List (List ℕ)) (event : Event) → scr
     → IsEventLine words event × (event.core < CoreNo.COUNT) × (before < MAX_EVENTS)
 unfolding script_line
 line_read before words event h =
-    let read = bind_ok (event_at words) _ event h in
-    let ended = ended_then (λ _. within_limits before read.0.0) read.0.1 event read.2 in
-    let takes = event_takes words read.0 read.1 in
-    let limits = limited before read.0.0 event ended.1 in
-    let alone : words ≡ event_words read.0.0 =
-    takes.words_are ∙ ap (λ rest. event_words read.0.0 ++ rest) ended.0 ∙ append-nil (event_words read.0.0) in
+    let read = alone_takes event_part (within_limits before) words event h in
+    let limits = limited before read.0 event read.3 in
     subst (λ e. IsEventLine words e × (e.core < CoreNo.COUNT) × (before < MAX_EVENTS)) limits.0
-    ((alone, takes.numbers), limits.1, limits.2)
+    ((read.1, read.2), limits.1, limits.2)
 
 pub line_read_back : (before : ℕ) (words : List (List ℕ)) (event : Event)
     → (IsEventLine words event × (event.core < CoreNo.COUNT) × (before < MAX_EVENTS)) → script_line before words ≡ Ok event
-unfolding within_limits
+unfolding script_line within_limits
 line_read_back before words event is =
-    ap (λ w. script_line before w) is.0.0 ∙ form_again before event is.0.1
+    ap (λ w. script_line before w) is.0.0 ∙ alone_again event_part (within_limits before) event is.0.1
     ∙ cond-true _ _ _ (and_from _ _ (lt-ltb _ _ is.1) (lt-ltb _ _ is.2))

@@ -10,8 +10,8 @@ use Rattle.machine.specs.declared.call.Outcome.{Outcome}
 use Rattle.machine.specs.declared.call.Outcome.TheVariants as outcome
 use Rattle.machine.specs.Spelling.{call_words, entry_words, event_words, outcome_words, spelled}
 use Rattle.words.specs.Reading.{last_line}
-use Rattle.words.specs.Text.{text_of}
-use Rattle.evtext.specs.Log.{line_of, log_header, log_text}
+use Rattle.words.specs.Text.{line_text, text_of}
+use Rattle.evtext.specs.Log.{log_header, log_text}
 
 -- words after words: a space stands between them
 spelled-append : (word : List ℕ) (words : List (List ℕ)) (next : List ℕ) (others : List (List ℕ))
@@ -34,7 +34,7 @@ spelled-equals (outcome.Refused refusal) = refl
 -- the line of an entry: its event, ` = `, and its outcome
 pub line_of_entry : (event : Event) (outcome : Outcome)
     → spelled (event_words event) ++ (32 ∷ 61 ∷ 32 ∷ (spelled (outcome_words outcome) ++ 10 ∷ []))
-    ≡ line_of (entry_words (event, outcome))
+    ≡ line_text (entry_words (event, outcome))
 line_of_entry event outcome =
     sym (append_assoc (spelled (event_words event)) (32 ∷ 61 ∷ 32 ∷ spelled (outcome_words outcome)) (10 ∷ []))
     ∙ ap (λ rest. (spelled (event_words event) ++ 32 ∷ rest) ++ 10 ∷ []) (sym (spelled-equals outcome))
@@ -47,7 +47,7 @@ pub lines_more : (events : List Event) (outcomes : List Outcome) (n : ℕ) (even
     → n < length events → n < length outcomes → ((d : Event) → event ≡ get_or events n d)
     → ((d : Outcome) → outcome ≡ get_or outcomes n d)
     → text ≡ text_of (log_header ∷ map entry_words (take n (zip events outcomes)))
-    → text ++ line_of (entry_words (event, outcome)) ≡ text_of (log_header ∷ map entry_words (take (n + 1) (zip events outcomes)))
+    → text ++ line_text (entry_words (event, outcome)) ≡ text_of (log_header ∷ map entry_words (take (n + 1) (zip events outcomes)))
 lines_more events outcomes n event outcome text more_events more_outcomes is_event is_outcome so_far =
     let entry : Event × Outcome = (event, outcome) in
     let here : get_or (zip events outcomes) n entry ≡ entry =
@@ -57,7 +57,7 @@ lines_more events outcomes n event outcome text more_events more_outcomes is_eve
     let grown : take (n + 1) (zip events outcomes) ≡ take n (zip events outcomes) ++ entry ∷ [] =
     take_more (zip events outcomes) n entry (omega (arith, length-zip events outcomes))
     ∙ ap (λ e. take n (zip events outcomes) ++ e ∷ []) here in
-    ap (λ bytes. bytes ++ line_of (entry_words entry)) so_far
+    ap (λ bytes. bytes ++ line_text (entry_words entry)) so_far
     ∙ flat_map_more (λ line. spelled line ++ 10 ∷ []) (spelled log_header ++ 10 ∷ [])
     (map entry_words (take n (zip events outcomes))) (entry_words entry)
     ∙ ap (λ lines. text_of (log_header ∷ lines)) (sym (map-append entry_words (take n (zip events outcomes)) (entry ∷ [])))

@@ -1,5 +1,5 @@
 -- A text is the text of one script, or of one log.
-use Rattle.std.proofs.Common.{◌≡◌, ℕ, ◌<◌, ◌^◌, Bool, true, false, cond, List, [], ◌∷◌, ◌++◌, length, map, codes, Result, Ok, Err, refl, sym, ap, ◌∙◌, arith}
+use Rattle.std.proofs.Common.{◌≡◌, ℕ, ◌<◌, ◌^◌, Bool, true, false, cond, List, [], ◌∷◌, ◌++◌, length, codes, Result, Ok, Err, refl, sym, ap, ◌∙◌, arith}
 use Rattle.std.proofs.lemmas.List.{append-nil}
 use Rattle.std.specs.Fmt.{decimal}
 use Rattle.std.specs.List.{AllByRecursion}
@@ -12,23 +12,15 @@ use Rattle.machine.specs.Spelling.{event_words, entry_words, flag_word, message_
 use Rattle.words.specs.declared.faults.Wrong.{Wrong}
 use Rattle.words.specs.Number.{number_at}
 use Rattle.words.specs.Text.{IsPlainLine, IsPlainWord}
-use Rattle.words.proofs.OneText.{one_body, one_by_map}
+use Rattle.words.proofs.ListLaws.{one_list}
+use Rattle.words.proofs.Parts.{part_once}
 use Rattle.words.proofs.TextLaws.{both}
-use Rattle.words.proofs.WordLaws.{number_again, plain_bytes, plain_decimal, plain_lines}
-use Rattle.evtext.specs.Event.{event_at, HasNumbers}
+use Rattle.words.proofs.WordLaws.{number_again, plain_bytes, plain_decimal}
+use Rattle.evtext.specs.Event.{HasNumbers}
 use Rattle.evtext.specs.Log.{log_header, log_text, IsEntry, IsOutcome}
 use Rattle.evtext.specs.Script.{script_header, script_text}
-use Rattle.evtext.proofs.EventWords.{event_again, plain_event}
+use Rattle.evtext.proofs.EventWords.{event_part, plain_event}
 use Rattle.evtext.proofs.Scripts.{plain_header}
-
--- words that begin with those of an event begin with those of no other
-one_event : (event other : Event) (rest later : List (List ℕ)) → HasNumbers event → HasNumbers other
-    → event_words event ++ rest ≡ event_words other ++ later → (event ≡ other) × (rest ≡ later)
-one_event event other rest later this that same =
-    let read : ◌≡◌ {A = Result (Event × List (List ℕ)) Wrong} (Ok (event, rest)) (Ok (other, later)) =
-    sym (event_again event rest this) ∙ ap event_at same ∙ event_again other later that in
-    let taken : ◌≡◌ {A = Event × List (List ℕ)} (event, rest) (other, later) = cc in
-    (ap (λ (p : Event × List (List ℕ)). p.0) taken, ap (λ (p : Event × List (List ℕ)). p.1) taken)
 
 -- the number of a decimal word
 
@@ -102,7 +94,7 @@ outcome_back (outcome.Refused refusal) is =
 one_entry : (entry other : Event × Outcome) → IsEntry entry → IsEntry other → entry_words entry ≡ entry_words other
     → entry ≡ other
 one_entry entry other this that same =
-    let parts = one_event entry.0 other.0 (codes "=" ∷ outcome_words entry.1)
+    let parts = part_once event_part entry.0 other.0 (codes "=" ∷ outcome_words entry.1)
     (codes "=" ∷ outcome_words other.1) this.0 that.0 same in
     let words : outcome_words entry.1 ≡ outcome_words other.1 = cc in
     let outcomes : entry.1 ≡ other.1 = sym (outcome_back entry.1 this.1) ∙ ap outcome_of words ∙ outcome_back other.1 that.1 in
@@ -110,7 +102,7 @@ one_entry entry other this that same =
 
 one_line : (event other : Event) → HasNumbers event → HasNumbers other → event_words event ≡ event_words other → event ≡ other
 one_line event other this that same =
-    (one_event event other [] [] this that (append-nil (event_words event) ∙ same ∙ sym (append-nil (event_words other)))).0
+    (part_once event_part event other [] [] this that (append-nil (event_words event) ∙ same ∙ sym (append-nil (event_words other)))).0
 
 -- and they are plain
 
@@ -154,19 +146,10 @@ plain_entry entry is =
 
 pub one_script : (script other : List Event) → AllByRecursion HasNumbers script → AllByRecursion HasNumbers other
     → script_text script ≡ script_text other → script ≡ other
-one_script script other this that same =
-    one_by_map HasNumbers event_words one_line script other this that
-    (one_body script_header (map event_words script) (map event_words other)
-    (plain_header, plain_lines HasNumbers event_words plain_event script this)
-    (plain_header, plain_lines HasNumbers event_words plain_event other that) same)
+one_script = one_list script_header event_words HasNumbers plain_header plain_event one_line
 
 pub one_log : (log other : List (Event × Outcome)) → AllByRecursion IsEntry log → AllByRecursion IsEntry other
     → log_text log ≡ log_text other → log ≡ other
-one_log log other this that same =
-    one_by_map IsEntry entry_words one_entry log other this that
-    (one_body log_header (map entry_words log) (map entry_words other)
-    (header, plain_lines IsEntry entry_words plain_entry log this)
-    (header, plain_lines IsEntry entry_words plain_entry other that) same)
-  where
-    header : IsPlainLine log_header
-    header = (plain_bytes (codes "confine-log") refl, (plain_bytes (codes "1") refl, tt))
+one_log =
+    one_list log_header entry_words IsEntry
+    (plain_bytes (codes "confine-log") refl, (plain_bytes (codes "1") refl, tt)) plain_entry one_entry

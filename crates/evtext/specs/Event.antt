@@ -1,43 +1,30 @@
 -- How the words of a line are read as an event: its core, its thread, then a call by its name and operands (confine's own).
-use Rattle.std.specs.Prelude.{ℕ, ◌<◌, ◌^◌, ◌&&◌, nat_lt, List, codes, Result, Ok, Err, if◌then◌else◌}
-use Rattle.std.specs.Str.{bytes_eq}
+use Rattle.std.specs.Prelude.{ℕ, ◌<◌, ◌^◌, ◌&&◌, nat_lt, [], ◌∷◌, codes, Result, Ok, Err, if◌then◌else◌}
 use Rattle.base.specs.declared.core_number.TheConstants.CoreNo as CoreNo
 use Rattle.base.specs.declared.limits.TheConstants.{MAX_EVENTS}
 use Rattle.machine.specs.declared.call.Call.{Call}
 use Rattle.machine.specs.declared.call.Call.TheVariants.{Signal, Poll, Wait}
 use Rattle.machine.specs.declared.call.Event.{Event}
 use Rattle.words.specs.declared.faults.Wrong.{Wrong}
-use Rattle.words.specs.declared.faults.Wrong.TheVariants.{Syntax, Limit}
+use Rattle.words.specs.declared.faults.Wrong.TheVariants.{Limit}
 use Rattle.words.specs.Number.{number_at}
-use Rattle.words.specs.Reading.{◌>>=◌, word_at}
+use Rattle.words.specs.Parts.{PartReader, in_turn, keyed, read_as}
 
--- a call whose one operand is an address
-unfoldable pub addressed : (ℕ → Call) → List (List ℕ) → Result (Call × List (List ℕ)) Wrong
-addressed call words = do
-  address ← number_at words
-  Ok (call address.0, address.1)
+-- the next words as a call: its name, then its operands
+unfoldable pub call_at : PartReader Call
+call_at = keyed (
+    (codes "signal", read_as Signal number_at)
+    ∷ (codes "poll", read_as Poll number_at)
+    ∷ (codes "wait", read_as Wait number_at)
+    ∷ [])
 
--- the operands of the call that has a name
-unfoldable pub call_named : List ℕ → List (List ℕ) → Result (Call × List (List ℕ)) Wrong
-call_named name words =
-    if bytes_eq name (codes "signal") then addressed Signal words else
-    (if bytes_eq name (codes "poll") then addressed Poll words else
-    (if bytes_eq name (codes "wait") then addressed Wait words else
-    Err Syntax))
+-- the event of a core, a thread and a call
+abbrev pub event_of : ℕ × (ℕ × Call) → Event
+event_of parts = record { core = parts.0; thread = record { 0 = parts.1.0 }; call = parts.1.1 }
 
--- the next words as a call, and the words after it
-unfoldable pub call_at : List (List ℕ) → Result (Call × List (List ℕ)) Wrong
-call_at words = do
-  name ← word_at words
-  call_named name.0 name.1
-
--- the next words as an event, whatever its core's number, and the words after it
-unfoldable pub event_at : List (List ℕ) → Result (Event × List (List ℕ)) Wrong
-event_at words = do
-  core ← number_at words
-  thread ← number_at core.1
-  call ← call_at thread.1
-  Ok (record { core = core.0; thread = record { 0 = thread.0 }; call = call.0 }, call.1)
+-- the next words as an event, whatever its core's number
+unfoldable pub event_at : PartReader Event
+event_at = read_as event_of (in_turn number_at (in_turn number_at call_at))
 
 -- an event of a core that there can be, before which there are not too many
 unfoldable pub within_limits : ℕ → Event → Result Event Wrong

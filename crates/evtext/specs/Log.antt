@@ -1,5 +1,5 @@
 -- The text of a log: the header, a line for each event and its outcome, and `end` (confine's own).
-use Rattle.std.specs.Prelude.{◌≡◌, ℕ, ◌<◌, ◌^◌, List, [], ◌∷◌, ◌++◌, length, map, codes}
+use Rattle.std.specs.Prelude.{◌≡◌, ℕ, ◌<◌, ◌^◌, List, length, codes}
 use Rattle.std.specs.List.{AllByRecursion}
 use Rattle.machine.specs.declared.call.Answer.{Answer}
 use Rattle.machine.specs.declared.call.Answer.TheVariants as answer
@@ -7,21 +7,17 @@ use Rattle.machine.specs.declared.call.Event.{Event}
 use Rattle.machine.specs.declared.call.Outcome.{Outcome}
 use Rattle.machine.specs.declared.call.Outcome.TheVariants as outcome
 use Rattle.machine.specs.declared.thread.Message.{Message}
-use Rattle.machine.specs.Spelling.{entry_words, spelled}
-use Rattle.words.specs.Reading.{whole_lines}
-use Rattle.words.specs.Text.{words_of, text_of}
+use Rattle.machine.specs.Spelling.{entry_words}
+use Rattle.words.specs.Reading.{list_text}
+use Rattle.words.specs.Text.{words_of}
 use Rattle.evtext.specs.Event.{HasNumbers}
 
 abbrev pub log_header : List (List ℕ)
 log_header = words_of (codes "confine-log 1")
 
--- a line as it is written
-abbrev pub line_of : List (List ℕ) → List ℕ
-line_of words = spelled words ++ 10 ∷ []
-
 -- the text of a log
 abbrev pub log_text : List (Event × Outcome) → List ℕ
-log_text entries = text_of (whole_lines log_header (map entry_words entries))
+log_text = list_text log_header entry_words
 
 -- a message of 64-bit numbers, four of which are its words
 abbrev pub IsMessage : Message → Type 0

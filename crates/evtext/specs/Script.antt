@@ -1,14 +1,14 @@
 -- The text of a script, and which script, or which fault at which line, a text is read as: the header, a line for each event,
 -- `end` (confine's own).
-use Rattle.std.specs.Prelude.{ℕ, ◌≤◌, List, [], ◌∷◌, ◌++◌, length, map, codes, Result, Ok}
+use Rattle.std.specs.Prelude.{ℕ, ◌≤◌, List, [], ◌∷◌, ◌++◌, length, codes, Result, Ok}
 use Rattle.std.specs.List.{AllByRecursion}
 use Rattle.base.specs.declared.limits.TheConstants.{MAX_EVENTS}
 use Rattle.machine.specs.declared.call.Event.{Event}
 use Rattle.machine.specs.Spelling.{event_words}
 use Rattle.words.specs.declared.faults.Wrong.{Wrong}
 use Rattle.words.specs.declared.faults.Fault.{Fault}
-use Rattle.words.specs.Reading.{◌>>=◌, ended_at, read_text, as_it_is, whole_lines}
-use Rattle.words.specs.Text.{words_of, lines_of, text_of}
+use Rattle.words.specs.Reading.{◌>>=◌, ended_at, list_format, list_text, read_format, Format}
+use Rattle.words.specs.Text.{words_of, lines_of}
 use Rattle.evtext.specs.Event.{event_at, within_limits, IsSpellable}
 
 abbrev pub script_header : List (List ℕ)
@@ -16,7 +16,7 @@ script_header = words_of (codes "confine-script 1")
 
 -- the text of a script
 abbrev pub script_text : List Event → List ℕ
-script_text events = text_of (whole_lines script_header (map event_words events))
+script_text = list_text script_header event_words
 
 -- events that a script can have: not too many, each of which a line can have
 abbrev pub IsScript : List Event → Type 0
@@ -35,6 +35,10 @@ script_step events words = do
   event ← script_line (length events) words
   Ok (events ++ event ∷ [])
 
+-- scripts, line by line
+abbrev pub script_format : Format (List Event) (List Event)
+script_format = list_format script_header script_step
+
 -- what a text is read as
 unfoldable pub read_script_of : List ℕ → Result (List Event) Fault
-read_script_of bytes = read_text script_header script_step as_it_is [] (lines_of bytes)
+read_script_of bytes = read_format script_format (lines_of bytes)

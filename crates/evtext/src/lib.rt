@@ -8,4 +8,4 @@ mod script;
 
 pub use laws::{a_text_is_of_one_log, a_text_is_of_one_script};
 pub use log::{write_log, write_run};
-pub use script::read_script;
+pub use script::{read_script, write_script};

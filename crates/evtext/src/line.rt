@@ -33,7 +33,7 @@ impl Claimed {
 }
 
 /// The next words as an event.
-#[tactic(auto, unfolding(crate::specs::Event::event_at, words::specs::Reading::bind))]
+#[tactic(auto, unfolding(crate::specs::Event::event_at, words::specs::Parts::in_turn, words::specs::Parts::read_as, words::specs::Reading::bind))]
 pub(crate) fn next_event(words: &mut Words<'_>) -> Result<Claimed, Wrong>
     ensures { Gives
         (λ event. (record { core = event.core; thread = event.thread; call = event.call }, words.new))
@@ -50,7 +50,7 @@ pub(crate) fn next_event(words: &mut Words<'_>) -> Result<Claimed, Wrong>
     })
 }
 
-#[tactic(auto, unfolding(crate::specs::Event::call_at, crate::specs::Event::call_named, crate::specs::Event::addressed, words::specs::Reading::bind))]
+#[tactic(auto, unfolding(crate::specs::Event::call_at, words::specs::Parts::by_word, words::specs::Parts::keyed, words::specs::Parts::read_as, words::specs::Reading::bind))]
 fn next_call(words: &mut Words<'_>) -> Result<Call, Wrong>
     ensures { Gives (λ call. (call, words.new)) result (call_at words.old) }
 {

@@ -2,7 +2,8 @@ ghost use Rattle.std.specs.Prelude.{◌≡◌, ◌++◌, IfOk, IfErr, OnOk, stri
 ghost use Rattle.std.specs.List.{zip};
 ghost use Rattle.base.specs.Refusals.{out_of_memory};
 ghost use Rattle.machine.specs.Spelling.{entry_words};
-ghost use Rattle.evtext.specs.Log.{line_of, log_text};
+ghost use Rattle.words.specs.Text.{line_text};
+ghost use Rattle.evtext.specs.Log.{log_text};
 
 use base::Refusal;
 use machine::{Event, Log, Outcome};
@@ -56,7 +57,7 @@ fn run_string(alloc: Global, events: &[Event], outcomes: &[Outcome]) -> Result<S
 #[tactic(auto, using(crate::proofs::Logs::line_of_entry))]
 fn write_entry(text: &mut String, event: &Event, outcome: &Outcome) -> Result<(), AllocError>
     ensures { OnOk result (string_bytes text.new
-        ≡ string_bytes text.old ++ line_of (entry_words (event.now, outcome.now))) }
+        ≡ string_bytes text.old ++ line_text (entry_words (event.now, outcome.now))) }
 {
     writeln!(text, "{event} = {outcome}")
 }

@@ -1,16 +1,18 @@
-ghost use Rattle.std.specs.Prelude.{◌≡◌, ◌≢◌, ℕ, IfOk, IfErr, List, []};
-ghost use Rattle.machine.specs.declared.call.Event.{Event};
+ghost use Rattle.std.specs.Prelude.{◌≡◌, ◌≢◌, ℕ, IfOk, IfErr, Ok, List, string_bytes};
+ghost use Rattle.base.specs.Refusals.{out_of_memory};
+ghost use Rattle.machine.specs.declared.call.Event.{Event as EventOf};
 ghost use Rattle.words.specs.declared.faults.Wrong.{Wrong};
 ghost use Rattle.words.specs.Fault.{fault_at, no_memory};
 ghost use Rattle.words.specs.FirstFault.{IsFirstFault, TellsFirst};
 ghost use Rattle.words.specs.Reading.{Reads};
 ghost use Rattle.words.specs.Text.{lines_of};
-ghost use Rattle.evtext.specs.Script.{read_script_of, script_header, script_line, script_step, script_text, IsScript};
+ghost use Rattle.evtext.specs.Script.{read_script_of, script_format, script_line, script_step, script_text, IsScript};
 
 use crate::line::next_event;
+use base::Refusal;
 use machine::Event;
-use std::alloc::Global;
-use words::{Fault, Lines, Words, Wrong};
+use std::alloc::{AllocError, Global};
+use words::{Fault, LineError, Reader, Words, Wrong, read_text};
 
 /// Reads a script.
 ///
@@ -22,37 +24,49 @@ pub fn read_script(alloc: Global, text: &[u8]) -> Result<Vec<Event>, Fault>
     // A text that is read is a script's, and each script's text is read as that script.
     ensures found { IfOk result
         (λ events. IsScript events.items × (text.now ≡ script_text events.items)) }
-    ensures only { (script : List Event) → IsScript script → text.now ≡ script_text script
+    ensures only { (script : List EventOf) → IsScript script → text.now ≡ script_text script
         → Reads (λ events. events.items) result (Ok script) }
 
     // One that isn't read is refused for its first fault, unless memory was refused.
     ensures faults { IfErr result (λ fault. fault ≢ no_memory
-        → TellsFirst script_header script_step [] (lines_of text.now) fault) }
+        → TellsFirst script_format (lines_of text.now) fault) }
     ensures refused { (line : ℕ) (wrong : Wrong)
-        → IsFirstFault script_header script_step [] (lines_of text.now) line wrong
+        → IsFirstFault script_format (lines_of text.now) line wrong
         → Reads (λ events. events.items) result (Err (fault_at line wrong)) }
 {
     events_of(alloc, text)
 }
 
-#[tactic(auto, using(words::proofs::ReadingLaws::loop_laws), unfolding(crate::specs::Script::read_script_of, words::specs::Reading::bind))]
+#[tactic(auto, unfolding(crate::specs::Script::read_script_of))]
 fn events_of(alloc: Global, text: &[u8]) -> Result<Vec<Event>, Fault>
     ensures exact { Reads (λ events. events.items) result (read_script_of text.now) }
 {
-    let mut lines = Lines::new(text);
-    lines.header(b"confine-script 1")?;
-    let mut events = Vec::new(alloc);
-    while let Some(mut words) = lines.next_line() {
-        if words.is(b"end") {
-            lines.end()?;
-            return Ok(events);
-        }
-        match script_line(&mut words, events.len()) {
-            Ok(event) => events.push(event)?,
-            Err(wrong) => return Err(lines.here(wrong)),
-        }
+    let mut script = Script {
+        events: Vec::new(alloc),
+    };
+    read_text(&mut script, b"confine-script 1", text)?;
+    Ok(script.events)
+}
+
+/// The events of the lines so far.
+#[derive(Drop)]
+struct Script {
+    events: Vec<Event>,
+}
+
+impl Reader for Script {
+    ghost Seen = { List EventOf };
+
+    ghost seen = { λ script. script.events.items };
+
+    ghost step = { λ script. script_step };
+
+    #[tactic(auto, unfolding(words::specs::Reading::bind))]
+    fn take_line(&mut self, words: &mut Words<'_>) -> Result<(), LineError> {
+        let event = script_line(words, self.events.len())?;
+        self.events.push(event)?;
+        Ok(())
     }
-    Err(lines.after(Wrong::Syntax))
 }
 
 /// A line as an event, which comes after as many as `before`.
@@ -63,4 +77,32 @@ fn script_line(words: &mut Words<'_>, before: usize) -> Result<Event, Wrong>
     let event = next_event(words)?;
     words.end()?;
     event.within_limits(before)
+}
+
+/// The text of a script, which has at most 1,000,000 events. A text that was read as these events is
+/// this one.
+///
+/// # Errors
+///
+/// 40 where memory is refused.
+#[tactic(auto, using(crate::proofs::Scripts::script_is_read))]
+pub fn write_script(alloc: Global, events: &[Event]) -> Result<Vec<u8>, Refusal>
+    ensures text { IfOk result (λ text. text.items ≡ script_text events.now) }
+    ensures memory { IfErr result (λ refusal. refusal ≡ out_of_memory) }
+
+    // What is written is read as the events.
+    ensures read_back { IsScript events.now → IfOk result (λ text. read_script_of text.items ≡ Ok events.now) }
+{
+    Ok(script_string(alloc, events)?.into_bytes())
+}
+
+fn script_string(alloc: Global, events: &[Event]) -> Result<String, AllocError>
+    ensures { IfOk result (λ text. string_bytes text ≡ script_text events.now) }
+{
+    let mut text = String::from_str(alloc, "confine-script 1\n")?;
+    for event in events {
+        writeln!(text, "{event}")?;
+    }
+    text.push_str("end\n")?;
+    Ok(text)
 }

@@ -1,7 +1,7 @@
--- The boot state of a table with one object or one capability more, and which slots a boot state has.
-use Rattle.std.proofs.Common.{◌≡◌, ◌≢◌, ℕ, zero, suc, ◌+◌, ◌<◌, Bool, true, false, cond, List, [], ◌∷◌, ◌++◌, length, get_or, replicate, take, refl, sym, ap, subst, ◌∙◌, arith}
+-- The boot state of a table with one object, one capability or one pair more, and which slots a boot state has.
+use Rattle.std.proofs.Common.{◌≡◌, ◌≢◌, ℕ, zero, suc, ◌+◌, ◌<◌, Bool, true, false, cond, List, [], ◌∷◌, ◌++◌, length, get_or, replicate, take, refl, sym, ap, ◌∙◌, arith}
 use Rattle.std.specs.Prelude.{Option, Some, None, option_map, slice_get, IsTrue}
-use Rattle.std.specs.List.{find}
+use Rattle.std.specs.List.{find, AllPairs}
 use Rattle.std.specs.Option.{option_or}
 use Rattle.std.specs.Cmp.{tied_itself}
 use Rattle.std.specs.Ordering.{is_eq}
@@ -20,14 +20,14 @@ use Rattle.machine.specs.declared.object.Object.{Object}
 use Rattle.machine.specs.Boot.{IsBoot, bound, booted}
 use Rattle.machine.proofs.Bound.{slot_count-bound}
 use Rattle.machine.specs.Layout.{Layout, initial_of, initial_cap, initial_parent, bound_context, bound_thread}
-use Rattle.machine.specs.Machine.{Machine, same_id, slot_cmp, same_slot, empty_machine, object_of, has_slot, with_new, with_cap}
+use Rattle.machine.specs.Machine.{Machine, same_id, slot_cmp, same_slot, empty_machine, object_of, has_slot, with_new, with_cap, with_parent}
 use Rattle.machine.proofs.LookUps.{id_total, one_id, one_slot, slot_total}
 use Rattle.machine.proofs.LookUps.{object_of-empty, queue_of-empty, words_of-empty, cap_of-empty, parent_of-empty}
 use Rattle.machine.proofs.LookUps.{object_of-with_new, queue_of-with_new, words_of-with_new, cap_of-with_new, parent_of-with_new}
 use Rattle.machine.proofs.LookUps.{object_of-with_cap, queue_of-with_cap, words_of-with_cap, cap_of-with_cap, parent_of-with_cap}
+use Rattle.machine.proofs.LookUps.{object_of-with_parent, queue_of-with_parent, words_of-with_parent, cap_of-with_parent, parent_of-with_parent}
 use Rattle.machine.specs.Objects.{slot_count, word_count}
-use Rattle.table.specs.Rules.{IsLawful, IsCapOf}
-use Rattle.kernel.specs.Parts.{without_tree}
+use Rattle.table.specs.Rules.{HasSlot}
 
 -- ids that don't tie differ
 
@@ -64,10 +64,6 @@ map-cond f false x found = refl
 -- a table with one object more
 abbrev pub with_last_object : Layout → Initial → Layout
 with_last_object t initial = record t { objects = t.objects ++ initial ∷ [] }
-
--- a table with one capability more
-abbrev with_last_cap : Layout → Filled → Layout
-with_last_cap t filled = record t { caps = t.caps ++ filled ∷ [] }
 
 -- the boot state of a table that says nothing of objects and what is in them
 pub boot-nothing : (t : Layout) → IsBoot (record t { objects = []; caps = []; pairs = [] }) empty_machine
@@ -123,95 +119,98 @@ boot-object t m initial boot =
       next = ap (λ n. n + 1) boot.next ∙ sym (length_push t.objects initial);
     }
 
-cap-last : (t : Layout) (filled d : Filled) → ((k : ℕ) → k < length t.caps → slot_cmp (get_or t.caps k d).slot filled.slot ≡ Less)
-    → (q : SlotRef)
-    → cond (same_slot q filled.slot) (Some filled.cap) (initial_cap t q) ≡ initial_cap (with_last_cap t filled) q
-unfolding initial_cap
-cap-last t filled d rising q = by_tie (same_slot q filled.slot) refl where
-  cap_in : Option Filled → Option Cap
-  cap_in found = option_map (λ filled. filled.cap) found
+-- a list with one element more has it under its slot, which is above the slots of the others
+find-last :
+    {A X : Type 0} (key : A → SlotRef) (value : A → X) (xs : List A) (x d : A)
+    → ((k : ℕ) → k < length xs → slot_cmp (key (get_or xs k d)) (key x) ≡ Less) → (q : SlotRef)
+    → cond (same_slot q (key x)) (Some (value x)) (option_map value (find (λ y. same_slot (key y) q) xs))
+    ≡ option_map value (find (λ y. same_slot (key y) q) (xs ++ x ∷ []))
+find-last {A = A} key value xs x d rising q = by_tie (same_slot q (key x)) refl where
+  at : A → Bool
+  at other = same_slot (key other) q
 
-  at : Filled → Bool
-  at other = same_slot other.slot q
+  last : Bool → Option A
+  last tie = cond tie (Some x) None
 
-  last : Bool → Option Filled
-  last tie = cond tie (Some filled) None
-
-  or-none : (found : Option Filled) → found ≡ option_or found None
+  or-none : (found : Option A) → found ≡ option_or found None
   or-none None = refl
-  or-none (Some x) = refl
+  or-none (Some y) = refl
 
-  by_tie : (tie : Bool) → same_slot q filled.slot ≡ tie
-      → cond tie (Some filled.cap) (initial_cap t q) ≡ initial_cap (with_last_cap t filled) q
+  by_tie : (tie : Bool) → same_slot q (key x) ≡ tie
+      → cond tie (Some (value x)) (option_map value (find at xs)) ≡ option_map value (find at (xs ++ x ∷ []))
   by_tie true e =
-      let is : q ≡ filled.slot = one_slot q filled.slot e in
-      let none : find at t.caps ≡ None =
-      find-missing at t.caps d
-      (λ k within. ap (λ slot. same_slot (get_or t.caps k d).slot slot) is ∙ ap is_eq (rising k within)) in
-      let here : same_slot filled.slot q ≡ true = (eq_by_cmp_equiv slot_total).symm filled.slot q ∙ e in
+      let is : q ≡ key x = one_slot q (key x) e in
+      let none : find at xs ≡ None =
+      find-missing at xs d
+      (λ k within. ap (λ slot. same_slot (key (get_or xs k d)) slot) is ∙ ap is_eq (rising k within)) in
+      let here : same_slot (key x) q ≡ true = (eq_by_cmp_equiv slot_total).symm (key x) q ∙ e in
       sym
-      (ap cap_in (find-append at t.caps (filled ∷ []) ∙ ap (λ found. option_or found (find at (filled ∷ []))) none
+      (ap (option_map value) (find-append at xs (x ∷ []) ∙ ap (λ found. option_or found (find at (x ∷ []))) none
       ∙ ap last here))
   by_tie false e =
-      let elsewhere : same_slot filled.slot q ≡ false = (eq_by_cmp_equiv slot_total).symm filled.slot q ∙ e in
+      let elsewhere : same_slot (key x) q ≡ false = (eq_by_cmp_equiv slot_total).symm (key x) q ∙ e in
       sym
-      (ap cap_in (find-append at t.caps (filled ∷ []) ∙ ap (λ tie. option_or (find at t.caps) (last tie)) elsewhere
-      ∙ sym (or-none (find at t.caps))))
+      (ap (option_map value) (find-append at xs (x ∷ []) ∙ ap (λ tie. option_or (find at xs) (last tie)) elsewhere
+      ∙ sym (or-none (find at xs))))
 
-boot-cap : (t : Layout) (m : Machine) (filled d : Filled) → IsBoot t m
-    → ((k : ℕ) → k < length t.caps → slot_cmp (get_or t.caps k d).slot filled.slot ≡ Less)
-    → IsBoot (with_last_cap t filled) (with_cap m filled.slot filled.cap)
-unfolding initial_of initial_parent bound_context bound_thread with_cap
-boot-cap t m filled d boot rising =
+-- the first elements of a list that rises by slot are below the next
+below_next :
+    {A : Type 0} (key : A → SlotRef) (xs : List A) (i : ℕ) (d : A)
+    → AllPairs (λ one other. slot_cmp (key one) (key other) ≡ Less) xs → i < length xs → (k : ℕ) → k < length (take i xs)
+    → slot_cmp (key (get_or (take i xs) k d)) (key (get_or xs i d)) ≡ Less
+below_next key xs i d rise within k lower =
+    let below : k < i = omega (arith, length-take-le i xs (omega arith)) in
+    rw (get_or-take i xs k d below) (rise k i d below within)
+
+-- one slot more is filled
+pub boot-filled :
+    (t : Layout) (m : Machine) (i : ℕ) (d : Filled) → AllPairs (λ one other. slot_cmp one.slot other.slot ≡ Less) t.caps
+    → i < length t.caps → IsBoot (record t { caps = take i t.caps; pairs = [] }) m
+    → IsBoot (record t { caps = take (i + 1) t.caps; pairs = [] }) (with_cap m (get_or t.caps i d).slot (get_or t.caps i d).cap)
+unfolding initial_of initial_cap initial_parent bound_context bound_thread with_cap
+boot-filled t m i d rise within boot =
+    let filled : Filled = get_or t.caps i d in
     let slot : SlotRef = filled.slot in
     let held : Cap = filled.cap in
-    record {
+    rw (take_more t.caps i d within) (record {
       objects = λ q. object_of-with_cap m slot held q ∙ boot.objects q;
       queues = λ q. queue_of-with_cap m slot held q ∙ boot.queues q;
       words = λ q. words_of-with_cap m slot held q ∙ boot.words q;
       caps = λ q. cap_of-with_cap m slot held q
           ∙ ap (cond (same_slot q slot) (Some held)) (boot.caps q)
-          ∙ cap-last t filled d rising q;
+          ∙ find-last (λ (f : Filled). f.slot) (λ f. f.cap) (take i t.caps) filled d
+          (below_next (λ (f : Filled). f.slot) t.caps i d rise within) q;
       parents = λ q. parent_of-with_cap m slot held q ∙ boot.parents q;
       next = boot.next;
-    }
+    })
+
+-- one child more has its parent
+pub boot-derived :
+    (t : Layout) (m : Machine) (i : ℕ) (d : Pair) → AllPairs (λ one other. slot_cmp one.child other.child ≡ Less) t.pairs
+    → i < length t.pairs → IsBoot (record t { pairs = take i t.pairs }) m
+    → IsBoot (record t { pairs = take (i + 1) t.pairs }) (with_parent m (get_or t.pairs i d).child (get_or t.pairs i d).parent)
+unfolding initial_of initial_cap initial_parent bound_context bound_thread with_parent
+boot-derived t m i d rise within boot =
+    let pair : Pair = get_or t.pairs i d in
+    let slot : SlotRef = pair.child in
+    let above : SlotRef = pair.parent in
+    rw (take_more t.pairs i d within) (record {
+      objects = λ q. object_of-with_parent m slot above q ∙ boot.objects q;
+      queues = λ q. queue_of-with_parent m slot above q ∙ boot.queues q;
+      words = λ q. words_of-with_parent m slot above q ∙ boot.words q;
+      caps = λ q. cap_of-with_parent m slot above q ∙ boot.caps q;
+      parents = λ q. parent_of-with_parent m slot above q
+          ∙ ap (cond (same_slot q slot) (Some above)) (boot.parents q)
+          ∙ find-last (λ (p : Pair). p.child) (λ p. p.parent) (take i t.pairs) pair d
+          (below_next (λ (p : Pair). p.child) t.pairs i d rise within) q;
+      next = boot.next;
+    })
 
 -- the boot state has the slots that the table declares
-boot-has_slot : (t : Layout) (m : Machine) (slot : SlotRef) (holder : Initial) → IsBoot t m
-    → initial_of t slot.holder ≡ Some holder → slot.index < slot_count holder.object → IsTrue (has_slot m slot)
-boot-has_slot t m slot holder boot held within =
-    let at : object_of m slot.holder ≡ Some (bound t slot.holder holder.object) =
-    boot.objects slot.holder ∙ ap (option_map (λ initial. bound t slot.holder initial.object)) held in
-    rw (at, slot_count-bound t slot.holder holder.object) (lt-ltb slot.index (slot_count holder.object) within)
-
--- each slot that the table fills is there
-pub boot-has_filled :
-    (t : Layout) (m : Machine) (caps : List Filled) (n i : ℕ) (d : Filled) → IsLawful t → caps ≡ t.caps → i < length caps
-    → IsBoot (record t { caps = take n t.caps; pairs = [] }) m
-    → IsTrue (has_slot m (get_or caps i d).slot)
+pub boot-has_slot : (t : Layout) (m : Machine) (slot : SlotRef) → IsBoot t m → HasSlot t.objects slot → IsTrue (has_slot m slot)
 unfolding initial_of
-boot-has_filled t m caps n i d lawful same within boot =
-    let law : IsCapOf t (get_or caps i d) = rw same (lawful.caps i d (rw (← same) within)) in
-    boot-has_slot (record t { caps = take n t.caps; pairs = [] }) m (get_or caps i d).slot law.holder boot law.held law.slot
-
--- one slot more is filled
-pub boot-filled :
-    (t : Layout) (m : Machine) (caps : List Filled) (i : ℕ) (d : Filled) → IsLawful t → caps ≡ t.caps → i < length caps
-    → IsBoot (record t { caps = take i t.caps; pairs = [] }) m
-    → (next : Machine) → next ≡ with_cap m (get_or caps i d).slot (get_or caps i d).cap
-    → IsBoot (record t { caps = take (i + 1) t.caps; pairs = [] }) next
-boot-filled t m caps i d lawful same within boot next is =
-    let in_table : i < length t.caps = rw (← same) within in
-    let filled : Filled = get_or t.caps i d in
-    let put : next ≡ with_cap m filled.slot filled.cap =
-    is ∙ ap (λ list. with_cap m (get_or list i d).slot (get_or list i d).cap) same in
-    rw (put, take_more t.caps i d in_table)
-    (boot-cap (record t { caps = take i t.caps; pairs = [] }) m filled d boot
-    (λ k lower. below k (omega (arith, length-take-le i t.caps (omega arith))))) where
-      below : (k : ℕ) → k < i → slot_cmp (get_or (take i t.caps) k d).slot (get_or t.caps i d).slot ≡ Less
-      below k lower = rw (get_or-take i t.caps k d lower) (lawful.caps_rise k i d lower (rw (← same) within))
-
--- a table without its tree, which is empty, boots to the same state
-pub boot-tree : (t : Layout) (m : Machine) → IsLawful t → IsBoot (without_tree t) m → IsBoot t m
-boot-tree t m lawful boot =
-    let P : List Pair → Type 0 = λ pairs. IsBoot (record t { pairs = pairs }) m in subst P (sym lawful.underived) boot
+boot-has_slot t m slot boot has =
+    let holder : Object = has.holder.object in
+    let at : object_of m slot.holder ≡ Some (bound t slot.holder holder) =
+    boot.objects slot.holder ∙ ap (option_map (λ initial. bound t slot.holder initial.object)) has.held in
+    rw (at, slot_count-bound t slot.holder holder) (lt-ltb slot.index (slot_count holder) has.within)

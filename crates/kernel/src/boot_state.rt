@@ -2,6 +2,7 @@ ghost use Rattle.std.specs.Prelude.{◌≡◌, IfOk, IfErr};
 ghost use Rattle.base.specs.Refusals.{plain};
 ghost use Rattle.machine.specs.Boot.{IsBoot, IsFresh, bound};
 ghost use Rattle.machine.specs.WellFormed.{IsWellFormed};
+ghost use Rattle.table.specs.Rules.{IsLawful};
 ghost use Rattle.kernel.specs.Parts.{objects_alone, without_tree};
 
 use base::{ObjId, Refusal};
@@ -51,6 +52,18 @@ fn fill(state: &mut State, table: &Table)
     }
 }
 
+/// Gives the children of the table's derivation tree their parents in a state.
+fn derive(state: &mut State, table: &Table)
+    requires { IsBoot (without_tree table.now) state.old }
+    ensures booted { IsBoot table.now state.new }
+    ensures lawful { IsLawful table.now }
+{
+    let pairs = table.pairs();
+    for pair in pairs {
+        state.set_parent(pair.child, pair.parent);
+    }
+}
+
 /// The boot state of a capability table. It is well formed, and as the boot rule says: nothing is made
 /// of untyped memory, nobody waits or has received anything, each thread is ready or inactive as it
 /// was declared, no notification has a word, replies are free, frames are zero, and a capability
@@ -67,10 +80,7 @@ pub fn boot(alloc: Global, table: &Table) -> Result<State, Refusal>
 {
     let mut state = with_objects(alloc, table)?;
     fill(&mut state, table);
-    let pairs = table.pairs();
-    for pair in pairs {
-        state.set_parent(pair.child, pair.parent);
-    }
+    derive(&mut state, table);
     boot_states_are_well_formed();
     Ok(state)
 }

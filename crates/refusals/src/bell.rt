@@ -114,14 +114,14 @@ fn names_the_notification(table: &Table) -> bool {
 }
 
 fn has_the_root(table: &Table) -> bool {
-    match table.last_cap() {
+    match table.caps().last() {
         Some(last) => last.cap.object == ObjId(0),
         None => false,
     }
 }
 
 fn has_the_binding(table: &Table) -> bool {
-    match table.last_binding() {
+    match table.bindings().last() {
         Some(bound) => bound.thread == THREAD && bound.context == CONTEXT,
         None => false,
     }

@@ -25,3 +25,5 @@ mod states;
 mod tables;
 #[cfg(test)]
 mod verdicts;
+#[cfg(test)]
+mod writers;

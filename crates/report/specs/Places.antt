@@ -3,9 +3,12 @@ use Rattle.std.specs.Prelude.{ℕ, List, [], ◌∷◌, ◌++◌, codes, decimal
 use Rattle.base.specs.Kinds.{kind_name}
 use Rattle.base.specs.declared.ids.ObjId.{ObjId}
 use Rattle.base.specs.declared.ids.SlotRef.{SlotRef}
+use Rattle.captext.specs.Spelling.{slot_word}
+use Rattle.captext.specs.TableText.{place_in}
 use Rattle.certificate.specs.declared.denial.Denial.{Denial}
 use Rattle.certificate.specs.declared.denial.Denial.TheVariants as denial
 use Rattle.machine.specs.Layout.{Layout}
+use Rattle.table.specs.Rules.{kind_at}
 
 abbrev pub label_name : Layout → ℕ → List ℕ
 label_name t label = unwrap_or (slice_get t.labels label) []
@@ -14,18 +17,15 @@ label_name t label = unwrap_or (slice_get t.labels label) []
 abbrev pub object_name : Layout → ObjId → List ℕ
 object_name t id = unwrap_or (slice_get t.names id.0) (codes "#" ++ decimal id.0)
 
--- a slot of a CNode, where 46 is the dot
+-- a slot of a CNode by its index, and of a thread as its root
 abbrev pub slot_name : Layout → SlotRef → List ℕ
-slot_name t slot = object_name t slot.holder ++ 46 ∷ decimal slot.index
-
--- the root slot of a thread
-abbrev pub root_name : Layout → SlotRef → List ℕ
-root_name t slot = object_name t slot.holder ++ codes ".root"
+slot_name t slot = slot_word (object_name t slot.holder) (place_in (kind_at t slot.holder) slot.index)
 
 -- the place that a denial names
 abbrev pub place_names : Layout → Denial → List (List ℕ)
 place_names t (denial.SubjectsDisagree subject other kind target) =
     label_name t subject ∷ label_name t other ∷ kind_name kind ∷ label_name t target ∷ []
 place_names t (denial.Capability slot kind label) = slot_name t slot ∷ kind_name kind ∷ label_name t label ∷ []
-place_names t (denial.Root slot label) = root_name t slot ∷ codes "space" ∷ label_name t label ∷ []
+place_names t (denial.Root slot label) = slot_name t slot ∷ codes "space" ∷ label_name t label ∷ []
+place_names t (denial.Pair child parent) = slot_name t parent ∷ slot_name t child ∷ []
 place_names t (denial.Binding thread context) = object_name t thread ∷ object_name t context ∷ []

@@ -3,6 +3,7 @@ ghost use Rattle.report.specs.Places as places;
 
 use base::{Label, ObjId, SlotRef};
 use certificate::Denial;
+use machine::ObjectKind;
 use std::alloc::{AllocError, Global};
 use table::Table;
 
@@ -33,9 +34,13 @@ pub(crate) fn place_names(
             label_name(alloc, table, *label)?,
         ]?,
         Denial::Root { slot, label } => vec![in alloc;
-            root_name(alloc, table, *slot)?,
+            slot_name(alloc, table, *slot)?,
             String::from_str(alloc, "space")?,
             label_name(alloc, table, *label)?,
+        ]?,
+        Denial::Pair { child, parent } => vec![in alloc;
+            slot_name(alloc, table, *parent)?,
+            slot_name(alloc, table, *child)?,
         ]?,
         Denial::Binding { thread, context } => vec![in alloc;
             object_name(alloc, table, *thread)?,
@@ -64,12 +69,8 @@ fn slot_name(alloc: Global, table: &Table, slot: SlotRef) -> Result<String, Allo
     ensures { IfOk result (λ name. string_bytes name ≡ places.slot_name table.now slot) }
 {
     let holder = object_name(alloc, table, slot.holder)?;
-    format!(in alloc; "{holder}.{}", slot.index)
-}
-
-fn root_name(alloc: Global, table: &Table, slot: SlotRef) -> Result<String, AllocError>
-    ensures { IfOk result (λ name. string_bytes name ≡ places.root_name table.now slot) }
-{
-    let holder = object_name(alloc, table, slot.holder)?;
-    format!(in alloc; "{holder}.root")
+    match table.kind(slot.holder) {
+        Some(ObjectKind::Tcb) => format!(in alloc; "{holder}.root"),
+        _ => format!(in alloc; "{holder}.{}", slot.index),
+    }
 }

@@ -1,4 +1,4 @@
--- A table with a binding more keeps the rules.
+-- A draft with a binding more is one.
 use Rattle.std.proofs.Common.{◌≡◌, ◌≢◌, ℕ, ◌<◌, ◌||◌, Bool, true, false, cond, List, [], ◌∷◌, ◌++◌, Option, None, Some, option_map, is_some}
 use Rattle.std.proofs.Common.{length, get_or, set, get_or-set_other, get_or-set_same, refl, sym, ap, ◌∙◌, arith}
 use Rattle.std.proofs.lemmas.Bool.{false≢true, ltb-true}
@@ -21,18 +21,17 @@ use Rattle.machine.specs.Machine.{same_id}
 use Rattle.machine.proofs.LookUps.{id_total, one_id}
 use Rattle.table.specs.Aims.{IsOfThreads, thread_bound_to}
 use Rattle.table.specs.Building.{AdmitsBinding, is_above_bindings, is_above_bound, is_bound, with_binding}
-use Rattle.table.specs.Rules.{IsLawful, IsBindingOf, kind_at}
-use Rattle.table.proofs.LawfulKept.{objects_kept, caps_kept, bindings_kept}
+use Rattle.table.specs.Rules.{IsDraft, IsBindingOf, kind_at}
 use Rattle.table.proofs.ListLemmas.{all_from_last, not_any}
 
 -- threads below the last are below the new one
 below_new :
-    (t : Layout) (thread : ObjId) → IsLawful t → is_above_bindings t thread ≡ true → (k : ℕ) (d : Binding) → k < length t.bindings
+    (t : Layout) (thread : ObjId) → IsDraft t → is_above_bindings t thread ≡ true → (k : ℕ) (d : Binding) → k < length t.bindings
     → (get_or t.bindings k d).thread.0 < thread.0
 unfolding is_above_bindings
 below_new t thread h above =
     all_from_last (λ one other. one.thread.0 < other.thread.0) (λ binding. binding.thread.0 < thread.0)
-    (λ one other less below. omega arith) t.bindings h.bindings_rise
+    (λ one other less below. omega arith) t.bindings h.bindings.rise
     (λ last at. ltb-true last.thread.0 thread.0 (sym (ap (λ found. is_above_bound found thread) at) ∙ above))
 
 other_context :
@@ -43,40 +42,29 @@ other_context t context once k d within same =
     let missed = not_any (λ binding. same_id binding.context context) t.bindings once k d within in
     false≢true (sym missed ∙ ap (λ id. same_id id context) same ∙ ap is_eq (tied_itself id_total context))
 
-pub lawful_binding : (t : Layout) (binding : Binding) → IsLawful t → AdmitsBinding t binding → IsLawful (with_binding t binding)
+pub draft_binding : (t : Layout) (binding : Binding) → IsDraft t → AdmitsBinding t binding → IsDraft (with_binding t binding)
 unfolding initial_of kind_at
-lawful_binding t binding h admits = record {
-  few_labels = h.few_labels;
-  label_names = h.label_names;
-  labels_differ = h.labels_differ;
-  object_names = h.object_names;
-  names_differ = h.names_differ;
-  each_named = h.each_named;
-  few_objects = h.few_objects;
-  few_slots = h.few_slots;
-  few_threads = h.few_threads;
-  objects = objects_kept t (with_binding t binding) (omega arith) t.objects h.objects;
-  objects_apart = h.objects_apart;
-  controls_differ = h.controls_differ;
-  caps = caps_kept t (with_binding t binding) (λ id initial e. e) refl t.caps h.caps;
-  caps_rise = h.caps_rise;
-  untypeds_once = h.untypeds_once;
-  underived = h.underived;
-  bindings =
-      All-push (IsBindingOf (with_binding t binding)) t.bindings binding
-      (bindings_kept t (with_binding t binding) (λ id initial e. e) t.bindings h.bindings)
-      (record { thread = admits.thread; context = admits.context });
-  bindings_rise =
-      all_pairs_push (λ one other. one.thread.0 < other.thread.0) t.bindings binding h.bindings_rise
-      (below_new t binding.thread h admits.rises);
-  contexts_differ =
-      all_pairs_push (λ one other. one.context ≢ other.context) t.bindings binding h.contexts_differ
-      (other_context t binding.context admits.once);
+draft_binding t binding h admits = record {
+  labels = h.labels;
+  objects = h.objects;
+  caps = h.caps;
+  pairs = h.pairs;
+  bindings = record {
+    each =
+        All-push (IsBindingOf t.objects) t.bindings binding h.bindings.each
+        (record { thread = admits.thread; context = admits.context });
+    rise =
+        all_pairs_push (λ one other. one.thread.0 < other.thread.0) t.bindings binding h.bindings.rise
+        (below_new t binding.thread h admits.rises);
+    contexts_differ =
+        all_pairs_push (λ one other. one.context ≢ other.context) t.bindings binding h.bindings.contexts_differ
+        (other_context t binding.context admits.once);
+  };
 }
 
 -- the number of an object of the table is one that objects may have
 pub context_low :
-    (t : Layout) (id : ObjId) (kind : ObjectKind) → IsLawful t → kind_at t id ≡ Some kind → id.0 < OBJECT_NUMBERS
+    (t : Layout) (id : ObjId) (kind : ObjectKind) → IsDraft t → kind_at t id ≡ Some kind → id.0 < OBJECT_NUMBERS
 unfolding kind_at initial_of
 context_low t id kind h e = by (initial_of t id) refl e where
   by :
@@ -85,7 +73,7 @@ context_low t id kind h e = by (initial_of t id) refl e where
   by None none at = absurd (none-some kind at)
   by (Some initial) some at =
       let within = slice_get_within t.objects id.0 initial some in
-      let few = h.few_objects in
+      let few = h.objects.few in
       omega arith
 
 -- a context is bound where it has a thread

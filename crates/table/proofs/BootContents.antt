@@ -1,5 +1,5 @@
 -- In a boot state each object has a queue and its words, and nothing else has; and ranges are those that the table's rules allow.
-use Rattle.std.proofs.Common.{◌≡◌, ℕ, ◌≤◌, List, [], length, replicate, sym, ap, ◌∙◌, subst}
+use Rattle.std.proofs.Common.{◌≡◌, ◌≤◌, [], replicate, sym, ap, ◌∙◌, subst}
 use Rattle.std.proofs.lemmas.List.{length-replicate}
 use Rattle.std.specs.Prelude.{Some, option_map}
 use Rattle.base.specs.declared.ids.ObjId.{ObjId}

@@ -1,6 +1,7 @@
 -- A boot state is as the boot rule says.
 use Rattle.std.proofs.Common.{◌≡◌, ◌⊎◌, inl, inr, [], replicate, sym, ap, ◌∙◌, refl}
 use Rattle.std.specs.Prelude.{option_map}
+use Rattle.std.specs.Option.{option_and_then}
 use Rattle.base.specs.declared.ids.ObjId.{ObjId}
 use Rattle.machine.specs.declared.object.Object.{Object}
 use Rattle.machine.specs.declared.object.Object.TheVariants as o
@@ -8,11 +9,12 @@ use Rattle.machine.specs.declared.thread.RunState.{RunState}
 use Rattle.machine.specs.declared.thread.RunState.TheVariants as run
 use Rattle.machine.specs.declared.thread.Tcb.{Tcb}
 use Rattle.machine.specs.Boot.{IsBoot, IsFresh, bound}
-use Rattle.machine.specs.Layout.{Layout}
+use Rattle.machine.specs.Layout.{Layout, initial_cap}
 use Rattle.machine.specs.Machine.{Machine}
 use Rattle.machine.specs.Objects.{word_count}
 use Rattle.table.specs.Rules.{IsLawful, IsAtRest}
-use Rattle.table.proofs.BootParts.{at_boot, declares, cap-law}
+use Rattle.table.specs.Tree.{source_of, is_original, is_original_from}
+use Rattle.table.proofs.BootParts.{at_boot, declares, mark-law}
 use Rattle.table.proofs.BootLinks.{boot-queue}
 
 rests-cases : (state : RunState) → IsAtRest state → (state ≡ run.Ready) ⊎ (state ≡ run.Inactive)
@@ -35,6 +37,7 @@ thread-declared t id thread (o.Frame _) is = absurd cc
 thread-declared t id thread (o.Control _) is = absurd cc
 
 pub boot-fresh : (t : Layout) (m : Machine) → IsLawful t → IsBoot t m → IsFresh t m
+unfolding is_original source_of
 boot-fresh t m lawful boot = record {
   watermarks = λ id memory present. at_boot t m id (o.Untyped memory) lawful boot present;
   has_queue =
@@ -54,5 +57,8 @@ boot-fresh t m lawful boot = record {
       λ id frame present.
       boot.words id ∙ ap (option_map (λ (object : Object). replicate (word_count object) 0)) (sym (boot.objects id) ∙ present);
   originals =
-      λ slot held filled parentless. (cap-law t m slot held lawful boot filled).original (sym (boot.parents slot) ∙ parentless);
+      λ slot held filled parentless.
+      mark-law t m slot held lawful boot filled
+      ∙ ap (λ parent. is_original_from (option_and_then (initial_cap t) parent) held.detail)
+      (sym (boot.parents slot) ∙ parentless);
 }

@@ -16,7 +16,7 @@ use Rattle.machine.specs.Layout.{Layout, initial_of, bound_context, bound_thread
 use Rattle.machine.specs.Machine.{Machine, object_of, queue_of}
 use Rattle.machine.specs.Objects.{kind_of_object}
 use Rattle.machine.specs.WellFormed.{LinksAgree, IsThread, WaitsAt, IsReceivingWith}
-use Rattle.table.specs.Rules.{IsLawful, IsAtRest, kind_at}
+use Rattle.table.specs.Rules.{IsLawful, IsAtRest}
 use Rattle.table.proofs.BootParts.{at_boot, map-some, declared-present, Binds, binds-thread, binds-context, binding-law}
 use Rattle.table.proofs.BootParts.{thread-bound, context-bound}
 
@@ -65,7 +65,7 @@ context-of_kind t id _ of_kind = absurd cc
 pub boot-context :
     (t : Layout) (m : Machine) (thread id : ObjId) → IsLawful t → IsBoot t m → Binds t thread id
     → (context : Context) × (object_of m id ≡ Some (o.Context context)) × (context.thread ≡ Some thread)
-unfolding kind_at
+unfolding initial_of
 boot-context t m thread id lawful boot binds =
     let law = binding-law t thread id lawful binds in
     let found = map-some (λ (initial : Initial). kind_of_object initial.object) (initial_of t id) kind.Context law.context in
@@ -78,7 +78,7 @@ boot-context t m thread id lawful boot binds =
 pub boot-thread :
     (t : Layout) (m : Machine) (thread id : ObjId) → IsLawful t → IsBoot t m → Binds t thread id
     → (tcb : Tcb) × IsThread m thread tcb × (tcb.context ≡ Some id)
-unfolding kind_at
+unfolding initial_of
 boot-thread t m thread id lawful boot binds =
     let law = binding-law t thread id lawful binds in
     let found = map-some (λ (initial : Initial). kind_of_object initial.object) (initial_of t thread) kind.Tcb law.thread in

@@ -40,7 +40,7 @@ one-slot t m a b first second lawful boot has_first has_second same untyped =
     let one : Filled = record { slot = a; cap = first } in
     let other : Filled = record { slot = b; cap = second } in
     elim
-    (pair-cases Once t.caps one other lawful.untypeds_once (fills t m a first boot has_first)
+    (pair-cases Once t.caps one other lawful.draft.caps.untypeds_once (fills t m a first boot has_first)
     (fills t m b second boot has_second)) [
       | inl is ↦ ap (λ (filled : Filled). filled.slot) is
       | inr differ ↦ elim differ [ inl apart ↦ absurd (apart also same) | inr apart ↦ absurd (apart untyped (sym same)) ]
@@ -79,7 +79,7 @@ unmet t m low high first second lawful boot below has_first has_second meet =
     let apart : IsApart a b =
     let P : Initial → Initial → Type 0 = λ one other. IsApart one.object other.object in
     subst (λ initial. P initial other.initial) (one.in_list d)
-    (subst (P (get_or t.objects low.0 d)) (other.in_list d) (lawful.objects_apart low.0 high.0 d below other.within)) in
+    (subst (P (get_or t.objects low.0 d)) (other.in_list d) (lawful.draft.objects.apart low.0 high.0 d below other.within)) in
     let first_from : address_of first ≡ address_of a = ap address_of one.is ∙ address-bound t low a in
     let first_to : end_of first ≡ end_of a = ap end_of one.is ∙ end-bound t low a in
     let second_from : address_of second ≡ address_of b = ap address_of other.is ∙ address-bound t high b in

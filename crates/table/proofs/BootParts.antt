@@ -24,6 +24,7 @@ use Rattle.machine.specs.Layout.{Layout, initial_of, initial_cap, initial_parent
 use Rattle.machine.specs.Machine.{Machine, object_of, cap_of, parent_of, same_id, same_slot}
 use Rattle.machine.proofs.LookUps.{one_id, one_slot, id_total}
 use Rattle.table.specs.Rules.{IsLawful, IsAtRest, IsBlank, IsObjectOf, IsCapOf, IsBindingOf}
+use Rattle.table.specs.Tree.{is_original, IsPairOf}
 
 -- look-ups
 
@@ -139,10 +140,11 @@ pub declared-present :
 declared-present t m id initial boot at = boot.objects id ∙ ap (option_map (λ (initial : Initial). bound t id initial.object)) at
 
 pub declared-law :
-    (t : Layout) (id : ObjId) (object : Object) → IsLawful t → (declared : Declares t id object) → IsObjectOf t declared.initial
+    (t : Layout) (id : ObjId) (object : Object) → IsLawful t → (declared : Declares t id object)
+    → IsObjectOf (length t.labels) declared.initial
 declared-law t id object lawful declared =
-    let P : Initial → Type 0 = λ initial. IsObjectOf t initial in
-    subst P (declared.in_list declared.initial) (lawful.objects id.0 declared.initial declared.within)
+    let P : Initial → Type 0 = λ initial. IsObjectOf (length t.labels) initial in
+    subst P (declared.in_list declared.initial) (lawful.draft.objects.each id.0 declared.initial declared.within)
 
 pub at_boot :
     (t : Layout) (m : Machine) (id : ObjId) (object : Object) → IsLawful t → IsBoot t m → object_of m id ≡ Some object
@@ -167,18 +169,32 @@ fills t m slot held boot filled =
 
 pub cap-law :
     (t : Layout) (m : Machine) (slot : SlotRef) (held : Cap) → IsLawful t → IsBoot t m → cap_of m slot ≡ Some held
-    → IsCapOf t (record { slot = slot; cap = held })
+    → IsCapOf t.objects (record { slot = slot; cap = held })
 cap-law t m slot held lawful boot filled =
-    let P : Filled → Type 0 = λ filled. IsCapOf t filled in
-    All-contains P t.caps (record { slot = slot; cap = held }) lawful.caps (fills t m slot held boot filled)
+    let P : Filled → Type 0 = λ filled. IsCapOf t.objects filled in
+    All-contains P t.caps (record { slot = slot; cap = held }) lawful.draft.caps.each (fills t m slot held boot filled)
 
--- no slot has a parent
-pub parentless : (t : Layout) (m : Machine) (slot parent : SlotRef) → IsLawful t → IsBoot t m → parent_of m slot ≡ Some parent → ⊥
+-- and is marked as its source says
+pub mark-law :
+    (t : Layout) (m : Machine) (slot : SlotRef) (held : Cap) → IsLawful t → IsBoot t m → cap_of m slot ≡ Some held
+    → held.original ≡ is_original t slot held.detail
+mark-law t m slot held lawful boot filled =
+    let P : Filled → Type 0 = λ filled. filled.cap.original ≡ is_original t filled.slot filled.cap.detail in
+    All-contains P t.caps (record { slot = slot; cap = held }) lawful.marked (fills t m slot held boot filled)
+
+-- a slot and its parent are a pair of the table
+pub pair-law :
+    (t : Layout) (m : Machine) (slot parent : SlotRef) → IsLawful t → IsBoot t m → parent_of m slot ≡ Some parent
+    → IsPairOf t (record { parent = parent; child = slot })
 unfolding initial_parent
-parentless t m slot parent lawful boot joined =
-    let parent_in : List Pair → Option SlotRef =
-    λ pairs. option_map (λ (pair : Pair). pair.parent) (find (λ (pair : Pair). same_slot pair.child slot) pairs) in
-    none-some parent (sym (ap parent_in lawful.underived) ∙ sym (boot.parents slot) ∙ joined)
+pair-law t m slot parent lawful boot joined =
+    let of_slot : Pair → Bool = λ pair. same_slot pair.child slot in
+    let found = map-some (λ (pair : Pair). pair.parent) (find of_slot t.pairs) parent (sym (boot.parents slot) ∙ joined) in
+    let there = finds of_slot t.pairs found.0 found.1 in
+    let same : found.0.child ≡ slot = one_slot found.0.child slot there.1 in
+    let is : found.0 ≡ record { parent = parent; child = slot } = λ i. record { parent = sym found.2 i; child = same i } in
+    let P : Pair → Type 0 = λ pair. IsPairOf t pair in
+    subst P is (All-contains P t.pairs found.0 lawful.tree there.0)
 
 -- the table binds a thread to a context
 abbrev pub Binds : Layout → ObjId → ObjId → Type 0
@@ -186,10 +202,10 @@ Binds t thread context = Contains t.bindings (record { thread = thread; context 
 
 pub binding-law :
     (t : Layout) (thread context : ObjId) → IsLawful t → Binds t thread context
-    → IsBindingOf t (record { thread = thread; context = context })
+    → IsBindingOf t.objects (record { thread = thread; context = context })
 binding-law t thread context lawful binds =
-    let P : Binding → Type 0 = λ binding. IsBindingOf t binding in
-    All-contains P t.bindings (record { thread = thread; context = context }) lawful.bindings binds
+    let P : Binding → Type 0 = λ binding. IsBindingOf t.objects binding in
+    All-contains P t.bindings (record { thread = thread; context = context }) lawful.draft.bindings.each binds
 
 -- a thread that has a context is bound to it, and the other way round
 
@@ -219,7 +235,7 @@ thread-bound t thread context lawful binds =
       only binding has tie =
           let same : binding.thread.0 ≡ thread.0 = ap (λ (id : ObjId). id.0) (one_id binding.thread thread tie) in
           let Rises : Binding → Binding → Type 0 = λ one other. one.thread.0 < other.thread.0 in
-          elim (pair-cases Rises t.bindings binding here lawful.bindings_rise has binds) [
+          elim (pair-cases Rises t.bindings binding here lawful.draft.bindings.rise has binds) [
             | inl is ↦ is
             | inr rises ↦ elim rises [ inl below ↦ absurd (omega arith) | inr above ↦ absurd (omega arith) ]
           ]
@@ -252,7 +268,7 @@ context-bound t thread context lawful binds =
       only binding has tie =
           let same : binding.context ≡ context = one_id binding.context context tie in
           let Differ : Binding → Binding → Type 0 = λ one other. one.context ≢ other.context in
-          elim (pair-cases Differ t.bindings binding here lawful.contexts_differ has binds) [
+          elim (pair-cases Differ t.bindings binding here lawful.draft.bindings.contexts_differ has binds) [
             | inl is ↦ is
             | inr differ ↦ elim differ [ inl apart ↦ absurd (apart same) | inr apart ↦ absurd (apart (sym same)) ]
           ]

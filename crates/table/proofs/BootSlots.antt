@@ -1,5 +1,6 @@
--- The slots of a boot state fit: each is in its holder, and its capability is for an object of the kind that it says.
-use Rattle.std.proofs.Common.{◌≡◌, sym, ap, ◌∙◌, refl}
+-- The slots of a boot state fit: each is in its holder, its capability is for an object of the kind that it says, and the tree is
+-- that of the table.
+use Rattle.std.proofs.Common.{◌≡◌, inl, sym, ap, ◌∙◌, refl}
 use Rattle.std.specs.Prelude.{Some, option_map}
 use Rattle.std.proofs.lemmas.Option.{same_Some}
 use Rattle.base.specs.declared.ids.ObjId.{ObjId}
@@ -16,9 +17,10 @@ use Rattle.machine.specs.Capabilities.{kind_of_detail}
 use Rattle.machine.specs.Layout.{Layout, initial_of}
 use Rattle.machine.specs.Machine.{Machine, cap_of}
 use Rattle.machine.specs.Objects.{kind_of_object}
-use Rattle.machine.specs.WellFormed.{SlotsFit, Descends, child, further, kind_of}
+use Rattle.machine.specs.WellFormed.{SlotsFit, kind_of}
 use Rattle.table.specs.Rules.{IsLawful, IsDetailOf}
-use Rattle.table.proofs.BootParts.{declared-present, cap-law, parentless}
+use Rattle.table.proofs.BootParts.{declared-present, cap-law}
+use Rattle.table.proofs.BootTree.{boot-acyclic, boot-joined}
 
 -- a detail that fits an object is of the object's kind
 kind-detail : (object : Object) (detail : Detail) → IsDetailOf object detail → kind_of_object object ≡ kind_of_detail detail
@@ -45,32 +47,36 @@ kind-present t m id initial boot at =
 pub kind-aimed :
     (t : Layout) (m : Machine) (slot : SlotRef) (held : Cap) → IsLawful t → IsBoot t m → cap_of m slot ≡ Some held
     → kind_of m held.object ≡ Some (kind_of_detail held.detail)
+unfolding initial_of
 kind-aimed t m slot held lawful boot filled =
     let law = cap-law t m slot held lawful boot filled in
     kind-present t m held.object law.target boot law.aimed
     ∙ ap (λ found. Some found) (kind-detail law.target.object held.detail law.detail)
 
--- no slot descends from any
-undescended : (t : Layout) (m : Machine) (slot above : SlotRef) → IsLawful t → IsBoot t m → Descends m slot above → ⊥
-undescended t m slot above lawful boot (child joined) = parentless t m _ _ lawful boot joined
-undescended t m slot above lawful boot (further joined rest) = parentless t m _ _ lawful boot joined
-
 pub boot-slots : (t : Layout) (m : Machine) → IsLawful t → IsBoot t m → SlotsFit m
-boot-slots t m lawful boot = record {
-  holder =
-      λ slot held filled.
-      let law = cap-law t m slot held lawful boot filled in (
-        bound t slot.holder law.holder.object,
-        declared-present t m slot.holder law.holder boot law.held,
-        rw slot_count-bound law.slot,
-      );
-  object = λ slot held filled. kind-aimed t m slot held lawful boot filled;
-  root =
-      λ slot held filled of_thread.
-      let law = cap-law t m slot held lawful boot filled in
-      law.root (same_Some _ _ (sym (kind-present t m slot.holder law.holder boot law.held) ∙ of_thread));
-  child_filled = λ slot parent joined. absurd (parentless t m slot parent lawful boot joined);
-  parent_filled = λ slot parent joined. absurd (parentless t m slot parent lawful boot joined);
-  acyclic = λ slot descends. undescended t m slot slot lawful boot descends;
-  kin = λ slot parent below above joined _ _. absurd (parentless t m slot parent lawful boot joined);
-}
+unfolding initial_of
+boot-slots t m lawful boot =
+    let joined = boot-joined t m lawful boot in
+    record {
+      holder =
+          λ slot held filled.
+          let place = (cap-law t m slot held lawful boot filled).place in (
+            bound t slot.holder place.holder.object,
+            declared-present t m slot.holder place.holder boot place.held,
+            rw slot_count-bound place.within,
+          );
+      object = λ slot held filled. kind-aimed t m slot held lawful boot filled;
+      root =
+          λ slot held filled of_thread.
+          let law = cap-law t m slot held lawful boot filled in
+          law.root (same_Some _ _ (sym (kind-present t m slot.holder law.place.holder boot law.place.held) ∙ of_thread));
+      child_filled = λ slot parent joins. let pair = joined slot parent joins in (pair.below, pair.child);
+      parent_filled = λ slot parent joins. let pair = joined slot parent joins in (pair.above, pair.parent);
+      acyclic = λ slot descends. boot-acyclic t m slot lawful boot descends;
+      kin =
+          λ slot parent below above joins has_below has_above.
+          let pair = joined slot parent joins in
+          let lower : pair.below ≡ below = same_Some _ _ (sym pair.child ∙ has_below) in
+          let upper : pair.above ≡ above = same_Some _ _ (sym pair.parent ∙ has_above) in
+          inl ((λ i. (sym lower i).object) ∙ sym pair.object ∙ (λ i. (upper i).object));
+    }

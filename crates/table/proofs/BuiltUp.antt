@@ -1,44 +1,65 @@
--- The tables that keep the rules are those that are built up item by item.
-use Rattle.std.proofs.Common.{◌≡◌, ℕ, List, [], ◌∷◌, ◌++◌, length, refl, sym, ap, subst, arith}
+-- The drafts whose capabilities are all marked original are those that are built up item by item.
+use Rattle.std.proofs.Common.{◌≡◌, ℕ, true, All, List, [], ◌∷◌, ◌++◌, length, option_map, refl, sym, ap, subst, ◌∙◌, arith}
 use Rattle.std.proofs.lemmas.List.{append-nil, append_assoc}
-use Rattle.machine.specs.declared.layout.Binding.{Binding}
+use Rattle.std.proofs.lemmas.List.Elements.{All-nil, All-push, All-weaker}
+use Rattle.std.specs.List.{find}
+use Rattle.std.specs.Option.{option_and_then}
+use Rattle.base.specs.declared.ids.SlotRef.{SlotRef}
+use Rattle.machine.specs.declared.cap.Detail.{Detail}
 use Rattle.machine.specs.declared.layout.Filled.{Filled}
 use Rattle.machine.specs.declared.layout.Initial.{Initial}
 use Rattle.machine.specs.declared.layout.Pair.{Pair}
-use Rattle.machine.specs.Layout.{Layout, empty_layout}
-use Rattle.table.specs.Items.{Item, LabelItem, ObjectItem, CapItem, BindingItem, with_item, Admits, ComesNow, IsBuiltUp, none}
+use Rattle.machine.specs.Layout.{Layout, empty_layout, initial_cap, initial_parent}
+use Rattle.machine.specs.Machine.{same_slot}
+use Rattle.table.specs.Items.{Item, LabelItem, ObjectItem, CapItem, PairItem, BindingItem, with_item, Admits, ComesNow, IsBuiltUp, none}
 use Rattle.table.specs.Items.{more}
-use Rattle.table.specs.Rules.{IsLawful}
-use Rattle.table.proofs.LawfulKept.{lawful_empty}
-use Rattle.table.proofs.LabelAdded.{lawful_label}
-use Rattle.table.proofs.ObjectAdded.{lawful_initial}
-use Rattle.table.proofs.CapAdded.{lawful_filled}
-use Rattle.table.proofs.BindingAdded.{lawful_binding}
+use Rattle.table.specs.Rules.{IsDraft, IsLawful}
+use Rattle.table.specs.Tree.{is_original, is_original_from, source_of, IsPairOf}
+use Rattle.table.proofs.DraftKept.{draft_empty}
+use Rattle.table.proofs.Pairs.{draft_pair, pair_removed}
+use Rattle.table.proofs.LabelAdded.{draft_label}
+use Rattle.table.proofs.ObjectAdded.{draft_initial}
+use Rattle.table.proofs.CapAdded.{draft_filled}
+use Rattle.table.proofs.BindingAdded.{draft_binding}
 use Rattle.table.proofs.LabelRemoved.{label_removed}
 use Rattle.table.proofs.ObjectRemoved.{object_removed}
 use Rattle.table.proofs.CapRemoved.{cap_removed}
 use Rattle.table.proofs.BindingRemoved.{binding_removed}
-use Rattle.table.proofs.FrontLemmas.{from_front}
+use Rattle.table.proofs.FrontLemmas.{all_front, all_of_none, from_front}
 
-lawful_item : (t : Layout) (item : Item) → IsLawful t → Admits t item → IsLawful (with_item t item)
-lawful_item t (LabelItem name) h admits = lawful_label t name h admits
-lawful_item t (ObjectItem name initial) h admits = lawful_initial t name initial h admits
-lawful_item t (CapItem filled) h admits = lawful_filled t filled h admits
-lawful_item t (BindingItem binding) h admits = lawful_binding t binding h admits
+-- each capability is marked original
+abbrev pub AllOriginal : Layout → Type 0
+AllOriginal t = All (λ filled. filled.cap.original ≡ true) t.caps
 
-pub lawful_from_built : {t : Layout} → IsBuiltUp t → IsLawful t
-lawful_from_built none = lawful_empty
-lawful_from_built (more {t} item built now admits) = lawful_item t item (lawful_from_built built) admits
+-- what is built up so far: a draft whose capabilities are all marked original
+abbrev IsBuilt : Layout → Type 0
+IsBuilt t = IsDraft t × AllOriginal t
 
-item_removed : (t : Layout) (item : Item) → ComesNow t item → IsLawful (with_item t item) → IsLawful t × Admits t item
-item_removed t (LabelItem name) now h = label_removed t name now h
-item_removed t (ObjectItem name initial) now h = object_removed t name initial now h
-item_removed t (CapItem filled) now h = cap_removed t filled now h
-item_removed t (BindingItem binding) now h = binding_removed t binding h
+item_added : (t : Layout) (item : Item) → IsBuilt t → Admits t item → IsBuilt (with_item t item)
+item_added t (LabelItem name) h admits = (draft_label t name h.0 admits, h.1)
+item_added t (ObjectItem name initial) h admits = (draft_initial t name initial h.0 admits, h.1)
+item_added t (CapItem filled) h admits =
+    (draft_filled t filled h.0 admits, All-push (λ (f : Filled). f.cap.original ≡ true) t.caps filled h.1 admits.original)
+item_added t (PairItem pair) h admits = (draft_pair t pair h.0 admits, h.1)
+item_added t (BindingItem binding) h admits = (draft_binding t binding h.0 admits, h.1)
+
+pub draft_from_built : {t : Layout} → IsBuiltUp t → IsDraft t × AllOriginal t
+draft_from_built none = (draft_empty, All-nil _)
+draft_from_built (more {t} item built now admits) = item_added t item (draft_from_built built) admits
+
+item_removed : (t : Layout) (item : Item) → ComesNow t item → IsBuilt (with_item t item) → IsBuilt t × Admits t item
+item_removed t (LabelItem name) now h = let front = label_removed t name now h.0 in ((front.0, h.1), front.1)
+item_removed t (ObjectItem name initial) now h = let front = object_removed t name initial now h.0 in ((front.0, h.1), front.1)
+item_removed t (CapItem filled) now h =
+    let originals = all_front (λ (f : Filled). f.cap.original ≡ true) t.caps filled h.1 in
+    let front = cap_removed t filled originals.1 h.0 in
+    ((front.0, originals.0), front.1)
+item_removed t (PairItem pair) now h = let front = pair_removed t pair h.0 in ((front.0, h.1), front.1)
+item_removed t (BindingItem binding) now h = let front = binding_removed t binding h.0 in ((front.0, h.1), front.1)
 
 -- a table that is built up where it keeps the rules
 abbrev Builds : Layout → Type 0
-Builds t = IsLawful t → IsBuiltUp t
+Builds t = IsBuilt t → IsBuiltUp t
 
 one_more : (t : Layout) (item : Item) → ComesNow t item → Builds t → Builds (with_item t item)
 one_more t item now builds h = let front = item_removed t item now h in more item (builds front.0) now front.1
@@ -52,11 +73,10 @@ abbrev with_objects : List (List ℕ) → List (List ℕ) → List Initial → L
 with_objects labels names objects = record empty_layout { labels = labels; names = names; objects = objects }
 
 abbrev with_caps : Layout → List Filled → Layout
-with_caps t caps = record empty_layout { labels = t.labels; names = t.names; objects = t.objects; caps = caps }
+with_caps t caps = record t { caps = caps; pairs = []; bindings = [] }
 
-abbrev with_bindings : Layout → List Binding → Layout
-with_bindings t bindings =
-    record empty_layout { labels = t.labels; names = t.names; objects = t.objects; caps = t.caps; bindings = bindings }
+abbrev with_pairs : Layout → List Pair → Layout
+with_pairs t pairs = record t { pairs = pairs; bindings = [] }
 
 by_labels : (labels : List (List ℕ)) → Builds (with_labels labels)
 by_labels labels =
@@ -85,14 +105,46 @@ by_caps t start =
     from_front (λ front. Builds (with_caps t front)) (λ front filled. one_more (with_caps t front) (CapItem filled) (refl, refl))
     [] t.caps start
 
-by_bindings : (t : Layout) → Builds (with_bindings t []) → Builds (with_bindings t t.bindings)
-by_bindings t start =
-    from_front (λ front. Builds (with_bindings t front))
-    (λ front binding. one_more (with_bindings t front) (BindingItem binding) tt) [] t.bindings start
+by_pairs : (t : Layout) → Builds (with_pairs t []) → Builds (with_pairs t t.pairs)
+by_pairs t start =
+    from_front (λ front. Builds (with_pairs t front)) (λ front pair. one_more (with_pairs t front) (PairItem pair) refl)
+    [] t.pairs start
 
-pub built_from_lawful : (t : Layout) → IsLawful t → IsBuiltUp t
-built_from_lawful t h =
-    let objects : Builds (with_caps t []) = by_objects t.labels [] [] t.names t.objects h.each_named (by_labels t.labels) in
-    let all : Builds (with_bindings t t.bindings) = by_bindings t (by_caps t objects) in
-    let none : (record t { pairs = [] }) ≡ t = ap (λ (pairs : List Pair). record t { pairs = pairs }) (sym h.underived) in
-    subst Builds none all h
+by_bindings : (t : Layout) → Builds (record t { bindings = [] }) → Builds t
+by_bindings t start =
+    from_front (λ front. Builds (record t { bindings = front }))
+    (λ front binding. one_more (record t { bindings = front }) (BindingItem binding) tt) [] t.bindings start
+
+pub built_from_draft : (t : Layout) → IsDraft t → AllOriginal t → IsBuiltUp t
+built_from_draft t draft original =
+    let objects : Builds (with_caps t []) = by_objects t.labels [] [] t.names t.objects draft.objects.named (by_labels t.labels) in
+    by_bindings t (by_pairs t (by_caps t objects)) (draft, original)
+
+-- without pairs each capability is original
+
+original_unpaired : (t : Layout) → t.pairs ≡ [] → (slot : SlotRef) (detail : Detail) → is_original t slot detail ≡ true
+unfolding is_original source_of initial_parent
+original_unpaired t unpaired slot detail =
+    ap
+    (λ pairs.
+    is_original_from
+    (option_and_then (initial_cap t) (option_map (λ pair. pair.parent) (find (λ pair. same_slot pair.child slot) pairs)))
+    detail)
+    unpaired
+
+pub built_unpaired : (t : Layout) → t.pairs ≡ [] → IsLawful t → IsBuiltUp t
+built_unpaired t unpaired lawful =
+    built_from_draft t lawful.draft
+    (All-weaker (λ (f : Filled). f.cap.original ≡ is_original t f.slot f.cap.detail) (λ f. f.cap.original ≡ true)
+    (λ filled is. is ∙ original_unpaired t unpaired filled.slot filled.cap.detail) t.caps lawful.marked)
+
+pub unpaired_built : (t : Layout) → t.pairs ≡ [] → IsBuiltUp t → IsLawful t
+unpaired_built t unpaired built =
+    let draft = draft_from_built built in
+    record {
+      draft = draft.0;
+      marked =
+          All-weaker (λ (f : Filled). f.cap.original ≡ true) (λ f. f.cap.original ≡ is_original t f.slot f.cap.detail)
+          (λ filled is. is ∙ sym (original_unpaired t unpaired filled.slot filled.cap.detail)) t.caps draft.1;
+      tree = all_of_none (IsPairOf t) t.pairs unpaired;
+    }

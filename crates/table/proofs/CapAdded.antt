@@ -1,15 +1,14 @@
--- A table with a filled slot more keeps the rules.
+-- A draft with a filled slot more is one.
 use Rattle.std.proofs.Common.{◌≡◌, ◌≢◌, ℕ, ◌<◌, true, false, ◌&&◌, length, get_or, Option, None, Some, refl, sym, ap, ◌∙◌, arith}
 use Rattle.std.proofs.lemmas.Bool.{false≢true, not-true, ltb-true, leb-true, and_parts}
 use Rattle.std.proofs.lemmas.List.Elements.{All-push}
 use Rattle.std.proofs.lemmas.List.Quantifiers.{all_pairs_push}
-use Rattle.std.specs.Ordering.{is_lt, is_eq}
-use Rattle.std.specs.declared.cmp.Ordering.TheVariants.{Less, Equal, Greater}
-use Rattle.std.specs.declared.cmp.Ordering.{Ordering}
+use Rattle.std.specs.Ordering.{is_eq}
+use Rattle.std.specs.declared.cmp.Ordering.TheVariants.{Less}
 use Rattle.std.proofs.lemmas.Cmp.{tied_itself}
 use Rattle.std.proofs.lemmas.Option.{slice_get_within}
-use Rattle.base.specs.declared.ids.SlotRef.{SlotRef}
 use Rattle.base.specs.declared.limits.TheConstants.{OBJECT_NUMBERS}
+use Rattle.machine.specs.declared.cap.Badged.{Badged}
 use Rattle.machine.specs.declared.cap.Cap.{Cap}
 use Rattle.machine.specs.declared.cap.Detail.{Detail}
 use Rattle.machine.specs.declared.cap.Detail.TheVariants as d
@@ -21,32 +20,29 @@ use Rattle.machine.specs.declared.object.ObjectKind.TheVariants as kind
 use Rattle.machine.specs.Capabilities.{kind_of_detail}
 use Rattle.machine.specs.Layout.{Layout, initial_of}
 use Rattle.machine.specs.Machine.{slot_cmp, same_id}
-use Rattle.machine.proofs.LookUps.{slot_total, id_total}
-use Rattle.machine.specs.Objects.{kind_of_object, slot_count}
-use Rattle.table.specs.Building.{AdmitsCap, declares_slot, is_above_caps, has_index, may_hold, fits, fits_target, is_fitting}
-use Rattle.table.specs.Building.{is_above_filled, is_for_untyped, has_cap_to, repeats_untyped, with_filled}
-use Rattle.table.specs.Rules.{IsLawful, IsCapOf, IsDetailOf, is_tcb}
-use Rattle.table.proofs.LawfulKept.{objects_kept, caps_kept, bindings_kept}
-use Rattle.table.proofs.ListLemmas.{all_from_last, not_any}
+use Rattle.machine.proofs.LookUps.{id_total}
+use Rattle.machine.specs.Objects.{kind_of_object}
+use Rattle.table.specs.Building.{AdmitsCap, is_above_caps, may_hold, fits, fits_target, is_fitting}
+use Rattle.table.specs.Building.{is_badged, has_cap_to, repeats_untyped, with_filled}
+use Rattle.table.specs.Tree.{is_for_untyped}
+use Rattle.table.specs.Rules.{IsDraft, IsBadged, IsCapOf, IsDetailOf, is_tcb}
+use Rattle.table.proofs.ListLemmas.{not_any}
+use Rattle.table.proofs.Slots.{below_new, has_slot}
+
+badged_is : (rights : ℕ) (end : Badged) → is_badged rights end ≡ true → IsBadged rights end
+badged_is rights end e = let parts = and_parts _ _ e in (ltb-true _ _ parts.0, ltb-true _ _ parts.1)
 
 detail_fits : (object : Object) (detail : Detail) → fits object detail ≡ true → IsDetailOf object detail
 detail_fits (o.Untyped _) d.Untyped e = tt
 detail_fits (o.CNode node) (d.CNode guard) e = let parts = and_parts _ _ e in (leb-true _ _ parts.0, ltb-true _ _ parts.1)
 detail_fits (o.Tcb _) d.Tcb e = tt
-detail_fits (o.Endpoint _) (d.Endpoint end) e = ltb-true _ _ e
-detail_fits (o.Notification _) (d.Notification end) e = ltb-true _ _ e
+detail_fits (o.Endpoint _) (d.Endpoint end) e = badged_is _ end e
+detail_fits (o.Notification _) (d.Notification end) e = badged_is _ end e
 detail_fits (o.Reply _) d.Reply e = tt
 detail_fits (o.Context _) d.Context e = tt
 detail_fits (o.Frame _) (d.Frame rights) e = ltb-true _ _ e
 detail_fits (o.Control _) d.Control e = tt
 detail_fits _ _ e = absurd (false≢true e)
-
--- a slot that is there has a holder
-pub holder_of :
-    (found : Option Initial) (index : ℕ) → has_index found index ≡ true
-    → (holder : Initial) × (found ≡ Some holder) × (index < slot_count holder.object)
-holder_of None index e = absurd (false≢true e)
-holder_of (Some holder) index e = (holder, refl, ltb-true _ _ e)
 
 -- a capability that fits has an object
 pub target_of :
@@ -67,12 +63,12 @@ no_tcb (o.Frame _) e at = cc
 no_tcb (o.Control _) e at = cc
 
 -- a capability that fits is for an object with a small number
-pub aimed_low : (t : Layout) (cap : Cap) → IsLawful t → is_fitting t cap ≡ true → cap.object.0 < OBJECT_NUMBERS
+pub aimed_low : (t : Layout) (cap : Cap) → IsDraft t → is_fitting t cap ≡ true → cap.object.0 < OBJECT_NUMBERS
 unfolding initial_of is_fitting
 aimed_low t cap h e =
     let target = target_of _ _ e in
     let within = slice_get_within t.objects cap.object.0 target.0 target.1 in
-    let few = h.few_objects in
+    let few = h.objects.few in
     omega arith
 
 -- a thread's root slot holds a CNode's capability
@@ -89,22 +85,7 @@ root_holds holder d.Context e at = absurd (no_tcb holder.object (not-true _ e) a
 root_holds holder (d.Frame _) e at = absurd (no_tcb holder.object (not-true _ e) at)
 root_holds holder d.Control e at = absurd (no_tcb holder.object (not-true _ e) at)
 
-is_less : (r : Ordering) → is_lt r ≡ true → r ≡ Less
-is_less Less e = refl
-is_less Equal e = absurd (false≢true e)
-is_less Greater e = absurd (false≢true e)
-
--- slots below the last are below the new one
-below_new :
-    (t : Layout) (slot : SlotRef) → IsLawful t → is_above_caps t slot ≡ true → (k : ℕ) (d : Filled) → k < length t.caps
-    → slot_cmp (get_or t.caps k d).slot slot ≡ Less
-unfolding is_above_caps
-below_new t slot h above =
-    all_from_last (λ one other. slot_cmp one.slot other.slot ≡ Less) (λ filled. slot_cmp filled.slot slot ≡ Less)
-    (λ one other less below. slot_total.trans one.slot other.slot slot less below) t.caps h.caps_rise
-    (λ last at. is_less _ (sym (ap (λ found. is_above_filled found slot) at) ∙ above))
-
-untyped_at : (detail : Detail) → kind_of_detail detail ≡ kind.Untyped → is_for_untyped detail ≡ true
+pub untyped_at : (detail : Detail) → kind_of_detail detail ≡ kind.Untyped → is_for_untyped detail ≡ true
 untyped_at d.Untyped e = refl
 untyped_at (d.CNode _) e = cc
 untyped_at d.Tcb e = cc
@@ -124,46 +105,34 @@ other_object t cap once at k d within same =
     let missed = not_any (λ filled. same_id filled.cap.object cap.object) t.caps none k d within in
     false≢true (sym missed ∙ ap (λ id. same_id id cap.object) same ∙ ap is_eq (tied_itself id_total cap.object))
 
-pub lawful_filled : (t : Layout) (filled : Filled) → IsLawful t → AdmitsCap t filled → IsLawful (with_filled t filled)
-unfolding initial_of declares_slot is_fitting
-lawful_filled t filled h admits = record {
-  few_labels = h.few_labels;
-  label_names = h.label_names;
-  labels_differ = h.labels_differ;
-  object_names = h.object_names;
-  names_differ = h.names_differ;
-  each_named = h.each_named;
-  few_objects = h.few_objects;
-  few_slots = h.few_slots;
-  few_threads = h.few_threads;
-  objects = objects_kept t (with_filled t filled) (omega arith) t.objects h.objects;
-  objects_apart = h.objects_apart;
-  controls_differ = h.controls_differ;
-  caps =
-      All-push (IsCapOf (with_filled t filled)) t.caps filled
-      (caps_kept t (with_filled t filled) (λ id initial e. e) refl t.caps h.caps)
-      (let holder = holder_of _ _ admits.slot in
-      let target = target_of _ _ admits.fits in
-      record {
-        holder = holder.0;
-        target = target.0;
-        held = holder.1;
-        aimed = target.1;
-        slot = holder.2;
-        root =
-            root_holds holder.0 filled.cap.detail (sym (ap (λ found. may_hold found filled.cap.detail) holder.1) ∙ admits.root);
-        detail = target.2;
-        original = λ _. admits.original;
-      });
-  caps_rise =
-      all_pairs_push (λ one other. slot_cmp one.slot other.slot ≡ Less) t.caps filled h.caps_rise
-      (below_new t filled.slot h admits.rises);
-  untypeds_once =
-      all_pairs_push (λ one other. kind_of_detail other.cap.detail ≡ kind.Untyped → one.cap.object ≢ other.cap.object) t.caps
-      filled h.untypeds_once
-      (λ k d within at. other_object t filled.cap admits.once at k d within);
-  underived = h.underived;
-  bindings = bindings_kept t (with_filled t filled) (λ id initial e. e) t.bindings h.bindings;
-  bindings_rise = h.bindings_rise;
-  contexts_differ = h.contexts_differ;
-}
+pub draft_filled : (t : Layout) (filled : Filled) → IsDraft t → AdmitsCap t filled → IsDraft (with_filled t filled)
+unfolding initial_of is_above_caps is_fitting
+draft_filled t filled h admits =
+    let place = has_slot t filled.slot admits.slot in
+    let target = target_of _ _ admits.fits in
+    record {
+      labels = h.labels;
+      objects = h.objects;
+      caps = record {
+        each =
+            All-push (IsCapOf t.objects) t.caps filled h.caps.each
+            (record {
+              place = place;
+              target = target.0;
+              aimed = target.1;
+              root =
+                  root_holds place.holder filled.cap.detail
+                  (sym (ap (λ found. may_hold found filled.cap.detail) place.held) ∙ admits.root);
+              detail = target.2;
+            });
+        rise =
+            all_pairs_push (λ one other. slot_cmp one.slot other.slot ≡ Less) t.caps filled h.caps.rise
+            (below_new (λ filled. filled.slot) t.caps filled.slot h.caps.rise admits.rises);
+        untypeds_once =
+            all_pairs_push (λ one other. kind_of_detail other.cap.detail ≡ kind.Untyped → one.cap.object ≢ other.cap.object)
+            t.caps filled h.caps.untypeds_once
+            (λ k d within at. other_object t filled.cap admits.once at k d within);
+      };
+      pairs = h.pairs;
+      bindings = h.bindings;
+    }

@@ -22,7 +22,7 @@ is_some-cond : (b : Bool) (n : ℕ) → is_some (cond b (Some n) None) ≡ b
 is_some-cond true n = refl
 is_some-cond false n = refl
 
-list_any-position : {X : Type 0} (p : X → Bool) (xs : List X) → list_any p xs ≡ nat_lt (position_or_len p xs) (length xs)
+pub list_any-position : {X : Type 0} (p : X → Bool) (xs : List X) → list_any p xs ≡ nat_lt (position_or_len p xs) (length xs)
 list_any-position p [] = refl
 list_any-position p (x ∷ xs) = by (p x) (list_any p xs) (position_or_len p xs) (length xs) (list_any-position p xs) where
   by : (b any : Bool) (n len : ℕ) → any ≡ nat_lt n len → (b || any) ≡ nat_lt (cond (not b) (1 + n) 0) (suc len)

@@ -1,6 +1,6 @@
--- A table with an object more keeps the rules.
-use Rattle.std.proofs.Common.{◌≡◌, ◌≢◌, ℕ, ◌+◌, ◌<◌, ◌≤◌, Bool, true, false, cond, not, nat_lt, nat_le, ◌||◌, ◌&&◌, List, [], ◌∷◌}
-use Rattle.std.proofs.Common.{length, get_or, refl, sym, ap, ◌∙◌, arith}
+-- A draft with an object more is one.
+use Rattle.std.proofs.Common.{◌≡◌, ◌≢◌, ℕ, ◌+◌, ◌<◌, ◌≤◌, Bool, true, false, cond, not, nat_lt, nat_le, ◌||◌, ◌&&◌, List, [], ◌∷◌, ◌++◌}
+use Rattle.std.proofs.Common.{length, get_or, sym, ap, ◌∙◌, arith}
 use Rattle.std.proofs.lemmas.Bool.{not-true, eqb-true, false≢true, false_from_ne_true, ltb-true, leb-true, and_parts}
 use Rattle.std.proofs.lemmas.Bool.Decides.{nat_tests}
 use Rattle.std.proofs.lemmas.List.{length_push}
@@ -11,15 +11,15 @@ use Rattle.base.specs.declared.limits.TheConstants.{MAX_OBJECTS, MAX_SLOTS, MAX_
 use Rattle.machine.specs.declared.layout.Initial.{Initial}
 use Rattle.machine.specs.declared.object.Object.{Object}
 use Rattle.machine.specs.declared.object.Object.TheVariants as o
-use Rattle.machine.specs.Layout.{Layout, initial_of}
+use Rattle.machine.specs.Layout.{Layout}
 use Rattle.machine.specs.Objects.{address_of, end_of, slot_count}
 use Rattle.table.specs.Building.{AdmitsObject, has_room, is_free, has_control, repeats_control, with_initial}
 use Rattle.table.specs.Names.{object_named}
 use Rattle.words.specs.Name.{is_name}
 use Rattle.table.specs.Placement.{IsApart, meets}
-use Rattle.table.specs.Rules.{IsLawful, IsObjectOf, is_control_of, is_tcb, slots_in, threads_in}
+use Rattle.table.specs.Rules.{IsDraft, IsObjectOf, is_control_of, is_tcb, slots_in, threads_in}
 use Rattle.table.proofs.LabelAdded.{differs}
-use Rattle.table.proofs.LawfulKept.{objects_kept, Keeps, caps_kept, bindings_kept}
+use Rattle.table.proofs.DraftKept.{Keeps, caps_kept, pairs_kept, bindings_kept}
 use Rattle.table.proofs.ListLemmas.{not_any, slice_get-append_left}
 use Rattle.table.proofs.NameLemmas.{is_some-option_map}
 
@@ -44,10 +44,6 @@ control_at t (o.Reply _) core once at = absurd (false≢true at)
 control_at t (o.Context _) core once at = absurd (false≢true at)
 control_at t (o.Frame _) core once at = absurd (false≢true at)
 
-pub keeps_initial : (t : Layout) (name : List ℕ) (initial : Initial) → Keeps t (with_initial t name initial)
-unfolding initial_of
-keeps_initial t name initial id found e = slice_get-append_left t.objects (initial ∷ []) id.0 found e
-
 -- what room for an object says of the three counts
 within_limits :
     (objects slots more threads : ℕ) (thread : Bool)
@@ -61,54 +57,55 @@ within_limits objects slots more threads thread e few =
       more_threads true e = grind (arith, nat_tests)
       more_threads false e = omega arith
 
-pub lawful_initial :
-    (t : Layout) (name : List ℕ) (initial : Initial) → IsLawful t → AdmitsObject t name initial
-    → IsLawful (with_initial t name initial)
+pub draft_initial :
+    (t : Layout) (name : List ℕ) (initial : Initial) → IsDraft t → AdmitsObject t name initial
+    → IsDraft (with_initial t name initial)
 unfolding object_named has_room is_free has_control
-lawful_initial t name initial h admits = record {
-  few_labels = h.few_labels;
-  label_names = h.label_names;
-  labels_differ = h.labels_differ;
-  object_names = All-push (λ other. is_name other ≡ true) t.names name h.object_names admits.spelled;
-  names_differ =
-      all_pairs_push ◌≢◌ t.names name h.names_differ (differs name t.names (sym (is_some-option_map _ _) ∙ admits.fresh));
-  each_named = length_push t.names name ∙ ap (λ n. n + 1) h.each_named ∙ sym (length_push t.objects initial);
-  few_objects = let size = length_push t.objects initial in let room = limits.0 in omega arith;
-  few_slots =
-      let total = sum_by_push (λ (i : Initial). slot_count i.object) t.objects initial in let room = limits.1 in omega arith;
-  few_threads =
-      let total = sum_by_push (λ (i : Initial). cond (is_tcb i.object) 1 0) t.objects initial in
-      let room = limits.2 in omega arith;
-  objects =
-      All-push (IsObjectOf (with_initial t name initial)) t.objects initial
-      (objects_kept t (with_initial t name initial) (omega arith) t.objects h.objects)
-      (record { label = admits.label; blank = admits.blank; aligned = admits.aligned; end = admits.end });
-  objects_apart =
-      all_pairs_push (λ one other. IsApart one.object other.object) t.objects initial h.objects_apart
-      (λ k d within.
-      apart_from_meets (get_or t.objects k d).object initial.object
-      (not_any (λ i. meets i.object initial.object) t.objects (not-true _ admits.free) k d within));
-  controls_differ =
-      all_pairs_push (λ one other. (core : ℕ) → is_control_of one.object core ≡ true → is_control_of other.object core ≡ false)
-      t.objects initial h.controls_differ
-      (λ k d within core at.
-      other_core (get_or t.objects k d) core at
-      (λ at2.
-      not_any (λ i. is_control_of i.object core) t.objects (control_at t initial.object core admits.controls at2) k d within));
-  caps = caps_kept t (with_initial t name initial) (keeps_initial t name initial) refl t.caps h.caps;
-  caps_rise = h.caps_rise;
-  untypeds_once = h.untypeds_once;
-  underived = h.underived;
-  bindings = bindings_kept t (with_initial t name initial) (keeps_initial t name initial) t.bindings h.bindings;
-  bindings_rise = h.bindings_rise;
-  contexts_differ = h.contexts_differ;
+draft_initial t name initial h admits = record {
+  labels = h.labels;
+  objects = record {
+    spelled = All-push (λ other. is_name other ≡ true) t.names name h.objects.spelled admits.spelled;
+    differ =
+        all_pairs_push ◌≢◌ t.names name h.objects.differ
+        (differs name t.names (sym (is_some-option_map _ _) ∙ admits.fresh));
+    named = length_push t.names name ∙ ap (λ n. n + 1) h.objects.named ∙ sym (length_push t.objects initial);
+    few = let size = length_push t.objects initial in let room = limits.0 in omega arith;
+    few_slots =
+        let total = sum_by_push (λ (i : Initial). slot_count i.object) t.objects initial in
+        let room = limits.1 in omega arith;
+    few_threads =
+        let total = sum_by_push (λ (i : Initial). cond (is_tcb i.object) 1 0) t.objects initial in
+        let room = limits.2 in omega arith;
+    each =
+        All-push (IsObjectOf (length t.labels)) t.objects initial h.objects.each
+        (record { label = admits.label; blank = admits.blank; aligned = admits.aligned; end = admits.end });
+    apart =
+        all_pairs_push (λ one other. IsApart one.object other.object) t.objects initial h.objects.apart
+        (λ k d within.
+        apart_from_meets (get_or t.objects k d).object initial.object
+        (not_any (λ i. meets i.object initial.object) t.objects (not-true _ admits.free) k d within));
+    controls_differ =
+        all_pairs_push
+        (λ one other. (core : ℕ) → is_control_of one.object core ≡ true → is_control_of other.object core ≡ false)
+        t.objects initial h.objects.controls_differ
+        (λ k d within core at.
+        other_core (get_or t.objects k d) core at
+        (λ at2.
+        not_any (λ i. is_control_of i.object core) t.objects (control_at t initial.object core admits.controls at2) k d within));
+  };
+  caps = caps_kept t.objects _ keeps t.caps h.caps;
+  pairs = pairs_kept t.objects _ keeps t.pairs h.pairs;
+  bindings = bindings_kept t.objects _ keeps t.bindings h.bindings;
 } where
+  keeps : Keeps t.objects (t.objects ++ initial ∷ [])
+  keeps k found at = slice_get-append_left t.objects (initial ∷ []) k found at
+
   limits :
       (length t.objects < MAX_OBJECTS) × (slots_in t.objects + slot_count initial.object ≤ MAX_SLOTS)
       × (threads_in t.objects + cond (is_tcb initial.object) 1 0 ≤ MAX_THREADS)
   limits =
       within_limits (length t.objects) (slots_in t.objects) (slot_count initial.object) (threads_in t.objects) (is_tcb initial.object)
-      admits.room h.few_threads
+      admits.room h.objects.few_threads
 
   other_core :
       (one : Initial) (core : ℕ) → is_control_of one.object core ≡ true

@@ -1,6 +1,6 @@
--- A table whose last item was an object kept the rules without it, and admitted it.
+-- A draft whose last item was an object was one without it, and admitted it.
 use Rattle.std.proofs.Common.{◌≡◌, ◌≢◌, ℕ, ◌+◌, ◌<◌, ◌≤◌, ◌⊎◌, inl, inr, Bool, true, false, cond, not, nat_lt, ◌||◌, List, length}
-use Rattle.std.proofs.Common.{get_or, refl, sym, ◌∙◌, arith}
+use Rattle.std.proofs.Common.{get_or, refl, sym, subst, ◌∙◌, arith}
 use Rattle.std.proofs.lemmas.Bool.{false_from_ne_true, false≢true, and_from, lt-ltb, le-leb, ltb-true, and_parts, cases_lt}
 use Rattle.std.proofs.lemmas.Bool.{eq-eqb, not_from_false}
 use Rattle.std.proofs.lemmas.Bool.Decides.{nat_tests}
@@ -18,9 +18,9 @@ use Rattle.table.specs.Building.{AdmitsObject, has_room, is_free, has_control, r
 use Rattle.table.specs.Names.{object_named}
 use Rattle.table.specs.Items.{BeforeCaps}
 use Rattle.table.specs.Placement.{IsApart, meets}
-use Rattle.table.specs.Rules.{IsLawful, IsObjectOf, IsCapOf, IsBindingOf, is_control_of, is_tcb, slots_in, threads_in}
-use Rattle.table.proofs.FrontLemmas.{all_front, pairs_front, all_of_none, none_passes, no_place}
-use Rattle.table.proofs.LawfulKept.{objects_kept}
+use Rattle.table.specs.Rules.{IsDraft, IsObjectOf, CapsFit, PairsFit, BindingsFit, is_control_of, is_tcb, slots_in, threads_in}
+use Rattle.table.proofs.FrontLemmas.{all_front, pairs_front, none_passes, no_place}
+use Rattle.table.proofs.DraftKept.{no_caps, no_pairs, no_bindings}
 use Rattle.table.proofs.NameLemmas.{is_some-option_map}
 
 -- an object has a first byte, or lies at no address
@@ -78,58 +78,54 @@ threads_fit threads true few = grind (arith, nat_tests)
 threads_fit threads false few = grind (arith, nat_tests)
 
 pub object_removed :
-    (t : Layout) (name : List ℕ) (initial : Initial) → BeforeCaps t → IsLawful (with_initial t name initial)
-    → IsLawful t × AdmitsObject t name initial
+    (t : Layout) (name : List ℕ) (initial : Initial) → BeforeCaps t → IsDraft (with_initial t name initial)
+    → IsDraft t × AdmitsObject t name initial
 unfolding object_named has_room is_free
 object_removed t name initial empty h =
     let size = length_push t.objects initial in
-    let named = length_push t.names name in
-    let each = h.each_named in
-    let few = h.few_objects in
+    let sizes = length_push t.names name in
+    let named = h.objects.named in
+    let few = h.objects.few in
     let slots = sum_by_push (λ (i : Initial). slot_count i.object) t.objects initial in
-    let fit = h.few_slots in
+    let fit = h.objects.few_slots in
     let threads = sum_by_push (λ (i : Initial). cond (is_tcb i.object) 1 0) t.objects initial in
-    let run = h.few_threads in
+    let run = h.objects.few_threads in
     let within : length t.objects < MAX_OBJECTS = omega arith in
     let fewer : slots_in t.objects + slot_count initial.object ≤ MAX_SLOTS = omega arith in
     let alive : threads_in t.objects + cond (is_tcb initial.object) 1 0 ≤ MAX_THREADS = omega arith in
-    let names = all_front (λ other. is_name other ≡ true) t.names name h.object_names in
-    let differ = pairs_front ◌≢◌ t.names name h.names_differ in
-    let objects = all_front (IsObjectOf (with_initial t name initial)) t.objects initial h.objects in
-    let apart = pairs_front (λ one other. IsApart one.object other.object) t.objects initial h.objects_apart in
+    let spelled = all_front (λ other. is_name other ≡ true) t.names name h.objects.spelled in
+    let differ = pairs_front ◌≢◌ t.names name h.objects.differ in
+    let each = all_front (IsObjectOf (length t.labels)) t.objects initial h.objects.each in
+    let apart = pairs_front (λ one other. IsApart one.object other.object) t.objects initial h.objects.apart in
     let controls =
     pairs_front (λ one other. (core : ℕ) → is_control_of one.object core ≡ true → is_control_of other.object core ≡ false)
-    t.objects initial h.controls_differ in (
+    t.objects initial h.objects.controls_differ in (
       record {
-        few_labels = h.few_labels;
-        label_names = h.label_names;
-        labels_differ = h.labels_differ;
-        object_names = names.0;
-        names_differ = differ.0;
-        each_named = omega arith;
-        few_objects = omega arith;
-        few_slots = omega arith;
-        few_threads = omega arith;
-        objects = objects_kept (with_initial t name initial) t (omega arith) t.objects objects.0;
-        objects_apart = apart.0;
-        controls_differ = controls.0;
-        caps = all_of_none (IsCapOf t) t.caps empty.0;
-        caps_rise = h.caps_rise;
-        untypeds_once = h.untypeds_once;
-        underived = h.underived;
-        bindings = all_of_none (IsBindingOf t) t.bindings empty.1.1;
-        bindings_rise = h.bindings_rise;
-        contexts_differ = h.contexts_differ;
+        labels = h.labels;
+        objects = record {
+          spelled = spelled.0;
+          differ = differ.0;
+          named = omega arith;
+          few = omega arith;
+          few_slots = omega arith;
+          few_threads = omega arith;
+          each = each.0;
+          apart = apart.0;
+          controls_differ = controls.0;
+        };
+        caps = subst (CapsFit t.objects) (sym empty.0) (no_caps t.objects);
+        pairs = subst (PairsFit t.objects) (sym empty.1.0) (no_pairs t.objects);
+        bindings = subst (BindingsFit t.objects) (sym empty.1.1) (no_bindings t.objects);
       },
       record {
-        spelled = names.1;
+        spelled = spelled.1;
         fresh = is_some-option_map _ _ ∙ no_place name t.names differ.1;
-        label = objects.1.label;
-        blank = objects.1.blank;
+        label = each.1.label;
+        blank = each.1.blank;
         controls = no_repeat t initial.object controls.1;
         room = and_from _ _ (and_from _ _ (lt-ltb _ _ within) (le-leb _ _ fewer)) (threads_fit _ (is_tcb initial.object) alive);
-        end = objects.1.end;
-        aligned = objects.1.aligned;
+        end = each.1.end;
+        aligned = each.1.aligned;
         free =
             not_from_false _
             (none_passes (λ one. meets one.object initial.object) t.objects

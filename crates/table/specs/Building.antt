@@ -1,19 +1,21 @@
 -- How a capability table is built up: what may be added to it, told by tests that a reader of tables makes, and the table with
 -- that item added (confine's own).
 use Rattle.std.specs.Prelude.{◌≡◌, ℕ, ◌+◌, ◌-◌, ◌^◌, ◌<◌, ◌≤◌, ◌&&◌, ◌||◌, Bool, true, false, not, nat_lt, nat_le, List, [], ◌∷◌}
-use Rattle.std.specs.Prelude.{◌++◌, length, Option, Some, None, slice_get, is_some}
+use Rattle.std.specs.Prelude.{◌++◌, length, Option, Some, None, option_map, slice_get, is_some}
 use Rattle.std.specs.List.{list_any}
 use Rattle.std.specs.Ordering.{is_lt}
 use Rattle.base.specs.declared.ids.ObjId.{ObjId}
 use Rattle.base.specs.declared.ids.SlotRef.{SlotRef}
 use Rattle.base.specs.declared.label.TheConstants.Label as Label
 use Rattle.base.specs.declared.limits.TheConstants.{ADDRESS_END, MAX_OBJECTS, MAX_SLOTS, MAX_THREADS}
+use Rattle.machine.specs.declared.cap.Badged.{Badged}
 use Rattle.machine.specs.declared.cap.Cap.{Cap}
 use Rattle.machine.specs.declared.cap.Detail.{Detail}
 use Rattle.machine.specs.declared.cap.Detail.TheVariants as d
 use Rattle.machine.specs.declared.layout.Binding.{Binding}
 use Rattle.machine.specs.declared.layout.Filled.{Filled}
 use Rattle.machine.specs.declared.layout.Initial.{Initial}
+use Rattle.machine.specs.declared.layout.Pair.{Pair}
 use Rattle.machine.specs.declared.object.Object.{Object}
 use Rattle.machine.specs.declared.object.Object.TheVariants as o
 use Rattle.machine.specs.declared.object.ObjectKind.TheVariants as kind
@@ -24,6 +26,7 @@ use Rattle.table.specs.Names.{label_named, object_named}
 use Rattle.words.specs.Name.{is_name}
 use Rattle.table.specs.Placement.{is_aligned, meets}
 use Rattle.table.specs.Rules.{IsBlank, is_control_of, is_tcb, kind_at, slots_in, threads_in}
+use Rattle.table.specs.Tree.{is_for_untyped}
 
 -- the tests
 
@@ -58,13 +61,13 @@ declares_slot t slot = has_index (initial_of t slot.holder) slot.index
 abbrev pub last_cap : Layout → Option Filled
 last_cap t = slice_get t.caps (length t.caps - 1)
 
-abbrev pub is_above_filled : Option Filled → SlotRef → Bool
-is_above_filled None slot = true
-is_above_filled (Some last) slot = is_lt (slot_cmp last.slot slot)
+abbrev pub is_above : Option SlotRef → SlotRef → Bool
+is_above None slot = true
+is_above (Some last) slot = is_lt (slot_cmp last slot)
 
 -- whether a slot is above those that the table fills
 unfoldable pub is_above_caps : Layout → SlotRef → Bool
-is_above_caps t slot = is_above_filled (last_cap t) slot
+is_above_caps t slot = is_above (option_map (λ filled. filled.slot) (last_cap t)) slot
 
 -- whether a capability may be in a slot of this holder: a thread's root slot takes only a CNode's
 abbrev pub may_hold : Option Initial → Detail → Bool
@@ -72,13 +75,17 @@ may_hold (Some holder) (d.CNode _) = true
 may_hold (Some holder) _ = not (is_tcb holder.object)
 may_hold None _ = false
 
+-- whether a capability has only this many of the rights, and a badge that is a word
+abbrev pub is_badged : ℕ → Badged → Bool
+is_badged rights end = nat_lt end.rights.0 rights && nat_lt end.badge (2 ^ 64)
+
 -- whether a detail fits an object
 abbrev pub fits : Object → Detail → Bool
 fits (o.Untyped _) d.Untyped = true
 fits (o.CNode node) (d.CNode guard) = nat_le (guard.size + node.radix) 64 && nat_lt guard.value (2 ^ guard.size)
 fits (o.Tcb _) d.Tcb = true
-fits (o.Endpoint _) (d.Endpoint end) = nat_lt end.rights.0 16
-fits (o.Notification _) (d.Notification end) = nat_lt end.rights.0 4
+fits (o.Endpoint _) (d.Endpoint end) = is_badged 16 end
+fits (o.Notification _) (d.Notification end) = is_badged 4 end
 fits (o.Reply _) d.Reply = true
 fits (o.Context _) d.Context = true
 fits (o.Frame _) (d.Frame rights) = nat_lt rights.0 4
@@ -93,10 +100,6 @@ fits_target (Some target) detail = fits target.object detail
 unfoldable pub is_fitting : Layout → Cap → Bool
 is_fitting t cap = fits_target (initial_of t cap.object) cap.detail
 
-abbrev pub is_for_untyped : Detail → Bool
-is_for_untyped d.Untyped = true
-is_for_untyped _ = false
-
 -- whether some capability is for an object
 unfoldable pub has_cap_to : Layout → ObjId → Bool
 has_cap_to t object = list_any (λ filled. same_id filled.cap.object object) t.caps
@@ -104,6 +107,13 @@ has_cap_to t object = list_any (λ filled. same_id filled.cap.object object) t.c
 -- whether a capability is for an untyped that has one
 abbrev pub repeats_untyped : Layout → Cap → Bool
 repeats_untyped t cap = is_for_untyped cap.detail && has_cap_to t cap.object
+
+abbrev pub last_pair : Layout → Option Pair
+last_pair t = slice_get t.pairs (length t.pairs - 1)
+
+-- whether a slot is above those that are children
+unfoldable pub is_above_pairs : Layout → SlotRef → Bool
+is_above_pairs t slot = is_above (option_map (λ pair. pair.child) (last_pair t)) slot
 
 abbrev pub last_binding : Layout → Option Binding
 last_binding t = slice_get t.bindings (length t.bindings - 1)
@@ -146,6 +156,11 @@ pub record AdmitsCap (t : Layout) (filled : Filled) : Type 0 where
   pub once : repeats_untyped t filled.cap ≡ false
   pub original : filled.cap.original ≡ true
 
+pub record AdmitsPair (t : Layout) (pair : Pair) : Type 0 where
+  pub rises : is_above_pairs t pair.child ≡ true
+  pub parent : declares_slot t pair.parent ≡ true
+  pub child : declares_slot t pair.child ≡ true
+
 pub record AdmitsBinding (t : Layout) (binding : Binding) : Type 0 where
   pub rises : is_above_bindings t binding.thread ≡ true
   pub thread : kind_at t binding.thread ≡ Some kind.Tcb
@@ -162,6 +177,9 @@ with_initial t name initial = record t { names = t.names ++ name ∷ []; objects
 
 abbrev pub with_filled : Layout → Filled → Layout
 with_filled t filled = record t { caps = t.caps ++ filled ∷ [] }
+
+abbrev pub with_pair : Layout → Pair → Layout
+with_pair t pair = record t { pairs = t.pairs ++ pair ∷ [] }
 
 abbrev pub with_binding : Layout → Binding → Layout
 with_binding t binding = record t { bindings = t.bindings ++ binding ∷ [] }

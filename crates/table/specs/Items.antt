@@ -4,15 +4,17 @@ use Rattle.std.specs.Prelude.{◌≡◌, ℕ, List, []}
 use Rattle.machine.specs.declared.layout.Binding.{Binding}
 use Rattle.machine.specs.declared.layout.Filled.{Filled}
 use Rattle.machine.specs.declared.layout.Initial.{Initial}
+use Rattle.machine.specs.declared.layout.Pair.{Pair}
 use Rattle.machine.specs.Layout.{Layout, empty_layout}
-use Rattle.table.specs.Building.{AdmitsLabel, AdmitsObject, AdmitsCap, AdmitsBinding, with_label, with_initial, with_filled}
-use Rattle.table.specs.Building.{with_binding}
+use Rattle.table.specs.Building.{AdmitsLabel, AdmitsObject, AdmitsCap, AdmitsPair, AdmitsBinding, with_label, with_initial}
+use Rattle.table.specs.Building.{with_filled, with_pair, with_binding}
 
--- a label by its name, an object with its name, a filled slot, or a thread's binding
+-- a label by its name, an object with its name, a filled slot, a pair of the derivation tree, or a thread's binding
 pub data Item : Type 0 where
   LabelItem : (name : List ℕ) → Item
   ObjectItem : (name : List ℕ) (initial : Initial) → Item
   CapItem : (filled : Filled) → Item
+  PairItem : (pair : Pair) → Item
   BindingItem : (binding : Binding) → Item
 
 -- the table with one item more
@@ -20,12 +22,16 @@ abbrev pub with_item : Layout → Item → Layout
 with_item t (LabelItem name) = with_label t name
 with_item t (ObjectItem name initial) = with_initial t name initial
 with_item t (CapItem filled) = with_filled t filled
+with_item t (PairItem pair) = with_pair t pair
 with_item t (BindingItem binding) = with_binding t binding
 
 -- what comes after an item in the order labels, objects, capabilities, pairs, bindings has not begun
 
+abbrev pub BeforeBindings : Layout → Type 0
+BeforeBindings t = t.bindings ≡ []
+
 abbrev pub BeforePairs : Layout → Type 0
-BeforePairs t = (t.pairs ≡ []) × (t.bindings ≡ [])
+BeforePairs t = (t.pairs ≡ []) × BeforeBindings t
 
 abbrev pub BeforeCaps : Layout → Type 0
 BeforeCaps t = (t.caps ≡ []) × BeforePairs t
@@ -37,6 +43,7 @@ abbrev pub ComesNow : Layout → Item → Type 0
 ComesNow t (LabelItem _) = BeforeObjects t
 ComesNow t (ObjectItem _ _) = BeforeCaps t
 ComesNow t (CapItem _) = BeforePairs t
+ComesNow t (PairItem _) = BeforeBindings t
 ComesNow t (BindingItem _) = Unit {0}
 
 -- the table admits an item
@@ -44,6 +51,7 @@ abbrev pub Admits : Layout → Item → Type 0
 Admits t (LabelItem name) = AdmitsLabel t name
 Admits t (ObjectItem name initial) = AdmitsObject t name initial
 Admits t (CapItem filled) = AdmitsCap t filled
+Admits t (PairItem pair) = AdmitsPair t pair
 Admits t (BindingItem binding) = AdmitsBinding t binding
 
 -- a table that is built up from the empty one, each item in its order and where the table so far admits it

@@ -1,5 +1,6 @@
 pub mod Names
 pub mod Placement
+pub mod Tree
 pub mod Rules
 pub mod Building
 pub mod Inventory

@@ -1,17 +1,21 @@
 -- The rules that a capability table keeps: how it names things, what its objects are like at boot and where they lie, which
--- slots it fills and with what, and which threads it binds to contexts (compare the seL4 manual, "Bootstrapping").
-use Rattle.std.specs.Prelude.{⊤, ◌≡◌, ◌≢◌, ℕ, ◌+◌, ◌^◌, ◌<◌, ◌≤◌, ◌==◌, Bool, true, false, List, [], length, Option, Some, None}
-use Rattle.std.specs.Prelude.{option_map, All, AllPairs, sum_by, count_by}
+-- slots it fills and with what, what is derived from what, and which threads it binds to contexts (compare the seL4 manual,
+-- "Bootstrapping").
+use Rattle.std.specs.Prelude.{⊤, ◌≡◌, ◌≢◌, ℕ, ◌+◌, ◌^◌, ◌<◌, ◌≤◌, ◌==◌, Bool, true, false, List, length, Option, Some, None}
+use Rattle.std.specs.Prelude.{option_map, All, AllPairs, sum_by, count_by, slice_get}
 use Rattle.std.specs.declared.cmp.Ordering.TheVariants.{Less}
 use Rattle.base.specs.declared.core_number.TheConstants.CoreNo as CoreNo
 use Rattle.base.specs.declared.ids.ObjId.{ObjId}
+use Rattle.base.specs.declared.ids.SlotRef.{SlotRef}
 use Rattle.base.specs.declared.label.TheConstants.Label as Label
 use Rattle.base.specs.declared.limits.TheConstants.{ADDRESS_END, MAX_OBJECTS, MAX_PERIOD, MAX_RADIX, MAX_SLOTS, MAX_THREADS}
+use Rattle.machine.specs.declared.cap.Badged.{Badged}
 use Rattle.machine.specs.declared.cap.Detail.{Detail}
 use Rattle.machine.specs.declared.cap.Detail.TheVariants as d
 use Rattle.machine.specs.declared.layout.Binding.{Binding}
 use Rattle.machine.specs.declared.layout.Filled.{Filled}
 use Rattle.machine.specs.declared.layout.Initial.{Initial}
+use Rattle.machine.specs.declared.layout.Pair.{Pair}
 use Rattle.machine.specs.declared.object.Object.{Object}
 use Rattle.machine.specs.declared.object.Object.TheVariants as o
 use Rattle.machine.specs.declared.object.ObjectKind.{ObjectKind}
@@ -22,11 +26,12 @@ use Rattle.machine.specs.declared.thread.Inbox.TheVariants as inbox
 use Rattle.machine.specs.declared.thread.RunState.{RunState}
 use Rattle.machine.specs.declared.thread.RunState.TheVariants as run
 use Rattle.machine.specs.Capabilities.{kind_of_detail}
-use Rattle.machine.specs.Layout.{Layout, initial_of, initial_parent}
+use Rattle.machine.specs.Layout.{Layout, initial_of}
 use Rattle.machine.specs.Machine.{slot_cmp}
 use Rattle.machine.specs.Objects.{kind_of_object, slot_count, end_of}
 use Rattle.words.specs.Name.{is_name}
 use Rattle.table.specs.Placement.{is_aligned, IsApart}
+use Rattle.table.specs.Tree.{is_original, IsPairOf}
 
 -- a thread starts ready or inactive
 abbrev pub IsAtRest : RunState → Type 0
@@ -51,14 +56,18 @@ IsBlank (o.Context context) = IsWithinLimits context.share × (context.thread �
 IsBlank (o.Frame _) = ⊤
 IsBlank (o.Control control) = control.core < CoreNo.COUNT
 
--- a capability's detail fits its object: it is of the object's kind, has only rights that the kind knows, and a guard that leaves
--- room for the radix
+-- only this many of the rights, and a badge that is a word
+abbrev pub IsBadged : ℕ → Badged → Type 0
+IsBadged rights end = (end.rights.0 < rights) × (end.badge < 2 ^ 64)
+
+-- a capability's detail fits its object: it is of the object's kind, has only rights that the kind knows, a badge that is a word,
+-- and a guard that leaves room for the radix
 abbrev pub IsDetailOf : Object → Detail → Type 0
 IsDetailOf (o.Untyped _) d.Untyped = ⊤
 IsDetailOf (o.CNode node) (d.CNode guard) = (guard.size + node.radix ≤ 64) × (guard.value < 2 ^ guard.size)
 IsDetailOf (o.Tcb _) d.Tcb = ⊤
-IsDetailOf (o.Endpoint _) (d.Endpoint end) = end.rights.0 < 16
-IsDetailOf (o.Notification _) (d.Notification end) = end.rights.0 < 4
+IsDetailOf (o.Endpoint _) (d.Endpoint end) = IsBadged 16 end
+IsDetailOf (o.Notification _) (d.Notification end) = IsBadged 4 end
 IsDetailOf (o.Reply _) d.Reply = ⊤
 IsDetailOf (o.Context _) d.Context = ⊤
 IsDetailOf (o.Frame _) (d.Frame rights) = rights.0 < 4
@@ -86,55 +95,97 @@ slots_in objects = sum_by (λ initial. slot_count initial.object) objects
 abbrev pub threads_in : List Initial → ℕ
 threads_in objects = count_by (λ initial. is_tcb initial.object) objects
 
--- an object that the table may declare
-pub record IsObjectOf (t : Layout) (initial : Initial) : Type 0 where
-  pub label : initial.label < length t.labels
+-- Each section's rules speak of what its lines can see: the labels, and the objects.
+
+-- an object that a table of so many labels may declare
+pub record IsObjectOf (labels : ℕ) (initial : Initial) : Type 0 where
+  pub label : initial.label < labels
   pub blank : IsBlank initial.object
   pub aligned : is_aligned initial.object ≡ true
   pub end : end_of initial.object ≤ ADDRESS_END
 
--- a slot that the table may fill, and a capability for it
-pub record IsCapOf (t : Layout) (filled : Filled) : Type 0 where
+-- the objects have the slot
+pub record HasSlot (objects : List Initial) (slot : SlotRef) : Type 0 where
   pub holder : Initial
+  pub held : slice_get objects slot.holder.0 ≡ Some holder
+  pub within : slot.index < slot_count holder.object
+
+-- a slot that the table may fill, and a capability for it
+pub record IsCapOf (objects : List Initial) (filled : Filled) : Type 0 where
+  pub place : HasSlot objects filled.slot
   pub target : Initial
-  pub held : initial_of t filled.slot.holder ≡ Some holder
-  pub aimed : initial_of t filled.cap.object ≡ Some target
-  pub slot : filled.slot.index < slot_count holder.object
+  pub aimed : slice_get objects filled.cap.object.0 ≡ Some target
   -- the root of a thread's capability space is a CNode
-  pub root : kind_of_object holder.object ≡ kind.Tcb → kind_of_detail filled.cap.detail ≡ kind.CNode
+  pub root : kind_of_object place.holder.object ≡ kind.Tcb → kind_of_detail filled.cap.detail ≡ kind.CNode
   pub detail : IsDetailOf target.object filled.cap.detail
-  -- a capability that was derived from no other is original
-  pub original : initial_parent t filled.slot ≡ None → filled.cap.original ≡ true
+
+-- a parent's slot and a child's that the table may tell
+pub record IsSlotPair (objects : List Initial) (pair : Pair) : Type 0 where
+  pub parent : HasSlot objects pair.parent
+  pub child : HasSlot objects pair.child
+
+-- an object has this kind
+abbrev pub IsOfKind : List Initial → ObjId → ObjectKind → Type 0
+IsOfKind objects id kind = option_map (λ initial. kind_of_object initial.object) (slice_get objects id.0) ≡ Some kind
 
 -- a thread and a context that the table may bind
-pub record IsBindingOf (t : Layout) (binding : Binding) : Type 0 where
-  pub thread : kind_at t binding.thread ≡ Some kind.Tcb
-  pub context : kind_at t binding.context ≡ Some kind.Context
+pub record IsBindingOf (objects : List Initial) (binding : Binding) : Type 0 where
+  pub thread : IsOfKind objects binding.thread kind.Tcb
+  pub context : IsOfKind objects binding.context kind.Context
+
+pub record LabelsFit (labels : List (List ℕ)) : Type 0 where
+  pub few : length labels ≤ Label.COUNT
+  pub spelled : All (λ name. is_name name ≡ true) labels
+  pub differ : AllPairs (λ one other. one ≢ other) labels
+
+pub record ObjectsFit (labels : ℕ) (names : List (List ℕ)) (objects : List Initial) : Type 0 where
+  pub spelled : All (λ name. is_name name ≡ true) names
+  pub differ : AllPairs (λ one other. one ≢ other) names
+  pub named : length names ≡ length objects
+  pub few : length objects ≤ MAX_OBJECTS
+  pub few_slots : slots_in objects ≤ MAX_SLOTS
+  pub few_threads : threads_in objects ≤ MAX_THREADS
+  pub each : All (IsObjectOf labels) objects
+  pub apart : AllPairs (λ one other. IsApart one.object other.object) objects
+  pub controls_differ :
+      AllPairs (λ one other. (core : ℕ) → is_control_of one.object core ≡ true → is_control_of other.object core ≡ false) objects
+
+-- slots rise
+abbrev pub Rises : List Filled → Type 0
+Rises caps = AllPairs (λ one other. slot_cmp one.slot other.slot ≡ Less) caps
+
+abbrev pub RisesByChild : List Pair → Type 0
+RisesByChild pairs = AllPairs (λ one other. slot_cmp one.child other.child ≡ Less) pairs
+
+pub record CapsFit (objects : List Initial) (caps : List Filled) : Type 0 where
+  pub each : All (IsCapOf objects) caps
+  pub rise : Rises caps
+  -- an untyped has at most one capability
+  pub untypeds_once :
+      AllPairs (λ one other. kind_of_detail other.cap.detail ≡ kind.Untyped → one.cap.object ≢ other.cap.object) caps
+
+pub record PairsFit (objects : List Initial) (pairs : List Pair) : Type 0 where
+  pub each : All (IsSlotPair objects) pairs
+  pub rise : RisesByChild pairs
+
+pub record BindingsFit (objects : List Initial) (bindings : List Binding) : Type 0 where
+  pub each : All (IsBindingOf objects) bindings
+  pub rise : AllPairs (λ one other. one.thread.0 < other.thread.0) bindings
+  -- a context is bound to at most one thread
+  pub contexts_differ : AllPairs (λ one other. one.context ≢ other.context) bindings
+
+-- what a table keeps line by line
+pub record IsDraft (t : Layout) : Type 0 where
+  pub labels : LabelsFit t.labels
+  pub objects : ObjectsFit (length t.labels) t.names t.objects
+  pub caps : CapsFit t.objects t.caps
+  pub pairs : PairsFit t.objects t.pairs
+  pub bindings : BindingsFit t.objects t.bindings
 
 -- what every capability table keeps
 pub record IsLawful (t : Layout) : Type 0 where
-  pub few_labels : length t.labels ≤ Label.COUNT
-  pub label_names : All (λ name. is_name name ≡ true) t.labels
-  pub labels_differ : AllPairs (λ one other. one ≢ other) t.labels
-  pub object_names : All (λ name. is_name name ≡ true) t.names
-  pub names_differ : AllPairs (λ one other. one ≢ other) t.names
-  pub each_named : length t.names ≡ length t.objects
-  pub few_objects : length t.objects ≤ MAX_OBJECTS
-  pub few_slots : slots_in t.objects ≤ MAX_SLOTS
-  pub few_threads : threads_in t.objects ≤ MAX_THREADS
-  pub objects : All (IsObjectOf t) t.objects
-  pub objects_apart : AllPairs (λ one other. IsApart one.object other.object) t.objects
-  pub controls_differ :
-      AllPairs (λ one other. (core : ℕ) → is_control_of one.object core ≡ true → is_control_of other.object core ≡ false)
-      t.objects
-  pub caps : All (IsCapOf t) t.caps
-  pub caps_rise : AllPairs (λ one other. slot_cmp one.slot other.slot ≡ Less) t.caps
-  -- an untyped has at most one capability
-  pub untypeds_once :
-      AllPairs (λ one other. kind_of_detail other.cap.detail ≡ kind.Untyped → one.cap.object ≢ other.cap.object) t.caps
-  -- no capability is derived from another
-  pub underived : t.pairs ≡ []
-  pub bindings : All (IsBindingOf t) t.bindings
-  pub bindings_rise : AllPairs (λ one other. one.thread.0 < other.thread.0) t.bindings
-  -- a context is bound to at most one thread
-  pub contexts_differ : AllPairs (λ one other. one.context ≢ other.context) t.bindings
+  pub draft : IsDraft t
+  -- the mark of each capability is as its source says
+  pub marked : All (λ filled. filled.cap.original ≡ is_original t filled.slot filled.cap.detail) t.caps
+  -- each pair of the tree may be parent and child
+  pub tree : All (IsPairOf t) t.pairs

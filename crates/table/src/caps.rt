@@ -2,9 +2,12 @@ ghost use Rattle.std.specs.Prelude.{◌≡◌, ◌<◌, ◌++◌, ◌∷◌, [],
 ghost use Rattle.std.specs.List.{list_any};
 ghost use Rattle.base.specs.declared.limits.TheConstants.{OBJECT_NUMBERS};
 ghost use Rattle.machine.specs.Machine.{same_id};
+ghost use Rattle.table.specs.Rules.{Rises, RisesByChild};
+ghost use Rattle.table.specs.Tree.{tree_of, with_originals};
 
+use crate::tree::mark_originals;
 use base::ObjId;
-use machine::Filled;
+use machine::{Filled, Pair};
 use std::alloc::{AllocError, Global};
 use std::marker::Model;
 
@@ -69,5 +72,15 @@ impl Caps {
         self.items.push(filled)?;
         self.aimed[object] = true;
         Ok(())
+    }
+
+    /// Marks each capability as original or not, by the pairs of the derivation tree.
+    #[tactic(auto, using(crate::proofs::TreeLemmas::marks_marked))]
+    pub fn mark_originals(&mut self, pairs: &[Pair])
+        requires caps { Rises self.old }
+        requires pairs { RisesByChild pairs.now }
+        ensures { self.new ≡ (with_originals (tree_of self.old pairs.now)).caps }
+    {
+        mark_originals(&mut self.items, pairs);
     }
 }

@@ -1,10 +1,14 @@
-ghost use Rattle.std.specs.Prelude.{◌↔◌};
+ghost use Rattle.std.specs.Prelude.{◌≡◌, ◌↔◌, [], None};
 ghost use Rattle.machine.specs.Layout.{Layout};
 ghost use Rattle.table.specs.Items.{IsBuiltUp};
 ghost use Rattle.table.specs.Rules.{IsLawful};
+ghost use Rattle.table.specs.Tree.{tree_fault, with_originals};
 
 /// A law: the tables that keep the rules are just those that are built up from the empty table, item
-/// by item, each in its order and where the table so far admits it.
+/// by item, each in its order and where the table so far admits it, whose capabilities are then marked
+/// as the pairs say, and of whose pairs none breaks a rule. One without pairs is built up as it is.
 pub fn lawful_tables_are_built_up()
-    ensures { (t : Layout) → IsLawful t ↔ IsBuiltUp t }
+    ensures tables { (t : Layout) → IsLawful t
+        ↔ ((draft : Layout) × IsBuiltUp draft × (tree_fault (with_originals draft) ≡ None) × (t ≡ with_originals draft)) }
+    ensures unpaired { (t : Layout) → t.pairs ≡ [] → (IsLawful t ↔ IsBuiltUp t) }
 {}

@@ -6,7 +6,7 @@ use Rattle.std.proofs.lemmas.List.Splits.{length-slice_split, join_with_byte-sli
 use Rattle.words.specs.declared.faults.Wrong.{Wrong}
 use Rattle.words.specs.declared.faults.Wrong.TheVariants.{Syntax}
 use Rattle.words.specs.FirstFault.{ended, IsGoodUpTo, IsText, IsFirstFault, Line, TextLines, no_header, no_line}
-use Rattle.words.specs.Reading.{bind, last_line, steps}
+use Rattle.words.specs.Reading.{bind, last_line, steps, Format}
 use Rattle.words.specs.Text.{words_of, lines_of, lines_of_parts, IsOver}
 use Rattle.words.proofs.Splits.{parts_some}
 use Rattle.words.proofs.WordLaws.{bind_ok}
@@ -135,19 +135,19 @@ first_inner [] more all = tt
 first_inner (line ∷ done) more all = (all.0, first_inner done more all.1)
 
 -- after so many lines the text is cut
-cut_after : {S : Type 0} (header : Line) (step : S → Line → Result S Wrong) (start state : S) (body done left : List Line)
+cut_after : {S T : Type 0} (f : Format S T) (state : S) (body done left : List Line)
     (over : TextLines)
-    → AllByRecursion (λ line. line ≢ last_line) body → steps step start body ≡ Ok state
-    → header ∷ (body ++ last_line ∷ []) ≡ done ++ left → 0 < length left → IsOver over
-    → IsFirstFault header step start (ended done ++ over) (length done + 1) Syntax
-cut_after header step start state body [] left over inner stepped is some none =
+    → AllByRecursion (λ line. line ≢ last_line) body → steps f.step f.start body ≡ Ok state
+    → f.header ∷ (body ++ last_line ∷ []) ≡ done ++ left → 0 < length left → IsOver over
+    → IsFirstFault f (ended done ++ over) (length done + 1) Syntax
+cut_after f state body [] left over inner stepped is some none =
     no_header (λ begins. subst IsOver begins.1 none) refl refl
-cut_after header step start state body (line ∷ done) left over inner stepped is some none =
-    let same : header ≡ line = cc in
+cut_after f state body (line ∷ done) left over inner stepped is some none =
+    let same : f.header ≡ line = cc in
     let later : body ++ last_line ∷ [] ≡ done ++ left = cc in
     let found = front body done left last_line some later in
-    let before = first_steps step start state done found.0 (ap (λ b. steps step start b) (sym found.1) ∙ stepped) in
-    let good : IsGoodUpTo header step start (ended (line ∷ done) ++ over) done before.0 over = record {
+    let before = first_steps f.step f.start state done found.0 (ap (λ b. steps f.step f.start b) (sym found.1) ∙ stepped) in
+    let good : IsGoodUpTo f (ended (line ∷ done) ++ over) done before.0 over = record {
       lines_are = ap (λ l. Some l ∷ (ended done ++ over)) (sym same);
       inner = first_inner done found.0 (subst (λ b. AllByRecursion (λ l. l ≢ last_line) b) found.1 inner);
       stepped = before.1;
@@ -161,24 +161,24 @@ counted p beginning done last parts =
     ap (λ n. n + 1) (length-map done words_of) ∙ sym (length_push done last) ∙ ap length (sym parts)
     ∙ length-slice_split p beginning
 
-pub cut_text : {S : Type 0} (header : Line) (step : S → Line → Result S Wrong) (start state : S) (beginning rest : List ℕ)
-    → 0 < length rest → IsText header step start (lines_of (beginning ++ rest)) state
-    → IsFirstFault header step start (lines_of beginning) (count_by (λ b. b == 10) beginning + 1) Syntax
+pub cut_text : {S T : Type 0} (f : Format S T) (value : T) (beginning rest : List ℕ)
+    → 0 < length rest → IsText f (lines_of (beginning ++ rest)) value
+    → IsFirstFault f (lines_of beginning) (count_by (λ b. b == 10) beginning + 1) Syntax
 unfolding lines_of
-cut_text header step start state beginning rest some text =
+cut_text f value beginning rest some text =
     let cut = cuts (λ b. b == 10) beginning rest in
     let done = map words_of cut.done in
-    let whole : ended done ++ lines_of_parts ((cut.last ++ cut.first) ∷ cut.later) ≡ ended (header ∷ (text.0 ++ last_line ∷ [])) =
-    sym (ended_parts cut.done (cut.last ++ cut.first) cut.later) ∙ ap lines_of_parts (sym cut.of_whole) ∙ text.1.lines_are
-    ∙ sym (map-append (λ (l : Line). Some l) (header ∷ text.0) (last_line ∷ [])) in
-    let left = rest_ended done (header ∷ (text.0 ++ last_line ∷ []))
+    let whole : ended done ++ lines_of_parts ((cut.last ++ cut.first) ∷ cut.later) ≡ ended (f.header ∷ (text.body ++ last_line ∷ [])) =
+    sym (ended_parts cut.done (cut.last ++ cut.first) cut.later) ∙ ap lines_of_parts (sym cut.of_whole) ∙ text.good.lines_are
+    ∙ sym (map-append (λ (l : Line). Some l) (f.header ∷ text.body) (last_line ∷ [])) in
+    let left = rest_ended done (f.header ∷ (text.body ++ last_line ∷ []))
     (lines_of_parts ((cut.last ++ cut.first) ∷ cut.later)) whole in
     let more : 0 < length left.0 = line_left cut.last cut.first rest cut.later left.0 some cut.of_rest left.2 in
-    let fault = cut_after header step start state text.0 done left.0
-    (lines_of_parts (cut.last ∷ [])) text.1.inner text.1.stepped left.1 more (over_last cut.last) in
+    let fault = cut_after f text.state text.body done left.0
+    (lines_of_parts (cut.last ∷ [])) text.good.inner text.good.stepped left.1 more (over_last cut.last) in
     let lines : ended done ++ lines_of_parts (cut.last ∷ []) ≡ lines_of beginning =
     sym (ap lines_of_parts cut.of_beginning ∙ ended_parts cut.done cut.last []) in
     let count : length done + 1 ≡ count_by (λ b. b == 10) beginning + 1 =
     counted (λ b. b == 10) beginning cut.done cut.last cut.of_beginning in
-    subst (λ ls. IsFirstFault header step start ls (count_by (λ b. b == 10) beginning + 1) Syntax) lines
-    (subst (λ n. IsFirstFault header step start (ended done ++ lines_of_parts (cut.last ∷ [])) n Syntax) count fault)
+    subst (λ ls. IsFirstFault f ls (count_by (λ b. b == 10) beginning + 1) Syntax) lines
+    (subst (λ n. IsFirstFault f (ended done ++ lines_of_parts (cut.last ∷ [])) n Syntax) count fault)

@@ -6,8 +6,8 @@ use Rattle.words.specs.declared.faults.Wrong.{Wrong}
 use Rattle.words.specs.declared.faults.Wrong.TheVariants.{Syntax, UnknownName, Double, Misplaced, Limit, WrongKind, Tree}
 use Rattle.words.specs.declared.faults.Fault.{Fault}
 use Rattle.words.specs.Fault.{fault_at, no_memory, number_of}
-use Rattle.words.specs.FirstFault.{ended, HasHeader, IsGoodUpTo, IsText, IsFirstFault, TellsFirst, Line, TextLines, no_header, no_line, no_step, no_end}
-use Rattle.words.specs.Reading.{bind, last_line, header_at, end_at, at_line, read_lines, read_text, as_it_is, steps, Reads}
+use Rattle.words.specs.FirstFault.{ended, HasHeader, IsGoodUpTo, IsText, IsFirstFault, TellsFirst, Line, TextLines, no_header, no_line, no_step, no_whole, no_end}
+use Rattle.words.specs.Reading.{bind, last_line, header_at, end_at, at_line, faulted, judged, read_format, read_lines, read_text, steps, Format, Reads, Whole}
 use Rattle.words.specs.Text.{line_is, IsOver, Progress}
 use Rattle.words.proofs.ReadingLaws.{at_step, no_more}
 use Rattle.words.proofs.Splits.{line_same, same_line}
@@ -68,17 +68,16 @@ header_again : (header : Line) (lines : TextLines)
 unfolding header_at
 header_again header lines = cond-true _ _ _ (same_line header)
 
-pub good_text : {S T : Type 0} (header : Line) (step : S → Line → Result S Wrong) (finish : S → Progress → Result T Fault)
-    (start state : S) (lines : TextLines) (body : List Line) (rest : TextLines)
-    → IsGoodUpTo header step start lines body state rest
-    → read_text header step finish start lines ≡ read_lines step finish (length body + 1) state rest
+pub good_text : {S T : Type 0} (f : Format S T) (finish : S → Progress → Result T Fault) (state : S) (lines : TextLines) (body : List Line) (rest : TextLines)
+    → IsGoodUpTo f lines body state rest
+    → read_text f.header f.step finish f.start lines ≡ read_lines f.step finish (length body + 1) state rest
 unfolding read_text bind
-good_text header step finish start state lines body rest good =
+good_text f finish state lines body rest good =
     let count : 1 + length body ≡ length body + 1 = omega arith in
-    ap (λ ls. read_text header step finish start ls) good.lines_are
-    ∙ ap (λ r. bind r (λ place. read_lines step finish place.taken start place.lines)) (header_again header (ended body ++ rest))
-    ∙ goes_through step finish 1 start state body rest good.inner good.stepped
-    ∙ ap (λ n. read_lines step finish n state rest) count
+    ap (λ ls. read_text f.header f.step finish f.start ls) good.lines_are
+    ∙ ap (λ r. bind r (λ place. read_lines f.step finish place.taken f.start place.lines)) (header_again f.header (ended body ++ rest))
+    ∙ goes_through f.step finish 1 f.start state body rest good.inner good.stepped
+    ∙ ap (λ n. read_lines f.step finish n state rest) count
 
 -- the four faults
 
@@ -117,40 +116,51 @@ reaches_end step finish taken s lines =
       lines = lines;
     })) (at_line (taken + 1) (step s last_line) (λ next. read_lines step finish (taken + 1) next lines))) (same_line last_line)
 
-pub refuses : {S : Type 0} (header : Line) (step : S → Line → Result S Wrong) (start : S) (lines : TextLines) (number : ℕ)
+pub refuses : {S T : Type 0} (f : Format S T) (lines : TextLines) (number : ℕ)
     (wrong : Wrong)
-    → IsFirstFault header step start lines number wrong → read_text header step as_it_is start lines ≡ Err (fault_at number wrong)
-unfolding read_text bind as_it_is end_at
-refuses header step start lines number wrong (no_header other first form) =
-    ap (λ r. bind r (λ place. read_lines step as_it_is place.taken start place.lines)) (without_header header lines other)
+    → IsFirstFault f lines number wrong → read_format f lines ≡ Err (fault_at number wrong)
+unfolding read_text bind judged end_at
+refuses f lines number wrong (no_header other first form) =
+    ap (λ r. bind r (λ place. read_lines f.step (judged f.whole) place.taken f.start place.lines)) (without_header f.header lines other)
     ∙ ap (λ n. Err (fault_at n Syntax)) (sym first)
     ∙ ap (λ w. Err (fault_at number w)) (sym form)
-refuses header step start lines number wrong (no_line body state rest good over counted form) =
+refuses f lines number wrong (no_line body state rest good over counted form) =
     let count : length body + 1 + 1 ≡ number = omega arith in
-    no_more step as_it_is (record {
+    no_more f.step (judged f.whole) (record {
       taken = length body + 1;
       lines = rest;
-    }) state _ (sym (good_text header step as_it_is start state lines body rest good)) over
+    }) state _ (sym (good_text f (judged f.whole) state lines body rest good)) over
     ∙ ap (λ n. Err (fault_at n Syntax)) count
     ∙ ap (λ w. Err (fault_at number w)) (sym form)
-refuses header step start lines number wrong (no_step body state line rest good other failed counted) =
+refuses f lines number wrong (no_step body state line rest good other failed counted) =
     let count : length body + 1 + 1 ≡ number = omega arith in
-    good_text header step as_it_is start state lines body (Some line ∷ rest) good
-    ∙ stops_at step as_it_is (length body + 1) state line rest wrong other failed
+    good_text f (judged f.whole) state lines body (Some line ∷ rest) good
+    ∙ stops_at f.step (judged f.whole) (length body + 1) state line rest wrong other failed
     ∙ ap (λ n. Err (fault_at n wrong)) count
-refuses header step start lines number wrong (no_end body state next rest good counted form) =
+refuses f lines number wrong (no_whole body state rest good failed) =
+    good_text f (judged f.whole) state lines body (Some last_line ∷ rest) good
+    ∙ reaches_end f.step (judged f.whole) (length body + 1) state rest
+    ∙ ap (λ w. bind (faulted w) (λ t. bind (end_at (record { taken = length body + 1 + 1; lines = rest })) (λ _. Ok t))) failed
+refuses f lines number wrong (no_end body state value next rest good came counted form) =
     let count : length body + 1 + 1 + 1 ≡ number = omega arith in
-    good_text header step as_it_is start state lines body (Some last_line ∷ next ∷ rest) good
-    ∙ reaches_end step as_it_is (length body + 1) state (next ∷ rest)
+    good_text f (judged f.whole) state lines body (Some last_line ∷ next ∷ rest) good
+    ∙ reaches_end f.step (judged f.whole) (length body + 1) state (next ∷ rest)
+    ∙ ap (λ w. bind (faulted w) (λ t. bind (end_at (record {
+      taken = length body + 1 + 1;
+      lines = next ∷ rest;
+    })) (λ _. Ok t))) came
     ∙ ap (λ n. Err (fault_at n Syntax)) count
     ∙ ap (λ w. Err (fault_at number w)) (sym form)
 
-pub reads : {S : Type 0} (header : Line) (step : S → Line → Result S Wrong) (start : S) (lines : TextLines) (state : S)
-    → IsText header step start lines state → read_text header step as_it_is start lines ≡ Ok state
-unfolding as_it_is bind end_at
-reads header step start lines state text =
-    good_text header step as_it_is start state lines text.0 (Some last_line ∷ []) text.1
-    ∙ reaches_end step as_it_is (length text.0 + 1) state []
+pub reads : {S T : Type 0} (f : Format S T) (lines : TextLines) (value : T) → IsText f lines value → read_format f lines ≡ Ok value
+unfolding judged bind end_at
+reads f lines value text =
+    good_text f (judged f.whole) text.state lines text.body (Some last_line ∷ []) text.good
+    ∙ reaches_end f.step (judged f.whole) (length text.body + 1) text.state []
+    ∙ ap (λ w. bind (faulted w) (λ t. bind (end_at (record {
+      taken = length text.body + 1 + 1;
+      lines = [];
+    })) (λ _. Ok t))) text.whole
 
 -- each text has no fault or a first one
 
@@ -217,113 +227,116 @@ begins_or_not header (Some line ∷ lines) = by_test (line_is line header) refl
         absurd (cc (sym same ∙ ap (λ l. line_is l header) is ∙ same_line header)))
 
 -- a text is well read, or has a first fault
-abbrev pub Ends : {S : Type 0} → Line → (S → Line → Result S Wrong) → S → TextLines → Type 0
-Ends {S = S} header step start lines =
-    ((state : S) × IsText header step start lines state)
-    ⊎ ((number : ℕ) × (wrong : Wrong) × IsFirstFault header step start lines number wrong)
+abbrev pub Ends : {S T : Type 0} → Format S T → TextLines → Type 0
+Ends {T = T} f lines =
+    ((value : T) × IsText f lines value) ⊎ ((number : ℕ) × (wrong : Wrong) × IsFirstFault f lines number wrong)
 
-after_end : {S : Type 0} (header : Line) (step : S → Line → Result S Wrong) (start state : S) (lines : TextLines)
-    (body : List Line) (later : TextLines)
-    → IsGoodUpTo header step start lines body state (Some last_line ∷ later) → Ends header step start lines
-after_end header step start state lines body [] good = inl (state, (body, good))
-after_end header step start state lines body (next ∷ rest) good =
-    inr (length body + 3, Syntax, no_end body state next rest good refl refl)
+after_end : {S T : Type 0} (f : Format S T) (state : S) (lines : TextLines) (body : List Line) (later : TextLines)
+    → IsGoodUpTo f lines body state (Some last_line ∷ later) → Ends f lines
+after_end {T = T} f state lines body later good = by_whole (f.whole state) refl later good
+  where
+    by_whole : (whole : Whole T) → f.whole state ≡ whole → (later : TextLines)
+        → IsGoodUpTo f lines body state (Some last_line ∷ later) → Ends f lines
+    by_whole (Err (number, wrong)) failed later good = inr (number, wrong, no_whole body state later good failed)
+    by_whole (Ok value) came [] good = inl (value, record { body = body; state = state; good = good; whole = came })
+    by_whole (Ok value) came (next ∷ rest) good =
+        inr (length body + 3, Syntax, no_end body state value next rest good came refl refl)
 
-after_good : {S : Type 0} (header : Line) (step : S → Line → Result S Wrong) (start state : S) (lines : TextLines)
+after_good : {S T : Type 0} (f : Format S T) (state : S) (lines : TextLines)
     (body : List Line) (rest : TextLines)
-    → IsGoodUpTo header step start lines body state rest → Comes step state rest → Ends header step start lines
-after_good header step start state lines body rest good (nothing over) =
+    → IsGoodUpTo f lines body state rest → Comes f.step state rest → Ends f lines
+after_good f state lines body rest good (nothing over) =
     inr (length body + 2, Syntax, no_line body state rest good over refl refl)
-after_good header step start state lines body rest good (last later is) =
-    after_end header step start state lines body later (subst (λ r. IsGoodUpTo header step start lines body state r) is good)
-after_good header step start state lines body rest good (refused line later wrong is other failed) =
+after_good f state lines body rest good (last later is) =
+    after_end f state lines body later (subst (λ r. IsGoodUpTo f lines body state r) is good)
+after_good f state lines body rest good (refused line later wrong is other failed) =
     inr (
       length body + 2,
       wrong,
       no_step body state line later
-          (subst (λ r. IsGoodUpTo header step start lines body state r) is good) other failed refl,
+          (subst (λ r. IsGoodUpTo f lines body state r) is good) other failed refl,
     )
 
-pub read_or_refused : {S : Type 0} (header : Line) (step : S → Line → Result S Wrong) (start : S) (lines : TextLines)
-    → Ends header step start lines
-read_or_refused header step start lines = by_header (begins_or_not header lines)
+pub read_or_refused : {S T : Type 0} (f : Format S T) (lines : TextLines)
+    → Ends f lines
+read_or_refused f lines = by_header (begins_or_not f.header lines)
   where
-    by_header : HasHeader header lines ⊎ (¬ HasHeader header lines) → Ends header step start lines
+    by_header : HasHeader f.header lines ⊎ (¬ HasHeader f.header lines) → Ends f lines
     by_header (inr other) = inr (1, Syntax, no_header other refl refl)
     by_header (inl begins) =
-        let found = scans step start begins.0 in
-        after_good header step start found.state lines found.body found.rest
+        let found = scans f.step f.start begins.0 in
+        after_good f found.state lines found.body found.rest
         (record {
-          lines_are = begins.1 ∙ ap (λ ls. Some header ∷ ls) found.lines_are;
+          lines_are = begins.1 ∙ ap (λ ls. Some f.header ∷ ls) found.lines_are;
           inner = found.inner;
           stepped = found.stepped;
         }) found.comes
 
 -- so what is read tells which
 
-pub has_first_fault : {S : Type 0} (header : Line) (step : S → Line → Result S Wrong) (start : S) (lines : TextLines) (number : ℕ)
+pub has_first_fault : {S T : Type 0} (f : Format S T) (lines : TextLines) (number : ℕ)
     (wrong : Wrong)
-    → read_text header step as_it_is start lines ≡ Err (fault_at number wrong) → IsFirstFault header step start lines number wrong
-has_first_fault header step start lines number wrong failed = by_answer (read_or_refused header step start lines)
+    → read_format f lines ≡ Err (fault_at number wrong) → IsFirstFault f lines number wrong
+has_first_fault f lines number wrong failed = by_answer (read_or_refused f lines)
   where
-    by_answer : Ends header step start lines → IsFirstFault header step start lines number wrong
-    by_answer (inl text) = absurd (cc (sym failed ∙ reads header step start lines text.0 text.1))
+    by_answer : Ends f lines → IsFirstFault f lines number wrong
+    by_answer (inl text) = absurd (cc (sym failed ∙ reads f lines text.0 text.1))
     by_answer (inr first) =
         let told : fault_at first.0 first.1 ≡ fault_at number wrong =
-        cc (sym (refuses header step start lines first.0 first.1 first.2) ∙ failed) in
+        cc (sym (refuses f lines first.0 first.1 first.2) ∙ failed) in
         let same = same_fault first.0 number first.1 wrong told in
-        subst (λ n. IsFirstFault header step start lines n wrong) same.0
-        (subst (λ w. IsFirstFault header step start lines first.0 w) same.1 first.2)
+        subst (λ n. IsFirstFault f lines n wrong) same.0
+        (subst (λ w. IsFirstFault f lines first.0 w) same.1 first.2)
 
-pub is_text : {S : Type 0} (header : Line) (step : S → Line → Result S Wrong) (start : S) (lines : TextLines) (state : S)
-    → read_text header step as_it_is start lines ≡ Ok state → IsText header step start lines state
-is_text header step start lines state read = by_answer (read_or_refused header step start lines)
+pub is_text : {S T : Type 0} (f : Format S T) (lines : TextLines) (state : T)
+    → read_format f lines ≡ Ok state → IsText f lines state
+is_text f lines state read = by_answer (read_or_refused f lines)
   where
-    by_answer : Ends header step start lines → IsText header step start lines state
+    by_answer : Ends f lines → IsText f lines state
     by_answer (inl text) =
-        let same : text.0 ≡ state = cc (sym (reads header step start lines text.0 text.1) ∙ read) in
-        subst (λ t. IsText header step start lines t) same text.1
-    by_answer (inr first) = absurd (cc (sym (refuses header step start lines first.0 first.1 first.2) ∙ read))
+        let same : text.0 ≡ state = cc (sym (reads f lines text.0 text.1) ∙ read) in
+        subst (λ t. IsText f lines t) same text.1
+    by_answer (inr first) = absurd (cc (sym (refuses f lines first.0 first.1 first.2) ∙ read))
 
 -- a text has one first fault at most, and none if it is read
 
-pub one_first_fault : {S : Type 0} (header : Line) (step : S → Line → Result S Wrong) (start : S) (lines : TextLines)
+pub one_first_fault : {S T : Type 0} (f : Format S T) (lines : TextLines)
     (number other : ℕ) (wrong that : Wrong)
-    → IsFirstFault header step start lines number wrong → IsFirstFault header step start lines other that
+    → IsFirstFault f lines number wrong → IsFirstFault f lines other that
     → (number ≡ other) × (wrong ≡ that)
-one_first_fault header step start lines number other wrong that first second =
+one_first_fault f lines number other wrong that first second =
     same_fault number other wrong that
-    (cc (sym (refuses header step start lines number wrong first) ∙ refuses header step start lines other that second))
+    (cc (sym (refuses f lines number wrong first) ∙ refuses f lines other that second))
 
-pub not_both : {S : Type 0} (header : Line) (step : S → Line → Result S Wrong) (start : S) (lines : TextLines) (state : S)
+pub not_both : {S T : Type 0} (f : Format S T) (lines : TextLines) (state : T)
     (number : ℕ) (wrong : Wrong)
-    → IsText header step start lines state → IsFirstFault header step start lines number wrong → ⊥
-not_both header step start lines state number wrong text first =
-    cc (sym (reads header step start lines state text) ∙ refuses header step start lines number wrong first)
+    → IsText f lines state → IsFirstFault f lines number wrong → ⊥
+not_both f lines state number wrong text first =
+    cc (sym (reads f lines state text) ∙ refuses f lines number wrong first)
 
 -- and of what reads as a text does
 
-tells : {S : Type 0} (header : Line) (step : S → Line → Result S Wrong) (start : S) (lines : TextLines) (fault : Fault)
-    → read_text header step as_it_is start lines ≡ Err fault → TellsFirst header step start lines fault
-tells header step start lines fault failed = by_answer (read_or_refused header step start lines)
+tells : {S T : Type 0} (f : Format S T) (lines : TextLines) (fault : Fault)
+    → read_format f lines ≡ Err fault → TellsFirst f lines fault
+tells f lines fault failed = by_answer (read_or_refused f lines)
   where
-    by_answer : Ends header step start lines → TellsFirst header step start lines fault
-    by_answer (inl text) = absurd (cc (sym failed ∙ reads header step start lines text.0 text.1))
+    by_answer : Ends f lines → TellsFirst f lines fault
+    by_answer (inl text) = absurd (cc (sym failed ∙ reads f lines text.0 text.1))
     by_answer (inr first) =
-        (first.0, first.1, cc (sym failed ∙ refuses header step start lines first.0 first.1 first.2), first.2)
+        (first.0, first.1, cc (sym failed ∙ refuses f lines first.0 first.1 first.2), first.2)
 
 -- where it isn't read, its fault tells the first one, unless memory was refused
-pub faults : {S X : Type 0} (view : X → S) (header : Line) (step : S → Line → Result S Wrong) (start : S) (lines : TextLines)
+pub faults : {S T X : Type 0} (view : X → T) (f : Format S T) (lines : TextLines)
     (result : Result X Fault)
-    → Reads view result (read_text header step as_it_is start lines)
-    → IfErr result (λ fault. fault ≢ no_memory → TellsFirst header step start lines fault)
-faults view header step start lines (Ok x) exact = tt
-faults view header step start lines (Err fault) exact = λ lacked. tells header step start lines fault (exact lacked)
+    → Reads view result (read_format f lines)
+    → IfErr result (λ fault. fault ≢ no_memory → TellsFirst f lines fault)
+faults view f lines (Ok x) exact = tt
+faults view f lines (Err fault) exact = λ lacked. tells f lines fault (exact lacked)
 
 -- and where it has a first fault, it is refused for that one
-pub refused_for : {S X : Type 0} (view : X → S) (header : Line) (step : S → Line → Result S Wrong) (start : S) (lines : TextLines)
+pub refused_for : {S T X : Type 0} (view : X → T) (f : Format S T) (lines : TextLines)
     (result : Result X Fault)
-    → Reads view result (read_text header step as_it_is start lines) → (line : ℕ) (wrong : Wrong)
-    → IsFirstFault header step start lines line wrong → Reads view result (Err (fault_at line wrong))
-refused_for view header step start lines result exact line wrong first =
-    subst (λ read. Reads view result read) (refuses header step start lines line wrong first) exact
+    → Reads view result (read_format f lines) → (line : ℕ) (wrong : Wrong)
+    → IsFirstFault f lines line wrong → Reads view result (Err (fault_at line wrong))
+refused_for view f lines result exact line wrong first =
+    subst (λ read. Reads view result read) (refuses f lines line wrong first) exact

@@ -7,8 +7,10 @@ mod NameText
 mod Beginnings
 pub mod Spellings
 pub mod WordLaws
+pub mod Parts
 pub mod TextLaws
 pub mod ReadingLaws
 pub mod FirstFaults
 pub mod TextReading
 pub mod OneText
+pub mod ListLaws

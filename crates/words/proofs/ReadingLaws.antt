@@ -7,7 +7,7 @@ use Rattle.words.specs.declared.faults.LineError.TheVariants.{Memory, Text}
 use Rattle.words.specs.declared.faults.Fault.{Fault}
 use Rattle.words.specs.Fault.{fault_at, fault_of, no_memory}
 use Rattle.words.specs.Text.{line_is, IsOver, Progress}
-use Rattle.words.specs.Reading.{bind, last_line, header_at, end_at, at_line, read_lines, read_text, as_it_is, StopsBy}
+use Rattle.words.specs.Reading.{bind, last_line, header_at, end_at, at_line, faulted, judged, read_lines, read_text, as_read, StopsBy, Whole}
 
 -- the header was taken: the loop begins
 pub begins : {S T : Type 0} (header : List (List ℕ)) (step : S → List (List ℕ) → Result S Wrong)
@@ -120,23 +120,51 @@ no_more step finish place s read so_far over = sym so_far ∙ by_lines place.lin
     by_lines (None ∷ lines) over = refl
     by_lines (Some line ∷ lines) over = absurd over
 
--- nothing follows the last line: the state is what is read
+-- what the state comes to is judged, and nothing follows the last line: that is what is read
+pub ends_judged : {S T : Type 0} (step : S → List (List ℕ) → Result S Wrong) (whole : S → Whole T) (old new : Progress) (s : S) (t : T)
+    (line : List (List ℕ)) (read : Result T Fault)
+    → read_lines step (judged whole) old.taken s old.lines ≡ read → old.lines ≡ Some line ∷ new.lines → new.taken ≡ old.taken + 1
+    → line_is line last_line ≡ true → whole s ≡ Ok t → end_at new ≡ Ok tt → read ≡ Ok t
+unfolding judged bind
+ends_judged step whole old new s t line read so_far taken counted last came nothing =
+    finishes step (judged whole) old new s line t read so_far taken counted last
+    (ap (λ w. bind (faulted w) (λ t. bind (end_at new) (λ _. Ok t))) came ∙ ap (λ r. bind r (λ _. Ok t)) nothing)
+
+-- it comes to no value: the fault is the text's, whatever follows
+pub ends_misjudged : {S T : Type 0} (step : S → List (List ℕ) → Result S Wrong) (whole : S → Whole T) (old new : Progress) (s : S)
+    (number : ℕ) (wrong : Wrong) (line : List (List ℕ)) (fault : Fault) (read : Result T Fault)
+    → read_lines step (judged whole) old.taken s old.lines ≡ read → old.lines ≡ Some line ∷ new.lines → new.taken ≡ old.taken + 1
+    → line_is line last_line ≡ true → whole s ≡ Err (number, wrong) → fault ≡ fault_at number wrong → read ≡ Err fault
+unfolding judged bind
+ends_misjudged step whole old new s number wrong line fault read so_far taken counted last came told =
+    finishes_badly step (judged whole) old new s line fault read so_far taken counted last
+    (ap (λ w. bind (faulted w) (λ t. bind (end_at new) (λ _. Ok t))) came ∙ ap (λ f. Err f) (sym told))
+
+-- it comes to a value, and something follows: its fault is the text's
+pub ends_followed : {S T : Type 0} (step : S → List (List ℕ) → Result S Wrong) (whole : S → Whole T) (old new : Progress) (s : S) (t : T)
+    (line : List (List ℕ)) (fault : Fault) (read : Result T Fault)
+    → read_lines step (judged whole) old.taken s old.lines ≡ read → old.lines ≡ Some line ∷ new.lines → new.taken ≡ old.taken + 1
+    → line_is line last_line ≡ true → whole s ≡ Ok t → end_at new ≡ Err fault → read ≡ Err fault
+unfolding judged bind
+ends_followed step whole old new s t line fault read so_far taken counted last came something =
+    finishes_badly step (judged whole) old new s line fault read so_far taken counted last
+    (ap (λ w. bind (faulted w) (λ t. bind (end_at new) (λ _. Ok t))) came ∙ ap (λ r. bind r (λ _. Ok t)) something)
+
+-- the same where the lines come to the state as it is
+
 pub ends_well : {S : Type 0} (step : S → List (List ℕ) → Result S Wrong) (old new : Progress) (s : S) (line : List (List ℕ))
     (read : Result S Fault)
-    → read_lines step as_it_is old.taken s old.lines ≡ read → old.lines ≡ Some line ∷ new.lines → new.taken ≡ old.taken + 1
+    → read_lines step (judged as_read) old.taken s old.lines ≡ read → old.lines ≡ Some line ∷ new.lines → new.taken ≡ old.taken + 1
     → line_is line last_line ≡ true → end_at new ≡ Ok tt → read ≡ Ok s
-unfolding as_it_is bind
 ends_well step old new s line read so_far taken counted last nothing =
-    finishes step as_it_is old new s line s read so_far taken counted last (ap (λ r. bind r (λ _. Ok s)) nothing)
+    ends_judged step as_read old new s s line read so_far taken counted last refl nothing
 
--- something does: its fault is the text's
 pub ends_badly : {S : Type 0} (step : S → List (List ℕ) → Result S Wrong) (old new : Progress) (s : S) (line : List (List ℕ))
     (fault : Fault) (read : Result S Fault)
-    → read_lines step as_it_is old.taken s old.lines ≡ read → old.lines ≡ Some line ∷ new.lines → new.taken ≡ old.taken + 1
+    → read_lines step (judged as_read) old.taken s old.lines ≡ read → old.lines ≡ Some line ∷ new.lines → new.taken ≡ old.taken + 1
     → line_is line last_line ≡ true → end_at new ≡ Err fault → read ≡ Err fault
-unfolding as_it_is bind
 ends_badly step old new s line fault read so_far taken counted last something =
-    finishes_badly step as_it_is old new s line fault read so_far taken counted last (ap (λ r. bind r (λ _. Ok s)) something)
+    ends_followed step as_read old new s s line fault read so_far taken counted last refl something
 
 -- those that a loop over lines needs
 pub ruleset loop_laws = (begins, no_beginning, goes_on, stops, stops_by, no_more, ends_well, ends_badly)

@@ -1,13 +1,13 @@
 -- Reading as functions on lists: the words of a line are taken one after another, and so are the lines of a text. The first fault
 -- ends it. The functions are confine's own.
-use Rattle.std.specs.Prelude.{◌≡◌, ◌≢◌, ℕ, ◌+◌, List, [], ◌∷◌, ◌++◌, false, Option, Some, None, Result, Ok, Err, if◌then◌else◌, codes}
+use Rattle.std.specs.Prelude.{◌≡◌, ◌≢◌, ℕ, ◌+◌, List, [], ◌∷◌, ◌++◌, map, false, Option, Some, None, Result, Ok, Err, if◌then◌else◌, codes}
 use Rattle.words.specs.declared.faults.Wrong.{Wrong}
 use Rattle.words.specs.declared.faults.Wrong.TheVariants.{Syntax}
 use Rattle.words.specs.declared.faults.LineError.{LineError}
 use Rattle.words.specs.declared.faults.LineError.TheVariants.{Memory, Text}
 use Rattle.words.specs.declared.faults.Fault.{Fault}
 use Rattle.words.specs.Fault.{fault_at, no_memory}
-use Rattle.words.specs.Text.{words_of, line_is, Progress}
+use Rattle.words.specs.Text.{words_of, line_is, text_of, Progress}
 
 -- one step of reading after another: a fault ends it
 unfoldable pub bind : {E X Y : Type 0} → Result X E → (X → Result Y E) → Result Y E
@@ -90,19 +90,53 @@ steps step s (line ∷ lines) = bind (step s line) (λ next. steps step next lin
 abbrev pub whole_lines : List (List ℕ) → List (List (List ℕ)) → List (List (List ℕ))
 whole_lines header body = header ∷ (body ++ last_line ∷ [])
 
+-- the text of values, with a line for each
+abbrev pub list_text : {X : Type 0} → List (List ℕ) → (X → List (List ℕ)) → List X → List ℕ
+list_text header line values = text_of (whole_lines header (map line values))
+
 -- a line other than the line `end`
 abbrev pub IsNotLast : List (List ℕ) → Type 0
 IsNotLast line = line_is line last_line ≡ false
 
--- a text that ends with its `end` line gives the state as it is
-unfoldable pub as_it_is : {S : Type 0} → S → Progress → Result S Fault
-as_it_is s place = bind (end_at place) (λ _. Ok s)
+-- what the lines of a text came to, or the fault of one of them
+abbrev pub Whole : Type 0 → Type 0
+Whole T = Result T (ℕ × Wrong)
+
+abbrev pub faulted : {T : Type 0} → Whole T → Result T Fault
+faulted (Ok t) = Ok t
+faulted (Err (line, wrong)) = Err (fault_at line wrong)
+
+-- what the lines came to is judged once the line `end` was read; then nothing may follow
+unfoldable pub judged : {S T : Type 0} → (S → Whole T) → S → Progress → Result T Fault
+judged whole s place = do
+  t ← faulted (whole s)
+  _ ← end_at place
+  Ok t
+
+-- the lines come to the state as it is
+abbrev pub as_read : {S : Type 0} → S → Whole S
+as_read s = Ok s
 
 -- a whole text: its header, its lines, and what they give
 unfoldable pub read_text : {S T : Type 0} → List (List ℕ) → (S → List (List ℕ) → Result S Wrong) → (S → Progress → Result T Fault)
     → S → List (Option (List (List ℕ))) → Result T Fault
 read_text header step finish s lines =
     bind (header_at header (record { taken = 0; lines = lines })) (λ place. read_lines step finish place.taken s place.lines)
+
+-- a format of texts: the header, what each line makes of the state, what the state comes to at the end, and the state before the lines
+pub record Format (S T : Type 0) : Type 0 where
+  pub header : List (List ℕ)
+  pub step : S → List (List ℕ) → Result S Wrong
+  pub whole : S → Whole T
+  pub start : S
+
+-- a text whose lines are values, read as they are
+abbrev pub list_format : {X : Type 0} → List (List ℕ) → (List X → List (List ℕ) → Result (List X) Wrong) → Format (List X) (List X)
+list_format header step = record { header = header; step = step; whole = as_read; start = [] }
+
+-- what a text of this format is read as, or its first fault
+abbrev pub read_format : {S T : Type 0} → Format S T → List (Option (List (List ℕ))) → Result T Fault
+read_format f lines = read_text f.header f.step (judged f.whole) f.start lines
 
 -- a result is just what reading gives, seen by `view`
 abbrev pub Gives : {E X Y : Type 0} → (X → Y) → Result X E → Result Y E → Type 0

@@ -20,9 +20,13 @@ lines_of_parts (part ∷ next ∷ parts) = Some (words_of part) ∷ lines_of_par
 unfoldable pub lines_of : List ℕ → List (Option (List (List ℕ)))
 lines_of bytes = lines_of_parts (slice_split (λ b. b == 10) bytes)
 
+-- a line as it is written
+abbrev pub line_text : List (List ℕ) → List ℕ
+line_text line = join_with_byte 32 line ++ 10 ∷ []
+
 -- the text of lines of words
 abbrev pub text_of : List (List (List ℕ)) → List ℕ
-text_of lines = flat_map (λ line. join_with_byte 32 line ++ 10 ∷ []) lines
+text_of lines = flat_map line_text lines
 
 -- a word whose bytes are no spaces and no control characters
 abbrev pub IsPlainWord : List ℕ → Type 0

@@ -93,7 +93,7 @@ impl Fault {
 
     /// The fault of a line, which is counted from 1.
     #[tactic(auto, unfolding(crate::specs::Fault::fault_at))]
-    pub(crate) fn at(wrong: Wrong, line: u64) -> Fault
+    pub fn at(wrong: Wrong, line: u64) -> Fault
         ensures { result ≡ fault_at line wrong }
     {
         Fault {

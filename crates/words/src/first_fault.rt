@@ -3,41 +3,41 @@ ghost use Rattle.std.specs.List.{count_by};
 ghost use Rattle.words.specs.declared.faults.Wrong.{Wrong};
 ghost use Rattle.words.specs.declared.faults.Wrong.TheVariants.{Syntax};
 ghost use Rattle.words.specs.Fault.{fault_at};
-ghost use Rattle.words.specs.FirstFault.{IsFirstFault, IsText, Line, TextLines};
-ghost use Rattle.words.specs.Reading.{as_it_is, read_text};
+ghost use Rattle.words.specs.FirstFault.{IsFirstFault, IsText, TextLines};
+ghost use Rattle.words.specs.Reading.{read_format, Format};
 ghost use Rattle.words.specs.Text.{lines_of};
 
 /// A law: a text is refused for its first fault, by the fault's line and by what is wrong there, and is
 /// read just if it has none. So it is read or refused, never both, and for one fault alone.
-pub fn a_text_is_refused_for_its_first_fault<S>()
-    ensures refused { (header : Line) (step : S → Line → Result S Wrong) (start : S) (lines : TextLines)
+pub fn a_text_is_refused_for_its_first_fault<S, T>()
+    ensures refused { (f : Format S T) (lines : TextLines)
         (line : ℕ) (wrong : Wrong)
-        → (read_text header step as_it_is start lines ≡ Err (fault_at line wrong))
-        ↔ IsFirstFault header step start lines line wrong }
-    ensures read { (header : Line) (step : S → Line → Result S Wrong) (start : S) (lines : TextLines)
-        (state : S)
-        → (read_text header step as_it_is start lines ≡ Ok state)
-        ↔ IsText header step start lines state }
-    ensures either { (header : Line) (step : S → Line → Result S Wrong) (start : S) (lines : TextLines)
-        → ((state : S) × IsText header step start lines state)
-        ⊎ ((line : ℕ) × (wrong : Wrong) × IsFirstFault header step start lines line wrong) }
-    ensures never_both { (header : Line) (step : S → Line → Result S Wrong) (start : S) (lines : TextLines)
-        (state : S) (line : ℕ) (wrong : Wrong)
-        → IsText header step start lines state
-        → ¬ IsFirstFault header step start lines line wrong }
-    ensures one { (header : Line) (step : S → Line → Result S Wrong) (start : S) (lines : TextLines)
+        → (read_format f lines ≡ Err (fault_at line wrong))
+        ↔ IsFirstFault f lines line wrong }
+    ensures read { (f : Format S T) (lines : TextLines)
+        (value : T)
+        → (read_format f lines ≡ Ok value)
+        ↔ IsText f lines value }
+    ensures either { (f : Format S T) (lines : TextLines)
+        → ((value : T) × IsText f lines value)
+        ⊎ ((line : ℕ) × (wrong : Wrong) × IsFirstFault f lines line wrong) }
+    ensures never_both { (f : Format S T) (lines : TextLines)
+        (value : T) (line : ℕ) (wrong : Wrong)
+        → IsText f lines value
+        → ¬ IsFirstFault f lines line wrong }
+    ensures one { (f : Format S T) (lines : TextLines)
         (line other : ℕ) (wrong that : Wrong)
-        → IsFirstFault header step start lines line wrong
-        → IsFirstFault header step start lines other that
+        → IsFirstFault f lines line wrong
+        → IsFirstFault f lines other that
         → (line ≡ other) × (wrong ≡ that) }
 {}
 
 /// A law: of a text that is read, each beginning but the whole is refused for its form, at the line
 /// after its last line feed.
-pub fn a_text_that_is_cut_is_refused<S>()
-    ensures { (header : Line) (step : S → Line → Result S Wrong) (start state : S)
+pub fn a_text_that_is_cut_is_refused<S, T>()
+    ensures { (f : Format S T) (value : T)
         (beginning rest : List ℕ)
         → 0 < length rest
-        → IsText header step start (lines_of (beginning ++ rest)) state
-        → IsFirstFault header step start (lines_of beginning) (count_by (λ b. b == 10) beginning + 1) Syntax }
+        → IsText f (lines_of (beginning ++ rest)) value
+        → IsFirstFault f (lines_of beginning) (count_by (λ b. b == 10) beginning + 1) Syntax }
 {}

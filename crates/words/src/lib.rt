@@ -7,6 +7,7 @@ mod first_fault;
 mod line;
 mod names;
 mod numbers;
+mod reader;
 mod split;
 mod text;
 
@@ -15,4 +16,5 @@ pub use first_fault::{a_text_is_refused_for_its_first_fault, a_text_that_is_cut_
 pub use line::Words;
 pub use names::{MAX_NAME_LENGTH, name_of, names_are_read_back};
 pub use numbers::{decimal_of, hexadecimal_of, numbers_are_read_back};
+pub use reader::{Reader, read_text};
 pub use text::Lines;

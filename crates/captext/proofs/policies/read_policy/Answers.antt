@@ -1,20 +1,21 @@
 -- What is read is what the definition says, and the laws of that.
-use Rattle.std.proofs.Common.{[]}
 use Rattle.words.proofs.FirstFaults.{faults, refused_for}
+use Rattle.words.proofs.ListLaws.{found, only}
 use Rattle.words.specs.Text.{lines_of}
-use Rattle.captext.specs.Policies.{edge_line, read_policy_of}
+use Rattle.captext.specs.Policies.{policy_format, read_policy_of}
 use Rattle.captext.specs.PolicyText.{policy_header}
-use Rattle.captext.proofs.PolicyLaws.{found, only}
+use Rattle.captext.proofs.PolicyLaws.{format, plain_header}
 use Rattle.captext.proofs.policies.read_policy.Goals as goal
 
 pub returns : goal.returns
 unfolding read_policy_of
 returns c =
     let read = c.edges_of.ensures in
+    let lines = format c.args.table.now c.objects.ensures.lawful in
     record {
       exact = read;
-      found = found c.args.table.now c.edges_of.result c.args.text.now read;
-      only = only c.args.table.now c.edges_of.result c.args.text.now c.objects.ensures.lawful read;
-      faults = faults _ policy_header (edge_line c.args.table.now) [] (lines_of c.args.text.now) c.edges_of.result read;
-      refused = refused_for _ policy_header (edge_line c.args.table.now) [] (lines_of c.args.text.now) c.edges_of.result read;
+      found = found lines _ policy_header c.args.text.now c.edges_of.result read;
+      only = only lines _ policy_header c.args.text.now c.edges_of.result plain_header read;
+      faults = faults _ (policy_format c.args.table.now) (lines_of c.args.text.now) c.edges_of.result read;
+      refused = refused_for _ (policy_format c.args.table.now) (lines_of c.args.text.now) c.edges_of.result read;
     }

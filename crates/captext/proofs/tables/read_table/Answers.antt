@@ -1,9 +1,7 @@
 -- What is read is tied to its text by the law of texts, and what isn't to its first fault.
-use Rattle.machine.specs.Layout.{empty_layout}
 use Rattle.words.proofs.FirstFaults.{faults, refused_for}
 use Rattle.words.specs.Text.{lines_of}
-use Rattle.captext.specs.Tables.{read_table_of, table_line}
-use Rattle.captext.specs.TableText.{table_header}
+use Rattle.captext.specs.Tables.{read_table_of, table_format}
 use Rattle.captext.proofs.TableLaws.{found, only}
 use Rattle.captext.proofs.tables.read_table.Goals as goal
 
@@ -14,8 +12,8 @@ returns c =
     let read = c.table_of.ensures in
     record {
       exact = read;
-      found = found _ c.table_of.result c.args.text.now law read;
-      only = only _ c.table_of.result c.args.text.now law read;
-      faults = faults _ table_header table_line empty_layout (lines_of c.args.text.now) c.table_of.result read;
-      refused = refused_for _ table_header table_line empty_layout (lines_of c.args.text.now) c.table_of.result read;
+      found = found c.table_of.result c.args.text.now law read;
+      only = only c.table_of.result c.args.text.now law read;
+      faults = faults _ table_format (lines_of c.args.text.now) c.table_of.result read;
+      refused = refused_for _ table_format (lines_of c.args.text.now) c.table_of.result read;
     }

@@ -4,4 +4,4 @@ use Rattle.captext.proofs.tables.tables_are_read_back.Goals as goal
 
 pub returns : goal.returns
 returns c =
-    record { named = table_iff c.lawful_tables_are_built_up.ensures; once = table_once c.lawful_tables_are_built_up.ensures }
+    let law = c.lawful_tables_are_built_up.ensures.tables in record { named = table_iff law; once = table_once law }

@@ -1,9 +1,9 @@
 -- What is read is what the definition says, and the laws of that.
-use Rattle.std.proofs.Common.{[]}
 use Rattle.words.proofs.FirstFaults.{faults, refused_for}
+use Rattle.words.proofs.ListLaws.{found, only}
 use Rattle.words.specs.Text.{lines_of}
-use Rattle.evtext.specs.Script.{read_script_of, script_header, script_step}
-use Rattle.evtext.proofs.Scripts.{found, only}
+use Rattle.evtext.specs.Script.{read_script_of, script_format, script_header}
+use Rattle.evtext.proofs.Scripts.{format, plain_header}
 use Rattle.evtext.proofs.script.read_script.Goals as goal
 
 pub returns : goal.returns
@@ -12,8 +12,8 @@ returns c =
     let read = c.events_of.ensures.exact in
     record {
       exact = read;
-      found = found _ c.events_of.result c.args.text.now read;
-      only = only _ c.events_of.result c.args.text.now read;
-      faults = faults _ script_header script_step [] (lines_of c.args.text.now) c.events_of.result read;
-      refused = refused_for _ script_header script_step [] (lines_of c.args.text.now) c.events_of.result read;
+      found = found format _ script_header c.args.text.now c.events_of.result read;
+      only = only format _ script_header c.args.text.now c.events_of.result plain_header read;
+      faults = faults _ script_format (lines_of c.args.text.now) c.events_of.result read;
+      refused = refused_for _ script_format (lines_of c.args.text.now) c.events_of.result read;
     }

@@ -3,13 +3,10 @@ use Rattle.words.proofs.FirstFaults.{has_first_fault, refuses, is_text, reads, r
 use Rattle.words.proofs.first_fault.a_text_is_refused_for_its_first_fault.Goals as goal
 
 pub returns-clause-refused : goal.returns-clause-refused
-returns-clause-refused g c =
-    λ header step start lines line wrong.
-    (has_first_fault header step start lines line wrong, refuses header step start lines line wrong)
+returns-clause-refused g c = λ f lines line wrong. (has_first_fault f lines line wrong, refuses f lines line wrong)
 
 pub returns-clause-read : goal.returns-clause-read
-returns-clause-read g c =
-    λ header step start lines state. (is_text header step start lines state, reads header step start lines state)
+returns-clause-read g c = λ f lines value. (is_text f lines value, reads f lines value)
 
 pub returns-clause-either : goal.returns-clause-either
 returns-clause-either g c = read_or_refused

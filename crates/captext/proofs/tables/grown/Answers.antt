@@ -1,0 +1,12 @@
+-- The number of a pair is small enough to count its line.
+use Rattle.std.proofs.Common.{rules}
+use Rattle.captext.proofs.TableLaws.{fault_within}
+use Rattle.captext.proofs.tables.grown.Goals as goal
+
+pub overflow_add-result : goal.overflow_add-result
+overflow_add-result c =
+    let within = fault_within c.args.draft c.in-Err.number c.in-Err.ensures.err in search rules
+
+pub overflow_add-result-in-Err : goal.overflow_add-result-in-Err
+overflow_add-result-in-Err c =
+    let within = fault_within c.args.draft c.in-Err.number c.in-Err.ensures.err in search rules

@@ -1,0 +1,51 @@
+-- The places where the reading begins and ends, each by its law.
+use Rattle.std.proofs.Common.{◌≡◌, ◌+◌, Ok, Err, codes, sym, ap, ◌∙◌, subst}
+use Rattle.std.proofs.lemmas.Result.{err_from_is_err_and}
+use Rattle.machine.specs.Layout.{empty_layout}
+use Rattle.words.specs.Reading.{header_at, judged}
+use Rattle.words.specs.Text.{Progress, words_of}
+use Rattle.words.specs.declared.faults.Fault.{Fault}
+use Rattle.words.specs.declared.faults.Wrong.TheVariants.{Syntax, Tree}
+use Rattle.words.specs.Fault.{fault_at}
+use Rattle.words.proofs.ReadingLaws.{begins, ends_followed, ends_misjudged, no_beginning, no_more, stops_by}
+use Rattle.captext.specs.Tables.{grown, table_line, read_table_of}
+use Rattle.captext.proofs.tables.table_of.Goals as goal
+
+pub loop-words-init : goal.loop-words-init
+unfolding read_table_of
+loop-words-init c =
+    let read = subst (λ (at : Progress). header_at (words_of (codes "confine-table 1")) at ≡ Ok c.header.new.self) c.new-lines.ensures.exact c.in_ok-header.ensures.exact in
+    rw c.new-draft.ensures (begins _ table_line (judged grown) empty_layout _ _ read)
+
+pub returns-in_err-header : goal.returns-in_err-header
+unfolding read_table_of
+returns-in_err-header c =
+    let starts = ap (λ (at : Progress). header_at (words_of (codes "confine-table 1")) at) c.new-lines.ensures.exact in
+    let p = err_from_is_err_and c.from_residual.result c.from_residual.ensures.1 in
+    rw (p.1, p.2) (λ _. no_beginning _ table_line (judged grown) empty_layout _ _ (sym starts ∙ c.in_err-header.ensures.exact))
+
+pub returns-in_err-end-in-Ok : goal.returns-in_err-end-in-Ok
+returns-in_err-end-in-Ok c =
+    let taken = c.in-Some.ensures in
+    let p = err_from_is_err_and c.from_residual-in_err-end-in-Ok.result c.from_residual-in_err-end-in-Ok.ensures.1 in
+    rw (p.1, p.2) (λ _. ends_followed table_line grown c.loop-words.lines c.next_line.new.self c.loop-words.draft _ c.in-Some.words _ _
+    c.loop-words.invariant taken.0 taken.1 (sym c.is.ensures ∙ c.if-is.true) c.in-Ok.ensures (sym c.in_err-end-in-Ok.ensures))
+
+pub returns-in-Err : goal.returns-in-Err
+returns-in-Err c _ =
+    let taken = c.in-Some.ensures in
+    ends_misjudged table_line grown c.loop-words.lines c.next_line.new.self c.loop-words.draft c.in-Err.line Tree c.in-Some.words _ _
+    c.loop-words.invariant taken.0 taken.1 (sym c.is.ensures ∙ c.if-is.true) c.in-Err.ensures c.at.ensures
+
+pub returns-in-Err-table_line : goal.returns-in-Err-table_line
+returns-in-Err-table_line c lacked =
+    let taken = c.in-Some.ensures in
+    stops_by table_line (judged grown) c.loop-words.lines c.next_line.new.self c.loop-words.draft c.in-Some.words _ _ _
+    c.loop-words.invariant taken.0 taken.1 (sym c.is.ensures ∙ c.if-is.false) c.in-Err-table_line.ensures.exact c.stopped.ensures lacked
+
+pub returns : goal.returns
+returns c _ =
+    let over = c.in_default.ensures in
+    no_more table_line (judged grown) c.loop-words.lines c.loop-words.draft _ c.loop-words.invariant over.0
+    ∙ ap (λ (fault : Fault). Err fault)
+    (ap (λ (at : Progress). fault_at (at.taken + 1) Syntax) (sym over.1) ∙ sym c.after.ensures)

@@ -1,0 +1,295 @@
+ghost use Rattle.std.specs.Prelude.{◌≡◌, ◌++◌, ℕ, List, map, Ok, IfOk, IfErr, OnOk, Some, string_bytes};
+ghost use Rattle.std.specs.List.{AllByRecursion};
+ghost use Rattle.base.specs.Refusals.{out_of_memory};
+ghost use Rattle.captext.specs.Policies.{read_policy_of};
+ghost use Rattle.captext.specs.PolicyText.{edge_words, label_name, policy_text, IsEdgeOf};
+ghost use Rattle.captext.specs.Spelling.{place_word};
+ghost use Rattle.captext.specs.Tables.{read_table_of};
+ghost use Rattle.captext.specs.TableText.{binding_words, cap_words, label_lines, object_lines, object_name, object_words, pair_words};
+ghost use Rattle.captext.specs.TableText.{place_in, table_lines, table_text};
+ghost use Rattle.machine.specs.Layout.{Layout};
+ghost use Rattle.table.specs.Rules.{kind_at};
+ghost use Rattle.words.specs.Text.{line_text, text_of};
+
+use crate::shapes::Place;
+use crate::tables::tables_are_read_back;
+use base::{Edge, Label, ObjId, Refusal, SlotRef};
+use machine::{
+    Binding, CNode, Context, Control, Detail, Endpoint, Filled, Frame, Initial, Notification,
+    Object, ObjectKind, Pair, Reply, RunState, Share, Tcb, Untyped,
+};
+use policy::Policy;
+use std::alloc::{AllocError, Global};
+use std::fmt;
+use table::Table;
+
+/// The text of a capability table. A text that was read as this table is this one.
+///
+/// # Errors
+///
+/// 40 where memory is refused.
+pub fn write_table(alloc: Global, table: &Table) -> Result<Vec<u8>, Refusal>
+    ensures text { IfOk result (λ text. text.items ≡ table_text table.now) }
+    ensures memory { IfErr result (λ refusal. refusal ≡ out_of_memory) }
+
+    // What is written is read as the table.
+    ensures read_back { IfOk result (λ text. read_table_of text.items ≡ Ok table.now) }
+{
+    tables_are_read_back();
+    // Which rules a table keeps, it tells with its objects.
+    let _ = table.objects();
+    Ok(table_string(alloc, table)?.into_bytes())
+}
+
+/// The text of a policy, with the names that its labels have in the table. A label that the table
+/// lacks has no name there. A text that was read as this policy is this one.
+///
+/// # Errors
+///
+/// 40 where memory is refused.
+#[tactic(auto, using(crate::proofs::PolicyLaws::policy_is_read))]
+pub fn write_policy(alloc: Global, policy: &Policy, table: &Table) -> Result<Vec<u8>, Refusal>
+    ensures text { IfOk result (λ text. text.items ≡ policy_text table.now policy.now) }
+    ensures memory { IfErr result (λ refusal. refusal ≡ out_of_memory) }
+
+    // What is written is read as the policy, if its edges are between labels of the table.
+    ensures read_back { AllByRecursion (IsEdgeOf table.now) policy.now
+        → IfOk result (λ text. read_policy_of table.now text.items ≡ Ok policy.now) }
+{
+    let _ = table.objects();
+    Ok(policy_string(alloc, policy.edges(), table)?.into_bytes())
+}
+
+fn table_string(alloc: Global, table: &Table) -> Result<String, AllocError>
+    ensures { IfOk result (λ text. string_bytes text ≡ table_text table.now) }
+{
+    let mut text = String::from_str(alloc, "confine-table 1\n")?;
+    write_items(&mut text, table)?;
+    text.push_str("end\n")?;
+    Ok(text)
+}
+
+#[tactic(auto, using(crate::proofs::Written::sections))]
+fn write_items(text: &mut String, table: &Table) -> Result<(), AllocError>
+    ensures { OnOk result (string_bytes text.new ≡ string_bytes text.old ++ text_of (table_lines table.now)) }
+{
+    write_labels(text, table)?;
+    write_objects(text, table)?;
+    write_lines(text, table, table.caps())?;
+    write_lines(text, table, table.pairs())?;
+    write_lines(text, table, table.bindings())
+}
+
+fn policy_string(alloc: Global, edges: &[Edge], table: &Table) -> Result<String, AllocError>
+    ensures { IfOk result (λ text. string_bytes text ≡ policy_text table.now edges.now) }
+{
+    let mut text = String::from_str(alloc, "confine-policy 1\n")?;
+    write_lines(&mut text, table, edges)?;
+    text.push_str("end\n")?;
+    Ok(text)
+}
+
+/// What has a line, by the names that a table gives.
+trait Line {
+    // The words of the line.
+    ghost words: { Layout → Self → List (List ℕ) };
+
+    fn write(&self, text: &mut String, table: &Table) -> Result<(), AllocError>
+        ensures { OnOk result (string_bytes text.new
+            ≡ string_bytes text.old ++ line_text (words table.now self.now)) };
+}
+
+#[tactic(auto, using(crate::proofs::Written::line_more))]
+fn write_lines<T: Line>(text: &mut String, table: &Table, items: &[T]) -> Result<(), AllocError>
+    ensures { OnOk result (string_bytes text.new
+        ≡ string_bytes text.old ++ text_of (map (T.words table.now) items.now)) }
+{
+    for item in items {
+        item.write(text, table)?;
+    }
+    Ok(())
+}
+
+#[tactic(auto, using(crate::proofs::Written::line_more))]
+fn write_labels(text: &mut String, table: &Table) -> Result<(), AllocError>
+    ensures { OnOk result (string_bytes text.new ≡ string_bytes text.old ++ text_of (label_lines table.now)) }
+{
+    // That labels are few, a table tells with its objects.
+    let _ = table.objects();
+    for number in 0..table.label_count() {
+        if let Some(label) = Label::new(number as u8) {
+            let name = label_name(table, label);
+            writeln!(text, "label {name}")?;
+        }
+    }
+    Ok(())
+}
+
+fn write_objects(text: &mut String, table: &Table) -> Result<(), AllocError>
+    ensures { OnOk result (string_bytes text.new ≡ string_bytes text.old ++ text_of (object_lines table.now)) }
+{
+    for (id, initial) in table.objects().iter().enumerate() {
+        write_object(text, table, ObjId(id as u64), initial)?;
+    }
+    Ok(())
+}
+
+#[tactic(auto, using(crate::proofs::Written::nameless))]
+fn label_name(table: &Table, label: Label) -> &str
+    ensures { result.now ≡ label_name table.now label }
+{
+    match table.label_name(label) {
+        Some(name) => name,
+        None => "",
+    }
+}
+
+#[tactic(auto, using(crate::proofs::Written::nameless))]
+fn object_name(table: &Table, id: ObjId) -> &str
+    ensures { result.now ≡ object_name table.now id }
+{
+    match table.object_name(id) {
+        Some(name) => name,
+        None => "",
+    }
+}
+
+/// A slot's place in its holder.
+fn place_of(table: &Table, slot: SlotRef) -> Place
+    ensures { result ≡ place_in (kind_at table.now slot.holder) slot.index }
+{
+    match table.kind(slot.holder) {
+        Some(ObjectKind::Tcb) => Place::Root,
+        _ => Place::Index(slot.index),
+    }
+}
+
+impl fmt::Display for Place {
+    ghost output = { λ place. Some (place_word place) };
+
+    fn fmt<W: fmt::Write>(&self, f: &mut fmt::Formatter<W>) -> fmt::Result {
+        match self {
+            Place::Index(index) => write!(f, "{index}"),
+            Place::Root => write!(f, "root"),
+        }
+    }
+}
+
+fn write_object(
+    text: &mut String,
+    table: &Table,
+    id: ObjId,
+    initial: &Initial,
+) -> Result<(), AllocError>
+    ensures { OnOk result (string_bytes text.new
+        ≡ string_bytes text.old ++ line_text (object_words table.now (object_name table.now id) initial.now)) }
+{
+    let name = object_name(table, id);
+    let label = label_name(table, initial.label);
+    match initial.object {
+        Object::Untyped(Untyped { base, bits, .. }) => {
+            writeln!(text, "untyped {name} {label} 0x{base:x} {bits}")
+        }
+        Object::CNode(CNode { address, radix }) => {
+            let radix = radix.bits();
+            writeln!(text, "cnode {name} {label} 0x{address:x} {radix}")
+        }
+        Object::Tcb(Tcb { address, state, .. }) => {
+            let start = match state {
+                RunState::Ready => "ready",
+                _ => "inactive",
+            };
+            writeln!(text, "tcb {name} {label} 0x{address:x} {start}")
+        }
+        Object::Endpoint(Endpoint { address }) => {
+            writeln!(text, "endpoint {name} {label} 0x{address:x}")
+        }
+        Object::Notification(Notification { address, .. }) => {
+            writeln!(text, "notification {name} {label} 0x{address:x}")
+        }
+        Object::Reply(Reply { address, .. }) => writeln!(
+            text,
+            "reply {name} {label} 0x{address:x}"
+        ),
+        Object::Context(Context { address, share, .. }) => match share {
+            None => writeln!(text, "context {name} {label} 0x{address:x} -"),
+            Some(
+                Share {
+                    core,
+                    budget,
+                    period,
+                },
+            ) => {
+                writeln!(
+                    text,
+                    "context {name} {label} 0x{address:x} {core} {budget} {period}"
+                )
+            }
+        },
+        Object::Frame(Frame { address }) => writeln!(text, "frame {name} {label} 0x{address:x}"),
+        Object::Control(Control { core }) => writeln!(text, "control {name} {label} {core}"),
+    }
+}
+
+impl Line for Filled {
+    ghost words = { cap_words };
+
+    fn write(&self, text: &mut String, table: &Table) -> Result<(), AllocError> {
+        let holder = object_name(table, self.slot.holder);
+        let place = place_of(table, self.slot);
+        let object = object_name(table, self.cap.object);
+        match self.cap.detail {
+            Detail::CNode(guard) => {
+                writeln!(
+                    text,
+                    "cap {holder}.{place} {object} {} 0x{:x}",
+                    guard.size, guard.value
+                )
+            }
+            Detail::Endpoint(end) | Detail::Notification(end) => {
+                writeln!(
+                    text,
+                    "cap {holder}.{place} {object} {} {}",
+                    end.rights, end.badge
+                )
+            }
+            Detail::Frame(rights) => writeln!(text, "cap {holder}.{place} {object} {rights}"),
+            Detail::Untyped | Detail::Tcb | Detail::Reply | Detail::Context | Detail::Control => {
+                writeln!(text, "cap {holder}.{place} {object}")
+            }
+        }
+    }
+}
+
+impl Line for Pair {
+    ghost words = { pair_words };
+
+    fn write(&self, text: &mut String, table: &Table) -> Result<(), AllocError> {
+        let parent = object_name(table, self.parent.holder);
+        let parent_place = place_of(table, self.parent);
+        let child = object_name(table, self.child.holder);
+        let child_place = place_of(table, self.child);
+        writeln!(text, "child {parent}.{parent_place} {child}.{child_place}")
+    }
+}
+
+impl Line for Binding {
+    ghost words = { binding_words };
+
+    fn write(&self, text: &mut String, table: &Table) -> Result<(), AllocError> {
+        let thread = object_name(table, self.thread);
+        let context = object_name(table, self.context);
+        writeln!(text, "bind {thread} {context}")
+    }
+}
+
+impl Line for Edge {
+    ghost words = { edge_words };
+
+    fn write(&self, text: &mut String, table: &Table) -> Result<(), AllocError> {
+        let from = label_name(table, self.from);
+        let kind = self.kind;
+        let to = label_name(table, self.to);
+        writeln!(text, "edge {from} {kind} {to}")
+    }
+}

@@ -1,0 +1,21 @@
+-- The slots rise, so a search among them finds the one or tells that there is none.
+use Rattle.std.proofs.Common.{rules, ap, option_map}
+use Rattle.std.proofs.lemmas.List.Sorted.{answers_always}
+use Rattle.machine.specs.declared.layout.Filled.{Filled}
+use Rattle.machine.proofs.LookUps.{slot_total}
+use Rattle.table.proofs.SearchLemmas.{found_at, searchable, not_found}
+use Rattle.table.proofs.tree.cap_in.Goals as goal
+
+pub returns-in-Ok : goal.returns-in-Ok
+returns-in-Ok c =
+    let found = c.in-Ok.ensures.position (λ (filled : Filled). filled.slot) (answers_always _ _ _ (λ f a r g h. search rules)) in
+    ap (option_map (λ (filled : Filled). filled.cap))
+    (found_at slot_total (λ (filled : Filled). filled.slot) c.args.caps.now c.requires c.args.slot c.in-Ok.index _
+    c.in-Ok.ensures.bound (found _))
+
+pub returns-in-Err : goal.returns-in-Err
+returns-in-Err c =
+    let apart = c.in-Err.ensures.position (λ (filled : Filled). filled.slot) (answers_always _ _ _ (λ f a r g h. search rules)) in
+    ap (option_map (λ (filled : Filled). filled.cap))
+    (not_found slot_total (λ (filled : Filled). filled.slot) c.args.caps.now c.requires c.args.slot _
+    (apart (searchable slot_total (λ (filled : Filled). filled.slot) c.args.caps.now c.requires c.args.slot)))

@@ -1,0 +1,90 @@
+-- The derivation tree of a capability table: which capability may be whose child, and which are original (seL4 manual,
+-- "Capability Derivation Tree").
+use Rattle.std.specs.Prelude.{◌≡◌, ◌≢◌, ℕ, ◌==◌, ◌&&◌, ◌||◌, ◌⊎◌, Bool, true, false, not, List, map, Option, None, Some}
+use Rattle.std.specs.Prelude.{position}
+use Rattle.std.specs.Int.RustNames.{bit_and}
+use Rattle.std.specs.Option.{option_and_then}
+use Rattle.base.specs.declared.ids.SlotRef.{SlotRef}
+use Rattle.machine.specs.declared.cap.Cap.{Cap}
+use Rattle.machine.specs.declared.cap.Detail.{Detail}
+use Rattle.machine.specs.declared.cap.Detail.TheVariants as d
+use Rattle.machine.specs.declared.layout.Filled.{Filled}
+use Rattle.machine.specs.declared.layout.Pair.{Pair}
+use Rattle.machine.specs.declared.object.ObjectKind.TheVariants as kind
+use Rattle.machine.specs.Capabilities.{kind_of_detail}
+use Rattle.machine.specs.Layout.{Layout, empty_layout, initial_cap, initial_parent}
+use Rattle.machine.specs.Machine.{same_id}
+
+-- a capability's badge; a kind without badges has badge 0
+abbrev pub badge_of : Detail → ℕ
+badge_of (d.Endpoint end) = end.badge
+badge_of (d.Notification end) = end.badge
+badge_of _ = 0
+
+-- a capability's rights, as bits; a kind without rights has none
+abbrev pub rights_of : Detail → ℕ
+rights_of (d.Endpoint end) = end.rights.0
+rights_of (d.Notification end) = end.rights.0
+rights_of (d.Frame rights) = rights.0
+rights_of _ = 0
+
+abbrev pub is_for_untyped : Detail → Bool
+is_for_untyped d.Untyped = true
+is_for_untyped _ = false
+
+-- the table of these capabilities and pairs alone
+abbrev pub tree_of : List Filled → List Pair → Layout
+tree_of caps pairs = record empty_layout { caps = caps; pairs = pairs }
+
+-- which capabilities are original
+
+-- the capability in a slot's parent: none where the slot has no parent, or the parent is empty
+unfoldable pub source_of : Layout → SlotRef → Option Cap
+source_of t slot = option_and_then (initial_cap t) (initial_parent t slot)
+
+-- whether a capability with this source is original: copies keep the source's badge
+abbrev pub is_original_from : Option Cap → Detail → Bool
+is_original_from None detail = true
+is_original_from (Some source) detail = not (badge_of detail == badge_of source.detail)
+
+-- whether a capability is original in this slot
+unfoldable pub is_original : Layout → SlotRef → Detail → Bool
+is_original t slot detail = is_original_from (source_of t slot) detail
+
+-- a filled slot, marked as the table's pairs say
+abbrev pub with_mark : Layout → Filled → Filled
+with_mark t filled = record filled { cap = record filled.cap { original = is_original t filled.slot filled.cap.detail } }
+
+-- the table in which each capability is marked so
+abbrev pub with_originals : Layout → Layout
+with_originals t = record t { caps = map (with_mark t) t.caps }
+
+-- which capabilities may be parent and child
+
+-- the capability above and the one below in a pair of the tree: both slots are filled and for one object, which is no untyped;
+-- the one above is original, and has no badge or the badge of the one below, whose rights are among its own
+pub record IsPairOf (t : Layout) (pair : Pair) : Type 0 where
+  pub above : Cap
+  pub below : Cap
+  pub parent : initial_cap t pair.parent ≡ Some above
+  pub child : initial_cap t pair.child ≡ Some below
+  pub object : above.object ≡ below.object
+  pub derivable : kind_of_detail below.detail ≢ kind.Untyped
+  pub original : above.original ≡ true
+  pub badge : (badge_of above.detail ≡ 0) ⊎ (badge_of above.detail ≡ badge_of below.detail)
+  pub rights : bit_and (rights_of above.detail) (rights_of below.detail) ≡ rights_of below.detail
+
+-- the same as a test
+abbrev pub are_kin : Option Cap → Option Cap → Bool
+are_kin (Some above) (Some below) =
+    same_id above.object below.object && not (is_for_untyped below.detail) && above.original
+    && (badge_of above.detail == 0 || badge_of above.detail == badge_of below.detail)
+    && bit_and (rights_of above.detail) (rights_of below.detail) == rights_of below.detail
+are_kin _ _ = false
+
+unfoldable pub is_kin : Layout → Pair → Bool
+is_kin t pair = are_kin (initial_cap t pair.parent) (initial_cap t pair.child)
+
+-- the number of the first pair that is none
+unfoldable pub tree_fault : Layout → Option ℕ
+tree_fault t = position (λ pair. not (is_kin t pair)) t.pairs

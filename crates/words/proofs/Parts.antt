@@ -1,0 +1,198 @@
+-- Parts of a line are put together: numbers and names, one part after another, a part as another type's value, a choice by a word.
+use Rattle.std.proofs.Common.{◌≡◌, ℕ, ◌<◌, ◌^◌, Bool, true, false, cond, List, [], ◌∷◌, ◌++◌, Result, Ok, Err, refl, sym, ap, subst, ◌∙◌, append_assoc}
+use Rattle.std.specs.Bool.{Decides}
+use Rattle.std.specs.Fmt.{decimal}
+use Rattle.std.specs.List.{AllByRecursion}
+use Rattle.std.specs.Str.{bytes_eq}
+use Rattle.std.proofs.lemmas.List.{append-nil}
+use Rattle.std.proofs.lemmas.Slice.Eq.{bytes_eq-Decides}
+use Rattle.words.specs.declared.faults.Wrong.{Wrong}
+use Rattle.words.specs.Name.{is_name, name_at}
+use Rattle.words.specs.Number.{hexadecimal, hex_at, number_at}
+use Rattle.words.specs.Parts.{PartReader, in_turn, read_as, by_word, keyed, IsPart}
+use Rattle.words.specs.Reading.{bind, ended_at, word_at}
+use Rattle.words.specs.Text.{IsPlainWord}
+use Rattle.words.proofs.TextLaws.{both}
+use Rattle.words.proofs.WordLaws.{bind_ok, ended_then, number_then, number_again, hex_then, hex_number_again, name_then, name_again, plain_decimal, plain_hexadecimal, plain_name, word_then}
+
+-- reading gives what was read
+bind_itself : {E X : Type 0} (r : Result X E) → bind r (λ x. Ok x) ≡ r
+unfolding bind
+bind_itself (Ok x) = refl
+bind_itself (Err e) = refl
+
+pub number_part : IsPart number_at (λ n. decimal n ∷ []) (λ n. n < 2 ^ 64)
+number_part = record { takes = takes; again = number_again; plain = λ n small. (plain_decimal n small, tt) } where
+  takes : (words : List (List ℕ)) (taken : ℕ × List (List ℕ)) → number_at words ≡ Ok taken
+      → (words ≡ decimal taken.0 ∷ taken.1) × (taken.0 < 2 ^ 64)
+  takes words taken h =
+      let read = number_then (λ x. Ok x) words taken (bind_itself (number_at words) ∙ h) in
+      let same : (read.number, read.rest) ≡ taken = cc in
+      subst (λ t. (words ≡ decimal t.0 ∷ t.1) × (t.0 < 2 ^ 64)) same (read.words_are, read.small)
+
+pub hex_part : IsPart hex_at (λ n. hexadecimal n ∷ []) (λ n. n < 2 ^ 64)
+hex_part = record { takes = takes; again = hex_number_again; plain = λ n small. (plain_hexadecimal n small, tt) } where
+  takes : (words : List (List ℕ)) (taken : ℕ × List (List ℕ)) → hex_at words ≡ Ok taken
+      → (words ≡ hexadecimal taken.0 ∷ taken.1) × (taken.0 < 2 ^ 64)
+  takes words taken h =
+      let read = hex_then (λ x. Ok x) words taken (bind_itself (hex_at words) ∙ h) in
+      let same : (read.number, read.rest) ≡ taken = cc in
+      subst (λ t. (words ≡ hexadecimal t.0 ∷ t.1) × (t.0 < 2 ^ 64)) same (read.words_are, read.small)
+
+pub name_part : IsPart name_at (λ name. name ∷ []) (λ name. is_name name ≡ true)
+name_part = record { takes = takes; again = name_again; plain = λ name is. (plain_name name is, tt) } where
+  takes : (words : List (List ℕ)) (taken : List ℕ × List (List ℕ)) → name_at words ≡ Ok taken
+      → (words ≡ taken.0 ∷ taken.1) × (is_name taken.0 ≡ true)
+  takes words taken h =
+      let read = name_then (λ x. Ok x) words taken (bind_itself (name_at words) ∙ h) in
+      let same : (read.name, read.rest) ≡ taken = cc in
+      subst (λ t. (words ≡ t.0 ∷ t.1) × (is_name t.0 ≡ true)) same (read.words_are, read.is)
+
+-- one part after another
+pub both_parts : {X Y : Type 0} {one : PartReader X} {other : PartReader Y} {spell : X → List (List ℕ)} {spell_other : Y → List (List ℕ)}
+    {Is : X → Type 0} {IsOther : Y → Type 0} → IsPart one spell Is → IsPart other spell_other IsOther
+    → IsPart (in_turn one other) (λ p. spell p.0 ++ spell_other p.1) (λ p. Is p.0 × IsOther p.1)
+unfolding in_turn bind
+both_parts {X} {Y} {one} {other} {spell} {spell_other} {Is} {IsOther} first second =
+    record {
+      takes = takes;
+      again = again;
+      plain = λ p is. both IsPlainWord (spell p.0) (spell_other p.1) (first.plain p.0 is.0) (second.plain p.1 is.1);
+    }
+  where
+    takes : (words : List (List ℕ)) (taken : (X × Y) × List (List ℕ)) → (in_turn one other) words ≡ Ok taken
+        → (words ≡ (spell taken.0.0 ++ spell_other taken.0.1) ++ taken.1) × (Is taken.0.0 × IsOther taken.0.1)
+    takes words taken h =
+        let a = bind_ok (one words) _ taken h in
+        let b = bind_ok (other a.0.1) _ taken a.2 in
+        let of_one = first.takes words a.0 a.1 in
+        let of_other = second.takes a.0.1 b.0 b.1 in
+        let same : ((a.0.0, b.0.0), b.0.1) ≡ taken = cc in
+        subst (λ t. (words ≡ (spell t.0.0 ++ spell_other t.0.1) ++ t.1) × (Is t.0.0 × IsOther t.0.1)) same (
+          of_one.0 ∙ ap (λ rest. spell a.0.0 ++ rest) of_other.0 ∙ sym (append_assoc (spell a.0.0) (spell_other b.0.0) b.0.1),
+          (of_one.1, of_other.1),
+        )
+
+    again : (p : X × Y) (rest : List (List ℕ)) → Is p.0 × IsOther p.1
+        → (in_turn one other) ((spell p.0 ++ spell_other p.1) ++ rest) ≡ Ok (p, rest)
+    again p rest is =
+        ap (λ ws. in_turn one other ws) (append_assoc (spell p.0) (spell_other p.1) rest)
+        ∙ ap (λ r. bind r (λ a. bind (other a.1) (λ b. Ok ((a.0, b.0), b.1)))) (first.again p.0 (spell_other p.1 ++ rest) is.0)
+        ∙ ap (λ r. bind r (λ b. Ok ((p.0, b.0), b.1))) (second.again p.1 rest is.1)
+
+-- a part as another type's value
+pub part_as : {X Y : Type 0} {read : PartReader X} {spell : X → List (List ℕ)} {Is : X → Type 0} → IsPart read spell Is → (f : X → Y)
+    (spell_as : Y → List (List ℕ)) (IsAs : Y → Type 0) → ((x : X) → spell_as (f x) ≡ spell x) → ((x : X) → Is x → IsAs (f x))
+    → ((y : Y) → IsAs y → (x : X) × (f x ≡ y) × Is x) → IsPart (read_as f read) spell_as IsAs
+unfolding read_as bind
+part_as {X} {Y} {read} {spell} {Is} part f spell_as IsAs same_words is of =
+    record { takes = takes; again = again; plain = plain } where
+      takes : (words : List (List ℕ)) (taken : Y × List (List ℕ)) → read_as f read words ≡ Ok taken
+          → (words ≡ spell_as taken.0 ++ taken.1) × IsAs taken.0
+      takes words taken h =
+          let a = bind_ok (read words) _ taken h in
+          let of_part = part.takes words a.0 a.1 in
+          let same : (f a.0.0, a.0.1) ≡ taken = cc in
+          subst (λ t. (words ≡ spell_as t.0 ++ t.1) × IsAs t.0) same
+          (of_part.0 ∙ ap (λ ws. ws ++ a.0.1) (sym (same_words a.0.0)), is a.0.0 of_part.1)
+
+      again : (y : Y) (rest : List (List ℕ)) → IsAs y → read_as f read (spell_as y ++ rest) ≡ Ok (y, rest)
+      again y rest is_as =
+          let x = of y is_as in
+          ap (λ v. read_as f read (spell_as v ++ rest)) (sym x.1)
+          ∙ ap (λ ws. read_as f read (ws ++ rest)) (same_words x.0)
+          ∙ ap (λ r. bind r (λ a. Ok (f a.0, a.1))) (part.again x.0 rest x.2)
+          ∙ ap (λ v. Ok (v, rest)) x.1
+
+      plain : (y : Y) → IsAs y → AllByRecursion IsPlainWord (spell_as y)
+      plain y is_as =
+          let x = of y is_as in
+          subst (λ v. AllByRecursion IsPlainWord (spell_as v)) x.1
+          (subst (AllByRecursion IsPlainWord) (sym (same_words x.0)) (part.plain x.0 x.2))
+
+-- a choice by a word: what is read after each word has to spell the word again
+abbrev pub IsChoice : {X : Type 0} → (X → List (List ℕ)) → (X → Type 0) → List ℕ × PartReader X → Type 0
+IsChoice {X} spell Is choice =
+    (words : List (List ℕ)) (taken : X × List (List ℕ)) → choice.1 words ≡ Ok taken
+    → (choice.0 ∷ words ≡ spell taken.0 ++ taken.1) × Is taken.0
+
+-- a part after its word
+pub after_word : {X Y : Type 0} {read : PartReader X} {spell_part : X → List (List ℕ)} {IsX : X → Type 0} → IsPart read spell_part IsX
+    → (key : List ℕ) (f : X → Y) (spell : Y → List (List ℕ)) (Is : Y → Type 0) → ((x : X) → spell (f x) ≡ key ∷ spell_part x)
+    → ((x : X) → IsX x → Is (f x)) → IsChoice spell Is (key, read_as f read)
+unfolding read_as
+after_word {X} {Y} {read} {spell_part} part key f spell Is spelled is words taken h =
+    let a = bind_ok (read words) _ taken h in
+    let of_part = part.takes words a.0 a.1 in
+    let same : (f a.0.0, a.0.1) ≡ taken = cc in
+    subst (λ t. (key ∷ words ≡ spell t.0 ++ t.1) × Is t.0) same
+    (ap (λ ws. key ∷ ws) of_part.0 ∙ ap (λ ws. ws ++ a.0.1) (sym (spelled a.0.0)), is a.0.0 of_part.1)
+
+-- a part as it is, after its word
+pub after_key : {X : Type 0} {read : PartReader X} {spell_part : X → List (List ℕ)} {Is : X → Type 0} → IsPart read spell_part Is
+    → (key : List ℕ) → IsChoice (λ x. key ∷ spell_part x) Is (key, read)
+after_key part key words taken h =
+    let of_part = part.takes words taken h in (ap (λ ws. key ∷ ws) of_part.0, of_part.1)
+
+-- and what it is spelled as is read as it
+pub read_as_again : {X Y : Type 0} {read : PartReader X} {spell : X → List (List ℕ)} {Is : X → Type 0} → IsPart read spell Is
+    → (f : X → Y) (x : X) (rest : List (List ℕ)) → Is x → read_as f read (spell x ++ rest) ≡ Ok (f x, rest)
+unfolding read_as bind
+read_as_again part f x rest is = ap (λ r. bind r (λ a. Ok (f a.0, a.1))) (part.again x rest is)
+
+by_word_takes : {X : Type 0} (spell : X → List (List ℕ)) (Is : X → Type 0) (choices : List (List ℕ × PartReader X))
+    → AllByRecursion (IsChoice spell Is) choices → (word : List ℕ) (words : List (List ℕ)) (taken : X × List (List ℕ))
+    → by_word choices word words ≡ Ok taken → (word ∷ words ≡ spell taken.0 ++ taken.1) × Is taken.0
+unfolding by_word
+by_word_takes spell Is [] all word words taken h = absurd (cc h)
+by_word_takes {X} spell Is (choice ∷ choices) all word words taken h =
+    by_test (bytes_eq word choice.0) (bytes_eq-Decides word choice.0) (by_word_takes spell Is choices all.1 word words taken) h
+  where
+    by_test : (same : Bool) → Decides same (word ≡ choice.0)
+        → (by_word choices word words ≡ Ok taken → (word ∷ words ≡ spell taken.0 ++ taken.1) × Is taken.0)
+        → cond same (choice.1 words) (by_word choices word words) ≡ Ok taken
+        → (word ∷ words ≡ spell taken.0 ++ taken.1) × Is taken.0
+    by_test true same later h =
+        subst (λ w. (w ∷ words ≡ spell taken.0 ++ taken.1) × Is taken.0) (sym (same.0 refl)) (all.0 words taken h)
+    by_test false same later h = later h
+
+pub keyed_part : {X : Type 0} (spell : X → List (List ℕ)) (Is : X → Type 0) (choices : List (List ℕ × PartReader X))
+    → AllByRecursion (IsChoice spell Is) choices
+    → ((x : X) (rest : List (List ℕ)) → Is x → keyed choices (spell x ++ rest) ≡ Ok (x, rest))
+    → ((x : X) → Is x → AllByRecursion IsPlainWord (spell x)) → IsPart (keyed choices) spell Is
+unfolding keyed
+keyed_part {X} spell Is choices all again plain = record { takes = takes; again = again; plain = plain } where
+  takes : (words : List (List ℕ)) (taken : X × List (List ℕ)) → keyed choices words ≡ Ok taken
+      → (words ≡ spell taken.0 ++ taken.1) × Is taken.0
+  takes words taken h =
+      let read = word_then _ words taken h in
+      subst (λ ws. (ws ≡ spell taken.0 ++ taken.1) × Is taken.0) (sym read.words_are)
+      (by_word_takes spell Is choices all read.word read.rest taken read.goes_on)
+
+-- words that begin with those of a value begin with those of no other
+pub part_once : {X : Type 0} {read : PartReader X} {spell : X → List (List ℕ)} {Is : X → Type 0} → IsPart read spell Is
+    → (one other : X) (rest later : List (List ℕ)) → Is one → Is other → spell one ++ rest ≡ spell other ++ later
+    → (one ≡ other) × (rest ≡ later)
+part_once {X} {read} part one other rest later this that same =
+    let taken : ◌≡◌ {A = Result (X × List (List ℕ)) Wrong} (Ok (one, rest)) (Ok (other, later)) =
+    sym (part.again one rest this) ∙ ap read same ∙ part.again other later that in
+    let both : ◌≡◌ {A = X × List (List ℕ)} (one, rest) (other, later) = cc in
+    (ap (λ (p : X × List (List ℕ)). p.0) both, ap (λ (p : X × List (List ℕ)). p.1) both)
+
+-- a line whose words are one part, and nothing after it
+pub alone_again : {X Y : Type 0} {read : PartReader X} {spell : X → List (List ℕ)} {Is : X → Type 0} → IsPart read spell Is
+    → (next : X → Result Y Wrong) (x : X) → Is x → bind (read (spell x)) (λ x. bind (ended_at x.1) (λ _. next x.0)) ≡ next x
+unfolding bind ended_at
+alone_again {X} {Y} {read} {spell} part next x is =
+    ap (λ ws. bind (read ws) (λ x. bind (ended_at x.1) (λ _. next x.0))) (sym (append-nil (spell x)))
+    ∙ ap (λ r. bind r (λ x. bind (ended_at x.1) (λ _. next x.0))) (part.again x [] is)
+
+-- a line whose words were one part, and nothing after it
+pub alone_takes : {X Y : Type 0} {read : PartReader X} {spell : X → List (List ℕ)} {Is : X → Type 0} → IsPart read spell Is
+    → (next : X → Result Y Wrong) (words : List (List ℕ)) (y : Y) → bind (read words) (λ x. bind (ended_at x.1) (λ _. next x.0)) ≡ Ok y
+    → (x : X) × (words ≡ spell x) × Is x × (next x ≡ Ok y)
+alone_takes {X} {Y} {read} {spell} {Is} part next words y h =
+    let a = bind_ok (read words) _ y h in
+    let ended = ended_then (λ _. next a.0.0) a.0.1 y a.2 in
+    let taken = part.takes words a.0 a.1 in
+    (a.0.0, taken.0 ∙ ap (λ rest. spell a.0.0 ++ rest) ended.0 ∙ append-nil (spell a.0.0), taken.1, ended.1)

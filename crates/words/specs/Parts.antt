@@ -1,0 +1,45 @@
+-- The parts of a line: each is read off the words that are left, is spelled as words again, and what it reads is told by what it
+-- spells (confine's own).
+use Rattle.std.specs.Prelude.{◌≡◌, ℕ, List, [], ◌∷◌, ◌++◌, Result, Ok, Err, if◌then◌else◌}
+use Rattle.std.specs.List.{AllByRecursion}
+use Rattle.std.specs.Str.{bytes_eq}
+use Rattle.words.specs.declared.faults.Wrong.{Wrong}
+use Rattle.words.specs.declared.faults.Wrong.TheVariants.{Syntax}
+use Rattle.words.specs.Reading.{bind, ◌>>=◌, word_at}
+use Rattle.words.specs.Text.{IsPlainWord}
+
+-- what reads a value off the words that are left, and says which words are left after it
+abbrev pub PartReader : Type 0 → Type 0
+PartReader X = List (List ℕ) → Result (X × List (List ℕ)) Wrong
+
+-- one part, and then another
+unfoldable pub in_turn : {X Y : Type 0} → PartReader X → PartReader Y → PartReader (X × Y)
+in_turn one other words = do
+  first ← one words
+  second ← other first.1
+  Ok ((first.0, second.0), second.1)
+
+-- a part as a value of another type
+unfoldable pub read_as : {X Y : Type 0} → (X → Y) → PartReader X → PartReader Y
+read_as f part words = do
+  read ← part words
+  Ok (f read.0, read.1)
+
+-- what follows a word, by the first of these words that it is
+unfoldable pub by_word : {X : Type 0} → List (List ℕ × PartReader X) → List ℕ → PartReader X
+by_word [] word words = Err Syntax
+by_word (choice ∷ choices) word words = if bytes_eq word choice.0 then choice.1 words else by_word choices word words
+
+-- one of these words, and then what follows it
+unfoldable pub keyed : {X : Type 0} → List (List ℕ × PartReader X) → PartReader X
+keyed choices words = do
+  word ← word_at words
+  by_word choices word.0 word.1
+
+-- reading and spelling are one another's inverse, for the values that can be spelled; what they spell are plain words
+pub record IsPart {X : Type 0} (read : PartReader X) (spell : X → List (List ℕ)) (Is : X → Type 0) : Type 0 where
+  pub takes :
+      (words : List (List ℕ)) (taken : X × List (List ℕ)) → read words ≡ Ok taken
+      → (words ≡ spell taken.0 ++ taken.1) × Is taken.0
+  pub again : (x : X) (rest : List (List ℕ)) → Is x → read (spell x ++ rest) ≡ Ok (x, rest)
+  pub plain : (x : X) → Is x → AllByRecursion IsPlainWord (spell x)
