@@ -116,13 +116,22 @@ def table_events(objects):
     return [f"{caller} signal 0", f"{caller} poll 0"]
 
 
+def script_of(events):
+    return text("confine-script 1", events)
+
+
+def log_of(events):
+    """The log of a signal with badge 1 and a poll after it."""
+    signal, poll = events
+    return text("confine-log 1", [f"{signal} = done", f"{poll} = done word 1"])
+
+
 def table_script(objects):
-    return text("confine-script 1", table_events(objects))
+    return script_of(table_events(objects))
 
 
 def table_log(objects):
-    signal, poll = table_events(objects)
-    return text("confine-log 1", [f"{signal} = done", f"{poll} = done word 1"])
+    return log_of(table_events(objects))
 
 
 # The full tables: all nine kinds of object, nearly all slots filled, and a derivation tree. With 448 groups there are
@@ -200,9 +209,8 @@ def full_events(groups):
 
 
 def full_script(groups):
-    return text("confine-script 1", full_events(groups))
+    return script_of(full_events(groups))
 
 
 def full_log(groups):
-    signal, poll = full_events(groups)
-    return text("confine-log 1", [f"{signal} = done", f"{poll} = done word 1"])
+    return log_of(full_events(groups))
