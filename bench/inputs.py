@@ -1,5 +1,8 @@
 """Makes the texts that bench/run measures. The same numbers give the same bytes, always."""
 
+import json
+import random
+
 # Two labels on two cores: the thread 2 of core 1 signals a notification with badge 4, and the thread 3
 # of core 0 polls it.
 TWO_CORES_TABLE = """\
@@ -144,24 +147,33 @@ FULL_OBJECTS = 9
 NOTIFICATION_SLOT, ENDPOINT_SLOT = 7, 9
 
 
-def full_spares(groups):
+def full_label(i, labels):
+    """The label of a group's objects."""
+    return labels[i % len(labels)]
+
+
+def full_spares(groups, labels):
     """What only some groups have, by its name: untyped memory and the controls of cores."""
-    untypeds = [(f"u{i}", f"untyped u{i} a {0x8000000 + i * 0x1000:#x} 12") for i in range(groups * 3 // 28)]
-    controls = [(f"k{i}", f"control k{i} a {i}") for i in range(groups // 28)]
+    untypeds = [
+        (f"u{i}", f"untyped u{i} {full_label(i, labels)} {0x8000000 + i * 0x1000:#x} 12")
+        for i in range(groups * 3 // 28)
+    ]
+    controls = [(f"k{i}", f"control k{i} {full_label(i, labels)} {i}") for i in range(groups // 28)]
     return untypeds + controls
 
 
-def full_objects(i):
+def full_objects(i, labels):
     """The nine objects of a group."""
-    yield f"cnode c{i} a {0x1000000 + i * 0x1000:#x} {FULL_RADIX}"
+    label = full_label(i, labels)
+    yield f"cnode c{i} {label} {0x1000000 + i * 0x1000:#x} {FULL_RADIX}"
     for t in (2 * i, 2 * i + 1):
-        yield f"tcb t{t} a {0x2000000 + t * 0x400:#x} ready"
-    yield f"endpoint e{i} a {0x3000000 + i * 0x10:#x}"
-    yield f"notification n{i} a {0x4000000 + i * 0x20:#x}"
-    yield f"reply p{i} a {0x5000000 + i * 0x20:#x}"
+        yield f"tcb t{t} {label} {0x2000000 + t * 0x400:#x} ready"
+    yield f"endpoint e{i} {label} {0x3000000 + i * 0x10:#x}"
+    yield f"notification n{i} {label} {0x4000000 + i * 0x20:#x}"
+    yield f"reply p{i} {label} {0x5000000 + i * 0x20:#x}"
     for x in (2 * i, 2 * i + 1):
-        yield f"context x{x} a {0x6000000 + x * 0x100:#x} {x % CORES} 10 10"
-    yield f"frame f{i} a {0x7000000 + i * 0x1000:#x}"
+        yield f"context x{x} {label} {0x6000000 + x * 0x100:#x} {x % CORES} 10 10"
+    yield f"frame f{i} {label} {0x7000000 + i * 0x1000:#x}"
 
 
 def full_caps(i, groups, spare):
@@ -186,12 +198,12 @@ def full_pairs(i, groups):
     yield from (f"child c{i}.0 t{thread}.root" for thread in (2 * i, 2 * i + 1))
 
 
-def full_table(groups):
-    """A table of all kinds of line, in groups of nine objects."""
-    spares = full_spares(groups)
-    lines = ["label a"]
+def full_table(groups, labels=("a",)):
+    """A table of all kinds of line, in groups of nine objects; the groups have the labels in turn."""
+    spares = full_spares(groups, labels)
+    lines = [f"label {label}" for label in labels]
     for i in range(groups):
-        lines.extend(full_objects(i))
+        lines.extend(full_objects(i, labels))
     lines.extend(line for _, line in spares)
     for i in range(groups):
         lines.extend(full_caps(i, groups, spares[i][0] if i < len(spares) else f"t{2 * i}"))
@@ -214,3 +226,62 @@ def full_script(groups):
 
 def full_log(groups):
     return log_of(full_events(groups))
+
+
+# Checks: a full table of 64 labels, and policies for it.
+CHECK_GROUPS = 448
+CHECK_LABELS = tuple(f"l{i}" for i in range(64))
+STRUCTURAL = ("space", "derive", "runs", "holds")
+
+
+def check_table():
+    return full_table(CHECK_GROUPS, CHECK_LABELS)
+
+
+def policy_of(edges):
+    """The text of a policy that has these edges, which rise by label, kind and label."""
+    return text("confine-policy 1", [f"edge {a} {kind} {b}" for a, kind, b in edges])
+
+
+def every_edge():
+    return [(a, kind, b) for a in CHECK_LABELS for kind in KINDS for b in CHECK_LABELS]
+
+
+def random_edges(seed, one_in):
+    """Of all edges one in so many, chosen by a generator of this seed."""
+    chosen = random.Random(seed)
+    return [edge for edge in every_edge() if chosen.randrange(one_in) == 0]
+
+
+def denial(rule, place):
+    return report({"place": place, "rule": rule, "verdict": "deny"})
+
+
+def report(value):
+    return json.dumps(value, separators=(",", ":"), sort_keys=True) + "\n"
+
+
+def every_edge_report():
+    """Each label has full and cut authority on each, and the table fills so many slots."""
+    caps = sum(line.startswith("cap ") for line in check_table().split("\n"))
+    each = {label: list(CHECK_LABELS) for label in CHECK_LABELS}
+    return report({"caps": caps, "cut": each, "full": each, "verdict": "accept"})
+
+
+def no_edge_report():
+    """A policy without edges is closed, and the first capability of the table goes beyond it."""
+    return denial("A1", ["c0.0", "control", CHECK_LABELS[0]])
+
+
+def first_disagreement(edges):
+    """The report of the first place where labels of one domain have different edges, which all random policies break."""
+    had = set(edges)
+    for a in CHECK_LABELS:
+        for b in CHECK_LABELS:
+            if not {(a, "space", b), (a, "control", b)} & had:
+                continue
+            for kind in KINDS:
+                for c in CHECK_LABELS:
+                    if kind not in STRUCTURAL and ((a, kind, c) in had) != ((b, kind, c) in had):
+                        return denial("P1", [a, b, kind, c])
+    raise ValueError("labels of one domain agree")

@@ -1,3 +1,4 @@
 pub mod RightsWords
 pub mod KindNames
 mod CauseLemmas
+mod LabelSets

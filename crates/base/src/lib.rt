@@ -7,6 +7,7 @@ mod edge;
 mod ids;
 mod kind;
 mod label;
+mod labels;
 mod limits;
 mod refusal;
 mod rights;
@@ -16,6 +17,7 @@ pub use edge::Edge;
 pub use ids::{ObjId, SlotRef};
 pub use kind::{Kind, Kinds, kind_names_are_read_back};
 pub use label::Label;
+pub use labels::Labels;
 pub use limits::{
     ADDRESS_BITS, ADDRESS_END, MAX_EVENTS, MAX_OBJECTS, MAX_PERIOD, MAX_RADIX, MAX_SLOTS,
     MAX_THREADS, OBJECT_NUMBERS,

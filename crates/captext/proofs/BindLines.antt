@@ -22,7 +22,7 @@ use Rattle.captext.proofs.LineLaws.{TakesItem, then_words, same_ok}
 use Rattle.captext.proofs.NameLaws.{object_takes, object_again, is_object_name}
 use Rattle.captext.proofs.StepLaws.{demand_then, value_then}
 
-kinds_take : (thread context : Option ObjectKind) → is_thread_and_context thread context ≡ true
+pub kinds_take : (thread context : Option ObjectKind) → is_thread_and_context thread context ≡ true
     → (thread ≡ Some kind.Tcb) × (context ≡ Some kind.Context)
 kinds_take (Some kind.Tcb) (Some kind.Context) h = (refl, refl)
 kinds_take _ _ h = absurd (false≢true h)

@@ -126,7 +126,7 @@ plain_place : (at : Place) → IsPlace at → IsPlainWord (place_word at)
 plain_place (place.Index index) is = plain_decimal index is
 plain_place place.Root is = plain_bytes (codes "root") refl
 
-plain_slot : (name : List ℕ) (at : Place) → is_name name ≡ true → IsPlace at → IsPlainWord (slot_word name at)
+pub plain_slot : (name : List ℕ) (at : Place) → is_name name ≡ true → IsPlace at → IsPlainWord (slot_word name at)
 plain_slot name at is place = both (λ b. 32 < b) name _ (plain_name name is) (lit< tt, plain_place at place)
 
 -- the word of a slot that the table declares is read as that slot, which fits its holder
@@ -136,6 +136,8 @@ pub record IsPlaced (t : Layout) (slot : SlotRef) : Type 0 where
       → slot_at (slot_name t slot ∷ rest)
       ≡ Ok ((object_name t slot.holder, place_in (kind_at t slot.holder) slot.index), rest)
   pub plain : IsPlainWord (slot_name t slot)
+  pub named : is_name (object_name t slot.holder) ≡ true
+  pub indexed : IsPlace (place_in (kind_at t slot.holder) slot.index)
   pub found : object_named t (object_name t slot.holder) ≡ Some slot.holder
   pub slot_is : slot_in slot.holder (place_in (kind_at t slot.holder) slot.index) ≡ slot
   pub fits : fits_holder (kind_at t slot.holder) (place_in (kind_at t slot.holder) slot.index) ≡ true
@@ -161,6 +163,8 @@ placed t slot draft declares =
     record {
       read = λ rest. slot_at_again (object_name t id) (place_in (kind_at t id) slot.index) rest is_name is_place;
       plain = plain_slot (object_name t id) (place_in (kind_at t id) slot.index) is_name is_place;
+      named = is_name;
+      indexed = is_place;
       found = object_again t id draft named;
       slot_is = ap (slot_in id) there ∙ place.1;
       fits = (λ i. fits_holder (kind_held i) (there i)) ∙ place.2;

@@ -1,14 +1,14 @@
 mod Admits
 pub mod SlotLaws
-mod StepLaws
+pub mod StepLaws
 mod PolicyLaws
-mod NameLaws
-mod Written
+pub mod NameLaws
+pub mod Written
 mod TableLines
-mod LineLaws
+pub mod LineLaws
 mod ObjectLines
-mod CapLines
-mod CapTexts
+pub mod CapLines
+pub mod CapTexts
 mod PairLines
-mod BindLines
+pub mod BindLines
 mod TableLaws

@@ -1,5 +1,5 @@
 -- What a policy that was read says of its text, and that the text of each policy is read back.
-use Rattle.std.proofs.Common.{◌≡◌, ℕ, ◌-◌, ◌==◌, ◌&&◌, ◌||◌, ◌↔◌, Bool, true, false, not, nat_lt, List, [], ◌∷◌, ◌++◌, length, codes, Option, Some, None, Result, Ok, IfSome, refl, sym, ap, subst, ◌∙◌, arith}
+use Rattle.std.proofs.Common.{◌≡◌, ℕ, ◌-◌, ◌==◌, ◌&&◌, ◌||◌, ◌↔◌, true, not, nat_lt, List, [], ◌∷◌, ◌++◌, length, codes, Option, Some, None, Ok, IfSome, refl, sym, ap, subst, ◌∙◌, arith}
 use Rattle.std.specs.declared.cmp.Ordering.TheVariants.{Less, Equal, Greater}
 use Rattle.std.specs.declared.cmp.Ordering.{Ordering}
 use Rattle.std.specs.Bool.{⊤}
@@ -16,7 +16,7 @@ use Rattle.base.specs.Kinds.{kind_name, kind_named, kind_number}
 use Rattle.base.proofs.KindNames.{kind_is_named, kind_again}
 use Rattle.machine.specs.Layout.{Layout}
 use Rattle.policy.specs.Policy.{edge_cmp, last_edge, IsAboveLast, IsRising}
-use Rattle.policy.proofs.Edges.{gap_at_end, pushed, rising_added}
+use Rattle.policy.proofs.Members.{rising_appended}
 use Rattle.table.specs.Names.{label_named}
 use Rattle.table.specs.Rules.{IsLawful}
 use Rattle.words.specs.declared.faults.Wrong.TheVariants as wrong
@@ -126,11 +126,6 @@ above_from_test (Some last) edge passed = less_from_test (edge_cmp last edge) pa
     less_from_test Equal h = cc
     less_from_test Greater h = cc
 
-rising_push : (edges : List Edge) (edge : Edge) → IsRising edges → IsAboveLast edges edge → IsRising (edges ++ edge ∷ [])
-rising_push edges edge rising above =
-    let gap = gap_at_end edges edge rising above in
-    subst IsRising (pushed edges edge (length edges) rising gap above) (rising_added edges edge (length edges) rising gap)
-
 rising_front : (edges more : List Edge) → IsRising (edges ++ more) → IsRising edges
 unfolding IsStrictlySortedBy
 rising_front [] more rising = tt
@@ -152,7 +147,7 @@ takes : (t : Layout) (edges : List Edge) (words : List (List ℕ)) (next : List 
     → (edge : Edge) × (words ≡ edge_words t edge) × (edges ++ edge ∷ [] ≡ next) × IsPolicyOf t next
 takes t edges words next is h =
     let taken = line_takes t edges words next h in
-    let rises = rising_push edges taken.edge is.0 (above_from_test (last_edge edges) taken.edge taken.above) in
+    let rises = rising_appended edges taken.edge is.0 (above_from_test (last_edge edges) taken.edge taken.above) in
     let within = both (IsEdgeOf t) edges (taken.edge ∷ []) is.1 (taken.within, tt) in
     (taken.edge, taken.words_are, sym taken.grown, subst (IsPolicyOf t) (sym taken.grown) (rises, within))
 

@@ -13,7 +13,7 @@ use table::Draft;
 use words::{LineError, Words, Wrong};
 
 /// The slot at a place of a holder.
-fn slot_in(holder: ObjId, place: Place) -> SlotRef
+pub fn slot_in(holder: ObjId, place: Place) -> SlotRef
     ensures { result ≡ text.slot_in holder place }
 {
     let index = match place {
@@ -34,7 +34,7 @@ fn cap_rises(draft: &Draft, holder: Option<ObjId>, place: Place) -> bool
 }
 
 /// Whether a place fits its holder: an index a CNode, and the root slot a TCB.
-fn fits_holder(holder: Option<ObjectKind>, place: Place) -> bool
+pub fn fits_holder(holder: Option<ObjectKind>, place: Place) -> bool
     ensures { result ≡ text.fits_holder holder place }
 {
     matches!(
@@ -264,7 +264,7 @@ fn thread_rises(draft: &Draft, thread: Option<ObjId>) -> bool
 }
 
 /// Whether the objects are a thread and a context.
-fn is_thread_and_context(thread: Option<ObjectKind>, context: Option<ObjectKind>) -> bool
+pub fn is_thread_and_context(thread: Option<ObjectKind>, context: Option<ObjectKind>) -> bool
     ensures { result ≡ text.is_thread_and_context thread context }
 {
     matches!(

@@ -9,8 +9,10 @@ mod spelling;
 mod tables;
 mod write;
 
+pub use caps::{fits_holder, is_thread_and_context, slot_in};
 pub use policies::{policies_are_read_back, read_policy};
+pub use shapes::{Place, slot};
 pub use spelling::{slots_are_read_back, terms_are_read_back};
 pub use tables::{lines_are_read_back, read_table, tables_are_read_back};
 pub use words::{Fault, Lines};
-pub use write::{write_policy, write_table};
+pub use write::{label_name, object_name, place_of, write_policy, write_table};

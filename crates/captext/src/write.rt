@@ -57,7 +57,9 @@ pub fn write_policy(alloc: Global, policy: &Policy, table: &Table) -> Result<Vec
         → IfOk result (λ text. read_policy_of table.now text.items ≡ Ok policy.now) }
 {
     let _ = table.objects();
-    Ok(policy_string(alloc, policy.edges(), table)?.into_bytes())
+    policy.edges_rise();
+    let edges = policy.edges(alloc)?;
+    Ok(policy_string(alloc, &edges, table)?.into_bytes())
 }
 
 fn table_string(alloc: Global, table: &Table) -> Result<String, AllocError>
@@ -134,8 +136,9 @@ fn write_objects(text: &mut String, table: &Table) -> Result<(), AllocError>
     Ok(())
 }
 
+/// The label's name, which is empty where the table lacks the label.
 #[tactic(auto, using(crate::proofs::Written::nameless))]
-fn label_name(table: &Table, label: Label) -> &str
+pub fn label_name(table: &Table, label: Label) -> &str
     ensures { result.now ≡ label_name table.now label }
 {
     match table.label_name(label) {
@@ -144,8 +147,9 @@ fn label_name(table: &Table, label: Label) -> &str
     }
 }
 
+/// The object's name, which is empty where the table lacks the object.
 #[tactic(auto, using(crate::proofs::Written::nameless))]
-fn object_name(table: &Table, id: ObjId) -> &str
+pub fn object_name(table: &Table, id: ObjId) -> &str
     ensures { result.now ≡ object_name table.now id }
 {
     match table.object_name(id) {
@@ -155,7 +159,7 @@ fn object_name(table: &Table, id: ObjId) -> &str
 }
 
 /// A slot's place in its holder.
-fn place_of(table: &Table, slot: SlotRef) -> Place
+pub fn place_of(table: &Table, slot: SlotRef) -> Place
     ensures { result ≡ place_in (kind_at table.now slot.holder) slot.index }
 {
     match table.kind(slot.holder) {

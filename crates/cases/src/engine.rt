@@ -1,29 +1,96 @@
-//! A run of the engine over texts in memory.
-use report::{Watched, run};
+//! The commands of the program, over texts in memory.
+use report::{OnAccept, Open, Watched, check, run, verify};
 use std::alloc::Global;
+use std::thread::Threads;
 
-/// The bytes of the three files of a run.
+/// What a case asks for.
+#[derive(Clone, Copy)]
+pub enum Command {
+    Run,
+    Check,
+    /// A check that writes the certificate.
+    Cert,
+    Verify,
+}
+
+impl Command {
+    /// The command that a word names.
+    pub fn named(word: &str) -> Option<Command> {
+        match word {
+            "run" => Some(Command::Run),
+            "check" => Some(Command::Check),
+            "cert" => Some(Command::Cert),
+            "verify" => Some(Command::Verify),
+            _ => None,
+        }
+    }
+}
+
+/// The bytes of the files of a command.
 #[derive(Clone, Copy)]
 pub struct Given<'a> {
     pub table: &'a [u8],
     pub policy: &'a [u8],
     pub script: &'a [u8],
+    pub certificate: &'a [u8],
 }
 
-/// What a run writes, and its exit status.
+/// What a command writes, and its exit status.
 #[derive(Drop)]
 pub struct Answer {
     pub status: u8,
     pub text: Vec<u8>,
 }
 
-/// The answer to these files.
-pub fn answer_to(alloc: Global, given: Given<'_>) -> Answer {
+/// The answer of a command to these files.
+pub fn answer_to<R: Threads + Sync>(
+    rt: &R,
+    alloc: Global,
+    command: Command,
+    given: Given<'_>,
+) -> Answer {
     let mut table = Watched::new(given.table);
     let mut policy = Watched::new(given.policy);
     let mut script = Watched::new(given.script);
+    let mut certificate = Watched::new(given.certificate);
     let mut out = Watched::new(Vec::new(alloc));
-    let end = run(alloc, &mut table, &mut policy, &mut script, &mut out);
+    let end = match command {
+        Command::Run => run(rt, alloc, &mut table, &mut policy, &mut script, &mut out),
+        Command::Verify => verify(
+            rt,
+            alloc,
+            &mut table,
+            &mut policy,
+            &mut certificate,
+            &mut out,
+        ),
+        Command::Check => {
+            let wanted = OnAccept::Report;
+            check(
+                rt,
+                alloc,
+                &mut table,
+                &mut policy,
+                wanted,
+                1,
+                &Open,
+                &mut out,
+            )
+        }
+        Command::Cert => {
+            let wanted = OnAccept::Certificate;
+            check(
+                rt,
+                alloc,
+                &mut table,
+                &mut policy,
+                wanted,
+                1,
+                &Open,
+                &mut out,
+            )
+        }
+    };
     Answer {
         status: end.status(),
         text: out.into_inner(),

@@ -1,24 +1,35 @@
 //! The answers that cases expect.
-use crate::changes::line_number;
+use crate::changes::{line_number, quoted};
 use crate::engine::Answer;
+use crate::literal::text_of;
 use crate::repeats::number;
-use crate::texts::File;
+use crate::texts::{File, Texts};
 use crate::wrong::Wrong;
 use std::alloc::{AllocError, Global};
 
-/// The answer that these words say: `log`, `each OUTCOME`, `deny RULE PLACE`, or a fault, which is in
-/// this file and line where they don't say another.
+/// The answer that these words say: `log`, `report`, `certificate`, `each OUTCOME`, `accept`, ``writes
+/// `TEXT` ``, `deny RULE PLACE`, or a fault, which is in this file and line where they don't say another.
 pub fn expected(
     alloc: Global,
     words: &str,
-    (script, log): (&[u8], &str),
+    texts: &Texts,
+    script: &[u8],
     place: (File, usize),
 ) -> Result<Answer, Wrong> {
-    if words == "log" {
-        return logged(Vec::from_slice(alloc, log.as_bytes())?);
+    match words {
+        "log" => return told(alloc, &texts.log),
+        "report" => return told(alloc, &texts.report),
+        "certificate" => return told(alloc, texts.text(File::Certificate)),
+        "accept" => return told(alloc, "{\"verdict\":\"accept\"}\n"),
+        _ => (),
+    }
+    if let Some(text) = words.strip_prefix("writes ") {
+        let text = text_of(alloc, quoted(text)?)?;
+        return told(alloc, &format!(in alloc; "{text}\n")?);
     }
     if let Some(outcome) = words.strip_prefix("each ") {
-        return logged(log_of(alloc, script, outcome)?);
+        let text = log_of(alloc, script, outcome)?;
+        return Ok(Answer { status: 0, text });
     }
     match words.strip_prefix("deny ") {
         Some(words) => denial(alloc, words),
@@ -26,8 +37,9 @@ pub fn expected(
     }
 }
 
-/// The answer that is a log.
-fn logged(text: Vec<u8>) -> Result<Answer, Wrong> {
+/// The answer that is this text, with status 0.
+fn told(alloc: Global, text: &str) -> Result<Answer, Wrong> {
+    let text = Vec::from_slice(alloc, text.as_bytes())?;
     Ok(Answer { status: 0, text })
 }
 

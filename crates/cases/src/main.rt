@@ -15,6 +15,7 @@ mod wrong;
 use session::Session;
 use std::process::ExitCode;
 use std::rt::Files;
+use std::thread::Threads;
 use std::{env, fs, io};
 use tally::{Case, Tally};
 use wrong::Wrong;
@@ -31,7 +32,7 @@ fn main(rt: HostRuntime) -> io::Result<ExitCode> {
 /// Runs the cases of a folder, and says whether there is one and none differs.
 fn run_folder<R>(rt: &R, folder: &str) -> io::Result<bool>
 where
-    R: Files + Print + AllocGlobal + Clone + Drop,
+    R: Files + Print + AllocGlobal + Threads + Sync + Clone + Drop,
 {
     let mut all = Tally::new(rt.alloc());
     for name in &case_files(rt, folder)? {
@@ -61,7 +62,7 @@ where
 }
 
 /// Runs the cases of a file.
-fn run_file<R: Files + AllocGlobal>(rt: &R, folder: &str, file: &str) -> Tally {
+fn run_file<R: Files + AllocGlobal + Threads + Sync>(rt: &R, folder: &str, file: &str) -> Tally {
     let mut tally = Tally::new(rt.alloc());
     match read(rt, folder, file) {
         Ok(content) => run_lines(rt, folder, file, &content, &mut tally),
@@ -86,7 +87,7 @@ fn read<R: Files + AllocGlobal>(rt: &R, folder: &str, file: &str) -> Result<Stri
 }
 
 /// Runs the cases that these lines tell.
-fn run_lines<R: Files + AllocGlobal>(
+fn run_lines<R: Files + AllocGlobal + Threads + Sync>(
     rt: &R,
     folder: &str,
     file: &str,
@@ -101,7 +102,7 @@ fn run_lines<R: Files + AllocGlobal>(
             tally.tell_wrong(case, wrong);
         }
     }
-    if let Err(wrong) = session.end(tally) {
+    if let Err(wrong) = session.end(rt, tally) {
         tally.tell_wrong(session.begun(), wrong);
     }
 }

@@ -1,6 +1,6 @@
 //! The lines of a file of cases, one after another.
 use crate::changes::{Place, change_text, last_line, place_of, quoted};
-use crate::engine::{Answer, Given, answer_to};
+use crate::engine::{Answer, Command, Given, answer_to};
 use crate::expected::expected;
 use crate::literal::text_of;
 use crate::repeats::{line_for, repeat_of};
@@ -10,6 +10,7 @@ use crate::wrong::Wrong;
 use std::alloc::Global;
 use std::fs;
 use std::rt::Files;
+use std::thread::Threads;
 
 /// What the indented lines are that follow a line.
 #[derive(Clone, Copy)]
@@ -31,6 +32,8 @@ enum Block<'a> {
 pub struct Session<'a> {
     alloc: Global,
     texts: Texts,
+    /// What the cases ask for.
+    asked: Command,
     block: Block<'a>,
     /// The line that began the block.
     begun: Case<'a>,
@@ -45,6 +48,7 @@ impl<'a> Session<'a> {
         Session {
             alloc,
             texts: Texts::new(alloc),
+            asked: Command::Run,
             block: Block::None,
             begun,
             script: String::new(alloc),
@@ -53,7 +57,7 @@ impl<'a> Session<'a> {
     }
 
     /// Takes the next line.
-    pub fn take<R: Files + AllocGlobal>(
+    pub fn take<R: Files + AllocGlobal + Threads + Sync>(
         &mut self,
         rt: &R,
         folder: &str,
@@ -64,9 +68,9 @@ impl<'a> Session<'a> {
             return Ok(());
         }
         match case.line.strip_prefix("  ") {
-            Some(line) => self.take_indented(Case { line, ..case }, tally),
+            Some(line) => self.take_indented(rt, Case { line, ..case }, tally),
             None => {
-                self.end(tally)?;
+                self.end(rt, tally)?;
                 self.begun = case;
                 self.block = self.begin(rt, folder, case, tally)?;
                 Ok(())
@@ -75,11 +79,11 @@ impl<'a> Session<'a> {
     }
 
     /// Ends the block that is being told.
-    pub fn end(&mut self, tally: &mut Tally) -> Result<(), Wrong> {
+    pub fn end<R: Threads + Sync>(&mut self, rt: &R, tally: &mut Tally) -> Result<(), Wrong> {
         let block = self.block;
         self.block = Block::None;
         match block {
-            Block::Events => self.try_events(self.begun, tally),
+            Block::Events => self.try_events(rt, self.begun, tally),
             _ => Ok(()),
         }
     }
@@ -90,7 +94,7 @@ impl<'a> Session<'a> {
     }
 
     /// Does what a line says that isn't indented, and gives the block that follows it.
-    fn begin<R: Files + AllocGlobal>(
+    fn begin<R: Files + AllocGlobal + Threads + Sync>(
         &mut self,
         rt: &R,
         folder: &str,
@@ -98,12 +102,14 @@ impl<'a> Session<'a> {
         tally: &mut Tally,
     ) -> Result<Block<'a>, Wrong> {
         let (word, words) = case.line.split_once(' ').unwrap_or((case.line, ""));
+        if let Some(command) = Command::named(word) {
+            self.try_as_it_is(rt, command, words, case, tally)?;
+            return Ok(Block::None);
+        }
         match (word, words) {
             ("system", name) => self.read_system(rt, folder, name)?,
-            ("run", answer) => {
-                self.try_given(self.texts.given(), answer, (File::Table, 1), case, tally)?
-            }
-            ("beginnings", words) => self.try_beginnings(words, case, tally)?,
+            ("asks", name) => self.asked = asked(name)?,
+            ("beginnings", words) => self.try_beginnings(rt, words, case, tally)?,
             ("in", words) => return changes_in(words),
             ("each", "event") => return Ok(Block::EachEvent),
             ("events", "") => {
@@ -126,9 +132,23 @@ impl<'a> Session<'a> {
             let path = format!(in self.alloc; "{folder}/systems/{name}/{}", file.name())?;
             *self.texts.text_mut(file) = fs::read_to_string(rt, &path)?;
         }
-        let path = format!(in self.alloc; "{folder}/systems/{name}/log")?;
-        self.texts.log = fs::read_to_string(rt, &path).unwrap_or(String::new(self.alloc));
+        *self.texts.text_mut(File::Certificate) = self.told(rt, folder, name, "certificate")?;
+        self.texts.log = self.told(rt, folder, name, "log")?;
+        self.texts.report = self.told(rt, folder, name, "report")?;
+        self.asked = Command::Run;
         Ok(())
+    }
+
+    /// What the program says of a system, as far as it is told.
+    fn told<R: Files + AllocGlobal>(
+        &self,
+        rt: &R,
+        folder: &str,
+        name: &str,
+        file: &str,
+    ) -> Result<String, Wrong> {
+        let path = format!(in self.alloc; "{folder}/systems/{name}/{file}")?;
+        Ok(fs::read_to_string(rt, &path).unwrap_or(String::new(self.alloc)))
     }
 
     /// Gives a file another text, or another piece: `FILE is`, or ``FILE `OLD` becomes `NEW` ``.
@@ -146,13 +166,19 @@ impl<'a> Session<'a> {
     }
 
     /// Takes a line of the block, which may be told for many numbers.
-    fn take_indented(&mut self, case: Case<'_>, tally: &mut Tally) -> Result<(), Wrong> {
+    fn take_indented<R: Threads + Sync>(
+        &mut self,
+        rt: &R,
+        case: Case<'_>,
+        tally: &mut Tally,
+    ) -> Result<(), Wrong> {
         let Some((first, last, line)) = repeat_of(case.line)? else {
-            return self.take_told(case, tally);
+            return self.take_told(rt, case, tally);
         };
         for number in first..last.saturating_add(1) {
             let line = line_for(self.alloc, line, number)?;
             self.take_told(
+                rt,
                 Case {
                     line: &line,
                     ..case
@@ -163,23 +189,29 @@ impl<'a> Session<'a> {
         Ok(())
     }
 
-    fn take_told(&mut self, case: Case<'_>, tally: &mut Tally) -> Result<(), Wrong> {
+    fn take_told<R: Threads + Sync>(
+        &mut self,
+        rt: &R,
+        case: Case<'_>,
+        tally: &mut Tally,
+    ) -> Result<(), Wrong> {
         match self.block {
             Block::None => Err(Wrong("nothing takes an indented line here")),
-            Block::Changes(file, place) => self.try_change(file, place, case, tally),
+            Block::Changes(file, place) => self.try_change(rt, file, place, case, tally),
             Block::Text(file) => Ok(writeln!(self.texts.text_mut(file), "{}", case.line)?),
             Block::Events => self.push_event(case.line),
             Block::EachEvent => {
                 self.begin_events()?;
                 self.push_event(case.line)?;
-                self.try_events(case, tally)
+                self.try_events(rt, case, tally)
             }
         }
     }
 
     /// Tries a change, `ANSWER: CHANGE`.
-    fn try_change(
+    fn try_change<R: Threads + Sync>(
         &self,
+        rt: &R,
         file: File,
         place: Place<'_>,
         case: Case<'_>,
@@ -191,32 +223,61 @@ impl<'a> Session<'a> {
             .ok_or(Wrong("a case is an answer and a change"))?;
         let changed = change_text(self.alloc, self.texts.text(file), place, change)?;
         let given = with(self.texts.given(), file, &changed.bytes);
-        self.try_given(given, words, (file, changed.line), case, tally)
+        self.try_given(
+            rt,
+            self.asked,
+            given,
+            words,
+            (file, changed.line),
+            case,
+            tally,
+        )
+    }
+
+    /// Tries the system as it is.
+    fn try_as_it_is<R: Threads + Sync>(
+        &self,
+        rt: &R,
+        command: Command,
+        answer: &str,
+        case: Case<'_>,
+        tally: &mut Tally,
+    ) -> Result<(), Wrong> {
+        let place = (File::Table, 1);
+        self.try_given(rt, command, self.texts.given(), answer, place, case, tally)
     }
 
     /// Tries files of which one was changed, from this line on.
-    fn try_given(
+    fn try_given<R: Threads + Sync>(
         &self,
+        rt: &R,
+        command: Command,
         given: Given<'_>,
         words: &str,
         place: (File, usize),
         case: Case<'_>,
         tally: &mut Tally,
     ) -> Result<(), Wrong> {
-        let logged = (given.script, self.texts.log.as_str());
-        let expected = expected(self.alloc, words, logged, place)?;
-        tally.compare(case, &expected, &answer_to(self.alloc, given));
+        let expected = expected(self.alloc, words, &self.texts, given.script, place)?;
+        tally.compare(case, &expected, &answer_to(rt, self.alloc, command, given));
         Ok(())
     }
 
     /// Tries each beginning of a file but the whole: it has fault 50 at the line that it ends in.
-    fn try_beginnings(&self, words: &str, case: Case<'_>, tally: &mut Tally) -> Result<(), Wrong> {
+    fn try_beginnings<R: Threads + Sync>(
+        &self,
+        rt: &R,
+        words: &str,
+        case: Case<'_>,
+        tally: &mut Tally,
+    ) -> Result<(), Wrong> {
         let file = File::named(words.strip_prefix("of ").unwrap_or(words))?;
         let text = self.texts.text(file);
         for length in 0..text.len() {
             if let Some(beginning) = text.get(..length) {
                 let given = with(self.texts.given(), file, beginning.as_bytes());
-                self.try_given(given, "50", (file, last_line(beginning)), case, tally)?;
+                let place = (file, last_line(beginning));
+                self.try_given(rt, self.asked, given, "50", place, case, tally)?;
             }
         }
         Ok(())
@@ -242,7 +303,12 @@ impl<'a> Session<'a> {
     }
 
     /// Tries the script that was told, which has to give its log.
-    fn try_events(&mut self, case: Case<'_>, tally: &mut Tally) -> Result<(), Wrong> {
+    fn try_events<R: Threads + Sync>(
+        &mut self,
+        rt: &R,
+        case: Case<'_>,
+        tally: &mut Tally,
+    ) -> Result<(), Wrong> {
         self.script.push_str("end\n")?;
         self.log.push_str("end\n")?;
         let expected = Answer {
@@ -250,9 +316,15 @@ impl<'a> Session<'a> {
             text: Vec::from_slice(self.alloc, self.log.as_bytes())?,
         };
         let given = with(self.texts.given(), File::Script, self.script.as_bytes());
-        tally.compare(case, &expected, &answer_to(self.alloc, given));
+        let came = answer_to(rt, self.alloc, Command::Run, given);
+        tally.compare(case, &expected, &came);
         Ok(())
     }
+}
+
+/// The command that a word names.
+fn asked(word: &str) -> Result<Command, Wrong> {
+    Command::named(word).ok_or(Wrong("there is no such command"))
 }
 
 /// The changes of a file at a place, `FILE PLACE`.

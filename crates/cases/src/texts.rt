@@ -3,12 +3,13 @@ use crate::engine::Given;
 use crate::wrong::Wrong;
 use std::alloc::Global;
 
-/// One of the files of a run.
+/// One of the files of a command.
 #[derive(Clone, Copy)]
 pub enum File {
     Table,
     Policy,
     Script,
+    Certificate,
 }
 
 impl File {
@@ -18,6 +19,7 @@ impl File {
             "table" => Ok(File::Table),
             "policy" => Ok(File::Policy),
             "script" => Ok(File::Script),
+            "certificate" => Ok(File::Certificate),
             _ => Err(Wrong("there is no such line, or no such file")),
         }
     }
@@ -28,17 +30,21 @@ impl File {
             File::Table => "table",
             File::Policy => "policy",
             File::Script => "script",
+            File::Certificate => "certificate",
         }
     }
 }
 
-/// The texts of a system, and the log of its run, which is empty where there is none.
+/// The texts of a system, and what the program says of it: the log of its run and the report of its
+/// check, which are empty where there is none.
 #[derive(Drop)]
 pub struct Texts {
     table: String,
     policy: String,
     script: String,
+    certificate: String,
     pub log: String,
+    pub report: String,
 }
 
 impl Texts {
@@ -48,7 +54,9 @@ impl Texts {
             table: String::new(alloc),
             policy: String::new(alloc),
             script: String::new(alloc),
+            certificate: String::new(alloc),
             log: String::new(alloc),
+            report: String::new(alloc),
         }
     }
 
@@ -58,6 +66,7 @@ impl Texts {
             File::Table => &self.table,
             File::Policy => &self.policy,
             File::Script => &self.script,
+            File::Certificate => &self.certificate,
         }
     }
 
@@ -67,6 +76,7 @@ impl Texts {
             File::Table => &mut self.table,
             File::Policy => &mut self.policy,
             File::Script => &mut self.script,
+            File::Certificate => &mut self.certificate,
         }
     }
 
@@ -76,6 +86,7 @@ impl Texts {
             table: self.table.as_bytes(),
             policy: self.policy.as_bytes(),
             script: self.script.as_bytes(),
+            certificate: self.certificate.as_bytes(),
         }
     }
 }
@@ -86,6 +97,7 @@ pub fn with<'a>(mut given: Given<'a>, file: File, bytes: &'a [u8]) -> Given<'a> 
         File::Table => given.table = bytes,
         File::Policy => given.policy = bytes,
         File::Script => given.script = bytes,
+        File::Certificate => given.certificate = bytes,
     }
     given
 }

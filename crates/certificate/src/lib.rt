@@ -1,26 +1,17 @@
-//! The verdict on a capability table and a policy: accepted, or denied with the first rule that is
-//! broken and where.
+//! Certificates: what a capability table gives, line by line, their texts, and the verdict on a table, a policy
+//! and a certificate.
 #![tactic(auto)]
 
-mod accepted;
-mod bindings;
-mod capabilities;
-mod check;
-mod denial;
-mod labels;
-mod laws;
-mod pairs;
-mod roots;
-mod safe;
-mod subjects;
+mod kinds;
+mod line;
+mod making;
+mod reading;
+mod verifying;
+mod writing;
 
-pub use accepted::Accepted;
-pub use check::first_check;
-pub use denial::Denial;
-pub use laws::{
-    a_budget_needs_authority, a_signal_needs_authority, a_system_has_one_verdict,
-    a_verdict_is_on_the_boot_state, confined_states_have_nothing_outside, cuts_follow_paths,
-    each_reason_of_authority_counts, gains_are_no_shrinking, losses_are_shrinking,
-    safety_needs_agreeing_subjects,
-};
-pub use safe::accepted_systems_are_safe;
+pub use line::{Certificate, Line};
+pub use making::make;
+pub use reading::read;
+pub use verdict::{Accepted, Denial};
+pub use verifying::{NotAccepted, verify};
+pub use writing::write;

@@ -1,2 +1,2 @@
-pub mod CommandLine
 pub mod Opening
+pub mod Requests

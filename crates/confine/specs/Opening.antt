@@ -1,28 +1,30 @@
--- What is done with files that were opened by the names that a command line gives (confine's own).
-use Rattle.std.specs.Prelude.{◌≡◌, ◌⊎◌, ℕ, List, Option, Result}
+-- What is done with files that were opened by the names that a request gives (confine's own).
+use Rattle.std.specs.Prelude.{◌≡◌, ℕ, List, Option, Result}
 use Rattle.std.specs.declared.io.Error.{Error}
 use Rattle.report.specs.Ends.{status_of}
-use Rattle.report.specs.Opening.{IsRunOn}
+use Rattle.report.specs.Opening.{IsCheckedOn, IsRunOn, IsVerifiedOn}
 use Rattle.report.specs.declared.end.End.{End}
-use Rattle.confine.specs.CommandLine.{Asked, FileNames, run}
+use Rattle.confine.specs.declared.request.Request.{Request}
+use Rattle.confine.specs.declared.request.Request.TheVariants.{Check, Verify, Run}
 
--- files were opened by these names, and a script was run on what that gave
-pub record ServesRun
-    {F W : Type 0} (opens : List ℕ → Result F Error → Type 0) (remaining : F → Option (List ℕ)) (contents : W → Option (List ℕ))
-    (names : FileNames) (out : W) (end : End) : Type 0 where
-  pub table : Result F Error
-  pub policy : Result F Error
-  pub script : Result F Error
-  pub back : W
-  pub opens_table : opens names.table table
-  pub opens_policy : opens names.policy policy
-  pub opens_script : opens names.script script
-  pub ran : IsRunOn remaining contents table policy script out end back
+-- a file was opened by this name, and this holds of what that gave
+pub record OnOpened {F : Type 0} (opens : List ℕ → Result F Error → Type 0) (name : List ℕ) (holds : Result F Error → Type 0) : Type 0 where
+  pub given : Result F Error
+  pub opened : opens name given
+  pub done : holds given
 
--- what was asked for was done
-abbrev pub Serves : {F W : Type 0} → (List ℕ → Result F Error → Type 0) → (F → Option (List ℕ)) → (W → Option (List ℕ)) → Asked → W → End → Type 0
-Serves opens remaining contents (run names) out end = ServesRun opens remaining contents names out end
+-- what was asked for was done, on the files of these names
+abbrev pub Serves : {F W : Type 0} → (List ℕ → Result F Error → Type 0) → (F → Option (List ℕ)) → (W → Option (List ℕ)) → Request → W → End → Type 0
+Serves {W} opens remaining contents (Check table policy workers on_accept) out end =
+    OnOpened opens table.now (λ t. OnOpened opens policy.now (λ p.
+    (back : W) × IsCheckedOn on_accept remaining contents t p out end back))
+Serves {W} opens remaining contents (Verify table policy certificate) out end =
+    OnOpened opens table.now (λ t. OnOpened opens policy.now (λ p. OnOpened opens certificate.now (λ c.
+    (back : W) × IsVerifiedOn remaining contents t p c out end back)))
+Serves {W} opens remaining contents (Run table policy script) out end =
+    OnOpened opens table.now (λ t. OnOpened opens policy.now (λ p. OnOpened opens script.now (λ s.
+    (back : W) × IsRunOn remaining contents t p s out end back)))
 
--- an exit status is that of a run of these files, or tells that there was none
-abbrev pub IsStatusOfRun : {F W : Type 0} → (List ℕ → Result F Error → Type 0) → (F → Option (List ℕ)) → (W → Option (List ℕ)) → FileNames → W → ℕ → Type 0
-IsStatusOfRun opens remaining contents names out status = (status ≡ 2) ⊎ ((end : End) × ServesRun opens remaining contents names out end × (status_of end ≡ status))
+-- this is the exit status of an end of which this holds
+abbrev pub IsStatusOf : (End → Type 0) → ℕ → Type 0
+IsStatusOf ends status = (end : End) × ends end × (status_of end ≡ status)

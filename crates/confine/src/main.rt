@@ -1,27 +1,40 @@
 //! The program `confine`: its command line, its files and its exit status.
 #![tactic(auto)]
 
-ghost use Rattle.std.specs.Prelude.{◌≡◌, ◌≤◌, IfOk, OnErr, map};
+ghost use Rattle.std.specs.Prelude.{◌≡◌, ◌≤◌, IfOk, IsErr, OnErr};
 ghost use Rattle.std.specs.Fn.{FnReturnsAt};
-ghost use Rattle.std.specs.String.{string_bytes};
 ghost use Rattle.report.specs.Ends.{status_of};
-ghost use Rattle.confine.specs.CommandLine.{Asked, Asks, FileNames, asked_of, run};
-ghost use Rattle.confine.specs.Opening.{IsStatusOfRun, Serves};
+ghost use Rattle.confine.specs.Opening.{IsStatusOf, Serves};
+ghost use Rattle.confine.specs.Requests.{IsWithinLimits};
 
+mod help;
 mod request;
 
 use clap::error::ErrorKind;
-use report::{End, run_on};
+use report::{End, Open, check_on, run_on, verify_on};
 use request::{Request, read_request};
 use std::alloc::Global;
 use std::env::Env;
 use std::io::{Read, Write};
 use std::process::ExitCode;
+use std::thread::Threads;
 use std::{env, fs, io};
 
 fn main(rt: HostRuntime) -> ExitCode {
     let opener = |path: &str| fs::open(&rt, path);
-    ExitCode::from(answer(&rt, words(&rt), opener, io::writer(&rt)))
+    let words = words(&rt);
+    let asked = asked(rt.alloc(), &words);
+    ExitCode::from(answer(&rt, asked, opener, io::writer(&rt)))
+}
+
+/// Why nothing is asked for.
+#[derive(Drop)]
+enum Unasked {
+    NoMemory,
+    /// A word of the command line isn't UTF-8.
+    NotText,
+    /// The words are no command of the program, or ask for help.
+    Misused(clap::Error),
 }
 
 /// The words of the command line, of which the first is the program's name.
@@ -29,44 +42,79 @@ fn words<R: Env + AllocGlobal>(rt: &R) -> io::Result<Vec<String>> {
     Ok(env::args(rt)?.collect(rt.alloc())?)
 }
 
-/// Does what the words of the command line ask for, on files that `opener` opens by their names, and
-/// writes the answer to `out`; gives the exit status.
-fn answer<R, F, O, W>(rt: &R, words: io::Result<Vec<String>>, opener: O, out: W) -> u8
+/// What the words of the command line ask for.
+fn asked<'a>(alloc: Global, words: &'a io::Result<Vec<String>>) -> Result<Request<'a>, Unasked>
+    ensures limits { IfOk result IsWithinLimits }
+    ensures unread { OnErr words.now (IsErr result) }
+{
+    match words {
+        Ok(words) => match read_request(alloc, words) {
+            Ok(request) => Ok(request),
+            Err(error) if error.kind() == ErrorKind::OutOfMemory => Err(Unasked::NoMemory),
+            Err(error) => Err(Unasked::Misused(error)),
+        },
+        Err(error) if error.kind() == io::ErrorKind::OutOfMemory => Err(Unasked::NoMemory),
+        Err(_) => Err(Unasked::NotText),
+    }
+}
+
+/// Does what is asked for, on files that `opener` opens by their names, and writes the answer to `out`;
+/// gives the exit status.
+fn answer<R, F, O, W>(rt: &R, asked: Result<Request<'_>, Unasked>, opener: O, out: W) -> u8
 where
-    R: Eprint + AllocGlobal,
+    R: Eprint + AllocGlobal + Threads + Sync,
     F: Read + Drop,
     O: Fn(&str) -> io::Result<F> + Drop,
     W: Write + Drop,
-    requires { O.IsAlwaysCallable opener }
-    ensures run { IfOk words (λ words. (names : FileNames) → Asks (map string_bytes words.items) (run names)
-        → IsStatusOfRun (FnReturnsAt O.Fn opener) F.remaining W.contents names out result) }
-    ensures misuse { IfOk words (λ words. ((asked : Asked) → ¬ Asks (map string_bytes words.items) asked) → result ≡ 2) }
-    ensures unread { OnErr words (result ≡ 2) }
+    requires opener { O.IsAlwaysCallable opener }
+    requires asked { IfOk asked IsWithinLimits }
+    ensures served { IfOk asked.entry (λ request.
+        IsStatusOf (Serves (FnReturnsAt O.Fn opener) F.remaining W.contents request out) result) }
+    ensures unasked { OnErr asked.entry (result ≡ 2) }
     ensures exit { result ≤ 2 }
 {
-    let words = match words {
-        Ok(words) => words,
-        Err(error) if error.kind() == io::ErrorKind::OutOfMemory => return tell(rt, End::NoMemory),
-        Err(_) => return misuse(rt, "confine: an argument isn't UTF-8\n"),
-    };
-    match read_request(rt.alloc(), &words) {
-        Ok(request) => tell(rt, serve(rt.alloc(), request, opener, out)),
-        Err(error) if error.kind() == ErrorKind::OutOfMemory => tell(rt, End::NoMemory),
-        Err(error) => misuse(rt, error),
+    match asked {
+        Ok(request) => tell(rt, serve(rt, request, opener, out)),
+        Err(Unasked::NoMemory) => tell(rt, End::NoMemory),
+        Err(Unasked::NotText) => misuse(rt, "confine: an argument isn't UTF-8\n"),
+        Err(Unasked::Misused(error)) => misuse(rt, error),
     }
 }
 
 /// Does what was asked for, on the files that it names.
-fn serve<F, O, W>(alloc: Global, request: Request<'_>, opener: O, out: W) -> End
+fn serve<R, F, O, W>(rt: &R, request: Request<'_>, opener: O, out: W) -> End
 where
+    R: AllocGlobal + Threads + Sync,
     F: Read + Drop,
     O: Fn(&str) -> io::Result<F> + Drop,
     W: Write + Drop,
-    requires { O.IsAlwaysCallable opener }
-    ensures served { Serves (FnReturnsAt O.Fn opener) F.remaining W.contents (asked_of request.entry) out result }
+    requires opener { O.IsAlwaysCallable opener }
+    requires workers { IsWithinLimits request }
+    ensures served { Serves (FnReturnsAt O.Fn opener) F.remaining W.contents request.entry out result }
     ensures exit { status_of result ≤ 2 }
 {
+    let alloc = rt.alloc();
     match request {
+        Request::Check {
+            table,
+            policy,
+            workers,
+            on_accept,
+        } => {
+            let table = opener(table);
+            let policy = opener(policy);
+            check_on(rt, alloc, table, policy, on_accept, workers, &Open, out).0
+        }
+        Request::Verify {
+            table,
+            policy,
+            certificate,
+        } => {
+            let table = opener(table);
+            let policy = opener(policy);
+            let certificate = opener(certificate);
+            verify_on(rt, alloc, table, policy, certificate, out).0
+        }
         Request::Run {
             table,
             policy,
@@ -75,7 +123,7 @@ where
             let table = opener(table);
             let policy = opener(policy);
             let script = opener(script);
-            run_on(alloc, table, policy, script, out).0
+            run_on(rt, alloc, table, policy, script, out).0
         }
     }
 }

@@ -1,6 +1,6 @@
 ghost use Rattle.std.specs.Prelude.{◌≡◌, ◌≤◌, ◌^◌};
 ghost use Rattle.base.specs.declared.limits.TheConstants.{MAX_RADIX};
-ghost use Rattle.machine.specs.Objects.{kind_of_object, slot_count, word_count};
+ghost use Rattle.machine.specs.Objects.{address_of, kind_of_object, slot_count, word_count};
 
 use crate::{Radix, Tcb};
 use base::{CoreNo, ObjId};
@@ -129,6 +129,23 @@ impl Object {
             Object::Context(_) => ObjectKind::Context,
             Object::Frame(_) => ObjectKind::Frame,
             Object::Control(_) => ObjectKind::Control,
+        }
+    }
+
+    /// Where the object lies; a control takes no memory, and has address 0.
+    pub fn address(&self) -> u64
+        ensures { result ≡ address_of self.now }
+    {
+        match self {
+            Object::Untyped(memory) => memory.base,
+            Object::CNode(node) => node.address,
+            Object::Tcb(thread) => thread.address,
+            Object::Endpoint(endpoint) => endpoint.address,
+            Object::Notification(notification) => notification.address,
+            Object::Reply(reply) => reply.address,
+            Object::Context(context) => context.address,
+            Object::Frame(frame) => frame.address,
+            Object::Control(_) => 0,
         }
     }
 

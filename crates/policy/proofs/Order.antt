@@ -1,9 +1,8 @@
 -- The order of edges: it is total, only an edge itself ties with it, and it is the one that the code compares by.
-use Rattle.std.proofs.Common.{◌≡◌, ℕ, ◌&&◌, ◌==◌, Some, List, Result, refl, sym, ap, ◌∙◌, subst, true}
+use Rattle.std.proofs.Common.{◌≡◌, ◌&&◌, ◌==◌, Some, refl, sym, ap, ◌∙◌}
 use Rattle.std.specs.declared.cmp.Ordering.{Ordering}
 use Rattle.std.specs.declared.cmp.Ordering.TheVariants.{Less, Equal, Greater}
-use Rattle.std.specs.Ordering.{nat_cmp, ordering_then, partial_ordering_then, is_eq, is_lt, is_some_and}
-use Rattle.std.specs.List.Sorted.{IsBinarySearchResult}
+use Rattle.std.specs.Ordering.{nat_cmp, ordering_then, partial_ordering_then, is_eq}
 use Rattle.std.specs.Cmp.{IsTotalOrder, nat_cmp_total, unsigned_tied}
 use Rattle.std.proofs.lemmas.Cmp.{on_total, then_total}
 use Rattle.base.specs.declared.kind.Kind.{Kind}
@@ -11,7 +10,6 @@ use Rattle.base.specs.declared.kind.Kind.TheVariants.{Control, Reset, Send, Rece
 use Rattle.base.specs.declared.edge.Edge.{Edge}
 use Rattle.base.specs.contracts.kind.KindOrd.TheImpl as kind_order
 use Rattle.base.specs.contracts.kind.KindPartialOrd.TheImpl as kind_partial_order
-use Rattle.base.specs.contracts.edge.EdgeOrd.TheImpl as edge_order
 use Rattle.base.specs.contracts.edge.EdgePartialOrd.TheImpl as edge_partial_order
 use Rattle.base.specs.Kinds.{kind_number}
 use Rattle.policy.specs.Policy.{edge_cmp, is_edge}
@@ -103,22 +101,10 @@ kind_cmp a b = of_each (λ a. IsOrderedByNumber a b)
     (refl, refl) (refl, refl) b)
     a
 
--- the code's order of edges
-pub edge_cmp-of_code : (a b : Edge) → edge_order.ghosts.cmp a b ≡ edge_cmp a b
-edge_cmp-of_code a b =
-    ap (λ order. ordering_then (nat_cmp a.from b.from) (ordering_then order (nat_cmp a.to b.to))) (kind_cmp a.kind b.kind).0
-
 partial_ordering_then-Some : (r s : Ordering) → partial_ordering_then (Some r) (Some s) ≡ Some (ordering_then r s)
 partial_ordering_then-Some Less s = refl
 partial_ordering_then-Some Equal s = refl
 partial_ordering_then-Some Greater s = refl
-
--- a binary search by the code's order is one by the order of edges
-pub search-of_code : (edges : List Edge) (edge : Edge) (r : Result ℕ ℕ)
-    → IsBinarySearchResult (λ other. edge_order.ghosts.cmp other edge) edges r
-    → IsBinarySearchResult (λ other. edge_cmp other edge) edges r
-search-of_code edges edge r =
-    subst (λ (order : Edge → Ordering). IsBinarySearchResult order edges r) (λ i other. edge_cmp-of_code other edge i)
 
 -- the code's `<` of edges
 pub partial_cmp-of_code : (a b : Edge) → edge_partial_order.ghosts.partial_cmp a b ≡ Some (edge_cmp a b)
@@ -129,14 +115,6 @@ partial_cmp-of_code a b =
     ap (λ order. partial_ordering_then (Some from) (partial_ordering_then order (Some to))) (kind_cmp a.kind b.kind).1
     ∙ ap (partial_ordering_then (Some from)) (partial_ordering_then-Some kind to)
     ∙ partial_ordering_then-Some from (ordering_then kind to)
-
-Less-from_is_lt : (r : Ordering) → is_lt r ≡ true → r ≡ Less
-Less-from_is_lt Less e = refl
-Less-from_is_lt Equal e = cc
-Less-from_is_lt Greater e = cc
-
-pub less-of_code : (a b : Edge) → is_some_and is_lt (edge_partial_order.ghosts.partial_cmp a b) ≡ true → edge_cmp a b ≡ Less
-less-of_code a b less = Less-from_is_lt (edge_cmp a b) (rw (partial_cmp-of_code a b) at less)
 
 is_eq-ordering_then : (r s : Ordering) → is_eq (ordering_then r s) ≡ (is_eq r && is_eq s)
 is_eq-ordering_then Less s = refl

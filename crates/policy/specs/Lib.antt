@@ -1,6 +1,12 @@
 pub mod Policy
+pub mod Rows
+pub mod Places
 pub mod Domain
 pub mod Closed
 pub mod Needed
+pub mod Broken
 pub mod Full
 pub mod Cut
+pub mod Search
+pub mod Sweep
+pub mod Steps

@@ -1,8 +1,13 @@
 //! Policies: the edges of authority that a system may have.
 #![tactic(auto)]
 
+mod broken;
+mod cut;
+mod full;
 mod laws;
 mod policy;
+mod steps;
 
-pub use laws::closed_policies_obey_seven_rules;
+pub use broken::{Broken, first_broken};
+pub use laws::{closed_policies_are_unbroken, closed_policies_obey_seven_rules};
 pub use policy::Policy;

@@ -1,29 +1,45 @@
-ghost use Rattle.std.specs.Prelude.{◌≡◌, ℕ, ◌<◌, ◌||◌, true, List, [], ◌∷◌, ◌++◌, IsOk, OnOk, OnErr, IfErr};
+ghost use Rattle.std.specs.Prelude.{◌≡◌, ℕ, ◌<◌, ◌≤◌, ◌||◌, true, List, [], ◌∷◌, ◌++◌, IsOk, OnOk, OnErr, IfErr, IfOk, SomeIff, vec_len};
 ghost use Rattle.base.specs.declared.edge.Edge.{Edge};
 ghost use Rattle.base.specs.declared.kind.Kind.{Kind};
 ghost use Rattle.base.specs.declared.label.TheConstants.Label as Label;
+ghost use Rattle.base.specs.Labels.{is_in};
 ghost use Rattle.base.specs.Refusals.{out_of_memory};
-ghost use Rattle.policy.specs.Policy.{IsRising, IsPolicy, IsGap, IsAboveLast, JoinsLabels, allows, is_edge, last_edge};
+ghost use Rattle.policy.specs.Policy.{IsRising, IsAboveLast, JoinsLabels, allows, is_edge, last_edge};
+ghost use Rattle.policy.specs.Rows.{edge_at, edge_count, last_with, row_number, row_of};
 
-use base::{Edge, Refusal};
-use std::alloc::Global;
+use base::{Edge, Kind, Label, Labels, Refusal};
+use std::alloc::{AllocError, Global};
 use std::marker::Model;
+
+// How many labels and kinds there are, so how many rows, and how many edges there can be.
+const LABELS: usize = 64;
+
+const KINDS: usize = 17;
+
+const ROWS: usize = LABELS * KINDS;
+
+const EDGES: usize = ROWS * LABELS;
 
 /// A set of edges of authority.
 ///
-/// It keeps them in rising order, by label, kind and label: an edge is found by a binary search, and
-/// one above all others is added in constant time.
+/// For each label and kind it keeps the set of the labels to which there is an edge, as one word. All of
+/// these rows are made when the first edge is added. An edge is found, and added, in constant time.
 #[derive(Debug, Drop)]
 pub struct Policy {
-    edges: Vec<Edge>,
+    rows: Vec<Labels>,
+    last: Option<Edge>,
 }
 
 impl Model for Policy {
+    ghost use Rattle.std.specs.Prelude.{List};
+    ghost use Rattle.base.specs.declared.edge.Edge.{Edge};
+    ghost use Rattle.policy.specs.Rows.{IsKept, edges_of_rows};
+
     ghost Value = { List Edge };
 
-    ghost view = { λ policy. policy.edges.items };
+    ghost view = { λ policy. edges_of_rows policy.rows.items };
 
-    ghost invariant = { λ policy. IsPolicy policy.edges.items };
+    ghost invariant = { λ policy. IsKept policy.rows.items policy.last };
 }
 
 impl Policy {
@@ -32,7 +48,8 @@ impl Policy {
         ensures { result ≡ [] }
     {
         Policy {
-            edges: Vec::new(alloc),
+            rows: Vec::new(alloc),
+            last: None,
         }
     }
 
@@ -52,8 +69,9 @@ impl Policy {
         ensures memory { IfErr result (λ refusal. refusal ≡ out_of_memory) }
     {
         joins_labels(&edge);
-        if let Err(at) = self.search(&edge) {
-            self.edges.insert(at, edge)?;
+        if !self.contains(&edge) {
+            set(&mut self.rows, &edge)?;
+            self.last = Some(later(self.last, edge));
         }
         Ok(())
     }
@@ -62,35 +80,61 @@ impl Policy {
     pub fn has(&self, edge: Edge) -> bool
         ensures { result ≡ allows self.now edge.from edge.kind edge.to }
     {
-        self.search(&edge).is_ok()
+        self.contains(&edge)
     }
 
-    // Where the edge is, or would go.
-    fn search(&self, edge: &Edge) -> Result<usize, usize>
-        ensures found { OnOk result (allows self.now edge.now.from edge.now.kind edge.now.to ≡ true) }
-        ensures gap { IfErr result (λ at. IsGap self.now edge.now at) }
-        ensures policy { IsPolicy self.now }
+    // As `has`, of an edge that is lent.
+    fn contains(&self, edge: &Edge) -> bool
+        ensures { result ≡ allows self.now edge.now.from edge.now.kind edge.now.to }
     {
-        match self.edges.last() {
-            Some(last) if last < edge => Err(self.edges.len()),
-            _ => self.edges.binary_search(edge),
+        self.row(edge.from, edge.kind).has(edge.to)
+    }
+
+    /// The labels to which the label has an edge of this kind.
+    pub(crate) fn row(&self, from: Label, kind: Kind) -> Labels
+        ensures { (to : ℕ) → is_in result to ≡ allows self.now from kind to }
+    {
+        match self.rows.get(number_of(from, kind)) {
+            Some(row) => *row,
+            None => Labels::none(),
         }
     }
 
     /// The edges in rising order.
-    pub fn edges(&self) -> &[Edge]
-        ensures all { result.now ≡ self.now }
-        ensures rising { IsRising self.now }
-        ensures labels { JoinsLabels self.now }
+    ///
+    /// # Errors
+    ///
+    /// 40 where memory is refused.
+    pub fn edges(&self, alloc: Global) -> Result<Vec<Edge>, Refusal>
+        ensures all { IfOk result (λ edges. edges.items ≡ self.now) }
+        ensures memory { IfErr result (λ refusal. refusal ≡ out_of_memory) }
     {
-        &self.edges
+        self.edges_rise();
+        let mut edges = Vec::new(alloc);
+        for number in 0..EDGES {
+            if let Some(edge) = edge_numbered(number) {
+                if self.contains(&edge) {
+                    edges.push(edge)?;
+                }
+            }
+        }
+        Ok(edges)
     }
 
     /// The greatest edge, if there is one.
     pub fn last(&self) -> Option<Edge>
         ensures { result ≡ last_edge self.now }
     {
-        self.edges.last().copied()
+        self.last
+    }
+
+    /// A law about every policy, with nothing to run: its edges rise, and join labels that there can be.
+    pub fn edges_rise(&self)
+        ensures rising { IsRising self.now }
+        ensures labels { JoinsLabels self.now }
+    {
+        // What the type keeps is known once a field is read.
+        let _ = &self.rows;
     }
 }
 
@@ -101,4 +145,53 @@ fn joins_labels(edge: &Edge)
 {
     edge.from.number();
     edge.to.number();
+}
+
+// Where the row of a label and a kind stands.
+fn number_of(from: Label, kind: Kind) -> usize
+    ensures value { result ≡ row_number from kind }
+    ensures below { result < ROWS }
+    ensures label { from < Label.COUNT }
+{
+    usize::from(from.number()) * KINDS + usize::from(kind.number())
+}
+
+// Adds an edge to rows, of which there are none or all.
+fn set(rows: &mut Vec<Labels>, edge: &Edge) -> Result<(), AllocError>
+    requires { vec_len rows.old ≤ ROWS }
+    ensures added { OnOk result ((from : ℕ) (kind : Kind) (to : ℕ) →
+        is_in (row_of rows.new.items from kind) to
+        ≡ (is_edge from kind to edge.now || is_in (row_of rows.old.items from kind) to)) }
+    ensures count { vec_len rows.new ≤ ROWS }
+    ensures err { OnErr result (rows.new.items ≡ rows.old.items) }
+{
+    rows.resize(ROWS, Labels::none())?;
+    let row = &mut rows[number_of(edge.from, edge.kind)];
+    *row = row.union(Labels::only(edge.to));
+    Ok(())
+}
+
+// The later of two edges.
+fn later(last: Option<Edge>, edge: Edge) -> Edge
+    ensures { result ≡ last_with last edge }
+{
+    match last {
+        Some(last) if edge < last => last,
+        _ => edge,
+    }
+}
+
+// The edge of this number, in the order of edges.
+fn edge_numbered(number: usize) -> Option<Edge>
+    ensures { SomeIff result (number < edge_count) (edge_at number) }
+{
+    if number >= EDGES {
+        return None;
+    }
+    let (row, to) = (number / LABELS, number % LABELS);
+    Some(Edge {
+        from: Label::new((row / KINDS) as u8)?,
+        kind: Kind::ALL[row % KINDS],
+        to: Label::new(to as u8)?,
+    })
 }

@@ -26,6 +26,7 @@ edge a reset a
 edge a notify a
 edge a await a
 edge a space a
+edge a derive a
 edge a runs a
 end
 ";
@@ -62,7 +63,7 @@ fn core() -> Result<CoreNo, Fail> {
 }
 
 /// The edges of the policy.
-pub fn edges() -> Result<[Edge; 5], Fail> {
+pub fn edges() -> Result<[Edge; 6], Fail> {
     let a = label()?;
     let edge = |kind| Edge {
         from: a,
@@ -74,6 +75,7 @@ pub fn edges() -> Result<[Edge; 5], Fail> {
         edge(Kind::Notify),
         edge(Kind::Await),
         edge(Kind::Space),
+        edge(Kind::Derive),
         edge(Kind::Runs),
     ])
 }

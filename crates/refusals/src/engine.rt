@@ -4,6 +4,7 @@ use crate::memory::{are, prepared, refused, spend};
 use report::{End, run_on};
 use std::process::Abort;
 use std::test::Fail;
+use std::thread::Threads;
 
 /// A policy that the system is denied by.
 const EMPTY_POLICY: &str = "confine-policy 1\nend\n";
@@ -16,7 +17,7 @@ const FAULTY_TABLE: &str = "confine-table 1\nlabel\nend\n";
 const FAULT: &str = "{\"fault\":50,\"file\":\"table\",\"line\":2}\n";
 
 /// Runs the engine, which is to write this answer and to end with this status, onto a page with room for it.
-fn answers<R: Abort + AllocGlobal>(
+fn answers<R: Abort + AllocGlobal + Threads + Sync>(
     rt: &R,
     count: u64,
     table: &str,
@@ -27,6 +28,7 @@ fn answers<R: Abort + AllocGlobal>(
     spend(rt.alloc(), count)?;
     let page = prepared(Vec::with_capacity(rt.alloc(), answer.len()))?;
     let (end, written) = run_on(
+        rt,
         rt.alloc(),
         Ok(table.as_bytes()),
         Ok(policy.as_bytes()),
@@ -52,7 +54,7 @@ fn has_ended(
     are(rt, written, answer.as_bytes())
 }
 
-fn logs<R: Abort + AllocGlobal>(rt: &R, count: u64) -> Result<(), Fail> {
+fn logs<R: Abort + AllocGlobal + Threads + Sync>(rt: &R, count: u64) -> Result<(), Fail> {
     answers(rt, count, TABLE, POLICY, 0, LOG)
 }
 
@@ -96,7 +98,7 @@ fn engine_log_after_64(rt: HostRuntime) -> Result<(), Fail> {
     logs(&rt, 64)
 }
 
-fn denies<R: Abort + AllocGlobal>(rt: &R, count: u64) -> Result<(), Fail> {
+fn denies<R: Abort + AllocGlobal + Threads + Sync>(rt: &R, count: u64) -> Result<(), Fail> {
     answers(rt, count, TABLE, EMPTY_POLICY, 1, DENIAL)
 }
 
@@ -145,7 +147,12 @@ fn engine_denial_after_59(rt: HostRuntime) -> Result<(), Fail> {
     denies(&rt, 59)
 }
 
-fn tells_a_fault<R: Abort + AllocGlobal>(rt: &R, count: u64) -> Result<(), Fail> {
+#[test]
+fn engine_denial_after_54(rt: HostRuntime) -> Result<(), Fail> {
+    denies(&rt, 54)
+}
+
+fn tells_a_fault<R: Abort + AllocGlobal + Threads + Sync>(rt: &R, count: u64) -> Result<(), Fail> {
     answers(rt, count, FAULTY_TABLE, POLICY, 2, FAULT)
 }
 

@@ -1,6 +1,7 @@
 //! `captext::read_table` and `captext::read_policy`.
 use crate::bell::{POLICY, TABLE, edges, is_the_system};
-use crate::memory::{UNREAD, answered, are, lend, prepared, spend};
+use crate::edges::has_edges;
+use crate::memory::{UNREAD, answered, lend, prepared, spend};
 use captext::{read_policy, read_table};
 use std::process::Abort;
 use std::test::Fail;
@@ -44,7 +45,7 @@ fn reads_the_policy_for<R: Abort + AllocGlobal>(rt: &R, table: &Table) -> Result
         read_policy(rt.alloc(), POLICY.as_bytes(), table),
         UNREAD,
     );
-    lend(read, |policy| are(rt, policy.edges(), &edges))
+    lend(read, |policy| has_edges(rt, policy, &edges))
 }
 
 /// Makes so many allocations, and lends the system's table to the rest of a test.

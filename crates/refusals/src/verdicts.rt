@@ -1,29 +1,46 @@
-//! `certificate::first_check`, which takes no memory.
+//! `verdict::judge`.
 use crate::bell::POLICY;
-use crate::memory::prepared;
+use crate::memory::{NO_MEMORY, answered, prepared};
 use crate::tables::with_table;
 use captext::read_policy;
-use certificate::first_check;
-use policy::Policy;
+use deal::Open;
 use std::process::Abort;
 use std::test::Fail;
+use std::thread::Threads;
 use table::Table;
+use verdict::judge;
 
-fn is_accepted(table: &Table, policy: &Policy) -> bool {
-    matches!(first_check(table, policy), Ok(Ok(_)))
-}
-
-fn accepts_the<R: Abort + AllocGlobal>(rt: &R, table: &Table) -> Result<(), Fail> {
+fn accepts_the<R: Abort + AllocGlobal + Threads + Sync>(rt: &R, table: &Table) -> Result<(), Fail> {
     let policy = prepared(read_policy(rt.alloc(), POLICY.as_bytes(), table))?;
-    assert!(rt; is_accepted(table, &policy));
+    let answer = answered(
+        rt,
+        judge(rt, rt.alloc(), table, &policy, 1, &Open),
+        NO_MEMORY,
+    )?;
+    assert!(rt; answer.is_ok());
     Ok(())
 }
 
-fn accepts<R: Abort + AllocGlobal>(rt: &R, count: u64) -> Result<(), Fail> {
+fn accepts<R: Abort + AllocGlobal + Threads + Sync>(rt: &R, count: u64) -> Result<(), Fail> {
     with_table(rt, count, |table| accepts_the(rt, table))
 }
 
 #[test]
-fn first_check_after_80(rt: HostRuntime) -> Result<(), Fail> {
+fn judge_after_80(rt: HostRuntime) -> Result<(), Fail> {
     accepts(&rt, 80)
+}
+
+#[test]
+fn judge_after_85(rt: HostRuntime) -> Result<(), Fail> {
+    accepts(&rt, 85)
+}
+
+#[test]
+fn judge_after_75(rt: HostRuntime) -> Result<(), Fail> {
+    accepts(&rt, 75)
+}
+
+#[test]
+fn judge_after_70(rt: HostRuntime) -> Result<(), Fail> {
+    accepts(&rt, 70)
 }

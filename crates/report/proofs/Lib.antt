@@ -1,2 +1,4 @@
 mod Names
 mod Loads
+mod LabelLists
+mod Answered

@@ -1,9 +1,13 @@
--- What the command `run` answers to a table, a policy and a script (confine's own).
-use Rattle.std.specs.Prelude.{◌≡◌, ℕ, List}
+-- What the commands answer to a table, a policy and a third file (confine's own).
+use Rattle.std.specs.Prelude.{◌≡◌, ℕ, Bool, false, List, [], Some, Ok, Err, Result}
 use Rattle.std.specs.List.{zip}
 use Rattle.base.specs.declared.edge.Edge.{Edge}
-use Rattle.certificate.specs.Verdict.{IsAccepted, IsLeastBroken, rule_name}
-use Rattle.certificate.specs.declared.denial.Denial.{Denial}
+use Rattle.certificate.specs.Certificate.{certificate_text}
+use Rattle.certificate.specs.Reading.{read_certificate_of}
+use Rattle.certificate.specs.Right.{right_certificate}
+use Rattle.certificate.specs.Verified.{IsVerified}
+use Rattle.certificate.specs.declared.line.Line.{Line}
+use Rattle.certificate.specs.declared.verifying.NotAccepted.TheVariants as not_accepted
 use Rattle.evtext.specs.Log.{log_text}
 use Rattle.evtext.specs.Script.{read_script_of}
 use Rattle.machine.specs.Boot.{IsBoot}
@@ -12,12 +16,32 @@ use Rattle.machine.specs.Machine.{Machine}
 use Rattle.machine.specs.Run.{Run}
 use Rattle.machine.specs.declared.call.Event.{Event}
 use Rattle.machine.specs.declared.call.Outcome.{Outcome}
+use Rattle.policy.specs.Cut.{IsCut}
+use Rattle.policy.specs.Full.{IsFull}
 use Rattle.policy.specs.Policy.{allows}
 use Rattle.report.specs.Commands.{Input, IsCarriedOut, Output}
 use Rattle.report.specs.Places.{place_names}
-use Rattle.report.specs.Reports.{denial_report}
+use Rattle.report.specs.Relations.{Decides}
+use Rattle.report.specs.Reports.{accept_data, check_data, denial_report, line_of}
+use Rattle.report.specs.declared.checking.OnAccept.{OnAccept}
+use Rattle.report.specs.declared.checking.OnAccept.TheVariants as on_accept
 use Rattle.report.specs.declared.end.End.{End}
-use Rattle.report.specs.declared.end.File.TheVariants.{Script}
+use Rattle.report.specs.declared.end.File.TheVariants as file
+use Rattle.report.specs.declared.load.NoFile.{NoFile}
+use Rattle.verdict.specs.Verdict.{IsAccepted, IsLeastBroken, rule_name}
+use Rattle.verdict.specs.declared.denial.Denial.{Denial}
+use Rattle.words.specs.declared.faults.Fault.{Fault}
+
+-- a table and a policy are accepted and the text tells it, with status 0; or they are denied and it tells why, with status 1
+pub data Answers
+    (t : Layout) (Accepted : Type 0) (Denied : Denial → Type 0) (Tells : List ℕ → Type 0) (text : List ℕ) (status : ℕ) : Type 0 where
+  accepted : Accepted → Tells text → status ≡ 0 → Answers t Accepted Denied Tells text status
+  denied : (denial : Denial) → Denied denial → text ≡ denial_report (rule_name denial) (place_names t denial) → status ≡ 1
+      → Answers t Accepted Denied Tells text status
+
+-- the answer to the verdict on a table and a policy
+abbrev pub AnswersVerdict : Layout → List Edge → (List ℕ → Type 0) → List ℕ → ℕ → Type 0
+AnswersVerdict t edges = Answers t (IsAccepted t (allows edges)) (IsLeastBroken t (allows edges))
 
 -- a text is the log of a run of the events from the boot state of the table
 pub record IsLogOfRun (t : Layout) (events : List Event) (text : List ℕ) : Type 0 where
@@ -28,12 +52,51 @@ pub record IsLogOfRun (t : Layout) (events : List Event) (text : List ℕ) : Typ
   pub ran : Run boot events outcomes last
   pub told : text ≡ log_text (zip events outcomes)
 
--- a table and a policy are accepted and the text tells a run, or they are denied and it tells why
-pub data Judges (t : Layout) (edges : List Edge) (events : List Event) (text : List ℕ) (status : ℕ) : Type 0 where
-  ran : IsAccepted t (allows edges) → IsLogOfRun t events text → status ≡ 0 → Judges t edges events text status
-  denied : (denial : Denial) → IsLeastBroken t (allows edges) denial → text ≡ denial_report (rule_name denial) (place_names t denial) → status ≡ 1
-      → Judges t edges events text status
+-- a text is the report of an acceptance, with each label's cut and full authority
+pub record IsCheckReport (t : Layout) (edges : List Edge) (text : List ℕ) : Type 0 where
+  pub cut : ℕ → ℕ → Bool
+  pub full : ℕ → ℕ → Bool
+  pub cuts : Decides t cut (IsCut (allows edges))
+  pub fulls : Decides t full (IsFull (allows edges))
+  pub told : text ≡ line_of (check_data t cut full)
+
+-- what is written of an acceptance: the report, or the table's certificate
+abbrev pub TellsCheck : OnAccept → Layout → List Edge → List ℕ → Type 0
+TellsCheck on_accept.Report t edges text = IsCheckReport t edges text
+TellsCheck on_accept.Certificate t edges text = text ≡ certificate_text t (right_certificate t)
+
+-- the answer to a check of a table against a policy
+abbrev pub Checks : OnAccept → Layout → List Edge → List ℕ → ℕ → Type 0
+Checks written t edges = AnswersVerdict t edges (TellsCheck written t edges)
+
+-- the answer to a certificate for a table and a policy
+abbrev pub Verifies : Layout → List Edge → List Line → List ℕ → ℕ → Type 0
+Verifies t edges lines =
+    Answers t (IsVerified t edges lines (Ok (record { table = t; policy = edges }))) (λ denial. IsVerified t edges lines (Err (not_accepted.Denied denial)))
+    (λ text. text ≡ line_of accept_data)
+
+-- the answer to a script for a table and a policy
+abbrev pub Runs : Layout → List Edge → List Event → List ℕ → ℕ → Type 0
+Runs t edges events = AnswersVerdict t edges (IsLogOfRun t events)
+
+-- the third file of a command that has none: it is empty and can't fail, so that its name is never told
+abbrev pub no_file : Input NoFile
+no_file = record { old = record {}; new = record {}; bytes = Some []; failed = false }
+
+unfoldable pub read_nothing : Layout → List ℕ → Result (List ℕ) Fault
+read_nothing t bytes = Ok []
+
+abbrev pub IsCheckedBeside : {T P S O : Type 0} → OnAccept → Input T → Input P → Input S → Output O → End → Type 0
+IsCheckedBeside written = IsCarriedOut file.Policy read_nothing (λ t edges none. Checks written t edges)
+
+-- a table was checked against a policy
+abbrev pub IsChecked : {T P O : Type 0} → OnAccept → Input T → Input P → Output O → End → Type 0
+IsChecked written table policy out end = IsCheckedBeside written table policy no_file out end
+
+-- a certificate was verified with a table and a policy
+abbrev pub IsVerifiedWith : {T P S O : Type 0} → Input T → Input P → Input S → Output O → End → Type 0
+IsVerifiedWith = IsCarriedOut file.Certificate read_certificate_of Verifies
 
 -- a script was run on a table and a policy, where they are accepted
 abbrev pub IsRun : {T P S O : Type 0} → Input T → Input P → Input S → Output O → End → Type 0
-IsRun = IsCarriedOut Script (λ t. read_script_of) Judges
+IsRun = IsCarriedOut file.Script (λ t. read_script_of) Runs

@@ -1,7 +1,7 @@
 -- How the program ends: its exit status, what it says on standard error, and what an end tells of the devices and of what was written (confine's own).
 use Rattle.std.specs.Prelude.{ℕ, Bool, true, false, List, ◌++◌, codes, Option, Some, None}
 use Rattle.report.specs.declared.end.File.{File}
-use Rattle.report.specs.declared.end.File.TheVariants.{Table, Policy, Script}
+use Rattle.report.specs.declared.end.File.TheVariants.{Table, Policy, Certificate, Script}
 use Rattle.report.specs.declared.end.End.{End}
 use Rattle.report.specs.declared.end.End.TheVariants.{Status, NoMemory, CannotRead, CannotWrite}
 
@@ -9,13 +9,18 @@ use Rattle.report.specs.declared.end.End.TheVariants.{Status, NoMemory, CannotRe
 abbrev pub file_word : File → List ℕ
 file_word Table = codes "table"
 file_word Policy = codes "policy"
+file_word Certificate = codes "certificate"
 file_word Script = codes "script"
+
+-- the line that says that a file couldn't be read
+abbrev pub unread_message : File → List ℕ
+unread_message file = codes "confine: cannot read " ++ file_word file
 
 -- the line on standard error, without its line feed
 abbrev pub message_of : End → Option (List ℕ)
 message_of (Status status) = None
 message_of NoMemory = Some (codes "confine: no memory")
-message_of (CannotRead file) = Some (codes "confine: cannot read " ++ file_word file)
+message_of (CannotRead file) = Some (unread_message file)
 message_of CannotWrite = Some (codes "confine: cannot write")
 
 -- the exit status

@@ -1,6 +1,7 @@
 pub mod Ends
-pub mod Reports
 pub mod Places
+pub mod Reports
+pub mod Relations
 pub mod Files
 pub mod Commands
 pub mod Answers

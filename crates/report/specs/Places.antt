@@ -3,11 +3,15 @@ use Rattle.std.specs.Prelude.{ℕ, List, [], ◌∷◌, ◌++◌, codes, decimal
 use Rattle.base.specs.Kinds.{kind_name}
 use Rattle.base.specs.declared.ids.ObjId.{ObjId}
 use Rattle.base.specs.declared.ids.SlotRef.{SlotRef}
+use Rattle.base.specs.declared.kind.Kind.{Kind}
+use Rattle.base.specs.declared.kind.Kind.TheVariants.{Derive, Runs, Holds}
 use Rattle.captext.specs.Spelling.{slot_word}
 use Rattle.captext.specs.TableText.{place_in}
-use Rattle.certificate.specs.declared.denial.Denial.{Denial}
-use Rattle.certificate.specs.declared.denial.Denial.TheVariants as denial
+use Rattle.verdict.specs.declared.denial.Denial.{Denial}
+use Rattle.verdict.specs.declared.denial.Denial.TheVariants as denial
 use Rattle.machine.specs.Layout.{Layout}
+use Rattle.policy.specs.declared.broken.Broken.{Broken}
+use Rattle.policy.specs.declared.broken.Broken.TheVariants as broken
 use Rattle.table.specs.Rules.{kind_at}
 
 abbrev pub label_name : Layout → ℕ → List ℕ
@@ -21,11 +25,25 @@ object_name t id = unwrap_or (slice_get t.names id.0) (codes "#" ++ decimal id.0
 abbrev pub slot_name : Layout → SlotRef → List ℕ
 slot_name t slot = slot_word (object_name t slot.holder) (place_in (kind_at t slot.holder) slot.index)
 
+-- an edge
+abbrev pub edge_names : Layout → ℕ → Kind → ℕ → List (List ℕ)
+edge_names t from kind to = label_name t from ∷ kind_name kind ∷ label_name t to ∷ []
+
+-- the labels of a broken rule and its missing edge; of P1 and P3, the edge that one of two labels lacks
+abbrev pub broken_names : Layout → Broken → List (List ℕ)
+broken_names t (broken.SubjectsDisagree subject other kind target) = label_name t subject ∷ edge_names t other kind target
+broken_names t (broken.ControlLacks subject kind object) = edge_names t subject kind object
+broken_names t (broken.GrantLacks giver taker kind target) = label_name t giver ∷ edge_names t taker kind target
+broken_names t (broken.DomainLacks parent child) = edge_names t parent Derive child
+broken_names t (broken.DeriveLacks parent child) = edge_names t parent Derive child
+broken_names t (broken.ContextLacks subject context) = edge_names t subject Runs context
+broken_names t (broken.ReplyLacks reply thread) = edge_names t reply Holds thread
+
 -- the place that a denial names
 abbrev pub place_names : Layout → Denial → List (List ℕ)
-place_names t (denial.SubjectsDisagree subject other kind target) =
-    label_name t subject ∷ label_name t other ∷ kind_name kind ∷ label_name t target ∷ []
+place_names t (denial.Policy broken) = broken_names t broken
 place_names t (denial.Capability slot kind label) = slot_name t slot ∷ kind_name kind ∷ label_name t label ∷ []
 place_names t (denial.Root slot label) = slot_name t slot ∷ codes "space" ∷ label_name t label ∷ []
 place_names t (denial.Pair child parent) = slot_name t parent ∷ slot_name t child ∷ []
 place_names t (denial.Binding thread context) = object_name t thread ∷ object_name t context ∷ []
+place_names t (denial.Certificate line) = decimal line ∷ []

@@ -1,10 +1,13 @@
 -- The reports: each is one JSON object on a line, without spaces, its keys in the order of their bytes (confine's own).
-use Rattle.std.specs.Prelude.{ℕ, List, [], ◌∷◌, ◌++◌, codes, map}
-use Rattle.serde_json.specs.Data.{Data, number, unsigned, string, array, object, member, no_members}
+use Rattle.std.specs.Prelude.{ℕ, Bool, List, [], ◌∷◌, ◌++◌, codes, length, map}
+use Rattle.std.specs.List.{filter, fold, range_with_len}
+use Rattle.serde_json.specs.Data.{Data, number, unsigned, string, array, object, Members, member, no_members, put}
 use Rattle.serde_json.specs.View.{items_of}
 use Rattle.serde_json.specs.Written.{compact_text}
+use Rattle.machine.specs.Layout.{Layout}
 use Rattle.report.specs.declared.end.File.{File}
 use Rattle.report.specs.Ends.{file_word}
+use Rattle.report.specs.Places.{label_name}
 
 -- a value on a line, where 10 is the line feed
 abbrev pub line_of : Data → List ℕ
@@ -27,6 +30,30 @@ denial_data rule place =
     object (member (codes "place") (names_data place)
     (member (codes "rule") (string rule)
     (member (codes "verdict") (string (codes "deny")) no_members)))
+
+-- the numbers of the labels of a table
+abbrev pub labels_of : Layout → List ℕ
+labels_of t = range_with_len 0 (length t.labels)
+
+-- the members with one more: a label's name, with the names of those that the test relates it to, in the order of their numbers
+abbrev pub with_related : Layout → (ℕ → ℕ → Bool) → Members → ℕ → Members
+with_related t test members a = put (label_name t a) (names_data (map (label_name t) (filter (test a) (labels_of t)))) members
+
+-- a member for each label
+abbrev pub relation_data : Layout → (ℕ → ℕ → Bool) → Data
+relation_data t test = object (fold (with_related t test) no_members (labels_of t))
+
+-- an acceptance: how many slots are filled, and for each label those that it may act on, by removals and at all
+abbrev pub check_data : Layout → (ℕ → ℕ → Bool) → (ℕ → ℕ → Bool) → Data
+check_data t cut full =
+    object (member (codes "caps") (number (unsigned (length t.caps)))
+    (member (codes "cut") (relation_data t cut)
+    (member (codes "full") (relation_data t full)
+    (member (codes "verdict") (string (codes "accept")) no_members))))
+
+-- an acceptance, and no more
+abbrev pub accept_data : Data
+accept_data = object (member (codes "verdict") (string (codes "accept")) no_members)
 
 abbrev pub fault_report : ℕ → File → ℕ → List ℕ
 fault_report fault file line = line_of (fault_data fault file line)

@@ -1,16 +1,20 @@
-ghost use Rattle.std.specs.Prelude.{◌≡◌, ◌≤◌, ℕ, List, IfOk, Result};
-ghost use Rattle.base.specs.declared.edge.Edge.{Edge};
+ghost use Rattle.std.specs.Prelude.{◌≡◌, ℕ, List, IfOk, Result};
 ghost use Rattle.machine.specs.Layout.{Layout};
+ghost use Rattle.report.specs.Places.{place_names};
+ghost use Rattle.report.specs.Reports.{denial_report};
 ghost use Rattle.report.specs.declared.end.File.{File};
+ghost use Rattle.verdict.specs.Verdict.{rule_name};
 ghost use Rattle.words.specs.Reading.{Reads};
 ghost use Rattle.words.specs.declared.faults.Fault.{Fault};
 
 use crate::File;
+use crate::places::place_names;
+use crate::reports::denial_report;
 use base::Refusal;
 use captext::Fault;
-use policy::Policy;
 use std::alloc::{AllocError, Global};
 use table::Table;
+use verdict::Denial;
 
 /// What is to be written, and the exit status.
 #[derive(Drop)]
@@ -36,12 +40,12 @@ impl From<Refusal> for NoMemory {
     }
 }
 
-/// A command on a table, a policy and a third file.
-pub(crate) trait Command {
-    /// What the third file holds.
+/// The third file of a command.
+pub(crate) trait ThirdFile {
+    /// What it holds.
     type Third: Drop;
 
-    // The third file's name, what is seen of what it holds, and how its text is read.
+    // Its name, what is seen of what it holds, and how its text is read.
     ghost third_file: { File };
 
     ghost Held: { Type 0 };
@@ -49,8 +53,6 @@ pub(crate) trait Command {
     ghost held: { Self.Third → Held };
 
     ghost read_of: { Layout → List ℕ → Result Held Fault };
-    // Which text and status answer a table, a policy and what the third file holds.
-    ghost judges: { Layout → List Edge → Held → List ℕ → ℕ → Type 0 };
 
     fn third_file() -> File
         ensures { result ≡ third_file };
@@ -58,14 +60,16 @@ pub(crate) trait Command {
     /// Reads the third text; a fault that is `Fault::MEMORY` says that memory was refused.
     fn read_third(alloc: Global, table: &Table, bytes: &[u8]) -> Result<Self::Third, Fault>
         ensures { Reads held result (read_of table.now bytes.now) };
+}
 
-    fn judge(
-        alloc: Global,
-        table: &Table,
-        policy: &Policy,
-        third: &Self::Third,
-    ) -> Result<Answer, NoMemory>
-        ensures right { IfOk result (λ answer.
-            judges table.now policy.now (held third.now) answer.text.items answer.status) }
-        ensures exit { IfOk result (λ answer. answer.status ≤ 2) };
+/// The report of a denial: the rule that is broken, and the names at the place.
+pub(crate) fn denial_text(
+    alloc: Global,
+    table: &Table,
+    denial: &Denial,
+) -> Result<Vec<u8>, AllocError>
+    ensures { IfOk result (λ text. text.items ≡ denial_report (rule_name denial.now) (place_names table.now denial.now)) }
+{
+    let place = place_names(alloc, table, denial)?;
+    denial_report(alloc, denial.rule(), &place)
 }

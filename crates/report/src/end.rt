@@ -1,6 +1,6 @@
 ghost use Rattle.std.specs.Prelude.{◌≡◌, Some};
 ghost use Rattle.std.specs.Option.{option_copied};
-ghost use Rattle.report.specs.Ends.{file_word, message_of, status_of};
+ghost use Rattle.report.specs.Ends.{file_word, message_of, status_of, unread_message};
 
 use std::fmt;
 
@@ -9,6 +9,7 @@ use std::fmt;
 pub enum File {
     Table,
     Policy,
+    Certificate,
     Script,
 }
 
@@ -20,7 +21,20 @@ impl File {
         match self {
             File::Table => "table",
             File::Policy => "policy",
+            File::Certificate => "certificate",
             File::Script => "script",
+        }
+    }
+
+    /// The line that says that it couldn't be read.
+    fn unread_message(self) -> &'static str
+        ensures { result.now ≡ unread_message self }
+    {
+        match self {
+            File::Table => "confine: cannot read table",
+            File::Policy => "confine: cannot read policy",
+            File::Certificate => "confine: cannot read certificate",
+            File::Script => "confine: cannot read script",
         }
     }
 }
@@ -64,9 +78,7 @@ impl End {
         match self {
             End::Status(_) => None,
             End::NoMemory => Some("confine: no memory"),
-            End::CannotRead(File::Table) => Some("confine: cannot read table"),
-            End::CannotRead(File::Policy) => Some("confine: cannot read policy"),
-            End::CannotRead(File::Script) => Some("confine: cannot read script"),
+            End::CannotRead(file) => Some(file.unread_message()),
             End::CannotWrite => Some("confine: cannot write"),
         }
     }

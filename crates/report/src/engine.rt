@@ -1,89 +1,25 @@
-ghost use Rattle.std.specs.Prelude.{◌≡◌, ◌≤◌, false, true, IfOk, IsOkAnd};
+ghost use Rattle.std.specs.Prelude.{◌≡◌, ◌≤◌, false, true, None, IfOk, IsOkAnd};
 ghost use Rattle.std.specs.Io.KnownBytes.{Appends};
 ghost use Rattle.devices.specs.Devices.{AppendsBeginning};
-ghost use Rattle.report.specs.Commands.{IsAnswer, IsCarriedOut, input, output};
 ghost use Rattle.report.specs.Ends.{IfCannotWrite, IfStatus, IfUnwritten, is_unwritable, status_of, unread_file};
-ghost use Rattle.report.specs.Files.{Contents, Gives, unread_by, unread_of};
-ghost use Rattle.report.specs.Opening.{IsCarriedOutOn};
+ghost use Rattle.report.specs.Files.{unread_by};
 ghost use Rattle.report.specs.Reports as reports;
 
-use crate::command::{Answer, Command};
-use crate::load::{Loaded, Stop, load};
+use crate::command::Answer;
 use crate::reports::fault_report;
-use crate::{End, File, Sink, Source};
+use crate::{End, File, Sink};
 use captext::Fault;
-use devices::{Watched, open_result};
 use std::alloc::Global;
-use std::io::{self, Read, Write};
 
 /// Why there is no answer.
 #[derive(Clone, Copy)]
-enum Unanswered {
+pub(crate) enum Unanswered {
     NoMemory,
     CannotRead(File),
 }
 
-/// Carries out a command. All of the answer is known before any of it is written.
-pub(crate) fn carry_out<C: Command, T: Source, P: Source, S: Source, O: Sink>(
-    alloc: Global,
-    table: &mut T,
-    policy: &mut P,
-    third: &mut S,
-    out: &mut O,
-) -> End
-    requires table { T.failed table.old ≡ false }
-    requires policy { P.failed policy.old ≡ false }
-    requires third { S.failed third.old ≡ false }
-    requires out { O.failed out.old ≡ false }
-    ensures { IsCarriedOut C.third_file C.read_of C.judges (input T.remaining T.failed table.old table.new)
-        (input P.remaining P.failed policy.old policy.new) (input S.remaining S.failed third.old third.new)
-        (output O.contents O.failed O.is_flushed out.old out.new) result }
-{
-    let loaded = load::<C, T, P, S>(alloc, table, policy, third);
-    write(out, answer::<C>(alloc, loaded))
-}
-
-/// The same on what opening the files gave. Gives the end, and the writer back.
-pub(crate) fn carry_out_on<C: Command, F: Read + Drop, W: Write + Drop>(
-    alloc: Global,
-    table: io::Result<F>,
-    policy: io::Result<F>,
-    third: io::Result<F>,
-    out: W,
-) -> (End, W)
-    ensures { IsCarriedOutOn C.third_file C.read_of C.judges F.remaining W.contents table policy third out result.0 result.1 }
-{
-    let mut table = open_result(table);
-    let mut policy = open_result(policy);
-    let mut third = open_result(third);
-    let mut out = Watched::new(out);
-    let end = carry_out::<C, _, _, _, _>(alloc, &mut table, &mut policy, &mut third, &mut out);
-    (end, out.into_inner())
-}
-
-/// The answer to what was loaded: what the command judges, or the report of the fault that stopped it.
-fn answer<C: Command>(
-    alloc: Global,
-    loaded: Result<Loaded<C::Third>, Stop>,
-) -> Result<Answer, Unanswered>
-    ensures right { IfOk result (λ answer. (contents : Contents C.Held) → Gives C.held contents loaded
-        → IsAnswer C.judges contents answer.text.items answer.status) }
-    ensures exit { IfOk result (λ answer. answer.status ≤ 2) }
-    ensures unread { unread_by result ≡ unread_of loaded }
-{
-    match loaded {
-        Ok(loaded) => match C::judge(alloc, &loaded.table, &loaded.policy, &loaded.third) {
-            Ok(answer) => Ok(answer),
-            Err(_) => Err(Unanswered::NoMemory),
-        },
-        Err(Stop::Faulty(file, fault)) => tell_fault(alloc, file, fault),
-        Err(Stop::CannotRead(file)) => Err(Unanswered::CannotRead(file)),
-        Err(Stop::NoMemory) => Err(Unanswered::NoMemory),
-    }
-}
-
 /// The answer where a text is faulty.
-fn tell_fault(alloc: Global, file: File, fault: Fault) -> Result<Answer, Unanswered>
+pub(crate) fn tell_fault(alloc: Global, file: File, fault: Fault) -> Result<Answer, Unanswered>
     ensures text { IfOk result (λ answer. answer.text.items ≡ reports.fault_report fault.number file fault.line) }
     ensures status { IfOk result (λ answer. answer.status ≡ 2) }
     ensures unread { unread_by result ≡ None }
@@ -95,7 +31,7 @@ fn tell_fault(alloc: Global, file: File, fault: Fault) -> Result<Answer, Unanswe
 }
 
 /// Writes an answer, if there is one.
-fn write<O: Sink>(out: &mut O, answer: Result<Answer, Unanswered>) -> End
+pub(crate) fn write<O: Sink>(out: &mut O, answer: Result<Answer, Unanswered>) -> End
     requires { O.failed out.old ≡ false }
     ensures status { IfStatus result (λ status. IsOkAnd answer (λ answer. (answer.status ≡ status)
         × Appends (O.contents out.old) (O.contents out.new) answer.text.items)) }

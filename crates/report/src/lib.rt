@@ -2,14 +2,20 @@
 //! how they end.
 #![tactic(auto)]
 
+mod checking;
 mod command;
 mod end;
 mod engine;
 mod load;
 mod places;
+mod relations;
 mod reports;
 mod running;
+mod verifying;
 
+pub use checking::{OnAccept, check, check_on};
+pub use deal::{Gate, Open};
 pub use devices::{ReadError, Sink, Source, Unopened, Watched, WriteError};
 pub use end::{End, File};
 pub use running::{run, run_on};
+pub use verifying::{verify, verify_on};

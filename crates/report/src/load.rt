@@ -5,7 +5,7 @@ ghost use Rattle.report.specs.Commands.{HasPolicy, HasTable, first_failed, input
 ghost use Rattle.report.specs.Files.{Gives, IsDeviceStop, IsStopOf, LoadsAs, contents_of, is_unread, unread_of};
 ghost use Rattle.words.specs.Fault.{no_memory};
 
-use crate::command::Command;
+use crate::command::ThirdFile;
 use crate::{File, ReadError, Source};
 use captext::{Fault, read_policy, read_table};
 use policy::Policy;
@@ -18,6 +18,22 @@ pub(crate) struct Loaded<X: Drop> {
     pub table: Table,
     pub policy: Policy,
     pub third: X,
+}
+
+/// The third file of a command that has none: no byte is read, and no device can fail.
+#[derive(Clone, Copy)]
+pub(crate) struct NoFile;
+
+impl Source for NoFile {
+    ghost use Rattle.std.specs.Prelude.{[], Some, false};
+
+    ghost remaining = { λ _. Some [] };
+
+    ghost failed = { λ _. false };
+
+    fn read(&mut self, _buf: &mut [u8]) -> Result<usize, ReadError> {
+        Ok(0)
+    }
 }
 
 /// Why a file wasn't loaded.
@@ -85,7 +101,7 @@ fn load_policy<S: Source>(alloc: Global, table: &Table, source: &mut S) -> Resul
 }
 
 /// What the third file holds; its bytes are let go.
-fn load_third<C: Command, S: Source>(
+fn load_third<C: ThirdFile, S: Source>(
     alloc: Global,
     table: &Table,
     source: &mut S,
@@ -104,7 +120,7 @@ fn load_third<C: Command, S: Source>(
 }
 
 /// Loads the files one after another, up to the first that stops it.
-pub(crate) fn load<C: Command, T: Source, P: Source, S: Source>(
+pub(crate) fn load<C: ThirdFile, T: Source, P: Source, S: Source>(
     alloc: Global,
     table: &mut T,
     policy: &mut P,

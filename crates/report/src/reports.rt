@@ -1,11 +1,15 @@
-ghost use Rattle.std.specs.Prelude.{◌≡◌, IfOk, map, string_bytes, false};
+ghost use Rattle.std.specs.Prelude.{◌≡◌, ℕ, Bool, IfOk, map, string_bytes, false};
 ghost use Rattle.serde_json.specs.View.{view};
 ghost use Rattle.serde_json.specs.Written.{has_float};
+ghost use Rattle.report.specs.Answers as answers;
 ghost use Rattle.report.specs.Reports as reports;
 
 use crate::File;
+use crate::relations::{Relation, relation_value};
+use policy::Policy;
 use serde_json::{Value, json};
 use std::alloc::{AllocError, Global};
+use table::Table;
 
 /// The report of a text that isn't one of its format: the fault's number, the file, and the line
 /// that has it.
@@ -31,6 +35,42 @@ pub(crate) fn denial_report(
         report.items ≡ reports.denial_report rule.now (map string_bytes place.now)) }
 {
     line_of(alloc, &denial_value(alloc, rule, place)?)
+}
+
+/// The report of an acceptance: how many slots of the table are filled, and for each label the labels on
+/// whose objects it may act, by removals and at all.
+pub(crate) fn check_report(
+    alloc: Global,
+    table: &Table,
+    policy: &Policy,
+) -> Result<Vec<u8>, AllocError>
+    ensures { IfOk result (λ report. answers.IsCheckReport table.now policy.now report.items) }
+{
+    let cut = relation_value(alloc, table, policy, Relation::Cut)?;
+    let full = relation_value(alloc, table, policy, Relation::Full)?;
+    let value = check_value(alloc, table, cut, full)?;
+    line_of(alloc, &value)
+}
+
+/// The report of an acceptance that tells no more.
+pub(crate) fn accept_report(alloc: Global) -> Result<Vec<u8>, AllocError>
+    ensures { IfOk result (λ report. report.items ≡ reports.line_of reports.accept_data) }
+{
+    line_of(alloc, &accept_value(alloc)?)
+}
+
+fn check_value(alloc: Global, table: &Table, cut: Value, full: Value) -> Result<Value, AllocError>
+    ensures { IfOk result (λ value. (cuts fulls : ℕ → ℕ → Bool) → view cut ≡ reports.relation_data table.now cuts
+        → view full ≡ reports.relation_data table.now fulls → view value ≡ reports.check_data table.now cuts fulls) }
+{
+    let caps = table.caps().len() as u64;
+    json!(in alloc; {"caps": caps, "cut": cut, "full": full, "verdict": "accept"})
+}
+
+fn accept_value(alloc: Global) -> Result<Value, AllocError>
+    ensures { IfOk result (λ value. view value ≡ reports.accept_data) }
+{
+    json!(in alloc; {"verdict": "accept"})
 }
 
 fn fault_value(alloc: Global, fault: u64, file: File, line: u64) -> Result<Value, AllocError>

@@ -6,6 +6,7 @@ use std::alloc::Global;
 use std::io::ErrorKind;
 use std::process::Abort;
 use std::test::Fail;
+use std::thread::Threads;
 
 const TABLE: &str = "\
 confine-table 1
@@ -130,12 +131,12 @@ fn ends<R: Abort>(
 }
 
 /// Runs the files, and sees how that ends.
-fn run_ends<R: Abort + AllocGlobal>(
+fn run_ends<R: Abort + AllocGlobal + Threads + Sync>(
     rt: &R,
     files: Files<'_>,
     end: (Option<&str>, u8, &str),
 ) -> Result<(), Fail> {
-    let ending = run_onto(rt.alloc(), files, Page::new(rt.alloc()))?;
+    let ending = run_onto(rt, files, Page::new(rt.alloc()))?;
     ends(rt, &ending, end, 0);
     Ok(())
 }
@@ -171,19 +172,19 @@ fn read_up_to(file: File) -> [bool; 3] {
     match file {
         File::Table => [true, false, false],
         File::Policy => [true, true, false],
-        File::Script => [true, true, true],
+        File::Certificate | File::Script => [true, true, true],
     }
 }
 
 /// A file that fails after so many bytes can't be read, and those after it aren't asked.
-fn fails_after<R: Abort + AllocGlobal>(
+fn fails_after<R: Abort + AllocGlobal + Threads + Sync>(
     rt: &R,
     (file, message): (File, &str),
     given: Given<'_>,
     after: usize,
 ) -> Result<(), Fail> {
     let files = accepted().with(file, given.failing(after, ErrorKind::Other));
-    let ending = run_onto(rt.alloc(), files, Page::new(rt.alloc()))?;
+    let ending = run_onto(rt, files, Page::new(rt.alloc()))?;
     ends(rt, &ending, (Some(message), 2, ""), after);
     assert!(rt; ending.reads == read_up_to(file), "after {after} bytes");
     Ok(())
@@ -247,7 +248,7 @@ fn a_read_without_memory_blames_no_file(rt: HostRuntime) -> Result<(), Fail> {
 }
 
 /// A page with room for so many bytes can't be written whole.
-fn overflows<R: Abort + AllocGlobal>(
+fn overflows<R: Abort + AllocGlobal + Threads + Sync>(
     rt: &R,
     files: Files<'_>,
     page: Page,
@@ -255,7 +256,7 @@ fn overflows<R: Abort + AllocGlobal>(
 ) -> Result<(), Fail> {
     let room = page.room;
     let written = answer.get(..room).ok_or("a beginning")?;
-    let ending = run_onto(rt.alloc(), files, page)?;
+    let ending = run_onto(rt, files, page)?;
     ends(
         rt,
         &ending,
@@ -306,7 +307,7 @@ fn how_many_bytes_a_device_moves_changes_no_answer(rt: HostRuntime) -> Result<()
                 room: answer.len(),
                 ..Page::new(rt.alloc())
             };
-            let ending = run_onto(rt.alloc(), files.at_most(reads), page)?;
+            let ending = run_onto(&rt, files.at_most(reads), page)?;
             ends(&rt, &ending, (None, status, answer), 0);
         }
     }

@@ -1,9 +1,12 @@
-//! Runs whose devices fail: what no text can say, so that it isn't among the `cases`. Tests alone.
+//! Runs whose devices fail, and checks by several workers: what no text can say, so that it isn't among
+//! the `cases`. Tests alone.
 #![tactic(auto)]
 
 #[cfg(test)]
 mod ends;
 #[cfg(test)]
 mod failing;
+#[cfg(test)]
+mod gate;
 #[cfg(test)]
 mod session;

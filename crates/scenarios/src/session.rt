@@ -1,8 +1,8 @@
 //! A run over devices.
 use crate::failing::{Given, Page};
 use report::{End, File, Watched, run};
-use std::alloc::Global;
 use std::test::Fail;
+use std::thread::Threads;
 
 /// The three files of a run.
 #[derive(Clone, Copy)]
@@ -18,7 +18,7 @@ impl<'a> Files<'a> {
         match file {
             File::Table => self.table,
             File::Policy => self.policy,
-            File::Script => self.script,
+            File::Certificate | File::Script => self.script,
         }
     }
 
@@ -40,7 +40,7 @@ impl<'a> Files<'a> {
                 policy: given,
                 script,
             },
-            File::Script => Files {
+            File::Certificate | File::Script => Files {
                 table,
                 policy,
                 script: given,
@@ -67,12 +67,23 @@ pub struct Ending {
 }
 
 /// A run that reads these files and writes onto this page.
-pub fn run_onto(alloc: Global, files: Files<'_>, page: Page) -> Result<Ending, Fail> {
+pub fn run_onto<R: Threads + Sync + AllocGlobal>(
+    rt: &R,
+    files: Files<'_>,
+    page: Page,
+) -> Result<Ending, Fail> {
     let mut table = Watched::new(files.table.reader());
     let mut policy = Watched::new(files.policy.reader());
     let mut script = Watched::new(files.script.reader());
     let mut out = Watched::new(page);
-    let end = run(alloc, &mut table, &mut policy, &mut script, &mut out);
+    let end = run(
+        rt,
+        rt.alloc(),
+        &mut table,
+        &mut policy,
+        &mut script,
+        &mut out,
+    );
     let written = String::from_utf8(out.into_inner().written)
         .ok()
         .ok_or("not UTF-8")?;

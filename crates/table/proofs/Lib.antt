@@ -24,3 +24,5 @@ pub mod ObjectRemoved
 pub mod CapRemoved
 pub mod BindingRemoved
 pub mod BuiltUp
+pub mod Lookups
+pub mod AtBoot

@@ -24,7 +24,7 @@ impl Extent {
         ensures end { result.end ≡ end_of object.now }
         ensures upward { result.start ≤ result.end }
     {
-        let start = address(object);
+        let start = object.address();
         let end = match size_bits(object) {
             None => start,
             Some(bits) => start + (1 << bits),
@@ -80,7 +80,7 @@ pub fn is_addressable(object: &Object) -> bool
 {
     match size_bits(object) {
         None => true,
-        Some(bits) => bits <= ADDRESS_BITS && address(object) <= ADDRESS_END - (1 << bits),
+        Some(bits) => bits <= ADDRESS_BITS && object.address() <= ADDRESS_END - (1 << bits),
     }
 }
 
@@ -91,23 +91,7 @@ pub fn is_aligned(object: &Object) -> bool
 {
     match size_bits(object) {
         None => true,
-        Some(bits) => address(object) % (1 << bits) == 0,
-    }
-}
-
-fn address(object: &Object) -> u64
-    ensures { result ≡ address_of object.now }
-{
-    match object {
-        Object::Untyped(memory) => memory.base,
-        Object::CNode(node) => node.address,
-        Object::Tcb(thread) => thread.address,
-        Object::Endpoint(endpoint) => endpoint.address,
-        Object::Notification(notification) => notification.address,
-        Object::Reply(reply) => reply.address,
-        Object::Context(context) => context.address,
-        Object::Frame(frame) => frame.address,
-        Object::Control(_) => 0,
+        Some(bits) => object.address() % (1 << bits) == 0,
     }
 }
 

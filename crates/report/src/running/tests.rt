@@ -104,16 +104,23 @@ fn file(text: Option<&str>) -> io::Result<Text<'_>> {
 
 /// How the engine ends on a table, a policy and a script, and the page with so much room, with what
 /// it wrote onto it.
-fn run_onto(
-    alloc: Global,
+fn run_onto<R: Threads + Sync + AllocGlobal>(
+    rt: &R,
     [table, policy, script]: [Option<&str>; 3],
     room: usize,
 ) -> (End, Narrow) {
     let page = Narrow {
-        taken: Vec::new(alloc),
+        taken: Vec::new(rt.alloc()),
         room,
     };
-    run_on(alloc, file(table), file(policy), file(script), page)
+    run_on(
+        rt,
+        rt.alloc(),
+        file(table),
+        file(policy),
+        file(script),
+        page,
+    )
 }
 
 fn is_the_end(rt: &impl Abort, found: (End, &[u8]), expected: (End, &[u8]), room: usize) {
@@ -122,14 +129,14 @@ fn is_the_end(rt: &impl Abort, found: (End, &[u8]), expected: (End, &[u8]), room
 }
 
 /// Asserts how the engine ends, and what it has written by then.
-fn ends<R: Abort + AllocGlobal>(
+fn ends<R: Abort + AllocGlobal + Threads + Sync>(
     rt: &R,
     files: [Option<&str>; 3],
     room: usize,
     end: End,
     written: &[u8],
 ) {
-    let (found, page) = run_onto(rt.alloc(), files, room);
+    let (found, page) = run_onto(rt, files, room);
     is_the_end(rt, (found, page.taken.as_slice()), (end, written), room);
 }
 

@@ -1,30 +1,50 @@
-use Rattle.std.proofs.Common.{◌∙◌, sym}
-use mathlib.Core.Bool.{false≢true}
-use Rattle.policy.proofs.Edges.{absent, pushed, not_above, rising_added, allows-insert, labels_added}
+use Rattle.std.proofs.Common.{Some, ◌||◌, [], ◌∷◌, ◌++◌, ◌∙◌, sym, ap, subst, arith}
+use Rattle.policy.specs.Policy.{allows, is_edge, IsRising, IsAboveLast}
+use Rattle.policy.specs.Rows.{edges_of_rows, last_with}
+use Rattle.policy.proofs.Members.{last_added, not_above, pushed}
+use Rattle.policy.proofs.RowEdges.{edges_added, edges_rising}
 use Rattle.policy.proofs.policy.Policy.add.Goals as goal
 
-pub invariant_of-self : goal.invariant_of-self
-invariant_of-self c =
-    rw (c.in_ok-insert.ensures.items, c.self.view_is)
-    (record {
-      rising = rising_added _ _ _ c.search.ensures.policy.rising c.in-Err.ensures.gap;
-      labels = labels_added _ _ _ c.joins_labels.ensures.from c.joins_labels.ensures.to c.search.ensures.policy.labels;
-    })
+pub returns-in_err-set-clause-rising : goal.returns-in_err-set-clause-rising
+returns-in_err-set-clause-rising c = edges_rising c.set.new.rows.items
 
-pub returns-in_err-insert-clause-present : goal.returns-in_err-insert-clause-present
-returns-in_err-insert-clause-present c here = absurd (false≢true (sym (absent _ _ _ c.in-Err.ensures.gap) ∙ here))
+pub invariant_of-self-then-not-contains : goal.invariant_of-self-then-not-contains
+invariant_of-self-then-not-contains c =
+    let old = c.self.inside.rows.items in
+    let rows = c.set.new.rows in
+    let new = rows.items in
+    let edge = c.args.edge in
+    let after = edges_added old new edge c.joins_labels.ensures.from c.joins_labels.ensures.to c.in_ok-set.ensures.added c.self.invariant.labels in
+    record {
+      count = omega (arith, rows.ok.0, c.set.ensures.count);
+      labels = after.labels;
+      greatest = ap Some (c.later.ensures ∙ ap (λ last. last_with last edge) c.self.invariant.greatest)
+          ∙ sym (last_added (edges_of_rows old) (edges_of_rows new) edge (edges_rising old) (edges_rising new) after.added);
+    }
 
-pub returns-in_ok-insert-clause-rising : goal.returns-in_ok-insert-clause-rising
-returns-in_ok-insert-clause-rising c =
-    rw (c.in_ok-insert.ensures.items, c.self.view_is) (rising_added _ _ _ c.search.ensures.policy.rising c.in-Err.ensures.gap)
+pub returns-in_ok-set-clause-rising : goal.returns-in_ok-set-clause-rising
+returns-in_ok-set-clause-rising c = edges_rising c.set.new.rows.items
 
-pub returns-in_ok-insert-clause-added : goal.returns-in_ok-insert-clause-added
-returns-in_ok-insert-clause-added c from kind to =
-    rw (c.in_ok-insert.ensures.items, c.self.view_is) (allows-insert _ _ _ from kind to)
+pub returns-in_ok-set-clause-added : goal.returns-in_ok-set-clause-added
+returns-in_ok-set-clause-added c from kind to =
+    let after = edges_added c.self.inside.rows.items c.set.new.rows.items c.args.edge c.joins_labels.ensures.from c.joins_labels.ensures.to
+    c.in_ok-set.ensures.added c.self.invariant.labels in
+    after.added from kind to ∙ ap (λ edges. is_edge from kind to c.args.edge || allows edges from kind to) c.self.view_is
 
-pub returns-in_ok-insert-clause-pushed : goal.returns-in_ok-insert-clause-pushed
-returns-in_ok-insert-clause-pushed c above =
-    rw (c.in_ok-insert.ensures.items, c.self.view_is) (pushed _ _ _ c.search.ensures.policy.rising c.in-Err.ensures.gap above)
+pub returns-in_ok-set-clause-pushed : goal.returns-in_ok-set-clause-pushed
+returns-in_ok-set-clause-pushed c above =
+    let old = c.self.inside.rows.items in
+    let new = c.set.new.rows.items in
+    let edge = c.args.edge in
+    let after = edges_added old new edge c.joins_labels.ensures.from c.joins_labels.ensures.to c.in_ok-set.ensures.added c.self.invariant.labels in
+    pushed (edges_of_rows old) (edges_of_rows new) edge (edges_rising old) (edges_rising new) after.added
+    (subst (λ edges. IsAboveLast edges edge) (sym c.self.view_is) above)
+    ∙ ap (λ edges. edges ++ edge ∷ []) c.self.view_is
 
-pub returns-in_default-clause-pushed : goal.returns-in_default-clause-pushed
-returns-in_default-clause-pushed c above = absurd (not_above _ _ c.search.ensures.policy.rising c.in_default.ensures.found above)
+pub returns-else-not-contains-clause-rising : goal.returns-else-not-contains-clause-rising
+returns-else-not-contains-clause-rising c = subst IsRising c.self.view_is (edges_rising c.self.inside.rows.items)
+
+pub returns-else-not-contains-clause-pushed : goal.returns-else-not-contains-clause-pushed
+returns-else-not-contains-clause-pushed c above =
+    let rising : IsRising c.args.self.now = subst IsRising c.self.view_is (edges_rising c.self.inside.rows.items) in
+    absurd (not_above c.args.self.now c.args.edge rising (sym c.contains.ensures ∙ c.if-not-contains.false) above)

@@ -1,7 +1,12 @@
-use Rattle.std.specs.List.Sorted.{IsStrictlySortedBy}
-use Rattle.policy.proofs.Edges.{no_labels}
+use Rattle.std.proofs.Common.{sym, ap, ◌∙◌, lit≤}
+use Rattle.policy.specs.Policy.{last_edge}
+use Rattle.policy.specs.Rows.{edges_of_rows}
+use Rattle.policy.proofs.RowEdges.{no_bits, no_rows}
 use Rattle.policy.proofs.policy.Policy.new.Goals as goal
 
 pub invariant_of-result : goal.invariant_of-result
-unfolding IsStrictlySortedBy
-invariant_of-result c = rw c.new.ensures.items (record { rising = tt; labels = no_labels })
+invariant_of-result c =
+    rw c.new.ensures.items (record { count = lit≤ tt; labels = no_bits; greatest = sym (ap last_edge no_rows) })
+
+pub returns : goal.returns
+returns c = ap edges_of_rows c.new.ensures.items ∙ no_rows

@@ -1,0 +1,253 @@
+-- A word is read as a set of kinds just where it is the set's word: its names between commas are those of the set's kinds.
+use Rattle.std.proofs.Common.{◌≡◌, ◌≢◌, ℕ, ◌+◌, ◌-◌, ◌<◌, ◌^◌, ◌==◌, zero, suc, Bool, true, false, not, cond, nat_lt, List, [], ◌∷◌, ◌++◌, length, map, take, drop, position, Some, None, Result, Ok, Err, refl, sym, ap, subst, ◌∙◌, ltb-true, ltb-false, lt-ltb, lit<, codes, arith, append_assoc}
+use denote.Shadow.{shadow}
+use denote.Text.{Utf8}
+use Rattle.std.specs.List.{slice_split, onto_first, position_or_len, join_with_byte, list_all}
+use Rattle.std.proofs.lemmas.Bool.{and_parts, cond-false, not-true}
+use Rattle.std.proofs.lemmas.List.{append-nil, map-append, take_rest}
+use Rattle.std.proofs.lemmas.List.Splits.{join_with_byte-slice_split, slice_split_first, slice_split_none}
+use Rattle.std.proofs.lemmas.List.Sums.{fails_before_first}
+use Rattle.std.proofs.lemmas.Option.{none-some}
+use Rattle.base.specs.declared.kind.Kind.{Kind}
+use Rattle.base.specs.declared.kind.Kind.TheVariants.{Control}
+use Rattle.base.specs.declared.kind.Kinds.{Kinds}
+use Rattle.base.specs.Kinds.{kind_bit, kind_name, kind_named}
+use Rattle.base.proofs.KindNames.{kind_is_named, kind_again}
+use Rattle.words.specs.declared.faults.Wrong.{Wrong}
+use Rattle.words.specs.declared.faults.Wrong.TheVariants as wrong
+use Rattle.words.specs.Parts.{IsPart}
+use Rattle.words.specs.Reading.{bind, word_at, or_syntax}
+use Rattle.words.specs.Text.{IsPlainWord}
+use Rattle.words.proofs.TextLaws.{both}
+use Rattle.words.proofs.WordLaws.{bind_ok, plain_bytes}
+use Rattle.captext.proofs.LineLaws.{same_ok, spelled_then}
+use Rattle.captext.proofs.StepLaws.{demand_then}
+use Rattle.certificate.specs.Kinds.{kinds_at, kinds_of, kinds_word, members, set_of, with_kind, with_name, with_names, IsKinds}
+use Rattle.certificate.proofs.Bits.{members_join, members_more, with_kind_small, Joins, all_joined, one_joins}
+
+abbrev comma : ℕ → Bool
+comma b = b == 44
+
+-- what the code does at a comma, and where there is none
+
+split_at : (bs : List ℕ) (at : ℕ) → position comma bs ≡ Some at
+    → slice_split comma bs ≡ take at bs ∷ slice_split comma (drop (at + 1) bs)
+split_at bs at found = by_test (nat_lt (position_or_len comma bs) (length bs)) refl found
+  where
+    by_test : (b : Bool) → nat_lt (position_or_len comma bs) (length bs) ≡ b → cond b (Some (position_or_len comma bs)) None ≡ Some at
+        → slice_split comma bs ≡ take at bs ∷ slice_split comma (drop (at + 1) bs)
+    by_test true below is =
+        let e : position_or_len comma bs ≡ at = cc in
+        slice_split_first comma bs 0 (ltb-true _ _ below) ∙ ap (λ i. take i bs ∷ slice_split comma (drop (i + 1) bs)) e
+    by_test false past is = absurd (none-some at is)
+
+split_nowhere : (bs : List ℕ) → position comma bs ≡ None → slice_split comma bs ≡ bs ∷ []
+split_nowhere bs missing = by_test (nat_lt (position_or_len comma bs) (length bs)) refl missing
+  where
+    by_test : (b : Bool) → nat_lt (position_or_len comma bs) (length bs) ≡ b → cond b (Some (position_or_len comma bs)) None ≡ None
+        → slice_split comma bs ≡ bs ∷ []
+    by_test true below is = cc
+    by_test false past is =
+        let reached = ltb-false _ _ past in
+        slice_split_none comma bs (λ k d h. let before : k < position_or_len comma bs = omega arith in fails_before_first comma bs k d before)
+
+name_first : (kinds : Kinds) (bs : List ℕ) (at : ℕ) → position comma bs ≡ Some at
+    → with_names kinds (slice_split comma bs)
+    ≡ bind (with_name kinds (take at bs)) (λ more. with_names more (slice_split comma (take (length bs - (at + 1)) (drop (at + 1) bs))))
+unfolding with_names
+name_first kinds bs at found = ap (with_names kinds) (split_at bs at found)
+    ∙ ap (λ rest. bind (with_name kinds (take at bs)) (λ more. with_names more (slice_split comma rest))) (sym (take_rest bs (at + 1)))
+
+pub name_fails : (kinds : Kinds) (bs : List ℕ) (at : ℕ) (wrong : Wrong) → position comma bs ≡ Some at
+    → with_name kinds (take at bs) ≡ Err wrong → with_names kinds (slice_split comma bs) ≡ Err wrong
+unfolding bind
+name_fails kinds bs at wrong found fails =
+    name_first kinds bs at found ∙ ap (λ r. bind r (λ more. with_names more (slice_split comma (take (length bs - (at + 1)) (drop (at + 1) bs))))) fails
+
+pub name_goes_on : (kinds more : Kinds) (bs : List ℕ) (at : ℕ) → position comma bs ≡ Some at
+    → with_name kinds (take at bs) ≡ Ok more
+    → with_names kinds (slice_split comma bs)
+    ≡ with_names more (slice_split comma (take (length bs - (at + 1)) (drop (at + 1) bs)))
+unfolding bind
+name_goes_on kinds more bs at found passes =
+    name_first kinds bs at found ∙ ap (λ r. bind r (λ more. with_names more (slice_split comma (take (length bs - (at + 1)) (drop (at + 1) bs))))) passes
+
+pub name_alone : (kinds : Kinds) (bs : List ℕ) → position comma bs ≡ None → with_names kinds (slice_split comma bs) ≡ with_name kinds bs
+unfolding with_names bind
+name_alone kinds bs missing = ap (with_names kinds) (split_nowhere bs missing) ∙ itself (with_name kinds bs) where
+  itself : (r : Result Kinds Wrong) → bind r (λ more. Ok more) ≡ r
+  itself (Ok more) = refl
+  itself (Err wrong) = refl
+
+-- names that are read are those of the kinds that join the set
+
+name_takes : (kinds : Kinds) (name : List ℕ) (more : Kinds) → with_name kinds name ≡ Ok more
+    → (kind : Kind) × (name ≡ kind_name kind) × (kinds.0 < kind_bit kind) × (with_kind kinds kind ≡ more)
+unfolding with_name
+name_takes kinds name more h =
+    let found = spelled_then (kind_named name) _ more h in
+    let kind = found.0 in
+    let passed = demand_then (nat_lt kinds.0 (kind_bit kind)) wrong.Syntax _ more found.2 in
+    (kind, kind_is_named name kind found.1, ltb-true _ _ passed.0, same_ok _ _ passed.1)
+
+names_take : (names : List (List ℕ)) (kinds all : Kinds) → kinds.0 < 2 ^ 17 → with_names kinds names ≡ Ok all
+    → (map kind_name (members kinds) ++ names ≡ map kind_name (members all)) × (all.0 < 2 ^ 17)
+unfolding with_names
+names_take [] kinds all small h =
+    let same : kinds ≡ all = same_ok _ _ h in
+    subst (λ k. (map kind_name (members kinds) ++ [] ≡ map kind_name (members k)) × (k.0 < 2 ^ 17)) same
+    (append-nil (map kind_name (members kinds)), small)
+names_take (name ∷ names) kinds all small h =
+    let first = bind_ok (with_name kinds name) _ all h in
+    let taken = name_takes kinds name first.0 first.1 in
+    let kind = taken.0 in
+    let fits : first.0.0 < 2 ^ 17 = subst (λ k. k.0 < 2 ^ 17) taken.3 (with_kind_small kinds kind small) in
+    let later = names_take names first.0 all fits first.2 in
+    let grown : members first.0 ≡ members kinds ++ kind ∷ [] = ap members (sym taken.3) ∙ members_more kinds kind taken.2 in
+    let longer : map kind_name (members first.0) ≡ map kind_name (members kinds) ++ kind_name kind ∷ [] =
+    ap (map kind_name) grown ∙ map-append kind_name (members kinds) (kind ∷ []) in (
+      ap (λ n. map kind_name (members kinds) ++ n ∷ names) taken.1
+          ∙ sym (append_assoc (map kind_name (members kinds)) (kind_name kind ∷ []) names)
+          ∙ ap (λ front. front ++ names) (sym longer)
+          ∙ later.0,
+      later.1,
+    )
+
+names_again : (kinds all : Kinds) (more : List Kind) → Joins kinds more all → with_names kinds (map kind_name more) ≡ Ok all
+unfolding with_names with_name bind or_syntax
+names_again kinds all more all_joined = refl
+names_again kinds all more (one_joins {more = later} kind above joins) =
+    rw (kind_again kind, lt-ltb _ _ above) (names_again (with_kind kinds kind) all later joins)
+
+-- so a word that is read is the set's, and the set's word is read
+
+-- the name of a kind is plain, and has no comma
+is_plain : (kind : Kind) → list_all (λ b. nat_lt 32 b) (kind_name kind) ≡ true
+is_plain Control = refl
+is_plain _ = refl
+
+has_no_comma : (kind : Kind) → list_all (λ b. not (comma b)) (kind_name kind) ≡ true
+has_no_comma Control = refl
+has_no_comma _ = refl
+
+cut : (name rest : List ℕ) → list_all (λ b. not (comma b)) name ≡ true
+    → slice_split comma (name ++ 44 ∷ rest) ≡ name ∷ slice_split comma rest
+cut [] rest none = refl
+cut (b ∷ name) rest none =
+    let parts = and_parts _ _ none in
+    cond-false _ _ _ (not-true _ parts.0) ∙ ap (onto_first b) (cut name rest parts.1)
+
+cut_last : (name : List ℕ) → list_all (λ b. not (comma b)) name ≡ true → slice_split comma name ≡ name ∷ []
+cut_last [] none = refl
+cut_last (b ∷ name) none =
+    let parts = and_parts _ _ none in cond-false _ _ _ (not-true _ parts.0) ∙ ap (onto_first b) (cut_last name parts.1)
+
+cut_names : (kind : Kind) (kinds : List Kind)
+    → slice_split comma (join_with_byte 44 (map kind_name (kind ∷ kinds))) ≡ map kind_name (kind ∷ kinds)
+cut_names kind [] = cut_last (kind_name kind) (has_no_comma kind)
+cut_names kind (next ∷ kinds) =
+    cut (kind_name kind) (join_with_byte 44 (map kind_name (next ∷ kinds))) (has_no_comma kind)
+    ∙ ap (λ names. kind_name kind ∷ names) (cut_names next kinds)
+
+-- a set with a bit has a kind
+some_member : (kinds : Kinds) → IsKinds kinds → (kind : Kind) × (more : List Kind) × (members kinds ≡ kind ∷ more)
+some_member kinds is = by (members kinds) refl (members_join kinds is.1) where
+  by : (all : List Kind) → members kinds ≡ all → Joins (record { 0 = 0 }) all kinds
+      → (kind : Kind) × (more : List Kind) × (members kinds ≡ kind ∷ more)
+  by [] at joins = absurd (omega (arith, is.0, ap (λ (k : Kinds). k.0) (alone (record { 0 = 0 }) kinds joins))) where
+    alone : (from to : Kinds) → Joins from [] to → from ≡ to
+    alone from to all_joined = refl
+  by (kind ∷ more) at joins = (kind, more, at)
+
+-- a word has a part at least
+some_part : (word : List ℕ) → slice_split comma word ≢ []
+some_part [] none = cc
+some_part (b ∷ word) none = by (comma b) (slice_split comma word) none where
+  by : (test : Bool) (parts : List (List ℕ)) → cond test ([] ∷ parts) (onto_first b parts) ≢ []
+  by true parts none = cc
+  by false [] none = cc
+  by false (part ∷ parts) none = cc
+
+pub word_takes : (word : List ℕ) (kinds : Kinds) → kinds_of word ≡ Ok kinds → (word ≡ kinds_word kinds) × IsKinds kinds
+unfolding kinds_of kinds_word
+word_takes word kinds h =
+    let read = names_take (slice_split comma word) (set_of []) kinds (lit< tt) h in
+    (sym (join_with_byte-slice_split 44 word) ∙ ap (join_with_byte 44) read.0, (full kinds.0 read.0, read.1))
+  where
+    full : (n : ℕ) → slice_split comma word ≡ map kind_name (members (record { 0 = n })) → 0 < n
+    full zero names = absurd (some_part word names)
+    full (suc n) names = omega arith
+
+pub word_again : (kinds : Kinds) → IsKinds kinds → kinds_of (kinds_word kinds) ≡ Ok kinds
+unfolding kinds_of kinds_word
+word_again kinds is =
+    let some = some_member kinds is in
+    let names : slice_split comma (kinds_word kinds) ≡ map kind_name (members kinds) =
+    ap (λ ks. slice_split comma (join_with_byte 44 (map kind_name ks))) some.2 ∙ cut_names some.0 some.1
+    ∙ ap (map kind_name) (sym some.2) in
+    ap (with_names (set_of [])) names ∙ names_again (set_of []) kinds (members kinds) (members_join kinds is.1)
+
+plain_names : (kinds : List Kind) → IsPlainWord (join_with_byte 44 (map kind_name kinds))
+plain_names [] = tt
+plain_names (kind ∷ []) = plain_bytes (kind_name kind) (is_plain kind)
+plain_names (kind ∷ next ∷ kinds) =
+    both (λ b. 32 < b) (kind_name kind) _ (plain_bytes (kind_name kind) (is_plain kind)) (lit< tt, plain_names (next ∷ kinds))
+
+pub kinds_part : IsPart kinds_at (λ kinds. kinds_word kinds ∷ []) IsKinds
+unfolding kinds_at kinds_word bind word_at
+kinds_part = record {
+  takes = takes;
+  again = λ kinds rest is. ap (λ read. bind read (λ k. Ok (k, rest))) (word_again kinds is);
+  plain = λ kinds is. (plain_names (members kinds), tt);
+} where
+  takes : (words : List (List ℕ)) (taken : Kinds × List (List ℕ)) → kinds_at words ≡ Ok taken
+      → (words ≡ kinds_word taken.0 ∷ taken.1) × IsKinds taken.0
+  takes [] taken h = cc
+  takes (word ∷ rest) taken h =
+      let read = bind_ok (kinds_of word) _ taken h in
+      let same : (read.0, rest) ≡ taken = same_ok _ _ read.2 in
+      let is = word_takes word read.0 read.1 in
+      subst (λ (t : Kinds × List (List ℕ)). (word ∷ rest ≡ kinds_word t.0 ∷ t.1) × IsKinds t.0) same
+      (ap (λ w. w ∷ rest) is.0, is.1)
+
+-- the names so far, as they are written
+
+-- what is written before the next name
+abbrev pub separator_after : List (List ℕ) → List ℕ
+separator_after [] = []
+separator_after (name ∷ names) = codes ","
+
+pub separator_is_text : (names : List (List ℕ)) (separator : List ℕ) → separator ≡ separator_after names → shadow (Utf8 separator)
+unfolding lib.Utf8.encode
+separator_is_text [] separator is = ([], (refl, sym is))
+separator_is_text (name ∷ names) separator is = (44 ∷ [], (refl, sym is))
+
+one_name_more : (names : List (List ℕ)) (name : List ℕ)
+    → join_with_byte 44 (names ++ name ∷ []) ≡ join_with_byte 44 names ++ (separator_after names ++ name)
+one_name_more [] name = refl
+one_name_more (first ∷ []) name = refl
+one_name_more (first ∷ next ∷ names) name =
+    ap (λ rest. first ++ 44 ∷ rest) (one_name_more (next ∷ names) name)
+    ∙ sym (append_assoc first (44 ∷ join_with_byte 44 (next ∷ names)) (44 ∷ name))
+
+-- the text of names so far, and what is written before the next one
+abbrev pub IsWritten : List ℕ → List ℕ → List (List ℕ) → Type 0
+IsWritten text separator names = (text ≡ join_with_byte 44 names) × (separator ≡ separator_after names)
+
+pub name_written : (text longer separator next name : List ℕ) (names more : List (List ℕ)) → more ≡ names ++ name ∷ []
+    → IsWritten text separator names → longer ≡ text ++ (separator ++ name) → next ≡ codes "," → IsWritten longer next more
+name_written text longer separator next name names more grown so_far written is = (
+  written
+      ∙ (λ i. so_far.0 i ++ (so_far.1 i ++ name))
+      ∙ sym (one_name_more names name)
+      ∙ ap (join_with_byte 44) (sym grown),
+  is ∙ sym (ap separator_after grown ∙ comma_after names),
+) where
+  comma_after : (names : List (List ℕ)) → separator_after (names ++ name ∷ []) ≡ codes ","
+  comma_after [] = refl
+  comma_after (first ∷ names) = refl
+
+pub same_written : (text same separator next : List ℕ) (names more : List (List ℕ)) → more ≡ names → IsWritten text separator names
+    → same ≡ text → next ≡ separator → IsWritten same next more
+same_written text same separator next names more grown so_far written is =
+    (written ∙ so_far.0 ∙ ap (join_with_byte 44) (sym grown), is ∙ so_far.1 ∙ ap separator_after (sym grown))

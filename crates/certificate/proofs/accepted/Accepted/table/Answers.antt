@@ -1,7 +1,0 @@
--- what the type keeps
-use Rattle.std.proofs.Common.{subst}
-use Rattle.certificate.specs.System.{System, IsAcceptedSystem}
-use Rattle.certificate.proofs.accepted.Accepted.table.Goals as goal
-
-pub returns-clause-accepted : goal.returns-clause-accepted
-returns-clause-accepted c = subst (λ (system : System). IsAcceptedSystem system) c.self.view_is c.self.invariant

@@ -1,0 +1,10 @@
+use Rattle.std.proofs.Common.{take, map, filter, string_bytes}
+use Rattle.base.specs.declared.kind.TheConstants.Kind.{ALL}
+use Rattle.base.specs.Kinds.{is_among, kind_name}
+use Rattle.certificate.proofs.KindWords.{IsWritten}
+use Rattle.certificate.proofs.kinds.kinds_string.Given as goal
+
+-- the names of the kinds so far are written
+abbrev pub invariant-loop-kind : goal.invariant-loop-kind
+invariant-loop-kind l =
+    IsWritten (string_bytes l.text) l.separator (map kind_name (filter (is_among l.kinds.0) (take l.kind-index ALL)))

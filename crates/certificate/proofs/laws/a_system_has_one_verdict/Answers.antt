@@ -1,6 +1,0 @@
--- Of two verdicts neither comes first.
-use Rattle.certificate.proofs.OneVerdict.{one_verdict}
-use Rattle.certificate.proofs.laws.a_system_has_one_verdict.Goals as goal
-
-pub returns : goal.returns
-returns c = record { one = one_verdict }

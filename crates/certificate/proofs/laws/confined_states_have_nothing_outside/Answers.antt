@@ -1,6 +1,0 @@
--- Reason by reason, and place by place.
-use Rattle.certificate.proofs.Outsides.{confined_within, within_confined}
-use Rattle.certificate.proofs.laws.confined_states_have_nothing_outside.Goals as goal
-
-pub returns : goal.returns
-returns c = λ t allowed m. (within_confined t allowed m, confined_within t allowed m)

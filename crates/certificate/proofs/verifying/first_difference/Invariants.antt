@@ -1,0 +1,6 @@
+use Rattle.certificate.proofs.Differences.{Agree}
+use Rattle.certificate.proofs.verifying.first_difference.Given as goal
+
+-- the lines so far are the same
+abbrev pub invariant-loop-index : goal.invariant-loop-index
+invariant-loop-index l = Agree l.lines l.others l.index

@@ -1,0 +1,10 @@
+use Rattle.std.proofs.Common.{◌≡◌, ◌∷◌, take, map, string_bytes}
+use Rattle.words.specs.Text.{text_of}
+use Rattle.certificate.specs.Certificate.{certificate_header}
+use Rattle.certificate.specs.Line.{line_words}
+use Rattle.certificate.proofs.writing.certificate_string.Given as goal
+
+-- the lines so far are the header's and those of the certificate so far
+abbrev pub invariant-loop-line : goal.invariant-loop-line
+invariant-loop-line l =
+    string_bytes l.text ≡ text_of (certificate_header ∷ map (line_words l.table) (take l.line-index l.lines))

@@ -1,0 +1,19 @@
+-- The text of a certificate for a capability table: a header, its lines, and `end` (confine's own).
+use Rattle.std.specs.Prelude.{ℕ, List, codes}
+use Rattle.std.specs.List.{AllByRecursion}
+use Rattle.machine.specs.Layout.{Layout}
+use Rattle.words.specs.Reading.{list_text}
+use Rattle.words.specs.Text.{words_of}
+use Rattle.certificate.specs.declared.line.Line.{Line}
+use Rattle.certificate.specs.Line.{line_words, IsLineFor}
+
+abbrev pub certificate_header : List (List ℕ)
+certificate_header = words_of (codes "confine-cert 1")
+
+-- the text of a certificate
+abbrev pub certificate_text : Layout → List Line → List ℕ
+certificate_text t = list_text certificate_header (line_words t)
+
+-- the lines of a certificate for the table, in any order
+abbrev pub IsCertificateOf : Layout → List Line → Type 0
+IsCertificateOf t lines = AllByRecursion (IsLineFor t) lines

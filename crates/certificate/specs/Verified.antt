@@ -1,0 +1,33 @@
+-- What it means that a capability table, a policy and a certificate are accepted or not: the rules on the first two come first, then
+-- C1, that the certificate is the right one (confine's own).
+use Rattle.std.specs.Prelude.{◌≡◌, ◌≢◌, ℕ, ◌+◌, ◌<◌, List, Result, Ok, Err, slice_get}
+use Rattle.base.specs.declared.edge.Edge.{Edge}
+use Rattle.machine.specs.Layout.{Layout}
+use Rattle.policy.specs.Policy.{allows}
+use Rattle.verdict.specs.declared.denial.Denial.{Denial}
+use Rattle.verdict.specs.declared.denial.Denial.TheVariants as denial
+use Rattle.verdict.specs.System.{System, IsVerdict}
+use Rattle.verdict.specs.Verdict.{IsAccepted}
+use Rattle.certificate.specs.declared.line.Line.{Line}
+use Rattle.certificate.specs.declared.verifying.NotAccepted.{NotAccepted}
+use Rattle.certificate.specs.declared.verifying.NotAccepted.TheVariants.{Denied, NoMemory}
+use Rattle.certificate.specs.Right.{right_certificate}
+
+-- the first line, from 1, where two lists differ: those before it agree, and there the lines differ or one list has ended
+pub record DiffersFirst (line : ℕ) (one other : List Line) : Type 0 where
+  pub before : ℕ
+  pub counted : line ≡ before + 1
+  pub agree : (k : ℕ) → k < before → slice_get one k ≡ slice_get other k
+  pub differ : slice_get one before ≢ slice_get other before
+
+-- a table and a policy that are accepted with another certificate than the right one are denied by C1, all others as they are without
+abbrev pub IsDenied : Layout → List Edge → List Line → Denial → Type 0
+IsDenied t edges lines (denial.Certificate line) =
+    IsAccepted t (allows edges) × DiffersFirst line lines (right_certificate t)
+IsDenied t edges lines other = IsVerdict t edges (Err other)
+
+-- accepted, if the table and the policy are and the certificate is the right one
+abbrev pub IsVerified : Layout → List Edge → List Line → Result System NotAccepted → Type 0
+IsVerified t edges lines (Ok accepted) = IsVerdict t edges (Ok accepted) × (lines ≡ right_certificate t)
+IsVerified t edges lines (Err (Denied denial)) = IsDenied t edges lines denial
+IsVerified t edges lines (Err NoMemory) = Unit {0}

@@ -1,0 +1,83 @@
+ghost use Rattle.std.specs.Prelude.{◌≡◌, ◌↔◌, IfOk, IfNone, IfSome, IsTrue};
+ghost use Rattle.certificate.specs.Verified.{DiffersFirst, IsVerified};
+ghost use Rattle.policy.specs.Policy.{allows};
+ghost use Rattle.verdict.specs.Safe.{StaysConfined, KeepsIntegrity, GuardsBudgets};
+
+use crate::line::{Certificate, Line};
+use crate::making::make;
+use deal::Open;
+use policy::Policy;
+use std::alloc::Global;
+use std::thread::Threads;
+use table::Table;
+use verdict::{Accepted, Denial, judge};
+
+/// Why a table, a policy and a certificate aren't accepted.
+#[derive(Clone, Copy, PartialEq, Eq, Debug)]
+pub enum NotAccepted {
+    /// A rule is broken: P1 to P7 or A1 to A4, or C1 where the certificate isn't the right one.
+    Denied(Denial),
+    /// Memory was refused.
+    NoMemory,
+}
+
+/// The verdict on a capability table, a policy and a certificate for the table: accepted, if
+/// [`judge`] accepts the table with the policy and the certificate is the one that [`make`] makes of the
+/// table; else the denial of the first two, or C1 with the first line that differs.
+///
+/// What is promised of an accepted system is what `judge` promises.
+///
+/// # Errors
+///
+/// [`NotAccepted::NoMemory`] where memory is refused.
+#[tactic(auto, using(crate::proofs::Differences::rules_deny))]
+pub fn verify<'a, R: Threads + Sync>(
+    rt: &R,
+    alloc: Global,
+    table: &'a Table,
+    policy: &'a Policy,
+    certificate: &Certificate,
+) -> Result<Accepted<'a>, NotAccepted>
+    ensures verdict { IsVerified table.now policy.now certificate.now result }
+    ensures confined { IfOk result (λ accepted. StaysConfined table.now (allows policy.now)) }
+    ensures integrity { IfOk result (λ accepted. KeepsIntegrity table.now (allows policy.now)) }
+    ensures budgets { IfOk result (λ accepted. GuardsBudgets table.now (allows policy.now)) }
+{
+    let accepted = match judge(rt, alloc, table, policy, 1, &Open) {
+        Ok(Ok(accepted)) => accepted,
+        Ok(Err(denial)) => return Err(NotAccepted::Denied(denial)),
+        Err(_) => return Err(NotAccepted::NoMemory),
+    };
+    let Ok(right) = make(alloc, table) else {
+        return Err(NotAccepted::NoMemory);
+    };
+    match first_difference(certificate.lines(), right.lines()) {
+        None => Ok(accepted),
+        Some(line) => Err(NotAccepted::Denied(Denial::Certificate { line })),
+    }
+}
+
+/// Whether two lines are the same.
+fn is_same(line: &Line, other: &Line) -> bool
+    ensures { IsTrue result ↔ (line.now ≡ other.now) }
+{
+    line == other
+}
+
+/// The number, from 1, of the first line that differs from the other list's, or that one of them lacks.
+fn first_difference(lines: &[Line], others: &[Line]) -> Option<usize>
+    ensures some { IfSome result (λ line. DiffersFirst line lines.now others.now) }
+    ensures none { IfNone result (lines.now ≡ others.now) }
+{
+    let common = lines.len().min(others.len());
+    for index in 0..common {
+        if !is_same(&lines[index], &others[index]) {
+            return Some(index + 1);
+        }
+    }
+    if lines.len() == others.len() {
+        None
+    } else {
+        Some(common + 1)
+    }
+}

@@ -1,0 +1,28 @@
+-- What the checker answers to a capability table and a policy (confine's own).
+use Rattle.std.specs.Prelude.{◌≡◌, List, Ok, Err}
+use Rattle.base.specs.declared.edge.Edge.{Edge}
+use Rattle.base.specs.declared.refusal.Cause.TheVariants as cause
+use Rattle.base.specs.declared.refusal.Refusal.{Refusal}
+use Rattle.base.specs.Refusals as refusals
+use Rattle.certificate.specs.Right.{right_certificate}
+use Rattle.checker.specs.declared.checking.CheckError.{CheckError}
+use Rattle.checker.specs.declared.checking.CheckError.TheVariants.{NoMemory, WorkerCount}
+use Rattle.checker.specs.declared.checking.Verdict.{Verdict}
+use Rattle.checker.specs.declared.checking.Verdict.TheVariants.{Accept, Deny}
+use Rattle.machine.specs.Layout.{Layout}
+use Rattle.verdict.specs.System.{IsVerdict}
+
+-- the verdict on this table and this policy, and with an acceptance the table's certificate
+abbrev pub IsCheck : Layout → List Edge → Verdict → Type 0
+IsCheck t edges (Accept accepted certificate) = IsVerdict t edges (Ok accepted) × (certificate ≡ right_certificate t)
+IsCheck t edges (Deny denial) = IsVerdict t edges (Err denial)
+
+-- a fact for an acceptance
+abbrev pub IfAccepted : Verdict → Type 0 → Type 0
+IfAccepted (Accept accepted certificate) P = P
+IfAccepted (Deny denial) P = Unit {0}
+
+-- an error as a refusal
+abbrev pub refusal_of : CheckError → Refusal
+refusal_of NoMemory = refusals.out_of_memory
+refusal_of WorkerCount = refusals.refusal_of cause.WorkerCount

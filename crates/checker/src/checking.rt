@@ -1,0 +1,88 @@
+ghost use Rattle.std.specs.Prelude.{◌≡◌, ◌≤◌, ◌↔◌, Err, IfOk};
+ghost use Rattle.checker.specs.Check.{IfAccepted, IsCheck, refusal_of};
+ghost use Rattle.policy.specs.Policy.{allows};
+ghost use Rattle.verdict.specs.Safe.{GuardsBudgets, KeepsIntegrity, StaysConfined};
+
+use base::{Cause, Refusal};
+use certificate::{Certificate, make};
+use deal::Gate;
+use policy::Policy;
+use std::alloc::Global;
+use std::thread::Threads;
+use table::Table;
+use verdict::{Accepted, Denial, judge};
+
+/// What is decided of a capability table and a policy.
+#[derive(Drop)]
+pub enum Verdict<'a> {
+    /// No rule is broken; with the table's certificate.
+    Accept(Accepted<'a>, Certificate),
+    /// A rule is broken.
+    Deny(Denial),
+}
+
+/// Why there is no verdict.
+#[derive(Clone, Copy, PartialEq, Eq, Debug)]
+pub enum CheckError {
+    /// Memory was refused.
+    NoMemory,
+    /// The number of workers is outside 1 to 16.
+    WorkerCount,
+}
+
+impl From<CheckError> for Refusal {
+    ghost from_gives = { λ error refusal. refusal ≡ refusal_of error };
+
+    fn from(error: CheckError) -> Refusal {
+        match error {
+            CheckError::NoMemory => Refusal::from(Cause::OutOfMemory),
+            CheckError::WorkerCount => Refusal::from(Cause::WorkerCount),
+        }
+    }
+}
+
+/// The calls that the checker makes are refused for want of memory alone.
+impl From<Refusal> for CheckError {
+    ghost use Rattle.std.specs.Prelude.{◌≡◌};
+    ghost use Rattle.checker.specs.declared.checking.CheckError.TheVariants.{NoMemory};
+
+    ghost from_gives = { λ refusal error. error ≡ NoMemory };
+
+    fn from(_refusal: Refusal) -> CheckError {
+        CheckError::NoMemory
+    }
+}
+
+/// The verdict on a capability table and a policy, by 1 to 16 workers, each of which arrives at the gate
+/// first. It is the same for every number of them. With an acceptance comes the table's certificate.
+///
+/// Where they are accepted, then after every list of kernel calls by any threads in any interleaving
+/// every capability lies within the policy; no step changes an object of a label on which its caller's
+/// label has no modifying authority; and a context's configured budget or period changes only by a
+/// caller whose label has the policy's SchedControl edge.
+///
+/// # Errors
+///
+/// 45 where the number of workers is outside 1 to 16, and 40 where memory is refused.
+pub fn check<'a, R: Threads + Sync, G: Gate + Sync>(
+    rt: &R,
+    alloc: Global,
+    table: &'a Table,
+    policy: &'a Policy,
+    workers: usize,
+    gate: &G,
+) -> Result<Verdict<'a>, CheckError>
+    ensures verdict { IfOk result (IsCheck table.now policy.now) }
+    ensures confined { IfOk result (λ verdict. IfAccepted verdict (StaysConfined table.now (allows policy.now))) }
+    ensures integrity { IfOk result (λ verdict. IfAccepted verdict (KeepsIntegrity table.now (allows policy.now))) }
+    ensures budgets { IfOk result (λ verdict. IfAccepted verdict (GuardsBudgets table.now (allows policy.now))) }
+    ensures workers { (result ≡ Err CheckError.WorkerCount) ↔ ¬ ((1 ≤ workers) × (workers ≤ 16)) }
+{
+    if workers < 1 || workers > 16 {
+        return Err(CheckError::WorkerCount);
+    }
+    match judge(rt, alloc, table, policy, workers, gate)? {
+        Ok(accepted) => Ok(Verdict::Accept(accepted, make(alloc, table)?)),
+        Err(denial) => Ok(Verdict::Deny(denial)),
+    }
+}

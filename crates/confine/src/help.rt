@@ -1,0 +1,257 @@
+//! The texts of `--help`: what each command is for, what its files hold, and an example to be pasted
+//! into a shell. `tests/command-line` runs the examples, and compares what they print with what is
+//! shown.
+
+pub const ABOUT: &str =
+    "Checks what the threads of a system of capabilities may do, and runs their calls";
+
+pub const ABOUT_CHECK: &str =
+    "Checks a table against a policy, and prints who may change what, or which rule is broken";
+
+pub const ABOUT_VERIFY: &str =
+    "Checks a table against a policy, and whether a certificate is the table's";
+
+pub const ABOUT_RUN: &str =
+    "Checks a table against a policy, runs a script of kernel calls and prints its log";
+
+// Clap indents what a file holds by twelve columns.
+pub const TABLE: &str = "\
+The objects, the capabilities and who holds them. Its lines, between `confine-table 1`
+and `end`, in this order:
+
+  label NAME
+  untyped NAME LABEL ADDRESS BITS                 2^BITS bytes that no object uses yet
+  cnode NAME LABEL ADDRESS RADIX                  2^RADIX slots
+  tcb NAME LABEL ADDRESS ready                    a thread; or `inactive`
+  endpoint NAME LABEL ADDRESS                     `notification`, `reply`, `frame` alike
+  context NAME LABEL ADDRESS CORE BUDGET PERIOD   microseconds; or `-` for the three
+  control NAME LABEL CORE                         may configure contexts for this core
+  cap SLOT CNODE GUARDBITS GUARD
+  cap SLOT ENDPOINT RIGHTS BADGE                  a notification alike
+  cap SLOT FRAME RIGHTS
+  cap SLOT OBJECT                                 of the other five kinds
+  child SLOT SLOT                                 the second was derived from the first
+  bind TCB CONTEXT                                what the thread runs on
+
+Objects of all kinds come in any order, and are numbered from 0 in that of their lines.
+SLOT is CNODE.NUMBER, or TCB.root, which holds the CNode where the thread finds its
+capabilities. RIGHTS is `-`, or some of `rwgy` in this order; notifications and frames
+have `rw` alone. ADDRESS and GUARD are 0x and lower-case hexadecimal, other numbers
+decimal. `cap` lines rise by slot, `child` lines by their second slot, `bind` lines by
+thread.";
+
+pub const POLICY: &str = "\
+What each label may do to which others. Its lines, between `confine-policy 1` and `end`,
+rise by label, kind and label:
+
+  edge LABEL KIND LABEL
+
+The kinds, rising: control, reset, send, receive, grant, call, notify, await, read,
+write, reply, context, schedcontrol, space, derive, runs, holds.";
+
+pub const CERTIFICATE: &str = "\
+What the table gives, as `confine check --cert` writes it. Its lines, between
+`confine-cert 1` and `end`:
+
+  cap SLOT LABEL KINDS LABEL     a slot of a CNode; KINDS as in `reset,notify`
+  space TCB.root LABEL LABEL     the root slot of a thread
+  derive SLOT SLOT LABEL LABEL   a `child` line
+  runs TCB CONTEXT LABEL LABEL   a `bind` line
+
+The labels are those of who holds and of what is held; of the two holders; and of the
+thread and its context.";
+
+pub const SCRIPT: &str = "\
+The kernel calls. Its lines, between `confine-script 1` and `end`, where THREAD is the
+number of an object:
+
+  CORE THREAD signal ADDRESS
+  CORE THREAD poll ADDRESS
+  CORE THREAD wait ADDRESS";
+
+pub const WORKERS: &str = "Threads that look over the slots side by side, 1 to 16";
+
+pub const CERT: &str = "Writes the certificate of an accepted table in place of the report";
+
+// An example of a small table.
+macro_rules! with_table {
+    ($first:literal $(, $then:literal)+) => {
+        concat!(
+            "Example, to be pasted into a shell: ",
+            $first,
+            "
+
+cat >table <<'.'
+confine-table 1
+label a
+label b
+cnode space a 0x1000 2
+tcb main a 0x2000 ready
+notification ring b 0x3000
+context share a 0x4000 0 10 10
+cap space.0 ring rw 1
+cap main.root space 62 0x0
+bind main share
+end
+.
+" $(, $then)+
+        )
+    };
+}
+
+// An example of that table, and of a policy to which it keeps.
+macro_rules! with_policy {
+    ($first:literal, $then:literal) => {
+        with_table!(
+            $first,
+            "\
+cat >policy <<'.'
+confine-policy 1
+edge a reset b
+edge a notify b
+edge a await b
+edge a space a
+edge a derive a
+edge a runs a
+end
+.
+",
+            $then
+        )
+    };
+}
+
+pub const EXAMPLE: &str = with_policy!(
+    "a thread `main` may signal a bell and poll it.",
+    "\
+cat >script <<'.'
+confine-script 1
+0 1 signal 0
+0 1 poll 0
+end
+.
+confine check table policy
+confine check table policy --cert >certificate
+confine verify table policy certificate
+confine run table policy script
+
+The table is accepted, its certificate is right, and the script is run, each with status 0:
+
+{\"caps\":2,\"cut\":{\"a\":[\"a\",\"b\"],\"b\":[\"a\",\"b\"]},\"full\":{\"a\":[\"a\",\"b\"],\"b\":[\"b\"]},\"verdict\":\"accept\"}
+{\"verdict\":\"accept\"}
+confine-log 1
+0 1 signal 0 = done
+0 1 poll 0 = done word 1
+end
+
+A table that is denied ends with 1. A text that has a fault, a file that can't be read, an answer
+that can't be written, no memory, a wrong command line and a request for help end with 2.
+`confine COMMAND --help` tells what the files hold.
+"
+);
+
+pub const EXAMPLE_CHECK: &str = with_table!(
+    "a thread `main` may signal a bell and poll it,
+and the policy forgets that it may poll.",
+    "\
+cat >policy <<'.'
+confine-policy 1
+edge a reset b
+edge a notify b
+edge a space a
+edge a derive a
+edge a runs a
+end
+.
+confine check table policy
+
+It prints the rule that is broken and the place, and ends with status 1:
+
+{\"place\":[\"space.0\",\"await\",\"b\"],\"rule\":\"A1\",\"verdict\":\"deny\"}
+
+By rule A1 each capability keeps to the policy. The one in slot 0 of `space` lets label `a` await
+what is labelled `b`, and the policy has no such edge. It belongs after the edge `notify`:
+
+sed -i '/notify/a edge a await b' policy
+confine check table policy
+
+Now the table is accepted, with status 0:
+
+{\"caps\":2,\"cut\":{\"a\":[\"a\",\"b\"],\"b\":[\"a\",\"b\"]},\"full\":{\"a\":[\"a\",\"b\"],\"b\":[\"b\"]},\"verdict\":\"accept\"}
+
+Two slots are filled. Whatever the threads of a label call, they change objects of the labels in its
+`full` alone, but for objects of the labels in its `cut`, which may shrink: vanish, or lose
+capabilities or links.
+"
+);
+
+pub const EXAMPLE_VERIFY: &str = with_policy!(
+    "a certificate is written, verified and spoilt.",
+    "\
+confine check table policy --cert | tee certificate
+confine verify table policy certificate
+
+The certificate is that of the table, and it ends with status 0:
+
+confine-cert 1
+cap space.0 a reset,notify,await b
+space main.root a a
+runs main share a a
+end
+{\"verdict\":\"accept\"}
+
+Now its second line goes:
+
+sed -i 2d certificate
+confine verify table policy certificate
+
+It prints which line is the first that is wrong, missing or too many, the header not counted, and
+ends with status 1:
+
+{\"place\":[\"1\"],\"rule\":\"C1\",\"verdict\":\"deny\"}
+"
+);
+
+pub const EXAMPLE_RUN: &str = with_policy!(
+    "a thread `main` signals a bell, and polls it twice.",
+    "\
+cat >script <<'.'
+confine-script 1
+0 1 signal 0
+0 1 poll 0
+0 1 poll 0
+end
+.
+confine run table policy script
+
+It prints the log, and ends with status 0:
+
+confine-log 1
+0 1 signal 0 = done
+0 1 poll 0 = done word 1
+0 1 poll 0 = done word 0
+end
+
+`main` is object 1. From its root, 62 zero bits of an address lead to `space`, and the last two
+select one of its four slots. So address 0 is slot 0, which holds a capability to read and to write
+`ring`, with badge 1. The first poll takes the word that the signal left; the second finds none.
+
+Without the edge `await` nothing is run:
+
+sed -i '/await/d' policy
+confine run table policy script
+
+It prints the rule that is broken and the place, and ends with status 1:
+
+{\"place\":[\"space.0\",\"await\",\"b\"],\"rule\":\"A1\",\"verdict\":\"deny\"}
+
+A table that stops after its second line has a fault in its third:
+
+head -n 2 table >short
+confine run short policy script
+
+It prints the number of the fault, and ends with status 2:
+
+{\"fault\":50,\"file\":\"table\",\"line\":3}
+"
+);

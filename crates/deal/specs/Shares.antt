@@ -1,0 +1,11 @@
+-- How a list is dealt to workers: contiguous shares in order, whose lengths differ by at most one. It is confine's own.
+use Rattle.std.specs.Prelude.{ℕ, ◌+◌, ◌*◌, ◌/◌, ◌%◌, min, List, length, slice_range}
+
+-- where the share of a worker begins; the first shares have one item more, where the workers don't divide the items
+abbrev pub start_of : ℕ → ℕ → ℕ → ℕ
+start_of items workers worker = worker * (items / workers) + min worker (items % workers)
+
+-- the items of a worker
+unfoldable pub share_of : {T : Type 0} → List T → ℕ → ℕ → List T
+share_of items workers worker =
+    slice_range items (start_of (length items) workers worker) (start_of (length items) workers (worker + 1))

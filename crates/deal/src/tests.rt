@@ -1,0 +1,140 @@
+ghost use Rattle.std.specs.Prelude.{◌*◌};
+
+use crate::{Gate, Open, Work, shares};
+use base::{Cause, Refusal};
+use std::sync::atomic::{AtomicU64, Ordering};
+use std::test::Fail;
+
+// Twice the item.
+struct Twice;
+
+impl Work<u32> for Twice {
+    type Out = u64;
+
+    ghost answer = { λ work item. 2 * item };
+
+    fn of(&self, item: &u32) -> Result<u64, Refusal> {
+        Ok(2 * u64::from(*item))
+    }
+}
+
+// Memory is refused at one item.
+#[derive(Drop)]
+struct RefusedAt(u32);
+
+impl Work<u32> for RefusedAt {
+    type Out = u64;
+
+    ghost answer = { λ work item. 2 * item };
+
+    fn of(&self, item: &u32) -> Result<u64, Refusal> {
+        if *item == self.0 {
+            return Err(Refusal::from(Cause::OutOfMemory));
+        }
+        Ok(2 * u64::from(*item))
+    }
+}
+
+// Two that wait for each other, and how many gave up.
+#[derive(Drop)]
+struct Meeting {
+    there: AtomicU64,
+    gave_up: AtomicU64,
+}
+
+impl Meeting {
+    fn new() -> Meeting {
+        Meeting {
+            there: AtomicU64::new(0),
+            gave_up: AtomicU64::new(0),
+        }
+    }
+
+    // Comes, and waits for the other one.
+    fn meet(&self) {
+        self.there.fetch_add(1, Ordering::SeqCst);
+        for _ in 0..1_000_000u32 {
+            if self.there.load(Ordering::SeqCst) >= 2 {
+                return;
+            }
+            std::thread::yield_now();
+        }
+        self.gave_up.fetch_add(1, Ordering::SeqCst);
+    }
+
+    // Whether two met.
+    fn was_held(&self) -> bool {
+        self.there.load(Ordering::SeqCst) == 2 && self.gave_up.load(Ordering::SeqCst) == 0
+    }
+}
+
+// A work that holds each item until the other one is begun too.
+impl Work<u32> for Meeting {
+    type Out = u64;
+
+    ghost answer = { λ work item. 2 * item };
+
+    fn of(&self, item: &u32) -> Result<u64, Refusal> {
+        self.meet();
+        Ok(2 * u64::from(*item))
+    }
+}
+
+// A gate that holds the workers 0 and 1 until both are there.
+impl Gate for Meeting {
+    fn arrive(&self, worker: usize) {
+        if worker < 2 {
+            self.meet();
+        }
+    }
+}
+
+#[test]
+fn shares_are_the_plain_map(rt: HostRuntime) -> Result<(), Fail> {
+    for count in [0, 1, 2, 3, 7, 15, 16, 17, 40] {
+        let mut items = Vec::new(rt.alloc());
+        let mut expected = Vec::new(rt.alloc());
+        for number in 0..count {
+            items.push(number)?;
+            expected.push(2 * u64::from(number))?;
+        }
+        for workers in 1..=16 {
+            let outs = shares(&rt, rt.alloc(), &items, workers, &Open, &Twice)?;
+            assert!(rt; outs == expected, "{count} items, {workers} workers");
+        }
+    }
+    Ok(())
+}
+
+#[test]
+fn refused_memory_is_told(rt: HostRuntime) {
+    let items = [0, 1, 2, 3, 4];
+    for workers in [1, 2, 5, 16] {
+        for at in items {
+            let outs = shares(&rt, rt.alloc(), &items, workers, &Open, &RefusedAt(at));
+            assert!(rt;
+                outs.err()
+                    == Some(Refusal {
+                        code: 40,
+                        detail: 0
+                    })
+            );
+        }
+    }
+}
+
+#[test]
+fn gate_work(rt: HostRuntime) {
+    let work = Meeting::new();
+    let outs = shares(&rt, rt.alloc(), &[3, 4], 2, &Open, &work);
+    assert!(rt; outs.is_ok());
+    assert!(rt; work.was_held());
+}
+
+#[test]
+fn workers_pass_the_gate(rt: HostRuntime) {
+    let gate = Meeting::new();
+    let outs = shares(&rt, rt.alloc(), &[3, 4, 5], 3, &gate, &Twice);
+    assert!(rt; outs.is_ok());
+    assert!(rt; gate.was_held());
+}

@@ -1,0 +1,208 @@
+-- What a table declares is the authority of its boot state.
+use Rattle.std.proofs.Common.{◌≡◌, ◌↔◌, ℕ, ◌+◌, ◌<◌, true, ◌||◌, List, [], ◌∷◌, ◌++◌, length, get_or, take, flat_map, slice_get, Option, Some, None, option_map, suc, zero, refl, sym, ap, subst, ◌∙◌, inl, inr, append_assoc}
+use mathlib.Core.Bool.{false≢true}
+use Rattle.std.proofs.lemmas.Bool.{or_cases}
+use Rattle.std.proofs.lemmas.List.{append-nil, take_more}
+use Rattle.std.proofs.lemmas.List.Concat.{flat_map-append}
+use Rattle.std.proofs.lemmas.Option.{none-some, same_Some, slice_get_within, get_or_from_slice_get}
+use Rattle.base.specs.declared.edge.Edge.{Edge}
+use Rattle.base.specs.declared.ids.ObjId.{ObjId}
+use Rattle.base.specs.declared.ids.SlotRef.{SlotRef}
+use Rattle.base.specs.declared.kind.Kind.{Kind}
+use Rattle.base.specs.declared.kind.Kind.TheVariants as authority
+use Rattle.machine.specs.declared.cap.Cap.{Cap}
+use Rattle.machine.specs.declared.layout.Binding.{Binding}
+use Rattle.machine.specs.declared.layout.Initial.{Initial}
+use Rattle.machine.specs.declared.object.Object.{Object}
+use Rattle.machine.specs.declared.object.Object.TheVariants as o
+use Rattle.machine.specs.declared.object.ObjectKind.TheVariants as kind
+use Rattle.machine.specs.Authority.{HasAuthority, by_cap, by_root, by_pair, by_link, holds_thread, links, names_reply}
+use Rattle.machine.specs.Boot.{IsBoot, bound}
+use Rattle.machine.specs.Layout.{Layout, initial_of, declared_label, bound_context}
+use Rattle.machine.specs.Machine.{Machine, cap_of}
+use Rattle.machine.specs.Objects.{kind_of_object}
+use Rattle.machine.proofs.Ids.{itself}
+use Rattle.machine.proofs.LookUps.{one_id}
+use Rattle.policy.specs.Policy.{allows}
+use Rattle.table.specs.Rules.{IsBlank, IsBindingOf, IsLawful}
+use Rattle.table.proofs.AtBoot.{boot_label, declared_at, initial_lawful, rest_links}
+use Rattle.table.proofs.Lookups.{bound_at, bound_from, filled_at, parent_at}
+use Rattle.labels.specs.SlotAuthority as slot
+use Rattle.labels.specs.SlotAuthority.{GivesBySlot}
+use Rattle.labels.specs.SlotEdges.{slot_edges_of}
+use Rattle.labels.specs.TableEdges.{edges_of_binding, edges_of_filled, edges_of_pair, table_edges}
+use Rattle.labels.proofs.EdgeLists.{allows-append, allows_before, allows_after, none_allowed, edge_in, edge_has}
+use Rattle.labels.proofs.SlotAuthority.{slot_authority}
+
+-- an edge is among those of several things where it is among those of one
+
+pub record ComesFrom {X : Type 0} (f : X → List Edge) (xs : List X) (from : ℕ) (k : Kind) (to : ℕ) : Type 0 where
+  pub at : ℕ
+  pub element : X
+  pub here : slice_get xs at ≡ Some element
+  pub has : allows (f element) from k to ≡ true
+
+comes_from :
+    {X : Type 0} (f : X → List Edge) (xs : List X) (from : ℕ) (k : Kind) (to : ℕ) → allows (flat_map f xs) from k to ≡ true
+    → ComesFrom f xs from k to
+comes_from f [] from k to e = absurd (false≢true (sym (none_allowed from k to) ∙ e))
+comes_from f (x ∷ xs) from k to e = elim (or_cases _ _ (sym (allows-append (f x) (flat_map f xs) from k to) ∙ e)) [
+  | inl first ↦ record { at = 0; element = x; here = refl; has = first }
+  | inr rest ↦
+      let later = comes_from f xs from k to rest in
+      record { at = suc later.at; element = later.element; here = later.here; has = later.has }
+]
+
+comes :
+    {X : Type 0} (f : X → List Edge) (xs : List X) (i : ℕ) (x : X) (from : ℕ) (k : Kind) (to : ℕ) → slice_get xs i ≡ Some x
+    → allows (f x) from k to ≡ true → allows (flat_map f xs) from k to ≡ true
+comes f [] i x from k to at has = absurd (none-some x at)
+comes f (y ∷ ys) zero x from k to at has =
+    allows_before (f y) (flat_map f ys) from k to (ap (λ z. allows (f z) from k to) (same_Some y x at) ∙ has)
+comes f (y ∷ ys) (suc i) x from k to at has = allows_after (f y) (flat_map f ys) from k to (comes f ys i x from k to at has)
+
+-- a loop that adds the edges of one thing more
+pub found_more :
+    {X : Type 0} (f : X → List Edge) (before old new : List Edge) (items xs : List X) (i : ℕ) (d : X) (from : ℕ) (k : Kind) (to : ℕ)
+    → items ≡ xs → i < length items → allows old from k to ≡ allows (before ++ flat_map f (take i xs)) from k to
+    → allows new from k to ≡ (allows old from k to || allows (f (get_or items i d)) from k to)
+    → allows new from k to ≡ allows (before ++ flat_map f (take (i + 1) xs)) from k to
+found_more f before old new items xs i d from k to same lt so_far step =
+    let list : flat_map f (take (i + 1) xs) ≡ flat_map f (take i xs) ++ f (get_or xs i d) =
+    ap (flat_map f) (take_more xs i d (subst (λ ys. i < length ys) same lt)) ∙ flat_map-append f (take i xs) (get_or xs i d ∷ [])
+    ∙ ap (λ last. flat_map f (take i xs) ++ last) (append-nil (f (get_or xs i d))) in
+    step ∙ ap (λ ys. allows old from k to || allows (f (get_or ys i d)) from k to) same
+    ∙ ap (λ b. b || allows (f (get_or xs i d)) from k to) so_far
+    ∙ sym (allows-append (before ++ flat_map f (take i xs)) (f (get_or xs i d)) from k to)
+    ∙ ap (λ edges. allows edges from k to)
+    (append_assoc before (flat_map f (take i xs)) (f (get_or xs i d)) ∙ ap (λ rest. before ++ rest) (sym list))
+
+-- an object as it is at boot has no link but from a thread to its context
+
+named : (context : Option ObjId) (end : ObjId) → names_reply context end ≡ true → context ≡ Some end
+named None end e = absurd (false≢true e)
+named (Some id) end e = ap Some (one_id id end e)
+
+record IsBoundTo (t : Layout) (id : ObjId) (k : Kind) (end : ObjId) : Type 0 where
+  runs : authority.Runs ≡ k
+  context : bound_context t id ≡ Some end
+
+linked :
+    (t : Layout) (id end : ObjId) (object : Object) (k : Kind) → IsBlank object → links (bound t id object) k end ≡ true
+    → IsBoundTo t id k end
+linked t id end (o.Tcb thread) authority.Runs blank e = record { runs = refl; context = named (bound_context t id) end e }
+linked t id end (o.Tcb thread) k blank e = absurd (false≢true (sym (rest_links thread.state k end blank.0) ∙ e))
+linked t id end (o.Reply answers) authority.Holds blank e =
+    absurd (false≢true (sym (ap (λ state. holds_thread state end) blank) ∙ e))
+linked t id end _ k blank e = absurd (false≢true e)
+
+links_of_thread :
+    (t : Layout) (id end : ObjId) (object : Object) → kind_of_object object ≡ kind.Tcb → bound_context t id ≡ Some end
+    → links (bound t id object) authority.Runs end ≡ true
+links_of_thread t id end (o.Tcb thread) of is = ap (λ context. names_reply context end) is ∙ itself end
+links_of_thread t id end _ of is = cc
+
+module _ (t : Layout) (lawful : IsLawful t) (m : Machine) (boot : IsBoot t m) where
+  authority_of_slot : (s : SlotRef) (from : ℕ) (k : Kind) (to : ℕ) → GivesBySlot t m s from k to → HasAuthority t m from k to
+  authority_of_slot s from k to (slot.by_cap held is of given source target) = by_cap s held is of given source target
+  authority_of_slot s from authority.Space to (slot.by_root held is of source target) = by_root s held is of source target
+  authority_of_slot s from authority.Derive to (slot.by_pair parent is source target) = by_pair s parent is source target
+
+  by_slot : (s : SlotRef) (from : ℕ) (k : Kind) (to : ℕ) → allows (slot_edges_of t s) from k to ≡ true → HasAuthority t m from k to
+  by_slot s from k to e = authority_of_slot s from k to ((slot_authority t m s from k to boot).0 e)
+
+  -- a thread at boot is linked to the context that it is bound to
+  by_binding :
+      (i : ℕ) (binding : Binding) (from : ℕ) (k : Kind) (to : ℕ) → slice_get t.bindings i ≡ Some binding
+      → allows (edges_of_binding t binding) from k to ≡ true → HasAuthority t m from k to
+  unfolding initial_of
+  by_binding i binding from k to at e =
+      let edge = edge_in (declared_label t binding.thread) (declared_label t binding.context) authority.Runs from k to e in
+      let fits =
+      subst (IsBindingOf t.objects) (get_or_from_slice_get t.bindings i binding binding at)
+      (lawful.draft.bindings.each i binding (slice_get_within t.bindings i binding at)) in
+      subst (λ kind. HasAuthority t m from kind to) edge.same
+      (by_initial (initial_of t binding.thread) refl fits.thread edge.source edge.target)
+    where
+      by_initial :
+          (initial : Option Initial) → initial_of t binding.thread ≡ initial
+          → option_map (λ (i : Initial). kind_of_object i.object) (initial_of t binding.thread) ≡ Some kind.Tcb
+          → declared_label t binding.thread ≡ Some from → declared_label t binding.context ≡ Some to
+          → HasAuthority t m from authority.Runs to
+      by_initial None is of source target =
+          absurd (none-some kind.Tcb (sym (ap (option_map (λ (i : Initial). kind_of_object i.object)) is) ∙ of))
+      by_initial (Some initial) is of source target =
+          let thread : kind_of_object initial.object ≡ kind.Tcb =
+          same_Some (kind_of_object initial.object) kind.Tcb
+          (sym (ap (option_map (λ (i : Initial). kind_of_object i.object)) is) ∙ of) in
+          by_link binding.thread binding.context (bound t binding.thread initial.object)
+          (boot.objects binding.thread ∙ ap (option_map (λ (i : Initial). bound t binding.thread i.object)) is)
+          (links_of_thread t binding.thread binding.context initial.object thread (bound_from t lawful i binding at))
+          (boot_label t m boot binding.thread ∙ source) (boot_label t m boot binding.context ∙ target)
+
+  declares_authority : (from : ℕ) (k : Kind) (to : ℕ) → allows (table_edges t) from k to ≡ true → HasAuthority t m from k to
+  declares_authority from k to e =
+      let caps = flat_map (edges_of_filled t) t.caps in
+      let pairs = flat_map (edges_of_pair t) t.pairs in
+      let bindings = flat_map (edges_of_binding t) t.bindings in
+      elim (or_cases _ _ (sym (allows-append (caps ++ pairs) bindings from k to) ∙ e)) [
+        | inl slots ↦ elim (or_cases _ _ (sym (allows-append caps pairs from k to) ∙ slots)) [
+          | inl first ↦ let one = comes_from (edges_of_filled t) t.caps from k to first in by_slot one.element.slot from k to one.has
+          | inr second ↦ let one = comes_from (edges_of_pair t) t.pairs from k to second in by_slot one.element.child from k to one.has
+        ]
+        | inr third ↦
+            let one = comes_from (edges_of_binding t) t.bindings from k to third in
+            by_binding one.at one.element from k to one.here one.has
+      ]
+
+  -- and the other way round
+
+  slot_has : (s : SlotRef) (from : ℕ) (k : Kind) (to : ℕ) → GivesBySlot t m s from k to → allows (slot_edges_of t s) from k to ≡ true
+  slot_has s from k to gives = (slot_authority t m s from k to boot).1 gives
+
+  from_slots :
+      (from : ℕ) (k : Kind) (to : ℕ)
+      → allows (flat_map (edges_of_filled t) t.caps ++ flat_map (edges_of_pair t) t.pairs) from k to ≡ true
+      → allows (table_edges t) from k to ≡ true
+  from_slots from k to has =
+      allows_before (flat_map (edges_of_filled t) t.caps ++ flat_map (edges_of_pair t) t.pairs) (flat_map (edges_of_binding t) t.bindings) from k to has
+
+  from_caps :
+      (s : SlotRef) (held : Cap) (from : ℕ) (k : Kind) (to : ℕ) → cap_of m s ≡ Some held
+      → GivesBySlot t m s from k to → allows (table_edges t) from k to ≡ true
+  from_caps s held from k to is gives =
+      let at = filled_at t s held (sym (boot.caps s) ∙ is) in
+      from_slots from k to
+      (allows_before (flat_map (edges_of_filled t) t.caps) (flat_map (edges_of_pair t) t.pairs) from k to
+      (comes (edges_of_filled t) t.caps at.at at.element from k to at.here
+      (ap (λ q. allows (slot_edges_of t q) from k to) at.key_is ∙ slot_has s from k to gives)))
+
+  declared : (from : ℕ) (k : Kind) (to : ℕ) → HasAuthority t m from k to → allows (table_edges t) from k to ≡ true
+  declared from k to (by_cap s held is of given source target) =
+      from_caps s held from k to is (slot.by_cap held is of given source target)
+  declared from authority.Space to (by_root s held is of source target) =
+      from_caps s held from authority.Space to is (slot.by_root held is of source target)
+  declared from authority.Derive to (by_pair s parent is source target) =
+      let at = parent_at t s parent (sym (boot.parents s) ∙ is) in
+      from_slots from authority.Derive to
+      (allows_after (flat_map (edges_of_filled t) t.caps) (flat_map (edges_of_pair t) t.pairs) from authority.Derive to
+      (comes (edges_of_pair t) t.pairs at.at at.element from authority.Derive to at.here
+      (ap (λ q. allows (slot_edges_of t q) from authority.Derive to) at.key_is
+      ∙ slot_has s from authority.Derive to (slot.by_pair parent is source target))))
+  declared from k to (by_link id end object at link source target) =
+      let start = declared_at t m boot id object at in
+      let to_context =
+      linked t id end start.initial.object k (initial_lawful t lawful id start.initial start.declares).blank
+      (sym (ap (λ other. links other k end) start.object_is) ∙ link) in
+      let bound_here = bound_at t id end to_context.context in
+      subst (λ kind. allows (table_edges t) from kind to ≡ true) to_context.runs
+      (allows_after (flat_map (edges_of_filled t) t.caps ++ flat_map (edges_of_pair t) t.pairs) (flat_map (edges_of_binding t) t.bindings) from authority.Runs to
+      (comes (edges_of_binding t) t.bindings bound_here.at bound_here.element from authority.Runs to bound_here.here
+      (edge_has (declared_label t bound_here.element.thread) (declared_label t bound_here.element.context) from authority.Runs to
+      (ap (declared_label t) bound_here.key_is ∙ sym (boot_label t m boot id) ∙ source)
+      (ap (declared_label t) bound_here.value_is ∙ sym (boot_label t m boot end) ∙ target))))
+
+pub table_authority :
+    (t : Layout) (m : Machine) (from : ℕ) (k : Kind) (to : ℕ) → IsLawful t → IsBoot t m
+    → allows (table_edges t) from k to ≡ true ↔ HasAuthority t m from k to
+table_authority t m from k to lawful boot = (declares_authority t lawful m boot from k to, declared t lawful m boot from k to)

@@ -1,0 +1,14 @@
+use Rattle.std.proofs.Common.{◌≡◌, get_or, refl, rules, arith}
+use Rattle.labels.proofs.EdgeLists.{one_more, none_added}
+use Rattle.labels.proofs.boot_authority.add_slot.Goals as goal
+
+pub loop-edge-init : goal.loop-edge-init
+loop-edge-init c = λ from kind to. none_added _ c.args.found.now from kind to refl
+
+pub loop-edge-preserved : goal.loop-edge-preserved
+loop-edge-preserved c =
+    let edge = c.edge-item.result in
+    let here : edge ≡ get_or c.deref-edge-items.result.now c.loop-edge.edge-index edge = first_of (search rules, grind arith) in
+    λ from kind to.
+    one_more c.deref-edge-items.result.now c.loop-edge.edge-index edge c.args.found.now c.loop-edge.found c.add.new.self from kind to
+    c.loop-edge-test.true here (c.loop-edge.invariant from kind to) (c.in_ok-add.ensures.added from kind to)

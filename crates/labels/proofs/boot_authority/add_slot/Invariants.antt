@@ -1,0 +1,10 @@
+use Rattle.std.proofs.Common.{◌≡◌, ℕ, ◌||◌, take}
+use Rattle.base.specs.declared.kind.Kind.{Kind}
+use Rattle.policy.specs.Policy.{allows}
+use Rattle.labels.proofs.boot_authority.add_slot.Given as goal
+
+-- the edges so far are added
+abbrev pub invariant-loop-edge : goal.invariant-loop-edge
+invariant-loop-edge l =
+    (from : ℕ) (kind : Kind) (to : ℕ) → allows l.found from kind to
+    ≡ (allows l.fn.found from kind to || allows (take l.edge-index l.edge-items) from kind to)

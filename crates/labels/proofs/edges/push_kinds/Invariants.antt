@@ -1,0 +1,14 @@
+use Rattle.std.proofs.Common.{◌≡◌, ◌++◌, take, filter, flat_map}
+use Rattle.base.specs.declared.kind.TheConstants.Kind as Kinds
+use Rattle.machine.specs.Capabilities.{gives}
+use Rattle.machine.specs.Layout.{declared_label}
+use Rattle.labels.specs.SlotEdges.{edge_between}
+use Rattle.labels.proofs.edges.push_kinds.Given as goal
+
+-- the edges of the kinds so far are there
+abbrev pub invariant-loop-kind : goal.invariant-loop-kind
+invariant-loop-kind l =
+    l.edges.items
+    ≡ l.fn.edges.items
+    ++ flat_map (edge_between (declared_label l.table l.holder) (declared_label l.table l.held.object))
+    (filter (gives l.held.detail) (take l.kind-index Kinds.ALL))

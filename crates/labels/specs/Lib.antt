@@ -1,0 +1,3 @@
+pub mod SlotEdges
+pub mod SlotAuthority
+pub mod TableEdges

@@ -1,0 +1,113 @@
+ghost use Rattle.std.specs.Prelude.{◌≡◌, ◌++◌, IfErr, IfOk, OnOk, filter, flat_map, Some, option_to_list, [], if◌then◌else◌};
+ghost use Rattle.base.specs.declared.kind.TheConstants.Kind as Kinds;
+ghost use Rattle.base.specs.Refusals.{out_of_memory};
+ghost use Rattle.machine.specs.Capabilities.{gives};
+ghost use Rattle.machine.specs.Layout.{declared_label};
+ghost use Rattle.labels.specs.SlotEdges.{slot_edges_of, cap_edges, edge_between};
+
+use crate::label::declared_label;
+use base::{Edge, Kind, ObjId, Refusal, SlotRef};
+use machine::{Cap, ObjectKind};
+use std::alloc::Global;
+use table::Table;
+
+/// The edges of authority that a slot gives at boot: those of its capability, by rising kinds, and
+/// then that of the pair of the derivation tree whose child it is. An empty slot gives none.
+///
+/// # Errors
+///
+/// 40 where memory is refused.
+pub fn slot_edges(alloc: Global, table: &Table, slot: SlotRef) -> Result<Vec<Edge>, Refusal>
+    ensures edges { IfOk result (λ edges. edges.items ≡ slot_edges_of table.now slot) }
+    ensures memory { IfErr result (λ refusal. refusal ≡ out_of_memory) }
+{
+    let mut edges = Vec::new(alloc);
+    if let Some(held) = table.cap(slot) {
+        push_given(&mut edges, table, slot, &held)?;
+    }
+    if let Some(parent) = table.parent(slot) {
+        push_edge(&mut edges, table, parent.holder, Kind::Derive, slot.holder)?;
+    }
+    Ok(edges)
+}
+
+// Adds what the capability in a slot gives.
+fn push_given(
+    edges: &mut Vec<Edge>,
+    table: &Table,
+    slot: SlotRef,
+    held: &Cap,
+) -> Result<(), Refusal>
+    ensures ok { OnOk result (edges.new.items ≡ edges.old.items ++ cap_edges table.now slot (Some held.now)) }
+    ensures err { IfErr result (λ refusal. refusal ≡ out_of_memory) }
+{
+    match table.kind(slot.holder) {
+        Some(ObjectKind::CNode) => push_kinds(edges, table, slot.holder, held),
+        Some(ObjectKind::Tcb) => push_edge(edges, table, slot.holder, Kind::Space, held.object),
+        _ => Ok(()),
+    }
+}
+
+// Adds an edge for each kind that the capability gives.
+fn push_kinds(
+    edges: &mut Vec<Edge>,
+    table: &Table,
+    holder: ObjId,
+    held: &Cap,
+) -> Result<(), Refusal>
+    ensures ok { let between = edge_between (declared_label table.now holder) (declared_label table.now held.now.object) in
+        OnOk result (edges.new.items ≡ edges.old.items ++ flat_map between (filter (gives held.now.detail) Kinds.ALL)) }
+    ensures err { IfErr result (λ refusal. refusal ≡ out_of_memory) }
+{
+    for kind in &Kind::ALL {
+        push_kind(edges, table, holder, *kind, held)?;
+    }
+    Ok(())
+}
+
+// Adds the edge of a kind, if the capability gives it.
+fn push_kind(
+    edges: &mut Vec<Edge>,
+    table: &Table,
+    holder: ObjId,
+    kind: Kind,
+    held: &Cap,
+) -> Result<(), Refusal>
+    ensures ok { let between = edge_between (declared_label table.now holder) (declared_label table.now held.now.object) in
+        OnOk result (edges.new.items ≡ edges.old.items ++ (if gives held.now.detail kind then between kind else [])) }
+    ensures err { IfErr result (λ refusal. refusal ≡ out_of_memory) }
+{
+    if !held.gives(kind) {
+        return Ok(());
+    }
+    push_edge(edges, table, holder, kind, held.object)
+}
+
+// Adds the edge between the labels of two objects, where they have labels.
+fn push_edge(
+    edges: &mut Vec<Edge>,
+    table: &Table,
+    from: ObjId,
+    kind: Kind,
+    to: ObjId,
+) -> Result<(), Refusal>
+    ensures ok { let between = edge_between (declared_label table.now from) (declared_label table.now to) in
+        OnOk result (edges.new.items ≡ edges.old.items ++ between kind) }
+    ensures err { IfErr result (λ refusal. refusal ≡ out_of_memory) }
+{
+    if let Some(edge) = edge_between(table, from, kind, to) {
+        edges.push(edge)?;
+    }
+    Ok(())
+}
+
+// The edge between the labels of two objects, where they have labels.
+pub(crate) fn edge_between(table: &Table, from: ObjId, kind: Kind, to: ObjId) -> Option<Edge>
+    ensures { option_to_list result ≡ edge_between (declared_label table.now from) (declared_label table.now to) kind }
+{
+    Some(Edge {
+        from: declared_label(table, from)?,
+        kind,
+        to: declared_label(table, to)?,
+    })
+}

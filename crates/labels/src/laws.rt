@@ -1,0 +1,17 @@
+ghost use Rattle.std.specs.Prelude.{◌≡◌, ◌↔◌, ℕ, true};
+ghost use Rattle.base.specs.declared.ids.SlotRef.{SlotRef as Slot};
+ghost use Rattle.base.specs.declared.kind.Kind.{Kind as KindOf};
+ghost use Rattle.labels.specs.SlotAuthority.{GivesBySlot};
+ghost use Rattle.labels.specs.SlotEdges.{slot_edges_of};
+ghost use Rattle.machine.specs.Boot.{IsBoot};
+ghost use Rattle.machine.specs.Layout.{Layout};
+ghost use Rattle.machine.specs.Machine.{Machine};
+ghost use Rattle.policy.specs.Policy.{allows};
+
+/// A law about tables, with nothing to run: the edges of a slot are the authority that the table's boot
+/// state has by that slot, through its capability or as a child in the derivation tree.
+#[tactic(auto, using(crate::proofs::SlotAuthority::slot_authority))]
+pub fn slot_edges_are_authority()
+    ensures { (t : Layout) (boot : Machine) (slot : Slot) (from : ℕ) (kind : KindOf) (to : ℕ) → IsBoot t boot
+        → allows (slot_edges_of t slot) from kind to ≡ true ↔ GivesBySlot t boot slot from kind to }
+{}

@@ -1,0 +1,12 @@
+//! The labels of objects, and the edges of authority that a capability table gives at boot.
+#![tactic(auto)]
+
+mod boot_authority;
+mod edges;
+mod label;
+mod laws;
+
+pub use boot_authority::authority;
+pub use edges::slot_edges;
+pub use label::{declared_label, label_of};
+pub use laws::slot_edges_are_authority;

@@ -1,0 +1,78 @@
+-- The first place of a rule within the labels that are told for each kind, and within the labels of one kind.
+use Rattle.std.proofs.Common.{◌≡◌, ℕ, ◌<◌, Bool, true, false, List, [], ◌∷◌, Option, Some, None, IfNone, IfSome, inl, inr, sym, ap, ◌∙◌, subst, arith}
+use Rattle.std.specs.Prelude.{◌↔◌}
+use Rattle.std.specs.Option.{option_map}
+use mathlib.Core.Bool.{false≢true}
+use Rattle.std.specs.Ordering.{is_lt}
+use Rattle.base.specs.declared.kind.Kind.{Kind}
+use Rattle.base.specs.declared.labels.Labels.{Labels}
+use Rattle.base.specs.Kinds.{kind_number}
+use Rattle.base.specs.Labels.{is_in}
+use Rattle.policy.specs.declared.broken.Broken.{Broken}
+use Rattle.policy.specs.Broken.{IsBrokenAt, broken_place}
+use Rattle.policy.specs.Domain.{EdgeTest}
+use Rattle.policy.specs.Places.{ComesBefore}
+use Rattle.policy.specs.Search.{FindsBroken, FindsCell, IsNobody, IsLeastIn}
+use Rattle.policy.proofs.KindNumbers.{same_kind}
+use Rattle.policy.proofs.Places.{IsMade, none_made, least_made, decided}
+
+-- what places add where they name a kind and a label, or a label after a kind that is always the same
+
+abbrev pub of_cell : Kind × ℕ → List ℕ
+of_cell cell = kind_number cell.0 ∷ cell.1 ∷ []
+
+abbrev pub of_target : ℕ → ℕ → List ℕ
+of_target number label = number ∷ label ∷ []
+
+abbrev pub IsMadeOf : {A : Type 0} → EdgeTest → List ℕ → (A → Broken) → (A → List ℕ) → Type 0
+IsMadeOf test beginning make adds = IsMade broken_place (IsBrokenAt test) beginning make adds
+
+not_less : ComesBefore [] [] → ⊥
+not_less less = false≢true (ap is_lt less)
+
+pub not_both : {b : Bool} → b ≡ true → b ≡ false → ⊥
+not_both t f = false≢true (sym f ∙ t)
+
+module _ (test : EdgeTest) (beginning : List ℕ) where
+  -- a set of labels is those at which the rule is broken
+  abbrev pub AreTold : (ℕ → Broken) → Labels → Type 0
+  AreTold make labels = (label : ℕ) → (is_in labels label ≡ true) ↔ IsBrokenAt test (make label)
+
+  pub least_cell :
+      (make : Kind × ℕ → Broken) → IsMadeOf test beginning make of_cell → (gives : Kind → Labels → Type 0)
+      → ((kind : Kind) (labels : Labels) → gives kind labels → AreTold (λ label. make (kind, label)) labels)
+      → (found : Option (Kind × ℕ)) → FindsCell gives found → FindsBroken test beginning (option_map make found)
+  least_cell make made gives tells None nobody = none_made made (λ cell broken.
+      let there = nobody cell.0 in
+      not_both ((tells cell.0 there.0 there.1 cell.1).1 broken) (there.2 cell.1))
+  least_cell make made gives tells (Some cell) found =
+      let here = found.0 in
+      least_made made cell ((tells cell.0 here.0 here.1 cell.1).0 here.2.0) (λ other broken before. elim (decided (kind_number other.0) (kind_number cell.0) _ before) [
+        | inl lower ↦
+            let there = found.1 other.0 lower in
+            not_both ((tells other.0 there.0 there.1 other.1).1 broken) (there.2 other.1)
+        | inr same ↦
+            let kind = same_kind other.0 cell.0 same.0 in
+            let lower : other.1 < cell.1 = elim (decided other.1 cell.1 _ same.1) [ inl lt ↦ lt | inr tie ↦ absurd (not_less tie.1) ] in
+            not_both ((tells cell.0 here.0 here.1 other.1).1 (subst (λ (k : Kind). IsBrokenAt test (make (k, other.1))) kind broken)) (here.2.1 other.1 lower)
+      ])
+
+  pub least_target :
+      (number : ℕ) (make : ℕ → Broken) → IsMadeOf test beginning make (of_target number) → (labels : Labels) → AreTold make labels
+      → (found : Option ℕ) → IfSome found (IsLeastIn labels) → IfNone found (IsNobody labels)
+      → FindsBroken test beginning (option_map make found)
+  least_target number make made labels tells None least nobody =
+      none_made made (λ label broken. not_both ((tells label).1 broken) (nobody label))
+  least_target number make made labels tells (Some label) least nobody =
+      least_made made label ((tells label).0 least.0) (λ other broken before.
+      let lower : other < label = elim (decided number number _ before) [
+        | inl lt ↦ absurd (omega (arith, lt))
+        | inr same ↦ elim (decided other label _ same.1) [ inl lt ↦ lt | inr tie ↦ absurd (not_less tie.1) ]
+      ] in
+      not_both ((tells other).1 broken) (least.1 other lower))
+
+  -- where it is known what was found
+  pub of_found :
+      {A : Type 0} (make : A → Broken) (found known : Option A) → found ≡ known → FindsBroken test beginning (option_map make found)
+      → FindsBroken test beginning (option_map make known)
+  of_found make found known same least = subst (λ (f : Option _). FindsBroken test beginning (option_map make f)) same least

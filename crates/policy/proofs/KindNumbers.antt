@@ -1,0 +1,49 @@
+-- The kinds in the order of their numbers.
+use Rattle.std.proofs.Common.{◌≡◌, ℕ, ◌<◌, List, [], ◌∷◌, get_or, Some, slice_get, refl, sym, ap, ◌∙◌, zero-add, arith}
+use Rattle.std.proofs.lemmas.List.{get_or-map}
+use Rattle.std.proofs.lemmas.List.FromFn.{get_or-range_with_len}
+use Rattle.std.proofs.lemmas.Option.{slice_get-get_or, slice_get_within, get_or_from_slice_get}
+use Rattle.base.specs.declared.kind.Kind.{Kind}
+use Rattle.base.specs.declared.kind.Kind.TheVariants.{Control, Reset, Send, Receive, Grant, Call, Notify, Await, Read, Write, Reply, Context, SchedControl, Space, Derive, Runs, Holds}
+use Rattle.base.specs.Kinds.{kind_number}
+
+abbrev pub all_kinds : List Kind
+all_kinds =
+    Control ∷ Reset ∷ Send ∷ Receive ∷ Grant ∷ Call ∷ Notify ∷ Await ∷ Read ∷ Write ∷ Reply ∷ Context ∷ SchedControl ∷ Space ∷ Derive ∷ Runs ∷ Holds ∷ []
+
+pub kind_number_below : (kind : Kind) → kind_number kind < 17
+kind_number_below kind = grind arith
+
+at_number : (kind d : Kind) → get_or all_kinds (kind_number kind) d ≡ kind
+at_number Control d = refl
+at_number Reset d = refl
+at_number Send d = refl
+at_number Receive d = refl
+at_number Grant d = refl
+at_number Call d = refl
+at_number Notify d = refl
+at_number Await d = refl
+at_number Read d = refl
+at_number Write d = refl
+at_number Reply d = refl
+at_number Context d = refl
+at_number SchedControl d = refl
+at_number Space d = refl
+at_number Derive d = refl
+at_number Runs d = refl
+at_number Holds d = refl
+
+-- each kind stands at its number
+pub kind_stands : (kind : Kind) → slice_get all_kinds (kind_number kind) ≡ Some kind
+kind_stands kind =
+    slice_get-get_or all_kinds (kind_number kind) kind (kind_number_below kind) ∙ ap Some (at_number kind kind)
+
+-- and no other does
+pub number_stands : (k : ℕ) (kind : Kind) → slice_get all_kinds k ≡ Some kind → kind_number kind ≡ k
+number_stands k kind at =
+    let lt : k < 17 = slice_get_within all_kinds k kind at in
+    ap kind_number (sym (get_or_from_slice_get all_kinds k kind kind at)) ∙ sym (get_or-map kind_number all_kinds k kind (kind_number kind) lt)
+    ∙ get_or-range_with_len 0 17 k (kind_number kind) lt ∙ zero-add k
+
+pub same_kind : (a b : Kind) → kind_number a ≡ kind_number b → a ≡ b
+same_kind a b same = sym (at_number a a) ∙ ap (λ n. get_or all_kinds n a) same ∙ at_number b a

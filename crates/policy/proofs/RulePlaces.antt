@@ -1,0 +1,181 @@
+-- Where each broken place is among the rules, and among the numbered places of its rule.
+use Rattle.std.proofs.Common.{◌≡◌, ℕ, ◌+◌, ◌-◌, ◌*◌, ◌/◌, ◌%◌, ◌<◌, zero, suc, List, [], ◌∷◌, Option, Some, None, inl, inr, refl, sym, ap, ◌∙◌, subst, arith, slice_get, true}
+use Rattle.std.proofs.lemmas.Bool.{cases_order}
+use Rattle.std.proofs.lemmas.Option.{same_Some}
+use Rattle.base.specs.declared.kind.Kind.TheVariants.{Space, Control}
+use Rattle.policy.specs.declared.broken.Broken.{Broken}
+use Rattle.policy.specs.declared.broken.Broken.TheVariants as broken
+use Rattle.policy.specs.declared.broken.Rule.{Rule}
+use Rattle.policy.specs.declared.broken.Rule.TheVariants as rule
+use Rattle.policy.specs.Broken.{IsBrokenAt, broken_place, ComesToDerive, ComesToHold, granted, derived, server, caller}
+use Rattle.policy.specs.Domain.{EdgeTest, IsInDomain}
+use Rattle.policy.specs.Places.{Begins, FindsLeast, IsUnder}
+use Rattle.policy.specs.Search.{FindsBroken}
+use Rattle.policy.specs.Sweep.{rule_number, count_of, place_of}
+use Rattle.policy.proofs.Places.{Searches, IsBelow}
+use Rattle.policy.proofs.Sweep.{numbers, stands, stands_alone}
+use Rattle.base.specs.declared.kind.Kind.{Kind}
+
+-- the rules in order
+
+abbrev pub all_rules : List Rule
+all_rules = rule.P1 ∷ rule.P2 ∷ rule.P3 ∷ rule.P4 ∷ rule.P5 ∷ rule.P6 ∷ rule.P7 ∷ []
+
+abbrev pub of_rule : Rule → List ℕ
+of_rule r = rule_number r ∷ []
+
+pub rule_stands : (r : Rule) → slice_get all_rules (rule_number r - 1) ≡ Some r
+rule_stands rule.P1 = refl
+rule_stands rule.P2 = refl
+rule_stands rule.P3 = refl
+rule_stands rule.P4 = refl
+rule_stands rule.P5 = refl
+rule_stands rule.P6 = refl
+rule_stands rule.P7 = refl
+
+numbered : (k : ℕ) (r : Rule) → slice_get all_rules k ≡ Some r → rule_number r ≡ k + 1
+numbered zero r at = ap rule_number (sym (same_Some rule.P1 r at))
+numbered (suc zero) r at = ap rule_number (sym (same_Some rule.P2 r at))
+numbered (suc (suc zero)) r at = ap rule_number (sym (same_Some rule.P3 r at))
+numbered (suc (suc (suc zero))) r at = ap rule_number (sym (same_Some rule.P4 r at))
+numbered (suc (suc (suc (suc zero)))) r at = ap rule_number (sym (same_Some rule.P5 r at))
+numbered (suc (suc (suc (suc (suc zero))))) r at = ap rule_number (sym (same_Some rule.P6 r at))
+numbered (suc (suc (suc (suc (suc (suc zero)))))) r at = ap rule_number (sym (same_Some rule.P7 r at))
+numbered (suc (suc (suc (suc (suc (suc (suc k))))))) r at = cc
+
+same_rule : (a b : Rule) → rule_number a ≡ rule_number b → a ≡ b
+same_rule a b same = same_Some a b (sym (rule_stands a) ∙ ap (λ n. slice_get all_rules (n - 1)) same ∙ rule_stands b)
+
+rule_of : Broken → Rule
+rule_of (broken.SubjectsDisagree _ _ _ _) = rule.P1
+rule_of (broken.ControlLacks _ _ _) = rule.P2
+rule_of (broken.GrantLacks _ _ _ _) = rule.P3
+rule_of (broken.DomainLacks _ _) = rule.P4
+rule_of (broken.DeriveLacks _ _) = rule.P5
+rule_of (broken.ContextLacks _ _) = rule.P6
+rule_of (broken.ReplyLacks _ _) = rule.P7
+
+-- the number of a pair of labels tells both
+paired : (a b : ℕ) → b < 64 → ((a * 64 + b) / 64 ≡ a) × ((a * 64 + b) % 64 ≡ b)
+paired a b below = (omega (arith, below), omega (arith, below))
+
+-- where a place is among those of its rule
+record IsNumbered (b : Broken) : Type 0 where
+  number : ℕ
+  within : number < count_of (rule_of b)
+  begins : Begins (rule_number (rule_of b) ∷ place_of (rule_of b) number) (broken_place b)
+
+first_of : (r : Rule) (rest : List ℕ) (b : Broken) → Begins (rule_number r ∷ rest) (broken_place b) → rule_number r ≡ rule_number (rule_of b)
+unfolding rule_of
+first_of r rest (broken.SubjectsDisagree _ _ _ _) h = h.0
+first_of r rest (broken.ControlLacks _ _ _) h = h.0
+first_of r rest (broken.GrantLacks _ _ _ _) h = h.0
+first_of r rest (broken.DomainLacks _ _) h = h.0
+first_of r rest (broken.DeriveLacks _ _) h = h.0
+first_of r rest (broken.ContextLacks _ _) h = h.0
+first_of r rest (broken.ReplyLacks _ _) h = h.0
+
+rule_begins : (b : Broken) → Begins (rule_number (rule_of b) ∷ []) (broken_place b)
+unfolding rule_of
+rule_begins (broken.SubjectsDisagree _ _ _ _) = (refl, tt)
+rule_begins (broken.ControlLacks _ _ _) = (refl, tt)
+rule_begins (broken.GrantLacks _ _ _ _) = (refl, tt)
+rule_begins (broken.DomainLacks _ _) = (refl, tt)
+rule_begins (broken.DeriveLacks _ _) = (refl, tt)
+rule_begins (broken.ContextLacks _ _) = (refl, tt)
+rule_begins (broken.ReplyLacks _ _) = (refl, tt)
+
+pairs_rise : (a b : ℕ) → a < b → IsBelow (a / 64 ∷ a % 64 ∷ []) (b / 64 ∷ b % 64 ∷ [])
+pairs_rise a b lt = elim (cases_order (a / 64) (b / 64)) [
+  | inl same ↦ let less : a % 64 < b % 64 = omega (arith, lt, same) in inr (same, inl less)
+  | inr (inl below) ↦ inl below
+  | inr (inr above) ↦ absurd (omega (arith, lt, above))
+]
+
+places_rise : (r : Rule) (a b : ℕ) → a < b → IsBelow (place_of r a) (place_of r b)
+places_rise rule.P1 a b lt = pairs_rise a b lt
+places_rise rule.P2 a b lt = inl lt
+places_rise rule.P3 a b lt = pairs_rise a b lt
+places_rise rule.P4 a b lt = inl lt
+places_rise rule.P5 a b lt = inl lt
+places_rise rule.P6 a b lt = inl lt
+places_rise rule.P7 a b lt = inl lt
+
+module _ (test : EdgeTest) (joins : (from : ℕ) (kind : Kind) (to : ℕ) → test from kind to ≡ true → (from < 64) × (to < 64)) where
+  in_domain : (a x : ℕ) → IsInDomain test a x → (a < 64) × (x < 64)
+  in_domain a x (inl e) = joins a Space x e
+  in_domain a x (inr e) = joins a Control x e
+
+  of_pair : (a b : ℕ) → a < 64 → b < 64 → a * 64 + b < 4096
+  of_pair a b one other = omega (arith, one, other)
+
+  derives : (parent child : ℕ) → ComesToDerive test parent child → parent < 64
+  derives parent child (granted giver taker may of_parent of_child) = (in_domain giver parent of_parent).1
+  derives parent child (derived middle one other) = (joins parent _ middle one).0
+
+  holds : (reply thread : ℕ) → ComesToHold test reply thread → reply < 64
+  holds reply thread (server e) = (joins thread _ reply e).1
+  holds reply thread (caller b endpoint e calls receives) = (joins b _ reply e).1
+
+  place_number : (b : Broken) → IsBrokenAt test b → IsNumbered b
+  unfolding rule_of
+  place_number (broken.SubjectsDisagree a b kind to) h =
+      let both = in_domain a b h.domain in
+      let pair = paired a b both.1 in
+      record { number = a * 64 + b; within = of_pair a b both.0 both.1; begins = (refl, (pair.0, (pair.1, tt))) }
+  place_number (broken.ControlLacks a kind to) h = record { number = a; within = (joins a _ to h.controls).0; begins = (refl, (refl, tt)) }
+  place_number (broken.GrantLacks a b kind to) h =
+      let below = (joins b _ h.granted.endpoint h.granted.receives).0 in
+      let pair = paired a b below in
+      record {
+        number = a * 64 + b;
+        within = of_pair a b (joins a _ h.granted.endpoint h.granted.grants).0 below;
+        begins = (refl, (pair.0, (pair.1, tt)));
+      }
+  place_number (broken.DomainLacks a to) h =
+      record { number = a; within = (in_domain h.subject a h.of_parent).1; begins = (refl, (refl, tt)) }
+  place_number (broken.DeriveLacks a to) h = record { number = a; within = derives a to h.comes; begins = (refl, (refl, tt)) }
+  place_number (broken.ContextLacks a to) h = record { number = a; within = (joins a _ to h.binds).0; begins = (refl, (refl, tt)) }
+  place_number (broken.ReplyLacks a to) h = record { number = a; within = holds a to h.comes; begins = (refl, (refl, tt)) }
+
+  -- the places of a rule
+  pub of_places : (r : Rule) → Searches broken_place (IsBrokenAt test) (of_rule r) (numbers (count_of r)) (place_of r)
+  of_places r = record { covers = covers; rises = rises } where
+    covers :
+        (b : Broken) → IsUnder broken_place (IsBrokenAt test) (of_rule r) b
+        → (k : ℕ) × (a : ℕ) × (slice_get (numbers (count_of r)) k ≡ Some a) × Begins (rule_number r ∷ place_of r a) (broken_place b)
+    covers b under =
+        let at = place_number b under.1 in
+        let same = same_rule (rule_of b) r (sym (first_of r [] b under.0)) in (
+          at.number,
+          at.number,
+          stands (count_of r) at.number (subst (λ (s : Rule). at.number < count_of s) same at.within),
+          subst (λ (s : Rule). Begins (rule_number s ∷ place_of s at.number) (broken_place b)) same at.begins,
+        )
+
+    rises :
+        (i j a b : ℕ) → i < j → slice_get (numbers (count_of r)) i ≡ Some a → slice_get (numbers (count_of r)) j ≡ Some b
+        → IsBelow (place_of r a) (place_of r b)
+    rises i j a b lt at_i at_j =
+        let one = stands_alone (count_of r) i a at_i in
+        let other = stands_alone (count_of r) j b at_j in
+        places_rise r a b (omega (arith, lt, one, other))
+
+-- the rules
+pub of_rules : (test : EdgeTest) → Searches broken_place (IsBrokenAt test) [] all_rules of_rule
+of_rules test = record { covers = covers; rises = rises } where
+  covers :
+      (b : Broken) → IsUnder broken_place (IsBrokenAt test) [] b
+      → (k : ℕ) × (r : Rule) × (slice_get all_rules k ≡ Some r) × Begins (rule_number r ∷ []) (broken_place b)
+  covers b under = (rule_number (rule_of b) - 1, rule_of b, rule_stands (rule_of b), rule_begins b)
+
+  rises : (i j : ℕ) (a b : Rule) → i < j → slice_get all_rules i ≡ Some a → slice_get all_rules j ≡ Some b → IsBelow (of_rule a) (of_rule b)
+  rises i j a b lt at_i at_j =
+      let one = numbered i a at_i in
+      let other = numbered j b at_j in
+      inl (omega (arith, lt, one, other))
+
+-- what is least under no beginning is least of all
+pub of_all : (test : EdgeTest) (found : Option Broken) → FindsBroken test [] found → FindsLeast broken_place (IsBrokenAt test) found
+of_all test None none = λ b broken. none b (tt, broken)
+of_all test (Some b) least = record { has = least.has.1; first = λ other broken. least.first other (tt, broken) }

@@ -1,0 +1,151 @@
+-- The sets of labels at which P4, P5 and P7 are broken, as the search puts them together.
+use Rattle.std.proofs.Common.{◌≡◌, ◌≢◌, ℕ, ◌&&◌, ◌||◌, ◌==◌, ◌⊎◌, Bool, true, false, not, inl, inr, refl, sym, ◌∙◌, subst}
+use Rattle.std.specs.Prelude.{◌↔◌}
+use mathlib.Core.Bool.{false≢true}
+use Rattle.std.proofs.lemmas.Bool.{and_parts, or_cases, eqb-true, eq-eqb}
+use Rattle.base.specs.declared.kind.Kind.{Kind}
+use Rattle.base.specs.declared.kind.Kind.TheVariants as kind
+use Rattle.base.specs.declared.kind.Kind.TheVariants.{Call, Derive, Grant, Receive, Reply}
+use Rattle.base.specs.declared.labels.Labels.{Labels}
+use Rattle.base.specs.Kinds.{is_structural}
+use Rattle.base.specs.Labels.{is_in}
+use Rattle.policy.specs.Closed.{MayBeGranted}
+use Rattle.policy.specs.Broken.{SubjectsDisagree, GrantLacks, DomainLacks, DeriveLacks, ReplyLacks, ComesToDerive, ComesToHold, granted, derived, server, caller}
+use Rattle.policy.specs.Domain.{EdgeTest, IsInDomain}
+use Rattle.policy.proofs.LabelSteps.{left_of, right_of}
+
+-- sets by what is in them
+
+abbrev pub Holds : Labels → (ℕ → Type 0) → Type 0
+Holds labels Has = (label : ℕ) → (is_in labels label ≡ true) ↔ Has label
+
+abbrev pub IsRow : EdgeTest → ℕ → Kind → Labels → Type 0
+IsRow test from kind row = (to : ℕ) → is_in row to ≡ test from kind to
+
+abbrev pub IsReached : EdgeTest → Labels → Kind → Labels → Type 0
+IsReached test from kind reached = Holds reached (λ to. (label : ℕ) × (is_in from label ≡ true) × (test label kind to ≡ true))
+
+abbrev pub IsReaching : EdgeTest → Kind → Labels → Labels → Type 0
+IsReaching test kind to reaching = Holds reaching (λ from. (label : ℕ) × (is_in to label ≡ true) × (test from kind label ≡ true))
+
+abbrev pub IsDomainOf : EdgeTest → Labels → Labels → Type 0
+IsDomainOf test subjects domain = Holds domain (λ label. (subject : ℕ) × (is_in subjects subject ≡ true) × IsInDomain test subject label)
+
+abbrev pub IsUnion : Labels → Labels → Labels → Type 0
+IsUnion one other union = (label : ℕ) → is_in union label ≡ (is_in one label || is_in other label)
+
+abbrev pub IsDifference : Labels → Labels → Labels → Type 0
+IsDifference one other difference = (label : ℕ) → is_in difference label ≡ (is_in one label && not (is_in other label))
+
+lacking : (a b : Bool) → (a && not b) ≡ true → (a ≡ true) × (b ≡ false)
+lacking a true e = absurd (false≢true (and_parts a false e).1)
+lacking a false e = ((and_parts a true e).0, refl)
+
+remains : (a b : Bool) → a ≡ true → b ≡ false → (a && not b) ≡ true
+remains a b has missing = rw (has, missing) refl
+
+-- what comes about and isn't in a row
+module _ (test : EdgeTest) (from : ℕ) (kind : Kind) (comes row lacks : Labels) (in_row : IsRow test from kind row) (differ : IsDifference comes row lacks) where
+  out : (label : ℕ) → is_in lacks label ≡ true → (is_in comes label ≡ true) × (test from kind label ≡ false)
+  out label e =
+      let parts = lacking (is_in comes label) (is_in row label) (sym (differ label) ∙ e) in
+      (parts.0, sym (in_row label) ∙ parts.1)
+
+  back : (label : ℕ) → is_in comes label ≡ true → test from kind label ≡ false → is_in lacks label ≡ true
+  back label has missing = differ label ∙ remains (is_in comes label) (is_in row label) has (in_row label ∙ missing)
+
+-- P4
+pub domain_told :
+    (test : EdgeTest) (parent : ℕ) (subjects domain row lacks : Labels) → Holds subjects (λ a. IsInDomain test a parent)
+    → IsDomainOf test subjects domain → IsRow test parent Derive row → IsDifference domain row lacks
+    → Holds lacks (λ child. DomainLacks test parent child)
+domain_told test parent subjects domain row lacks in_subjects in_domain in_row differ child = (
+  λ e.
+      let parts = out test parent Derive domain row lacks in_row differ child e in
+      let found = (in_domain child).0 parts.0 in
+      record { subject = found.0; of_parent = (in_subjects found.0).0 found.1; of_child = found.2; missing = parts.1 },
+  λ h.
+      back test parent Derive domain row lacks in_row differ child
+      ((in_domain child).1 (h.subject, (in_subjects h.subject).1 h.of_parent, h.of_child)) h.missing,
+)
+
+-- P5
+pub derive_told :
+    (test : EdgeTest) (parent : ℕ) (subjects endpoints takers domain row steps comes lacks : Labels)
+    → Holds subjects (λ a. IsInDomain test a parent) → IsReached test subjects Grant endpoints → IsReaching test Receive endpoints takers
+    → IsDomainOf test takers domain → IsRow test parent Derive row → IsReached test row Derive steps → IsUnion domain steps comes
+    → IsDifference comes row lacks → Holds lacks (λ child. DeriveLacks test parent child)
+derive_told test parent subjects endpoints takers domain row steps comes lacks in_subjects in_endpoints in_takers in_domain in_row in_steps either differ child = (
+  λ e.
+      let parts = out test parent Derive comes row lacks in_row differ child e in
+      record { comes = told (or_cases (is_in domain child) (is_in steps child) (sym (either child) ∙ parts.0)); missing = parts.1 },
+  λ h. back test parent Derive comes row lacks in_row differ child (untold h.comes) h.missing,
+) where
+  told : (is_in domain child ≡ true) ⊎ (is_in steps child ≡ true) → ComesToDerive test parent child
+  told (inl e) =
+      let taker = (in_domain child).0 e in
+      let endpoint = (in_takers taker.0).0 taker.1 in
+      let giver = (in_endpoints endpoint.0).0 endpoint.1 in
+      granted giver.0 taker.0 (record { endpoint = endpoint.0; grants = giver.2; receives = endpoint.2 }) ((in_subjects giver.0).0 giver.1) taker.2
+  told (inr e) = let middle = (in_steps child).0 e in derived middle.0 (sym (in_row middle.0) ∙ middle.1) middle.2
+
+  untold : ComesToDerive test parent child → is_in comes child ≡ true
+  untold (granted giver taker may of_parent of_child) =
+      let endpoint = (in_endpoints may.endpoint).1 (giver, (in_subjects giver).1 of_parent, may.grants) in
+      let taken = (in_takers taker).1 (may.endpoint, endpoint, may.receives) in
+      either child ∙ left_of (is_in domain child) (is_in steps child) ((in_domain child).1 (taker, taken, of_child))
+  untold (derived middle one other) =
+      either child ∙ right_of (is_in domain child) (is_in steps child) ((in_steps child).1 (middle, in_row middle ∙ one, other))
+
+-- P7
+pub reply_told :
+    (test : EdgeTest) (reply : ℕ) (only servers endpoints callers row comes lacks : Labels) → ((label : ℕ) → is_in only label ≡ (label == reply))
+    → IsReaching test Reply only servers → IsReached test servers Receive endpoints → IsReaching test Call endpoints callers
+    → IsUnion servers callers comes → IsRow test reply kind.Holds row → IsDifference comes row lacks
+    → Holds lacks (λ thread. ReplyLacks test reply thread)
+reply_told test reply only servers endpoints callers row comes lacks in_only in_servers in_endpoints in_callers either in_row differ thread = (
+  λ e.
+      let parts = out test reply kind.Holds comes row lacks in_row differ thread e in
+      record { comes = told (or_cases (is_in servers thread) (is_in callers thread) (sym (either thread) ∙ parts.0)); missing = parts.1 },
+  λ h. back test reply kind.Holds comes row lacks in_row differ thread (untold h.comes) h.missing,
+) where
+  serves : (label : ℕ) → is_in servers label ≡ true → test label Reply reply ≡ true
+  serves label e =
+      let to = (in_servers label).0 e in
+      subst (λ r. test label Reply r ≡ true) (eqb-true to.0 reply (sym (in_only to.0) ∙ to.1)) to.2
+
+  is_server : (label : ℕ) → test label Reply reply ≡ true → is_in servers label ≡ true
+  is_server label e = (in_servers label).1 (reply, in_only reply ∙ eq-eqb reply reply refl, e)
+
+  told : (is_in servers thread ≡ true) ⊎ (is_in callers thread ≡ true) → ComesToHold test reply thread
+  told (inl e) = server (serves thread e)
+  told (inr e) =
+      let endpoint = (in_callers thread).0 e in
+      let from = (in_endpoints endpoint.0).0 endpoint.1 in
+      caller from.0 endpoint.0 (serves from.0 from.1) endpoint.2 from.2
+
+  untold : ComesToHold test reply thread → is_in comes thread ≡ true
+  untold (server e) = either thread ∙ left_of (is_in servers thread) (is_in callers thread) (is_server thread e)
+  untold (caller b endpoint replies calls receives) =
+      let received = (in_endpoints endpoint).1 (b, is_server b replies, receives) in
+      either thread ∙ right_of (is_in servers thread) (is_in callers thread) ((in_callers thread).1 (endpoint, received, calls))
+
+-- P1, of labels that are in one domain
+pub disagree_told :
+    (test : EdgeTest) (subject other : ℕ) → IsInDomain test subject other → (kind : Kind) (labels : Labels)
+    → Holds labels (λ target. (is_structural kind ≡ false) × (test subject kind target ≢ test other kind target))
+    → Holds labels (λ target. SubjectsDisagree test subject other kind target)
+disagree_told test subject other domain kind labels told target = (
+  λ e. let h = (told target).0 e in record { domain = domain; of_use = h.0; differ = h.1 },
+  λ h. (told target).1 (h.of_use, h.differ),
+)
+
+-- P3, of a label that may be granted the other's capabilities
+pub grant_told :
+    (test : EdgeTest) (giver taker : ℕ) → MayBeGranted test giver taker → (kind : Kind) (labels : Labels)
+    → Holds labels (λ target. (is_structural kind ≡ false) × (test giver kind target ≡ true) × (test taker kind target ≡ false))
+    → Holds labels (λ target. GrantLacks test giver taker kind target)
+grant_told test giver taker may kind labels told target = (
+  λ e. let h = (told target).0 e in record { granted = may; of_use = h.0; has = h.1; missing = h.2 },
+  λ h. (told target).1 (h.of_use, h.has, h.missing),
+)

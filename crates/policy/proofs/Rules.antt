@@ -1,0 +1,65 @@
+-- What each rule's places are made of.
+use Rattle.std.proofs.Common.{◌≡◌, ℕ, List, [], ◌∷◌, refl, sym, arith}
+use Rattle.base.specs.declared.kind.Kind.{Kind}
+use Rattle.base.specs.declared.kind.Kind.TheVariants.{Derive, Runs, Holds}
+use Rattle.base.specs.Kinds.{kind_number}
+use Rattle.policy.specs.declared.broken.Broken.{Broken}
+use Rattle.policy.specs.declared.broken.Broken.TheVariants as broken
+use Rattle.policy.specs.Broken.{IsBrokenAt, broken_place, p1, p2, p3, p4, p5, p6, p7}
+use Rattle.policy.specs.Domain.{EdgeTest}
+use Rattle.policy.specs.Places.{IsUnder}
+use Rattle.policy.proofs.Cells.{IsMadeOf, of_cell, of_target}
+
+module _ (test : EdgeTest) where
+  abbrev IsUnderAll : List ℕ → Broken → Type 0
+  IsUnderAll beginning b = IsUnder broken_place (IsBrokenAt test) beginning b
+
+  -- P1
+  pub disagreements : (subject other : ℕ) → IsMadeOf test (p1 ∷ subject ∷ other ∷ []) (λ cell. broken.SubjectsDisagree subject other cell.0 cell.1) of_cell
+  disagreements subject other = record { of = of; placed = λ cell. refl } where
+    of : (b : Broken) → IsUnderAll (p1 ∷ subject ∷ other ∷ []) b → (cell : Kind × ℕ) × (b ≡ broken.SubjectsDisagree subject other cell.0 cell.1)
+    of (broken.SubjectsDisagree s o kind target) h =
+        ((kind, target), λ i. broken.SubjectsDisagree (sym h.0.1.0 i) (sym h.0.1.1.0 i) kind target)
+    of _ h = absurd (omega (arith, h.0.0))
+
+  -- P2
+  pub controls : (subject : ℕ) → IsMadeOf test (p2 ∷ subject ∷ []) (λ cell. broken.ControlLacks subject cell.0 cell.1) of_cell
+  controls subject = record { of = of; placed = λ cell. refl } where
+    of : (b : Broken) → IsUnderAll (p2 ∷ subject ∷ []) b → (cell : Kind × ℕ) × (b ≡ broken.ControlLacks subject cell.0 cell.1)
+    of (broken.ControlLacks s kind object) h = ((kind, object), λ i. broken.ControlLacks (sym h.0.1.0 i) kind object)
+    of _ h = absurd (omega (arith, h.0.0))
+
+  -- P3
+  pub grants : (giver taker : ℕ) → IsMadeOf test (p3 ∷ giver ∷ taker ∷ []) (λ cell. broken.GrantLacks giver taker cell.0 cell.1) of_cell
+  grants giver taker = record { of = of; placed = λ cell. refl } where
+    of : (b : Broken) → IsUnderAll (p3 ∷ giver ∷ taker ∷ []) b → (cell : Kind × ℕ) × (b ≡ broken.GrantLacks giver taker cell.0 cell.1)
+    of (broken.GrantLacks g t kind target) h = ((kind, target), λ i. broken.GrantLacks (sym h.0.1.0 i) (sym h.0.1.1.0 i) kind target)
+    of _ h = absurd (omega (arith, h.0.0))
+
+  -- P4
+  pub domains : (parent : ℕ) → IsMadeOf test (p4 ∷ parent ∷ []) (broken.DomainLacks parent) (of_target (kind_number Derive))
+  domains parent = record { of = of; placed = λ child. refl } where
+    of : (b : Broken) → IsUnderAll (p4 ∷ parent ∷ []) b → (child : ℕ) × (b ≡ broken.DomainLacks parent child)
+    of (broken.DomainLacks p child) h = (child, λ i. broken.DomainLacks (sym h.0.1.0 i) child)
+    of _ h = absurd (omega (arith, h.0.0))
+
+  -- P5
+  pub derivations : (parent : ℕ) → IsMadeOf test (p5 ∷ parent ∷ []) (broken.DeriveLacks parent) (of_target (kind_number Derive))
+  derivations parent = record { of = of; placed = λ child. refl } where
+    of : (b : Broken) → IsUnderAll (p5 ∷ parent ∷ []) b → (child : ℕ) × (b ≡ broken.DeriveLacks parent child)
+    of (broken.DeriveLacks p child) h = (child, λ i. broken.DeriveLacks (sym h.0.1.0 i) child)
+    of _ h = absurd (omega (arith, h.0.0))
+
+  -- P6
+  pub contexts : (subject : ℕ) → IsMadeOf test (p6 ∷ subject ∷ []) (broken.ContextLacks subject) (of_target (kind_number Runs))
+  contexts subject = record { of = of; placed = λ context. refl } where
+    of : (b : Broken) → IsUnderAll (p6 ∷ subject ∷ []) b → (context : ℕ) × (b ≡ broken.ContextLacks subject context)
+    of (broken.ContextLacks s context) h = (context, λ i. broken.ContextLacks (sym h.0.1.0 i) context)
+    of _ h = absurd (omega (arith, h.0.0))
+
+  -- P7
+  pub replies : (reply : ℕ) → IsMadeOf test (p7 ∷ reply ∷ []) (broken.ReplyLacks reply) (of_target (kind_number Holds))
+  replies reply = record { of = of; placed = λ thread. refl } where
+    of : (b : Broken) → IsUnderAll (p7 ∷ reply ∷ []) b → (thread : ℕ) × (b ≡ broken.ReplyLacks reply thread)
+    of (broken.ReplyLacks r thread) h = (thread, λ i. broken.ReplyLacks (sym h.0.1.0 i) thread)
+    of _ h = absurd (omega (arith, h.0.0))

@@ -1,0 +1,5 @@
+use Rattle.policy.proofs.Unbroken.{unbroken, closed_if}
+use Rattle.policy.proofs.laws.closed_policies_are_unbroken.Goals as goal
+
+pub returns : goal.returns
+returns c test = (unbroken test, closed_if test)

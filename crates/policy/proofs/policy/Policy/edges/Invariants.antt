@@ -1,0 +1,10 @@
+use Rattle.std.proofs.Common.{◌≡◌, map}
+use Rattle.std.specs.List.{filter, range_with_len}
+use Rattle.policy.specs.Policy.{allows}
+use Rattle.policy.specs.Rows.{edge_at}
+use Rattle.policy.proofs.policy.Policy.edges.Given as goal
+
+-- of the edges so far, those that the policy allows
+abbrev pub invariant-loop-number : goal.invariant-loop-number
+invariant-loop-number l =
+    l.edges.items ≡ filter (λ edge. allows l.self edge.from edge.kind edge.to) (map edge_at (range_with_len 0 l.number))

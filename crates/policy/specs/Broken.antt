@@ -1,0 +1,120 @@
+-- Where the rules of closed policies are broken, and in which order these places come (compare 'seL4 Enforces Integrity', section 3,
+-- well-formed policies; the rules, their places and their order are confine's own).
+use Rattle.std.specs.Prelude.{◌≡◌, ◌≢◌, ℕ, ◌⊎◌, true, false, List, [], ◌∷◌, codes}
+use Rattle.base.specs.declared.kind.Kind.{Kind}
+use Rattle.base.specs.declared.kind.Kind.TheVariants.{Control, Receive, Call, Reply, Context, SchedControl, Space, Derive, Runs, Holds}
+use Rattle.base.specs.Kinds.{kind_number, is_structural}
+use Rattle.policy.specs.declared.broken.Broken.{Broken}
+use Rattle.policy.specs.declared.broken.Broken.TheVariants as broken
+use Rattle.policy.specs.Closed.{MayBeGranted}
+use Rattle.policy.specs.Domain.{EdgeTest, IsInDomain}
+
+-- the numbers of the rules
+
+abbrev pub p1 : ℕ
+p1 = 1
+
+abbrev pub p2 : ℕ
+p2 = 2
+
+abbrev pub p3 : ℕ
+p3 = 3
+
+abbrev pub p4 : ℕ
+p4 = 4
+
+abbrev pub p5 : ℕ
+p5 = 5
+
+abbrev pub p6 : ℕ
+p6 = 6
+
+abbrev pub p7 : ℕ
+p7 = 7
+
+-- P1: one label is in the other's domain, and only one of the two has an edge
+pub record SubjectsDisagree (test : EdgeTest) (subject other : ℕ) (kind : Kind) (target : ℕ) : Type 0 where
+  pub domain : IsInDomain test subject other
+  pub of_use : is_structural kind ≡ false
+  pub differ : test subject kind target ≢ test other kind target
+
+-- the kinds that control gives: space, and every kind of use but to configure a core
+abbrev pub IsGivenByControl : Kind → Type 0
+IsGivenByControl kind = (kind ≡ Space) ⊎ ((is_structural kind ≡ false) × (kind ≢ SchedControl))
+
+-- P2: one label controls another, and lacks an edge to it that control gives
+pub record ControlLacks (test : EdgeTest) (subject : ℕ) (kind : Kind) (object : ℕ) : Type 0 where
+  pub controls : test subject Control object ≡ true
+  pub given : IsGivenByControl kind
+  pub missing : test subject kind object ≡ false
+
+-- P3: one label may be granted another's capabilities, and lacks an edge that the other has
+pub record GrantLacks (test : EdgeTest) (giver taker : ℕ) (kind : Kind) (target : ℕ) : Type 0 where
+  pub granted : MayBeGranted test giver taker
+  pub of_use : is_structural kind ≡ false
+  pub has : test giver kind target ≡ true
+  pub missing : test taker kind target ≡ false
+
+-- P4: two labels are in one domain, and the second's capabilities may not be derived from the first's
+pub record DomainLacks (test : EdgeTest) (parent child : ℕ) : Type 0 where
+  pub subject : ℕ
+  pub of_parent : IsInDomain test subject parent
+  pub of_child : IsInDomain test subject child
+  pub missing : test parent Derive child ≡ false
+
+-- capabilities may come to be derived, over a grant or in two steps
+pub data ComesToDerive (test : EdgeTest) (parent child : ℕ) : Type 0 where
+  granted : (giver taker : ℕ) → MayBeGranted test giver taker → IsInDomain test giver parent → IsInDomain test taker child
+      → ComesToDerive test parent child
+  derived : (middle : ℕ) → test parent Derive middle ≡ true → test middle Derive child ≡ true → ComesToDerive test parent child
+
+-- P5: capabilities may come to be derived, and the edge for it is missing
+pub record DeriveLacks (test : EdgeTest) (parent child : ℕ) : Type 0 where
+  pub comes : ComesToDerive test parent child
+  pub missing : test parent Derive child ≡ false
+
+-- P6: a label may bind a context, and may not run on it
+pub record ContextLacks (test : EdgeTest) (subject context : ℕ) : Type 0 where
+  pub binds : test subject Context context ≡ true
+  pub missing : test subject Runs context ≡ false
+
+-- a reply may come to hold a thread: of a label that may use the reply, or of one that calls such a label
+pub data ComesToHold (test : EdgeTest) (reply thread : ℕ) : Type 0 where
+  server : test thread Reply reply ≡ true → ComesToHold test reply thread
+  caller : (server endpoint : ℕ) → test server Reply reply ≡ true → test thread Call endpoint ≡ true
+      → test server Receive endpoint ≡ true → ComesToHold test reply thread
+
+-- P7: a reply may come to hold a thread, and the edge for it is missing
+pub record ReplyLacks (test : EdgeTest) (reply thread : ℕ) : Type 0 where
+  pub comes : ComesToHold test reply thread
+  pub missing : test reply Holds thread ≡ false
+
+-- a policy breaks a rule at a place
+abbrev pub IsBrokenAt : EdgeTest → Broken → Type 0
+IsBrokenAt test (broken.SubjectsDisagree subject other kind target) = SubjectsDisagree test subject other kind target
+IsBrokenAt test (broken.ControlLacks subject kind object) = ControlLacks test subject kind object
+IsBrokenAt test (broken.GrantLacks giver taker kind target) = GrantLacks test giver taker kind target
+IsBrokenAt test (broken.DomainLacks parent child) = DomainLacks test parent child
+IsBrokenAt test (broken.DeriveLacks parent child) = DeriveLacks test parent child
+IsBrokenAt test (broken.ContextLacks subject context) = ContextLacks test subject context
+IsBrokenAt test (broken.ReplyLacks reply thread) = ReplyLacks test reply thread
+
+-- a place as numbers: its rule, and then the labels and kinds that it names, from left to right
+abbrev pub broken_place : Broken → List ℕ
+broken_place (broken.SubjectsDisagree subject other kind target) = p1 ∷ subject ∷ other ∷ kind_number kind ∷ target ∷ []
+broken_place (broken.ControlLacks subject kind object) = p2 ∷ subject ∷ kind_number kind ∷ object ∷ []
+broken_place (broken.GrantLacks giver taker kind target) = p3 ∷ giver ∷ taker ∷ kind_number kind ∷ target ∷ []
+broken_place (broken.DomainLacks parent child) = p4 ∷ parent ∷ kind_number Derive ∷ child ∷ []
+broken_place (broken.DeriveLacks parent child) = p5 ∷ parent ∷ kind_number Derive ∷ child ∷ []
+broken_place (broken.ContextLacks subject context) = p6 ∷ subject ∷ kind_number Runs ∷ context ∷ []
+broken_place (broken.ReplyLacks reply thread) = p7 ∷ reply ∷ kind_number Holds ∷ thread ∷ []
+
+-- the name of the rule
+abbrev pub broken_rule : Broken → List ℕ
+broken_rule (broken.SubjectsDisagree _ _ _ _) = codes "P1"
+broken_rule (broken.ControlLacks _ _ _) = codes "P2"
+broken_rule (broken.GrantLacks _ _ _ _) = codes "P3"
+broken_rule (broken.DomainLacks _ _) = codes "P4"
+broken_rule (broken.DeriveLacks _ _) = codes "P5"
+broken_rule (broken.ContextLacks _ _) = codes "P6"
+broken_rule (broken.ReplyLacks _ _) = codes "P7"

@@ -1,0 +1,191 @@
+mod cells;
+mod rules;
+mod steps;
+
+ghost use Rattle.std.specs.Prelude.{◌≡◌, ◌<◌, ◌∷◌, [], IfErr, IfOk, IsOk, IsTrue};
+ghost use Rattle.base.specs.Refusals.{out_of_memory};
+ghost use Rattle.policy.specs.Broken.{IsBrokenAt, broken_place, broken_rule};
+ghost use Rattle.policy.specs.Places.{FindsLeast};
+ghost use Rattle.policy.specs.Policy.{allows};
+ghost use Rattle.policy.specs.Search.{FindsBroken};
+ghost use Rattle.policy.specs.Sweep.{count_of, place_of, rule_number};
+
+use crate::Policy;
+use base::{Kind, Label, Refusal};
+use rayon::prelude::*;
+use rules::{
+    context_lacks, control_lacks, derive_lacks, domain_lacks, grant_lacks, reply_lacks,
+    subjects_disagree,
+};
+use std::thread::Threads;
+
+/// A rule of closed policies that a policy breaks, and where.
+///
+/// They are ordered by rule, and then by what they name, from left to right.
+#[derive(Clone, Copy, PartialEq, Eq, Debug)]
+pub enum Broken {
+    /// P1: `other` is in the domain of `subject`, and only one of the two has the edge of this kind to
+    /// `target`.
+    SubjectsDisagree {
+        subject: Label,
+        other: Label,
+        kind: Kind,
+        target: Label,
+    },
+    /// P2: `subject` controls `object`, and lacks the edge of this kind to it.
+    ControlLacks {
+        subject: Label,
+        kind: Kind,
+        object: Label,
+    },
+    /// P3: `giver` may grant its capabilities to `taker`, which lacks the giver's edge of this kind to
+    /// `target`.
+    GrantLacks {
+        giver: Label,
+        taker: Label,
+        kind: Kind,
+        target: Label,
+    },
+    /// P4: `parent` and `child` are in one domain, and the edge of kind derive is missing.
+    DomainLacks {
+        parent: Label,
+        child: Label,
+    },
+    /// P5: capabilities of `child` may come to be derived from those of `parent`, by a grant or in two
+    /// steps, and the edge of kind derive is missing.
+    DeriveLacks {
+        parent: Label,
+        child: Label,
+    },
+    /// P6: `subject` may bind a scheduling context of the label `context`, and the edge of kind runs is
+    /// missing.
+    ContextLacks {
+        subject: Label,
+        context: Label,
+    },
+    /// P7: a reply object of the label `reply` may come to hold a thread of the label `thread`, and the
+    /// edge of kind holds is missing.
+    ReplyLacks {
+        reply: Label,
+        thread: Label,
+    },
+}
+
+impl Broken {
+    /// The name of the rule that is broken.
+    pub fn rule(&self) -> &'static str
+        ensures { result.now ≡ broken_rule self.now }
+    {
+        match self {
+            Broken::SubjectsDisagree { .. } => "P1",
+            Broken::ControlLacks { .. } => "P2",
+            Broken::GrantLacks { .. } => "P3",
+            Broken::DomainLacks { .. } => "P4",
+            Broken::DeriveLacks { .. } => "P5",
+            Broken::ContextLacks { .. } => "P6",
+            Broken::ReplyLacks { .. } => "P7",
+        }
+    }
+}
+
+// A rule of closed policies, as in [`Broken`].
+#[derive(Clone, Copy)]
+enum Rule {
+    P1,
+    P2,
+    P3,
+    P4,
+    P5,
+    P6,
+    P7,
+}
+
+impl Rule {
+    const ALL: [Rule; 7] = [
+        Rule::P1,
+        Rule::P2,
+        Rule::P3,
+        Rule::P4,
+        Rule::P5,
+        Rule::P6,
+        Rule::P7,
+    ];
+
+    // At how many places it is looked at: at pairs of labels, or at labels.
+    fn places(self) -> usize
+        ensures { result ≡ count_of self }
+    {
+        match self {
+            Rule::P1 | Rule::P3 => LABELS * LABELS,
+            _ => LABELS,
+        }
+    }
+
+    // The first broken place at a pair of labels, or at a label.
+    fn broken_at(self, policy: &Policy, number: usize) -> Option<Broken>
+        requires { number < count_of self }
+        ensures { FindsBroken (allows policy.now) (rule_number self ∷ place_of self number) result }
+    {
+        match self {
+            Rule::P1 => subjects_disagree(policy, label(number / LABELS), label(number % LABELS)),
+            Rule::P2 => control_lacks(policy, label(number)),
+            Rule::P3 => grant_lacks(policy, label(number / LABELS), label(number % LABELS)),
+            Rule::P4 => domain_lacks(policy, label(number)),
+            Rule::P5 => derive_lacks(policy, label(number)),
+            Rule::P6 => context_lacks(policy, label(number)),
+            Rule::P7 => reply_lacks(policy, label(number)),
+        }
+    }
+
+    // The first place where it is broken. Places are looked at side by side.
+    fn first_broken(self, rt: &(impl Threads + Sync), policy: &Policy) -> Option<Broken>
+        ensures { FindsBroken (allows policy.now) (rule_number self ∷ []) result }
+    {
+        policy.edges_rise();
+        (0..self.places())
+            .into_par_iter()
+            .with_min_len(LABELS)
+            .filter_map(
+                |number: usize| -> Option<Broken>
+                    requires { number < count_of self }
+                    ensures { FindsBroken (allows policy.entry.now) (rule_number self ∷ place_of self number) result }
+                { self.broken_at(policy, number) },
+            )
+            .find_first(
+                rt,
+                |_broken: &Broken| -> bool
+                    ensures { IsTrue result }
+                { true },
+            )
+    }
+}
+
+const LABELS: usize = Label::COUNT as usize;
+
+// The label of this number.
+fn label(number: usize) -> Label
+    requires { number < LABELS }
+    ensures { result ≡ number }
+{
+    Label::new(number as u8).unwrap()
+}
+
+/// The first rule of closed policies that a policy breaks, and the first place where it does. Pairs of
+/// labels are looked at side by side.
+///
+/// # Errors
+///
+/// None: it takes no memory.
+pub fn first_broken(rt: &(impl Threads + Sync), policy: &Policy) -> Result<Option<Broken>, Refusal>
+    ensures least { IfOk result (FindsLeast broken_place (IsBrokenAt (allows policy.now))) }
+    ensures memory { IfErr result (λ refusal. refusal ≡ out_of_memory) }
+    ensures answers { IsOk result }
+{
+    policy.edges_rise();
+    for rule in Rule::ALL {
+        if let Some(broken) = rule.first_broken(rt, policy) {
+            return Ok(Some(broken));
+        }
+    }
+    Ok(None)
+}

@@ -1,0 +1,149 @@
+ghost use Rattle.std.specs.Prelude.{◌≡◌, ◌≢◌, ◌↔◌, ◌∷◌, [], ℕ, true, false, IsTrue};
+ghost use Rattle.base.specs.Kinds.{is_structural};
+ghost use Rattle.base.specs.Labels.{is_in};
+ghost use Rattle.policy.specs.Broken.{IsGivenByControl, SubjectsDisagree, ControlLacks, GrantLacks, DomainLacks, DeriveLacks, ReplyLacks, p1, p2, p3, p4, p5, p6, p7};
+ghost use Rattle.policy.specs.Policy.{allows};
+ghost use Rattle.policy.specs.Search.{FindsBroken};
+
+use super::Broken;
+use super::cells::first_cell;
+use super::steps::{domain, is_in_domain, may_be_granted, reached, reaching, subjects};
+use crate::Policy;
+use base::{Kind, Label, Labels};
+
+/// P1 at a pair of labels.
+pub(crate) fn subjects_disagree(policy: &Policy, subject: Label, other: Label) -> Option<Broken>
+    ensures { FindsBroken (allows policy.now) (p1 ∷ subject ∷ other ∷ []) result }
+{
+    if !is_in_domain(policy, subject, other) {
+        return None;
+    }
+    let (kind, target) = first_cell(
+        |kind: Kind| -> Labels
+            ensures { (target : ℕ) → (is_in result target ≡ true)
+                ↔ ((is_structural kind ≡ false) × (allows policy.entry.now subject kind target ≢ allows policy.entry.now other kind target)) }
+        {
+            if kind.is_structural() {
+                return Labels::none();
+            }
+            let ours = policy.row(subject, kind);
+            let theirs = policy.row(other, kind);
+            ours.difference(theirs).union(theirs.difference(ours))
+        },
+    )?;
+    Some(Broken::SubjectsDisagree {
+        subject,
+        other,
+        kind,
+        target,
+    })
+}
+
+/// P2 at a label.
+pub(crate) fn control_lacks(policy: &Policy, subject: Label) -> Option<Broken>
+    ensures { FindsBroken (allows policy.now) (p2 ∷ subject ∷ []) result }
+{
+    let (kind, object) = first_cell(
+        |kind: Kind| -> Labels
+            ensures { (object : ℕ) → (is_in result object ≡ true) ↔ ControlLacks (allows policy.entry.now) subject kind object }
+        {
+            if is_given_by_control(kind) {
+                policy
+                    .row(subject, Kind::Control)
+                    .difference(policy.row(subject, kind))
+            } else {
+                Labels::none()
+            }
+        },
+    )?;
+    Some(Broken::ControlLacks {
+        subject,
+        kind,
+        object,
+    })
+}
+
+// Whether control gives the edge of this kind.
+fn is_given_by_control(kind: Kind) -> bool
+    ensures { IsTrue result ↔ IsGivenByControl kind }
+{
+    match kind {
+        Kind::Space => true,
+        Kind::SchedControl => false,
+        _ => !kind.is_structural(),
+    }
+}
+
+/// P3 at a pair of labels.
+pub(crate) fn grant_lacks(policy: &Policy, giver: Label, taker: Label) -> Option<Broken>
+    ensures { FindsBroken (allows policy.now) (p3 ∷ giver ∷ taker ∷ []) result }
+{
+    if !may_be_granted(policy, giver, taker) {
+        return None;
+    }
+    let (kind, target) = first_cell(
+        |kind: Kind| -> Labels
+            ensures { (target : ℕ) → (is_in result target ≡ true)
+                ↔ ((is_structural kind ≡ false) × (allows policy.entry.now giver kind target ≡ true) × (allows policy.entry.now taker kind target ≡ false)) }
+        {
+            if kind.is_structural() {
+                return Labels::none();
+            }
+            policy.row(giver, kind).difference(policy.row(taker, kind))
+        },
+    )?;
+    Some(Broken::GrantLacks {
+        giver,
+        taker,
+        kind,
+        target,
+    })
+}
+
+/// P4 at a parent.
+pub(crate) fn domain_lacks(policy: &Policy, parent: Label) -> Option<Broken>
+    ensures { FindsBroken (allows policy.now) (p4 ∷ parent ∷ []) result }
+{
+    let child = domain(policy, subjects(policy, parent))
+        .difference(policy.row(parent, Kind::Derive))
+        .first()?;
+    Some(Broken::DomainLacks { parent, child })
+}
+
+/// P5 at a parent.
+pub(crate) fn derive_lacks(policy: &Policy, parent: Label) -> Option<Broken>
+    ensures { FindsBroken (allows policy.now) (p5 ∷ parent ∷ []) result }
+{
+    let endpoints = reached(policy, subjects(policy, parent), Kind::Grant);
+    let granted = domain(policy, reaching(policy, Kind::Receive, endpoints));
+    let derived = policy.row(parent, Kind::Derive);
+    let child = granted
+        .union(reached(policy, derived, Kind::Derive))
+        .difference(derived)
+        .first()?;
+    Some(Broken::DeriveLacks { parent, child })
+}
+
+/// P6 at a subject.
+pub(crate) fn context_lacks(policy: &Policy, subject: Label) -> Option<Broken>
+    ensures { FindsBroken (allows policy.now) (p6 ∷ subject ∷ []) result }
+{
+    let context = policy
+        .row(subject, Kind::Context)
+        .difference(policy.row(subject, Kind::Runs))
+        .first()?;
+    Some(Broken::ContextLacks { subject, context })
+}
+
+/// P7 at a reply.
+pub(crate) fn reply_lacks(policy: &Policy, reply: Label) -> Option<Broken>
+    ensures { FindsBroken (allows policy.now) (p7 ∷ reply ∷ []) result }
+{
+    let servers = reaching(policy, Kind::Reply, Labels::only(reply));
+    let callers = reaching(policy, Kind::Call, reached(policy, servers, Kind::Receive));
+    let thread = servers
+        .union(callers)
+        .difference(policy.row(reply, Kind::Holds))
+        .first()?;
+    Some(Broken::ReplyLacks { reply, thread })
+}

@@ -1,0 +1,53 @@
+ghost use Rattle.std.specs.Prelude.{◌≡◌, ◌↔◌, ℕ, true};
+ghost use Rattle.base.specs.Labels.{is_in};
+ghost use Rattle.policy.specs.Policy.{allows};
+ghost use Rattle.policy.specs.Steps.{is_joined, IsSource, IsTarget};
+
+use crate::Policy;
+use base::{Kind, Label, Labels};
+
+impl Policy {
+    /// The labels to which the label has an edge of one of these kinds.
+    pub(crate) fn row_of_kinds(&self, from: Label, kinds: &[Kind]) -> Labels
+        ensures { (to : ℕ) → is_in result to ≡ is_joined (allows self.now) kinds.now from to }
+    {
+        let mut row = Labels::none();
+        for kind in kinds {
+            row = row.union(self.row(from, *kind));
+        }
+        row
+    }
+
+    /// The labels to which a label of the set has an edge of one of these kinds.
+    pub(crate) fn targets(&self, froms: Labels, kinds: &[Kind]) -> Labels
+        ensures { (to : ℕ) → (is_in result to ≡ true) ↔ IsTarget (allows self.now) kinds.now froms to }
+    {
+        self.edges_rise();
+        let mut found = Labels::none();
+        for number in 0..Label::COUNT {
+            if let Some(from) = Label::new(number) {
+                if froms.has(from) {
+                    found = found.union(self.row_of_kinds(from, kinds));
+                }
+            }
+        }
+        found
+    }
+
+    /// The labels that have an edge of one of these kinds to a label of the set.
+    pub(crate) fn sources(&self, tos: Labels, kinds: &[Kind]) -> Labels
+        ensures { (from : ℕ) → (is_in result from ≡ true) ↔ IsSource (allows self.now) kinds.now tos from }
+    {
+        self.edges_rise();
+        let mut found = Labels::none();
+        for number in 0..Label::COUNT {
+            if let Some(from) = Label::new(number) {
+                let met = self.row_of_kinds(from, kinds).intersection(tos);
+                if met.first().is_some() {
+                    found = found.union(Labels::only(from));
+                }
+            }
+        }
+        found
+    }
+}

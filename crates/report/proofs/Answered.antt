@@ -1,0 +1,50 @@
+-- The answer to what was loaded.
+use Rattle.std.proofs.Common.{◌≡◌, ℕ, List, Result, Ok, Err, IfOk, IsOkAnd}
+use Rattle.base.specs.declared.edge.Edge.{Edge}
+use Rattle.machine.specs.Layout.{Layout}
+use Rattle.report.specs.Commands.{IsAnswer}
+use Rattle.report.specs.Ends.{IfCannotWrite, IfStatus}
+use Rattle.report.specs.Files.{Contents, Gives, faulty, unknown, whole}
+use Rattle.report.specs.declared.command.Answer.{Answer}
+use Rattle.report.specs.declared.end.End.{End}
+use Rattle.report.specs.declared.end.End.TheVariants as ends
+use Rattle.report.specs.declared.engine.Unanswered.{Unanswered}
+use Rattle.report.specs.declared.load.Loaded.{Loaded}
+use Rattle.report.specs.declared.load.Stop.{Stop}
+
+-- what is judged of the values that were loaded is the answer to what the files hold
+pub answered : {X Y : Type 0} (view : X → Y) (judges : Layout → List Edge → Y → List ℕ → ℕ → Type 0) (loaded : Loaded X) (text : List ℕ) (status : ℕ)
+    → judges loaded.table loaded.policy (view loaded.third) text status → (contents : Contents Y) → Gives view contents (Ok loaded)
+    → IsAnswer judges contents text status
+answered view judges loaded text status right (whole t edges y) gives = rw (gives.0, gives.1, gives.2) right
+answered view judges loaded text status right (faulty file fault) gives = absurd gives
+answered view judges loaded text status right unknown gives = tt
+
+-- the answer to all that the files may hold is the answer to what they hold
+pub at_contents : {X Y : Type 0} (view : X → Y) (judges : Layout → List Edge → Y → List ℕ → ℕ → Type 0) (loaded : Result (Loaded X) Stop) (answer : Result Answer Unanswered)
+    (contents : Contents Y) → Gives view contents loaded
+    → IfOk answer (λ answer. (contents : Contents Y) → Gives view contents loaded → IsAnswer judges contents answer.text.items answer.status)
+    → IfOk answer (λ answer. IsAnswer judges contents answer.text.items answer.status)
+at_contents view judges loaded (Ok answer) contents gives right = right contents gives
+at_contents view judges loaded (Err why) contents gives right = tt
+
+-- what was written is the answer, or a beginning of it
+pub written : (end : End) (answer : Result Answer Unanswered) (IsRight : List ℕ → ℕ → Type 0) (A : List ℕ → Type 0)
+    → IfOk answer (λ answer. IsRight answer.text.items answer.status)
+    → IfStatus end (λ status. IsOkAnd answer (λ answer. (answer.status ≡ status) × A answer.text.items))
+    → IfStatus end (λ status. (text : List ℕ) × IsRight text status × A text)
+written (ends.Status status) (Ok answer) IsRight A right told = (answer.text.items, rw told.0 at right, told.1)
+written (ends.Status status) (Err why) IsRight A right told = absurd told
+written ends.NoMemory answer IsRight A right told = tt
+written (ends.CannotRead file) answer IsRight A right told = tt
+written ends.CannotWrite answer IsRight A right told = tt
+
+pub began : (end : End) (answer : Result Answer Unanswered) (IsRight : List ℕ → ℕ → Type 0) (A : List ℕ → Type 0)
+    → IfOk answer (λ answer. IsRight answer.text.items answer.status)
+    → IfCannotWrite end (IsOkAnd answer (λ answer. A answer.text.items))
+    → IfCannotWrite end ((text : List ℕ) × (status : ℕ) × IsRight text status × A text)
+began (ends.Status status) answer IsRight A right told = tt
+began ends.NoMemory answer IsRight A right told = tt
+began (ends.CannotRead file) answer IsRight A right told = tt
+began ends.CannotWrite (Ok answer) IsRight A right told = (answer.text.items, answer.status, right, told)
+began ends.CannotWrite (Err why) IsRight A right told = absurd told

@@ -1,0 +1,254 @@
+ghost use Rattle.std.specs.Prelude.{◌≡◌, ◌≤◌, ℕ, [], List, false, Ok, IfOk, Result};
+ghost use Rattle.checker.specs.Check.{IsCheck};
+ghost use Rattle.certificate.specs.Right.{right_certificate};
+ghost use Rattle.report.specs.Answers as answers;
+ghost use Rattle.report.specs.Commands.{IsAnswer, input, output};
+ghost use Rattle.report.specs.Files.{Contents, Gives, unread_by, unread_of};
+ghost use Rattle.report.specs.Opening.{IsCheckedOn};
+ghost use Rattle.report.specs.declared.end.File.TheVariants as file;
+
+use crate::command::{Answer, NoMemory, ThirdFile, denial_text};
+use crate::engine::{Unanswered, tell_fault, write};
+use crate::load::{Loaded, NoFile, Stop, load};
+use crate::reports::check_report;
+use crate::{End, File, Sink, Source, Watched};
+use captext::Fault;
+use checker::{Certificate, Gate, Verdict};
+use devices::open_result;
+use policy::Policy;
+use std::alloc::Global;
+use std::io::{self, Read, Write};
+use std::thread::Threads;
+use table::Table;
+
+/// What [`check`] writes where a table and a policy are accepted.
+#[derive(Clone, Copy, PartialEq, Eq, Debug)]
+pub enum OnAccept {
+    /// The report, with each label's cut and full authority.
+    Report,
+    /// The text of the table's certificate.
+    Certificate,
+}
+
+/// Checks a table against a policy by 1 to 16 workers, each of which arrives at the gate first.
+///
+/// Writes the report or the certificate where they are accepted, with status 0; or the report of the
+/// denial, with status 1; or the report of the first fault, with status 2.
+pub fn check<R, G, T, P, O>(
+    rt: &R,
+    alloc: Global,
+    table: &mut T,
+    policy: &mut P,
+    on_accept: OnAccept,
+    workers: usize,
+    gate: &G,
+    out: &mut O,
+) -> End
+where
+    R: Threads + Sync,
+    G: Gate + Sync,
+    T: Source,
+    P: Source,
+    O: Sink,
+    requires table { T.failed table.old ≡ false }
+    requires policy { P.failed policy.old ≡ false }
+    requires out { O.failed out.old ≡ false }
+    requires workers { (1 ≤ workers) × (workers ≤ 16) }
+    ensures { answers.IsChecked on_accept (input T.remaining T.failed table.old table.new)
+        (input P.remaining P.failed policy.old policy.new) (output O.contents O.failed O.is_flushed out.old out.new) result }
+{
+    carry_out(
+        rt,
+        alloc,
+        table,
+        policy,
+        &mut NoFile,
+        on_accept,
+        workers,
+        gate,
+        out,
+    )
+}
+
+/// The same on what opening the two files gave. Gives the end, and the writer back.
+pub fn check_on<R, G, F, W>(
+    rt: &R,
+    alloc: Global,
+    table: io::Result<F>,
+    policy: io::Result<F>,
+    on_accept: OnAccept,
+    workers: usize,
+    gate: &G,
+    out: W,
+) -> (End, W)
+where
+    R: Threads + Sync,
+    G: Gate + Sync,
+    F: Read + Drop,
+    W: Write + Drop,
+    requires { (1 ≤ workers) × (workers ≤ 16) }
+    ensures { IsCheckedOn on_accept F.remaining W.contents table policy out result.0 result.1 }
+{
+    let mut table = open_result(table);
+    let mut policy = open_result(policy);
+    let mut out = Watched::new(out);
+    let end = check(
+        rt,
+        alloc,
+        &mut table,
+        &mut policy,
+        on_accept,
+        workers,
+        gate,
+        &mut out,
+    );
+    (end, out.into_inner())
+}
+
+/// Checks, whatever stands in the place of a third file.
+fn carry_out<R, G, T, P, S, O>(
+    rt: &R,
+    alloc: Global,
+    table: &mut T,
+    policy: &mut P,
+    third: &mut S,
+    on_accept: OnAccept,
+    workers: usize,
+    gate: &G,
+    out: &mut O,
+) -> End
+where
+    R: Threads + Sync,
+    G: Gate + Sync,
+    T: Source,
+    P: Source,
+    S: Source,
+    O: Sink,
+    requires table { T.failed table.old ≡ false }
+    requires policy { P.failed policy.old ≡ false }
+    requires third { S.failed third.old ≡ false }
+    requires out { O.failed out.old ≡ false }
+    ensures { answers.IsCheckedBeside on_accept (input T.remaining T.failed table.old table.new)
+        (input P.remaining P.failed policy.old policy.new) (input S.remaining S.failed third.old third.new)
+        (output O.contents O.failed O.is_flushed out.old out.new) result }
+{
+    let loaded = load::<NoFile, T, P, S>(alloc, table, policy, third);
+    write(out, answer(rt, alloc, loaded, on_accept, workers, gate))
+}
+
+/// There is no third file.
+impl ThirdFile for NoFile {
+    type Third = ();
+
+    ghost third_file = { file.Policy };
+
+    ghost use Rattle.std.specs.Prelude.{ℕ, List, []};
+
+    ghost Held = { List ℕ };
+
+    ghost held = { λ none. [] };
+
+    ghost read_of = { answers.read_nothing };
+
+    fn third_file() -> File {
+        File::Policy
+    }
+
+    #[tactic(auto, unfolding(crate::specs::Answers::read_nothing))]
+    fn read_third(_alloc: Global, _table: &Table, _bytes: &[u8]) -> Result<(), Fault> {
+        Ok(())
+    }
+}
+
+/// The answer to what was loaded, or to why it wasn't.
+fn answer<R: Threads + Sync, G: Gate + Sync>(
+    rt: &R,
+    alloc: Global,
+    loaded: Result<Loaded<()>, Stop>,
+    on_accept: OnAccept,
+    workers: usize,
+    gate: &G,
+) -> Result<Answer, Unanswered>
+    ensures right { IfOk result (λ answer. (contents : Contents (List ℕ)) → Gives (λ none. []) contents loaded
+        → IsAnswer (λ t edges none. answers.Checks on_accept t edges) contents answer.text.items answer.status) }
+    ensures exit { IfOk result (λ answer. answer.status ≤ 2) }
+    ensures unread { unread_by result ≡ unread_of loaded }
+{
+    match loaded {
+        Ok(loaded) => match judged(
+            rt,
+            alloc,
+            &loaded.table,
+            &loaded.policy,
+            on_accept,
+            workers,
+            gate,
+        ) {
+            Ok(answer) => Ok(answer),
+            Err(_) => Err(Unanswered::NoMemory),
+        },
+        Err(Stop::Faulty(file, fault)) => tell_fault(alloc, file, fault),
+        Err(Stop::CannotRead(file)) => Err(Unanswered::CannotRead(file)),
+        Err(Stop::NoMemory) => Err(Unanswered::NoMemory),
+    }
+}
+
+/// The answer to the verdict.
+fn judged<R: Threads + Sync, G: Gate + Sync>(
+    rt: &R,
+    alloc: Global,
+    table: &Table,
+    policy: &Policy,
+    on_accept: OnAccept,
+    workers: usize,
+    gate: &G,
+) -> Result<Answer, NoMemory>
+    ensures right { IfOk result (λ answer. answers.Checks on_accept table.now policy.now answer.text.items answer.status) }
+    ensures exit { IfOk result (λ answer. answer.status ≤ 2) }
+{
+    match checker::check(rt, alloc, table, policy, workers, gate) {
+        Ok(verdict) => told(alloc, table, policy, on_accept, &verdict),
+        Err(_) => Err(NoMemory),
+    }
+}
+
+/// What is told of a verdict.
+fn told(
+    alloc: Global,
+    table: &Table,
+    policy: &Policy,
+    on_accept: OnAccept,
+    verdict: &Verdict<'_>,
+) -> Result<Answer, NoMemory>
+    requires { IsCheck table.now policy.now verdict.now }
+    ensures right { IfOk result (λ answer. answers.Checks on_accept table.now policy.now answer.text.items answer.status) }
+    ensures exit { IfOk result (λ answer. answer.status ≤ 2) }
+{
+    match verdict {
+        Verdict::Accept(_, certificate) => Ok(Answer {
+            text: accepted_text(alloc, table, policy, on_accept, certificate)?,
+            status: 0,
+        }),
+        Verdict::Deny(denial) => Ok(Answer {
+            text: denial_text(alloc, table, denial)?,
+            status: 1,
+        }),
+    }
+}
+
+/// What is written of an acceptance.
+fn accepted_text(
+    alloc: Global,
+    table: &Table,
+    policy: &Policy,
+    on_accept: OnAccept,
+    certificate: &Certificate,
+) -> Result<Vec<u8>, NoMemory>
+    requires { certificate.now ≡ right_certificate table.now }
+    ensures { IfOk result (λ text. answers.TellsCheck on_accept table.now policy.now text.items) }
+{
+    match on_accept {
+        OnAccept::Report => Ok(check_report(alloc, table, policy)?),
+        OnAccept::Certificate => Ok(certificate::write(alloc, certificate, table)?),
+    }
+}

@@ -1,0 +1,142 @@
+//! Workers that check side by side, and numbers of workers that there may not be.
+use base::Refusal;
+use captext::{read_policy, read_table};
+use checker::{CheckError, Gate, Open};
+use policy::Policy;
+use report::{End, OnAccept, Watched};
+use std::process::Abort;
+use std::sync::atomic::{AtomicU64, Ordering};
+use std::test::Fail;
+use std::thread::{self, Threads};
+use table::Table;
+
+const TABLE: &str = "\
+confine-table 1
+label c1
+label c2
+label srv
+label ep
+cnode n1 c1 0x1000 1
+cnode n2 c2 0x1040 1
+cnode ns srv 0x1080 1
+tcb t1 c1 0x2000 ready
+tcb t2 c2 0x2400 ready
+tcb ts srv 0x2800 ready
+endpoint e ep 0x3000
+reply p srv 0x3020
+cap n1.0 e wy 0
+cap n2.0 e wy 0
+cap ns.0 e r 0
+cap ns.1 p
+cap t1.root n1 63 0x0
+cap t2.root n2 63 0x0
+cap ts.root ns 63 0x0
+end
+";
+
+const POLICY: &str = "\
+confine-policy 1
+edge c1 reset ep
+edge c1 send ep
+edge c1 call ep
+edge c1 space c1
+edge c1 derive c1
+edge c2 reset ep
+edge c2 send ep
+edge c2 call ep
+edge c2 space c2
+edge c2 derive c2
+edge srv reset ep
+edge srv receive ep
+edge srv reply srv
+edge srv space srv
+edge srv derive srv
+edge srv holds c1
+edge srv holds c2
+edge srv holds srv
+end
+";
+
+/// Holds workers 0 and 1 until both have arrived, for a while.
+#[derive(Drop)]
+struct Meeting {
+    arrived: AtomicU64,
+    gave_up: AtomicU64,
+}
+
+impl Meeting {
+    fn wait(&self) {
+        self.arrived.fetch_add(1, Ordering::SeqCst);
+        for _ in 0..1_000_000u32 {
+            if self.arrived.load(Ordering::SeqCst) >= 2 {
+                return;
+            }
+            thread::yield_now();
+        }
+        self.gave_up.fetch_add(1, Ordering::SeqCst);
+    }
+}
+
+impl Gate for Meeting {
+    fn arrive(&self, worker: usize) {
+        if worker < 2 {
+            self.wait();
+        }
+    }
+}
+
+#[test]
+fn gate_check(rt: HostRuntime) {
+    let meeting = Meeting {
+        arrived: AtomicU64::new(0),
+        gave_up: AtomicU64::new(0),
+    };
+    let mut table = Watched::new(TABLE.as_bytes());
+    let mut policy = Watched::new(POLICY.as_bytes());
+    let mut out = Watched::new(Vec::new(rt.alloc()));
+    let end = report::check(
+        &rt,
+        rt.alloc(),
+        &mut table,
+        &mut policy,
+        OnAccept::Certificate,
+        3,
+        &meeting,
+        &mut out,
+    );
+    assert_eq!(rt; meeting.gave_up.load(Ordering::SeqCst), 0);
+    assert_eq!(rt; end, End::Status(0));
+}
+
+fn are_too_few_or_many<R: Abort + AllocGlobal + Threads + Sync>(
+    rt: &R,
+    table: &Table,
+    policy: &Policy,
+    workers: usize,
+) {
+    match checker::check(rt, rt.alloc(), table, policy, workers, &Open) {
+        Ok(_) => assert!(rt; false),
+        Err(error) => {
+            assert_eq!(rt; error, CheckError::WorkerCount);
+            assert_eq!(rt; Refusal::from(error).code, 45);
+        }
+    }
+}
+
+fn refuses_for<R: Abort + AllocGlobal + Threads + Sync>(rt: &R, table: &Table) -> Result<(), Fail> {
+    let policy = read_policy(rt.alloc(), POLICY.as_bytes(), table)
+        .ok()
+        .ok_or("a policy")?;
+    for workers in [0, 17] {
+        are_too_few_or_many(rt, table, &policy, workers);
+    }
+    Ok(())
+}
+
+#[test]
+fn workers_are_1_to_16(rt: HostRuntime) -> Result<(), Fail> {
+    let table = read_table(rt.alloc(), TABLE.as_bytes())
+        .ok()
+        .ok_or("a table")?;
+    refuses_for(&rt, &table)
+}

@@ -1,0 +1,94 @@
+-- The boot state of a table belongs to it: in particular the label of untyped memory is found by any address in it.
+use Rattle.std.proofs.Common.{◌≡◌, ℕ, ◌≤◌, ◌<◌, Bool, true, false, ◌&&◌, Some, option_map, refl, sym, ap, subst, ◌∙◌, arith, nat_le, nat_lt, slice_get}
+use mathlib.Core.Bool.{false≢true}
+use Rattle.std.proofs.lemmas.Option.{same_Some}
+use Rattle.std.proofs.lemmas.Bool.Decides.{Decides-ltb}
+use Rattle.std.proofs.lemmas.Bool.{and_from, and_parts, le-leb, leb-true}
+use Rattle.base.specs.declared.ids.ObjId.{ObjId}
+use Rattle.machine.specs.declared.layout.Initial.{Initial}
+use Rattle.machine.specs.declared.object.Object.{Object}
+use Rattle.machine.specs.declared.object.Object.TheVariants as o
+use Rattle.machine.specs.declared.object.Untyped.{Untyped}
+use Rattle.machine.specs.Authority.{has_memory_at, label_at}
+use Rattle.machine.specs.Boot.{IsBoot, bound}
+use Rattle.machine.proofs.Bound.{address-bound, kind-bound}
+use Rattle.machine.specs.Layout.{Layout, initial_of}
+use Rattle.machine.specs.Machine.{Machine}
+use Rattle.machine.specs.Objects.{kind_of_object, address_of, end_of}
+use Rattle.table.specs.Placement.{IsApart, Lies}
+use Rattle.table.specs.Rules.{IsLawful}
+use Rattle.verdict.specs.OfTable.{IsOfTable}
+use Rattle.table.proofs.AtBoot.{declared_at, boot_label, label_declared}
+use Rattle.table.proofs.Lookups.{found_first, pair_at}
+
+-- untyped memory that has an address
+memory_at :
+    (address : ℕ) (initial : Initial) (memory : Untyped) → initial.object ≡ o.Untyped memory → memory.base ≤ address
+    → address < end_of (o.Untyped memory) → has_memory_at address initial ≡ true
+memory_at address initial memory is above below =
+    let first : nat_le memory.base address ≡ true = le-leb memory.base address above in
+    let second : nat_lt address (end_of (o.Untyped memory)) ≡ true = (Decides-ltb address (end_of (o.Untyped memory))).1 below in
+    rw is (and_from _ _ first second)
+
+lies_by :
+    (address : ℕ) (initial : Initial) (object : Object) → initial.object ≡ object → has_memory_at address initial ≡ true
+    → Lies initial.object address
+lies_by address initial (o.Untyped memory) is e =
+    let seen : has_memory_at address initial ≡ (nat_le memory.base address && nat_lt address (end_of (o.Untyped memory))) =
+    rw is refl in
+    let parts = and_parts (nat_le memory.base address) (nat_lt address (end_of (o.Untyped memory))) (sym seen ∙ e) in
+    subst (λ (x : Object). Lies x address) (sym is)
+    (leb-true memory.base address parts.0, (Decides-ltb address (end_of (o.Untyped memory))).0 parts.1)
+lies_by address initial _ is e =
+    let seen : has_memory_at address initial ≡ false = rw is refl in absurd (false≢true (sym seen ∙ e))
+
+-- the label of untyped memory is that of the initial untyped whose range has the address, and there is no other
+pub boot_ranged :
+    (t : Layout) → IsLawful t → (id : ObjId) (initial : Initial) (memory : Untyped) (address : ℕ)
+    → initial_of t id ≡ Some initial → initial.object ≡ o.Untyped memory → memory.base ≤ address
+    → address < end_of (o.Untyped memory)
+    → label_at t address ≡ Some initial.label
+unfolding label_at initial_of
+boot_ranged t lawful id initial memory address declares is above below =
+    ap (option_map (λ (i : Initial). i.label))
+    (found_first (has_memory_at address) t.objects id.0 initial declares (memory_at address initial memory is above below) (λ i other lt at. no_other i other lt at (has_memory_at address other) refl))
+  where
+    lies : Lies initial.object address
+    lies = subst (λ (x : Object). Lies x address) (sym is) (above, below)
+
+    no_other :
+        (i : ℕ) (other : Initial) → i < id.0 → slice_get t.objects i ≡ Some other → (has : Bool)
+        → has_memory_at address other ≡ has → has_memory_at address other ≡ false
+    no_other i other lt at false e = e
+    no_other i other lt at true e =
+        absurd
+        (pair_at (λ (one two : Initial). IsApart one.object two.object) t.objects i id.0 other initial lawful.draft.objects.apart lt at declares address (lies_by address other other.object refl e) lies)
+
+bound_memory :
+    (t : Layout) (id : ObjId) (object : Object) (memory : Untyped) → o.Untyped memory ≡ bound t id object
+    → object ≡ o.Untyped memory
+bound_memory t id (o.Untyped _) memory e = sym e
+bound_memory t id _ memory e = cc
+
+pub boot_of_table : (t : Layout) (m : Machine) → IsLawful t → IsBoot t m → IsOfTable t m
+boot_of_table t m lawful boot =
+    record {
+      labelled = λ id object at. let declared = declared_at t m boot id object at in (declared.initial.label, boot_label t m boot id ∙ label_declared t id declared.initial declared.declares);
+      initial = λ id object initial at is.
+          let declared = declared_at t m boot id object at in
+          let same : declared.initial ≡ initial = same_Some declared.initial initial (sym declared.declares ∙ is) in (
+            ap kind_of_object declared.object_is ∙ kind-bound t id declared.initial.object
+                ∙ ap (λ (i : Initial). kind_of_object i.object) same,
+            ap address_of declared.object_is ∙ address-bound t id declared.initial.object
+                ∙ ap (λ (i : Initial). address_of i.object) same,
+          );
+      ranged = λ id memory label address at is above below.
+          let declared = declared_at t m boot id (o.Untyped memory) at in
+          let same : declared.initial.label ≡ label =
+          same_Some declared.initial.label label
+          (sym (boot_label t m boot id ∙ label_declared t id declared.initial declared.declares) ∙ is) in
+          boot_ranged t lawful id declared.initial memory address declared.declares
+          (bound_memory t id declared.initial.object memory declared.object_is) above below
+          ∙ ap Some same;
+      counted = let e = boot.next in omega (arith, e);
+    }

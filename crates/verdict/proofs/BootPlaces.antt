@@ -1,0 +1,198 @@
+-- A table declares the authority that its boot state has: so it breaks a rule where that lies outside the policy, and nowhere else.
+use Rattle.std.proofs.Common.{◌≡◌, ◌↔◌, false, Option, Some, None, option_map, refl, sym, ap, subst, ◌∙◌}
+use mathlib.Core.Bool.{false≢true}
+use Rattle.std.proofs.lemmas.Option.{none-some, same_Some, slice_get_within, get_or_from_slice_get}
+use Rattle.base.specs.declared.ids.ObjId.{ObjId}
+use Rattle.base.specs.declared.kind.Kind.{Kind}
+use Rattle.machine.specs.declared.layout.Initial.{Initial}
+use Rattle.machine.specs.declared.object.Object.{Object}
+use Rattle.machine.specs.declared.object.Object.TheVariants as o
+use Rattle.machine.specs.declared.object.ObjectKind.TheVariants as kind
+use Rattle.machine.specs.Authority.{holds_thread}
+use Rattle.machine.specs.Boot.{IsBoot, bound}
+use Rattle.machine.specs.Layout.{Layout, initial_of, bound_context}
+use Rattle.machine.specs.Machine.{Machine}
+use Rattle.machine.specs.Objects.{kind_of_object}
+use Rattle.policy.specs.Closed.{IsClosed}
+use Rattle.policy.specs.Domain.{EdgeTest}
+use Rattle.table.specs.Rules.{IsLawful, IsBindingOf, IsBlank, kind_at}
+use Rattle.verdict.specs.declared.denial.Denial.{Denial}
+use Rattle.verdict.specs.declared.denial.Denial.TheVariants as denial
+use Rattle.verdict.specs.Confined.{IsConfined}
+use Rattle.verdict.specs.Rules.{Excess, Exceeds, capability, root, pair, binding, holding, recorded, excess_place}
+use Rattle.verdict.specs.Sources.{Sources, of_table, of_machine, context_in, holds_in, keeps_in}
+use Rattle.verdict.specs.Verdict.{Breaks, IsAccepted, IsLeastBroken, IsOutside, excess_of, place_of}
+use Rattle.table.proofs.AtBoot.{boot_kind, boot_label, initial_lawful, rest_links}
+use Rattle.verdict.proofs.Closed.{closed_policy, unbroken}
+use Rattle.table.proofs.Lookups.{bound_at}
+use Rattle.verdict.proofs.Outsides.{confined_within, within_confined}
+use Rattle.verdict.proofs.RuleOrder.{policy_first}
+
+-- what a table binds is a thread
+bound_thread : (t : Layout) → IsLawful t → (thread context : ObjId) → bound_context t thread ≡ Some context → kind_at t thread ≡ Some kind.Tcb
+unfolding kind_at initial_of
+bound_thread t lawful thread context is =
+    let at = bound_at t thread context is in
+    let fits =
+    subst (IsBindingOf t.objects) (get_or_from_slice_get t.bindings at.at at.element at.element at.here)
+    (lawful.draft.bindings.each at.at at.element (slice_get_within t.bindings at.at at.element at.here)) in
+    ap (kind_at t) (sym at.key_is) ∙ fits.thread
+
+unbound :
+    (t : Layout) → IsLawful t → (thread : ObjId) → (kind_at t thread ≡ Some kind.Tcb → ⊥) → (context : Option ObjId)
+    → bound_context t thread ≡ context → context ≡ None
+unbound t lawful thread other None is = refl
+unbound t lawful thread other (Some context) is = absurd (other (bound_thread t lawful thread context is))
+
+-- an object as it is at boot has the links that the table declares
+
+boot_context :
+    (t : Layout) → IsLawful t → (id : ObjId) (initial : Option Initial) → initial_of t id ≡ initial
+    → context_in (option_map (λ (i : Initial). bound t id i.object) initial) ≡ bound_context t id
+unfolding kind_at
+boot_context t lawful id None declares = sym (unbound t lawful id no_thread (bound_context t id) refl) where
+  no_thread : kind_at t id ≡ Some kind.Tcb → ⊥
+  no_thread e = none-some kind.Tcb (sym (ap (option_map (λ (i : Initial). kind_of_object i.object)) declares) ∙ e)
+boot_context t lawful id (Some initial) declares = by initial.object refl where
+  declared : kind_at t id ≡ Some (kind_of_object initial.object)
+  declared = ap (option_map (λ (i : Initial). kind_of_object i.object)) declares
+
+  other_kind : (object : Object) → initial.object ≡ object → (kind_of_object object ≡ kind.Tcb → ⊥) → None ≡ bound_context t id
+  other_kind object is other =
+      sym (unbound t lawful id (λ e. other (ap kind_of_object (sym is) ∙ same_Some (kind_of_object initial.object) kind.Tcb (sym declared ∙ e))) (bound_context t id) refl)
+
+  by : (object : Object) → initial.object ≡ object → context_in (Some (bound t id object)) ≡ bound_context t id
+  by (o.Tcb tcb) is = refl
+  by object is = other_kind object is (λ e. cc)
+
+blank_holds : (t : Layout) (id : ObjId) (object : Object) (thread : ObjId) → IsBlank object → holds_in (Some (bound t id object)) thread ≡ false
+blank_holds t id (o.Reply answers) thread blank = ap (λ held. holds_thread held thread) blank
+blank_holds t id _ thread blank = refl
+
+blank_keeps :
+    (t : Layout) (id : ObjId) (object : Object) (k : Kind) (end : ObjId) → IsBlank object
+    → keeps_in (Some (bound t id object)) k end ≡ false
+blank_keeps t id (o.Tcb tcb) k end blank = rest_links tcb.state k end blank.0
+blank_keeps t id _ k end blank = refl
+
+boot_holds :
+    (t : Layout) → IsLawful t → (id thread : ObjId) (initial : Option Initial) → initial_of t id ≡ initial
+    → holds_in (option_map (λ (i : Initial). bound t id i.object) initial) thread ≡ false
+boot_holds t lawful id thread None declares = refl
+boot_holds t lawful id thread (Some initial) declares =
+    blank_holds t id initial.object thread (initial_lawful t lawful id initial declares).blank
+
+boot_keeps :
+    (t : Layout) → IsLawful t → (id : ObjId) (k : Kind) (end : ObjId) (initial : Option Initial) → initial_of t id ≡ initial
+    → keeps_in (option_map (λ (i : Initial). bound t id i.object) initial) k end ≡ false
+boot_keeps t lawful id k end None declares = refl
+boot_keeps t lawful id k end (Some initial) declares =
+    blank_keeps t id initial.object k end (initial_lawful t lawful id initial declares).blank
+
+module _ (t : Layout) (allowed : EdgeTest) where
+  -- a denial by A1 to A4 names a place: by the same numbers, and it is broken where the table declares authority outside there
+  record Names (d : Denial) (place : Excess) : Type 0 where
+    numbers : place_of d ≡ excess_place place
+    broken : Breaks t allowed d ↔ Exceeds (of_table t) allowed place
+
+  names : (d : Denial) (place : Excess) → excess_of d ≡ Some place → Names d place
+  names (denial.Policy _) place is = absurd (none-some place is)
+  names (denial.Certificate _) place is = absurd (none-some place is)
+  names (denial.Capability slot k l) place is = rw (sym (same_Some (capability slot k l) place is)) (record { numbers = refl; broken = ((λ x. x), (λ x. x)) })
+  names (denial.Root slot l) place is = rw (sym (same_Some (root slot l) place is)) (record { numbers = refl; broken = ((λ x. x), (λ x. x)) })
+  names (denial.Pair child parent) place is = rw (sym (same_Some (pair child parent) place is)) (record { numbers = refl; broken = ((λ x. x), (λ x. x)) })
+  names (denial.Binding thread context) place is = rw (sym (same_Some (binding thread context) place is)) (record { numbers = refl; broken = ((λ x. x), (λ x. x)) })
+
+  -- where it is the first that is broken, the policy is closed
+  pub first_closed : (d : Denial) (place : Excess) → excess_of d ≡ Some place → IsLeastBroken t allowed d → IsClosed allowed
+  first_closed d place is least = closed_policy allowed (λ b broken.
+      least.first (denial.Policy b) broken (rw (names d place is).numbers (policy_first b place)))
+
+  -- and where it is, each denial of what is broken names a place
+  named : (d : Denial) → IsClosed allowed → Breaks t allowed d → (place : Excess) × (excess_of d ≡ Some place)
+  named (denial.Policy b) closed broken = absurd (unbroken allowed closed b broken)
+  named (denial.Certificate line) closed broken = absurd broken
+  named (denial.Capability slot k label) closed broken = (capability slot k label, refl)
+  named (denial.Root slot label) closed broken = (root slot label, refl)
+  named (denial.Pair child parent) closed broken = (pair child parent, refl)
+  named (denial.Binding thread context) closed broken = (binding thread context, refl)
+
+  -- each place that a table declares outside has its denial
+  declared : (place : Excess) → Exceeds (of_table t) allowed place → (d : Denial) × (excess_of d ≡ Some place) × Breaks t allowed d
+  declared (capability slot k label) out = (denial.Capability slot k label, refl, out)
+  declared (root slot label) out = (denial.Root slot label, refl, out)
+  declared (pair child parent) out = (denial.Pair child parent, refl, out)
+  declared (binding thread context) out = (denial.Binding thread context, refl, out)
+  declared (holding reply thread) out = absurd (false≢true out.holds)
+  declared (recorded thread k label) out = absurd (false≢true out.kept)
+
+module _ (t : Layout) (m : Machine) (lawful : IsLawful t) (boot : IsBoot t m) where
+  -- the authority of a boot state is read off its table
+  pub boot_sources : of_table t ≡ of_machine t m
+  boot_sources = λ i. record {
+    cap = λ slot. sym (boot.caps slot) i;
+    parent = λ slot. sym (boot.parents slot) i;
+    kind = λ id. sym (boot_kind t m boot id) i;
+    label = λ id. sym (boot_label t m boot id) i;
+    context = λ id. sym (ap context_in (boot.objects id) ∙ boot_context t lawful id (initial_of t id) refl) i;
+    holds = λ id thread.
+        sym (ap (λ object. holds_in object thread) (boot.objects id) ∙ boot_holds t lawful id thread (initial_of t id) refl) i;
+    keeps = λ id k end.
+        sym (ap (λ object. keeps_in object k end) (boot.objects id) ∙ boot_keeps t lawful id k end (initial_of t id) refl) i;
+  }
+
+  exceeds_same : (allowed : EdgeTest) (place : Excess) → Exceeds (of_table t) allowed place ↔ Exceeds (of_machine t m) allowed place
+  exceeds_same allowed place = (
+    subst (λ (s : Sources). Exceeds s allowed place) boot_sources,
+    subst (λ (s : Sources). Exceeds s allowed place) (sym boot_sources),
+  )
+
+  -- a rule is broken at a place where the boot state's authority lies outside there
+  pub broken_outside :
+      (allowed : EdgeTest) (d : Denial) (place : Excess) → excess_of d ≡ Some place
+      → Breaks t allowed d ↔ Exceeds (of_machine t m) allowed place
+  broken_outside allowed d place is = (
+    λ broken. (exceeds_same allowed place).0 ((names t allowed d place is).broken.0 broken),
+    λ out. (names t allowed d place is).broken.1 ((exceeds_same allowed place).1 out),
+  )
+
+  -- and each such place has its denial
+  pub outside_declared :
+      (allowed : EdgeTest) (place : Excess) → Exceeds (of_machine t m) allowed place
+      → (d : Denial) × (excess_of d ≡ Some place) × Breaks t allowed d
+  outside_declared allowed place out = declared t allowed place ((exceeds_same allowed place).1 out)
+
+  -- so the boot state of an accepted table is confined
+  pub boot_confined : (allowed : EdgeTest) → IsAccepted t allowed → IsConfined t allowed m
+  boot_confined allowed accepted =
+      confined_within t allowed m
+      (λ place out. let broken = outside_declared allowed place out in accepted broken.0 broken.2)
+
+  -- and where it is, and the policy is closed, no rule is broken
+  pub confined_accepted : (allowed : EdgeTest) → IsClosed allowed → IsConfined t allowed m → IsAccepted t allowed
+  confined_accepted allowed closed confined d broken =
+      let place = named t allowed d closed broken in
+      within_confined t allowed m confined place.0 ((broken_outside allowed d place.0 place.1).0 broken)
+
+  -- the least broken place is the first that lies outside
+  pub first_outside :
+      (allowed : EdgeTest) (d : Denial) (place : Excess) → excess_of d ≡ Some place → IsLeastBroken t allowed d
+      → IsOutside t allowed m place
+  first_outside allowed d place is least = record {
+    has = (broken_outside allowed d place is).0 least.has;
+    first = λ other out before.
+        let broken = outside_declared allowed other out in
+        least.first broken.0 broken.2 (rw ((names t allowed broken.0 other broken.1).numbers, (names t allowed d place is).numbers) before);
+  }
+
+  -- and the other way round, where the policy is closed
+  pub least_broken :
+      (allowed : EdgeTest) (d : Denial) (place : Excess) → excess_of d ≡ Some place → IsClosed allowed
+      → IsOutside t allowed m place → IsLeastBroken t allowed d
+  least_broken allowed d place is closed outside = record {
+    has = (broken_outside allowed d place is).1 outside.has;
+    first = λ other broken before.
+        let at = named t allowed other closed broken in
+        outside.first at.0 ((broken_outside allowed other at.0 at.1).0 broken)
+        (rw (← (names t allowed other at.0 at.1).numbers, ← (names t allowed d place is).numbers) before);
+  }

@@ -1,0 +1,137 @@
+-- What grows doesn't shrink.
+use Rattle.std.proofs.Common.{◌≡◌, ◌≢◌, ◌≤◌, ◌<◌, ◌⊎◌, inl, inr, List, Some, None, length, sym, ap, ◌∙◌, arith}
+use Rattle.std.proofs.lemmas.Option.{none-some, same_Some}
+use Rattle.base.specs.declared.ids.ObjId.{ObjId}
+use Rattle.base.specs.declared.ids.SlotRef.{SlotRef}
+use Rattle.machine.specs.declared.cap.Cap.{Cap}
+use Rattle.machine.specs.declared.object.Context.{Context}
+use Rattle.machine.specs.declared.object.Notification.{Notification}
+use Rattle.machine.specs.declared.object.Object.{Object}
+use Rattle.machine.specs.declared.object.Object.TheVariants as o
+use Rattle.machine.specs.declared.thread.Inbox.TheVariants as inbox
+use Rattle.machine.specs.declared.thread.Tcb.{Tcb}
+use Rattle.machine.specs.Machine.{Machine, object_of, queue_of, words_of, cap_of}
+use Rattle.verdict.specs.Shrinks.{HasLess, IsPart, Lessens, LosesLink, Shrinks, Stops}
+use Rattle.verdict.specs.Shrinks.IsPart.{ended, stayed, left}
+use Rattle.verdict.specs.Shrinks.Lessens.{as_it_was, released, freed, unbound}
+use Rattle.verdict.specs.Shrinks.Stops.{goes_on, aborted, halted}
+use Rattle.verdict.proofs.Shrinking.{same_context, same_tcb}
+
+same_notification : (a b : Notification) → o.Notification a ≡ o.Notification b → a ≡ b
+same_notification a b e = cc
+
+word_lessens : (old new : Notification) → Lessens (o.Notification old) (o.Notification new) → new.pending ≡ old.pending
+word_lessens old new (as_it_was same) = ap (λ (x : Notification). x.pending) (same_notification new old same)
+word_lessens old new (released was is x y address stops context) = cc
+word_lessens old new (freed was is x y address free) = cc
+word_lessens old new (unbound was is x y address share thread) = cc
+
+share_lessens : (old new : Context) → Lessens (o.Context old) (o.Context new) → new.share ≡ old.share
+share_lessens old new (as_it_was same) = ap (λ (x : Context). x.share) (same_context new old same)
+share_lessens old new (released was is x y address stops context) = cc
+share_lessens old new (freed was is x y address free) = cc
+share_lessens old new (unbound was is x y address share thread) =
+    ap (λ (x : Context). x.share) (same_context new is y) ∙ share ∙ ap (λ (x : Context). x.share) (sym (same_context old was x))
+
+inbox_stops : (old new : Tcb) → Stops old new → (new.inbox ≡ old.inbox) ⊎ (new.inbox ≡ inbox.Aborted)
+inbox_stops old new (goes_on state kept) = inl kept
+inbox_stops old new (aborted blocked state emptied) = inr emptied
+inbox_stops old new (halted blocked state kept) = inl kept
+
+inbox_lessens : (old new : Tcb) → Lessens (o.Tcb old) (o.Tcb new) → (new.inbox ≡ old.inbox) ⊎ (new.inbox ≡ inbox.Aborted)
+inbox_lessens old new (as_it_was same) = inl (ap (λ (x : Tcb). x.inbox) (same_tcb new old same))
+inbox_lessens old new (released was is x y address stops context) =
+    rw (same_tcb old was x, same_tcb new is y) (inbox_stops was is stops)
+inbox_lessens old new (freed was is x y address free) = cc
+inbox_lessens old new (unbound was is x y address share thread) = cc
+
+context_lessens : (old new : Tcb) → Lessens (o.Tcb old) (o.Tcb new) → LosesLink old.context new.context
+context_lessens old new (as_it_was same) = inl (ap (λ (x : Tcb). x.context) (same_tcb new old same))
+context_lessens old new (released was is x y address stops context) = rw (same_tcb old was x, same_tcb new is y) context
+context_lessens old new (freed was is x y address free) = cc
+context_lessens old new (unbound was is x y address share thread) = cc
+
+part_shorter : (part all : List ObjId) → IsPart part all → length part ≤ length all
+part_shorter part all ended = omega arith
+part_shorter part all (stayed more) = let le = part_shorter _ _ more in omega (arith, le)
+part_shorter part all (left more) = let le = part_shorter _ _ more in omega (arith, le)
+
+lessened :
+    (m next : Machine) (id : ObjId) (old new : Object) → object_of m id ≡ Some old → object_of next id ≡ Some new
+    → Shrinks m next id → Lessens old new
+lessened m next id old new was is (inl gone) = absurd (none-some new (sym gone ∙ is))
+lessened m next id old new was is (inr less) =
+    let before : less.old ≡ old = same_Some less.old old (sym less.was ∙ was) in
+    let after : less.new ≡ new = same_Some less.new new (sym less.is ∙ is) in
+    rw (sym before, sym after) less.content
+
+pub word_grows :
+    (m next : Machine) (id : ObjId) (old new : Notification) → object_of m id ≡ Some (o.Notification old)
+    → object_of next id ≡ Some (o.Notification new) → new.pending ≢ old.pending → Shrinks m next id → ⊥
+word_grows m next id old new was is differ shrinks =
+    differ (word_lessens old new (lessened m next id (o.Notification old) (o.Notification new) was is shrinks))
+
+pub budget_grows :
+    (m next : Machine) (id : ObjId) (old new : Context) → object_of m id ≡ Some (o.Context old)
+    → object_of next id ≡ Some (o.Context new) → new.share ≢ old.share → Shrinks m next id → ⊥
+budget_grows m next id old new was is differ shrinks =
+    differ (share_lessens old new (lessened m next id (o.Context old) (o.Context new) was is shrinks))
+
+pub queue_grows :
+    (m next : Machine) (id : ObjId) (object : Object) (old new : List ObjId) → object_of next id ≡ Some object
+    → queue_of m id ≡ Some old → queue_of next id ≡ Some new → length old < length new → Shrinks m next id → ⊥
+queue_grows m next id object old new there was is longer (inl gone) = none-some object (sym gone ∙ there)
+queue_grows m next id object old new there was is longer (inr less) =
+    let before : less.waited ≡ old = same_Some less.waited old (sym less.queue_was ∙ was) in
+    let after : less.waiting ≡ new = same_Some less.waiting new (sym less.queue_is ∙ is) in
+    let le = part_shorter less.waiting less.waited less.queue in
+    let le' : length new ≤ length old = rw (sym before, sym after) le in
+    omega (arith, longer, le')
+
+-- what is there after shrinking was there before, and has less
+left_over :
+    (m next : Machine) (id : ObjId) (object : Object) → object_of next id ≡ Some object → Shrinks m next id → HasLess m next id
+left_over m next id object there (inl gone) = absurd (none-some object (sym gone ∙ there))
+left_over m next id object there (inr less) = less
+
+pub capability_grows :
+    (m next : Machine) (slot : SlotRef) (object : Object) (held : Cap) → object_of next slot.holder ≡ Some object
+    → cap_of next slot ≡ Some held → cap_of m slot ≢ Some held → Shrinks m next slot.holder → ⊥
+capability_grows m next slot object held there is differ shrinks =
+    by ((left_over m next slot.holder object there shrinks).slots slot.index)
+  where
+    by : (cap_of next slot ≡ cap_of m slot) ⊎ (cap_of next slot ≡ None) → ⊥
+    by (inl same) = differ (sym same ∙ is)
+    by (inr emptied) = none-some held (sym emptied ∙ is)
+
+pub inbox_grows :
+    (m next : Machine) (id : ObjId) (old new : Tcb) → object_of m id ≡ Some (o.Tcb old) → object_of next id ≡ Some (o.Tcb new)
+    → new.inbox ≢ old.inbox → new.inbox ≢ inbox.Aborted → Shrinks m next id → ⊥
+inbox_grows m next id old new was is differ arrived shrinks =
+    by (inbox_lessens old new (lessened m next id (o.Tcb old) (o.Tcb new) was is shrinks))
+  where
+    by : (new.inbox ≡ old.inbox) ⊎ (new.inbox ≡ inbox.Aborted) → ⊥
+    by (inl same) = differ same
+    by (inr gone) = arrived gone
+
+pub context_grows :
+    (m next : Machine) (id context : ObjId) (old new : Tcb) → object_of m id ≡ Some (o.Tcb old)
+    → object_of next id ≡ Some (o.Tcb new)
+    → new.context ≡ Some context → old.context ≢ Some context → Shrinks m next id → ⊥
+context_grows m next id context old new was is gets differ shrinks =
+    by (context_lessens old new (lessened m next id (o.Tcb old) (o.Tcb new) was is shrinks))
+  where
+    by : LosesLink old.context new.context → ⊥
+    by (inl same) = differ (sym same ∙ gets)
+    by (inr gone) = none-some context (sym gone ∙ gets)
+
+pub memory_grows :
+    (m next : Machine) (id : ObjId) (object : Object) → object_of next id ≡ Some object → words_of next id ≢ words_of m id
+    → Shrinks m next id → ⊥
+memory_grows m next id object there differ shrinks = differ (left_over m next id object there shrinks).words
+
+pub made_grows :
+    (m next : Machine) (id : ObjId) (object : Object) → object_of m id ≡ None → object_of next id ≡ Some object
+    → Shrinks m next id → ⊥
+made_grows m next id object absent there shrinks =
+    let less = left_over m next id object there shrinks in none-some less.old (sym absent ∙ less.was)

@@ -1,0 +1,31 @@
+-- A sound machine keeps what holds between the parts of a step.
+use Rattle.std.proofs.Common.{◌≡◌, Option, Some, None, sym, ◌∙◌, refl}
+use Rattle.std.proofs.lemmas.Option.{none-some}
+use Rattle.base.specs.declared.ids.ObjId.{ObjId}
+use Rattle.machine.specs.declared.object.Object.{Object}
+use Rattle.machine.specs.Layout.{Layout}
+use Rattle.machine.specs.Machine.{Machine, object_of, queue_of, words_of, cap_of}
+use Rattle.policy.specs.Domain.{EdgeTest}
+use Rattle.verdict.specs.Invariant.{IsHeld, IsSound}
+
+-- what only an object that is there has, one that isn't there hasn't
+missing :
+    {X : Type 0} (m : Machine) (id : ObjId) (part : Option X) → object_of m id ≡ None
+    → ((x : X) → part ≡ Some x → (object : Object) × (object_of m id ≡ Some object)) → part ≡ None
+missing m id None absent there = refl
+missing m id (Some x) absent there = let object = there x refl in absurd (none-some object.0 (sym absent ∙ object.1))
+
+pub held_of : (t : Layout) (allowed : EdgeTest) (m : Machine) → IsSound t allowed m → IsHeld t allowed m
+held_of t allowed m sound = record {
+  of_table = sound.of_table;
+  confined = sound.confined;
+  kinds = sound.well_formed.slots.object;
+  numbered = sound.well_formed.numbers.below_next;
+  bare = λ id absent. record {
+    queue = missing m id (queue_of m id) absent (λ threads at. sound.well_formed.parts.queue_of_object id threads at);
+    words = missing m id (words_of m id) absent (λ words at. sound.well_formed.parts.words_of_object id words at);
+    slots = λ index.
+        missing m id (cap_of m (record { holder = id; index = index })) absent
+        (λ cap at. let holder = sound.well_formed.slots.holder (record { holder = id; index = index }) cap at in (holder.0, holder.1));
+  };
+}

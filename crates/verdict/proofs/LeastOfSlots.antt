@@ -1,0 +1,196 @@
+-- Slot by slot, the first denial of the least rule is the least place at all slots so far: slots rise, and each broken place of A1
+-- to A3 stands at one that is filled.
+use Rattle.std.proofs.Common.{◌≡◌, ℕ, ◌+◌, ◌⊎◌, ◌≤◌, ◌<◌, inl, inr, List, [], ◌∷◌, get_or, length, map, Option, Some, None, option_map, slice_get, refl, sym, ap, subst, ◌∙◌, arith}
+use Rattle.std.specs.declared.cmp.Ordering.TheVariants.{Less}
+use Rattle.std.proofs.lemmas.Bool.{cases_order}
+use Rattle.std.proofs.lemmas.Cmp.{nat_list_cmp_total}
+use Rattle.std.proofs.lemmas.Option.{none-some, same_Some, slice_get-map, slice_get_within, get_or_from_slice_get}
+use Rattle.base.specs.declared.ids.SlotRef.{SlotRef}
+use Rattle.base.specs.Kinds.{kind_number}
+use Rattle.machine.specs.declared.cap.Cap.{Cap}
+use Rattle.machine.specs.declared.layout.Filled.{Filled}
+use Rattle.machine.specs.Layout.{Layout, initial_cap}
+use Rattle.machine.specs.Machine.{slot_cmp}
+use Rattle.policy.specs.Domain.{EdgeTest}
+use Rattle.policy.specs.Places.{ComesBefore, FindsLeast}
+use Rattle.table.specs.Rules.{IsLawful}
+use Rattle.table.specs.Tree.{IsPairOf}
+use Rattle.verdict.specs.declared.denial.Denial.{Denial}
+use Rattle.verdict.specs.declared.denial.Denial.TheVariants as denial
+use Rattle.verdict.specs.Rules.{a1, a2, a3, a4}
+use Rattle.verdict.specs.Slots.{BreaksSlots, rule_of, slot_denial, slot_rule}
+use Rattle.verdict.specs.Verdict.{place_of}
+use Rattle.table.proofs.Lookups.{filled_at, parent_at, pair_at}
+use Rattle.verdict.proofs.RuleOrder.{before_by_rule, never_both}
+use Rattle.verdict.proofs.SlotPlaces.{BreaksAt, IsAt, slot_least}
+
+-- a denial of a slot has the number of its rule first
+rule_is : (d : Denial) → slot_rule d < a4 → get_or (place_of d) 0 0 ≡ slot_rule d
+rule_is (denial.Capability _ _ _) slots = refl
+rule_is (denial.Root _ _) slots = refl
+rule_is (denial.Pair _ _) slots = refl
+rule_is _ slots = absurd (omega (arith, slots))
+
+at_a_slot : (slot : SlotRef) (d : Denial) → IsAt slot d → slot_rule d < a4
+at_a_slot slot (denial.Capability _ _ _) at = omega arith
+at_a_slot slot (denial.Root _ _) at = omega arith
+at_a_slot slot (denial.Pair _ _) at = omega arith
+at_a_slot slot _ at = absurd at
+
+by_rule : (one other : Denial) → slot_rule one < a4 → slot_rule other < a4 → slot_rule one < slot_rule other → ComesBefore (place_of one) (place_of other)
+by_rule one other of_one of_other lt =
+    before_by_rule (place_of one) (place_of other)
+    (let one_is = rule_is one of_one in let other_is = rule_is other of_other in omega (arith, lt, one_is, other_is))
+
+-- of one rule the place of an earlier slot comes first
+before_by_slot :
+    (rule : ℕ) (one other : SlotRef) (xs ys : List ℕ) → slot_cmp one other ≡ Less
+    → ComesBefore (rule ∷ one.holder.0 ∷ one.index ∷ xs) (rule ∷ other.holder.0 ∷ other.index ∷ ys)
+before_by_slot rule one other xs ys less = grind (arith, less)
+
+slots_apart :
+    (one other : SlotRef) (d e : Denial) → IsAt one d → IsAt other e → slot_rule d ≡ slot_rule e → slot_cmp one other ≡ Less
+    → ComesBefore (place_of d) (place_of e)
+slots_apart one other (denial.Capability s k l) (denial.Capability s' k' l') at_d at_e same less =
+    before_by_slot a1 s s' (kind_number k ∷ l ∷ []) (kind_number k' ∷ l' ∷ []) ((λ i. slot_cmp (at_d i) (at_e i)) ∙ less)
+slots_apart one other (denial.Root s l) (denial.Root s' l') at_d at_e same less =
+    before_by_slot a2 s s' (l ∷ []) (l' ∷ []) ((λ i. slot_cmp (at_d i) (at_e i)) ∙ less)
+slots_apart one other (denial.Pair s p) (denial.Pair s' p') at_d at_e same less =
+    before_by_slot a3 s s' (p.holder.0 ∷ p.index ∷ []) (p'.holder.0 ∷ p'.index ∷ []) ((λ i. slot_cmp (at_d i) (at_e i)) ∙ less)
+slots_apart one other d e at_d at_e same less =
+    let of_d = at_a_slot one d at_d in let of_e = at_a_slot other e at_e in absurd (omega (arith, of_d, of_e, same))
+
+-- what doesn't come first is of no lesser rule
+rule_after :
+    (one other : Denial) → slot_rule one < a4 → slot_rule other < a4 → (ComesBefore (place_of one) (place_of other) → ⊥)
+    → slot_rule other ≤ slot_rule one
+rule_after one other of_one of_other not_before = elim (cases_order (slot_rule one) (slot_rule other)) [
+  | inl same ↦ omega (arith, same)
+  | inr (inl below) ↦ absurd (not_before (by_rule one other of_one of_other below))
+  | inr (inr above) ↦ omega (arith, above)
+]
+
+module _ (t : Layout) (allowed : EdgeTest) where
+  abbrev denial_at : Filled → Option Denial
+  denial_at filled = slot_denial t allowed filled.slot
+
+  -- where what is denied at each slot is found, one of the list is the least at its slot
+  pub slot_at :
+      (found : List (Option Denial)) → found ≡ map denial_at t.caps → (k : ℕ) (denied : Option Denial)
+      → slice_get found k ≡ Some denied
+      → (filled : Filled) × (slice_get t.caps k ≡ Some filled) × FindsLeast place_of (BreaksAt t allowed filled.slot) denied
+  slot_at found same k denied at = by (slice_get t.caps k) refl where
+    is : option_map denial_at (slice_get t.caps k) ≡ Some denied
+    is = sym (ap (λ xs. slice_get xs k) same ∙ slice_get-map denial_at t.caps k) ∙ at
+
+    by :
+        (filled : Option Filled) → slice_get t.caps k ≡ filled
+        → (filled : Filled) × (slice_get t.caps k ≡ Some filled) × FindsLeast place_of (BreaksAt t allowed filled.slot) denied
+    by None none = absurd (none-some denied (ap (option_map denial_at) (sym none) ∙ is))
+    by (Some filled) here = (
+      filled,
+      here,
+      subst (FindsLeast place_of (BreaksAt t allowed filled.slot))
+          (same_Some (denial_at filled) denied (ap (option_map denial_at) (sym here) ∙ is)) (slot_least t allowed filled.slot),
+    )
+
+  -- broken at one of the first filled slots
+  pub record BrokenAmong (n : ℕ) (d : Denial) : Type 0 where
+    pub at : ℕ
+    pub within : at < n
+    pub filled : Filled
+    pub here : slice_get t.caps at ≡ Some filled
+    pub broken : BreaksAt t allowed filled.slot d
+
+  module _ (lawful : IsLawful t) (n : ℕ) (filled : Filled) (here : slice_get t.caps n ≡ Some filled) where
+    -- at the slots before, or at this one
+    at_this : (d : Denial) → BrokenAmong (n + 1) d → BrokenAmong n d ⊎ BreaksAt t allowed filled.slot d
+    at_this d h = let within = h.within in elim (cases_order h.at n) [
+      | inl same ↦ inr (subst (λ (f : Filled). BreaksAt t allowed f.slot d) (same_Some h.filled filled (sym h.here ∙ ap (slice_get t.caps) same ∙ here)) h.broken)
+      | inr (inl before) ↦ inl (record { at = h.at; within = before; filled = h.filled; here = h.here; broken = h.broken })
+      | inr (inr after) ↦ absurd (omega (arith, within, after))
+    ]
+
+    more : (d : Denial) → BrokenAmong n d → BrokenAmong (n + 1) d
+    more d h = record { at = h.at; within = let within = h.within in omega (arith, within); filled = h.filled; here = h.here; broken = h.broken }
+
+    this : (d : Denial) → BreaksAt t allowed filled.slot d → BrokenAmong (n + 1) d
+    this d h = record { at = n; within = omega arith; filled = filled; here = here; broken = h }
+
+    -- a lesser rule comes first
+    pub least_new :
+        (first next : Option Denial) → FindsLeast place_of (BreaksAt t allowed filled.slot) next
+        → FindsLeast place_of (BrokenAmong n) first → rule_of next < rule_of first → FindsLeast place_of (BrokenAmong (n + 1)) next
+    least_new None None least none lt = absurd (omega (arith, lt))
+    least_new (Some d) None least first lt = absurd (let of_d = at_a_slot _ d first.has.broken.0 in omega (arith, lt, of_d))
+    least_new None (Some e) least none lt = record {
+      has = this e least.has;
+      first = λ other h before. elim (at_this other h) [ inl h ↦ none other h | inr h ↦ least.first other h before ];
+    }
+    least_new (Some d) (Some e) least first lt = record {
+      has = this e least.has;
+      first = λ other h before. elim (at_this other h) [
+        | inl h ↦
+            let of_d = at_a_slot first.has.filled.slot d first.has.broken.0 in
+            let of_e = at_a_slot filled.slot e least.has.0 in
+            first.first other h (nat_list_cmp_total.trans (place_of other) (place_of e) (place_of d) before (by_rule e d of_e of_d lt))
+        | inr h ↦ least.first other h before
+      ];
+    }
+
+    -- and a greater one, or the same one, after
+    pub least_kept :
+        (first next : Option Denial) → FindsLeast place_of (BreaksAt t allowed filled.slot) next
+        → FindsLeast place_of (BrokenAmong n) first → rule_of first ≤ rule_of next → FindsLeast place_of (BrokenAmong (n + 1)) first
+    least_kept None None least none le = λ other h. elim (at_this other h) [ inl h ↦ none other h | inr h ↦ least other h ]
+    least_kept None (Some e) least none le = absurd (let of_e = at_a_slot filled.slot e least.has.0 in omega (arith, le, of_e))
+    least_kept (Some d) None least first le = record {
+      has = more d first.has;
+      first = λ other h before. elim (at_this other h) [ inl h ↦ first.first other h before | inr h ↦ least other h ];
+    }
+    least_kept (Some d) (Some e) least first le = record {
+      has = more d first.has;
+      first = λ other h before. elim (at_this other h) [
+        | inl h ↦ first.first other h before
+        | inr h ↦
+            let f = first.has in
+            let of_d = at_a_slot f.filled.slot d f.broken.0 in
+            let of_e = at_a_slot filled.slot e least.has.0 in
+            let of_other = at_a_slot filled.slot other h.0 in
+            let below = rule_after d other of_d of_other (λ after. never_both (place_of d) (place_of other) after before) in
+            let above = rule_after other e of_other of_e (least.first other h) in
+            never_both (place_of d) (place_of other)
+            (slots_apart f.filled.slot filled.slot d other f.broken.0 h.0 (omega (arith, le, below, above))
+            (pair_at (λ (one two : Filled). slot_cmp one.slot two.slot ≡ Less) t.caps f.at n f.filled filled lawful.draft.caps.rise f.within f.here here))
+            before
+      ];
+    }
+
+  module _ (n : ℕ) (all : length t.caps ≤ n) where
+    of_slot :
+        (slot : SlotRef) (held : Cap) → initial_cap t slot ≡ Some held → (d : Denial)
+        → ((s : SlotRef) → s ≡ slot → BreaksAt t allowed s d) → BrokenAmong n d
+    of_slot slot held filled d broken =
+        let f = filled_at t slot held filled in
+        record { at = f.at; within = let within = slice_get_within t.caps f.at f.element f.here in omega (arith, within, all); filled = f.element; here = f.here; broken = broken f.element.slot f.key_is }
+
+    covered : IsLawful t → (d : Denial) → BreaksSlots t allowed d → BrokenAmong n d
+    covered lawful (denial.Capability slot k l) h = of_slot slot h.1.held h.1.filled (denial.Capability slot k l) (λ s is. (sym is, h.1))
+    covered lawful (denial.Root slot l) h = of_slot slot h.1.held h.1.filled (denial.Root slot l) (λ s is. (sym is, h.1))
+    covered lawful (denial.Pair child parent) h =
+        let p = parent_at t child parent h.1.derived in
+        let kin =
+        subst (IsPairOf t) (get_or_from_slice_get t.pairs p.at p.element p.element p.here)
+        (lawful.tree p.at p.element (slice_get_within t.pairs p.at p.element p.here)) in
+        of_slot child kin.below (ap (initial_cap t) (sym p.key_is) ∙ kin.child) (denial.Pair child parent) (λ s is. (sym is, h.1))
+    covered lawful _ h = absurd (let slots = h.0 in omega (arith, slots))
+
+    -- all slots
+    pub least_of_all_slots :
+        IsLawful t → (first : Option Denial) → FindsLeast place_of (BrokenAmong n) first
+        → FindsLeast place_of (BreaksSlots t allowed) first
+    least_of_all_slots lawful None none = λ d h. none d (covered lawful d h)
+    least_of_all_slots lawful (Some first) least = record {
+      has = (at_a_slot least.has.filled.slot first least.has.broken.0, least.has.broken.1);
+      first = λ d h. least.first d (covered lawful d h);
+    }

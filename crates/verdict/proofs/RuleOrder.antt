@@ -1,0 +1,44 @@
+-- The rules of closed policies come before those of the authority that a table or a machine holds.
+use Rattle.std.proofs.Common.{◌≡◌, ℕ, ◌<◌, ◌≤◌, List, [], ◌∷◌, get_or, refl, sym, ap, ◌∙◌, arith, lit<, lit≤}
+use Rattle.std.specs.declared.cmp.Ordering.TheVariants.{Less, Greater}
+use Rattle.std.specs.Ordering.{ordering_reverse}
+use Rattle.std.proofs.lemmas.Cmp.{nat_list_cmp_total}
+use Rattle.policy.specs.declared.broken.Broken.{Broken}
+use Rattle.policy.specs.declared.broken.Broken.TheVariants as broken
+use Rattle.policy.specs.Broken.{broken_place}
+use Rattle.policy.specs.Places.{ComesBefore}
+use Rattle.verdict.specs.Rules.{a1, Excess, capability, root, pair, binding, holding, recorded, excess_place}
+
+-- a place of a smaller rule comes first
+pub before_by_rule : (one other : List ℕ) → get_or one 0 0 < get_or other 0 0 → ComesBefore one other
+before_by_rule [] [] below = absurd (omega (arith, below))
+before_by_rule [] (y ∷ ys) below = refl
+before_by_rule (x ∷ xs) [] below = absurd (omega (arith, below))
+before_by_rule (x ∷ xs) (y ∷ ys) below = grind (arith, below)
+
+pub never_both : (one other : List ℕ) → ComesBefore one other → ComesBefore other one → ⊥
+never_both one other before after =
+    let both : Less ≡ Greater = sym before ∙ nat_list_cmp_total.antisymm one other ∙ ap ordering_reverse after in cc
+
+pub not_before_by_rule : (one other : List ℕ) → get_or one 0 0 < get_or other 0 0 → ComesBefore other one → ⊥
+not_before_by_rule one other below = never_both one other (before_by_rule one other below)
+
+pub first_rules : (b : Broken) → get_or (broken_place b) 0 0 < a1
+first_rules (broken.SubjectsDisagree _ _ _ _) = lit< tt
+first_rules (broken.ControlLacks _ _ _) = lit< tt
+first_rules (broken.GrantLacks _ _ _ _) = lit< tt
+first_rules (broken.DomainLacks _ _) = lit< tt
+first_rules (broken.DeriveLacks _ _) = lit< tt
+first_rules (broken.ContextLacks _ _) = lit< tt
+first_rules (broken.ReplyLacks _ _) = lit< tt
+
+last_rules : (place : Excess) → a1 ≤ get_or (excess_place place) 0 0
+last_rules (capability _ _ _) = lit≤ tt
+last_rules (root _ _) = lit≤ tt
+last_rules (pair _ _) = lit≤ tt
+last_rules (binding _ _) = lit≤ tt
+last_rules (holding _ _) = lit≤ tt
+last_rules (recorded _ _ _) = lit≤ tt
+
+pub policy_first : (b : Broken) (place : Excess) → ComesBefore (broken_place b) (excess_place place)
+policy_first b place = before_by_rule (broken_place b) (excess_place place) (let one = first_rules b in let other = last_rules place in omega (arith, one, other))

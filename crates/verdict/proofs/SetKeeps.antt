@@ -1,0 +1,56 @@
+-- Setting an object's content, and changing who waits at it, touch that object alone.
+use Rattle.std.proofs.Common.{◌≡◌, ℕ, List, Some, refl, inl, sym, ◌∙◌, ap}
+use Rattle.base.specs.declared.ids.ObjId.{ObjId}
+use Rattle.machine.specs.declared.call.Event.{Event}
+use Rattle.machine.specs.declared.object.Context.{Context}
+use Rattle.machine.specs.declared.object.Object.{Object}
+use Rattle.machine.specs.Layout.{Layout}
+use Rattle.machine.specs.Machine.{Machine, object_of, queue_of, with_object, with_queue}
+use Rattle.machine.proofs.Ids.{at_itself, at_other}
+use Rattle.machine.proofs.LookUps.{object_of-with_object, queue_of-with_object, words_of-with_object, cap_of-with_object, parent_of-with_object, number_of-with_object}
+use Rattle.machine.proofs.LookUps.{object_of-with_queue, queue_of-with_queue, words_of-with_queue, cap_of-with_queue, parent_of-with_queue, number_of-with_queue}
+use Rattle.policy.specs.Domain.{EdgeTest}
+use Rattle.verdict.specs.Allowed.{MayChange}
+use Rattle.verdict.specs.Invariant.{IsHeld}
+use Rattle.verdict.proofs.Keeps.{Keeps}
+use Rattle.verdict.proofs.TouchKeeps.{Fits, touch_keeps}
+use Rattle.verdict.proofs.Shrinking.{same_context}
+
+module _ (t : Layout) (allowed : EdgeTest) (began : Machine) (event : Event) (a : ℕ) (m : Machine) (id : ObjId) (held : IsHeld t allowed m) where
+  pub set_keeps :
+      (old new : Object) → Fits t allowed began event m id old new → MayChange t allowed a m (with_object m id new) id
+      → Keeps t allowed began event a m (with_object m id new)
+  set_keeps old new fits may =
+      touch_keeps t allowed began event a m id old new (with_object m id new) held fits
+      (record {
+        contents = λ q apart. object_of-with_object m id new q ∙ at_other q id (Some new) (object_of m q) apart;
+        queues = λ q apart. queue_of-with_object m id new q;
+        words = λ q apart. words_of-with_object m id new q;
+        caps = cap_of-with_object m id new;
+        parents = parent_of-with_object m id new;
+        number = number_of-with_object m id new;
+      })
+      (object_of-with_object m id new id ∙ at_itself id (Some new) (object_of m id)) may
+
+  pub queue_keeps :
+      (object : Object) (threads : List ObjId) → object_of m id ≡ Some object
+      → MayChange t allowed a m (with_queue m id threads) id → Keeps t allowed began event a m (with_queue m id threads)
+  queue_keeps object threads there may =
+      touch_keeps t allowed began event a m id object object (with_queue m id threads) held
+      (record {
+        was = there;
+        kind = refl;
+        address = refl;
+        end = refl;
+        links = λ end k had. inl had;
+        share = λ before after was is. inl (ap (λ (c : Context). c.share) (same_context after before (sym is ∙ was)));
+      })
+      (record {
+        contents = λ q apart. object_of-with_queue m id threads q;
+        queues = λ q apart. queue_of-with_queue m id threads q ∙ at_other q id (Some threads) (queue_of m q) apart;
+        words = λ q apart. words_of-with_queue m id threads q;
+        caps = cap_of-with_queue m id threads;
+        parents = parent_of-with_queue m id threads;
+        number = number_of-with_queue m id threads;
+      })
+      (object_of-with_queue m id threads id ∙ there) may

@@ -1,0 +1,195 @@
+-- A signal from a label without authority over the notification's is not allowed.
+use Rattle.std.proofs.Common.{◌≡◌, ◌≢◌, ℕ, ◌⊎◌, inl, inr, true, false, [], Some, None, Ok, refl, sym, subst, ◌∙◌, arith}
+use Rattle.std.proofs.lemmas.Bool.{false≢true}
+use Rattle.std.proofs.lemmas.Option.{none-some, same_Some}
+use Rattle.base.specs.declared.ids.ObjId.{ObjId}
+use Rattle.base.specs.declared.kind.Kind.{Kind}
+use Rattle.base.specs.declared.kind.Kind.TheVariants as authority
+use Rattle.base.specs.Kinds.{is_structural}
+use Rattle.machine.specs.declared.call.Answer.TheVariants.{Nothing}
+use Rattle.machine.specs.declared.call.Call.TheVariants.{Signal}
+use Rattle.machine.specs.declared.call.Event.{Event}
+use Rattle.machine.specs.declared.call.Outcome.TheVariants.{Done}
+use Rattle.machine.specs.declared.object.Notification.{Notification}
+use Rattle.machine.specs.declared.object.Object.{Object}
+use Rattle.machine.specs.declared.object.Object.TheVariants as o
+use Rattle.machine.specs.Authority.{label_of}
+use Rattle.machine.specs.Boot.{IsBoot}
+use Rattle.machine.specs.Changes.{with_pending, first_waiting}
+use Rattle.machine.specs.Layout.{Layout, initial_of, initial_cap, declared_label, bound_context, bound_thread}
+use Rattle.machine.specs.Lookup.{lookup_of, level_at, walk, hop}
+use Rattle.machine.specs.Machine.{Machine, object_of, queue_of, cap_of}
+use Rattle.machine.proofs.LookUps.{object_of-with_object}
+use Rattle.machine.specs.Step.{Step, step_of, made_by, admitted}
+use Rattle.machine.specs.Step.Step.{ends}
+use Rattle.machine.specs.Step.Find.{find_cap, find_notification}
+use Rattle.machine.specs.Step.Signal.{signal_of, signalled}
+use Rattle.policy.specs.Domain.{EdgeTest}
+use Rattle.policy.specs.Full.{IsFull, is_modifying}
+use Rattle.policy.specs.Full.IsFull.{own, modifies, sends, receives, notifies, links, grants, replies}
+use Rattle.verdict.specs.Allowed.{IsAllowedStep, IsLabelled, MayModify, IsModified}
+use Rattle.verdict.specs.Counterexamples.{UnallowedSignal}
+use Rattle.verdict.specs.Shrinks.{IsSame, Shrinks}
+use Rattle.table.proofs.AtBoot.{boot_label}
+use Rattle.verdict.proofs.BootState.{boot_state, boot_state_is}
+use Rattle.verdict.proofs.Gains.{word_grows}
+use Rattle.verdict.proofs.SmallSystem.{id, slot, node, thread, notification, context, space_cap, signal_cap, no_edges, signalling, signalling_lawful}
+
+-- a change of a notification's word, without full authority
+
+labelled_so :
+    (t : Layout) (m next : Machine) (id : ObjId) (object : Object) (label other : ℕ) → object_of m id ≡ Some object
+    → label_of t m id ≡ Some label → IsLabelled t m next id other → other ≡ label
+labelled_so t m next id object label other was labelled (inl before) = same_Some other label (sym before ∙ labelled)
+labelled_so t m next id object label other was labelled (inr made) = absurd (none-some object (sym made.0 ∙ was))
+
+no_authority :
+    (allowed : EdgeTest) (caller label : ℕ) (m next : Machine) (id : ObjId) → ¬ IsFull allowed caller label → ¬ Shrinks m next id
+    → ¬ MayModify allowed caller label m next id
+no_authority allowed caller label m next id not_full grows (inl full) = not_full full
+no_authority allowed caller label m next id not_full grows (inr cut) = grows cut.1
+
+pub word_unallowed :
+    (t : Layout) (allowed : EdgeTest) (m next : Machine) (event : Event) (id : ObjId) (old new : Notification) (caller label : ℕ)
+    → object_of m id ≡ Some (o.Notification old) → object_of next id ≡ Some (o.Notification new) → new.pending ≢ old.pending
+    → label_of t m event.thread ≡ Some caller → label_of t m id ≡ Some label
+    → ¬ IsFull allowed caller label → ¬ IsAllowedStep t allowed m event next
+word_unallowed t allowed m next event id old new caller label was is differ calls labelled not_full every = by (every id) where
+  by : IsSame m next id ⊎ IsModified t allowed m next event.thread id → ⊥
+  by (inl same) =
+      let content : Some (o.Notification new) ≡ Some (o.Notification old) = sym is ∙ same.content ∙ was in
+      differ (cc)
+  by (inr modified) =
+      let who : modified.caller ≡ caller = same_Some modified.caller caller (sym modified.calls ∙ calls) in
+      let what : modified.may.label ≡ label =
+      labelled_so t m next id (o.Notification old) label modified.may.label was labelled modified.may.labelled in
+      let may = subst (λ a. MayModify allowed a modified.may.label m next id) who modified.may.may in
+      no_authority allowed caller label m next id not_full (word_grows m next id old new was is differ)
+      (subst (λ l. MayModify allowed caller l m next id) what may)
+
+-- a label whose edges are structural has full authority on its own objects alone
+
+of_use : (k : Kind) → is_modifying k ≡ true → is_structural k ≡ false
+of_use authority.Space e = absurd (false≢true e)
+of_use authority.Derive e = absurd (false≢true e)
+of_use authority.Runs e = absurd (false≢true e)
+of_use authority.Holds e = absurd (false≢true e)
+of_use _ e = refl
+
+pub structural_not_full :
+    (allowed : EdgeTest) (a l : ℕ) → l ≢ a → ((k : Kind) (to : ℕ) → is_structural k ≡ false → allowed a k to ≡ false)
+    → ¬ IsFull allowed a l
+structural_not_full allowed a l other lacks (own same) = other same
+structural_not_full allowed a l other lacks (modifies k modifying e) = false≢true (sym (lacks k l (of_use k modifying)) ∙ e)
+structural_not_full allowed a l other lacks (sends endpoint e _) = false≢true (sym (lacks authority.Send endpoint refl) ∙ e)
+structural_not_full allowed a l other lacks (receives endpoint e _) = false≢true (sym (lacks authority.Receive endpoint refl) ∙ e)
+structural_not_full allowed a l other lacks (notifies end e _) = false≢true (sym (lacks authority.Notify end refl) ∙ e)
+structural_not_full allowed a l other lacks (links endpoint receiver e _ _) =
+    false≢true (sym (lacks authority.Send endpoint refl) ∙ e)
+structural_not_full allowed a l other lacks (grants endpoint receiver e _ _) =
+    false≢true (sym (lacks authority.Grant endpoint refl) ∙ e)
+structural_not_full allowed a l other lacks (replies reply e _) = false≢true (sym (lacks authority.Reply reply refl) ∙ e)
+
+-- the boot state of the small system, and what a signal does there
+
+pub signal : Event
+signal = record { core = 0; thread = id 1; call = Signal 0 }
+
+module _ (m : Machine) (boot : IsBoot signalling m) where
+  caller : object_of m (id 1) ≡ Some (thread (Some (id 3)))
+  unfolding signalling initial_of bound_context
+  caller = boot.objects (id 1)
+
+  runs_on : object_of m (id 3) ≡ Some (context (Some (id 1)))
+  unfolding signalling initial_of bound_thread
+  runs_on = boot.objects (id 3)
+
+  space : object_of m (id 0) ≡ Some node
+  unfolding signalling initial_of
+  space = boot.objects (id 0)
+
+  silent : object_of m (id 2) ≡ Some (notification None)
+  unfolding signalling initial_of
+  silent = boot.objects (id 2)
+
+  nobody : queue_of m (id 2) ≡ Some []
+  unfolding signalling initial_of
+  nobody = boot.queues (id 2)
+
+  root : cap_of m (slot 1 0) ≡ Some space_cap
+  unfolding signalling initial_cap
+  root = boot.caps (slot 1 0)
+
+  held : cap_of m (slot 0 0) ≡ Some signal_cap
+  unfolding signalling initial_cap
+  held = boot.caps (slot 0 0)
+
+  admits : admitted m 0 (id 1) ≡ Ok (record { core = 0; budget = 10; period = 10 })
+  unfolding admitted
+  admits = rw (caller, runs_on) refl
+
+  pub finds : find_notification m (id 1) 0 ≡ Ok (id 2, record { rights = record { 0 = 2 }; badge = 1 })
+  unfolding find_notification find_cap lookup_of level_at walk hop
+  finds = rw (caller, root, space, held) refl
+
+  pub after_signal : Machine
+  after_signal = with_pending m (id 2) (Some 1)
+
+  made : step_of m signal ≡ (Done Nothing, after_signal)
+  unfolding signal after_signal step_of made_by signal_of signalled first_waiting
+  made = rw (admits, finds, nobody, silent) refl
+
+  pub signals : Step m signal (Done Nothing) after_signal
+  signals = ends made
+
+  pending : object_of after_signal (id 2) ≡ Some (notification (Some 1))
+  unfolding after_signal with_pending
+  pending = rw silent (object_of-with_object m (id 2) (notification (Some 1)) (id 2))
+
+  pub caller_label : label_of signalling m (id 1) ≡ Some 0
+  unfolding signalling initial_of declared_label
+  caller_label = boot_label signalling m boot (id 1)
+
+  pub notification_label : label_of signalling m (id 2) ≡ Some 2
+  unfolding signalling initial_of declared_label
+  notification_label = boot_label signalling m boot (id 2)
+
+  -- a policy that allows it has an edge from label 0 that isn't structural
+  pub signal_unallowed :
+      (allowed : EdgeTest) → ((k : Kind) (to : ℕ) → is_structural k ≡ false → allowed 0 k to ≡ false)
+      → ¬ IsAllowedStep signalling allowed m signal after_signal
+  unfolding signal
+  signal_unallowed allowed lacks =
+      let old : Notification = record { address = 0x3000; pending = None } in
+      let new : Notification = record { address = 0x3000; pending = Some 1 } in
+      let not_full = structural_not_full allowed 0 2 (λ same. absurd (omega arith)) lacks in
+      word_unallowed signalling allowed m after_signal signal (id 2) old new 0 2 silent pending
+      (λ same. cc) caller_label notification_label
+      not_full
+
+pub unallowed_signal : UnallowedSignal
+unfolding signal
+unallowed_signal =
+    let m = boot_state signalling in
+    let boot = boot_state_is signalling in
+    record {
+      t = signalling;
+      allowed = no_edges;
+      m = m;
+      next = after_signal m boot;
+      event = signal;
+      address = 0;
+      notification = id 2;
+      end = record { rights = record { 0 = 2 }; badge = 1 };
+      caller = 0;
+      label = 2;
+      lawful = signalling_lawful;
+      booted = boot;
+      signals = refl;
+      found = finds m boot;
+      done = signals m boot;
+      calls = caller_label m boot;
+      labelled = notification_label m boot;
+      missing = refl;
+      not_allowed = signal_unallowed m boot no_edges (λ k to of_use. refl);
+    }

@@ -1,0 +1,7 @@
+-- what the type keeps
+use Rattle.std.proofs.Common.{subst}
+use Rattle.verdict.specs.System.{System, IsAcceptedSystem}
+use Rattle.verdict.proofs.accepted.Accepted.policy.Goals as goal
+
+pub returns-clause-accepted : goal.returns-clause-accepted
+returns-clause-accepted c = subst (λ (system : System). IsAcceptedSystem system) c.self.view_is c.self.invariant

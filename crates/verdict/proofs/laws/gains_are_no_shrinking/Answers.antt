@@ -1,0 +1,27 @@
+-- What grows doesn't shrink.
+use Rattle.verdict.proofs.Gains.{budget_grows, capability_grows, context_grows, inbox_grows, made_grows, memory_grows, queue_grows, word_grows}
+use Rattle.verdict.proofs.laws.gains_are_no_shrinking.Goals as goal
+
+pub returns-clause-word : goal.returns-clause-word
+returns-clause-word c = word_grows
+
+pub returns-clause-budget : goal.returns-clause-budget
+returns-clause-budget c = budget_grows
+
+pub returns-clause-member : goal.returns-clause-member
+returns-clause-member c = queue_grows
+
+pub returns-clause-capability : goal.returns-clause-capability
+returns-clause-capability c = capability_grows
+
+pub returns-clause-arrival : goal.returns-clause-arrival
+returns-clause-arrival c = inbox_grows
+
+pub returns-clause-context : goal.returns-clause-context
+returns-clause-context c = context_grows
+
+pub returns-clause-memory : goal.returns-clause-memory
+returns-clause-memory c = memory_grows
+
+pub returns-clause-made : goal.returns-clause-made
+returns-clause-made c = made_grows

@@ -1,0 +1,57 @@
+-- Systems on which the properties of the headline fail, which show that it asks for something (confine's own).
+use Rattle.std.specs.Prelude.{◌≡◌, ◌≢◌, ℕ, false, List, Some, Ok}
+use Rattle.base.specs.declared.edge.Edge.{Edge}
+use Rattle.base.specs.declared.ids.ObjId.{ObjId}
+use Rattle.base.specs.declared.kind.Kind.TheVariants as authority
+use Rattle.machine.specs.declared.call.Answer.TheVariants.{Nothing}
+use Rattle.machine.specs.declared.call.Call.TheVariants.{Signal}
+use Rattle.machine.specs.declared.call.Event.{Event}
+use Rattle.machine.specs.declared.call.Outcome.TheVariants.{Done}
+use Rattle.machine.specs.declared.cap.Badged.{Badged}
+use Rattle.machine.specs.Authority.{label_of}
+use Rattle.machine.specs.Boot.{IsBoot}
+use Rattle.machine.specs.Layout.{Layout}
+use Rattle.machine.specs.Machine.{Machine}
+use Rattle.machine.specs.Step.{Step}
+use Rattle.machine.specs.Step.Find.{find_notification}
+use Rattle.policy.specs.Domain.{EdgeTest}
+use Rattle.policy.specs.Needed.{Rule, Obeys}
+use Rattle.policy.specs.Policy.{IsPolicy, allows}
+use Rattle.table.specs.Rules.{IsLawful}
+use Rattle.verdict.specs.Allowed.{IsAllowedStep}
+use Rattle.verdict.specs.Confined.{IsConfined}
+use Rattle.verdict.specs.Safe.{IsSafe}
+
+-- from the boot state of a lawful table a thread signals a notification, and the signal is done; a policy lacks the edge of
+-- kind notify from the thread's label to the notification's, and doesn't allow the step
+pub record UnallowedSignal : Type 0 where
+  pub t : Layout
+  pub allowed : EdgeTest
+  pub m : Machine
+  pub next : Machine
+  pub event : Event
+  pub address : ℕ
+  pub notification : ObjId
+  pub end : Badged
+  pub caller : ℕ
+  pub label : ℕ
+  pub lawful : IsLawful t
+  pub booted : IsBoot t m
+  pub signals : event.call ≡ Signal address
+  pub found : find_notification m event.thread address ≡ Ok (notification, end)
+  pub done : Step m event (Done Nothing) next
+  pub calls : label_of t m event.thread ≡ Some caller
+  pub labelled : label_of t m notification ≡ Some label
+  pub missing : allowed caller authority.Notify label ≡ false
+  pub not_allowed : ¬ IsAllowedStep t allowed m event next
+
+-- a lawful table and a policy that obeys every rule of closed policies but one; the table's boot state is confined, and the
+-- system isn't safe
+pub record UnsafeWithout (rule : Rule) : Type 0 where
+  pub t : Layout
+  pub edges : List Edge
+  pub lawful : IsLawful t
+  pub policy : IsPolicy edges
+  pub others : (other : Rule) → other ≢ rule → Obeys (allows edges) other
+  pub confined : (boot : Machine) → IsBoot t boot → IsConfined t (allows edges) boot
+  pub unsafe : ¬ IsSafe t (allows edges)

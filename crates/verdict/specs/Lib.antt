@@ -1,0 +1,13 @@
+pub mod Sources
+pub mod Rules
+pub mod Verdict
+pub mod System
+pub mod Confined
+pub mod Shrinks
+pub mod Allowed
+pub mod Budgets
+pub mod Safe
+pub mod OfTable
+pub mod Invariant
+pub mod Counterexamples
+pub mod Slots

@@ -1,0 +1,23 @@
+-- A system is a capability table and a policy; the verdict on it, and what an accepted one keeps (confine's own).
+use Rattle.std.specs.Prelude.{◌≡◌, List, Result, Ok, Err}
+use Rattle.base.specs.declared.edge.Edge.{Edge}
+use Rattle.machine.specs.Layout.{Layout}
+use Rattle.policy.specs.Policy.{allows}
+use Rattle.verdict.specs.declared.denial.Denial.{Denial}
+use Rattle.verdict.specs.Safe.{IsSafe}
+use Rattle.verdict.specs.Verdict.{IsAccepted, IsLeastBroken}
+
+pub record System : Type 0 where
+  pub table : Layout
+  -- its edges
+  pub policy : List Edge
+
+-- no rule is broken, and every run is safe
+pub record IsAcceptedSystem (system : System) : Type 0 where
+  pub verdict : IsAccepted system.table (allows system.policy)
+  pub safe : IsSafe system.table (allows system.policy)
+
+-- accepted, if nothing is broken, as this table with this policy; else denied with the least place where a rule is broken
+abbrev pub IsVerdict : Layout → List Edge → Result System Denial → Type 0
+IsVerdict t edges (Ok accepted) = (accepted ≡ record { table = t; policy = edges }) × IsAccepted t (allows edges)
+IsVerdict t edges (Err denial) = IsLeastBroken t (allows edges) denial

@@ -1,0 +1,67 @@
+ghost use Rattle.std.specs.Prelude.{◌≡◌};
+ghost use Rattle.policy.specs.Policy.{allows};
+ghost use Rattle.verdict.specs.Safe.{IsSafe};
+ghost use Rattle.verdict.specs.System.{IsAcceptedSystem};
+ghost use Rattle.verdict.specs.Verdict.{IsAccepted};
+
+use crate::safe::accepted_systems_are_safe;
+use policy::Policy;
+use std::marker::Model;
+use table::Table;
+
+/// A capability table and a policy that are accepted: no rule is broken, and every run from the table's
+/// boot state is safe.
+///
+/// [`judge`](crate::judge) makes one of what it accepts.
+#[derive(Drop)]
+pub struct Accepted<'a> {
+    table: &'a Table,
+    policy: &'a Policy,
+}
+
+impl<'a> Model for Accepted<'a> {
+    ghost use Rattle.verdict.specs.System.{System, IsAcceptedSystem};
+
+    ghost Value = { System };
+
+    ghost view = { λ accepted. record { table = accepted.table.now; policy = accepted.policy.now } };
+
+    ghost invariant = { λ accepted. IsAcceptedSystem (record { table = accepted.table.now; policy = accepted.policy.now }) };
+}
+
+// The headline for this table and this policy.
+fn are_safe(table: &Table, policy: &Policy)
+    requires { IsAccepted table.now (allows policy.now) }
+    ensures { IsSafe table.now (allows policy.now) }
+{
+    table.caps();
+    accepted_systems_are_safe();
+}
+
+impl<'a> Accepted<'a> {
+    /// These two, which are accepted.
+    pub fn of(table: &'a Table, policy: &'a Policy) -> Accepted<'a>
+        requires { IsAccepted table.now (allows policy.now) }
+        ensures system { result ≡ record { table = table.now; policy = policy.now } }
+        ensures safe { IsSafe table.now (allows policy.now) }
+    {
+        are_safe(table, policy);
+        Accepted { table, policy }
+    }
+
+    /// The table.
+    pub fn table(&self) -> &'a Table
+        ensures table { result.now ≡ self.now.table }
+        ensures accepted { IsAcceptedSystem self.now }
+    {
+        self.table
+    }
+
+    /// The policy.
+    pub fn policy(&self) -> &'a Policy
+        ensures policy { result.now ≡ self.now.policy }
+        ensures accepted { IsAcceptedSystem self.now }
+    {
+        self.policy
+    }
+}

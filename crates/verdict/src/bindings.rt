@@ -1,0 +1,53 @@
+ghost use Rattle.std.specs.Prelude.{◌≡◌, ◌∷◌, [], Some};
+ghost use Rattle.machine.specs.Layout.{bound_context, declared_label};
+ghost use Rattle.policy.specs.Policy.{allows};
+ghost use Rattle.verdict.specs.Rules.{a4};
+ghost use Rattle.verdict.specs.Verdict.{BreaksUnder, place_of};
+ghost use Rattle.policy.specs.Places.{FindsLeast};
+
+use crate::Denial;
+use base::{Edge, Kind, Label, ObjId};
+use machine::Binding;
+use policy::Policy;
+use table::Table;
+
+/// The least place where A4 is broken: threads have runs edges to the contexts that they are bound
+/// to.
+pub fn first_binding(table: &Table, policy: &Policy) -> Option<Denial>
+    ensures { FindsLeast place_of (BreaksUnder table.now (allows policy.now) (a4 ∷ [])) result }
+{
+    for binding in table.bindings() {
+        if let Some(denial) = binding_excess(table, policy, binding) {
+            return Some(denial);
+        }
+    }
+    None
+}
+
+// The place of this thread, if A4 is broken there.
+fn binding_excess(table: &Table, policy: &Policy, binding: &Binding) -> Option<Denial>
+    requires { bound_context table.now binding.now.thread ≡ Some binding.now.context }
+    ensures { FindsLeast place_of (BreaksUnder table.now (allows policy.now) (a4 ∷ binding.now.thread.0 ∷ [])) result }
+{
+    let edge = Edge {
+        from: label_of(table, binding.thread)?,
+        kind: Kind::Runs,
+        to: label_of(table, binding.context)?,
+    };
+    if policy.has(edge) {
+        return None;
+    }
+    Some(Denial::Binding {
+        thread: binding.thread,
+        context: binding.context,
+    })
+}
+
+// The label of an object of the table.
+#[tactic(auto, unfolding(machine::specs::Layout::declared_label, machine::specs::Layout::initial_of))]
+fn label_of(table: &Table, id: ObjId) -> Option<Label>
+    ensures { result ≡ declared_label table.now id }
+{
+    let initial = table.objects().get(id.0 as usize)?;
+    Some(initial.label)
+}

@@ -1,0 +1,73 @@
+ghost use Rattle.std.specs.Prelude.{◌≡◌, ◌≤◌, IfErr, IfOk};
+ghost use Rattle.base.specs.Refusals.{out_of_memory};
+ghost use Rattle.policy.specs.Places.{FindsLeast};
+ghost use Rattle.policy.specs.Policy.{allows};
+ghost use Rattle.verdict.specs.Safe.{StaysConfined, KeepsIntegrity, GuardsBudgets};
+ghost use Rattle.verdict.specs.System.{IsVerdict};
+ghost use Rattle.verdict.specs.Verdict.{Breaks, place_of};
+
+use crate::bindings::first_binding;
+use crate::slots::first_at_slots;
+use crate::{Accepted, Denial};
+use base::Refusal;
+use deal::Gate;
+use policy::{Policy, first_broken};
+use std::alloc::Global;
+use std::thread::Threads;
+use table::Table;
+
+/// The verdict on a capability table and a policy, by the rules P1 to P7 and A1 to A4: accepted, or
+/// denied with the first of these rules that is broken and the first place where it is. The slots of
+/// the table are shared out among 1 to 16 workers, each of which arrives at the gate first; the verdict
+/// is the same for every number of them.
+///
+/// Where it accepts them, then after every list of kernel calls by any threads in any interleaving
+/// every capability lies within the policy; no step changes an object of a label on which its caller's
+/// label has no modifying authority; and a context's configured budget or period changes only by a
+/// caller whose label has the policy's SchedControl edge.
+///
+/// # Errors
+///
+/// 40 where memory is refused.
+pub fn judge<'a, R: Threads + Sync, G: Gate + Sync>(
+    rt: &R,
+    alloc: Global,
+    table: &'a Table,
+    policy: &'a Policy,
+    workers: usize,
+    gate: &G,
+) -> Result<Result<Accepted<'a>, Denial>, Refusal>
+    requires workers { (1 ≤ workers) × (workers ≤ 16) }
+    ensures verdict { IfOk result (IsVerdict table.now policy.now) }
+    ensures confined { IfOk result (λ answer. IfOk answer (λ accepted. StaysConfined table.now (allows policy.now))) }
+    ensures integrity { IfOk result (λ answer. IfOk answer (λ accepted. KeepsIntegrity table.now (allows policy.now))) }
+    ensures budgets { IfOk result (λ answer. IfOk answer (λ accepted. GuardsBudgets table.now (allows policy.now))) }
+    ensures memory { IfErr result (λ refusal. refusal ≡ out_of_memory) }
+{
+    if let Some(denial) = first_denial(rt, alloc, table, policy, workers, gate)? {
+        return Ok(Err(denial));
+    }
+    Ok(Ok(Accepted::of(table, policy)))
+}
+
+// The first rule that is broken, and the first place where it is.
+fn first_denial<R: Threads + Sync, G: Gate + Sync>(
+    rt: &R,
+    alloc: Global,
+    table: &Table,
+    policy: &Policy,
+    workers: usize,
+    gate: &G,
+) -> Result<Option<Denial>, Refusal>
+    requires workers { (1 ≤ workers) × (workers ≤ 16) }
+    ensures least { IfOk result (FindsLeast place_of (Breaks table.now (allows policy.now))) }
+    ensures memory { IfErr result (λ refusal. refusal ≡ out_of_memory) }
+{
+    if let Some(broken) = first_broken(rt, policy)? {
+        return Ok(Some(Denial::Policy(broken)));
+    }
+    if let Some(denial) = first_at_slots(rt, alloc, table, policy, workers, gate)? {
+        return Ok(Some(denial));
+    }
+    Ok(first_binding(table, policy))
+}

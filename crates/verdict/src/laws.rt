@@ -1,0 +1,264 @@
+ghost use Rattle.std.specs.Prelude.{◌≡◌, ◌≢◌, ◌↔◌, ◌⊎◌, ℕ, ◌<◌, true, false, Some, None};
+ghost use Rattle.std.specs.Prelude.{List, [], ◌∷◌, ◌++◌, length, All, Result};
+ghost use Rattle.base.specs.declared.edge.Edge.{Edge};
+ghost use Rattle.base.specs.declared.ids.ObjId.{ObjId as Id};
+ghost use Rattle.base.specs.declared.ids.SlotRef.{SlotRef as Slot};
+ghost use Rattle.base.specs.declared.kind.Kind.{Kind};
+ghost use Rattle.base.specs.declared.kind.Kind.TheVariants as authority;
+ghost use Rattle.base.specs.Kinds.{is_structural};
+ghost use Rattle.machine.specs.declared.call.Event.{Event};
+ghost use Rattle.machine.specs.declared.cap.Cap.{Cap};
+ghost use Rattle.machine.specs.declared.object.Context.{Context};
+ghost use Rattle.machine.specs.declared.object.Notification.{Notification};
+ghost use Rattle.machine.specs.declared.object.Object.{Object};
+ghost use Rattle.machine.specs.declared.object.Object.TheVariants as o;
+ghost use Rattle.machine.specs.declared.object.ObjectKind.TheVariants as kind;
+ghost use Rattle.machine.specs.declared.object.Reply.{Reply};
+ghost use Rattle.machine.specs.declared.object.ReplyState.TheVariants as answers;
+ghost use Rattle.machine.specs.declared.thread.Inbox.TheVariants as inbox;
+ghost use Rattle.machine.specs.declared.thread.RunState.TheVariants as run;
+ghost use Rattle.machine.specs.declared.thread.Tcb.{Tcb};
+ghost use Rattle.machine.specs.Authority.{label_of};
+ghost use Rattle.machine.specs.Boot.{IsBoot};
+ghost use Rattle.machine.specs.Layout.{Layout};
+ghost use Rattle.machine.specs.Machine.{Machine, object_of, queue_of, words_of, cap_of};
+ghost use Rattle.machine.specs.Machine.{with_cap, with_object, with_parent, with_queue};
+ghost use Rattle.machine.specs.WellFormed.{kind_of};
+ghost use Rattle.policy.specs.Cut.{IsBase, IsCut, IsHolding, IsNear, is_link};
+ghost use Rattle.policy.specs.Closed.{IsClosed};
+ghost use Rattle.policy.specs.Domain.{EdgeTest};
+ghost use Rattle.policy.specs.Full.{IsFull};
+ghost use Rattle.policy.specs.Needed.{subjects_agree};
+ghost use Rattle.policy.specs.Policy.{allows};
+ghost use Rattle.table.specs.Rules.{IsLawful};
+ghost use Rattle.verdict.specs.declared.denial.Denial.{Denial};
+ghost use Rattle.verdict.specs.Allowed.{IsAllowedStep};
+ghost use Rattle.verdict.specs.Budgets.{KeepsBudgets};
+ghost use Rattle.verdict.specs.Confined.{IsConfined};
+ghost use Rattle.verdict.specs.Counterexamples.{UnallowedSignal, UnsafeWithout};
+ghost use Rattle.verdict.specs.Rules.{Excess, Exceeds};
+ghost use Rattle.verdict.specs.Shrinks.{Shrinks};
+ghost use Rattle.verdict.specs.Sources.{of_machine};
+ghost use Rattle.verdict.specs.System.{System, IsVerdict};
+ghost use Rattle.verdict.specs.Verdict.{Breaks, IsAccepted, IsLeastBroken, IsOutside, excess_of};
+
+/// A law: an object doesn't shrink whose pending word, or whose core, budget or period changes; at
+/// which more threads wait than before; which gets a capability, a message, a word or a context; whose
+/// memory changes; or which is made.
+pub fn gains_are_no_shrinking()
+    ensures word { (m next : Machine) (id : Id) (old new : Notification)
+        → object_of m id ≡ Some (o.Notification old)
+        → object_of next id ≡ Some (o.Notification new)
+        → new.pending ≢ old.pending
+        → ¬ Shrinks m next id }
+    ensures budget { (m next : Machine) (id : Id) (old new : Context)
+        → object_of m id ≡ Some (o.Context old)
+        → object_of next id ≡ Some (o.Context new)
+        → new.share ≢ old.share
+        → ¬ Shrinks m next id }
+    ensures member { (m next : Machine) (id : Id) (object : Object) (old new : List Id)
+        → object_of next id ≡ Some object
+        → queue_of m id ≡ Some old
+        → queue_of next id ≡ Some new
+        → length old < length new
+        → ¬ Shrinks m next id }
+    ensures capability { (m next : Machine) (slot : Slot) (object : Object) (held : Cap)
+        → object_of next slot.holder ≡ Some object
+        → cap_of next slot ≡ Some held
+        → cap_of m slot ≢ Some held
+        → ¬ Shrinks m next slot.holder }
+    ensures arrival { (m next : Machine) (id : Id) (old new : Tcb)
+        → object_of m id ≡ Some (o.Tcb old)
+        → object_of next id ≡ Some (o.Tcb new)
+        → new.inbox ≢ old.inbox
+        → new.inbox ≢ inbox.Aborted
+        → ¬ Shrinks m next id }
+    ensures context { (m next : Machine) (id context : Id) (old new : Tcb)
+        → object_of m id ≡ Some (o.Tcb old)
+        → object_of next id ≡ Some (o.Tcb new)
+        → new.context ≡ Some context
+        → old.context ≢ Some context
+        → ¬ Shrinks m next id }
+    ensures memory { (m next : Machine) (id : Id) (object : Object)
+        → object_of next id ≡ Some object
+        → words_of next id ≢ words_of m id
+        → ¬ Shrinks m next id }
+    ensures made { (m next : Machine) (id : Id) (object : Object)
+        → object_of m id ≡ None
+        → object_of next id ≡ Some object
+        → ¬ Shrinks m next id }
+{}
+
+/// A law: each reason of authority counts. There is a confined state that isn't confined any more once
+/// a slot of a CNode, a thread's root slot, the derivation tree, or an object's link is changed, and
+/// nothing else.
+pub fn each_reason_of_authority_counts()
+    ensures capability { (t : Layout) × (allowed : EdgeTest) × (m : Machine) × (slot : Slot) × (held : Cap)
+        × (kind_of m slot.holder ≡ Some kind.CNode)
+        × IsConfined t allowed m
+        × ¬ IsConfined t allowed (with_cap m slot held) }
+    ensures root { (t : Layout) × (allowed : EdgeTest) × (m : Machine) × (slot : Slot) × (held : Cap)
+        × (kind_of m slot.holder ≡ Some kind.Tcb)
+        × IsConfined t allowed m
+        × ¬ IsConfined t allowed (with_cap m slot held) }
+    ensures pair { (t : Layout) × (allowed : EdgeTest) × (m : Machine) × (slot : Slot) × (parent : Slot)
+        × IsConfined t allowed m
+        × ¬ IsConfined t allowed (with_parent m slot parent) }
+    ensures link { (t : Layout) × (allowed : EdgeTest) × (m : Machine) × (id : Id) × (object : Object)
+        × IsConfined t allowed m
+        × ¬ IsConfined t allowed (with_object m id object) }
+{}
+
+/// A law: a signal needs authority. No step is allowed that changes the word of a notification on
+/// whose label the caller's label doesn't have full authority; and there is a signal that is done,
+/// from the boot state of a lawful table, and isn't allowed by a policy without the edge for it.
+pub fn a_signal_needs_authority()
+    ensures word { (t : Layout) (allowed : EdgeTest) (m next : Machine) (event : Event)
+        → (id : Id) (old new : Notification) (caller label : ℕ)
+        → object_of m id ≡ Some (o.Notification old)
+        → object_of next id ≡ Some (o.Notification new)
+        → new.pending ≢ old.pending
+        → label_of t m event.thread ≡ Some caller
+        → label_of t m id ≡ Some label
+        → ¬ IsFull allowed caller label
+        → ¬ IsAllowedStep t allowed m event next }
+    ensures signal { UnallowedSignal }
+{}
+
+/// A law: a change of a context's core, budget or period needs authority. No step guards budgets that
+/// makes one, where the caller's label has no schedcontrol edge, or no context edge to the context's
+/// label.
+pub fn a_budget_needs_authority()
+    ensures schedcontrol { (t : Layout) (allowed : EdgeTest) (m next : Machine) (event : Event)
+        → (id : Id) (old new : Context) (caller : ℕ)
+        → object_of m id ≡ Some (o.Context old)
+        → object_of next id ≡ Some (o.Context new)
+        → new.share ≢ old.share
+        → label_of t m event.thread ≡ Some caller
+        → ((control : ℕ) → allowed caller authority.SchedControl control ≡ false)
+        → ¬ KeepsBudgets t allowed m event next }
+    ensures context { (t : Layout) (allowed : EdgeTest) (m next : Machine) (event : Event)
+        → (id : Id) (old new : Context) (caller label : ℕ)
+        → object_of m id ≡ Some (o.Context old)
+        → object_of next id ≡ Some (o.Context new)
+        → new.share ≢ old.share
+        → label_of t m event.thread ≡ Some caller
+        → label_of t m id ≡ Some label
+        → allowed caller authority.Context label ≡ false
+        → ¬ KeepsBudgets t allowed m event next }
+{}
+
+/// A law: safety needs that labels of one domain may do the same (the rule P1). There is a system
+/// whose policy obeys all other rules of closed policies and whose boot state is confined, and which
+/// isn't safe.
+pub fn safety_needs_agreeing_subjects()
+    ensures { UnsafeWithout subjects_agree }
+{}
+
+/// A law: a state is confined exactly where no authority lies outside the policy at any place of the
+/// rules A1 to A6.
+pub fn confined_states_have_nothing_outside()
+    ensures { (t : Layout) (allowed : EdgeTest) (m : Machine)
+        → IsConfined t allowed m ↔ ((place : Excess) → ¬ Exceeds (of_machine t m) allowed place) }
+{}
+
+/// A law: the verdict on a table is one on its boot state. A rule is broken at a place exactly where
+/// the boot state's authority lies outside the policy there, and each place where it does has its
+/// denial. That denial is the verdict exactly if the policy is closed and the place is the first. A table
+/// and a policy are accepted exactly if the policy is closed and the boot state is confined.
+pub fn a_verdict_is_on_the_boot_state()
+    ensures place { (t : Layout) (allowed : EdgeTest) (boot : Machine) (denial : Denial) (place : Excess)
+        → IsLawful t
+        → IsBoot t boot
+        → excess_of denial ≡ Some place
+        → Breaks t allowed denial ↔ Exceeds (of_machine t boot) allowed place }
+    ensures each { (t : Layout) (allowed : EdgeTest) (boot : Machine) (place : Excess)
+        → IsLawful t
+        → IsBoot t boot
+        → Exceeds (of_machine t boot) allowed place
+        → (denial : Denial) × (excess_of denial ≡ Some place) }
+    ensures first { (t : Layout) (allowed : EdgeTest) (boot : Machine) (denial : Denial) (place : Excess)
+        → IsLawful t
+        → IsBoot t boot
+        → excess_of denial ≡ Some place
+        → IsLeastBroken t allowed denial ↔ (IsClosed allowed × IsOutside t allowed boot place) }
+    ensures accepted { (t : Layout) (edges : List Edge)
+        → IsLawful t
+        → IsAccepted t (allows edges)
+        ↔ (IsClosed (allows edges) × ((boot : Machine) → IsBoot t boot → IsConfined t (allows edges) boot)) }
+{}
+
+/// A law: a table and a policy have one verdict. They aren't both accepted and denied, nor denied with
+/// two places.
+pub fn a_system_has_one_verdict()
+    ensures one { (t : Layout) (edges : List Edge) (verdict other : Result System Denial)
+        → IsVerdict t edges verdict
+        → IsVerdict t edges other
+        → verdict ≡ other }
+{}
+
+/// A law: an object shrinks that vanishes; of which only a capability is removed, or one of the threads
+/// that wait at it, or its link to a thread or a context; a reply that becomes free; and a thread that
+/// waits for something, and is aborted or halted.
+pub fn losses_are_shrinking()
+    ensures vanished { (m next : Machine) (id : Id) → object_of next id ≡ None → Shrinks m next id }
+    ensures capability { (m next : Machine) (slot : Slot) (object : Object) (threads : List Id)
+        → object_of m slot.holder ≡ Some object
+        → queue_of m slot.holder ≡ Some threads
+        → object_of next slot.holder ≡ object_of m slot.holder
+        → queue_of next slot.holder ≡ queue_of m slot.holder
+        → words_of next slot.holder ≡ words_of m slot.holder
+        → cap_of next slot ≡ None
+        → ((other : Slot) → other.holder ≡ slot.holder → other.index ≢ slot.index → cap_of next other ≡ cap_of m other)
+        → Shrinks m next slot.holder }
+    ensures member { (m : Machine) (id thread : Id) (object : Object) (before after : List Id)
+        → object_of m id ≡ Some object
+        → queue_of m id ≡ Some (before ++ thread ∷ after)
+        → Shrinks m (with_queue m id (before ++ after)) id }
+    ensures freed { (m : Machine) (id : Id) (reply : Reply) (threads : List Id)
+        → object_of m id ≡ Some (o.Reply reply)
+        → queue_of m id ≡ Some threads
+        → Shrinks m (with_object m id (o.Reply (record reply { state = answers.Free }))) id }
+    ensures aborted { (m : Machine) (id : Id) (thread : Tcb) (threads : List Id)
+        → object_of m id ≡ Some (o.Tcb thread)
+        → queue_of m id ≡ Some threads
+        → thread.state ≢ run.Ready
+        → thread.state ≢ run.Inactive
+        → Shrinks m (with_object m id (o.Tcb (record thread { state = run.Ready; inbox = inbox.Aborted }))) id }
+    ensures halted { (m : Machine) (id : Id) (thread : Tcb) (threads : List Id)
+        → object_of m id ≡ Some (o.Tcb thread)
+        → queue_of m id ≡ Some threads
+        → thread.state ≢ run.Ready
+        → thread.state ≢ run.Inactive
+        → Shrinks m (with_object m id (o.Tcb (record thread { state = run.Inactive }))) id }
+    ensures context { (m : Machine) (id : Id) (thread : Tcb) (threads : List Id)
+        → object_of m id ≡ Some (o.Tcb thread)
+        → queue_of m id ≡ Some threads
+        → Shrinks m (with_object m id (o.Tcb (record thread { context = None }))) id }
+    ensures thread { (m : Machine) (id : Id) (context : Context) (threads : List Id)
+        → object_of m id ≡ Some (o.Context context)
+        → queue_of m id ≡ Some threads
+        → Shrinks m (with_object m id (o.Context (record context { thread = None }))) id }
+{}
+
+/// A law: a label has cut authority on each label that it leads to by at most one control edge, then at
+/// most one derive edge, then at most one edge by which a capability is held, and then at most two steps
+/// along links, either way.
+pub fn cuts_follow_paths()
+    ensures base { (allowed : EdgeTest) (a controlled base : ℕ)
+        → (a ≡ controlled) ⊎ (allowed a authority.Control controlled ≡ true)
+        → (controlled ≡ base) ⊎ (allowed controlled authority.Derive base ≡ true)
+        → IsBase allowed a base }
+    ensures held { (k : Kind) → (is_structural k ≡ false) ⊎ (k ≡ authority.Space) → IsHolding k }
+    ensures links { All (λ k. is_link k ≡ true)
+        (authority.Send ∷ authority.Receive ∷ authority.Await ∷ authority.Reply ∷ authority.Holds ∷ authority.Runs ∷ authority.Space ∷ []) }
+    ensures near { (allowed : EdgeTest) (x y : ℕ)
+        → (x ≡ y) ⊎ ((k : Kind) × (is_link k ≡ true) × ((allowed x k y ≡ true) ⊎ (allowed y k x ≡ true)))
+        → IsNear allowed x y }
+    ensures path { (allowed : EdgeTest) (a base reached near label : ℕ)
+        → IsBase allowed a base
+        → (base ≡ reached) ⊎ ((k : Kind) × IsHolding k × (allowed base k reached ≡ true))
+        → IsNear allowed reached near
+        → IsNear allowed near label
+        → IsCut allowed a label }
+{}

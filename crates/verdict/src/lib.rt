@@ -1,0 +1,22 @@
+//! The verdict on a capability table and a policy: accepted, or denied with the first rule that is
+//! broken and where.
+#![tactic(auto)]
+
+mod accepted;
+mod bindings;
+mod check;
+mod denial;
+mod laws;
+mod safe;
+mod slots;
+
+pub use accepted::Accepted;
+pub use check::judge;
+pub use denial::Denial;
+pub use laws::{
+    a_budget_needs_authority, a_signal_needs_authority, a_system_has_one_verdict,
+    a_verdict_is_on_the_boot_state, confined_states_have_nothing_outside, cuts_follow_paths,
+    each_reason_of_authority_counts, gains_are_no_shrinking, losses_are_shrinking,
+    safety_needs_agreeing_subjects,
+};
+pub use safe::accepted_systems_are_safe;
