@@ -6,12 +6,13 @@ ghost use Rattle.std.specs.Fn.{FnReturnsAt};
 ghost use Rattle.report.specs.Ends.{status_of};
 ghost use Rattle.confine.specs.Opening.{IsStatusOf, Serves};
 ghost use Rattle.confine.specs.Requests.{IsWithinLimits};
+ghost use Rattle.confine.specs.declared.request.Request.TheVariants.{Check, Verify, Run};
 
 mod help;
 mod request;
 
 use clap::error::ErrorKind;
-use report::{End, Open, check_on, run_on, verify_on};
+use report::{End, OnAccept, Open, check_on, run_on, verify_on};
 use request::{Request, read_request};
 use std::alloc::Global;
 use std::env::Env;
@@ -93,39 +94,100 @@ where
     ensures served { Serves (FnReturnsAt O.Fn opener) F.remaining W.contents request.entry out result }
     ensures exit { status_of result ≤ 2 }
 {
-    let alloc = rt.alloc();
     match request {
         Request::Check {
             table,
             policy,
             workers,
             on_accept,
-        } => {
-            let table = opener(table);
-            let policy = opener(policy);
-            check_on(rt, alloc, table, policy, on_accept, workers, &Open, out).0
-        }
+        } => serve_check(rt, table, policy, workers, on_accept, opener, out),
         Request::Verify {
             table,
             policy,
             certificate,
-        } => {
-            let table = opener(table);
-            let policy = opener(policy);
-            let certificate = opener(certificate);
-            verify_on(rt, alloc, table, policy, certificate, out).0
-        }
+        } => serve_verify(rt, table, policy, certificate, opener, out),
         Request::Run {
             table,
             policy,
             script,
-        } => {
-            let table = opener(table);
-            let policy = opener(policy);
-            let script = opener(script);
-            run_on(rt, alloc, table, policy, script, out).0
-        }
+        } => serve_run(rt, table, policy, script, opener, out),
     }
+}
+
+/// Checks the table and the policy of these names.
+fn serve_check<R, F, O, W>(
+    rt: &R,
+    table: &str,
+    policy: &str,
+    workers: usize,
+    on_accept: OnAccept,
+    opener: O,
+    out: W,
+) -> End
+where
+    R: AllocGlobal + Threads + Sync,
+    F: Read + Drop,
+    O: Fn(&str) -> io::Result<F> + Drop,
+    W: Write + Drop,
+    requires opener { O.IsAlwaysCallable opener }
+    requires workers { (1 ≤ workers) × (workers ≤ 16) }
+    ensures served { Serves (FnReturnsAt O.Fn opener) F.remaining W.contents (Check table.entry policy.entry workers on_accept) out result }
+    ensures exit { status_of result ≤ 2 }
+{
+    let table = opener(table);
+    let policy = opener(policy);
+    check_on(
+        rt,
+        rt.alloc(),
+        table,
+        policy,
+        on_accept,
+        workers,
+        &Open,
+        out,
+    )
+    .0
+}
+
+/// Verifies the certificate of this name with the table and the policy of these names.
+fn serve_verify<R, F, O, W>(
+    rt: &R,
+    table: &str,
+    policy: &str,
+    certificate: &str,
+    opener: O,
+    out: W,
+) -> End
+where
+    R: AllocGlobal + Threads + Sync,
+    F: Read + Drop,
+    O: Fn(&str) -> io::Result<F> + Drop,
+    W: Write + Drop,
+    requires { O.IsAlwaysCallable opener }
+    ensures served { Serves (FnReturnsAt O.Fn opener) F.remaining W.contents (Verify table.entry policy.entry certificate.entry) out result }
+    ensures exit { status_of result ≤ 2 }
+{
+    let table = opener(table);
+    let policy = opener(policy);
+    let certificate = opener(certificate);
+    verify_on(rt, rt.alloc(), table, policy, certificate, out).0
+}
+
+/// Runs the script of this name on the table and the policy of these names.
+fn serve_run<R, F, O, W>(rt: &R, table: &str, policy: &str, script: &str, opener: O, out: W) -> End
+where
+    R: AllocGlobal + Threads + Sync,
+    F: Read + Drop,
+    O: Fn(&str) -> io::Result<F> + Drop,
+    W: Write + Drop,
+    requires { O.IsAlwaysCallable opener }
+    ensures served { Serves (FnReturnsAt O.Fn opener) F.remaining W.contents (Run table.entry policy.entry script.entry) out result }
+    ensures exit { status_of result ≤ 2 }
+{
+    let table = opener(table);
+    let policy = opener(policy);
+    let script = opener(script);
+    run_on(rt, rt.alloc(), table, policy, script, out).0
 }
 
 /// Says on standard error why there is no answer, where there is none; gives the exit status. That

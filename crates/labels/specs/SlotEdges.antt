@@ -37,5 +37,9 @@ abbrev pub pair_edges : Layout → SlotRef → Option SlotRef → List Edge
 pair_edges t slot (Some parent) = edge_between (declared_label t parent.holder) (declared_label t slot.holder) Derive
 pair_edges t slot None = []
 
+-- what a slot gives with this in it
+abbrev pub edges_with : Layout → SlotRef → Option Cap → List Edge
+edges_with t slot held = cap_edges t slot held ++ pair_edges t slot (initial_parent t slot)
+
 abbrev pub slot_edges_of : Layout → SlotRef → List Edge
-slot_edges_of t slot = cap_edges t slot (initial_cap t slot) ++ pair_edges t slot (initial_parent t slot)
+slot_edges_of t slot = edges_with t slot (initial_cap t slot)

@@ -2,12 +2,12 @@ ghost use Rattle.std.specs.Prelude.{◌≡◌, ◌++◌, IfErr, IfOk, OnOk, filt
 ghost use Rattle.base.specs.declared.kind.TheConstants.Kind as Kinds;
 ghost use Rattle.base.specs.Refusals.{out_of_memory};
 ghost use Rattle.machine.specs.Capabilities.{gives};
-ghost use Rattle.machine.specs.Layout.{declared_label};
-ghost use Rattle.labels.specs.SlotEdges.{slot_edges_of, cap_edges, edge_between};
+ghost use Rattle.machine.specs.Layout.{declared_label, initial_parent};
+ghost use Rattle.labels.specs.SlotEdges.{slot_edges_of, edges_with, cap_edges, pair_edges, edge_between};
 
 use crate::label::declared_label;
 use base::{Edge, Kind, ObjId, Refusal, SlotRef};
-use machine::{Cap, ObjectKind};
+use machine::{Cap, Filled, ObjectKind};
 use std::alloc::Global;
 use table::Table;
 
@@ -25,9 +25,22 @@ pub fn slot_edges(alloc: Global, table: &Table, slot: SlotRef) -> Result<Vec<Edg
     if let Some(held) = table.cap(slot) {
         push_given(&mut edges, table, slot, &held)?;
     }
-    if let Some(parent) = table.parent(slot) {
-        push_edge(&mut edges, table, parent.holder, Kind::Derive, slot.holder)?;
-    }
+    push_derived(&mut edges, table, slot)?;
+    Ok(edges)
+}
+
+/// The same of a slot whose capability is at hand.
+///
+/// # Errors
+///
+/// 40 where memory is refused.
+pub fn filled_edges(alloc: Global, table: &Table, filled: &Filled) -> Result<Vec<Edge>, Refusal>
+    ensures edges { IfOk result (λ edges. edges.items ≡ edges_with table.now filled.now.slot (Some filled.now.cap)) }
+    ensures memory { IfErr result (λ refusal. refusal ≡ out_of_memory) }
+{
+    let mut edges = Vec::new(alloc);
+    push_given(&mut edges, table, filled.slot, &filled.cap)?;
+    push_derived(&mut edges, table, filled.slot)?;
     Ok(edges)
 }
 
@@ -48,6 +61,17 @@ fn push_given(
     }
 }
 
+// Adds what the pair of the derivation tree whose child the slot is gives.
+fn push_derived(edges: &mut Vec<Edge>, table: &Table, slot: SlotRef) -> Result<(), Refusal>
+    ensures ok { OnOk result (edges.new.items ≡ edges.old.items ++ pair_edges table.now slot (initial_parent table.now slot)) }
+    ensures err { IfErr result (λ refusal. refusal ≡ out_of_memory) }
+{
+    if let Some(parent) = table.parent(slot) {
+        push_edge(edges, table, parent.holder, Kind::Derive, slot.holder)?;
+    }
+    Ok(())
+}
+
 // Adds an edge for each kind that the capability gives.
 fn push_kinds(
     edges: &mut Vec<Edge>,
@@ -59,7 +83,7 @@ fn push_kinds(
         OnOk result (edges.new.items ≡ edges.old.items ++ flat_map between (filter (gives held.now.detail) Kinds.ALL)) }
     ensures err { IfErr result (λ refusal. refusal ≡ out_of_memory) }
 {
-    for kind in &Kind::ALL {
+    for kind in held.detail.possible_kinds() {
         push_kind(edges, table, holder, *kind, held)?;
     }
     Ok(())

@@ -7,6 +7,6 @@ mod label;
 mod laws;
 
 pub use boot_authority::authority;
-pub use edges::slot_edges;
+pub use edges::{filled_edges, slot_edges};
 pub use label::{declared_label, label_of};
 pub use laws::slot_edges_are_authority;

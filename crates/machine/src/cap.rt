@@ -1,6 +1,7 @@
-ghost use Rattle.std.specs.Prelude.{◌≡◌, ◌<◌, ◌^◌};
+ghost use Rattle.std.specs.Prelude.{◌≡◌, ◌<◌, ◌^◌, filter};
 ghost use Rattle.base.specs.Kinds.{is_among};
 ghost use Rattle.base.specs.declared.kind.Kind.{Kind as KindOf};
+ghost use Rattle.base.specs.declared.kind.TheConstants.Kind.{ALL};
 ghost use Rattle.machine.specs.Capabilities.{kind_of_detail, gives};
 
 use crate::ObjectKind;
@@ -61,6 +62,28 @@ impl Detail {
             Detail::Context => ObjectKind::Context,
             Detail::Frame(_) => ObjectKind::Frame,
             Detail::Control => ObjectKind::Control,
+        }
+    }
+
+    /// The kinds of authority that such a capability may give from a slot of a CNode, in the order of
+    /// their numbers. Which of them it gives, its rights say.
+    pub fn possible_kinds(&self) -> &'static [Kind]
+        ensures { filter (gives self.now) result.now ≡ filter (gives self.now) ALL }
+    {
+        match self {
+            Detail::Untyped | Detail::CNode(_) | Detail::Tcb => &[Kind::Control],
+            Detail::Endpoint(_) => &[
+                Kind::Reset,
+                Kind::Send,
+                Kind::Receive,
+                Kind::Grant,
+                Kind::Call,
+            ],
+            Detail::Notification(_) => &[Kind::Reset, Kind::Notify, Kind::Await],
+            Detail::Frame(_) => &[Kind::Reset, Kind::Read, Kind::Write],
+            Detail::Reply => &[Kind::Reply],
+            Detail::Context => &[Kind::Context],
+            Detail::Control => &[Kind::SchedControl],
         }
     }
 }

@@ -1,16 +1,19 @@
 -- Slot by slot, the first denial of the least rule is the least place at all slots so far: slots rise, and each broken place of A1
 -- to A3 stands at one that is filled.
-use Rattle.std.proofs.Common.{◌≡◌, ℕ, ◌+◌, ◌⊎◌, ◌≤◌, ◌<◌, inl, inr, List, [], ◌∷◌, get_or, length, map, Option, Some, None, option_map, slice_get, refl, sym, ap, subst, ◌∙◌, arith}
+use Rattle.std.proofs.Common.{◌≡◌, ℕ, ◌+◌, ◌⊎◌, ◌≤◌, ◌<◌, inl, inr, List, [], ◌∷◌, option_map, get_or, length, map, Option, Some, None, slice_get, refl, sym, ap, subst, ◌∙◌, arith}
 use Rattle.std.specs.declared.cmp.Ordering.TheVariants.{Less}
 use Rattle.std.proofs.lemmas.Bool.{cases_order}
 use Rattle.std.proofs.lemmas.Cmp.{nat_list_cmp_total}
-use Rattle.std.proofs.lemmas.Option.{none-some, same_Some, slice_get-map, slice_get_within, get_or_from_slice_get}
+use Rattle.std.proofs.lemmas.List.{get_or-map}
+use Rattle.std.specs.Option.{option_and_then}
+use Rattle.base.specs.declared.edge.Edge.{Edge}
+use Rattle.std.proofs.lemmas.Option.{same_Some, slice_get_within, get_or_from_slice_get}
 use Rattle.base.specs.declared.ids.SlotRef.{SlotRef}
 use Rattle.base.specs.Kinds.{kind_number}
 use Rattle.machine.specs.declared.cap.Cap.{Cap}
 use Rattle.machine.specs.declared.layout.Filled.{Filled}
 use Rattle.machine.specs.Layout.{Layout, initial_cap}
-use Rattle.machine.specs.Machine.{slot_cmp}
+use Rattle.machine.specs.Machine.{same_slot, slot_cmp}
 use Rattle.policy.specs.Domain.{EdgeTest}
 use Rattle.policy.specs.Places.{ComesBefore, FindsLeast}
 use Rattle.table.specs.Rules.{IsLawful}
@@ -18,9 +21,14 @@ use Rattle.table.specs.Tree.{IsPairOf}
 use Rattle.verdict.specs.declared.denial.Denial.{Denial}
 use Rattle.verdict.specs.declared.denial.Denial.TheVariants as denial
 use Rattle.verdict.specs.Rules.{a1, a2, a3, a4}
-use Rattle.verdict.specs.Slots.{BreaksSlots, rule_of, slot_denial, slot_rule}
+use Rattle.labels.specs.SlotEdges.{edges_with}
+use Rattle.machine.proofs.LookUps.{slot_total}
+use Rattle.std.specs.Cmp.{tied_itself}
+use Rattle.std.specs.List.{find}
+use Rattle.std.specs.Ordering.{is_eq}
+use Rattle.verdict.specs.Slots.{is_missing, BreaksSlots, denial_by, missing_edge, rule_of, slot_rule}
 use Rattle.verdict.specs.Verdict.{place_of}
-use Rattle.table.proofs.Lookups.{filled_at, parent_at, pair_at}
+use Rattle.table.proofs.Lookups.{filled_at, found_first, parent_at, pair_at}
 use Rattle.verdict.proofs.RuleOrder.{before_by_rule, never_both}
 use Rattle.verdict.proofs.SlotPlaces.{BreaksAt, IsAt, slot_least}
 
@@ -71,28 +79,27 @@ rule_after one other of_one of_other not_before = elim (cases_order (slot_rule o
 ]
 
 module _ (t : Layout) (allowed : EdgeTest) where
-  abbrev denial_at : Filled → Option Denial
-  denial_at filled = slot_denial t allowed filled.slot
+  -- a filled slot holds its capability
+  held_here : IsLawful t → (n : ℕ) (filled : Filled) → slice_get t.caps n ≡ Some filled → initial_cap t filled.slot ≡ Some filled.cap
+  unfolding initial_cap
+  held_here lawful n filled here =
+      ap (option_map (λ (f : Filled). f.cap))
+      (found_first (λ (f : Filled). same_slot f.slot filled.slot) t.caps n filled here (ap is_eq (tied_itself slot_total filled.slot))
+      (λ i other lt at. ap is_eq
+      (pair_at (λ (one two : Filled). slot_cmp one.slot two.slot ≡ Less) t.caps i n other filled lawful.draft.caps.rise lt at here)))
 
-  -- where what is denied at each slot is found, one of the list is the least at its slot
-  pub slot_at :
-      (found : List (Option Denial)) → found ≡ map denial_at t.caps → (k : ℕ) (denied : Option Denial)
-      → slice_get found k ≡ Some denied
-      → (filled : Filled) × (slice_get t.caps k ≡ Some filled) × FindsLeast place_of (BreaksAt t allowed filled.slot) denied
-  slot_at found same k denied at = by (slice_get t.caps k) refl where
-    is : option_map denial_at (slice_get t.caps k) ≡ Some denied
-    is = sym (ap (λ xs. slice_get xs k) same ∙ slice_get-map denial_at t.caps k) ∙ at
-
-    by :
-        (filled : Option Filled) → slice_get t.caps k ≡ filled
-        → (filled : Filled) × (slice_get t.caps k ≡ Some filled) × FindsLeast place_of (BreaksAt t allowed filled.slot) denied
-    by None none = absurd (none-some denied (ap (option_map denial_at) (sym none) ∙ is))
-    by (Some filled) here = (
-      filled,
-      here,
-      subst (FindsLeast place_of (BreaksAt t allowed filled.slot))
-          (same_Some (denial_at filled) denied (ap (option_map denial_at) (sym here) ∙ is)) (slot_least t allowed filled.slot),
-    )
+  -- where the edge that is missing at each slot is told, what is denied by one of them is the least at its slot
+  pub least_at :
+      IsLawful t → (missing : List (Option Edge)) → missing ≡ map (missing_edge t allowed) t.caps
+      → (n : ℕ) (filled : Filled) → slice_get t.caps n ≡ Some filled → (edge : Option Edge) → edge ≡ get_or missing n edge
+      → FindsLeast place_of (BreaksAt t allowed filled.slot) (option_and_then (λ edge. denial_by t filled.slot edge.kind edge.to) edge)
+  least_at lawful missing same n filled here edge is =
+      let at : Filled → Option Edge = missing_edge t allowed in
+      subst (λ edge. FindsLeast place_of (BreaksAt t allowed filled.slot) (option_and_then (λ edge. denial_by t filled.slot edge.kind edge.to) edge))
+      (sym (is ∙ ap (λ edges. get_or edges n edge) same ∙ get_or-map at t.caps n filled edge (slice_get_within t.caps n filled here)
+      ∙ ap at (get_or_from_slice_get t.caps n filled filled here)
+      ∙ ap (λ held. find (is_missing allowed) (edges_with t filled.slot held)) (sym (held_here lawful n filled here))))
+      (slot_least t allowed filled.slot)
 
   -- broken at one of the first filled slots
   pub record BrokenAmong (n : ℕ) (d : Denial) : Type 0 where

@@ -6,7 +6,8 @@ use Rattle.base.specs.declared.edge.Edge.{Edge}
 use Rattle.base.specs.declared.ids.SlotRef.{SlotRef}
 use Rattle.base.specs.declared.kind.Kind.{Kind}
 use Rattle.base.specs.declared.kind.Kind.TheVariants.{Space, Derive}
-use Rattle.labels.specs.SlotEdges.{slot_edges_of}
+use Rattle.labels.specs.SlotEdges.{edges_with, slot_edges_of}
+use Rattle.machine.specs.declared.layout.Filled.{Filled}
 use Rattle.machine.specs.Layout.{Layout, initial_parent}
 use Rattle.policy.specs.Domain.{EdgeTest}
 use Rattle.verdict.specs.declared.denial.Denial.{Denial}
@@ -27,6 +28,10 @@ denial_by t slot kind label = Some (denial.Capability slot kind label)
 abbrev pub slot_denial : Layout → EdgeTest → SlotRef → Option Denial
 slot_denial t allowed slot =
     option_and_then (λ edge. denial_by t slot edge.kind edge.to) (find (is_missing allowed) (slot_edges_of t slot))
+
+-- the first edge that the policy doesn't have, of those that a slot gives with this capability
+abbrev pub missing_edge : Layout → EdgeTest → Filled → Option Edge
+missing_edge t allowed filled = find (is_missing allowed) (edges_with t filled.slot (Some filled.cap))
 
 -- the number of the rule by which a slot is denied
 abbrev pub slot_rule : Denial → ℕ

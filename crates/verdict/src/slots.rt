@@ -1,15 +1,16 @@
-ghost use Rattle.std.specs.Prelude.{◌≡◌, ◌≤◌, IfErr, IfOk};
+ghost use Rattle.std.specs.Prelude.{◌≡◌, ◌≤◌, IfErr, IfOk, map};
 ghost use Rattle.std.specs.List.{find};
+ghost use Rattle.std.specs.Option.{option_and_then};
 ghost use Rattle.base.specs.Refusals.{out_of_memory};
 ghost use Rattle.policy.specs.Places.{FindsLeast};
 ghost use Rattle.policy.specs.Policy.{allows};
-ghost use Rattle.verdict.specs.Slots.{denial_by, is_missing, rule_of, slot_denial, BreaksSlots};
+ghost use Rattle.verdict.specs.Slots.{denial_by, is_missing, missing_edge, rule_of, BreaksSlots};
 ghost use Rattle.verdict.specs.Verdict.{place_of};
 
 use crate::Denial;
 use base::{Edge, Kind, Refusal, SlotRef};
 use deal::{Gate, Work, shares};
-use labels::slot_edges;
+use labels::filled_edges;
 use machine::Filled;
 use policy::Policy;
 use std::alloc::Global;
@@ -35,14 +36,8 @@ pub fn first_at_slots<R: Threads + Sync, G: Gate + Sync>(
         table,
         policy,
     };
-    let found = shares(rt, alloc, table.caps(), workers, gate, &check)?;
-    let mut first = None;
-    for denial in &found {
-        if rule_of(denial) < rule_of(&first) {
-            first = *denial;
-        }
-    }
-    Ok(first)
+    let missing = shares(rt, alloc, table.caps(), workers, gate, &check)?;
+    Ok(check.first_denial(&missing))
 }
 
 // The check of a filled slot: of its capability by A1 or A2, and of the pair whose child it is by A3.
@@ -53,17 +48,32 @@ struct SlotCheck<'a> {
     policy: &'a Policy,
 }
 
+impl SlotCheck<'_> {
+    // The first denial of the least rule, where these are the edges that are missing at the filled slots.
+    fn first_denial(&self, missing: &[Option<Edge>]) -> Option<Denial>
+        requires { missing.now ≡ map (missing_edge self.now.table.now (allows self.now.policy.now)) self.now.table.now.caps }
+        ensures { FindsLeast place_of (BreaksSlots self.now.table.now (allows self.now.policy.now)) result }
+    {
+        let caps = self.table.caps();
+        let mut first = None;
+        for index in 0..caps.len() {
+            let denial = denial_of(self.table, &caps[index], missing[index]);
+            if rule_of(&denial) < rule_of(&first) {
+                first = denial;
+            }
+        }
+        first
+    }
+}
+
 impl<'a> Work<Filled> for SlotCheck<'a> {
-    type Out = Option<Denial>;
+    type Out = Option<Edge>;
 
-    ghost answer = { λ check filled. slot_denial check.table.now (allows check.policy.now) filled.slot };
+    ghost answer = { λ check filled. missing_edge check.table.now (allows check.policy.now) filled };
 
-    fn of(&self, filled: &Filled) -> Result<Option<Denial>, Refusal> {
-        let edges = slot_edges(self.alloc, self.table, filled.slot)?;
-        let Some(edge) = first_missing(self.policy, &edges) else {
-            return Ok(None);
-        };
-        Ok(denial_of(self.table, filled.slot, edge))
+    fn of(&self, filled: &Filled) -> Result<Option<Edge>, Refusal> {
+        let edges = filled_edges(self.alloc, self.table, filled)?;
+        Ok(first_missing(self.policy, &edges))
     }
 }
 
@@ -74,10 +84,12 @@ fn first_missing(policy: &Policy, edges: &[Edge]) -> Option<Edge>
     edges.iter().find(|edge| !policy.has(**edge)).copied()
 }
 
-// What is denied where a slot gives this edge, and the policy doesn't have it.
-fn denial_of(table: &Table, slot: SlotRef, edge: Edge) -> Option<Denial>
-    ensures { result ≡ denial_by table.now slot edge.kind edge.to }
+// What is denied where a filled slot gives an edge that the policy doesn't have.
+fn denial_of(table: &Table, filled: &Filled, missing: Option<Edge>) -> Option<Denial>
+    ensures { result ≡ option_and_then (λ edge. denial_by table.now filled.now.slot edge.kind edge.to) missing }
 {
+    let slot = filled.slot;
+    let edge = missing?;
     match edge.kind {
         Kind::Space => Some(Denial::Root {
             slot,

@@ -1,5 +1,4 @@
 use Rattle.std.proofs.Common.{◌≡◌, ◌++◌, take, filter, flat_map}
-use Rattle.base.specs.declared.kind.TheConstants.Kind as Kinds
 use Rattle.machine.specs.Capabilities.{gives}
 use Rattle.machine.specs.Layout.{declared_label}
 use Rattle.labels.specs.SlotEdges.{edge_between}
@@ -11,4 +10,4 @@ invariant-loop-kind l =
     l.edges.items
     ≡ l.fn.edges.items
     ++ flat_map (edge_between (declared_label l.table l.holder) (declared_label l.table l.held.object))
-    (filter (gives l.held.detail) (take l.kind-index Kinds.ALL))
+    (filter (gives l.held.detail) (take l.kind-index l.kind-items))
