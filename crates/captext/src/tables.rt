@@ -1,4 +1,4 @@
-ghost use Rattle.std.specs.Prelude.{◌≡◌, ◌≢◌, ◌↔◌, ℕ, List, Ok, Err, IfOk, IfErr, MatchResult, OnErr};
+ghost use Rattle.std.specs.Prelude.{◌≡◌, ◌≢◌, ◌<◌, ◌+◌, ◌^◌, ◌↔◌, ℕ, length, List, Ok, Err, IfOk, IfErr, MatchResult, OnErr};
 ghost use Rattle.captext.specs.Tables as tables;
 ghost use Rattle.captext.specs.TableText.{table_text, IsLineOf};
 ghost use Rattle.machine.specs.Layout.{Layout};
@@ -46,13 +46,22 @@ fn grown(draft: Draft) -> Result<Table, u64>
         (λ table. tables.grown draft ≡ Ok table)
         (λ line. tables.grown draft ≡ Err (line, Tree)) }
 {
-    let before = draft.label_count() + draft.object_count() + draft.caps().len();
-    // The pairs are in memory, so that no pair's number is too large to count its line.
-    let _pairs = draft.pairs().len();
+    let first = first_pair_line(&draft);
     match draft.into_table() {
         Ok(table) => Ok(table),
-        Err(number) => Err((number + 2 + before) as u64),
+        Err(number) => Err(first + number as u64),
     }
+}
+
+/// The line of the first pair of the derivation tree.
+fn first_pair_line(draft: &Draft) -> u64
+    ensures line { result ≡ tables.pair_line draft.now 0 }
+    ensures room { result + length draft.now.pairs < 2 ^ 64 }
+{
+    // The pairs are in memory, so that the number of each one's line fits.
+    let _ = draft.pairs();
+    let before = draft.label_count() + draft.object_count() + draft.caps().len();
+    (before + 2) as u64
 }
 
 /// Reads the text of a capability table, by the definition alone.

@@ -3,6 +3,8 @@ ghost use Rattle.std.specs.List.{list_any};
 ghost use Rattle.std.specs.Option.{option_copied};
 ghost use Rattle.machine.specs.Layout.{empty_layout, initial_of, bound_thread};
 ghost use Rattle.machine.specs.Objects.{end_of};
+ghost use Rattle.base.specs.declared.label.TheConstants.Label as LabelLimits;
+ghost use Rattle.base.specs.declared.limits.TheConstants.{MAX_OBJECTS};
 ghost use Rattle.table.specs.Names.{label_named, object_named};
 ghost use Rattle.table.specs.Rules.{kind_at, is_control_of, IsLawful};
 ghost use Rattle.table.specs.Tree.{tree_fault, with_originals};
@@ -78,7 +80,8 @@ impl Draft {
 
     /// How many labels there are, at most [`Label::COUNT`].
     pub fn label_count(&self) -> usize
-        ensures { result ≡ length self.now.labels }
+        ensures count { result ≡ length self.now.labels }
+        ensures limit { result ≤ LabelLimits.COUNT }
     {
         self.labels.len()
     }
@@ -102,7 +105,8 @@ impl Draft {
 
     /// How many objects there are, at most [`MAX_OBJECTS`].
     pub fn object_count(&self) -> usize
-        ensures { result ≡ length self.now.objects }
+        ensures count { result ≡ length self.now.objects }
+        ensures limit { result ≤ MAX_OBJECTS }
     {
         self.objects.as_slice().len()
     }

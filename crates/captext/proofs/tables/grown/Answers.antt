@@ -6,7 +6,3 @@ use Rattle.captext.proofs.tables.grown.Goals as goal
 pub overflow_add-result : goal.overflow_add-result
 overflow_add-result c =
     let within = fault_within c.args.draft c.in-Err.number c.in-Err.ensures.err in search rules
-
-pub overflow_add-result-in-Err : goal.overflow_add-result-in-Err
-overflow_add-result-in-Err c =
-    let within = fault_within c.args.draft c.in-Err.number c.in-Err.ensures.err in search rules
