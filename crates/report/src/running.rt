@@ -155,6 +155,3 @@ fn log_of_run(alloc: Global, table: &Table, events: &[Event]) -> Result<Vec<u8>,
     kernel::run(&mut state, events, &mut outcomes)?;
     write_run(alloc, events, &outcomes)
 }
-
-#[cfg(test)]
-mod tests;
