@@ -7,7 +7,7 @@ ghost use Rattle.policy.specs.Search.{FindsBroken};
 
 use super::Broken;
 use super::cells::first_cell;
-use super::steps::{domain, is_in_domain, may_be_granted, reached, reaching, subjects};
+use super::steps::{domain, is_in_domain, may_be_granted, subjects};
 use crate::Policy;
 use base::{Kind, Label, Labels};
 
@@ -114,11 +114,11 @@ pub(crate) fn domain_lacks(policy: &Policy, parent: Label) -> Option<Broken>
 pub(crate) fn derive_lacks(policy: &Policy, parent: Label) -> Option<Broken>
     ensures { FindsBroken (allows policy.now) (p5 ∷ parent ∷ []) result }
 {
-    let endpoints = reached(policy, subjects(policy, parent), Kind::Grant);
-    let granted = domain(policy, reaching(policy, Kind::Receive, endpoints));
+    let endpoints = policy.targets(subjects(policy, parent), &[Kind::Grant]);
+    let granted = domain(policy, policy.sources(endpoints, &[Kind::Receive]));
     let derived = policy.row(parent, Kind::Derive);
     let child = granted
-        .union(reached(policy, derived, Kind::Derive))
+        .union(policy.targets(derived, &[Kind::Derive]))
         .difference(derived)
         .first()?;
     Some(Broken::DeriveLacks { parent, child })
@@ -139,8 +139,9 @@ pub(crate) fn context_lacks(policy: &Policy, subject: Label) -> Option<Broken>
 pub(crate) fn reply_lacks(policy: &Policy, reply: Label) -> Option<Broken>
     ensures { FindsBroken (allows policy.now) (p7 ∷ reply ∷ []) result }
 {
-    let servers = reaching(policy, Kind::Reply, Labels::only(reply));
-    let callers = reaching(policy, Kind::Call, reached(policy, servers, Kind::Receive));
+    let servers = policy.sources(Labels::only(reply), &[Kind::Reply]);
+    let endpoints = policy.targets(servers, &[Kind::Receive]);
+    let callers = policy.sources(endpoints, &[Kind::Call]);
     let thread = servers
         .union(callers)
         .difference(policy.row(reply, Kind::Holds))

@@ -12,8 +12,8 @@ use Rattle.policy.proofs.broken.rules.derive_lacks.Goals as goal
 pub returns-in_err-child : goal.returns-in_err-child
 returns-in_err-child c =
     let test = allows c.args.policy.now in
-    let told = derive_told test c.args.parent _ _ _ _ _ _ _ _ c.subjects.ensures c.reached-endpoints.ensures c.reaching.ensures c.domain-granted.ensures
-    c.row-derived.ensures c.reached.ensures c.union.ensures c.difference.ensures in
+    let told = derive_told test c.args.parent _ _ _ _ _ _ _ _ c.subjects.ensures c.targets-endpoints.ensures c.sources.ensures c.domain-granted.ensures
+    c.row-derived.ensures c.targets.ensures c.union.ensures c.difference.ensures in
     rw c.from_residual.ensures
     (least_target test (p5 ∷ c.args.parent ∷ []) (kind_number Derive) (broken.DeriveLacks c.args.parent) (derivations test c.args.parent)
     c.difference.result told None tt c.in_err-child.ensures.none)
@@ -21,7 +21,7 @@ returns-in_err-child c =
 pub returns : goal.returns
 returns c =
     let test = allows c.args.policy.now in
-    let told = derive_told test c.args.parent _ _ _ _ _ _ _ _ c.subjects.ensures c.reached-endpoints.ensures c.reaching.ensures c.domain-granted.ensures
-    c.row-derived.ensures c.reached.ensures c.union.ensures c.difference.ensures in
+    let told = derive_told test c.args.parent _ _ _ _ _ _ _ _ c.subjects.ensures c.targets-endpoints.ensures c.sources.ensures c.domain-granted.ensures
+    c.row-derived.ensures c.targets.ensures c.union.ensures c.difference.ensures in
     least_target test (p5 ∷ c.args.parent ∷ []) (kind_number Derive) (broken.DeriveLacks c.args.parent) (derivations test c.args.parent)
     c.difference.result told (Some c.in_ok-child.child) c.in_ok-child.ensures.some tt

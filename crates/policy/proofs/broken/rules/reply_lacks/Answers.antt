@@ -12,7 +12,7 @@ use Rattle.policy.proofs.broken.rules.reply_lacks.Goals as goal
 pub returns-in_err-thread : goal.returns-in_err-thread
 returns-in_err-thread c =
     let test = allows c.args.policy.now in
-    let told = reply_told test c.args.reply _ _ _ _ _ _ _ c.only.ensures c.reaching-servers.ensures c.reached.ensures c.reaching-callers.ensures
+    let told = reply_told test c.args.reply _ _ _ _ _ _ _ c.only.ensures c.sources-servers.ensures c.targets-endpoints.ensures c.sources-callers.ensures
     c.union.ensures c.row.ensures c.difference.ensures in
     rw c.from_residual.ensures
     (least_target test (p7 ∷ c.args.reply ∷ []) (kind_number Holds) (broken.ReplyLacks c.args.reply) (replies test c.args.reply)
@@ -21,7 +21,7 @@ returns-in_err-thread c =
 pub returns : goal.returns
 returns c =
     let test = allows c.args.policy.now in
-    let told = reply_told test c.args.reply _ _ _ _ _ _ _ c.only.ensures c.reaching-servers.ensures c.reached.ensures c.reaching-callers.ensures
+    let told = reply_told test c.args.reply _ _ _ _ _ _ _ c.only.ensures c.sources-servers.ensures c.targets-endpoints.ensures c.sources-callers.ensures
     c.union.ensures c.row.ensures c.difference.ensures in
     least_target test (p7 ∷ c.args.reply ∷ []) (kind_number Holds) (broken.ReplyLacks c.args.reply) (replies test c.args.reply)
     c.difference.result told (Some c.in_ok-thread.thread) c.in_ok-thread.ensures.some tt
