@@ -3,7 +3,6 @@ pub mod OneVerdict
 pub mod SlotPlaces
 pub mod BindingPlaces
 pub mod LeastOfSlots
-pub mod Closed
 pub mod Walks
 pub mod ObjectLabels
 pub mod Reach
