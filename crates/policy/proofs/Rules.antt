@@ -1,11 +1,11 @@
 -- What each rule's places are made of.
 use Rattle.std.proofs.Common.{◌≡◌, ℕ, List, [], ◌∷◌, refl, sym, arith}
 use Rattle.base.specs.declared.kind.Kind.{Kind}
-use Rattle.base.specs.declared.kind.Kind.TheVariants.{Derive, Runs, Holds}
+use Rattle.base.specs.declared.kind.Kind.TheVariants.{Derive, Holds}
 use Rattle.base.specs.Kinds.{kind_number}
 use Rattle.policy.specs.declared.broken.Broken.{Broken}
 use Rattle.policy.specs.declared.broken.Broken.TheVariants as broken
-use Rattle.policy.specs.Broken.{IsBrokenAt, broken_place, p1, p2, p3, p4, p5, p6, p7}
+use Rattle.policy.specs.Broken.{IsBrokenAt, broken_place, p1, p2, p3, p4, p5, p7}
 use Rattle.policy.specs.Domain.{EdgeTest}
 use Rattle.policy.specs.Places.{IsUnder}
 use Rattle.policy.proofs.Cells.{IsMadeOf, of_cell, of_target}
@@ -48,13 +48,6 @@ module _ (test : EdgeTest) where
   derivations parent = record { of = of; placed = λ child. refl } where
     of : (b : Broken) → IsUnderAll (p5 ∷ parent ∷ []) b → (child : ℕ) × (b ≡ broken.DeriveLacks parent child)
     of (broken.DeriveLacks p child) h = (child, λ i. broken.DeriveLacks (sym h.0.1.0 i) child)
-    of _ h = absurd (omega (arith, h.0.0))
-
-  -- P6
-  pub contexts : (subject : ℕ) → IsMadeOf test (p6 ∷ subject ∷ []) (broken.ContextLacks subject) (of_target (kind_number Runs))
-  contexts subject = record { of = of; placed = λ context. refl } where
-    of : (b : Broken) → IsUnderAll (p6 ∷ subject ∷ []) b → (context : ℕ) × (b ≡ broken.ContextLacks subject context)
-    of (broken.ContextLacks s context) h = (context, λ i. broken.ContextLacks (sym h.0.1.0 i) context)
     of _ h = absurd (omega (arith, h.0.0))
 
   -- P7
