@@ -19,7 +19,6 @@ pub mod AtBoot
 pub mod Gains
 pub mod Losses
 pub mod Reasons
-pub mod BootState
 pub mod SmallSystem
 pub mod Unallowed
 pub mod Unsafe
