@@ -1,14 +1,17 @@
 -- What each rule's places are made of.
-use Rattle.std.proofs.Common.{◌≡◌, ℕ, List, [], ◌∷◌, refl, sym, arith}
+use Rattle.std.proofs.Common.{◌≡◌, ℕ, List, [], ◌∷◌, Option, IfNone, IfSome, refl, sym, arith}
+use Rattle.std.specs.Option.{option_map}
 use Rattle.base.specs.declared.kind.Kind.{Kind}
 use Rattle.base.specs.declared.kind.Kind.TheVariants.{Derive, Holds}
+use Rattle.base.specs.declared.labels.Labels.{Labels}
 use Rattle.base.specs.Kinds.{kind_number}
 use Rattle.policy.specs.declared.broken.Broken.{Broken}
 use Rattle.policy.specs.declared.broken.Broken.TheVariants as broken
 use Rattle.policy.specs.Broken.{IsBrokenAt, broken_place, p1, p2, p3, p4, p5, p7}
 use Rattle.policy.specs.Domain.{EdgeTest}
 use Rattle.policy.specs.Places.{IsUnder}
-use Rattle.policy.proofs.Cells.{IsMadeOf, of_cell, of_target}
+use Rattle.policy.specs.Search.{FindsBroken, IsLeastIn, IsNobody}
+use Rattle.policy.proofs.Cells.{AreTold, IsMadeOf, least_target, of_cell, of_target}
 
 module _ (test : EdgeTest) where
   abbrev IsUnderAll : List ℕ → Broken → Type 0
@@ -36,23 +39,26 @@ module _ (test : EdgeTest) where
     of (broken.GrantLacks g t kind target) h = ((kind, target), λ i. broken.GrantLacks (sym h.0.1.0 i) (sym h.0.1.1.0 i) kind target)
     of _ h = absurd (omega (arith, h.0.0))
 
-  -- P4
-  pub domains : (parent : ℕ) → IsMadeOf test (p4 ∷ parent ∷ []) (broken.DomainLacks parent) (of_target (kind_number Derive))
-  domains parent = record { of = of; placed = λ child. refl } where
-    of : (b : Broken) → IsUnderAll (p4 ∷ parent ∷ []) b → (child : ℕ) × (b ≡ broken.DomainLacks parent child)
-    of (broken.DomainLacks p child) h = (child, λ i. broken.DomainLacks (sym h.0.1.0 i) child)
-    of _ h = absurd (omega (arith, h.0.0))
-
   -- P5
-  pub derivations : (parent : ℕ) → IsMadeOf test (p5 ∷ parent ∷ []) (broken.DeriveLacks parent) (of_target (kind_number Derive))
+  derivations : (parent : ℕ) → IsMadeOf test (p5 ∷ parent ∷ []) (broken.DeriveLacks parent) (of_target (kind_number Derive))
   derivations parent = record { of = of; placed = λ child. refl } where
     of : (b : Broken) → IsUnderAll (p5 ∷ parent ∷ []) b → (child : ℕ) × (b ≡ broken.DeriveLacks parent child)
     of (broken.DeriveLacks p child) h = (child, λ i. broken.DeriveLacks (sym h.0.1.0 i) child)
     of _ h = absurd (omega (arith, h.0.0))
 
+  pub derive_found : (parent : ℕ) (labels : Labels) → AreTold test (p5 ∷ parent ∷ []) (broken.DeriveLacks parent) labels → (found : Option ℕ)
+      → IfSome found (IsLeastIn labels) → IfNone found (IsNobody labels)
+      → FindsBroken test (p5 ∷ parent ∷ []) (option_map (broken.DeriveLacks parent) found)
+  derive_found parent = least_target test (p5 ∷ parent ∷ []) (kind_number Derive) (broken.DeriveLacks parent) (derivations parent)
+
   -- P7
-  pub replies : (reply : ℕ) → IsMadeOf test (p7 ∷ reply ∷ []) (broken.ReplyLacks reply) (of_target (kind_number Holds))
+  replies : (reply : ℕ) → IsMadeOf test (p7 ∷ reply ∷ []) (broken.ReplyLacks reply) (of_target (kind_number Holds))
   replies reply = record { of = of; placed = λ thread. refl } where
     of : (b : Broken) → IsUnderAll (p7 ∷ reply ∷ []) b → (thread : ℕ) × (b ≡ broken.ReplyLacks reply thread)
     of (broken.ReplyLacks r thread) h = (thread, λ i. broken.ReplyLacks (sym h.0.1.0 i) thread)
     of _ h = absurd (omega (arith, h.0.0))
+
+  pub reply_found : (reply : ℕ) (labels : Labels) → AreTold test (p7 ∷ reply ∷ []) (broken.ReplyLacks reply) labels → (found : Option ℕ)
+      → IfSome found (IsLeastIn labels) → IfNone found (IsNobody labels)
+      → FindsBroken test (p7 ∷ reply ∷ []) (option_map (broken.ReplyLacks reply) found)
+  reply_found reply = least_target test (p7 ∷ reply ∷ []) (kind_number Holds) (broken.ReplyLacks reply) (replies reply)
