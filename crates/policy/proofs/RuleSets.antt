@@ -1,5 +1,5 @@
 -- The sets of labels at which P4, P5 and P7 are broken, as the search puts them together.
-use Rattle.std.proofs.Common.{◌≡◌, ◌≢◌, ℕ, ◌&&◌, ◌||◌, ◌==◌, ◌⊎◌, [], ◌∷◌, Bool, true, false, not, inl, inr, refl, sym, ◌∙◌, subst}
+use Rattle.std.proofs.Common.{◌≡◌, ℕ, ◌&&◌, ◌||◌, ◌==◌, ◌⊎◌, [], ◌∷◌, Bool, true, false, not, inl, inr, refl, sym, ◌∙◌, subst}
 use Rattle.std.specs.Prelude.{◌↔◌}
 use mathlib.Core.Bool.{false≢true}
 use Rattle.std.proofs.lemmas.Bool.{and_parts, or_cases, or_left, or_right, eqb-true, eq-eqb}
@@ -7,10 +7,9 @@ use Rattle.base.specs.declared.kind.Kind.{Kind}
 use Rattle.base.specs.declared.kind.Kind.TheVariants as kind
 use Rattle.base.specs.declared.kind.Kind.TheVariants.{Call, Derive, Grant, Receive, Reply}
 use Rattle.base.specs.declared.labels.Labels.{Labels}
-use Rattle.base.specs.Kinds.{is_structural}
 use Rattle.base.specs.Labels.{is_in}
 use Rattle.policy.specs.Closed.{MayBeGranted}
-use Rattle.policy.specs.Broken.{SubjectsDisagree, GrantLacks, DomainLacks, DeriveLacks, ReplyLacks, ComesToDerive, ComesToHold, granted, derived, server, caller}
+use Rattle.policy.specs.Broken.{DomainLacks, DeriveLacks, ReplyLacks, ComesToDerive, ComesToHold, granted, derived, server, caller}
 use Rattle.policy.specs.Domain.{EdgeTest, IsInDomain}
 use Rattle.policy.specs.Steps.{IsSource, IsTarget}
 use Rattle.policy.proofs.Stepping.{IsRow, only_kind, source_by, target_by}
@@ -135,23 +134,3 @@ reply_told test reply only servers endpoints callers row comes lacks in_only in_
   untold (caller b endpoint replies calls receives) =
       let received = (in_endpoints endpoint).1 (target_by test Receive servers b endpoint (is_server b replies) receives) in
       either thread ∙ or_right (is_in servers thread) (is_in callers thread) ((in_callers thread).1 (source_by test Call endpoints endpoint thread received calls))
-
--- P1, of labels that are in one domain
-pub disagree_told :
-    (test : EdgeTest) (subject other : ℕ) → IsInDomain test subject other → (kind : Kind) (labels : Labels)
-    → Holds labels (λ target. (is_structural kind ≡ false) × (test subject kind target ≢ test other kind target))
-    → Holds labels (λ target. SubjectsDisagree test subject other kind target)
-disagree_told test subject other domain kind labels told target = (
-  λ e. let h = (told target).0 e in record { domain = domain; of_use = h.0; differ = h.1 },
-  λ h. (told target).1 (h.of_use, h.differ),
-)
-
--- P3, of a label that may be granted the other's capabilities
-pub grant_told :
-    (test : EdgeTest) (giver taker : ℕ) → MayBeGranted test giver taker → (kind : Kind) (labels : Labels)
-    → Holds labels (λ target. (is_structural kind ≡ false) × (test giver kind target ≡ true) × (test taker kind target ≡ false))
-    → Holds labels (λ target. GrantLacks test giver taker kind target)
-grant_told test giver taker may kind labels told target = (
-  λ e. let h = (told target).0 e in record { granted = may; of_use = h.0; has = h.1; missing = h.2 },
-  λ h. (told target).1 (h.of_use, h.has, h.missing),
-)

@@ -1,43 +1,81 @@
 -- What each rule's places are made of.
-use Rattle.std.proofs.Common.{◌≡◌, ℕ, List, [], ◌∷◌, Option, IfNone, IfSome, refl, sym, arith}
+use Rattle.std.proofs.Common.{◌≡◌, ◌≢◌, ◌↔◌, ℕ, true, false, List, [], ◌∷◌, Option, IfNone, IfSome, refl, sym, arith}
 use Rattle.std.specs.Option.{option_map}
 use Rattle.base.specs.declared.kind.Kind.{Kind}
 use Rattle.base.specs.declared.kind.Kind.TheVariants.{Derive, Holds}
 use Rattle.base.specs.declared.labels.Labels.{Labels}
-use Rattle.base.specs.Kinds.{kind_number}
+use Rattle.base.specs.Kinds.{kind_number, is_structural}
+use Rattle.base.specs.Labels.{is_in}
 use Rattle.policy.specs.declared.broken.Broken.{Broken}
 use Rattle.policy.specs.declared.broken.Broken.TheVariants as broken
-use Rattle.policy.specs.Broken.{IsBrokenAt, broken_place, p1, p2, p3, p4, p5, p7}
-use Rattle.policy.specs.Domain.{EdgeTest}
+use Rattle.policy.specs.Broken.{ControlLacks, IsBrokenAt, broken_place, p1, p2, p3, p5, p7}
+use Rattle.policy.specs.Closed.{MayBeGranted}
+use Rattle.policy.specs.Domain.{EdgeTest, IsInDomain}
 use Rattle.policy.specs.Places.{IsUnder}
-use Rattle.policy.specs.Search.{FindsBroken, IsLeastIn, IsNobody}
-use Rattle.policy.proofs.Cells.{AreTold, IsMadeOf, least_target, of_cell, of_target}
+use Rattle.policy.specs.Search.{FindsBroken, FindsCell, IsLeastIn, IsNobody}
+use Rattle.policy.proofs.Cells.{AreTold, IsMadeOf, least_cell, least_target, of_cell, of_target}
+
+-- the labels that are given for each kind are those with a property
+abbrev Tells : (Kind → Labels → Type 0) → (Kind → ℕ → Type 0) → Type 0
+Tells gives Has = (kind : Kind) (labels : Labels) → gives kind labels → (label : ℕ) → (is_in labels label ≡ true) ↔ Has kind label
 
 module _ (test : EdgeTest) where
   abbrev IsUnderAll : List ℕ → Broken → Type 0
   IsUnderAll beginning b = IsUnder broken_place (IsBrokenAt test) beginning b
 
   -- P1
-  pub disagreements : (subject other : ℕ) → IsMadeOf test (p1 ∷ subject ∷ other ∷ []) (λ cell. broken.SubjectsDisagree subject other cell.0 cell.1) of_cell
+  disagreements : (subject other : ℕ) → IsMadeOf test (p1 ∷ subject ∷ other ∷ []) (λ cell. broken.SubjectsDisagree subject other cell.0 cell.1) of_cell
   disagreements subject other = record { of = of; placed = λ cell. refl } where
     of : (b : Broken) → IsUnderAll (p1 ∷ subject ∷ other ∷ []) b → (cell : Kind × ℕ) × (b ≡ broken.SubjectsDisagree subject other cell.0 cell.1)
     of (broken.SubjectsDisagree s o kind target) h =
         ((kind, target), λ i. broken.SubjectsDisagree (sym h.0.1.0 i) (sym h.0.1.1.0 i) kind target)
     of _ h = absurd (omega (arith, h.0.0))
 
+  pub disagreement_found :
+      (subject other : ℕ) → IsInDomain test subject other → (gives : Kind → Labels → Type 0)
+      → Tells gives (λ kind target. (is_structural kind ≡ false) × (test subject kind target ≢ test other kind target))
+      → (found known : Option (Kind × ℕ)) → FindsCell gives found → found ≡ known
+      → FindsBroken test (p1 ∷ subject ∷ other ∷ []) (option_map (λ cell. broken.SubjectsDisagree subject other cell.0 cell.1) known)
+  disagreement_found subject other domain gives tells =
+      least_cell test (p1 ∷ subject ∷ other ∷ []) (λ cell. broken.SubjectsDisagree subject other cell.0 cell.1) (disagreements subject other) gives
+      (λ kind labels given target.
+      let told = tells kind labels given target in (
+        λ e. let h = told.0 e in record { domain = domain; of_use = h.0; differ = h.1 },
+        λ h. told.1 (h.of_use, h.differ),
+      ))
+
   -- P2
-  pub controls : (subject : ℕ) → IsMadeOf test (p2 ∷ subject ∷ []) (λ cell. broken.ControlLacks subject cell.0 cell.1) of_cell
+  controls : (subject : ℕ) → IsMadeOf test (p2 ∷ subject ∷ []) (λ cell. broken.ControlLacks subject cell.0 cell.1) of_cell
   controls subject = record { of = of; placed = λ cell. refl } where
     of : (b : Broken) → IsUnderAll (p2 ∷ subject ∷ []) b → (cell : Kind × ℕ) × (b ≡ broken.ControlLacks subject cell.0 cell.1)
     of (broken.ControlLacks s kind object) h = ((kind, object), λ i. broken.ControlLacks (sym h.0.1.0 i) kind object)
     of _ h = absurd (omega (arith, h.0.0))
 
+  pub control_found :
+      (subject : ℕ) → (gives : Kind → Labels → Type 0) → Tells gives (ControlLacks test subject)
+      → (found known : Option (Kind × ℕ)) → FindsCell gives found → found ≡ known
+      → FindsBroken test (p2 ∷ subject ∷ []) (option_map (λ cell. broken.ControlLacks subject cell.0 cell.1) known)
+  control_found subject = least_cell test (p2 ∷ subject ∷ []) (λ cell. broken.ControlLacks subject cell.0 cell.1) (controls subject)
+
   -- P3
-  pub grants : (giver taker : ℕ) → IsMadeOf test (p3 ∷ giver ∷ taker ∷ []) (λ cell. broken.GrantLacks giver taker cell.0 cell.1) of_cell
+  grants : (giver taker : ℕ) → IsMadeOf test (p3 ∷ giver ∷ taker ∷ []) (λ cell. broken.GrantLacks giver taker cell.0 cell.1) of_cell
   grants giver taker = record { of = of; placed = λ cell. refl } where
     of : (b : Broken) → IsUnderAll (p3 ∷ giver ∷ taker ∷ []) b → (cell : Kind × ℕ) × (b ≡ broken.GrantLacks giver taker cell.0 cell.1)
     of (broken.GrantLacks g t kind target) h = ((kind, target), λ i. broken.GrantLacks (sym h.0.1.0 i) (sym h.0.1.1.0 i) kind target)
     of _ h = absurd (omega (arith, h.0.0))
+
+  pub grant_found :
+      (giver taker : ℕ) → MayBeGranted test giver taker → (gives : Kind → Labels → Type 0)
+      → Tells gives (λ kind target. (is_structural kind ≡ false) × (test giver kind target ≡ true) × (test taker kind target ≡ false))
+      → (found known : Option (Kind × ℕ)) → FindsCell gives found → found ≡ known
+      → FindsBroken test (p3 ∷ giver ∷ taker ∷ []) (option_map (λ cell. broken.GrantLacks giver taker cell.0 cell.1) known)
+  grant_found giver taker may gives tells =
+      least_cell test (p3 ∷ giver ∷ taker ∷ []) (λ cell. broken.GrantLacks giver taker cell.0 cell.1) (grants giver taker) gives
+      (λ kind labels given target.
+      let told = tells kind labels given target in (
+        λ e. let h = told.0 e in record { granted = may; of_use = h.0; has = h.1; missing = h.2 },
+        λ h. told.1 (h.of_use, h.has, h.missing),
+      ))
 
   -- P5
   derivations : (parent : ℕ) → IsMadeOf test (p5 ∷ parent ∷ []) (broken.DeriveLacks parent) (of_target (kind_number Derive))
