@@ -1,6 +1,6 @@
 -- The first line where two lists differ, and lists that never do.
-use Rattle.std.proofs.Common.{◌≡◌, ◌≢◌, ℕ, ◌+◌, ◌<◌, min, suc, inl, inr, List, [], ◌∷◌, length, get_or, Some, slice_get, refl, sym, ap, ◌∙◌, arith}
-use Rattle.std.proofs.lemmas.Option.{none-some, slice_get-get_or, slice_get_cases, slice_get_past}
+use Rattle.std.proofs.Common.{◌≡◌, ◌≢◌, ℕ, ◌+◌, ◌<◌, min, suc, inl, inr, List, [], ◌∷◌, length, slice_get, refl, sym, ◌∙◌, arith}
+use Rattle.std.proofs.lemmas.Option.{none-some, slice_get_cases, slice_get_past}
 use Rattle.base.specs.declared.edge.Edge.{Edge}
 use Rattle.machine.specs.Layout.{Layout}
 use Rattle.policy.specs.Policy.{allows}
@@ -9,28 +9,10 @@ use Rattle.verdict.specs.declared.denial.Denial.TheVariants as denial
 use Rattle.verdict.specs.Verdict.{IsLeastBroken}
 use Rattle.certificate.specs.declared.line.Line.{Line}
 use Rattle.certificate.specs.Verified.{DiffersFirst, IsDenied}
-use borrow.Author.Count.{below_more}
 
 -- lists agree below a place
 abbrev pub Agree : List Line → List Line → ℕ → Type 0
 Agree one other n = (k : ℕ) → k < n → slice_get one k ≡ slice_get other k
-
-pub agree_more : (one other : List Line) (n : ℕ) (d : Line) → n < length one → n < length other → get_or one n d ≡ get_or other n d
-    → Agree one other n → Agree one other (n + 1)
-agree_more one other n d first second same before =
-    below_more (λ k. slice_get one k ≡ slice_get other k) n before
-    (slice_get-get_or one n d first ∙ ap (λ line. Some line) same ∙ sym (slice_get-get_or other n d second))
-
-pub differ_here : (one other : List Line) (n : ℕ) (d : Line) → n < length one → n < length other → get_or one n d ≢ get_or other n d
-    → Agree one other n → DiffersFirst (n + 1) one other
-differ_here one other n d first second apart before = record {
-  before = n;
-  counted = refl;
-  agree = before;
-  differ = λ same. apart (some_same (sym (slice_get-get_or one n d first) ∙ same ∙ slice_get-get_or other n d second));
-} where
-  some_same : {X : Type 0} {x y : X} → Some x ≡ Some y → x ≡ y
-  some_same h = cc
 
 -- the first place past the shorter one
 pub differ_at_end : (one other : List Line) (n : ℕ) → n ≡ min (length one) (length other) → Agree one other n

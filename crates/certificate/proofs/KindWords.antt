@@ -1,13 +1,11 @@
 -- A word is read as a set of kinds just where it is the set's word: its names between commas are those of the set's kinds.
-use Rattle.std.proofs.Common.{◌≡◌, ◌≢◌, ℕ, ◌+◌, ◌-◌, ◌<◌, ◌^◌, ◌==◌, zero, suc, Bool, true, false, not, cond, nat_lt, List, [], ◌∷◌, ◌++◌, length, map, take, drop, position, Some, None, Result, Ok, Err, refl, sym, ap, subst, ◌∙◌, ltb-true, ltb-false, lt-ltb, lit<, codes, arith, append_assoc}
+use Rattle.std.proofs.Common.{◌≡◌, ◌≢◌, ℕ, ◌+◌, ◌-◌, ◌<◌, ◌^◌, ◌==◌, zero, suc, Bool, true, false, nat_lt, List, [], ◌∷◌, ◌++◌, length, map, take, drop, position, Some, None, Result, Ok, Err, refl, sym, ap, subst, ◌∙◌, ltb-true, lt-ltb, lit<, codes, arith, append_assoc}
 use denote.Shadow.{shadow}
 use denote.Text.{Utf8}
-use Rattle.std.specs.List.{slice_split, onto_first, position_or_len, join_with_byte, list_all}
-use Rattle.std.proofs.lemmas.Bool.{and_parts, cond-false, not-true}
-use Rattle.std.proofs.lemmas.List.{append-nil, map-append, take_rest}
-use Rattle.std.proofs.lemmas.List.Splits.{join_with_byte-slice_split, slice_split_first, slice_split_none}
-use Rattle.std.proofs.lemmas.List.Sums.{fails_before_first}
-use Rattle.std.proofs.lemmas.Option.{none-some}
+use Rattle.std.specs.List.{slice_split, join_with_byte, list_all, AllByRecursion}
+use Rattle.std.proofs.lemmas.Bool.{and_parts, ne_eqb}
+use Rattle.std.proofs.lemmas.List.{append-nil, map-append}
+use Rattle.std.proofs.lemmas.List.Splits.{join_with_byte-slice_split}
 use Rattle.base.specs.declared.kind.Kind.{Kind}
 use Rattle.base.specs.declared.kind.Kind.TheVariants.{Control}
 use Rattle.base.specs.declared.kind.Kinds.{Kinds}
@@ -18,8 +16,9 @@ use Rattle.words.specs.declared.faults.Wrong.TheVariants as wrong
 use Rattle.words.specs.Parts.{IsPart}
 use Rattle.words.specs.Reading.{bind, word_at, or_syntax}
 use Rattle.words.specs.Text.{IsPlainWord}
-use Rattle.words.proofs.TextLaws.{both}
-use Rattle.words.proofs.WordLaws.{bind_ok, plain_bytes}
+use Rattle.words.proofs.Splits.{parts_some, split_nowhere, split_round}
+use Rattle.words.proofs.TextLaws.{both, each, first_part, one_part}
+use Rattle.words.proofs.WordLaws.{bind_ok}
 use Rattle.captext.proofs.LineLaws.{same_ok, spelled_then}
 use Rattle.captext.proofs.StepLaws.{demand_then}
 use Rattle.certificate.specs.Kinds.{kinds_at, kinds_of, kinds_word, members, set_of, with_kind, with_name, with_names, IsKinds}
@@ -30,33 +29,11 @@ comma b = b == 44
 
 -- what the code does at a comma, and where there is none
 
-split_at : (bs : List ℕ) (at : ℕ) → position comma bs ≡ Some at
-    → slice_split comma bs ≡ take at bs ∷ slice_split comma (drop (at + 1) bs)
-split_at bs at found = by_test (nat_lt (position_or_len comma bs) (length bs)) refl found
-  where
-    by_test : (b : Bool) → nat_lt (position_or_len comma bs) (length bs) ≡ b → cond b (Some (position_or_len comma bs)) None ≡ Some at
-        → slice_split comma bs ≡ take at bs ∷ slice_split comma (drop (at + 1) bs)
-    by_test true below is =
-        let e : position_or_len comma bs ≡ at = cc in
-        slice_split_first comma bs 0 (ltb-true _ _ below) ∙ ap (λ i. take i bs ∷ slice_split comma (drop (i + 1) bs)) e
-    by_test false past is = absurd (none-some at is)
-
-split_nowhere : (bs : List ℕ) → position comma bs ≡ None → slice_split comma bs ≡ bs ∷ []
-split_nowhere bs missing = by_test (nat_lt (position_or_len comma bs) (length bs)) refl missing
-  where
-    by_test : (b : Bool) → nat_lt (position_or_len comma bs) (length bs) ≡ b → cond b (Some (position_or_len comma bs)) None ≡ None
-        → slice_split comma bs ≡ bs ∷ []
-    by_test true below is = cc
-    by_test false past is =
-        let reached = ltb-false _ _ past in
-        slice_split_none comma bs (λ k d h. let before : k < position_or_len comma bs = omega arith in fails_before_first comma bs k d before)
-
 name_first : (kinds : Kinds) (bs : List ℕ) (at : ℕ) → position comma bs ≡ Some at
     → with_names kinds (slice_split comma bs)
     ≡ bind (with_name kinds (take at bs)) (λ more. with_names more (slice_split comma (take (length bs - (at + 1)) (drop (at + 1) bs))))
 unfolding with_names
-name_first kinds bs at found = ap (with_names kinds) (split_at bs at found)
-    ∙ ap (λ rest. bind (with_name kinds (take at bs)) (λ more. with_names more (slice_split comma rest))) (sym (take_rest bs (at + 1)))
+name_first kinds bs at found = ap (with_names kinds) (split_round comma bs at found)
 
 pub name_fails : (kinds : Kinds) (bs : List ℕ) (at : ℕ) (wrong : Wrong) → position comma bs ≡ Some at
     → with_name kinds (take at bs) ≡ Err wrong → with_names kinds (slice_split comma bs) ≡ Err wrong
@@ -74,7 +51,7 @@ name_goes_on kinds more bs at found passes =
 
 pub name_alone : (kinds : Kinds) (bs : List ℕ) → position comma bs ≡ None → with_names kinds (slice_split comma bs) ≡ with_name kinds bs
 unfolding with_names bind
-name_alone kinds bs missing = ap (with_names kinds) (split_nowhere bs missing) ∙ itself (with_name kinds bs) where
+name_alone kinds bs missing = ap (with_names kinds) (split_nowhere comma bs missing) ∙ itself (with_name kinds bs) where
   itself : (r : Result Kinds Wrong) → bind r (λ more. Ok more) ≡ r
   itself (Ok more) = refl
   itself (Err wrong) = refl
@@ -121,32 +98,28 @@ names_again kinds all more (one_joins {more = later} kind above joins) =
 
 -- so a word that is read is the set's, and the set's word is read
 
--- the name of a kind is plain, and has no comma
-is_plain : (kind : Kind) → list_all (λ b. nat_lt 32 b) (kind_name kind) ≡ true
-is_plain Control = refl
-is_plain _ = refl
+-- the bytes of a kind's name come after the comma, and after the space
+after_comma : (kind : Kind) → AllByRecursion (λ b. 44 < b) (kind_name kind)
+after_comma kind = by_test (kind_name kind) (named kind) where
+  named : (kind : Kind) → list_all (λ b. nat_lt 44 b) (kind_name kind) ≡ true
+  named Control = refl
+  named _ = refl
 
-has_no_comma : (kind : Kind) → list_all (λ b. not (comma b)) (kind_name kind) ≡ true
-has_no_comma Control = refl
-has_no_comma _ = refl
+  by_test : (bs : List ℕ) → list_all (λ b. nat_lt 44 b) bs ≡ true → AllByRecursion (λ b. 44 < b) bs
+  by_test [] h = tt
+  by_test (b ∷ bs) h = let parts = and_parts _ _ h in (ltb-true 44 b parts.0, by_test bs parts.1)
 
-cut : (name rest : List ℕ) → list_all (λ b. not (comma b)) name ≡ true
-    → slice_split comma (name ++ 44 ∷ rest) ≡ name ∷ slice_split comma rest
-cut [] rest none = refl
-cut (b ∷ name) rest none =
-    let parts = and_parts _ _ none in
-    cond-false _ _ _ (not-true _ parts.0) ∙ ap (onto_first b) (cut name rest parts.1)
+has_no_comma : (kind : Kind) → AllByRecursion (λ b. comma b ≡ false) (kind_name kind)
+has_no_comma kind = each _ _ (λ b after. ne_eqb b 44 (λ e. absurd (omega (arith, e, after)))) (kind_name kind) (after_comma kind)
 
-cut_last : (name : List ℕ) → list_all (λ b. not (comma b)) name ≡ true → slice_split comma name ≡ name ∷ []
-cut_last [] none = refl
-cut_last (b ∷ name) none =
-    let parts = and_parts _ _ none in cond-false _ _ _ (not-true _ parts.0) ∙ ap (onto_first b) (cut_last name parts.1)
+is_plain : (kind : Kind) → IsPlainWord (kind_name kind)
+is_plain kind = each _ _ (λ b after. omega (arith, after)) (kind_name kind) (after_comma kind)
 
 cut_names : (kind : Kind) (kinds : List Kind)
     → slice_split comma (join_with_byte 44 (map kind_name (kind ∷ kinds))) ≡ map kind_name (kind ∷ kinds)
-cut_names kind [] = cut_last (kind_name kind) (has_no_comma kind)
+cut_names kind [] = one_part 44 (kind_name kind) (has_no_comma kind)
 cut_names kind (next ∷ kinds) =
-    cut (kind_name kind) (join_with_byte 44 (map kind_name (next ∷ kinds))) (has_no_comma kind)
+    first_part 44 (kind_name kind) (join_with_byte 44 (map kind_name (next ∷ kinds))) (has_no_comma kind)
     ∙ ap (λ names. kind_name kind ∷ names) (cut_names next kinds)
 
 -- a set with a bit has a kind
@@ -161,12 +134,7 @@ some_member kinds is = by (members kinds) refl (members_join kinds is.1) where
 
 -- a word has a part at least
 some_part : (word : List ℕ) → slice_split comma word ≢ []
-some_part [] none = cc
-some_part (b ∷ word) none = by (comma b) (slice_split comma word) none where
-  by : (test : Bool) (parts : List (List ℕ)) → cond test ([] ∷ parts) (onto_first b parts) ≢ []
-  by true parts none = cc
-  by false [] none = cc
-  by false (part ∷ parts) none = cc
+some_part word none = let some = parts_some comma word in cc
 
 pub word_takes : (word : List ℕ) (kinds : Kinds) → kinds_of word ≡ Ok kinds → (word ≡ kinds_word kinds) × IsKinds kinds
 unfolding kinds_of kinds_word
@@ -189,9 +157,9 @@ word_again kinds is =
 
 plain_names : (kinds : List Kind) → IsPlainWord (join_with_byte 44 (map kind_name kinds))
 plain_names [] = tt
-plain_names (kind ∷ []) = plain_bytes (kind_name kind) (is_plain kind)
+plain_names (kind ∷ []) = is_plain kind
 plain_names (kind ∷ next ∷ kinds) =
-    both (λ b. 32 < b) (kind_name kind) _ (plain_bytes (kind_name kind) (is_plain kind)) (lit< tt, plain_names (next ∷ kinds))
+    both (λ b. 32 < b) (kind_name kind) _ (is_plain kind) (lit< tt, plain_names (next ∷ kinds))
 
 pub kinds_part : IsPart kinds_at (λ kinds. kinds_word kinds ∷ []) IsKinds
 unfolding kinds_at kinds_word bind word_at

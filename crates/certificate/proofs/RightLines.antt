@@ -1,9 +1,7 @@
 -- The right certificate is one for its table: its slots, objects and labels are the table's.
-use Rattle.std.proofs.Common.{◌≡◌, ℕ, ◌+◌, ◌<◌, ◌^◌, suc, Bool, true, false, cond, List, [], ◌∷◌, ◌++◌, length, get_or, drop, take, map, filter, fold, Option, Some, None, option_map, unwrap_or, slice_get, refl, sym, ap, subst, ◌∙◌, append_assoc, lit<, arith}
+use Rattle.std.proofs.Common.{◌≡◌, ℕ, ◌<◌, ◌^◌, suc, Bool, true, false, cond, List, [], ◌∷◌, ◌++◌, length, get_or, drop, map, filter, fold, Option, Some, None, option_map, unwrap_or, slice_get, refl, sym, ap, subst, ◌∙◌, lit<, arith}
 use Rattle.std.specs.List.{AllByRecursion}
 use Rattle.std.proofs.lemmas.Bool.{false≢true}
-use Rattle.std.proofs.lemmas.List.{append-nil, map-append, take_more}
-use Rattle.std.proofs.lemmas.List.Elements.{filter-append}
 use Rattle.std.proofs.lemmas.Nat.{le_or_l}
 use Rattle.std.proofs.lemmas.Option.{get_or_from_slice_get, slice_get_within}
 use Rattle.base.specs.declared.ids.ObjId.{ObjId}
@@ -161,34 +159,6 @@ right_is_spelled t lawful =
         let thread = of_kind t binding.thread kind.Tcb lawful.draft fits.thread in
         let context = of_kind t binding.context kind.Context lawful.draft fits.context in
         (thread.0, context.0, (thread.1, context.1)))
-
--- the lines of those that pass a test, one after another
-
-taken_one : {X : Type 0} (p : X → Bool) (x : X) (test : Bool) → p x ≡ test → filter p (x ∷ []) ≡ cond test (x ∷ []) []
-taken_one p x test is = ap (λ b. cond b (x ∷ []) []) is
-
-pub filter_more : {X Y : Type 0} (line : X → Y) (p : X → Bool) (xs : List X) (i : ℕ) (d : X) (test : Bool) → i < length xs
-    → p (get_or xs i d) ≡ test
-    → map line (filter p (take (i + 1) xs)) ≡ map line (filter p (take i xs)) ++ map line (cond test (get_or xs i d ∷ []) [])
-filter_more line p xs i d test within is =
-    ap (λ ys. map line (filter p ys)) (take_more xs i d within)
-    ∙ ap (map line) (filter-append p (take i xs) (get_or xs i d ∷ []) ∙ ap (λ ys. filter p (take i xs) ++ ys) (taken_one p (get_or xs i d) test is))
-    ∙ map-append line (filter p (take i xs)) (cond test (get_or xs i d ∷ []) [])
-
-pub line_taken : {X : Type 0} (line : X → Line) (p : X → Bool) (xs : List X) (i : ℕ) (d : X) (before all longer : List Line)
-    → i < length xs → p (get_or xs i d) ≡ true → all ≡ before ++ map line (filter p (take i xs))
-    → longer ≡ all ++ line (get_or xs i d) ∷ [] → longer ≡ before ++ map line (filter p (take (i + 1) xs))
-line_taken line p xs i d before all longer within is so_far grown =
-    grown ∙ ap (λ ls. ls ++ line (get_or xs i d) ∷ []) so_far
-    ∙ append_assoc before (map line (filter p (take i xs))) (line (get_or xs i d) ∷ [])
-    ∙ ap (λ ls. before ++ ls) (sym (filter_more line p xs i d true within is))
-
-pub line_left : {X : Type 0} (line : X → Line) (p : X → Bool) (xs : List X) (i : ℕ) (d : X) (before all : List Line)
-    → i < length xs → p (get_or xs i d) ≡ false → all ≡ before ++ map line (filter p (take i xs))
-    → all ≡ before ++ map line (filter p (take (i + 1) xs))
-line_left line p xs i d before all within is so_far =
-    so_far ∙ ap (λ ls. before ++ ls)
-    (sym (append-nil (map line (filter p (take i xs)))) ∙ sym (filter_more line p xs i d false within is))
 
 -- the sections, one after another
 pub sections : (t : Layout) (a b c d : List Line) → a ≡ cap_lines t → b ≡ a ++ space_lines t → c ≡ b ++ map (derive_line t) t.pairs

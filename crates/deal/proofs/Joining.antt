@@ -1,5 +1,5 @@
 -- Shares one after another are the list that was dealt.
-use Rattle.std.proofs.Common.{◌≡◌, ℕ, ◌+◌, ◌<◌, ◌≤◌, List, ◌++◌, length, map, drop, sym, ap, ◌∙◌, arith, slice_range}
+use Rattle.std.proofs.Common.{◌≡◌, ℕ, ◌+◌, ◌≤◌, List, ◌++◌, length, map, drop, sym, ap, ◌∙◌, arith, slice_range}
 use Rattle.std.proofs.lemmas.List.{map-append, append_assoc}
 use Rattle.std.proofs.lemmas.List.Folds.{drop_split}
 use Rattle.std.proofs.lemmas.Nat.{rows}
@@ -7,9 +7,6 @@ use Rattle.deal.specs.Shares.{share_of, start_of}
 
 starts_rise : (items workers worker : ℕ) → start_of items workers worker ≤ start_of items workers (worker + 1)
 starts_rise items workers worker = grind (arith, rows)
-
-pub last_start : (items workers : ℕ) → 0 < workers → start_of items workers workers ≡ items
-last_start items workers some = omega arith
 
 -- what the shares before this one made, and what the rest will make, is the whole
 pub next_share :

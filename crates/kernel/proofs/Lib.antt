@@ -1,3 +1,2 @@
 pub mod RunLemmas
 pub mod BootLemmas
-pub mod BootExists

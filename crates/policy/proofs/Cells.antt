@@ -38,14 +38,14 @@ module _ (test : EdgeTest) (beginning : List ℕ) where
   abbrev pub AreTold : (ℕ → Broken) → Labels → Type 0
   AreTold make labels = (label : ℕ) → (is_in labels label ≡ true) ↔ IsBrokenAt test (make label)
 
-  pub least_cell :
+  least_of_cells :
       (make : Kind × ℕ → Broken) → IsMadeOf test beginning make of_cell → (gives : Kind → Labels → Type 0)
       → ((kind : Kind) (labels : Labels) → gives kind labels → AreTold (λ label. make (kind, label)) labels)
       → (found : Option (Kind × ℕ)) → FindsCell gives found → FindsBroken test beginning (option_map make found)
-  least_cell make made gives tells None nobody = none_made made (λ cell broken.
+  least_of_cells make made gives tells None nobody = none_made made (λ cell broken.
       let there = nobody cell.0 in
       not_both ((tells cell.0 there.0 there.1 cell.1).1 broken) (there.2 cell.1))
-  least_cell make made gives tells (Some cell) found =
+  least_of_cells make made gives tells (Some cell) found =
       let here = found.0 in
       least_made made cell ((tells cell.0 here.0 here.1 cell.1).0 here.2.0) (λ other broken before. elim (decided (kind_number other.0) (kind_number cell.0) _ before) [
         | inl lower ↦
@@ -56,6 +56,13 @@ module _ (test : EdgeTest) (beginning : List ℕ) where
             let lower : other.1 < cell.1 = elim (decided other.1 cell.1 _ same.1) [ inl lt ↦ lt | inr tie ↦ absurd (not_less tie.1) ] in
             not_both ((tells cell.0 here.0 here.1 other.1).1 (subst (λ (k : Kind). IsBrokenAt test (make (k, other.1))) kind broken)) (here.2.1 other.1 lower)
       ])
+
+  pub least_cell :
+      (make : Kind × ℕ → Broken) → IsMadeOf test beginning make of_cell → (gives : Kind → Labels → Type 0)
+      → ((kind : Kind) (labels : Labels) → gives kind labels → AreTold (λ label. make (kind, label)) labels)
+      → (found known : Option (Kind × ℕ)) → FindsCell gives found → found ≡ known → FindsBroken test beginning (option_map make known)
+  least_cell make made gives tells found known finds same =
+      subst (λ (f : Option (Kind × ℕ)). FindsBroken test beginning (option_map make f)) same (least_of_cells make made gives tells found finds)
 
   pub least_target :
       (number : ℕ) (make : ℕ → Broken) → IsMadeOf test beginning make (of_target number) → (labels : Labels) → AreTold make labels
@@ -70,9 +77,3 @@ module _ (test : EdgeTest) (beginning : List ℕ) where
         | inr same ↦ elim (decided other label _ same.1) [ inl lt ↦ lt | inr tie ↦ absurd (not_less tie.1) ]
       ] in
       not_both ((tells other).1 broken) (least.1 other lower))
-
-  -- where it is known what was found
-  pub of_found :
-      {A : Type 0} (make : A → Broken) (found known : Option A) → found ≡ known → FindsBroken test beginning (option_map make found)
-      → FindsBroken test beginning (option_map make known)
-  of_found make found known same least = subst (λ (f : Option _). FindsBroken test beginning (option_map make f)) same least

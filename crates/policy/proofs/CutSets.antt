@@ -1,5 +1,5 @@
 -- Cut authority as sets of labels, each of which is found by steps along edges.
-use Rattle.std.proofs.Common.{◌≡◌, ℕ, ◌↔◌, Bool, true, false, not, ◌||◌, ◌==◌, ◌⊎◌, [], ◌∷◌, refl, sym, ap, ◌∙◌, inl, inr}
+use Rattle.std.proofs.Common.{◌≡◌, ℕ, ◌↔◌, Bool, true, not, ◌||◌, ◌==◌, ◌⊎◌, [], ◌∷◌, refl, sym, ap, ◌∙◌, inl, inr}
 use Rattle.std.specs.List.{list_any}
 use Rattle.std.proofs.lemmas.Bool.{or_cases, or_left, or_right, eq-eqb, eqb-true, not-true}
 use Rattle.base.specs.declared.kind.Kind.{Kind}
@@ -13,7 +13,7 @@ use Rattle.policy.specs.Cut.{IsBase, IsCut, IsHolding, IsNear, is_link}
 use Rattle.policy.specs.Cut.IsNear.{stays, along, against}
 use Rattle.policy.specs.Steps.{IsNearSome, IsTarget, IsSource}
 use Rattle.policy.proofs.KindNumbers.{same_kind}
-use Rattle.policy.proofs.Stepping.{is_kind, each_kind, chosen, found_kind, of_kind, only_kind}
+use Rattle.policy.proofs.Stepping.{is_kind, each_kind, chosen, found_kind, of_kind, only_kind, target_by}
 
 -- the labels that a label of a set is near to
 
@@ -74,7 +74,7 @@ module _ (test : EdgeTest) (actor : ℕ) (controlled : Labels) (controlled_is : 
   base_to label among (inl same) = or_left (is_in controlled base) derived (ap (is_in controlled) (sym same) ∙ among)
   base_to label among (inr derives) =
       or_right (is_in controlled base) derived
-      (derived_is.1 (record { from = label; among = among; joined = or_left (test label Derive base) false derives }))
+      (derived_is.1 (target_by test Derive controlled label base among derives))
 
   pub base_is : ((is_in controlled base || derived) ≡ true) ↔ IsBase test actor base
   base_is = (base_from, λ is. base_to is.controlled (to_control is.controlled is.control) is.derive)

@@ -1,5 +1,5 @@
 -- Full authority as a union of sets of labels, each of which is found by steps along edges.
-use Rattle.std.proofs.Common.{◌≡◌, ℕ, ◌↔◌, Bool, true, false, not, ◌||◌, ◌==◌, [], ◌∷◌, inl, inr, refl, sym, ◌∙◌}
+use Rattle.std.proofs.Common.{◌≡◌, ℕ, ◌↔◌, Bool, true, not, ◌||◌, ◌==◌, [], ◌∷◌, inl, inr, refl, sym, ◌∙◌}
 use Rattle.std.specs.List.{list_any}
 use Rattle.std.proofs.lemmas.Bool.{or_cases, or_left, or_right, eq-eqb, eqb-true}
 use Rattle.base.specs.declared.kind.Kind.{Kind}
@@ -11,11 +11,7 @@ use Rattle.policy.specs.Domain.{EdgeTest}
 use Rattle.policy.specs.Full.{IsFull, is_modifying}
 use Rattle.policy.specs.Full.IsFull.{own, modifies, sends, receives, notifies, links, grants, replies}
 use Rattle.policy.specs.Steps.{is_joined, IsTarget, IsSource}
-use Rattle.policy.proofs.Stepping.{is_kind, each_kind, chosen, found_kind, only_kind, of_kind}
-
--- the labels of one row
-abbrev pub IsRow : EdgeTest → ℕ → Kind → Labels → Type 0
-IsRow test actor kind row = (to : ℕ) → is_in row to ≡ test actor kind to
+use Rattle.policy.proofs.Stepping.{IsRow, is_kind, each_kind, chosen, found_kind, only_kind, of_kind, source_by, target_by}
 
 abbrev Sources : EdgeTest → Kind → Labels → ℕ → Bool → Type 0
 Sources test kind tos from here = (here ≡ true) ↔ IsSource test (kind ∷ []) tos from
@@ -101,10 +97,6 @@ module _ (test : EdgeTest) (actor object : ℕ) (itself modified received sent n
     ]
   ]
 
-  -- an edge of one kind joins
-  joins : (kind : Kind) (from to : ℕ) → test from kind to ≡ true → is_joined test (kind ∷ []) from to ≡ true
-  joins kind from to is = or_left (test from kind to) false is
-
   from_modified : (modified ≡ true) → InUnion ≡ true
   from_modified is = or_left _ held (or_left _ granted (or_left _ linked (or_left _ notified (or_left _ sent (or_left _ received (or_right itself modified is))))))
 
@@ -118,23 +110,23 @@ module _ (test : EdgeTest) (actor object : ℕ) (itself modified received sent n
   from_full (modifies kind is edge) =
       from_modified (sets.modified_is ∙ found_kind (λ k. test actor k object) MODIFYING kind (modifying kind is) edge)
   from_full (sends endpoint sent_to received_from) =
-      from_received (sets.received_is.1 (record { to = endpoint; among = sets.send_row endpoint ∙ sent_to; joined = joins Receive object endpoint received_from }))
+      from_received (sets.received_is.1 (source_by test Receive sets.to_send endpoint object (sets.send_row endpoint ∙ sent_to) received_from))
   from_full (receives endpoint received_from sent_to) =
       or_left _ held (or_left _ granted (or_left _ linked (or_left _ notified (or_right _ sent
-      (sets.sent_is.1 (record { to = endpoint; among = sets.receive_row endpoint ∙ received_from; joined = joins Send object endpoint sent_to }))))))
+      (sets.sent_is.1 (source_by test Send sets.to_receive endpoint object (sets.receive_row endpoint ∙ received_from) sent_to))))))
   from_full (notifies notification signalled awaited) =
       or_left _ held (or_left _ granted (or_left _ linked (or_right _ notified
-      (sets.notified_is.1 (record { to = notification; among = sets.notify_row notification ∙ signalled; joined = joins Await object notification awaited })))))
+      (sets.notified_is.1 (source_by test Await sets.to_notify notification object (sets.notify_row notification ∙ signalled) awaited)))))
   from_full (links endpoint receiver sent_to received_from reply) =
-      let receives_it = (sets.receiving receiver).1 (record { to = endpoint; among = sets.send_row endpoint ∙ sent_to; joined = joins Receive receiver endpoint received_from }) in
+      let receives_it = (sets.receiving receiver).1 (source_by test Receive sets.to_send endpoint receiver (sets.send_row endpoint ∙ sent_to) received_from) in
       or_left _ held (or_left _ granted (or_right _ linked
-      (sets.linked_is.1 (record { from = receiver; among = receives_it; joined = joins Reply receiver object reply }))))
+      (sets.linked_is.1 (target_by test Reply sets.receivers receiver object receives_it reply))))
   from_full (grants endpoint receiver granted_to received_from controls) =
-      let takes_it = (sets.taking receiver).1 (record { to = endpoint; among = sets.grant_row endpoint ∙ granted_to; joined = joins Receive receiver endpoint received_from }) in
+      let takes_it = (sets.taking receiver).1 (source_by test Receive sets.to_grant endpoint receiver (sets.grant_row endpoint ∙ granted_to) received_from) in
       or_left _ held (or_right _ granted
-      (sets.granted_is.1 (record { from = receiver; among = takes_it; joined = joins Control receiver object controls })))
+      (sets.granted_is.1 (target_by test Control sets.takers receiver object takes_it controls)))
   from_full (replies reply uses holds) =
-      or_right _ held (sets.held_is.1 (record { from = reply; among = sets.reply_row reply ∙ uses; joined = joins Holds reply object holds }))
+      or_right _ held (sets.held_is.1 (target_by test Holds sets.to_reply reply object (sets.reply_row reply ∙ uses) holds))
 
   pub full_is : (InUnion ≡ true) ↔ IsFull test actor object
   full_is = (to_full, from_full)

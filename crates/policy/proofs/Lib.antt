@@ -2,7 +2,6 @@ pub mod Order
 pub mod Needs
 pub mod Places
 pub mod KindNumbers
-pub mod LabelSteps
 pub mod Cells
 pub mod RuleSets
 pub mod Rules

@@ -44,13 +44,6 @@ begins_front [] more ys h = tt
 begins_front (b ∷ bs) more [] h = h
 begins_front (b ∷ bs) more (y ∷ ys) h = (h.0, begins_front bs more ys h.1)
 
--- a list goes on after a beginning with the number that it has there
-pub begins_next : (beginning ys : List ℕ) (n : ℕ) → Begins beginning ys → slice_get ys (length beginning) ≡ Some n → Begins (beginning ++ n ∷ []) ys
-begins_next [] [] n h at = cc
-begins_next [] (y ∷ ys) n h at = (sym (same_Some y n at), tt)
-begins_next (b ∷ bs) [] n h at = h
-begins_next (b ∷ bs) (y ∷ ys) n h at = (h.0, begins_next bs ys n h.1 at)
-
 -- under each place of the property there is an element of the list, and the elements rise
 pub record Searches
     {X A : Type 0} (place : X → List ℕ) (P : X → Type 0) (beginning : List ℕ) (xs : List A) (adds : A → List ℕ) : Type 0 where

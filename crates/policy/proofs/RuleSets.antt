@@ -1,32 +1,29 @@
 -- The sets of labels at which P4, P5 and P7 are broken, as the search puts them together.
-use Rattle.std.proofs.Common.{◌≡◌, ◌≢◌, ℕ, ◌&&◌, ◌||◌, ◌==◌, ◌⊎◌, Bool, true, false, not, inl, inr, refl, sym, ◌∙◌, subst}
+use Rattle.std.proofs.Common.{◌≡◌, ℕ, ◌&&◌, ◌||◌, ◌==◌, ◌⊎◌, [], ◌∷◌, Bool, true, false, not, inl, inr, refl, sym, ◌∙◌, subst}
 use Rattle.std.specs.Prelude.{◌↔◌}
 use mathlib.Core.Bool.{false≢true}
-use Rattle.std.proofs.lemmas.Bool.{and_parts, or_cases, eqb-true, eq-eqb}
+use Rattle.std.proofs.lemmas.Bool.{and_parts, or_cases, or_left, or_right, eqb-true, eq-eqb}
 use Rattle.base.specs.declared.kind.Kind.{Kind}
 use Rattle.base.specs.declared.kind.Kind.TheVariants as kind
 use Rattle.base.specs.declared.kind.Kind.TheVariants.{Call, Derive, Grant, Receive, Reply}
 use Rattle.base.specs.declared.labels.Labels.{Labels}
-use Rattle.base.specs.Kinds.{is_structural}
 use Rattle.base.specs.Labels.{is_in}
 use Rattle.policy.specs.Closed.{MayBeGranted}
-use Rattle.policy.specs.Broken.{SubjectsDisagree, GrantLacks, DomainLacks, DeriveLacks, ReplyLacks, ComesToDerive, ComesToHold, granted, derived, server, caller}
+use Rattle.policy.specs.Broken.{DomainLacks, DeriveLacks, ReplyLacks, ComesToDerive, ComesToHold, granted, derived, server, caller}
 use Rattle.policy.specs.Domain.{EdgeTest, IsInDomain}
-use Rattle.policy.proofs.LabelSteps.{left_of, right_of}
+use Rattle.policy.specs.Steps.{IsSource, IsTarget}
+use Rattle.policy.proofs.Stepping.{IsRow, only_kind, source_by, target_by}
 
 -- sets by what is in them
 
 abbrev pub Holds : Labels → (ℕ → Type 0) → Type 0
 Holds labels Has = (label : ℕ) → (is_in labels label ≡ true) ↔ Has label
 
-abbrev pub IsRow : EdgeTest → ℕ → Kind → Labels → Type 0
-IsRow test from kind row = (to : ℕ) → is_in row to ≡ test from kind to
-
 abbrev pub IsReached : EdgeTest → Labels → Kind → Labels → Type 0
-IsReached test from kind reached = Holds reached (λ to. (label : ℕ) × (is_in from label ≡ true) × (test label kind to ≡ true))
+IsReached test from kind reached = Holds reached (IsTarget test (kind ∷ []) from)
 
 abbrev pub IsReaching : EdgeTest → Kind → Labels → Labels → Type 0
-IsReaching test kind to reaching = Holds reaching (λ from. (label : ℕ) × (is_in to label ≡ true) × (test from kind label ≡ true))
+IsReaching test kind to reaching = Holds reaching (IsSource test (kind ∷ []) to)
 
 abbrev pub IsDomainOf : EdgeTest → Labels → Labels → Type 0
 IsDomainOf test subjects domain = Holds domain (λ label. (subject : ℕ) × (is_in subjects subject ≡ true) × IsInDomain test subject label)
@@ -85,17 +82,24 @@ derive_told test parent subjects endpoints takers domain row steps comes lacks i
   told (inl e) =
       let taker = (in_domain child).0 e in
       let endpoint = (in_takers taker.0).0 taker.1 in
-      let giver = (in_endpoints endpoint.0).0 endpoint.1 in
-      granted giver.0 taker.0 (record { endpoint = endpoint.0; grants = giver.2; receives = endpoint.2 }) ((in_subjects giver.0).0 giver.1) taker.2
-  told (inr e) = let middle = (in_steps child).0 e in derived middle.0 (sym (in_row middle.0) ∙ middle.1) middle.2
+      let giver = (in_endpoints endpoint.to).0 endpoint.among in
+      let may : MayBeGranted test giver.from taker.0 = record {
+        endpoint = endpoint.to;
+        grants = only_kind test Grant giver.from endpoint.to giver.joined;
+        receives = only_kind test Receive taker.0 endpoint.to endpoint.joined;
+      } in
+      granted giver.from taker.0 may ((in_subjects giver.from).0 giver.among) taker.2
+  told (inr e) =
+      let middle = (in_steps child).0 e in
+      derived middle.from (sym (in_row middle.from) ∙ middle.among) (only_kind test Derive middle.from child middle.joined)
 
   untold : ComesToDerive test parent child → is_in comes child ≡ true
   untold (granted giver taker may of_parent of_child) =
-      let endpoint = (in_endpoints may.endpoint).1 (giver, (in_subjects giver).1 of_parent, may.grants) in
-      let taken = (in_takers taker).1 (may.endpoint, endpoint, may.receives) in
-      either child ∙ left_of (is_in domain child) (is_in steps child) ((in_domain child).1 (taker, taken, of_child))
+      let endpoint = (in_endpoints may.endpoint).1 (target_by test Grant subjects giver may.endpoint ((in_subjects giver).1 of_parent) may.grants) in
+      let taken = (in_takers taker).1 (source_by test Receive endpoints may.endpoint taker endpoint may.receives) in
+      either child ∙ or_left (is_in domain child) (is_in steps child) ((in_domain child).1 (taker, taken, of_child))
   untold (derived middle one other) =
-      either child ∙ right_of (is_in domain child) (is_in steps child) ((in_steps child).1 (middle, in_row middle ∙ one, other))
+      either child ∙ or_right (is_in domain child) (is_in steps child) ((in_steps child).1 (target_by test Derive row middle child (in_row middle ∙ one) other))
 
 -- P7
 pub reply_told :
@@ -112,40 +116,21 @@ reply_told test reply only servers endpoints callers row comes lacks in_only in_
   serves : (label : ℕ) → is_in servers label ≡ true → test label Reply reply ≡ true
   serves label e =
       let to = (in_servers label).0 e in
-      subst (λ r. test label Reply r ≡ true) (eqb-true to.0 reply (sym (in_only to.0) ∙ to.1)) to.2
+      subst (λ r. test label Reply r ≡ true) (eqb-true to.to reply (sym (in_only to.to) ∙ to.among)) (only_kind test Reply label to.to to.joined)
 
   is_server : (label : ℕ) → test label Reply reply ≡ true → is_in servers label ≡ true
-  is_server label e = (in_servers label).1 (reply, in_only reply ∙ eq-eqb reply reply refl, e)
+  is_server label e = (in_servers label).1 (source_by test Reply only reply label (in_only reply ∙ eq-eqb reply reply refl) e)
 
   told : (is_in servers thread ≡ true) ⊎ (is_in callers thread ≡ true) → ComesToHold test reply thread
   told (inl e) = server (serves thread e)
   told (inr e) =
       let endpoint = (in_callers thread).0 e in
-      let from = (in_endpoints endpoint.0).0 endpoint.1 in
-      caller from.0 endpoint.0 (serves from.0 from.1) endpoint.2 from.2
+      let from = (in_endpoints endpoint.to).0 endpoint.among in
+      caller from.from endpoint.to (serves from.from from.among) (only_kind test Call thread endpoint.to endpoint.joined)
+      (only_kind test Receive from.from endpoint.to from.joined)
 
   untold : ComesToHold test reply thread → is_in comes thread ≡ true
-  untold (server e) = either thread ∙ left_of (is_in servers thread) (is_in callers thread) (is_server thread e)
+  untold (server e) = either thread ∙ or_left (is_in servers thread) (is_in callers thread) (is_server thread e)
   untold (caller b endpoint replies calls receives) =
-      let received = (in_endpoints endpoint).1 (b, is_server b replies, receives) in
-      either thread ∙ right_of (is_in servers thread) (is_in callers thread) ((in_callers thread).1 (endpoint, received, calls))
-
--- P1, of labels that are in one domain
-pub disagree_told :
-    (test : EdgeTest) (subject other : ℕ) → IsInDomain test subject other → (kind : Kind) (labels : Labels)
-    → Holds labels (λ target. (is_structural kind ≡ false) × (test subject kind target ≢ test other kind target))
-    → Holds labels (λ target. SubjectsDisagree test subject other kind target)
-disagree_told test subject other domain kind labels told target = (
-  λ e. let h = (told target).0 e in record { domain = domain; of_use = h.0; differ = h.1 },
-  λ h. (told target).1 (h.of_use, h.differ),
-)
-
--- P3, of a label that may be granted the other's capabilities
-pub grant_told :
-    (test : EdgeTest) (giver taker : ℕ) → MayBeGranted test giver taker → (kind : Kind) (labels : Labels)
-    → Holds labels (λ target. (is_structural kind ≡ false) × (test giver kind target ≡ true) × (test taker kind target ≡ false))
-    → Holds labels (λ target. GrantLacks test giver taker kind target)
-grant_told test giver taker may kind labels told target = (
-  λ e. let h = (told target).0 e in record { granted = may; of_use = h.0; has = h.1; missing = h.2 },
-  λ h. (told target).1 (h.of_use, h.has, h.missing),
-)
+      let received = (in_endpoints endpoint).1 (target_by test Receive servers b endpoint (is_server b replies) receives) in
+      either thread ∙ or_right (is_in servers thread) (is_in callers thread) ((in_callers thread).1 (source_by test Call endpoints endpoint thread received calls))

@@ -5,13 +5,14 @@ use Rattle.std.specs.List.{list_any, list_all}
 use Rattle.std.proofs.Math.Bool.{or-false}
 use Rattle.std.specs.Prelude.{IfSome, IfNone, is_some}
 use Rattle.std.proofs.lemmas.List.Folds.{Any-from_list_any}
-use Rattle.std.proofs.lemmas.Bool.{and_parts, and_from, or_cases, or_left, or_right, cases_order, eq-eqb, eqb-true}
+use Rattle.std.proofs.lemmas.Bool.{and_parts, and_from, or_cases, or_left, or_right, cases_order, eqb-true}
 use Rattle.base.specs.declared.kind.Kind.{Kind}
+use Rattle.base.specs.declared.kind.Kind.TheVariants.{Space, Control}
 use Rattle.base.specs.Kinds.{kind_number}
 use Rattle.base.specs.declared.labels.Labels.{Labels}
 use Rattle.base.specs.Labels.{is_in}
-use Rattle.policy.specs.Domain.{EdgeTest}
-use Rattle.policy.specs.Steps.{is_joined, IsSource}
+use Rattle.policy.specs.Domain.{EdgeTest, IsInDomain}
+use Rattle.policy.specs.Steps.{is_joined, IsSource, IsTarget}
 use Rattle.policy.proofs.KindNumbers.{all_kinds, same_kind}
 
 abbrev pub is_kind : Kind → Kind → Bool
@@ -48,6 +49,10 @@ found_kind q (first ∷ rest) kind is has = elim (or_cases (is_kind kind first) 
   | inl same ↦ or_left (q first) (list_any q rest) (ap q (sym (same_kind kind first (eqb-true _ _ same))) ∙ has)
   | inr later ↦ or_right (q first) (list_any q rest) (found_kind q rest kind later has)
 ]
+
+-- the labels of one row
+abbrev pub IsRow : EdgeTest → ℕ → Kind → Labels → Type 0
+IsRow test from kind row = (to : ℕ) → is_in row to ≡ test from kind to
 
 -- what holds of a label below a number
 abbrev pub IsBelow : (ℕ → Type 0) → ℕ → Type 0
@@ -93,33 +98,25 @@ of_kind is then_so holds either = sym (ap (λ b. not b || then_so) holds) ∙ ei
 pub joined_by : (test : EdgeTest) (kinds : List Kind) (from to : ℕ) → is_joined test kinds from to ≡ true → (kind : Kind) × (test from kind to ≡ true)
 joined_by test kinds from to is = let some = Any-from_list_any (λ kind. test from kind to) kinds is in (some.1, some.4)
 
-module _ (Q : ℕ → Type 0) (n label : ℕ) (b : Bool) (so_far : (b ≡ true) ↔ ((label < n) × Q label)) where
-  pub one_joins : Q n → ((b || (label == n)) ≡ true) ↔ ((label < n + 1) × Q label)
-  one_joins here = (forth, back) where
-    forth : (b || (label == n)) ≡ true → (label < n + 1) × Q label
-    forth is = elim (or_cases b (label == n) is) [
-      | inl before ↦ let old = so_far.0 before in ((omega (arith, old.0)), old.1)
-      | inr now ↦ let same : label ≡ n = eqb-true label n now in ((omega arith), subst Q (sym same) here)
-    ]
+-- steps along an edge of one kind
 
-    back : (label < n + 1) × Q label → (b || (label == n)) ≡ true
-    back below = elim (cases_order label n) [
-      | inl same ↦ or_right b (label == n) (eq-eqb label n same)
-      | inr (inl before) ↦ or_left b (label == n) (so_far.1 (before, below.1))
-      | inr (inr after) ↦ absurd (omega (arith, below.0))
-    ]
+pub target_by : (test : EdgeTest) (kind : Kind) (froms : Labels) (from to : ℕ) → is_in froms from ≡ true → test from kind to ≡ true
+    → IsTarget test (kind ∷ []) froms to
+target_by test kind froms from to among edge = record { from = from; among = among; joined = or_left (test from kind to) false edge }
 
-  pub none_joins : (Q n → ⊥) → (b ≡ true) ↔ ((label < n + 1) × Q label)
-  none_joins none = (forth, back) where
-    forth : b ≡ true → (label < n + 1) × Q label
-    forth is = let old = so_far.0 is in ((omega (arith, old.0)), old.1)
+pub source_by : (test : EdgeTest) (kind : Kind) (tos : Labels) (to from : ℕ) → is_in tos to ≡ true → test from kind to ≡ true
+    → IsSource test (kind ∷ []) tos from
+source_by test kind tos to from among edge = record { to = to; among = among; joined = or_left (test from kind to) false edge }
 
-    back : (label < n + 1) × Q label → b ≡ true
-    back below = elim (cases_order label n) [
-      | inl same ↦ absurd (none (subst Q same below.1))
-      | inr (inl before) ↦ so_far.1 (before, below.1)
-      | inr (inr after) ↦ absurd (omega (arith, below.0))
-    ]
+-- an edge of space or control is one to a label in the domain
+pub domain_joined : (test : EdgeTest) (subject label : ℕ) → (is_joined test (Space ∷ Control ∷ []) subject label ≡ true) ↔ IsInDomain test subject label
+domain_joined test subject label = (forth, back) where
+  forth : is_joined test (Space ∷ Control ∷ []) subject label ≡ true → IsInDomain test subject label
+  forth is = elim (or_cases (test subject Space label) _ is) [ inl space ↦ inl space | inr control ↦ inr (only_kind test Control subject label control) ]
+
+  back : IsInDomain test subject label → is_joined test (Space ∷ Control ∷ []) subject label ≡ true
+  back (inl space) = or_left (test subject Space label) _ space
+  back (inr control) = or_right (test subject Space label) _ (or_left (test subject Control label) false control)
 
 -- whether two sets have a label in common, as the least of them tells
 

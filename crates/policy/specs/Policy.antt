@@ -1,10 +1,10 @@
 -- A policy as the rising list of its edges: the order of edges, and which edges a policy allows
 -- ('seL4 Enforces Integrity', section 3, where a policy is a graph of labels).
-use Rattle.std.specs.Prelude.{◌≡◌, ℕ, ◌≤◌, ◌<◌, ◌-◌, Bool, true, ◌&&◌, ◌==◌, List, length, Option, IfSome, slice_get}
+use Rattle.std.specs.Prelude.{◌≡◌, ℕ, ◌<◌, ◌-◌, Bool, true, ◌&&◌, ◌==◌, List, length, Option, IfSome, slice_get}
 use Rattle.std.specs.declared.cmp.Ordering.{Ordering}
-use Rattle.std.specs.declared.cmp.Ordering.TheVariants.{Less, Greater}
+use Rattle.std.specs.declared.cmp.Ordering.TheVariants.{Less}
 use Rattle.std.specs.Ordering.{nat_cmp, on, then_cmp}
-use Rattle.std.specs.List.{AllWithin, list_any}
+use Rattle.std.specs.List.{list_any}
 use Rattle.std.specs.List.Sorted.{IsStrictlySortedBy}
 use Rattle.base.specs.declared.edge.Edge.{Edge}
 use Rattle.base.specs.declared.kind.Kind.{Kind}
@@ -44,9 +44,3 @@ last_edge edges = slice_get edges (length edges - 1)
 -- the last edge, if there is one, is below this one
 abbrev pub IsAboveLast : List Edge → Edge → Type 0
 IsAboveLast edges edge = IfSome (last_edge edges) (λ last. edge_cmp last edge ≡ Less)
-
--- the edges before the place are below this one, and those from it on are above
-pub record IsGap (edges : List Edge) (edge : Edge) (at : ℕ) : Type 0 where
-  pub in_range : at ≤ length edges
-  pub below : AllWithin (λ other. edge_cmp other edge ≡ Less) edges 0 at
-  pub above : AllWithin (λ other. edge_cmp other edge ≡ Greater) edges at (length edges)

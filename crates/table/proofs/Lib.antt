@@ -26,3 +26,4 @@ pub mod BindingRemoved
 pub mod BuiltUp
 pub mod Lookups
 pub mod AtBoot
+pub mod BootState

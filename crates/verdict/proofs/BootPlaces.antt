@@ -23,7 +23,7 @@ use Rattle.verdict.specs.Rules.{Excess, Exceeds, capability, root, pair, binding
 use Rattle.verdict.specs.Sources.{Sources, of_table, of_machine, context_in, holds_in, keeps_in}
 use Rattle.verdict.specs.Verdict.{Breaks, IsAccepted, IsLeastBroken, IsOutside, excess_of, place_of}
 use Rattle.table.proofs.AtBoot.{boot_kind, boot_label, initial_lawful, rest_links}
-use Rattle.verdict.proofs.Closed.{closed_policy, unbroken}
+use Rattle.policy.proofs.Unbroken.{closed_if, unbroken}
 use Rattle.table.proofs.Lookups.{bound_at}
 use Rattle.verdict.proofs.Outsides.{confined_within, within_confined}
 use Rattle.verdict.proofs.RuleOrder.{policy_first}
@@ -105,7 +105,7 @@ module _ (t : Layout) (allowed : EdgeTest) where
 
   -- where it is the first that is broken, the policy is closed
   pub first_closed : (d : Denial) (place : Excess) → excess_of d ≡ Some place → IsLeastBroken t allowed d → IsClosed allowed
-  first_closed d place is least = closed_policy allowed (λ b broken.
+  first_closed d place is least = closed_if allowed (λ b broken.
       least.first (denial.Policy b) broken (rw (names d place is).numbers (policy_first b place)))
 
   -- and where it is, each denial of what is broken names a place

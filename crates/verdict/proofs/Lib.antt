@@ -3,7 +3,6 @@ pub mod OneVerdict
 pub mod SlotPlaces
 pub mod BindingPlaces
 pub mod LeastOfSlots
-pub mod Closed
 pub mod Walks
 pub mod ObjectLabels
 pub mod Reach
@@ -20,7 +19,6 @@ pub mod AtBoot
 pub mod Gains
 pub mod Losses
 pub mod Reasons
-pub mod BootState
 pub mod SmallSystem
 pub mod Unallowed
 pub mod Unsafe

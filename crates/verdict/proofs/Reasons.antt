@@ -17,7 +17,7 @@ use Rattle.policy.specs.Policy.{allows}
 use Rattle.table.specs.Rules.{kind_at}
 use Rattle.verdict.specs.Confined.{IsConfined}
 use Rattle.table.proofs.AtBoot.{boot_kind, boot_label}
-use Rattle.verdict.proofs.BootState.{boot_state, boot_state_is}
+use Rattle.table.proofs.BootState.{boot_state, boot_state_is}
 use Rattle.verdict.proofs.ObjectLabels.{same_label}
 use Rattle.verdict.proofs.SmallSystem.{id, slot, thread, space_cap, signal_cap, signalling}
 use Rattle.verdict.proofs.Unsafe.{edges, confined}

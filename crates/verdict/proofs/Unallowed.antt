@@ -31,7 +31,7 @@ use Rattle.verdict.specs.Allowed.{IsAllowedStep, IsLabelled, MayModify, IsModifi
 use Rattle.verdict.specs.Counterexamples.{UnallowedSignal}
 use Rattle.verdict.specs.Shrinks.{IsSame, Shrinks}
 use Rattle.table.proofs.AtBoot.{boot_label}
-use Rattle.verdict.proofs.BootState.{boot_state, boot_state_is}
+use Rattle.table.proofs.BootState.{boot_state, boot_state_is}
 use Rattle.verdict.proofs.Gains.{word_grows}
 use Rattle.verdict.proofs.SmallSystem.{id, slot, node, thread, notification, context, space_cap, signal_cap, no_edges, signalling, signalling_lawful}
 

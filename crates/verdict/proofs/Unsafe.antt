@@ -32,7 +32,7 @@ use Rattle.verdict.specs.Confined.{IsConfined}
 use Rattle.verdict.specs.Counterexamples.{UnsafeWithout}
 use Rattle.verdict.specs.Safe.{IsReached, IsSafe}
 use Rattle.table.proofs.AtBoot.{boot_kind, boot_label}
-use Rattle.verdict.proofs.BootState.{boot_state, boot_state_is}
+use Rattle.table.proofs.BootState.{boot_state, boot_state_is}
 use Rattle.table.proofs.Lookups.{filled_at}
 use Rattle.verdict.proofs.SmallSystem.{id, slot, filled, node, thread, notification, context, space_cap, signal_cap, signalling, signalling_lawful}
 use Rattle.verdict.proofs.Unallowed.{signal, signals, signal_unallowed, after_signal}

@@ -1,5 +1,5 @@
 mod Ascii
-mod Splits
+pub mod Splits
 mod Decimals
 mod HexLaws
 mod Hexadecimals

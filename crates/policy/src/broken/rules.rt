@@ -7,7 +7,7 @@ ghost use Rattle.policy.specs.Search.{FindsBroken};
 
 use super::Broken;
 use super::cells::first_cell;
-use super::steps::{domain, is_in_domain, may_be_granted, reached, reaching, subjects};
+use super::steps::{domain, is_in_domain, may_be_granted, subjects};
 use crate::Policy;
 use base::{Kind, Label, Labels};
 
@@ -104,24 +104,35 @@ pub(crate) fn grant_lacks(policy: &Policy, giver: Label, taker: Label) -> Option
 pub(crate) fn domain_lacks(policy: &Policy, parent: Label) -> Option<Broken>
     ensures { FindsBroken (allows policy.now) (p4 ∷ parent ∷ []) result }
 {
-    let child = domain(policy, subjects(policy, parent))
-        .difference(policy.row(parent, Kind::Derive))
-        .first()?;
+    let child = not_derived_in_domain(policy, parent).first()?;
     Some(Broken::DomainLacks { parent, child })
+}
+
+// The labels at which P4 is broken with this parent.
+fn not_derived_in_domain(policy: &Policy, parent: Label) -> Labels
+    ensures { (child : ℕ) → (is_in result child ≡ true) ↔ DomainLacks (allows policy.now) parent child }
+{
+    domain(policy, subjects(policy, parent)).difference(policy.row(parent, Kind::Derive))
 }
 
 /// P5 at a parent.
 pub(crate) fn derive_lacks(policy: &Policy, parent: Label) -> Option<Broken>
     ensures { FindsBroken (allows policy.now) (p5 ∷ parent ∷ []) result }
 {
-    let endpoints = reached(policy, subjects(policy, parent), Kind::Grant);
-    let granted = domain(policy, reaching(policy, Kind::Receive, endpoints));
-    let derived = policy.row(parent, Kind::Derive);
-    let child = granted
-        .union(reached(policy, derived, Kind::Derive))
-        .difference(derived)
-        .first()?;
+    let child = not_derived(policy, parent).first()?;
     Some(Broken::DeriveLacks { parent, child })
+}
+
+// The labels at which P5 is broken with this parent.
+fn not_derived(policy: &Policy, parent: Label) -> Labels
+    ensures { (child : ℕ) → (is_in result child ≡ true) ↔ DeriveLacks (allows policy.now) parent child }
+{
+    let endpoints = policy.targets(subjects(policy, parent), &[Kind::Grant]);
+    let granted = domain(policy, policy.sources(endpoints, &[Kind::Receive]));
+    let derived = policy.row(parent, Kind::Derive);
+    granted
+        .union(policy.targets(derived, &[Kind::Derive]))
+        .difference(derived)
 }
 
 /// P6 at a subject.
@@ -139,11 +150,18 @@ pub(crate) fn context_lacks(policy: &Policy, subject: Label) -> Option<Broken>
 pub(crate) fn reply_lacks(policy: &Policy, reply: Label) -> Option<Broken>
     ensures { FindsBroken (allows policy.now) (p7 ∷ reply ∷ []) result }
 {
-    let servers = reaching(policy, Kind::Reply, Labels::only(reply));
-    let callers = reaching(policy, Kind::Call, reached(policy, servers, Kind::Receive));
-    let thread = servers
+    let thread = not_held(policy, reply).first()?;
+    Some(Broken::ReplyLacks { reply, thread })
+}
+
+// The labels at which P7 is broken with this reply.
+fn not_held(policy: &Policy, reply: Label) -> Labels
+    ensures { (thread : ℕ) → (is_in result thread ≡ true) ↔ ReplyLacks (allows policy.now) reply thread }
+{
+    let servers = policy.sources(Labels::only(reply), &[Kind::Reply]);
+    let endpoints = policy.targets(servers, &[Kind::Receive]);
+    let callers = policy.sources(endpoints, &[Kind::Call]);
+    servers
         .union(callers)
         .difference(policy.row(reply, Kind::Holds))
-        .first()?;
-    Some(Broken::ReplyLacks { reply, thread })
 }

@@ -1,11 +1,11 @@
 -- One name more is written after a comma, but for the first.
 use Rattle.std.proofs.Common.{◌≡◌, ◌++◌, Bool, true, false, cond, [], ◌∷◌, ◌+◌, get_or, take, map, filter, string_bytes, sym, ap, ◌∙◌}
-use Rattle.std.proofs.lemmas.List.{append-nil}
+use Rattle.std.proofs.lemmas.List.{append-nil, map-append}
+use Rattle.std.proofs.lemmas.List.Elements.{filter_more}
 use Rattle.base.specs.declared.kind.Kind.TheVariants.{Control}
 use Rattle.base.specs.declared.kind.TheConstants.Kind.{ALL}
 use Rattle.base.specs.Kinds.{is_among, kind_name}
 use Rattle.certificate.proofs.KindWords.{name_written, same_written, separator_is_text}
-use Rattle.certificate.proofs.RightLines.{filter_more}
 use Rattle.certificate.proofs.kinds.kinds_string.Goals as goal
 use Rattle.certificate.proofs.kinds.kinds_string.Goals.{then-has+in_ok-write, else-has}
 
@@ -19,7 +19,10 @@ loop-kind-preserved c =
     let more : (test : Bool) → is_among set (get_or ALL i Control) ≡ test
     → map kind_name (filter (is_among set) (take (i + 1) ALL))
     ≡ map kind_name (filter (is_among set) (take i ALL)) ++ map kind_name (cond test (get_or ALL i Control ∷ []) []) =
-    λ test is. filter_more kind_name (is_among set) ALL i Control test c.loop-kind-test.true is in
+    λ test is.
+    ap (map kind_name) (filter_more (is_among set) ALL i Control c.loop-kind-test.true
+    ∙ ap (λ b. filter (is_among set) (take i ALL) ++ cond b (get_or ALL i Control ∷ []) []) is)
+    ∙ map-append kind_name (filter (is_among set) (take i ALL)) (cond test (get_or ALL i Control ∷ []) []) in
     elim c.if-has.branch [
       | then-has+in_ok-write w ↦ name_written _ _ _ _ _ _ _
           (more true (sym c.has.ensures ∙ w.if-has.true)) c.loop-kind.invariant

@@ -1,5 +1,5 @@
 -- An event that was made is a step, and so is one that was refused; each keeps a machine well formed.
-use Rattle.std.proofs.Common.{◌≡◌, sym, subst}
+use Rattle.std.proofs.Common.{sym, subst}
 use Rattle.base.specs.declared.refusal.Refusal.{Refusal}
 use Rattle.base.specs.Refusals.{refusal_of}
 use Rattle.machine.specs.declared.call.Outcome.{Outcome}

@@ -1,9 +1,9 @@
 -- A table declares what its boot state has; and it has a boot state.
 use Rattle.policy.specs.Policy.{allows}
-use Rattle.verdict.proofs.Closed.{closed_policy}
+use Rattle.policy.proofs.Unbroken.{closed_if}
 use Rattle.verdict.specs.declared.denial.Denial.TheVariants as denial
 use Rattle.verdict.proofs.BootPlaces.{boot_confined, broken_outside, confined_accepted, first_closed, first_outside, least_broken, outside_declared}
-use Rattle.verdict.proofs.BootState.{boot_state, boot_state_is}
+use Rattle.table.proofs.BootState.{boot_state, boot_state_is}
 use Rattle.verdict.proofs.laws.a_verdict_is_on_the_boot_state.Goals as goal
 
 pub returns-clause-place : goal.returns-clause-place
@@ -22,7 +22,7 @@ returns-clause-first c = λ t allowed boot denial place lawful booted is. (
 pub returns-clause-accepted : goal.returns-clause-accepted
 returns-clause-accepted c = λ t edges lawful. (
   λ accepted. (
-    closed_policy (allows edges) (λ broken. accepted (denial.Policy broken)),
+    closed_if (allows edges) (λ broken. accepted (denial.Policy broken)),
     λ boot booted. boot_confined t boot lawful booted (allows edges) accepted,
   ),
   λ both.

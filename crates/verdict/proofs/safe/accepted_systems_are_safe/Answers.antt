@@ -2,14 +2,14 @@
 use Rattle.policy.specs.Policy.{allows}
 use Rattle.verdict.specs.declared.denial.Denial.TheVariants as denial
 use Rattle.verdict.proofs.AtBoot.{boot_of_table}
-use Rattle.verdict.proofs.Closed.{closed_policy}
+use Rattle.policy.proofs.Unbroken.{closed_if}
 use Rattle.verdict.proofs.BootPlaces.{boot_confined}
 use Rattle.verdict.proofs.Runs.{safe_from}
 use Rattle.verdict.proofs.safe.accepted_systems_are_safe.Goals as goal
 
 pub returns : goal.returns
 returns c = λ t edges lawful accepted.
-    safe_from t (allows edges) (closed_policy (allows edges) (λ broken. accepted (denial.Policy broken)))
+    safe_from t (allows edges) (closed_if (allows edges) (λ broken. accepted (denial.Policy broken)))
     (λ boot booted. record {
       well_formed = c.boot_states_are_well_formed.ensures.well_formed t boot lawful booted;
       of_table = boot_of_table t boot lawful booted;

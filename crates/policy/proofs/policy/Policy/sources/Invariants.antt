@@ -1,8 +1,10 @@
-use Rattle.std.proofs.Common.{◌≡◌, ℕ, true, ◌↔◌, ◌<◌}
+use Rattle.std.proofs.Common.{◌≡◌, ℕ, true, ◌↔◌}
 use Rattle.base.specs.Labels.{is_in}
 use Rattle.policy.specs.Policy.{allows}
 use Rattle.policy.specs.Steps.{IsSource}
+use Rattle.policy.proofs.Stepping.{IsBelow}
 use Rattle.policy.proofs.policy.Policy.sources.Given as goal
 
 abbrev pub invariant-loop-number : goal.invariant-loop-number
-invariant-loop-number l = (from : ℕ) → (is_in l.found from ≡ true) ↔ ((from < l.number) × IsSource (allows l.self) l.kinds l.tos from)
+invariant-loop-number l =
+    (from : ℕ) → (is_in l.found from ≡ true) ↔ IsBelow (λ k. (from ≡ k) × IsSource (allows l.self) l.kinds l.tos k) l.number

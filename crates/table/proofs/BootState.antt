@@ -1,4 +1,4 @@
--- Each table has a boot state: its maps list what the table declares.
+-- Each table has one boot state: its maps list what the table declares.
 use Rattle.std.proofs.Common.{◌≡◌, ◌≢◌, ℕ, zero, suc, ◌+◌, Bool, true, false, cond, List, [], ◌∷◌, length, replicate, refl, sym, ap, ◌∙◌, arith}
 use Rattle.std.specs.Prelude.{Option, Some, None, option_map, slice_get}
 use Rattle.std.specs.List.{find}
@@ -15,7 +15,7 @@ use Rattle.machine.specs.Layout.{Layout, initial_of, initial_cap, initial_parent
 use Rattle.machine.specs.Machine.{Machine, id_cmp, slot_cmp, same_id, same_slot, object_of, queue_of, words_of, cap_of, parent_of}
 use Rattle.machine.specs.Objects.{word_count}
 use Rattle.machine.proofs.Ids.{itself}
-use Rattle.machine.proofs.LookUps.{id_total, slot_total}
+use Rattle.machine.proofs.LookUps.{id_total, same_machine, slot_total}
 
 abbrev id : ℕ → ObjId
 id n = record { 0 = n }
@@ -115,3 +115,16 @@ module _ (t : Layout) where
     parents = by_slots_at (λ (pair : Pair). pair.child) (λ pair. pair.parent) t.pairs;
     next = refl;
   }
+
+-- and no other
+pub boot_one : (t : Layout) (m n : Machine) → IsBoot t m → IsBoot t n → m ≡ n
+boot_one t m n a b =
+    same_machine
+    m
+    n
+    (λ q. a.objects q ∙ sym (b.objects q))
+    (λ q. a.queues q ∙ sym (b.queues q))
+    (λ q. a.words q ∙ sym (b.words q))
+    (λ q. a.caps q ∙ sym (b.caps q))
+    (λ q. a.parents q ∙ sym (b.parents q))
+    (a.next ∙ sym b.next)
