@@ -1,6 +1,8 @@
 //! The system of these tests, a thread with a notification of its own: its texts, and what they say,
 //! worked by hand.
-use base::{CoreNo, Edge, Kind, Label, ObjId};
+use base::{CoreNo, Edge, Kind, Kinds, Label, ObjId, SlotRef};
+use bitflags::Flags;
+use certificate::Line;
 use machine::{Answer, Call, Event, Object, Outcome};
 use objects::State;
 use std::process::Abort;
@@ -45,6 +47,17 @@ confine-log 1
 end
 ";
 
+pub const CERTIFICATE: &str = "\
+confine-cert 1
+cap c.0 a reset,notify,await a
+space t.root a a
+runs t x a a
+end
+";
+
+/// The number of the CNode.
+const CNODE: ObjId = ObjId(0);
+
 /// The number of the thread.
 const THREAD: ObjId = ObjId(1);
 
@@ -53,6 +66,18 @@ const NOTIFICATION: ObjId = ObjId(2);
 
 /// The number of the context.
 const CONTEXT: ObjId = ObjId(3);
+
+/// The slot of the notification's capability.
+pub const SLOT: SlotRef = SlotRef {
+    holder: CNODE,
+    index: 0,
+};
+
+/// The thread's root slot.
+const ROOT: SlotRef = SlotRef {
+    holder: THREAD,
+    index: 0,
+};
 
 fn label() -> Result<Label, Fail> {
     Ok(Label::new(0).ok_or("label")?)
@@ -77,6 +102,47 @@ pub fn edges() -> Result<[Edge; 6], Fail> {
         edge(Kind::Space),
         edge(Kind::Derive),
         edge(Kind::Runs),
+    ])
+}
+
+/// The edges that the table gives: those of the policy but derive, which no pair gives.
+pub fn table_edges() -> Result<[Edge; 5], Fail> {
+    let [reset, notify, await_, space, _, runs] = edges()?;
+    Ok([reset, notify, await_, space, runs])
+}
+
+/// The edges that the notification's capability gives.
+pub fn slot_edges() -> Result<[Edge; 3], Fail> {
+    let [reset, notify, await_, ..] = edges()?;
+    Ok([reset, notify, await_])
+}
+
+/// The kinds of authority that the notification's capability gives.
+fn kinds_given() -> Kinds {
+    Kinds::RESET.union(Kinds::NOTIFY).union(Kinds::AWAIT)
+}
+
+/// The certificate's lines.
+pub fn certificate_lines() -> Result<[Line; 3], Fail> {
+    let a = label()?;
+    Ok([
+        Line::Cap {
+            slot: SLOT,
+            from: a,
+            kinds: kinds_given(),
+            to: a,
+        },
+        Line::Space {
+            slot: ROOT,
+            from: a,
+            to: a,
+        },
+        Line::Runs {
+            thread: THREAD,
+            context: CONTEXT,
+            from: a,
+            to: a,
+        },
     ])
 }
 
@@ -117,7 +183,7 @@ fn names_the_notification(table: &Table) -> bool {
 
 fn has_the_root(table: &Table) -> bool {
     match table.caps().last() {
-        Some(last) => last.cap.object == ObjId(0),
+        Some(last) => last.cap.object == CNODE,
         None => false,
     }
 }

@@ -7,9 +7,10 @@ use std::test::Fail;
 use std::thread::Threads;
 
 /// A policy that the system is denied by.
-const EMPTY_POLICY: &str = "confine-policy 1\nend\n";
+pub const EMPTY_POLICY: &str = "confine-policy 1\nend\n";
 
-const DENIAL: &str = "{\"place\":[\"c.0\",\"reset\",\"a\"],\"rule\":\"A1\",\"verdict\":\"deny\"}\n";
+pub const DENIAL: &str =
+    "{\"place\":[\"c.0\",\"reset\",\"a\"],\"rule\":\"A1\",\"verdict\":\"deny\"}\n";
 
 /// A table whose second line is no line of a table.
 const FAULTY_TABLE: &str = "confine-table 1\nlabel\nend\n";
@@ -38,8 +39,8 @@ fn answers<R: Abort + AllocGlobal + Threads + Sync>(
     has_ended(rt, end, status, &written, answer)
 }
 
-/// A run that is refused memory has written nothing.
-fn has_ended(
+/// An engine that is refused memory has written nothing.
+pub fn has_ended(
     rt: &impl Abort,
     end: End,
     status: u8,

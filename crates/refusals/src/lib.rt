@@ -1,5 +1,5 @@
-//! The calls of a run whose memory is refused: tests alone, for `tests/refuse-memory`, which has their
-//! allocations refused one by one.
+//! The calls of a run, of a check and of a verification, whose memory is refused: tests alone, for
+//! `tests/refuse-memory`, which has their allocations refused one by one.
 //!
 //! A test `CALL_after_COUNT` makes so many allocations of its own, then prepares what the call is given,
 //! which may take some more, and then makes the call. A call that meets a refusal has to say so, with all
@@ -8,7 +8,13 @@
 #![tactic(auto)]
 
 #[cfg(test)]
+mod authority;
+#[cfg(test)]
 mod bell;
+#[cfg(test)]
+mod certificates;
+#[cfg(test)]
+mod checks;
 #[cfg(test)]
 mod edges;
 #[cfg(test)]

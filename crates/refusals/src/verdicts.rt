@@ -1,9 +1,12 @@
-//! `verdict::judge`.
+//! `verdict::judge` and `checker::check`.
 use crate::bell::POLICY;
-use crate::memory::{NO_MEMORY, answered, prepared};
+use crate::certificates::is_the_certificate;
+use crate::memory::{NO_MEMORY, answered, lend, prepared};
 use crate::tables::with_table;
 use captext::read_policy;
+use checker::{CheckError, Verdict, check};
 use deal::Open;
+use policy::Policy;
 use std::process::Abort;
 use std::test::Fail;
 use std::thread::Threads;
@@ -43,4 +46,40 @@ fn judge_after_75(rt: HostRuntime) -> Result<(), Fail> {
 #[test]
 fn judge_after_70(rt: HostRuntime) -> Result<(), Fail> {
     accepts(&rt, 70)
+}
+
+fn is_accepted(rt: &impl Abort, verdict: &Verdict<'_>) -> Result<(), Fail> {
+    match verdict {
+        Verdict::Accept(_, certificate) => is_the_certificate(rt, certificate),
+        Verdict::Deny(_) => Err(Fail::new("denied")),
+    }
+}
+
+fn checks_with<R: Abort + AllocGlobal + Threads + Sync>(
+    rt: &R,
+    table: &Table,
+    policy: &Policy,
+) -> Result<(), Fail> {
+    let answer = check(rt, rt.alloc(), table, policy, 1, &Open);
+    let verdict = answered(rt, answer, CheckError::NoMemory);
+    lend(verdict, |verdict| is_accepted(rt, verdict))
+}
+
+fn checks_the<R: Abort + AllocGlobal + Threads + Sync>(rt: &R, table: &Table) -> Result<(), Fail> {
+    let policy = prepared(read_policy(rt.alloc(), POLICY.as_bytes(), table));
+    lend(policy, |policy| checks_with(rt, table, policy))
+}
+
+fn checks<R: Abort + AllocGlobal + Threads + Sync>(rt: &R, count: u64) -> Result<(), Fail> {
+    with_table(rt, count, |table| checks_the(rt, table))
+}
+
+#[test]
+fn check_after_80(rt: HostRuntime) -> Result<(), Fail> {
+    checks(&rt, 80)
+}
+
+#[test]
+fn check_after_75(rt: HostRuntime) -> Result<(), Fail> {
+    checks(&rt, 75)
 }
