@@ -230,16 +230,6 @@ marked_again t lawful = λ i. record t { caps = again i } where
       ∙ sym (lawful.marked k d within) in
       λ i. record filled { cap = record filled.cap { original = same i } })
 
--- which a table is already
-pub lawful_again : (t : Layout) → IsLawful t → with_originals t ≡ t
-lawful_again t lawful = λ i. record t { caps = again i } where
-  again : map (with_mark t) t.caps ≡ t.caps
-  again =
-      map_same (with_mark t) t.caps
-      (λ k d within.
-      let filled = get_or t.caps k d in
-      λ i. record filled { cap = record filled.cap { original = sym (lawful.marked k d within) i } })
-
 -- marks leave what capabilities are for
 pub marks_marked : (mark : Filled → Bool) (caps : List Filled) (aimed : List Bool) → Marks caps aimed → Marks (map (remark mark) caps) aimed
 marks_marked mark caps aimed h object = h object ∙ sym (same caps) where
