@@ -19,8 +19,8 @@ use Rattle.machine.specs.Machine.{Machine, cap_of}
 use Rattle.machine.specs.Objects.{kind_of_object}
 use Rattle.machine.specs.WellFormed.{SlotsFit, kind_of}
 use Rattle.table.specs.Rules.{IsLawful, IsDetailOf}
-use Rattle.table.proofs.BootParts.{declared-present, cap-law}
-use Rattle.table.proofs.BootTree.{boot-acyclic, boot-joined}
+use Rattle.table.proofs.BootParts.{declared-present, cap-law, pair-law}
+use Rattle.table.proofs.BootTree.{boot-acyclic}
 
 -- a detail that fits an object is of the object's kind
 kind-detail : (object : Object) (detail : Detail) → IsDetailOf object detail → kind_of_object object ≡ kind_of_detail detail
@@ -56,7 +56,6 @@ kind-aimed t m slot held lawful boot filled =
 pub boot-slots : (t : Layout) (m : Machine) → IsLawful t → IsBoot t m → SlotsFit m
 unfolding initial_of
 boot-slots t m lawful boot =
-    let joined = boot-joined t m lawful boot in
     record {
       holder =
           λ slot held filled.
@@ -70,13 +69,13 @@ boot-slots t m lawful boot =
           λ slot held filled of_thread.
           let law = cap-law t m slot held lawful boot filled in
           law.root (same_Some _ _ (sym (kind-present t m slot.holder law.place.holder boot law.place.held) ∙ of_thread));
-      child_filled = λ slot parent joins. let pair = joined slot parent joins in (pair.below, pair.child);
-      parent_filled = λ slot parent joins. let pair = joined slot parent joins in (pair.above, pair.parent);
+      child_filled = λ slot parent joins. let pair = pair-law t m slot parent lawful boot joins in (pair.below, boot.caps slot ∙ pair.child);
+      parent_filled = λ slot parent joins. let pair = pair-law t m slot parent lawful boot joins in (pair.above, boot.caps parent ∙ pair.parent);
       acyclic = λ slot descends. boot-acyclic t m slot lawful boot descends;
       kin =
           λ slot parent below above joins has_below has_above.
-          let pair = joined slot parent joins in
-          let lower : pair.below ≡ below = same_Some _ _ (sym pair.child ∙ has_below) in
-          let upper : pair.above ≡ above = same_Some _ _ (sym pair.parent ∙ has_above) in
+          let pair = pair-law t m slot parent lawful boot joins in
+          let lower : pair.below ≡ below = same_Some _ _ (sym (boot.caps slot ∙ pair.child) ∙ has_below) in
+          let upper : pair.above ≡ above = same_Some _ _ (sym (boot.caps parent ∙ pair.parent) ∙ has_above) in
           inl ((λ i. (sym lower i).object) ∙ sym pair.object ∙ (λ i. (upper i).object));
     }

@@ -1,20 +1,14 @@
 -- The drafts whose capabilities are all marked original are those that are built up item by item.
-use Rattle.std.proofs.Common.{◌≡◌, ℕ, true, All, List, [], ◌∷◌, ◌++◌, length, option_map, refl, sym, ap, subst, ◌∙◌, arith}
+use Rattle.std.proofs.Common.{◌≡◌, ℕ, true, All, List, [], ◌∷◌, ◌++◌, length, refl, sym, subst, arith}
 use Rattle.std.proofs.lemmas.List.{append-nil, append_assoc}
-use Rattle.std.proofs.lemmas.List.Elements.{All-nil, All-push, All-weaker}
-use Rattle.std.specs.List.{find}
-use Rattle.std.specs.Option.{option_and_then}
-use Rattle.base.specs.declared.ids.SlotRef.{SlotRef}
-use Rattle.machine.specs.declared.cap.Detail.{Detail}
+use Rattle.std.proofs.lemmas.List.Elements.{All-nil, All-push}
 use Rattle.machine.specs.declared.layout.Filled.{Filled}
 use Rattle.machine.specs.declared.layout.Initial.{Initial}
 use Rattle.machine.specs.declared.layout.Pair.{Pair}
-use Rattle.machine.specs.Layout.{Layout, empty_layout, initial_cap, initial_parent}
-use Rattle.machine.specs.Machine.{same_slot}
+use Rattle.machine.specs.Layout.{Layout, empty_layout}
 use Rattle.table.specs.Items.{Item, LabelItem, ObjectItem, CapItem, PairItem, BindingItem, with_item, Admits, ComesNow, IsBuiltUp, none}
 use Rattle.table.specs.Items.{more}
-use Rattle.table.specs.Rules.{IsDraft, IsLawful}
-use Rattle.table.specs.Tree.{is_original, is_original_from, source_of, IsPairOf}
+use Rattle.table.specs.Rules.{IsDraft}
 use Rattle.table.proofs.DraftKept.{draft_empty}
 use Rattle.table.proofs.Pairs.{draft_pair, pair_removed}
 use Rattle.table.proofs.LabelAdded.{draft_label}
@@ -25,7 +19,7 @@ use Rattle.table.proofs.LabelRemoved.{label_removed}
 use Rattle.table.proofs.ObjectRemoved.{object_removed}
 use Rattle.table.proofs.CapRemoved.{cap_removed}
 use Rattle.table.proofs.BindingRemoved.{binding_removed}
-use Rattle.table.proofs.FrontLemmas.{all_front, all_of_none, from_front}
+use Rattle.table.proofs.FrontLemmas.{all_front, from_front}
 
 -- each capability is marked original
 abbrev pub AllOriginal : Layout → Type 0
@@ -119,32 +113,3 @@ pub built_from_draft : (t : Layout) → IsDraft t → AllOriginal t → IsBuiltU
 built_from_draft t draft original =
     let objects : Builds (with_caps t []) = by_objects t.labels [] [] t.names t.objects draft.objects.named (by_labels t.labels) in
     by_bindings t (by_pairs t (by_caps t objects)) (draft, original)
-
--- without pairs each capability is original
-
-original_unpaired : (t : Layout) → t.pairs ≡ [] → (slot : SlotRef) (detail : Detail) → is_original t slot detail ≡ true
-unfolding is_original source_of initial_parent
-original_unpaired t unpaired slot detail =
-    ap
-    (λ pairs.
-    is_original_from
-    (option_and_then (initial_cap t) (option_map (λ pair. pair.parent) (find (λ pair. same_slot pair.child slot) pairs)))
-    detail)
-    unpaired
-
-pub built_unpaired : (t : Layout) → t.pairs ≡ [] → IsLawful t → IsBuiltUp t
-built_unpaired t unpaired lawful =
-    built_from_draft t lawful.draft
-    (All-weaker (λ (f : Filled). f.cap.original ≡ is_original t f.slot f.cap.detail) (λ f. f.cap.original ≡ true)
-    (λ filled is. is ∙ original_unpaired t unpaired filled.slot filled.cap.detail) t.caps lawful.marked)
-
-pub unpaired_built : (t : Layout) → t.pairs ≡ [] → IsBuiltUp t → IsLawful t
-unpaired_built t unpaired built =
-    let draft = draft_from_built built in
-    record {
-      draft = draft.0;
-      marked =
-          All-weaker (λ (f : Filled). f.cap.original ≡ true) (λ f. f.cap.original ≡ is_original t f.slot f.cap.detail)
-          (λ filled is. is ∙ sym (original_unpaired t unpaired filled.slot filled.cap.detail)) t.caps draft.1;
-      tree = all_of_none (IsPairOf t) t.pairs unpaired;
-    }

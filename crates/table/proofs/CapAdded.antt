@@ -87,14 +87,7 @@ root_holds holder d.Control e at = absurd (no_tcb holder.object (not-true _ e) a
 
 pub untyped_at : (detail : Detail) → kind_of_detail detail ≡ kind.Untyped → is_for_untyped detail ≡ true
 untyped_at d.Untyped e = refl
-untyped_at (d.CNode _) e = cc
-untyped_at d.Tcb e = cc
-untyped_at (d.Endpoint _) e = cc
-untyped_at (d.Notification _) e = cc
-untyped_at d.Reply e = cc
-untyped_at d.Context e = cc
-untyped_at (d.Frame _) e = cc
-untyped_at d.Control e = cc
+untyped_at _ e = cc
 
 other_object :
     (t : Layout) (cap : Cap) → repeats_untyped t cap ≡ false → kind_of_detail cap.detail ≡ kind.Untyped → (k : ℕ) (d : Filled)

@@ -1,5 +1,5 @@
 -- A draft whose last item was a filled slot was one without it, and admitted it if it was marked original.
-use Rattle.std.proofs.Common.{◌≡◌, ◌≢◌, ℕ, ◌-◌, ◌<◌, true, false, not, length, get_or, Some, refl}
+use Rattle.std.proofs.Common.{◌≡◌, ◌≢◌, ℕ, ◌<◌, true, false, not, length, get_or, Some, refl}
 use Rattle.std.proofs.Common.{ap, ◌∙◌}
 use Rattle.std.proofs.lemmas.Bool.{false_from_ne_true, lt-ltb, le-leb, and_from}
 use Rattle.std.specs.declared.cmp.Ordering.TheVariants.{Less}

@@ -1,6 +1,6 @@
 -- How many bytes an object of so many bits takes, and that those of an object below the addresses' end are few.
 use Rattle.std.proofs.Common.{◌≡◌, ℕ, ◌+◌, ◌-◌, ◌*◌, ◌%◌, ◌^◌, ◌<◌, ◌≤◌, ◌⊎◌, nat_le, nat_lt, ◌&&◌, ◌||◌, List, [], ◌∷◌, ◌++◌, map}
-use Rattle.std.proofs.Common.{Some, None, refl, sym, subst, ap, ◌∙◌, arith, inl, inr}
+use Rattle.std.proofs.Common.{Some, refl, sym, subst, ap, ◌∙◌, arith, inl, inr}
 use Rattle.std.proofs.lemmas.Bool.{cases_lt}
 use Rattle.std.proofs.Math.Pow.{pow_mono}
 use Rattle.std.proofs.lemmas.Bool.Decides.{nat_tests}
@@ -29,17 +29,6 @@ size_of-bits (o.Reply _) bits e = ap (λ n. 2 ^ n) (same_Some 5 bits e)
 size_of-bits (o.Context _) bits e = ap (λ n. 2 ^ n) (same_Some 8 bits e)
 size_of-bits (o.Frame _) bits e = ap (λ n. 2 ^ n) (same_Some 12 bits e)
 size_of-bits (o.Control _) bits e = absurd (none-some bits e)
-
-pub size_of-none : (object : Object) → size_bits object ≡ None → size_of object ≡ 0
-size_of-none (o.Untyped memory) e = absurd (none-some memory.bits (sym e))
-size_of-none (o.CNode node) e = absurd (none-some (node.radix + 5) (sym e))
-size_of-none (o.Tcb _) e = absurd (none-some 10 (sym e))
-size_of-none (o.Endpoint _) e = absurd (none-some 4 (sym e))
-size_of-none (o.Notification _) e = absurd (none-some 5 (sym e))
-size_of-none (o.Reply _) e = absurd (none-some 5 (sym e))
-size_of-none (o.Context _) e = absurd (none-some 8 (sym e))
-size_of-none (o.Frame _) e = absurd (none-some 12 (sym e))
-size_of-none (o.Control _) e = refl
 
 -- more bits than an address has don't fit below the addresses' end
 few_bits : (start bits : ℕ) → start + 2 ^ bits ≤ ADDRESS_END → bits ≤ ADDRESS_BITS

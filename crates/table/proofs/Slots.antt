@@ -1,5 +1,5 @@
 -- Slots that the objects have, and slots above those of a rising list.
-use Rattle.std.proofs.Common.{◌≡◌, ◌-◌, true, false, length, List, Option, None, Some, option_map, slice_get, All, AllPairs, refl}
+use Rattle.std.proofs.Common.{◌≡◌, ◌-◌, true, length, List, Option, None, Some, option_map, slice_get, All, AllPairs, refl}
 use Rattle.std.proofs.Common.{sym, ap, ◌∙◌}
 use Rattle.std.proofs.lemmas.Bool.{false≢true, ltb-true, lt-ltb}
 use Rattle.std.specs.Ordering.{is_lt}

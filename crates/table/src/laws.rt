@@ -1,4 +1,4 @@
-ghost use Rattle.std.specs.Prelude.{◌≡◌, ◌↔◌, [], None};
+ghost use Rattle.std.specs.Prelude.{◌≡◌, ◌↔◌, None};
 ghost use Rattle.machine.specs.Layout.{Layout};
 ghost use Rattle.table.specs.Items.{IsBuiltUp};
 ghost use Rattle.table.specs.Rules.{IsLawful};
@@ -6,9 +6,8 @@ ghost use Rattle.table.specs.Tree.{tree_fault, with_originals};
 
 /// A law: the tables that keep the rules are just those that are built up from the empty table, item
 /// by item, each in its order and where the table so far admits it, whose capabilities are then marked
-/// as the pairs say, and of whose pairs none breaks a rule. One without pairs is built up as it is.
+/// as the pairs say, and of whose pairs none breaks a rule.
 pub fn lawful_tables_are_built_up()
     ensures tables { (t : Layout) → IsLawful t
         ↔ ((draft : Layout) × IsBuiltUp draft × (tree_fault (with_originals draft) ≡ None) × (t ≡ with_originals draft)) }
-    ensures unpaired { (t : Layout) → t.pairs ≡ [] → (IsLawful t ↔ IsBuiltUp t) }
 {}

@@ -8,12 +8,12 @@ use Rattle.std.proofs.lemmas.List.{append-nil}
 use Rattle.std.proofs.lemmas.Slice.Eq.{bytes_eq-Decides}
 use Rattle.words.specs.declared.faults.Wrong.{Wrong}
 use Rattle.words.specs.Name.{is_name, name_at}
-use Rattle.words.specs.Number.{hexadecimal, hex_at, number_at}
+use Rattle.words.specs.Number.{number_at}
 use Rattle.words.specs.Parts.{PartReader, in_turn, read_as, by_word, keyed, IsPart}
-use Rattle.words.specs.Reading.{bind, ended_at, word_at}
+use Rattle.words.specs.Reading.{bind, ended_at}
 use Rattle.words.specs.Text.{IsPlainWord}
 use Rattle.words.proofs.TextLaws.{both}
-use Rattle.words.proofs.WordLaws.{bind_ok, ended_then, number_then, number_again, hex_then, hex_number_again, name_then, name_again, plain_decimal, plain_hexadecimal, plain_name, word_then}
+use Rattle.words.proofs.WordLaws.{bind_ok, ended_then, number_then, number_again, name_then, name_again, plain_decimal, plain_name, word_then}
 
 -- reading gives what was read
 bind_itself : {E X : Type 0} (r : Result X E) → bind r (λ x. Ok x) ≡ r
@@ -29,15 +29,6 @@ number_part = record { takes = takes; again = number_again; plain = λ n small. 
       let read = number_then (λ x. Ok x) words taken (bind_itself (number_at words) ∙ h) in
       let same : (read.number, read.rest) ≡ taken = cc in
       subst (λ t. (words ≡ decimal t.0 ∷ t.1) × (t.0 < 2 ^ 64)) same (read.words_are, read.small)
-
-pub hex_part : IsPart hex_at (λ n. hexadecimal n ∷ []) (λ n. n < 2 ^ 64)
-hex_part = record { takes = takes; again = hex_number_again; plain = λ n small. (plain_hexadecimal n small, tt) } where
-  takes : (words : List (List ℕ)) (taken : ℕ × List (List ℕ)) → hex_at words ≡ Ok taken
-      → (words ≡ hexadecimal taken.0 ∷ taken.1) × (taken.0 < 2 ^ 64)
-  takes words taken h =
-      let read = hex_then (λ x. Ok x) words taken (bind_itself (hex_at words) ∙ h) in
-      let same : (read.number, read.rest) ≡ taken = cc in
-      subst (λ t. (words ≡ hexadecimal t.0 ∷ t.1) × (t.0 < 2 ^ 64)) same (read.words_are, read.small)
 
 pub name_part : IsPart name_at (λ name. name ∷ []) (λ name. is_name name ≡ true)
 name_part = record { takes = takes; again = name_again; plain = λ name is. (plain_name name is, tt) } where

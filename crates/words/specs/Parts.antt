@@ -5,7 +5,7 @@ use Rattle.std.specs.List.{AllByRecursion}
 use Rattle.std.specs.Str.{bytes_eq}
 use Rattle.words.specs.declared.faults.Wrong.{Wrong}
 use Rattle.words.specs.declared.faults.Wrong.TheVariants.{Syntax}
-use Rattle.words.specs.Reading.{bind, ◌>>=◌, word_at}
+use Rattle.words.specs.Reading.{◌>>=◌, word_at}
 use Rattle.words.specs.Text.{IsPlainWord}
 
 -- what reads a value off the words that are left, and says which words are left after it

@@ -5,24 +5,23 @@ use Rattle.machine.specs.declared.layout.Filled.{Filled}
 use Rattle.machine.specs.Layout.{Layout}
 use Rattle.table.specs.Rules.{IsLawful}
 use Rattle.table.specs.Tree.{tree_fault}
-use Rattle.table.proofs.BuiltUp.{built_from_draft, built_unpaired, draft_from_built, unpaired_built}
+use Rattle.table.proofs.BuiltUp.{built_from_draft, draft_from_built}
 use Rattle.table.proofs.TreeLemmas.{draft_remarked, lawful_marked, marked_again, none_from_tree, remark, unmarked}
 use Rattle.table.proofs.laws.lawful_tables_are_built_up.Goals as goal
 
-pub returns-clause-tables : goal.returns-clause-tables
-returns-clause-tables c =
-    λ t. (
-      λ lawful. (
-        unmarked t,
-        built_from_draft (unmarked t) (draft_remarked (λ _. true) t lawful.draft)
-            (All-map (λ (filled : Filled). filled.cap.original ≡ true) (remark (λ _. true)) t.caps (λ k d within. refl)),
-        ap tree_fault (marked_again t lawful) ∙ none_from_tree t lawful.tree,
-        sym (marked_again t lawful),
-      ),
-      λ made.
-          let P : Layout → Type 0 = λ t. IsLawful t in
-          subst P (sym made.3) (lawful_marked made.0 (draft_from_built made.1).0 made.2),
-    )
-
-pub returns-clause-unpaired : goal.returns-clause-unpaired
-returns-clause-unpaired c = λ t none. (built_unpaired t none, unpaired_built t none)
+pub returns : goal.returns
+returns c = record {
+  tables =
+      λ t. (
+        λ lawful. (
+          unmarked t,
+          built_from_draft (unmarked t) (draft_remarked (λ _. true) t lawful.draft)
+              (All-map (λ (filled : Filled). filled.cap.original ≡ true) (remark (λ _. true)) t.caps (λ k d within. refl)),
+          ap tree_fault (marked_again t lawful) ∙ none_from_tree t lawful.tree,
+          sym (marked_again t lawful),
+        ),
+        λ made.
+            let P : Layout → Type 0 = λ t. IsLawful t in
+            subst P (sym made.3) (lawful_marked made.0 (draft_from_built made.1).0 made.2),
+      );
+}

@@ -5,7 +5,7 @@ use Rattle.table.proofs.tree.mark_originals.Goals as goal
 
 pub is_original-original-requires-clause-caps : goal.is_original-original-requires-clause-caps
 is_original-original-requires-clause-caps c =
-    rises_same c.loop-i.caps c.args.caps.now c.loop-i.invariant.keys c.requires.caps
+    rises_same c.loop-i.caps c.args.caps.now c.loop-i.invariant.same c.requires.caps
 
 pub loop-i-preserved : goal.loop-i-preserved
 loop-i-preserved c =
