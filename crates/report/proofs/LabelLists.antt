@@ -1,5 +1,5 @@
 -- The labels one after another: the names of some of them, and a set for each.
-use Rattle.std.proofs.Common.{◌≡◌, ◌↔◌, ◌<◌, ℕ, Bool, true, false, ◌+◌, List, [], ◌∷◌, ◌++◌, length, get_or, arith, map, refl, ap, ◌∙◌, sym}
+use Rattle.std.proofs.Common.{◌≡◌, ◌↔◌, ◌<◌, ℕ, Bool, true, false, ◌+◌, List, [], ◌∷◌, ◌++◌, length, get_or, arith, map, ap, ◌∙◌, sym}
 use Rattle.std.specs.List.{filter, fold, range_with_len}
 use Rattle.std.proofs.lemmas.List.{get_or_default, map-append, map-id}
 use Rattle.std.proofs.lemmas.List.Elements.{filter-append}

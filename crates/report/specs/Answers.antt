@@ -86,12 +86,10 @@ no_file = record { old = record {}; new = record {}; bytes = Some []; failed = f
 unfoldable pub read_nothing : Layout → List ℕ → Result (List ℕ) Fault
 read_nothing t bytes = Ok []
 
-abbrev pub IsCheckedBeside : {T P S O : Type 0} → OnAccept → Input T → Input P → Input S → Output O → End → Type 0
-IsCheckedBeside written = IsCarriedOut file.Policy read_nothing (λ t edges none. Checks written t edges)
-
 -- a table was checked against a policy
 abbrev pub IsChecked : {T P O : Type 0} → OnAccept → Input T → Input P → Output O → End → Type 0
-IsChecked written table policy out end = IsCheckedBeside written table policy no_file out end
+IsChecked written table policy out end =
+    IsCarriedOut file.Policy read_nothing (λ t edges none. Checks written t edges) table policy no_file out end
 
 -- a certificate was verified with a table and a policy
 abbrev pub IsVerifiedWith : {T P S O : Type 0} → Input T → Input P → Input S → Output O → End → Type 0

@@ -1,5 +1,5 @@
 -- What a command does with its files as opening them gave them (confine's own).
-use Rattle.std.specs.Prelude.{◌≡◌, ℕ, List, Option, Result, Ok}
+use Rattle.std.specs.Prelude.{◌≡◌, ℕ, List, Option, Result}
 use Rattle.std.specs.declared.io.Error.{Error}
 use Rattle.base.specs.declared.edge.Edge.{Edge}
 use Rattle.devices.specs.Opened.{bytes_left, opened}

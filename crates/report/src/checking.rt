@@ -1,20 +1,18 @@
-ghost use Rattle.std.specs.Prelude.{◌≡◌, ◌≤◌, ℕ, [], List, false, Ok, IfOk, Result};
+ghost use Rattle.std.specs.Prelude.{◌≡◌, ◌≤◌, false, IfOk};
 ghost use Rattle.checker.specs.Check.{IsCheck};
 ghost use Rattle.certificate.specs.Right.{right_certificate};
 ghost use Rattle.report.specs.Answers as answers;
-ghost use Rattle.report.specs.Commands.{IsAnswer, input, output};
-ghost use Rattle.report.specs.Files.{Contents, Gives, unread_by, unread_of};
+ghost use Rattle.report.specs.Commands.{input, output};
 ghost use Rattle.report.specs.Opening.{IsCheckedOn};
 ghost use Rattle.report.specs.declared.end.File.TheVariants as file;
 
-use crate::command::{Answer, NoMemory, ThirdFile, denial_text};
-use crate::engine::{Unanswered, tell_fault, write};
-use crate::load::{Loaded, NoFile, Stop, load};
+use crate::command::{Answer, Command, NoMemory, denial_text};
+use crate::engine::{carry_out, carry_out_on};
+use crate::load::{Loaded, NoFile};
 use crate::reports::check_report;
-use crate::{End, File, Sink, Source, Watched};
+use crate::{End, File, Sink, Source};
 use captext::Fault;
 use checker::{Certificate, Gate, Verdict};
-use devices::open_result;
 use policy::Policy;
 use std::alloc::Global;
 use std::io::{self, Read, Write};
@@ -57,17 +55,16 @@ where
     ensures { answers.IsChecked on_accept (input T.remaining T.failed table.old table.new)
         (input P.remaining P.failed policy.old policy.new) (output O.contents O.failed O.is_flushed out.old out.new) result }
 {
-    carry_out(
-        rt,
-        alloc,
-        table,
-        policy,
-        &mut NoFile,
+    let judge = |loaded: &Loaded<()>| -> Result<Answer, NoMemory>
+        ensures right { IfOk result (λ answer.
+            answers.Checks on_accept loaded.now.table loaded.now.policy answer.text.items answer.status) }
+        ensures exit { IfOk result (λ answer. answer.status ≤ 2) }
+    { judged(rt, alloc, loaded, on_accept, workers, gate) };
+    let command = Checking {
         on_accept,
-        workers,
-        gate,
-        out,
-    )
+        judge: &judge,
+    };
+    carry_out(&command, alloc, table, policy, &mut NoFile, out)
 }
 
 /// The same on what opening the two files gave. Gives the end, and the writer back.
@@ -89,55 +86,26 @@ where
     requires { (1 ≤ workers) × (workers ≤ 16) }
     ensures { IsCheckedOn on_accept F.remaining W.contents table policy out result.0 result.1 }
 {
-    let mut table = open_result(table);
-    let mut policy = open_result(policy);
-    let mut out = Watched::new(out);
-    let end = check(
-        rt,
-        alloc,
-        &mut table,
-        &mut policy,
+    let judge = |loaded: &Loaded<()>| -> Result<Answer, NoMemory>
+        ensures right { IfOk result (λ answer.
+            answers.Checks on_accept loaded.now.table loaded.now.policy answer.text.items answer.status) }
+        ensures exit { IfOk result (λ answer. answer.status ≤ 2) }
+    { judged(rt, alloc, loaded, on_accept, workers, gate) };
+    let command = Checking {
         on_accept,
-        workers,
-        gate,
-        &mut out,
-    );
-    (end, out.into_inner())
+        judge: &judge,
+    };
+    carry_out_on(&command, alloc, table, policy, &mut NoFile, out)
 }
 
-/// Checks, whatever stands in the place of a third file.
-fn carry_out<R, G, T, P, S, O>(
-    rt: &R,
-    alloc: Global,
-    table: &mut T,
-    policy: &mut P,
-    third: &mut S,
+/// The command `check`, which has no third file.
+#[derive(Drop)]
+struct Checking<'a, J> {
     on_accept: OnAccept,
-    workers: usize,
-    gate: &G,
-    out: &mut O,
-) -> End
-where
-    R: Threads + Sync,
-    G: Gate + Sync,
-    T: Source,
-    P: Source,
-    S: Source,
-    O: Sink,
-    requires table { T.failed table.old ≡ false }
-    requires policy { P.failed policy.old ≡ false }
-    requires third { S.failed third.old ≡ false }
-    requires out { O.failed out.old ≡ false }
-    ensures { answers.IsCheckedBeside on_accept (input T.remaining T.failed table.old table.new)
-        (input P.remaining P.failed policy.old policy.new) (input S.remaining S.failed third.old third.new)
-        (output O.contents O.failed O.is_flushed out.old out.new) result }
-{
-    let loaded = load::<NoFile, T, P, S>(alloc, table, policy, third);
-    write(out, answer(rt, alloc, loaded, on_accept, workers, gate))
+    judge: &'a J,
 }
 
-/// There is no third file.
-impl ThirdFile for NoFile {
+impl<J: Fn(&Loaded<()>) -> Result<Answer, NoMemory>> Command for Checking<'_, J> {
     type Third = ();
 
     ghost third_file = { file.Policy };
@@ -150,6 +118,13 @@ impl ThirdFile for NoFile {
 
     ghost read_of = { answers.read_nothing };
 
+    ghost may_judge = { λ check. J.IsAlwaysCallable check.judge.now
+        × ((loaded : _) (answer : _) → J.post check.judge.now loaded answer
+        → IfOk answer (λ answer. answers.Checks check.on_accept loaded.now.table loaded.now.policy answer.text.items answer.status)
+        × IfOk answer (λ answer. answer.status ≤ 2)) };
+
+    ghost judges = { λ check t edges none. answers.Checks check.on_accept t edges };
+
     fn third_file() -> File {
         File::Policy
     }
@@ -158,38 +133,9 @@ impl ThirdFile for NoFile {
     fn read_third(_alloc: Global, _table: &Table, _bytes: &[u8]) -> Result<(), Fault> {
         Ok(())
     }
-}
 
-/// The answer to what was loaded, or to why it wasn't.
-fn answer<R: Threads + Sync, G: Gate + Sync>(
-    rt: &R,
-    alloc: Global,
-    loaded: Result<Loaded<()>, Stop>,
-    on_accept: OnAccept,
-    workers: usize,
-    gate: &G,
-) -> Result<Answer, Unanswered>
-    ensures right { IfOk result (λ answer. (contents : Contents (List ℕ)) → Gives (λ none. []) contents loaded
-        → IsAnswer (λ t edges none. answers.Checks on_accept t edges) contents answer.text.items answer.status) }
-    ensures exit { IfOk result (λ answer. answer.status ≤ 2) }
-    ensures unread { unread_by result ≡ unread_of loaded }
-{
-    match loaded {
-        Ok(loaded) => match judged(
-            rt,
-            alloc,
-            &loaded.table,
-            &loaded.policy,
-            on_accept,
-            workers,
-            gate,
-        ) {
-            Ok(answer) => Ok(answer),
-            Err(_) => Err(Unanswered::NoMemory),
-        },
-        Err(Stop::Faulty(file, fault)) => tell_fault(alloc, file, fault),
-        Err(Stop::CannotRead(file)) => Err(Unanswered::CannotRead(file)),
-        Err(Stop::NoMemory) => Err(Unanswered::NoMemory),
+    fn judge(&self, _alloc: Global, loaded: &Loaded<()>) -> Result<Answer, NoMemory> {
+        (self.judge)(loaded)
     }
 }
 
@@ -197,17 +143,17 @@ fn answer<R: Threads + Sync, G: Gate + Sync>(
 fn judged<R: Threads + Sync, G: Gate + Sync>(
     rt: &R,
     alloc: Global,
-    table: &Table,
-    policy: &Policy,
+    loaded: &Loaded<()>,
     on_accept: OnAccept,
     workers: usize,
     gate: &G,
 ) -> Result<Answer, NoMemory>
-    ensures right { IfOk result (λ answer. answers.Checks on_accept table.now policy.now answer.text.items answer.status) }
+    ensures right { IfOk result (λ answer.
+        answers.Checks on_accept loaded.now.table loaded.now.policy answer.text.items answer.status) }
     ensures exit { IfOk result (λ answer. answer.status ≤ 2) }
 {
-    match checker::check(rt, alloc, table, policy, workers, gate) {
-        Ok(verdict) => told(alloc, table, policy, on_accept, &verdict),
+    match checker::check(rt, alloc, &loaded.table, &loaded.policy, workers, gate) {
+        Ok(verdict) => told(alloc, &loaded.table, &loaded.policy, on_accept, &verdict),
         Err(_) => Err(NoMemory),
     }
 }

@@ -1,4 +1,5 @@
-ghost use Rattle.std.specs.Prelude.{◌≡◌, ℕ, List, IfOk, Result};
+ghost use Rattle.std.specs.Prelude.{◌≡◌, ◌≤◌, ℕ, List, IfOk, Result};
+ghost use Rattle.base.specs.declared.edge.Edge.{Edge};
 ghost use Rattle.machine.specs.Layout.{Layout};
 ghost use Rattle.report.specs.Places.{place_names};
 ghost use Rattle.report.specs.Reports.{denial_report};
@@ -8,6 +9,7 @@ ghost use Rattle.words.specs.Reading.{Reads};
 ghost use Rattle.words.specs.declared.faults.Fault.{Fault};
 
 use crate::File;
+use crate::load::Loaded;
 use crate::places::place_names;
 use crate::reports::denial_report;
 use base::Refusal;
@@ -40,12 +42,12 @@ impl From<Refusal> for NoMemory {
     }
 }
 
-/// The third file of a command.
-pub(crate) trait ThirdFile {
-    /// What it holds.
+/// A command: its third file, and what it answers to what the files hold.
+pub(crate) trait Command {
+    /// What the third file holds.
     type Third: Drop;
 
-    // Its name, what is seen of what it holds, and how its text is read.
+    // The third file's name, what is seen of what it holds, and how its text is read.
     ghost third_file: { File };
 
     ghost Held: { Type 0 };
@@ -54,12 +56,25 @@ pub(crate) trait ThirdFile {
 
     ghost read_of: { Layout → List ℕ → Result Held Fault };
 
+    // What judging asks of its caller.
+    ghost may_judge: { Self → Type 0 };
+
+    // Which text and status are the answer to a table, a policy and what the third file holds.
+    ghost judges: { Self → Layout → List Edge → Held → List ℕ → ℕ → Type 0 };
+
     fn third_file() -> File
         ensures { result ≡ third_file };
 
     /// Reads the third text; a fault that is `Fault::MEMORY` says that memory was refused.
     fn read_third(alloc: Global, table: &Table, bytes: &[u8]) -> Result<Self::Third, Fault>
         ensures { Reads held result (read_of table.now bytes.now) };
+
+    /// The answer to a table, a policy and what the third file holds.
+    fn judge(&self, alloc: Global, loaded: &Loaded<Self::Third>) -> Result<Answer, NoMemory>
+        requires { may_judge self.now }
+        ensures right { IfOk result (λ answer.
+            judges self.now loaded.now.table loaded.now.policy (held loaded.now.third) answer.text.items answer.status) }
+        ensures exit { IfOk result (λ answer. answer.status ≤ 2) };
 }
 
 /// The report of a denial: the rule that is broken, and the names at the place.

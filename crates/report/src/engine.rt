@@ -1,15 +1,18 @@
-ghost use Rattle.std.specs.Prelude.{◌≡◌, ◌≤◌, false, true, None, IfOk, IsOkAnd};
+ghost use Rattle.std.specs.Prelude.{◌≡◌, ◌≤◌, false, true, IfOk, IsOkAnd};
 ghost use Rattle.std.specs.Io.KnownBytes.{Appends};
 ghost use Rattle.devices.specs.Devices.{AppendsBeginning};
 ghost use Rattle.report.specs.Ends.{IfCannotWrite, IfStatus, IfUnwritten, is_unwritable, status_of, unread_file};
-ghost use Rattle.report.specs.Files.{unread_by};
-ghost use Rattle.report.specs.Reports as reports;
+ghost use Rattle.report.specs.Commands.{IsAnswer, IsCarriedOut, input, output};
+ghost use Rattle.report.specs.Files.{Contents, Gives, unread_by, unread_of};
+ghost use Rattle.report.specs.Opening.{IsCarriedOutOn};
 
-use crate::command::Answer;
+use crate::command::{Answer, Command};
+use crate::load::{Loaded, Stop, load};
 use crate::reports::fault_report;
-use crate::{End, File, Sink};
-use captext::Fault;
+use crate::{End, File, Sink, Source, Watched};
+use devices::open_result;
 use std::alloc::Global;
+use std::io::{self, Read, Write};
 
 /// Why there is no answer.
 #[derive(Clone, Copy)]
@@ -18,20 +21,93 @@ pub(crate) enum Unanswered {
     CannotRead(File),
 }
 
-/// The answer where a text is faulty.
-pub(crate) fn tell_fault(alloc: Global, file: File, fault: Fault) -> Result<Answer, Unanswered>
-    ensures text { IfOk result (λ answer. answer.text.items ≡ reports.fault_report fault.number file fault.line) }
-    ensures status { IfOk result (λ answer. answer.status ≡ 2) }
-    ensures unread { unread_by result ≡ None }
+/// Carries a command out on its files, and writes its answer.
+pub(crate) fn carry_out<C, T, P, S, O>(
+    command: &C,
+    alloc: Global,
+    table: &mut T,
+    policy: &mut P,
+    third: &mut S,
+    out: &mut O,
+) -> End
+where
+    C: Command,
+    T: Source,
+    P: Source,
+    S: Source,
+    O: Sink,
+    requires command { C.may_judge command.now }
+    requires table { T.failed table.old ≡ false }
+    requires policy { P.failed policy.old ≡ false }
+    requires third { S.failed third.old ≡ false }
+    requires out { O.failed out.old ≡ false }
+    ensures { IsCarriedOut C.third_file C.read_of (C.judges command.now) (input T.remaining T.failed table.old table.new)
+        (input P.remaining P.failed policy.old policy.new) (input S.remaining S.failed third.old third.new)
+        (output O.contents O.failed O.is_flushed out.old out.new) result }
 {
-    match fault_report(alloc, fault.number, file, fault.line) {
-        Ok(text) => Ok(Answer { text, status: 2 }),
-        Err(_) => Err(Unanswered::NoMemory),
+    let loaded = load::<C, T, P, S>(alloc, table, policy, third);
+    write(out, answer(command, alloc, &loaded))
+}
+
+/// The same on what opening the table and the policy gave. Gives the end, and the writer back.
+pub(crate) fn carry_out_on<C, F, S, W>(
+    command: &C,
+    alloc: Global,
+    table: io::Result<F>,
+    policy: io::Result<F>,
+    third: &mut S,
+    out: W,
+) -> (End, W)
+where
+    C: Command,
+    F: Read + Drop,
+    S: Source,
+    W: Write + Drop,
+    requires command { C.may_judge command.now }
+    requires third { S.failed third.old ≡ false }
+    ensures { IsCarriedOutOn C.third_file C.read_of (C.judges command.now) F.remaining W.contents table policy
+        (input S.remaining S.failed third.old third.new) out result.0 result.1 }
+{
+    let mut table = open_result(table);
+    let mut policy = open_result(policy);
+    let mut out = Watched::new(out);
+    let end = carry_out(command, alloc, &mut table, &mut policy, third, &mut out);
+    (end, out.into_inner())
+}
+
+/// The answer to what was loaded, or to why it wasn't.
+fn answer<C: Command>(
+    command: &C,
+    alloc: Global,
+    loaded: &Result<Loaded<C::Third>, Stop>,
+) -> Result<Answer, Unanswered>
+    requires { C.may_judge command.now }
+    ensures right { IfOk result (λ answer. (contents : Contents C.Held) → Gives C.held contents loaded.now
+        → IsAnswer (C.judges command.now) contents answer.text.items answer.status) }
+    ensures exit { IfOk result (λ answer. answer.status ≤ 2) }
+    ensures unread { unread_by result ≡ unread_of loaded.now }
+{
+    match loaded {
+        Ok(loaded) => match command.judge(alloc, loaded) {
+            Ok(answer) => Ok(answer),
+            Err(_) => Err(Unanswered::NoMemory),
+        },
+        Err(Stop::Faulty(file, fault)) => match fault_report(
+            alloc,
+            fault.number,
+            *file,
+            fault.line,
+        ) {
+            Ok(text) => Ok(Answer { text, status: 2 }),
+            Err(_) => Err(Unanswered::NoMemory),
+        },
+        Err(Stop::CannotRead(file)) => Err(Unanswered::CannotRead(*file)),
+        Err(Stop::NoMemory) => Err(Unanswered::NoMemory),
     }
 }
 
 /// Writes an answer, if there is one.
-pub(crate) fn write<O: Sink>(out: &mut O, answer: Result<Answer, Unanswered>) -> End
+fn write<O: Sink>(out: &mut O, answer: Result<Answer, Unanswered>) -> End
     requires { O.failed out.old ≡ false }
     ensures status { IfStatus result (λ status. IsOkAnd answer (λ answer. (answer.status ≡ status)
         × Appends (O.contents out.old) (O.contents out.new) answer.text.items)) }

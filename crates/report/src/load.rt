@@ -5,7 +5,7 @@ ghost use Rattle.report.specs.Commands.{HasPolicy, HasTable, first_failed, input
 ghost use Rattle.report.specs.Files.{Gives, IsDeviceStop, IsStopOf, LoadsAs, contents_of, is_unread, unread_of};
 ghost use Rattle.words.specs.Fault.{no_memory};
 
-use crate::command::ThirdFile;
+use crate::command::Command;
 use crate::{File, ReadError, Source};
 use captext::{Fault, read_policy, read_table};
 use policy::Policy;
@@ -101,7 +101,7 @@ fn load_policy<S: Source>(alloc: Global, table: &Table, source: &mut S) -> Resul
 }
 
 /// What the third file holds; its bytes are let go.
-fn load_third<C: ThirdFile, S: Source>(
+fn load_third<C: Command, S: Source>(
     alloc: Global,
     table: &Table,
     source: &mut S,
@@ -120,7 +120,7 @@ fn load_third<C: ThirdFile, S: Source>(
 }
 
 /// Loads the files one after another, up to the first that stops it.
-pub(crate) fn load<C: ThirdFile, T: Source, P: Source, S: Source>(
+pub(crate) fn load<C: Command, T: Source, P: Source, S: Source>(
     alloc: Global,
     table: &mut T,
     policy: &mut P,

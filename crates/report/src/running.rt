@@ -1,16 +1,16 @@
-ghost use Rattle.std.specs.Prelude.{◌≡◌, ◌≤◌, List, false, IfOk};
+ghost use Rattle.std.specs.Prelude.{◌≡◌, List, false, IfOk};
 ghost use Rattle.evtext.specs.Script.{read_script_of};
 ghost use Rattle.machine.specs.declared.call.Event.{Event};
+ghost use Rattle.std.specs.Thread.{IsSync};
 ghost use Rattle.report.specs.Answers as answers;
-ghost use Rattle.report.specs.Commands.{IsAnswer, input, output};
-ghost use Rattle.report.specs.Files.{Contents, Gives, unread_by, unread_of};
+ghost use Rattle.report.specs.Commands.{input, output};
 ghost use Rattle.report.specs.Opening.{IsRunOn};
 ghost use Rattle.report.specs.declared.end.File.TheVariants as file;
 
-use crate::command::{Answer, NoMemory, ThirdFile, denial_text};
-use crate::engine::{Unanswered, tell_fault, write};
-use crate::load::{Loaded, Stop, load};
-use crate::{End, File, Sink, Source, Watched};
+use crate::command::{Answer, Command, NoMemory, denial_text};
+use crate::engine::{carry_out, carry_out_on};
+use crate::load::Loaded;
+use crate::{End, File, Sink, Source};
 use base::Refusal;
 use captext::Fault;
 use deal::Open;
@@ -18,7 +18,6 @@ use devices::open_result;
 use evtext::{read_script, write_run};
 use kernel::boot;
 use machine::Event;
-use policy::Policy;
 use std::alloc::Global;
 use std::io::{self, Read, Write};
 use std::thread::Threads;
@@ -51,8 +50,7 @@ where
         (input P.remaining P.failed policy.old policy.new) (input S.remaining S.failed script.old script.new)
         (output O.contents O.failed O.is_flushed out.old out.new) result }
 {
-    let loaded = load::<Script, T, P, S>(alloc, table, policy, script);
-    write(out, answer(rt, alloc, loaded))
+    carry_out(&Running { rt }, alloc, table, policy, script, out)
 }
 
 /// The same on what opening the three files gave. Gives the end, and the writer back.
@@ -70,18 +68,17 @@ where
     W: Write + Drop,
     ensures { IsRunOn F.remaining W.contents table policy script out result.0 result.1 }
 {
-    let mut table = open_result(table);
-    let mut policy = open_result(policy);
     let mut script = open_result(script);
-    let mut out = Watched::new(out);
-    let end = run(rt, alloc, &mut table, &mut policy, &mut script, &mut out);
-    (end, out.into_inner())
+    carry_out_on(&Running { rt }, alloc, table, policy, &mut script, out)
 }
 
-/// The third file of `run`.
-struct Script;
+/// The command `run`.
+#[derive(Drop)]
+struct Running<'a, R> {
+    rt: &'a R,
+}
 
-impl ThirdFile for Script {
+impl<R: Threads + Sync> Command for Running<'_, R> {
     type Third = Vec<Event>;
 
     ghost third_file = { file.Script };
@@ -92,6 +89,10 @@ impl ThirdFile for Script {
 
     ghost read_of = { λ table. read_script_of };
 
+    ghost may_judge = { λ _. IsSync R.row };
+
+    ghost judges = { λ run. answers.Runs };
+
     fn third_file() -> File {
         File::Script
     }
@@ -99,50 +100,18 @@ impl ThirdFile for Script {
     fn read_third(alloc: Global, _table: &Table, bytes: &[u8]) -> Result<Vec<Event>, Fault> {
         read_script(alloc, bytes)
     }
-}
 
-/// The answer to what was loaded, or to why it wasn't.
-fn answer<R: Threads + Sync>(
-    rt: &R,
-    alloc: Global,
-    loaded: Result<Loaded<Vec<Event>>, Stop>,
-) -> Result<Answer, Unanswered>
-    ensures right { IfOk result (λ answer. (contents : Contents (List Event)) → Gives (λ events. events.items) contents loaded
-        → IsAnswer answers.Runs contents answer.text.items answer.status) }
-    ensures exit { IfOk result (λ answer. answer.status ≤ 2) }
-    ensures unread { unread_by result ≡ unread_of loaded }
-{
-    match loaded {
-        Ok(loaded) => match judged(rt, alloc, &loaded.table, &loaded.policy, &loaded.third) {
-            Ok(answer) => Ok(answer),
-            Err(_) => Err(Unanswered::NoMemory),
-        },
-        Err(Stop::Faulty(file, fault)) => tell_fault(alloc, file, fault),
-        Err(Stop::CannotRead(file)) => Err(Unanswered::CannotRead(file)),
-        Err(Stop::NoMemory) => Err(Unanswered::NoMemory),
-    }
-}
-
-/// The answer to the verdict: the log of the run, or the report of the denial.
-fn judged<R: Threads + Sync>(
-    rt: &R,
-    alloc: Global,
-    table: &Table,
-    policy: &Policy,
-    events: &[Event],
-) -> Result<Answer, NoMemory>
-    ensures right { IfOk result (λ answer. answers.Runs table.now policy.now events.now answer.text.items answer.status) }
-    ensures exit { IfOk result (λ answer. answer.status ≤ 2) }
-{
-    match judge(rt, alloc, table, policy, 1, &Open)? {
-        Ok(_) => Ok(Answer {
-            text: log_of_run(alloc, table, events)?,
-            status: 0,
-        }),
-        Err(denial) => Ok(Answer {
-            text: denial_text(alloc, table, &denial)?,
-            status: 1,
-        }),
+    fn judge(&self, alloc: Global, loaded: &Loaded<Vec<Event>>) -> Result<Answer, NoMemory> {
+        match judge(self.rt, alloc, &loaded.table, &loaded.policy, 1, &Open)? {
+            Ok(_) => Ok(Answer {
+                text: log_of_run(alloc, &loaded.table, &loaded.third)?,
+                status: 0,
+            }),
+            Err(denial) => Ok(Answer {
+                text: denial_text(alloc, &loaded.table, &denial)?,
+                status: 1,
+            }),
+        }
     }
 }
 

@@ -1,21 +1,20 @@
-ghost use Rattle.std.specs.Prelude.{◌≡◌, ◌≤◌, List, false, IfOk};
+ghost use Rattle.std.specs.Prelude.{◌≡◌, List, false};
 ghost use Rattle.certificate.specs.Reading.{read_certificate_of};
 ghost use Rattle.certificate.specs.declared.line.Line.{Line};
+ghost use Rattle.std.specs.Thread.{IsSync};
 ghost use Rattle.report.specs.Answers as answers;
-ghost use Rattle.report.specs.Commands.{IsAnswer, input, output};
-ghost use Rattle.report.specs.Files.{Contents, Gives, unread_by, unread_of};
+ghost use Rattle.report.specs.Commands.{input, output};
 ghost use Rattle.report.specs.Opening.{IsVerifiedOn};
 ghost use Rattle.report.specs.declared.end.File.TheVariants as file;
 
-use crate::command::{Answer, NoMemory, ThirdFile, denial_text};
-use crate::engine::{Unanswered, tell_fault, write};
-use crate::load::{Loaded, Stop, load};
+use crate::command::{Answer, Command, NoMemory, denial_text};
+use crate::engine::{carry_out, carry_out_on};
+use crate::load::Loaded;
 use crate::reports::accept_report;
-use crate::{End, File, Sink, Source, Watched};
+use crate::{End, File, Sink, Source};
 use captext::Fault;
 use certificate::{Certificate, NotAccepted};
 use devices::open_result;
-use policy::Policy;
 use std::alloc::Global;
 use std::io::{self, Read, Write};
 use std::thread::Threads;
@@ -47,8 +46,7 @@ where
         (input P.remaining P.failed policy.old policy.new) (input S.remaining S.failed certificate.old certificate.new)
         (output O.contents O.failed O.is_flushed out.old out.new) result }
 {
-    let loaded = load::<CertificateFile, T, P, S>(alloc, table, policy, certificate);
-    write(out, answer(rt, alloc, loaded))
+    carry_out(&Verifying { rt }, alloc, table, policy, certificate, out)
 }
 
 /// The same on what opening the three files gave. Gives the end, and the writer back.
@@ -66,25 +64,24 @@ where
     W: Write + Drop,
     ensures { IsVerifiedOn F.remaining W.contents table policy certificate out result.0 result.1 }
 {
-    let mut table = open_result(table);
-    let mut policy = open_result(policy);
     let mut certificate = open_result(certificate);
-    let mut out = Watched::new(out);
-    let end = verify(
-        rt,
+    carry_out_on(
+        &Verifying { rt },
         alloc,
-        &mut table,
-        &mut policy,
+        table,
+        policy,
         &mut certificate,
-        &mut out,
-    );
-    (end, out.into_inner())
+        out,
+    )
 }
 
-/// The third file of `verify`.
-struct CertificateFile;
+/// The command `verify`.
+#[derive(Drop)]
+struct Verifying<'a, R> {
+    rt: &'a R,
+}
 
-impl ThirdFile for CertificateFile {
+impl<R: Threads + Sync> Command for Verifying<'_, R> {
     type Third = Certificate;
 
     ghost third_file = { file.Certificate };
@@ -95,6 +92,10 @@ impl ThirdFile for CertificateFile {
 
     ghost read_of = { read_certificate_of };
 
+    ghost may_judge = { λ _. IsSync R.row };
+
+    ghost judges = { λ verify. answers.Verifies };
+
     fn third_file() -> File {
         File::Certificate
     }
@@ -102,50 +103,18 @@ impl ThirdFile for CertificateFile {
     fn read_third(alloc: Global, table: &Table, bytes: &[u8]) -> Result<Certificate, Fault> {
         certificate::read(alloc, bytes, table)
     }
-}
 
-/// The answer to what was loaded, or to why it wasn't.
-fn answer<R: Threads + Sync>(
-    rt: &R,
-    alloc: Global,
-    loaded: Result<Loaded<Certificate>, Stop>,
-) -> Result<Answer, Unanswered>
-    ensures right { IfOk result (λ answer. (contents : Contents (List Line)) → Gives (λ lines. lines) contents loaded
-        → IsAnswer answers.Verifies contents answer.text.items answer.status) }
-    ensures exit { IfOk result (λ answer. answer.status ≤ 2) }
-    ensures unread { unread_by result ≡ unread_of loaded }
-{
-    match loaded {
-        Ok(loaded) => match judged(rt, alloc, &loaded.table, &loaded.policy, &loaded.third) {
-            Ok(answer) => Ok(answer),
-            Err(_) => Err(Unanswered::NoMemory),
-        },
-        Err(Stop::Faulty(file, fault)) => tell_fault(alloc, file, fault),
-        Err(Stop::CannotRead(file)) => Err(Unanswered::CannotRead(file)),
-        Err(Stop::NoMemory) => Err(Unanswered::NoMemory),
-    }
-}
-
-/// The answer to the verdict and the certificate.
-fn judged<R: Threads + Sync>(
-    rt: &R,
-    alloc: Global,
-    table: &Table,
-    policy: &Policy,
-    certificate: &Certificate,
-) -> Result<Answer, NoMemory>
-    ensures right { IfOk result (λ answer. answers.Verifies table.now policy.now certificate.now answer.text.items answer.status) }
-    ensures exit { IfOk result (λ answer. answer.status ≤ 2) }
-{
-    match certificate::verify(rt, alloc, table, policy, certificate) {
-        Ok(_) => Ok(Answer {
-            text: accept_report(alloc)?,
-            status: 0,
-        }),
-        Err(NotAccepted::Denied(denial)) => Ok(Answer {
-            text: denial_text(alloc, table, &denial)?,
-            status: 1,
-        }),
-        Err(NotAccepted::NoMemory) => Err(NoMemory),
+    fn judge(&self, alloc: Global, loaded: &Loaded<Certificate>) -> Result<Answer, NoMemory> {
+        match certificate::verify(self.rt, alloc, &loaded.table, &loaded.policy, &loaded.third) {
+            Ok(_) => Ok(Answer {
+                text: accept_report(alloc)?,
+                status: 0,
+            }),
+            Err(NotAccepted::Denied(denial)) => Ok(Answer {
+                text: denial_text(alloc, &loaded.table, &denial)?,
+                status: 1,
+            }),
+            Err(NotAccepted::NoMemory) => Err(NoMemory),
+        }
     }
 }

@@ -6,7 +6,7 @@ pub returns-in_err-policy-clause-loaded : goal.returns-in_err-policy-clause-load
 returns-in_err-policy-clause-loaded g c =
     let p = err_from_is_err_and c.from_residual-in_err-policy.result c.from_residual-in_err-policy.ensures.1 in
     rw (p.1, p.2)
-    (policy_stopped g.C.ThirdFile.held g.C.ThirdFile.third_file g.C.ThirdFile.read_of
+    (policy_stopped g.C.Command.held g.C.Command.third_file g.C.Command.read_of
     (g.T.Source.remaining c.args.table.now) (g.P.Source.remaining c.args.policy.now) (g.S.Source.remaining c.args.third.now)
     _ _ c.in_ok-table.ensures.loaded c.in_err-policy.ensures.stops c.in_err-policy.ensures.loaded)
 
@@ -14,6 +14,6 @@ pub returns-in_err-third-clause-loaded : goal.returns-in_err-third-clause-loaded
 returns-in_err-third-clause-loaded g c =
     let p = err_from_is_err_and c.from_residual-in_err-third.result c.from_residual-in_err-third.ensures.1 in
     rw (p.1, p.2)
-    (third_stopped g.C.ThirdFile.held g.C.ThirdFile.third_file g.C.ThirdFile.read_of
+    (third_stopped g.C.Command.held g.C.Command.third_file g.C.Command.read_of
     (g.T.Source.remaining c.args.table.now) (g.P.Source.remaining c.args.policy.now) (g.S.Source.remaining c.args.third.now)
     _ _ _ c.in_ok-table.ensures.loaded c.in_ok-policy.ensures.loaded c.in_err-third.ensures.stops c.in_err-third.ensures.loaded)

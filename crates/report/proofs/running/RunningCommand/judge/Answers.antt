@@ -1,6 +1,6 @@
 use Rattle.std.proofs.Common.{refl}
 use Rattle.report.specs.Answers.{denied}
-use Rattle.report.proofs.running.judged.Goals as goal
+use Rattle.report.proofs.running.RunningCommand.judge.Goals as goal
 
 pub returns-in_ok-denial_text-in-Err-clause-right : goal.returns-in_ok-denial_text-in-Err-clause-right
 returns-in_ok-denial_text-in-Err-clause-right g c =

@@ -1,6 +1,6 @@
 use Rattle.std.proofs.Common.{refl}
 use Rattle.report.specs.Answers.{denied}
-use Rattle.report.proofs.verifying.judged.Goals as goal
+use Rattle.report.proofs.verifying.VerifyingCommand.judge.Goals as goal
 
 pub returns-in_ok-denial_text-in-Err-Denied-clause-right : goal.returns-in_ok-denial_text-in-Err-Denied-clause-right
 returns-in_ok-denial_text-in-Err-Denied-clause-right g c =

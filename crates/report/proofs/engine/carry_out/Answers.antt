@@ -1,0 +1,25 @@
+use Rattle.std.proofs.Common.{◌∙◌}
+use Rattle.std.specs.Io.KnownBytes.{Appends}
+use Rattle.devices.specs.Devices.{AppendsBeginning}
+use Rattle.report.specs.Commands.{IsAnswer}
+use Rattle.report.specs.Files.{contents_of}
+use Rattle.report.proofs.Answered.{at_contents, began, written}
+use Rattle.report.proofs.engine.carry_out.Goals as goal
+
+pub returns : goal.returns
+returns g c =
+    let command = g.C.Command in
+    let judges = command.judges c.args.command.now in
+    let held = contents_of command.third_file command.read_of (g.T.Source.remaining c.args.table.now) (g.P.Source.remaining c.args.policy.now) (g.S.Source.remaining c.args.third.now) in
+    let right = at_contents command.held judges c.load-loaded.result c.answer.result held c.load-loaded.ensures.loaded c.answer.ensures.right in
+    record {
+      answered = written c.write.result c.answer.result (IsAnswer judges held) (Appends (g.O.Sink.contents c.args.out.now) (g.O.Sink.contents c.write.new.out)) right c.write.ensures.status;
+      begun = began c.write.result c.answer.result (IsAnswer judges held) (AppendsBeginning (g.O.Sink.contents c.args.out.now) (g.O.Sink.contents c.write.new.out)) right c.write.ensures.begun;
+      unwritten = c.write.ensures.unwritten;
+      flushed = c.write.ensures.flushed;
+      exit = c.write.ensures.exit c.answer.ensures.exit;
+      policy_waits = c.load-loaded.ensures.policy_waits;
+      third_waits = c.load-loaded.ensures.third_waits;
+      unread = c.write.ensures.unread ∙ c.answer.ensures.unread ∙ c.load-loaded.ensures.unread;
+      unwritable = c.write.ensures.unwritable;
+    }
