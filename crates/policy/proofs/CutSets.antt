@@ -12,8 +12,8 @@ use Rattle.policy.specs.Domain.{EdgeTest}
 use Rattle.policy.specs.Cut.{IsBase, IsCut, IsHolding, IsNear, is_link}
 use Rattle.policy.specs.Cut.IsNear.{stays, along, against}
 use Rattle.policy.specs.Steps.{IsNearSome, IsTarget, IsSource}
-use Rattle.policy.proofs.KindNumbers.{same_kind}
-use Rattle.policy.proofs.Stepping.{is_kind, each_kind, chosen, found_kind, of_kind, only_kind, target_by}
+use Rattle.policy.proofs.KindNumbers.{each_kind, is_kind, same_kind}
+use Rattle.policy.proofs.Stepping.{chosen, found_kind, of_kind, only_kind, target_by}
 
 -- the labels that a label of a set is near to
 

@@ -11,7 +11,8 @@ use Rattle.policy.specs.Domain.{EdgeTest}
 use Rattle.policy.specs.Full.{IsFull, is_modifying}
 use Rattle.policy.specs.Full.IsFull.{own, modifies, sends, receives, notifies, links, grants, replies}
 use Rattle.policy.specs.Steps.{is_joined, IsTarget, IsSource}
-use Rattle.policy.proofs.Stepping.{IsRow, is_kind, each_kind, chosen, found_kind, only_kind, of_kind, source_by, target_by}
+use Rattle.policy.proofs.KindNumbers.{each_kind, is_kind}
+use Rattle.policy.proofs.Stepping.{IsRow, chosen, found_kind, only_kind, of_kind, source_by, target_by}
 
 abbrev Sources : EdgeTest → Kind → Labels → ℕ → Bool → Type 0
 Sources test kind tos from here = (here ≡ true) ↔ IsSource test (kind ∷ []) tos from

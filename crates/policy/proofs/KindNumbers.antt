@@ -1,5 +1,8 @@
 -- The kinds in the order of their numbers.
-use Rattle.std.proofs.Common.{◌≡◌, ℕ, ◌<◌, List, [], ◌∷◌, get_or, Some, slice_get, refl, sym, ap, ◌∙◌, zero-add, arith}
+use Rattle.std.proofs.Common.{◌≡◌, ℕ, ◌<◌, ◌==◌, Bool, true, inl, inr, List, [], ◌∷◌, get_or, Some, slice_get, refl, sym, ap, ◌∙◌, zero-add, arith}
+use mathlib.Core.Bool.{false≢true}
+use Rattle.std.specs.List.{list_any, list_all}
+use Rattle.std.proofs.lemmas.Bool.{and_parts, or_cases, eqb-true}
 use Rattle.std.proofs.lemmas.List.{get_or-map}
 use Rattle.std.proofs.lemmas.List.FromFn.{get_or-range_with_len}
 use Rattle.std.proofs.lemmas.Option.{slice_get-get_or, slice_get_within, get_or_from_slice_get}
@@ -47,3 +50,21 @@ number_stands k kind at =
 
 pub same_kind : (a b : Kind) → kind_number a ≡ kind_number b → a ≡ b
 same_kind a b same = sym (at_number a a) ∙ ap (λ n. get_or all_kinds n a) same ∙ at_number b a
+
+abbrev pub is_kind : Kind → Kind → Bool
+is_kind kind other = kind_number kind == kind_number other
+
+-- what all kinds pass, each passes
+every : (p : Kind → Bool) (kinds : List Kind) (kind : Kind) → list_all p kinds ≡ true → list_any (is_kind kind) kinds ≡ true → p kind ≡ true
+every p [] kind all is = absurd (false≢true is)
+every p (first ∷ rest) kind all is =
+    let parts = and_parts (p first) (list_all p rest) all in
+    elim (or_cases (is_kind kind first) (list_any (is_kind kind) rest) is) [
+      | inl same ↦ ap p (same_kind kind first (eqb-true _ _ same)) ∙ parts.0
+      | inr later ↦ every p rest kind parts.1 later
+    ]
+
+pub each_kind : (p : Kind → Bool) → list_all p all_kinds ≡ true → (kind : Kind) → p kind ≡ true
+each_kind p all kind = every p all_kinds kind all (among kind) where
+  among : (kind : Kind) → list_any (is_kind kind) all_kinds ≡ true
+  among kind = grind arith

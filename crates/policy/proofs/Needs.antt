@@ -1,10 +1,11 @@
 -- For each rule of closed policies a policy that breaks it alone.
-use Rattle.std.proofs.Common.{◌≡◌, ◌≢◌, ℕ, ◌==◌, inl, inr, Bool, true, false, refl, sym, ◌∙◌, ◌+◌}
+use Rattle.std.proofs.Common.{◌≡◌, ◌≢◌, ℕ, ◌==◌, inl, inr, true, false, refl, sym, ◌+◌}
 use mathlib.Core.Bool.{false≢true}
 use Rattle.base.specs.declared.kind.Kind.{Kind}
 use Rattle.base.specs.declared.kind.Kind.TheVariants.{Control, Reset, Receive, Grant, Reply, Context, Space, Derive}
 use Rattle.policy.specs.Closed.{ControlGivesAll, GrantShares, DeriveInDomain, DeriveByGrant, ContextRuns, ReplyHolds, IsClosed}
 use Rattle.policy.specs.Domain.{EdgeTest, IsInDomain, SubjectsAgree}
+use Rattle.policy.proofs.Cells.{not_both}
 use Rattle.policy.specs.Needed.{Rule, subjects_agree, control_gives_all, grant_shares, derive_in_domain, derive_by_grant, context_runs, reply_holds, Obeys, BreaksOnly}
 
 -- whether all edges of a kind are there, or none
@@ -13,9 +14,6 @@ Lacks test k = (a b : ℕ) → test a k b ≡ false
 
 abbrev HasAll : EdgeTest → Kind → Type 0
 HasAll test k = (a b : ℕ) → test a k b ≡ true
-
-not_both : {b : Bool} → b ≡ true → b ≡ false → ⊥
-not_both t f = false≢true (sym f ∙ t)
 
 -- rules that a policy obeys since it lacks a kind, or has all of it
 

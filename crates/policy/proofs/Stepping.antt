@@ -1,5 +1,5 @@
 -- Steps along edges, kind by kind and label by label.
-use Rattle.std.proofs.Common.{◌≡◌, ℕ, ◌+◌, ◌<◌, ◌↔◌, Bool, true, false, not, ◌&&◌, ◌||◌, ◌==◌, List, [], ◌∷◌, Option, Some, None, sym, ap, ◌∙◌, subst, inl, inr, arith}
+use Rattle.std.proofs.Common.{◌≡◌, ℕ, ◌+◌, ◌<◌, ◌↔◌, Bool, true, false, not, ◌&&◌, ◌||◌, List, [], ◌∷◌, Option, Some, None, sym, ap, ◌∙◌, subst, inl, inr, arith}
 use mathlib.Core.Bool.{false≢true}
 use Rattle.std.specs.List.{list_any, list_all}
 use Rattle.std.proofs.Math.Bool.{or-false}
@@ -8,30 +8,11 @@ use Rattle.std.proofs.lemmas.List.Folds.{Any-from_list_any}
 use Rattle.std.proofs.lemmas.Bool.{and_parts, and_from, or_cases, or_left, or_right, cases_order, eqb-true}
 use Rattle.base.specs.declared.kind.Kind.{Kind}
 use Rattle.base.specs.declared.kind.Kind.TheVariants.{Space, Control}
-use Rattle.base.specs.Kinds.{kind_number}
 use Rattle.base.specs.declared.labels.Labels.{Labels}
 use Rattle.base.specs.Labels.{is_in}
 use Rattle.policy.specs.Domain.{EdgeTest, IsInDomain}
 use Rattle.policy.specs.Steps.{is_joined, IsSource, IsTarget}
-use Rattle.policy.proofs.KindNumbers.{all_kinds, same_kind}
-
-abbrev pub is_kind : Kind → Kind → Bool
-is_kind kind other = kind_number kind == kind_number other
-
--- what all kinds pass, each passes
-every : (p : Kind → Bool) (kinds : List Kind) (kind : Kind) → list_all p kinds ≡ true → list_any (is_kind kind) kinds ≡ true → p kind ≡ true
-every p [] kind all is = absurd (false≢true is)
-every p (first ∷ rest) kind all is =
-    let parts = and_parts (p first) (list_all p rest) all in
-    elim (or_cases (is_kind kind first) (list_any (is_kind kind) rest) is) [
-      | inl same ↦ ap p (same_kind kind first (eqb-true _ _ same)) ∙ parts.0
-      | inr later ↦ every p rest kind parts.1 later
-    ]
-
-pub each_kind : (p : Kind → Bool) → list_all p all_kinds ≡ true → (kind : Kind) → p kind ≡ true
-each_kind p all kind = every p all_kinds kind all (among kind) where
-  among : (kind : Kind) → list_any (is_kind kind) all_kinds ≡ true
-  among kind = grind arith
+use Rattle.policy.proofs.KindNumbers.{is_kind, same_kind}
 
 -- a kind of a list that passes both tests
 pub chosen : (p q : Kind → Bool) (kinds : List Kind) → list_all p kinds ≡ true → list_any q kinds ≡ true → (kind : Kind) × (p kind ≡ true) × (q kind ≡ true)
