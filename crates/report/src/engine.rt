@@ -1,8 +1,8 @@
 ghost use Rattle.std.specs.Prelude.{◌≡◌, ◌≤◌, false, true, IfOk, IsOkAnd};
 ghost use Rattle.std.specs.Io.KnownBytes.{Appends};
 ghost use Rattle.devices.specs.Devices.{AppendsBeginning};
-ghost use Rattle.report.specs.Ends.{IfCannotWrite, IfStatus, IfUnwritten, is_unwritable, status_of, unread_file};
 ghost use Rattle.report.specs.Commands.{IsAnswer, IsCarriedOut, input, output};
+ghost use Rattle.report.specs.Ends.{IfCannotWrite, IfStatus, IfUnwritten, is_unwritable, status_of, unread_file};
 ghost use Rattle.report.specs.Files.{Contents, Gives, unread_by, unread_of};
 ghost use Rattle.report.specs.Opening.{IsCarriedOutOn};
 
