@@ -137,6 +137,37 @@ def table_log(objects):
     return log_of(table_events(objects))
 
 
+# One CNode of 2^12 slots: slot 0 holds a notification's capability, of which copies are made from slot 2 on, and the first
+# of these moves to the last slot and back.
+MOVES_TABLE = """\
+confine-table 1
+label a
+cnode c a 0x20000 12
+tcb t a 0x4000 ready
+notification n a 0x3000
+context x a 0x5000 0 10 10
+cap c.0 n rw 0
+cap c.1 c 52 0x0
+cap t.root c 52 0x0
+bind t x
+end
+"""
+COPY_SLOT, LAST_SLOT = 2, 2**12 - 1
+
+
+def copies_and_moves(copies, moves):
+    """The events of so many copies of one capability, and then so many moves of the first copy, to and fro."""
+    made = [f"0 1 copy 1 {COPY_SLOT + i} 64 1 0 64 r" for i in range(copies)]
+    there = f"0 1 move 1 {LAST_SLOT} 64 1 {COPY_SLOT} 64"
+    back = f"0 1 move 1 {COPY_SLOT} 64 1 {LAST_SLOT} 64"
+    return made + [back if i % 2 else there for i in range(moves)]
+
+
+def all_done(events):
+    """The log in which each event is done."""
+    return text("confine-log 1", [f"{event} = done" for event in events])
+
+
 # The full tables: all nine kinds of object, nearly all slots filled, and a derivation tree. With 448 groups there are
 # 4,096 objects, 58,000 filled slots of 58,240, and 20,000 pairs. A CNode of them has 2^7 slots.
 FULL_RADIX = 7

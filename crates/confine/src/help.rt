@@ -65,9 +65,14 @@ pub const SCRIPT: &str = "\
 The kernel calls. Its lines, between `confine-script 1` and `end`, where THREAD is the
 number of an object:
 
-  CORE THREAD signal ADDRESS
-  CORE THREAD poll ADDRESS
-  CORE THREAD wait ADDRESS";
+  CORE THREAD signal ADDRESS                        `poll`, `wait` alike
+  CORE THREAD copy SLOT SLOT RIGHTS                 to the first slot, from the second
+  CORE THREAD mint SLOT SLOT RIGHTS badge BADGE
+  CORE THREAD mint SLOT SLOT RIGHTS guard BITS VALUE
+  CORE THREAD move SLOT SLOT
+
+SLOT is three numbers: the address of a CNode, an index, and how many of its low bits
+are looked up from there, 1 to 64. All numbers are decimal.";
 
 pub const WORKERS: &str = "Threads that look over the slots side by side, 1 to 16";
 

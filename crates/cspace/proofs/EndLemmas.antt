@@ -126,7 +126,7 @@ same_detail DepthMismatch DepthMismatch e = refl
 same_detail GuardMismatch GuardMismatch e = refl
 same_detail _ _ e = absurd (omega arith)
 
-same_cause :
+pub same_cause :
     (cause : Cause) (failure : LookupFailure) → refusal_of cause ≡ refusal_of (FailedLookup failure)
     → cause ≡ FailedLookup failure
 same_cause (FailedLookup given) failure e = ap FailedLookup (same_detail given failure (ap (λ (r : Refusal). r.detail) e))

@@ -7,3 +7,4 @@ pub mod LookupLemmas
 pub mod UniqueLemmas
 pub mod RadixLemmas
 pub mod EndLemmas
+pub mod TargetLemmas

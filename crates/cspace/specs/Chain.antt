@@ -1,9 +1,11 @@
 -- Guarded lookup by chains of CNode capabilities: guards and indices, joined, are a beginning of the address (seL4 manual,
 -- "Capability Address Lookup").
-use Rattle.std.specs.Prelude.{◌≡◌, ℕ, ◌+◌, ◌<◌, ◌⊎◌, Bool, List, [], ◌∷◌, ◌++◌, length, Some, None}
+use Rattle.std.specs.Prelude.{◌≡◌, ℕ, ◌+◌, ◌<◌, ◌≤◌, ◌⊎◌, Bool, List, [], ◌∷◌, ◌++◌, length, Some, None}
 use Rattle.std.specs.List.{flat_map}
 use Rattle.base.specs.declared.ids.ObjId.{ObjId}
 use Rattle.base.specs.declared.ids.SlotRef.{SlotRef}
+use Rattle.base.specs.declared.refusal.Cause.{Cause}
+use Rattle.base.specs.declared.refusal.Cause.TheVariants.{FailedLookup, RangeError}
 use Rattle.base.specs.declared.refusal.LookupFailure.{LookupFailure}
 use Rattle.base.specs.declared.refusal.LookupFailure.TheVariants.{InvalidRoot, DepthMismatch, GuardMismatch}
 use Rattle.machine.specs.Bits.{bits, number}
@@ -89,3 +91,57 @@ abbrev pub Fails : Machine → ObjId → ℕ → LookupFailure → Type 0
 Fails m thread address failure =
     ((root_level m thread ≡ None) × (failure ≡ InvalidRoot))
     ⊎ ((root : Level) × (root_level m thread ≡ Some root) × Misses m root (bits 64 address) failure)
+
+-- a slot holds the capability of the CNode where the lookup of a target begins, and an index has so many bits to look up
+pub record TargetStarts (m : Machine) (from : SlotRef) (depth : ℕ) (root : Level) : Type 0 where
+  pub rooted : level_at m from ≡ Some root
+  pub least : 1 ≤ depth
+  pub most : depth ≤ 64
+
+-- a chain ends at a slot that holds no CNode capability, and bits are left: an empty slot, or one that leads no further
+pub record StopsShort (m : Machine) (from : Level) (string : List Bool) : Type 0 where
+  pub slot : SlotRef
+  pub rest : List Bool
+  pub resolves : Resolves m from string slot rest
+  pub left : 0 < length rest
+
+-- the lookup of a target finds a slot: a chain ends there whose guards and indices, joined, are the low bits of the index
+pub record TargetFinds (m : Machine) (from : SlotRef) (index depth : ℕ) (slot : SlotRef) : Type 0 where
+  pub root : Level
+  pub starts : TargetStarts m from depth root
+  pub resolves : Resolves m root (bits depth index) slot []
+
+-- the lookup of a target has no CNode where it can begin
+pub record TargetUnrooted (m : Machine) (from : SlotRef) (cause : Cause) : Type 0 where
+  pub unrooted : level_at m from ≡ None
+  pub is : cause ≡ FailedLookup InvalidRoot
+
+-- the lookup of a target has a CNode where it can begin, but an index has not so many bits to look up
+pub record TargetOutside (m : Machine) (from : SlotRef) (depth : ℕ) (cause : Cause) : Type 0 where
+  pub root : Level
+  pub rooted : level_at m from ≡ Some root
+  pub outside : (depth < 1) ⊎ (64 < depth)
+  pub is : cause ≡ RangeError
+
+-- the lookup of a target is hindered at a CNode on the way
+pub record TargetMisses (m : Machine) (from : SlotRef) (index depth : ℕ) (cause : Cause) : Type 0 where
+  pub root : Level
+  pub starts : TargetStarts m from depth root
+  pub failure : LookupFailure
+  pub misses : Misses m root (bits depth index) failure
+  pub is : cause ≡ FailedLookup failure
+
+-- the lookup of a target ends before its bits are used up
+pub record TargetStops (m : Machine) (from : SlotRef) (index depth : ℕ) (cause : Cause) : Type 0 where
+  pub root : Level
+  pub starts : TargetStarts m from depth root
+  pub stops : StopsShort m root (bits depth index)
+  pub is : cause ≡ FailedLookup DepthMismatch
+
+-- the lookup of a target fails: it cannot begin, or a chain from where it begins is hindered or stops short
+abbrev pub TargetFails : Machine → SlotRef → ℕ → ℕ → Cause → Type 0
+TargetFails m from index depth cause =
+    TargetUnrooted m from cause
+    ⊎ TargetOutside m from depth cause
+    ⊎ TargetMisses m from index depth cause
+    ⊎ TargetStops m from index depth cause

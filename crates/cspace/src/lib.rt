@@ -4,9 +4,11 @@
 mod chain;
 mod find;
 mod level;
+mod target;
 mod walk;
 mod word;
 
 pub use chain::lookup_follows_a_chain;
 pub use find::find_cap;
+pub use target::{lookup_target, resolve_target};
 pub use walk::{lookup, resolve};

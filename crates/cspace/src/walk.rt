@@ -18,7 +18,7 @@ use objects::State;
 
 /// The CNode whose capability the slot holds.
 #[tactic(auto, unfolding(machine::specs::Lookup::level_at))]
-fn level_at(state: &State, slot: SlotRef) -> Option<Level>
+pub(crate) fn level_at(state: &State, slot: SlotRef) -> Option<Level>
     ensures { option_map level_shown result ≡ level_at state.now slot }
 {
     let cap = state.cap(slot)?;
@@ -53,7 +53,7 @@ fn root_level(state: &State, thread: ObjId) -> Option<Level>
 
 /// The slot where the low `left` bits of an address end, from a CNode on, and how many bits are left
 /// then.
-fn walk(
+pub(crate) fn walk(
     state: &State,
     level: Level,
     address: u64,

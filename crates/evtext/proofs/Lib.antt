@@ -1,4 +1,5 @@
 mod Logs
+mod CallParts
 mod EventWords
 mod EventLines
 mod Scripts

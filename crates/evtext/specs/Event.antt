@@ -2,13 +2,66 @@
 use Rattle.std.specs.Prelude.{ℕ, ◌<◌, ◌^◌, ◌&&◌, nat_lt, [], ◌∷◌, codes, Result, Ok, Err, if◌then◌else◌}
 use Rattle.base.specs.declared.core_number.TheConstants.CoreNo as CoreNo
 use Rattle.base.specs.declared.limits.TheConstants.{MAX_EVENTS}
+use Rattle.base.specs.declared.rights.Rights.{Rights}
+use Rattle.base.specs.Rights.{rights_of_word, IsRights}
 use Rattle.machine.specs.declared.call.Call.{Call}
-use Rattle.machine.specs.declared.call.Call.TheVariants.{Signal, Poll, Wait}
+use Rattle.machine.specs.declared.call.Call.TheVariants.{Signal, Poll, Wait, Copy, Mint, Move}
+use Rattle.machine.specs.declared.call.CapData.{CapData}
+use Rattle.machine.specs.declared.call.CapData.TheVariants.{Badge, Guard}
 use Rattle.machine.specs.declared.call.Event.{Event}
+use Rattle.machine.specs.declared.slot_address.SlotAddress.{SlotAddress}
 use Rattle.words.specs.declared.faults.Wrong.{Wrong}
 use Rattle.words.specs.declared.faults.Wrong.TheVariants.{Limit}
 use Rattle.words.specs.Number.{number_at}
 use Rattle.words.specs.Parts.{PartReader, in_turn, keyed, read_as}
+use Rattle.words.specs.Reading.{◌>>=◌, word_at, or_syntax}
+
+-- the slot of three numbers: root, index and depth
+abbrev pub slot_address_of : ℕ × (ℕ × ℕ) → SlotAddress
+slot_address_of parts = record { root = parts.0; index = parts.1.0; depth = parts.1.1 }
+
+-- the next words as a slot
+unfoldable pub slot_address_at : PartReader SlotAddress
+slot_address_at = read_as slot_address_of (in_turn number_at (in_turn number_at number_at))
+
+-- the next word as a set of the four rights
+unfoldable pub rights_at : PartReader Rights
+rights_at words = do
+  word ← word_at words
+  rights ← or_syntax (rights_of_word word.0)
+  Ok (rights, word.1)
+
+-- the guard of two numbers: size and value
+abbrev pub guard_of : ℕ × ℕ → CapData
+guard_of parts = Guard parts.0 parts.1
+
+-- the next words as what a mint gives
+unfoldable pub data_at : PartReader CapData
+data_at = keyed ((codes "badge", read_as Badge number_at) ∷ (codes "guard", read_as guard_of (in_turn number_at number_at)) ∷ [])
+
+-- the copy of a target, a source and rights
+abbrev pub copy_call : SlotAddress × (SlotAddress × Rights) → Call
+copy_call parts = Copy parts.0 parts.1.0 parts.1.1
+
+-- the next words as the operands of a copy
+unfoldable pub copy_at : PartReader Call
+copy_at = read_as copy_call (in_turn slot_address_at (in_turn slot_address_at rights_at))
+
+-- the mint of a target, a source, rights, and what it gives
+abbrev pub mint_call : SlotAddress × (SlotAddress × (Rights × CapData)) → Call
+mint_call parts = Mint parts.0 parts.1.0 parts.1.1.0 parts.1.1.1
+
+-- the next words as the operands of a mint
+unfoldable pub mint_at : PartReader Call
+mint_at = read_as mint_call (in_turn slot_address_at (in_turn slot_address_at (in_turn rights_at data_at)))
+
+-- the move of a target and a source
+abbrev pub move_call : SlotAddress × SlotAddress → Call
+move_call parts = Move parts.0 parts.1
+
+-- the next words as the operands of a move
+unfoldable pub move_at : PartReader Call
+move_at = read_as move_call (in_turn slot_address_at slot_address_at)
 
 -- the next words as a call: its name, then its operands
 unfoldable pub call_at : PartReader Call
@@ -16,6 +69,9 @@ call_at = keyed (
     (codes "signal", read_as Signal number_at)
     ∷ (codes "poll", read_as Poll number_at)
     ∷ (codes "wait", read_as Wait number_at)
+    ∷ (codes "copy", copy_at)
+    ∷ (codes "mint", mint_at)
+    ∷ (codes "move", move_at)
     ∷ [])
 
 -- the event of a core, a thread and a call
@@ -30,16 +86,28 @@ event_at = read_as event_of (in_turn number_at (in_turn number_at call_at))
 unfoldable pub within_limits : ℕ → Event → Result Event Wrong
 within_limits before event = if nat_lt event.core CoreNo.COUNT && nat_lt before MAX_EVENTS then Ok event else Err Limit
 
--- a call whose operands are of 64 bits
+-- a slot whose numbers are of 64 bits
+abbrev pub IsSlotAddress : SlotAddress → Type 0
+IsSlotAddress slot = (slot.root < 2 ^ 64) × (slot.index < 2 ^ 64) × (slot.depth < 2 ^ 64)
+
+-- a badge or a guard of 64-bit numbers
+abbrev pub IsData : CapData → Type 0
+IsData (Badge badge) = badge < 2 ^ 64
+IsData (Guard size value) = (size < 2 ^ 64) × (value < 2 ^ 64)
+
+-- a call whose numbers are of 64 bits, and whose rights are a set of the four: further bits have no letter
 abbrev pub HasWords : Call → Type 0
 HasWords (Signal address) = address < 2 ^ 64
 HasWords (Poll address) = address < 2 ^ 64
 HasWords (Wait address) = address < 2 ^ 64
+HasWords (Copy to from rights) = IsSlotAddress to × IsSlotAddress from × IsRights rights
+HasWords (Mint to from rights given) = IsSlotAddress to × IsSlotAddress from × IsRights rights × IsData given
+HasWords (Move to from) = IsSlotAddress to × IsSlotAddress from
 
--- an event that a line can have: of a core that there can be, with numbers of 64 bits
+-- an event that a line can have: of a core that there can be, with numbers of 64 bits and sets of the four rights
 abbrev pub IsSpellable : Event → Type 0
 IsSpellable event = (event.core < CoreNo.COUNT) × (event.thread.0 < 2 ^ 64) × HasWords event.call
 
--- an event whose numbers are of 64 bits, whichever core it names
+-- an event whose numbers are of 64 bits, and whose rights are a set of the four, whichever core it names
 abbrev pub HasNumbers : Event → Type 0
 HasNumbers event = (event.core < 2 ^ 64) × (event.thread.0 < 2 ^ 64) × HasWords event.call

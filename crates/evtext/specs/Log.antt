@@ -38,6 +38,6 @@ IsOutcome (outcome.Done answer) = IsAnswer answer
 IsOutcome outcome.Blocked = Unit {0}
 IsOutcome (outcome.Refused refusal) = (refusal.code < 2 ^ 64) × (refusal.detail < 2 ^ 64)
 
--- an event and its outcome, of 64-bit numbers, as all that the code has are
+-- an event and its outcome, of 64-bit numbers, as all that the code has are, and of rights that are sets of the four
 abbrev pub IsEntry : Event × Outcome → Type 0
 IsEntry entry = HasNumbers entry.0 × IsOutcome entry.1

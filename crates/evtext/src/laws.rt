@@ -6,15 +6,16 @@ ghost use Rattle.evtext.specs.Event.{HasNumbers};
 ghost use Rattle.evtext.specs.Log.{log_text, IsEntry};
 ghost use Rattle.evtext.specs.Script.{script_text};
 
-/// A law: the text of a script is the text of no other one.
+/// A law: the text of a script is the text of no other one. Its numbers are of 64 bits, as all that
+/// the code has are, and its rights are sets of the four, as all that are read.
 pub fn a_text_is_of_one_script()
     ensures { (script other : List Event)
         → AllByRecursion HasNumbers script → AllByRecursion HasNumbers other
         → script_text script ≡ script_text other → script ≡ other }
 {}
 
-/// A law: the text of a log is the text of no other one. Its numbers are those of 64 bits, as all that
-/// the code has are.
+/// A law: the text of a log is the text of no other one. Its numbers and rights are as those of
+/// scripts.
 pub fn a_text_is_of_one_log()
     ensures { (log other : List (Event × Outcome))
         → AllByRecursion IsEntry log → AllByRecursion IsEntry other

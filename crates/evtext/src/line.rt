@@ -1,9 +1,10 @@
 ghost use Rattle.std.specs.Prelude.{◌≡◌};
 ghost use Rattle.words.specs.Reading.{Gives};
-ghost use Rattle.evtext.specs.Event.{call_at, event_at, within_limits};
+ghost use Rattle.evtext.specs.Event.{call_at, copy_at, data_at, event_at, mint_at, move_at};
+ghost use Rattle.evtext.specs.Event.{rights_at, slot_address_at, within_limits};
 
-use base::{CoreNo, MAX_EVENTS, ObjId};
-use machine::{Call, Event};
+use base::{CoreNo, MAX_EVENTS, ObjId, Rights};
+use machine::{Call, CapData, Event, SlotAddress};
 use words::{Words, Wrong};
 
 /// An event as a line has it. Its core's number may be too large.
@@ -64,6 +65,88 @@ fn next_call(words: &mut Words<'_>) -> Result<Call, Wrong>
     } else if name == b"wait".as_slice() {
         let address = words.number()?;
         Ok(Call::Wait { address })
+    } else if name == b"copy".as_slice() {
+        next_copy(words)
+    } else if name == b"mint".as_slice() {
+        next_mint(words)
+    } else if name == b"move".as_slice() {
+        next_move(words)
+    } else {
+        Err(Wrong::Syntax)
+    }
+}
+
+/// The next words as the operands of a copy.
+#[tactic(auto, unfolding(crate::specs::Event::copy_at, words::specs::Parts::in_turn, words::specs::Parts::read_as, words::specs::Reading::bind))]
+fn next_copy(words: &mut Words<'_>) -> Result<Call, Wrong>
+    ensures { Gives (λ call. (call, words.new)) result (copy_at words.old) }
+{
+    let to = next_slot_address(words)?;
+    let from = next_slot_address(words)?;
+    let rights = next_rights(words)?;
+    Ok(Call::Copy { to, from, rights })
+}
+
+/// The next words as the operands of a mint.
+#[tactic(auto, unfolding(crate::specs::Event::mint_at, words::specs::Parts::in_turn, words::specs::Parts::read_as, words::specs::Reading::bind))]
+fn next_mint(words: &mut Words<'_>) -> Result<Call, Wrong>
+    ensures { Gives (λ call. (call, words.new)) result (mint_at words.old) }
+{
+    let to = next_slot_address(words)?;
+    let from = next_slot_address(words)?;
+    let rights = next_rights(words)?;
+    let given = next_data(words)?;
+    Ok(Call::Mint {
+        to,
+        from,
+        rights,
+        given,
+    })
+}
+
+/// The next words as the operands of a move.
+#[tactic(auto, unfolding(crate::specs::Event::move_at, words::specs::Parts::in_turn, words::specs::Parts::read_as, words::specs::Reading::bind))]
+fn next_move(words: &mut Words<'_>) -> Result<Call, Wrong>
+    ensures { Gives (λ call. (call, words.new)) result (move_at words.old) }
+{
+    let to = next_slot_address(words)?;
+    let from = next_slot_address(words)?;
+    Ok(Call::Move { to, from })
+}
+
+/// The next words as a slot: root, index and depth.
+#[tactic(auto, unfolding(crate::specs::Event::slot_address_at, words::specs::Parts::in_turn, words::specs::Parts::read_as, words::specs::Reading::bind))]
+fn next_slot_address(words: &mut Words<'_>) -> Result<SlotAddress, Wrong>
+    ensures { Gives (λ slot. (slot, words.new)) result (slot_address_at words.old) }
+{
+    let root = words.number()?;
+    let index = words.number()?;
+    let depth = words.number()?;
+    Ok(SlotAddress { root, index, depth })
+}
+
+/// The next word as a set of rights.
+#[tactic(auto, unfolding(crate::specs::Event::rights_at, words::specs::Reading::or_syntax, words::specs::Reading::bind))]
+fn next_rights(words: &mut Words<'_>) -> Result<Rights, Wrong>
+    ensures { Gives (λ rights. (rights, words.new)) result (rights_at words.old) }
+{
+    let word = words.word()?;
+    Rights::from_word(word).ok_or(Wrong::Syntax)
+}
+
+/// The next words as what a mint gives.
+#[tactic(auto, unfolding(crate::specs::Event::data_at, words::specs::Parts::by_word, words::specs::Parts::in_turn, words::specs::Parts::keyed, words::specs::Parts::read_as, words::specs::Reading::bind))]
+fn next_data(words: &mut Words<'_>) -> Result<CapData, Wrong>
+    ensures { Gives (λ given. (given, words.new)) result (data_at words.old) }
+{
+    let name = words.word()?;
+    if name == b"badge".as_slice() {
+        let badge = words.number()?;
+        Ok(CapData::Badge(badge))
+    } else if name == b"guard".as_slice() {
+        let size = words.number()?;
+        let value = words.number()?;
+        Ok(CapData::Guard { size, value })
     } else {
         Err(Wrong::Syntax)
     }

@@ -48,7 +48,7 @@ slice_get-not_last [] x (suc k) apart = refl
 slice_get-not_last (y ∷ xs) x zero apart = refl
 slice_get-not_last (y ∷ xs) x (suc k) apart = slice_get-not_last xs x k (λ same. apart (ap suc same))
 
-find-missing : {X : Type 0} (p : X → Bool) (xs : List X) (d : X) → ((k : ℕ) → k < length xs → p (get_or xs k d) ≡ false)
+pub find-missing : {X : Type 0} (p : X → Bool) (xs : List X) (d : X) → ((k : ℕ) → k < length xs → p (get_or xs k d) ≡ false)
     → find p xs ≡ None
 find-missing p [] d none = refl
 find-missing p (x ∷ xs) d none =
@@ -154,7 +154,7 @@ find-last {A = A} key value xs x d rising q = by_tie (same_slot q (key x)) refl 
       ∙ sym (or-none (find at xs))))
 
 -- the first elements of a list that rises by slot are below the next
-below_next :
+pub below_next :
     {A : Type 0} (key : A → SlotRef) (xs : List A) (i : ℕ) (d : A)
     → AllPairs (λ one other. slot_cmp (key one) (key other) ≡ Less) xs → i < length xs → (k : ℕ) → k < length (take i xs)
     → slot_cmp (key (get_or (take i xs) k d)) (key (get_or xs i d)) ≡ Less

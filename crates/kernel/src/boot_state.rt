@@ -58,9 +58,11 @@ fn derive(state: &mut State, table: &Table)
     ensures booted { IsBoot table.now state.new }
     ensures lawful { IsLawful table.now }
 {
+    // A law, so that ranks rise along the pairs that are there at each turn.
+    boot_states_are_well_formed();
     let pairs = table.pairs();
     for pair in pairs {
-        state.set_parent(pair.child, pair.parent);
+        state.attach(pair.child, pair.parent);
     }
 }
 

@@ -1,5 +1,5 @@
 ghost use Rattle.std.specs.Prelude.{◌≡◌};
-ghost use Rattle.kernel.specs.Makes.{Makes};
+ghost use Rattle.machine.specs.Makes.{Makes};
 ghost use Rattle.machine.specs.Outcomes.{IsRefused};
 ghost use Rattle.machine.specs.Step.{Step, made_by};
 ghost use Rattle.machine.specs.WellFormed.{IsWellFormed};
@@ -9,6 +9,7 @@ use crate::poll::poll;
 use crate::signal::signal;
 use crate::wait::wait;
 use base::{Cause, Refusal};
+use cnodeops::{copy, mint, move_cap};
 use machine::{Call, Event, Made, Outcome, steps_keep_machines_well_formed};
 use objects::State;
 
@@ -23,6 +24,14 @@ fn make(state: &mut State, event: Event) -> Result<Made, Cause>
         Call::Signal { address } => signal(state, event.thread, address),
         Call::Poll { address } => poll(state, event.thread, address),
         Call::Wait { address } => wait(state, event.thread, address),
+        Call::Copy { to, from, rights } => copy(state, event.thread, to, from, rights),
+        Call::Mint {
+            to,
+            from,
+            rights,
+            given,
+        } => mint(state, event.thread, to, from, rights, given),
+        Call::Move { to, from } => move_cap(state, event.thread, to, from),
     }
 }
 

@@ -1,4 +1,4 @@
-ghost use Rattle.kernel.specs.Makes.{Makes};
+ghost use Rattle.machine.specs.Makes.{Makes};
 ghost use Rattle.machine.specs.Step.Poll.{poll_of};
 
 use crate::find::{find_notification, permit};

@@ -1,5 +1,5 @@
 ghost use Rattle.std.specs.Prelude.{◌≡◌};
-ghost use Rattle.kernel.specs.Makes.{Makes};
+ghost use Rattle.machine.specs.Makes.{Makes};
 ghost use Rattle.machine.specs.Machine.{object_of};
 ghost use Rattle.machine.specs.Step.Signal.{pending_in, signal_of, signalled, woken};
 

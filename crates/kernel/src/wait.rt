@@ -1,5 +1,5 @@
 ghost use Rattle.std.specs.Prelude.{◌≡◌};
-ghost use Rattle.kernel.specs.Makes.{Makes};
+ghost use Rattle.machine.specs.Makes.{Makes};
 ghost use Rattle.machine.specs.Step.Wait.{wait_of, waiting};
 ghost use Rattle.objects.specs.Waiting.{WaitsNowhere};
 

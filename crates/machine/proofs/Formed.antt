@@ -20,6 +20,8 @@ use Rattle.machine.specs.Run.{Run}
 use Rattle.machine.specs.Step.{Step}
 use Rattle.machine.specs.WellFormed.{IsThread, IsWellFormed, LinksAgree, WaitsAtKind}
 use Rattle.machine.proofs.Admission.{IsCaller}
+use Rattle.machine.proofs.FillsFormed.{derives_formed}
+use Rattle.machine.proofs.MovesFormed.{move_formed}
 use Rattle.machine.proofs.Inversion.{CallDone, EventDone, step_done}
 use Rattle.machine.proofs.JoinLinks.{join_moves}
 use Rattle.machine.proofs.LookUps.{object_of-with_object, object_of-with_queue, queue_of-with_object}
@@ -166,6 +168,9 @@ call_formed :
 call_formed m caller (call.Signal address) next formed is = signal_formed m caller address next formed
 call_formed m caller (call.Poll address) next formed is = poll_formed m caller address next formed
 call_formed m caller (call.Wait address) next formed is = wait_formed m caller address next formed is
+call_formed m caller (call.Copy to from rights) next formed is = derives_formed m caller to from next formed
+call_formed m caller (call.Mint to from rights gift) next formed is = derives_formed m caller to from next formed
+call_formed m caller (call.Move to from) next formed is = move_formed m caller to from next formed
 
 pub step_formed :
     (m : Machine) (event : Event) (outcome : Outcome) (next : Machine) → IsWellFormed m → Step m event outcome next

@@ -16,6 +16,7 @@ use Rattle.machine.proofs.Admission.{IsCaller, admits}
 use Rattle.machine.proofs.Conditions.{both_done}
 use Rattle.machine.proofs.PollRow.{PollDone, poll_done}
 use Rattle.machine.proofs.SignalRow.{SignalDone, signal_done}
+use Rattle.machine.proofs.SlotRows.{Derives, MoveDone, copy_done, mint_done, move_done}
 use Rattle.machine.proofs.WaitRow.{WaitDone, wait_done}
 
 -- what a call did, row by row
@@ -23,6 +24,9 @@ abbrev pub CallDone : Machine → ObjId → Call → Machine → Type 0
 CallDone m caller (call.Signal address) next = SignalDone m caller address next
 CallDone m caller (call.Poll address) next = PollDone m caller address next
 CallDone m caller (call.Wait address) next = WaitDone m caller address next
+CallDone m caller (call.Copy to from rights) next = Derives m caller to from next
+CallDone m caller (call.Mint to from rights given) next = Derives m caller to from next
+CallDone m caller (call.Move to from) next = MoveDone m caller to from next
 
 call_done :
     (m : Machine) (caller : ObjId) (which : Call) (made : Made) (next : Machine) → IsWellFormed m → IsCaller m caller
@@ -30,6 +34,10 @@ call_done :
 call_done m caller (call.Signal address) made next formed is = signal_done m caller address made next formed
 call_done m caller (call.Poll address) made next formed is = poll_done m caller address made next formed
 call_done m caller (call.Wait address) made next formed is = wait_done m caller address made next formed is
+call_done m caller (call.Copy to from rights) made next formed is = copy_done m caller to from rights made next formed
+call_done m caller (call.Mint to from rights gift) made next formed is =
+    mint_done m caller to from rights gift made next formed
+call_done m caller (call.Move to from) made next formed is = move_done m caller to from made next
 
 -- an event was made: by a caller, whose call was done
 pub record EventDone (m : Machine) (event : Event) (next : Machine) : Type 0 where

@@ -9,6 +9,15 @@ pub mod NotificationRow
 pub mod PollRow
 pub mod SignalRow
 pub mod WaitRow
+pub mod TreeRanks
+pub mod SlotChanges
+pub mod SameObjects
+pub mod Exchange
+pub mod Copies
+pub mod SlotRows
+pub mod LedSlots
+pub mod FillsFormed
+pub mod MovesFormed
 pub mod Inversion
 pub mod Outlines
 pub mod WordLinks

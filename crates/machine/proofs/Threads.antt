@@ -1,8 +1,7 @@
 -- What is seen where a thread's content changes, and that a caller waits nowhere.
 use Rattle.std.proofs.Common.{◌≡◌, ℕ, List, refl, ◌∙◌}
-use Rattle.std.specs.Prelude.{Option, Some, Ok, Contains}
+use Rattle.std.specs.Prelude.{Some, Ok, Contains}
 use Rattle.base.specs.declared.ids.ObjId.{ObjId}
-use Rattle.machine.specs.declared.object.Object.{Object}
 use Rattle.machine.specs.declared.object.Object.TheVariants as o
 use Rattle.machine.specs.declared.object.Share.{Share}
 use Rattle.machine.specs.declared.thread.Tcb.{Tcb}

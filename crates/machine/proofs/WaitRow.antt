@@ -1,5 +1,5 @@
 -- What a wait does that is made: the word of the notification that it found is taken; where there is none, the caller waits.
-use Rattle.std.proofs.Common.{◌≡◌, ℕ, ◌⊎◌, inl, inr, List, [], ◌∷◌, ◌++◌, refl, sym, ap, subst, ◌∙◌}
+use Rattle.std.proofs.Common.{◌≡◌, ℕ, ◌⊎◌, inl, inr, List, [], ◌∷◌, ◌++◌, refl, sym, ap, ◌∙◌}
 use Rattle.std.specs.Prelude.{Option, Some, None, Ok}
 use Rattle.base.specs.declared.ids.ObjId.{ObjId}
 use Rattle.machine.specs.declared.call.Made.{Made}

@@ -1,6 +1,6 @@
 -- What a capability says by itself: the kind of object that it is for, and the kinds of authority that it gives from a slot of a
 -- CNode ('seL4 Enforces Integrity', section 3, "Authority", with the kinds of this profile).
-use Rattle.std.specs.Prelude.{Bool, true, false, ◌&&◌, ◌||◌, ◌==◌}
+use Rattle.std.specs.Prelude.{ℕ, Bool, true, false, ◌&&◌, ◌||◌, ◌==◌}
 use Rattle.std.specs.Int.RustNames.{bit_and}
 use Rattle.base.specs.declared.kind.Kind.{Kind}
 use Rattle.base.specs.declared.kind.Kind.TheVariants as authority
@@ -20,6 +20,12 @@ kind_of_detail d.Reply = kind.Reply
 kind_of_detail d.Context = kind.Context
 kind_of_detail (d.Frame _) = kind.Frame
 kind_of_detail d.Control = kind.Control
+
+-- the badge; a kind without badges has badge 0
+abbrev pub badge_of : Detail → ℕ
+badge_of (d.Endpoint end) = end.badge
+badge_of (d.Notification end) = end.badge
+badge_of _ = 0
 
 abbrev pub can_read : Rights → Bool
 can_read rights = bit_and rights.0 1 == 1

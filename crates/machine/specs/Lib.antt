@@ -6,7 +6,9 @@ pub mod Bits
 pub mod Refusing
 pub mod Lookup
 pub mod Changes
+pub mod Tree
 pub mod Step
+pub mod Makes
 pub mod Outcomes
 pub mod Run
 pub mod Boot

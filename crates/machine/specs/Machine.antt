@@ -94,9 +94,17 @@ with_queue m id threads = record m { queues = map.insert m.queues id threads }
 unfoldable pub with_cap : Machine → SlotRef → Cap → Machine
 with_cap m slot cap = record m { caps = map.insert m.caps slot cap }
 
+-- a slot is empty
+unfoldable pub without_cap : Machine → SlotRef → Machine
+without_cap m slot = record m { caps = map.remove m.caps slot }
+
 -- a slot's parent in the derivation tree
 unfoldable pub with_parent : Machine → SlotRef → SlotRef → Machine
 with_parent m slot parent = record m { parents = map.insert m.parents slot parent }
+
+-- a slot has no parent
+unfoldable pub without_parent : Machine → SlotRef → Machine
+without_parent m slot = record m { parents = map.remove m.parents slot }
 
 -- a new object under the next number: nobody waits at it, and its words are zero
 unfoldable pub with_new : Machine → Object → Machine

@@ -3,20 +3,38 @@
 use Rattle.std.specs.Prelude.{ℕ, Bool, List, [], ◌∷◌, ◌++◌, codes, slice_index}
 use Rattle.std.specs.Fmt.{decimal}
 use Rattle.std.specs.List.{join_with_byte}
+use Rattle.base.specs.Rights.{rights_word}
 use Rattle.machine.specs.declared.call.Answer.{Answer}
 use Rattle.machine.specs.declared.call.Answer.TheVariants as answer
 use Rattle.machine.specs.declared.call.Call.{Call}
 use Rattle.machine.specs.declared.call.Call.TheVariants as call
 use Rattle.machine.specs.declared.call.Event.{Event}
+use Rattle.machine.specs.declared.call.CapData.{CapData}
+use Rattle.machine.specs.declared.call.CapData.TheVariants as given
 use Rattle.machine.specs.declared.call.Outcome.{Outcome}
 use Rattle.machine.specs.declared.call.Outcome.TheVariants as outcome
+use Rattle.machine.specs.declared.slot_address.SlotAddress.{SlotAddress}
 use Rattle.machine.specs.declared.thread.Message.{Message}
+
+-- a slot as a call names it: root, index and depth
+abbrev pub slot_address_words : SlotAddress → List (List ℕ)
+slot_address_words slot = decimal slot.root ∷ decimal slot.index ∷ decimal slot.depth ∷ []
+
+-- what a mint gives: `badge` and the badge, or `guard` with its size and value
+abbrev pub data_words : CapData → List (List ℕ)
+data_words (given.Badge badge) = codes "badge" ∷ decimal badge ∷ []
+data_words (given.Guard size value) = codes "guard" ∷ decimal size ∷ decimal value ∷ []
 
 -- a call: its name, then its operands
 abbrev pub call_words : Call → List (List ℕ)
 call_words (call.Signal address) = codes "signal" ∷ decimal address ∷ []
 call_words (call.Poll address) = codes "poll" ∷ decimal address ∷ []
 call_words (call.Wait address) = codes "wait" ∷ decimal address ∷ []
+call_words (call.Copy to from rights) =
+    codes "copy" ∷ (slot_address_words to ++ (slot_address_words from ++ rights_word rights ∷ []))
+call_words (call.Mint to from rights gift) =
+    codes "mint" ∷ (slot_address_words to ++ (slot_address_words from ++ rights_word rights ∷ data_words gift))
+call_words (call.Move to from) = codes "move" ∷ (slot_address_words to ++ slot_address_words from)
 
 -- an event: core, thread, call
 abbrev pub event_words : Event → List (List ℕ)

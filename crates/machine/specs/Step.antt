@@ -24,9 +24,16 @@ pub mod Find
 pub mod Signal
 pub mod Poll
 pub mod Wait
+pub mod Target
+pub mod Copy
+pub mod Mint
+pub mod Move
 use Rattle.machine.specs.Step.Signal.{signal_of}
 use Rattle.machine.specs.Step.Poll.{poll_of}
 use Rattle.machine.specs.Step.Wait.{wait_of}
+use Rattle.machine.specs.Step.Copy.{copy_of}
+use Rattle.machine.specs.Step.Mint.{mint_of}
+use Rattle.machine.specs.Step.Move.{move_of}
 
 -- the core, budget and period of a context, if it is one and configured
 abbrev pub share_in : Option Object → Option Share
@@ -65,6 +72,9 @@ abbrev pub call_of : Machine → ObjId → Call → Result (Made × Machine) Cau
 call_of m caller (call.Signal address) = signal_of m caller address
 call_of m caller (call.Poll address) = poll_of m caller address
 call_of m caller (call.Wait address) = wait_of m caller address
+call_of m caller (call.Copy to from rights) = copy_of m caller to from rights
+call_of m caller (call.Mint to from rights given) = mint_of m caller to from rights given
+call_of m caller (call.Move to from) = move_of m caller to from
 
 -- what an event comes to: its thread is admitted, and then makes its call
 unfoldable pub made_by : Machine → Event → Result (Made × Machine) Cause
@@ -86,6 +96,9 @@ abbrev pub takes_memory : Call → Bool
 takes_memory (call.Signal _) = Bool.false
 takes_memory (call.Poll _) = Bool.false
 takes_memory (call.Wait _) = Bool.false
+takes_memory (call.Copy _ _ _) = Bool.false
+takes_memory (call.Mint _ _ _ _) = Bool.false
+takes_memory (call.Move _ _) = Bool.false
 
 -- the event could be made, but takes memory that isn't there
 pub record LacksMemory (m : Machine) (event : Event) (outcome : Outcome) (next : Machine) : Type 0 where

@@ -1,18 +1,51 @@
 ghost use Rattle.std.specs.Prelude.{◌≡◌};
 ghost use Rattle.machine.specs.Outcomes.{outcome_of};
 
-use crate::Message;
-use base::{CoreNo, ObjId, Refusal};
+use crate::{Message, SlotAddress};
+use base::{CoreNo, ObjId, Refusal, Rights};
+
+/// What a mint gives to the copy (seL4 manual, seL4_CNode_Mint: "badge or guard").
+#[derive(Clone, Copy, PartialEq, Eq, Debug)]
+pub enum CapData {
+    Badge(u64),
+    /// The low `size` bits of `value`.
+    Guard { size: u64, value: u64 },
+}
 
 /// A kernel call. Addresses are looked up in the capability space of the thread that calls.
 #[derive(Clone, Copy, PartialEq, Eq, Debug)]
 pub enum Call {
     /// Signals the notification at the address (seL4 manual, "Notifications").
-    Signal { address: u64 },
+    Signal {
+        address: u64,
+    },
     /// Takes the word of the notification at the address, and doesn't wait.
-    Poll { address: u64 },
+    Poll {
+        address: u64,
+    },
     /// Takes the word of the notification at the address, or waits for one.
-    Wait { address: u64 },
+    Wait {
+        address: u64,
+    },
+    /// Copies the capability in the slot `from` to the empty slot `to`, with those of its rights that
+    /// are among `rights` (seL4 manual, seL4_CNode_Copy).
+    Copy {
+        to: SlotAddress,
+        from: SlotAddress,
+        rights: Rights,
+    },
+    /// Copies it so, and gives the copy a badge or a guard (seL4 manual, seL4_CNode_Mint).
+    Mint {
+        to: SlotAddress,
+        from: SlotAddress,
+        rights: Rights,
+        given: CapData,
+    },
+    /// Moves the capability, with its place in the derivation tree (seL4 manual, seL4_CNode_Move).
+    Move {
+        to: SlotAddress,
+        from: SlotAddress,
+    },
 }
 
 /// A call that a thread makes on a core.

@@ -2,7 +2,7 @@ ghost use Rattle.std.specs.Prelude.{◌≡◌, ◌<◌, ◌^◌, filter};
 ghost use Rattle.base.specs.Kinds.{is_among};
 ghost use Rattle.base.specs.declared.kind.Kind.{Kind as KindOf};
 ghost use Rattle.base.specs.declared.kind.TheConstants.Kind.{ALL};
-ghost use Rattle.machine.specs.Capabilities.{kind_of_detail, gives};
+ghost use Rattle.machine.specs.Capabilities.{badge_of, kind_of_detail, gives};
 
 use crate::ObjectKind;
 use base::{Kind, Kinds, ObjId, Rights, kind_names_are_read_back};
@@ -62,6 +62,16 @@ impl Detail {
             Detail::Context => ObjectKind::Context,
             Detail::Frame(_) => ObjectKind::Frame,
             Detail::Control => ObjectKind::Control,
+        }
+    }
+
+    /// The badge; a kind without badges has badge 0.
+    pub fn badge(&self) -> u64
+        ensures { result ≡ badge_of self.now }
+    {
+        match self {
+            Detail::Endpoint(end) | Detail::Notification(end) => end.badge,
+            _ => 0,
         }
     }
 

@@ -10,12 +10,13 @@ mod cap;
 mod layout;
 mod object;
 mod radix;
+mod slot_address;
 mod spelling;
 mod step_laws;
 mod thread;
 
 pub use authority_laws::{authority_grows_with_capabilities, rights_alone_decide_kinds};
-pub use call::{Answer, Call, Event, Log, Made, Outcome};
+pub use call::{Answer, Call, CapData, Event, Log, Made, Outcome};
 pub use cap::{Badged, Cap, Detail, Guard};
 pub use layout::{Binding, Filled, Initial, Pair};
 pub use object::{
@@ -23,5 +24,6 @@ pub use object::{
     Share, Untyped,
 };
 pub use radix::Radix;
+pub use slot_address::{Ends, SlotAddress};
 pub use step_laws::{steps_keep_machines_well_formed, steps_of_one_event_agree};
-pub use thread::{Inbox, Message, ReceiveSlot, Receiving, RunState, Sending, Tcb};
+pub use thread::{Inbox, Message, Receiving, RunState, Sending, Tcb};

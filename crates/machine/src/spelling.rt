@@ -1,8 +1,31 @@
 ghost use Rattle.std.specs.Prelude.{Some};
-ghost use Rattle.machine.specs.Spelling.{answer_words, call_words, event_words, message_words, outcome_words, spelled};
+ghost use Rattle.machine.specs.Spelling.{answer_words, call_words, data_words, event_words, message_words};
+ghost use Rattle.machine.specs.Spelling.{outcome_words, slot_address_words, spelled};
 
-use crate::{Answer, Call, Event, Message, Outcome};
+use crate::{Answer, Call, CapData, Event, Message, Outcome, SlotAddress};
 use std::fmt;
+
+impl fmt::Display for SlotAddress {
+    ghost output = { λ slot. Some (spelled (slot_address_words slot)) };
+
+    fn fmt<W: fmt::Write>(&self, f: &mut fmt::Formatter<W>) -> fmt::Result {
+        let root = self.root;
+        let index = self.index;
+        let depth = self.depth;
+        write!(f, "{root} {index} {depth}")
+    }
+}
+
+impl fmt::Display for CapData {
+    ghost output = { λ given. Some (spelled (data_words given)) };
+
+    fn fmt<W: fmt::Write>(&self, f: &mut fmt::Formatter<W>) -> fmt::Result {
+        match self {
+            CapData::Badge(badge) => write!(f, "badge {badge}"),
+            CapData::Guard { size, value } => write!(f, "guard {size} {value}"),
+        }
+    }
+}
 
 impl fmt::Display for Call {
     ghost output = { λ call. Some (spelled (call_words call)) };
@@ -12,6 +35,14 @@ impl fmt::Display for Call {
             Call::Signal { address } => write!(f, "signal {address}"),
             Call::Poll { address } => write!(f, "poll {address}"),
             Call::Wait { address } => write!(f, "wait {address}"),
+            Call::Copy { to, from, rights } => write!(f, "copy {to} {from} {rights}"),
+            Call::Mint {
+                to,
+                from,
+                rights,
+                given,
+            } => write!(f, "mint {to} {from} {rights} {given}"),
+            Call::Move { to, from } => write!(f, "move {to} {from}"),
         }
     }
 }

@@ -1,3 +1,4 @@
+use crate::SlotAddress;
 use base::ObjId;
 
 /// A message as its receiver gets it.
@@ -35,20 +36,13 @@ pub struct Sending {
     pub capability: Option<u64>,
 }
 
-/// Where a receiver takes a capability: the slot that target lookup finds.
-#[derive(Clone, Copy, PartialEq, Eq, Debug)]
-pub struct ReceiveSlot {
-    pub root: u64,
-    pub index: u64,
-    pub depth: u64,
-}
-
 /// What is recorded of a thread that waits to receive.
 #[derive(Clone, Copy, PartialEq, Eq, Debug)]
 pub struct Receiving {
     pub endpoint: ObjId,
     pub reply: Option<ObjId>,
-    pub slot: Option<ReceiveSlot>,
+    /// Where it takes a capability.
+    pub slot: Option<SlotAddress>,
 }
 
 /// Whether a thread can run, and what it waits for if it can't (seL4 manual, "Threads and

@@ -1,27 +1,29 @@
 -- What a machine becomes when one entry is changed or added, or threads are linked otherwise.
-use Rattle.std.proofs.Common.{◌≡◌, ◌≢◌, ℕ, ◌+◌, ◌<◌, List, [], replicate, Bool, true, false, cond, length, refl, sym, ap}
+use Rattle.std.proofs.Common.{◌≡◌, ◌≢◌, ℕ, ◌+◌, List, [], replicate, Bool, true, false, cond, length, refl, sym, ap}
 use Rattle.std.proofs.Common.{subst, ◌∙◌}
-use Rattle.std.specs.Prelude.{Option, Some, None, option_map, option_and_then, slice_get}
+use Rattle.std.specs.Prelude.{Option, Some, None, IsSome, option_map, option_and_then, slice_get}
+use Rattle.std.proofs.lemmas.Bool.{false≢true}
 use Rattle.base.specs.declared.ids.ObjId.{ObjId}
 use Rattle.base.specs.declared.ids.SlotRef.{SlotRef}
-use Rattle.machine.specs.declared.cap.Cap.{Cap}
 use Rattle.machine.specs.declared.object.Object.{Object}
-use Rattle.machine.specs.Machine.{Machine, same_id, same_slot, object_of, queue_of}
+use Rattle.machine.specs.Machine.{Machine, same_id, object_of, queue_of}
 use Rattle.machine.proofs.LookUps.{id_total, id_apart, slot_total, slot_apart}
-use Rattle.machine.specs.Machine.{words_of, cap_of, parent_of, with_object, with_queue, with_cap, with_parent, with_new}
+use Rattle.machine.specs.Machine.{words_of, cap_of, parent_of, with_object, with_queue, with_new}
+use Rattle.machine.proofs.SlotChanges.{SameObjects}
 use Rattle.machine.specs.Objects.{slot_count, word_count}
 use Rattle.machine.proofs.LookUps as seen
 use Rattle.objects.specs.declared.entry.Entry.{Entry}
 use Rattle.objects.specs.declared.links.Ends.{Ends}
 use Rattle.objects.specs.declared.links.Standing.{Standing}
 use Rattle.objects.specs.declared.slots.Slot.{Slot}
-use Rattle.objects.specs.Edits.{edited}
-use Rattle.objects.specs.Entries.{put_cap_in, set_parent_in, replace_in, new_entry, cap_in, parent_in}
+use Rattle.objects.specs.Entries.{slot_at, set_slot_in, replace_in, empty_slot, new_entry}
+use Rattle.objects.specs.Family.{cap_in, parent_in}
 use Rattle.objects.specs.Links.{ends_of, standing_of, queue_in, AreQueued}
 use Rattle.objects.specs.Queues.{walk, AreQueues}
 use Rattle.objects.proofs.FiniteLemmas.{same_from_tie, by_key, cond_here, cond_elsewhere}
-use Rattle.objects.proofs.EntryLemmas.{read_here, read_other, read_kept, read_empty}
-use Rattle.objects.proofs.StateLemmas.{Tells, object_at, words_at, cap_at, parent_at}
+use Rattle.objects.proofs.EditLemmas.{slice_get_edited_other, slice_get_edited_same}
+use Rattle.objects.proofs.EntryLemmas.{read_empty}
+use Rattle.objects.proofs.StateLemmas.{Tells, object_at, words_at}
 
 -- one object's entry has changed so
 abbrev pub IsChanged : (ObjId → Option Entry) → (ObjId → Option Entry) → ObjId → (Entry → Entry) → Type 0
@@ -48,7 +50,7 @@ module _ (old new : ObjId → Option Entry) (id : ObjId) (change : Entry → Ent
       → option_map read (new q) ≡ option_map read (old q)
   part_kept read keeps q = ap (option_map read) (changed q) ∙ kept_map read change keeps (same_id q id) (old q)
 
-  reading_kept :
+  pub reading_kept :
       {A : Type 0} (read : Entry → Option A) → ((e : Entry) → read (change e) ≡ read e) → (q : ObjId)
       → option_and_then read (new q) ≡ option_and_then read (old q)
   reading_kept read keeps q = ap (option_and_then read) (changed q) ∙ kept_then read change keeps (same_id q id) (old q)
@@ -68,44 +70,37 @@ module _ (old new : ObjId → Option Entry) (id : ObjId) (change : Entry → Ent
       by_key id_total id_apart q id _ _ _ (λ same. ap (option_map read) (ap new same ∙ changed_here e is))
       (λ differs. ap (option_map read) (changed_other q differs))
 
--- the change of an entry by a change of one slot
-abbrev pub edit_slot : (Slot → Slot) → ℕ → Entry → Entry
-edit_slot set index entry = record entry { slots = edited set entry.slots index }
+-- one slot has changed
 
-abbrev pub read_at : {A : Type 0} → (Slot → Option A) → ℕ → Option Entry → Option A
-read_at read index entry = option_and_then (λ e. option_and_then read (slice_get e.slots index)) entry
+module _ (old new : ObjId → Option Entry) (at : SlotRef) (slot : Slot) (changed : IsChanged old new at.holder (set_slot_in at.index slot)) where
+  pub slot_other : (q : SlotRef) → q ≢ at → slot_at new q ≡ slot_at old q
+  slot_other q apart = ap (option_and_then (λ e. slice_get e.slots q.index)) (changed q.holder) ∙ by_tie (same_id q.holder at.holder) refl where
+    by_tie :
+        (tie : Bool) → same_id q.holder at.holder ≡ tie
+        → option_and_then (λ e. slice_get e.slots q.index) (cond tie (option_map (set_slot_in at.index slot) (old q.holder)) (old q.holder))
+        ≡ slot_at old q
+    by_tie false e = refl
+    by_tie true e =
+        let holder : q.holder ≡ at.holder = same_from_tie id_total id_apart q.holder at.holder e in
+        kept_then (λ e. slice_get e.slots q.index) (set_slot_in at.index slot)
+        (λ e. slice_get_edited_other (λ _. slot) e.slots at.index q.index
+        (λ same. apart (λ i. record { holder = holder i; index = same i })))
+        true (old q.holder)
 
-module _ (old new : ObjId → Option Entry) (slot : SlotRef) (set : Slot → Slot)
-    (changed : IsChanged old new slot.holder (edit_slot set slot.index)) where
-  slot_kept :
-      {A : Type 0} (read : Slot → Option A) → ((s : Slot) → read (set s) ≡ read s) → (q : SlotRef)
-      → read_at read q.index (new q.holder) ≡ read_at read q.index (old q.holder)
-  slot_kept read keeps q =
-      reading_kept old new slot.holder (edit_slot set slot.index) changed (λ e. option_and_then read (slice_get e.slots q.index))
-      (λ e. read_kept read set keeps e.slots slot.index q.index) q.holder
+  pub slot_here : IsSome (slot_at old at) → slot_at new at ≡ Some slot
+  slot_here there =
+      ap (option_and_then (λ e. slice_get e.slots at.index)) (changed at.holder ∙ cond_here id_total id_apart at.holder _ _)
+      ∙ by_entry (old at.holder) there where
+        by_slot : (o : Option Slot) → IsSome o → option_map (λ _. slot) o ≡ Some slot
+        by_slot None some = absurd (false≢true some)
+        by_slot (Some other) some = refl
 
-  elsewhere :
-      {A : Type 0} (read : Slot → Option A) (q : SlotRef) → (q ≡ slot → ⊥) → (tie : Bool) → same_id q.holder slot.holder ≡ tie
-      → read_at read q.index (cond tie (option_map (edit_slot set slot.index) (old q.holder)) (old q.holder))
-      ≡ read_at read q.index (old q.holder)
-  elsewhere read q differs false e = refl
-  elsewhere read q differs true e =
-      let holder : q.holder ≡ slot.holder = same_from_tie id_total id_apart q.holder slot.holder e in
-      kept_then (λ e. option_and_then read (slice_get e.slots q.index)) (edit_slot set slot.index)
-      (λ e. read_other read set e.slots slot.index q.index (λ same. differs (λ i. record { holder = holder i; index = same i })))
-      true (old q.holder)
-
-  slot_set :
-      {A : Type 0} (read : Slot → Option A) (value : A) → ((s : Slot) → read (set s) ≡ Some value) → (e : Entry)
-      → old slot.holder ≡ Some e → slot.index < length e.slots → (q : SlotRef)
-      → read_at read q.index (new q.holder) ≡ cond (same_slot q slot) (Some value) (read_at read q.index (old q.holder))
-  slot_set read value sets e is within q =
-      by_key slot_total slot_apart q slot _ _ _
-      (λ same.
-      ap (λ k. read_at read k.index (new k.holder)) same
-      ∙ ap (read_at read slot.index) (changed_here old new slot.holder (edit_slot set slot.index) changed e is)
-      ∙ read_here read set value sets e.slots slot.index within)
-      (λ differs. ap (read_at read q.index) (changed q.holder) ∙ elsewhere read q differs (same_id q.holder slot.holder) refl)
+        by_entry :
+            (o : Option Entry) → IsSome (option_and_then (λ e. slice_get e.slots at.index) o)
+            → option_and_then (λ e. slice_get e.slots at.index) (option_map (set_slot_in at.index slot) o) ≡ Some slot
+        by_entry None some = absurd (false≢true some)
+        by_entry (Some e) some =
+            slice_get_edited_same (λ _. slot) e.slots at.index ∙ by_slot (slice_get e.slots at.index) some
 
 -- the links of an entry, and the rest of it
 
@@ -115,9 +110,13 @@ links e = (e.ends, e.standing)
 abbrev pub rest : Entry → Object × List Slot × List ℕ
 rest e = (e.object, e.slots, e.words)
 
+-- all of an entry but what its slots have
+abbrev pub bulk : Entry → Object × ℕ × Ends × Standing × List ℕ
+bulk e = (e.object, length e.slots, e.ends, e.standing, e.words)
+
 -- what is read of a part that is as it was
 
-part_read :
+pub part_read :
     {A B : Type 0} (part : Entry → A) (read : A → B) (o o' : Option Entry) → option_map part o' ≡ option_map part o
     → option_map (λ e. read (part e)) o' ≡ option_map (λ e. read (part e)) o
 part_read part read o o' same = twice o' ∙ ap (option_map read) same ∙ sym (twice o) where
@@ -132,6 +131,12 @@ part_found part read o o' same = twice o' ∙ ap (option_and_then read) same ∙
   twice : (o : Option Entry) → option_and_then (λ e. read (part e)) o ≡ option_and_then read (option_map part o)
   twice None = refl
   twice (Some e) = refl
+
+-- entries of which all but the links is as it was have the slots that they had
+pub slots_kept :
+    (old new : ObjId → Option Entry) → ((q : ObjId) → option_map rest (new q) ≡ option_map rest (old q)) → (q : SlotRef)
+    → slot_at new q ≡ slot_at old q
+slots_kept old new same q = part_found rest (λ r. slice_get r.1 q.index) (old q.holder) (new q.holder) (same q.holder)
 
 -- entries whose links are as they were
 
@@ -166,43 +171,40 @@ module _ (old new : ObjId → Option Entry) (same : (q : ObjId) → option_map l
       ap (λ standing. option_map (λ e. walk standing numbers e.ends.first) (new q)) standing_same
       ∙ part_read links (λ l. walk (λ thread. standing_of (old thread)) numbers l.0.first) (old q) (new q) (same q)
 
-module _ (numbers : ℕ) (m : Machine) (old new : ObjId → Option Entry) (tells : Tells numbers m old) where
-  pub tells-put_cap :
-      (slot : SlotRef) (filling : Cap) → IsChanged old new slot.holder (put_cap_in slot.index filling) → (e : Entry)
-      → old slot.holder ≡ Some e → slot.index < length e.slots → Tells numbers (with_cap m slot filling) new
-  unfolding object_of queue_of words_of parent_of with_cap
-  tells-put_cap slot filling changed e is within =
-      let set : Slot → Slot = λ s. record s { cap = Some filling } in
-      let change : Entry → Entry = put_cap_in slot.index filling in
-      record {
-        objects = λ q. tells.objects q ∙ sym (part_kept old new slot.holder change changed (λ e. e.object) (λ e. refl) q);
-        queues =
-            λ q. tells.queues q ∙ sym (queue_kept old new (part_kept old new slot.holder change changed links (λ e. refl)) numbers q);
-        words = λ q. tells.words q ∙ sym (part_kept old new slot.holder change changed (λ e. e.words) (λ e. refl) q);
-        caps =
-            λ q.
-            seen.cap_of-with_cap m slot filling q ∙ ap (cond (same_slot q slot) (Some filling)) (tells.caps q)
-            ∙ sym (slot_set old new slot set changed (λ s. s.cap) filling (λ s. refl) e is within q);
-        parents = λ q. tells.parents q ∙ sym (slot_kept old new slot set changed (λ s. s.parent) (λ s. refl) q);
-      }
+-- where an empty slot reads as an absent one, a new object changes nothing that is read of slots
+pub added_read :
+    {A : Type 0} (old new : ObjId → Option Entry) (object : Object) (id : ObjId) → old id ≡ None
+    → ((q : ObjId) → new q ≡ cond (same_id q id) (Some (new_entry object)) (old q)) → (read : Option Slot → A)
+    → read (Some empty_slot) ≡ read None → (q : SlotRef) → read (slot_at new q) ≡ read (slot_at old q)
+added_read old new object id vacant added read none q =
+    ap (λ o. read (option_and_then (λ e. slice_get e.slots q.index) o)) (added q.holder) ∙ by_tie (same_id q.holder id) refl where
+      by_tie :
+          (tie : Bool) → same_id q.holder id ≡ tie
+          → read (option_and_then (λ e. slice_get e.slots q.index) (cond tie (Some (new_entry object)) (old q.holder)))
+          ≡ read (slot_at old q)
+      by_tie false e = refl
+      by_tie true e =
+          read_empty read empty_slot none (slot_count object) q.index
+          ∙ sym
+          (ap (λ o. read (option_and_then (λ e. slice_get e.slots q.index) o))
+          (subst (λ k. old k ≡ None) (sym (same_from_tie id_total id_apart q.holder id e)) vacant))
 
-  pub tells-set_parent :
-      (slot parent : SlotRef) → IsChanged old new slot.holder (set_parent_in slot.index parent) → (e : Entry)
-      → old slot.holder ≡ Some e → slot.index < length e.slots → Tells numbers (with_parent m slot parent) new
-  unfolding object_of queue_of words_of cap_of with_parent
-  tells-set_parent slot parent changed e is within =
-      let set : Slot → Slot = λ s. record s { parent = Some parent } in
-      let change : Entry → Entry = set_parent_in slot.index parent in
+module _ (numbers : ℕ) (m : Machine) (old new : ObjId → Option Entry) (tells : Tells numbers m old) where
+  -- a change of slots alone
+  pub tells-slots :
+      (next : Machine) → SameObjects m next → ((q : ObjId) → option_map bulk (new q) ≡ option_map bulk (old q))
+      → ((q : SlotRef) → cap_of next q ≡ cap_in (slot_at new q)) → ((q : SlotRef) → parent_of next q ≡ parent_in (slot_at new q))
+      → Tells numbers next new
+  tells-slots next objects same caps parents =
       record {
-        objects = λ q. tells.objects q ∙ sym (part_kept old new slot.holder change changed (λ e. e.object) (λ e. refl) q);
+        objects = λ q. objects.objects q ∙ tells.objects q ∙ sym (part_read bulk (λ b. b.0) (old q) (new q) (same q));
         queues =
-            λ q. tells.queues q ∙ sym (queue_kept old new (part_kept old new slot.holder change changed links (λ e. refl)) numbers q);
-        words = λ q. tells.words q ∙ sym (part_kept old new slot.holder change changed (λ e. e.words) (λ e. refl) q);
-        caps = λ q. tells.caps q ∙ sym (slot_kept old new slot set changed (λ s. s.cap) (λ s. refl) q);
-        parents =
             λ q.
-            seen.parent_of-with_parent m slot parent q ∙ ap (cond (same_slot q slot) (Some parent)) (tells.parents q)
-            ∙ sym (slot_set old new slot set changed (λ s. s.parent) parent (λ s. refl) e is within q);
+            objects.queues q ∙ tells.queues q
+            ∙ sym (queue_kept old new (λ q. part_read bulk (λ b. (b.2, b.3)) (old q) (new q) (same q)) numbers q);
+        words = λ q. objects.words q ∙ tells.words q ∙ sym (part_read bulk (λ b. b.4) (old q) (new q) (same q));
+        caps = caps;
+        parents = parents;
       }
 
   pub tells-replace :
@@ -218,9 +220,14 @@ module _ (numbers : ℕ) (m : Machine) (old new : ObjId → Option Entry) (tells
             ∙ sym (part_set old new id change changed (λ e. e.object) e is q);
         queues = λ q. tells.queues q ∙ sym (queue_kept old new (part_kept old new id change changed links (λ e. refl)) numbers q);
         words = λ q. tells.words q ∙ sym (part_kept old new id change changed (λ e. e.words) (λ e. refl) q);
-        caps = λ q. tells.caps q ∙ sym (reading_kept old new id change changed (λ e. cap_in e q.index) (λ e. refl) q.holder);
+        caps =
+            λ q.
+            tells.caps q
+            ∙ ap cap_in (sym (reading_kept old new id change changed (λ e. slice_get e.slots q.index) (λ e. refl) q.holder));
         parents =
-            λ q. tells.parents q ∙ sym (reading_kept old new id change changed (λ e. parent_in e q.index) (λ e. refl) q.holder);
+            λ q.
+            tells.parents q
+            ∙ ap parent_in (sym (reading_kept old new id change changed (λ e. slice_get e.slots q.index) (λ e. refl) q.holder));
       }
 
   -- a change of links alone, by which one queue is another
@@ -240,18 +247,8 @@ module _ (numbers : ℕ) (m : Machine) (old new : ObjId → Option Entry) (tells
             (by_key id_total id_apart q id _ _ _ (λ is. ap (λ k. queue_in numbers new (new k)) is ∙ here)
             (λ differs. others q differs ∙ sym (tells.queues q)));
         words = λ q. tells.words q ∙ sym (part_read rest (λ r. r.2) (old q) (new q) (same q));
-        caps =
-            λ q.
-            tells.caps q
-            ∙ sym
-            (part_found rest (λ r. option_and_then (λ slot. slot.cap) (slice_get r.1 q.index)) (old q.holder) (new q.holder)
-            (same q.holder));
-        parents =
-            λ q.
-            tells.parents q
-            ∙ sym
-            (part_found rest (λ r. option_and_then (λ slot. slot.parent) (slice_get r.1 q.index)) (old q.holder) (new q.holder)
-            (same q.holder));
+        caps = λ q. tells.caps q ∙ ap cap_in (sym (slots_kept old new same q));
+        parents = λ q. tells.parents q ∙ ap parent_in (sym (slots_kept old new same q));
       }
 
   -- entries that are as they were
@@ -261,8 +258,8 @@ module _ (numbers : ℕ) (m : Machine) (old new : ObjId → Option Entry) (tells
         objects = λ q. tells.objects q ∙ sym (ap object_at (same q));
         queues = λ q. tells.queues q ∙ sym (queue_kept old new (λ q. ap (option_map links) (same q)) numbers q);
         words = λ q. tells.words q ∙ sym (ap words_at (same q));
-        caps = λ q. tells.caps q ∙ sym (ap (cap_at q.index) (same q.holder));
-        parents = λ q. tells.parents q ∙ sym (ap (parent_at q.index) (same q.holder));
+        caps = λ q. tells.caps q ∙ sym (ap (λ o. cap_in (option_and_then (λ e. slice_get e.slots q.index) o)) (same q.holder));
+        parents = λ q. tells.parents q ∙ sym (ap (λ o. parent_in (option_and_then (λ e. slice_get e.slots q.index) o)) (same q.holder));
       }
 
   -- a new object
@@ -288,12 +285,8 @@ module _ (numbers : ℕ) (m : Machine) (old new : ObjId → Option Entry) (tells
             seen.words_of-with_new m object q
             ∙ ap (cond (same_id q id) (Some (replicate (word_count object) 0))) (tells.words q)
             ∙ sym (ap words_at (added q) ∙ spread (λ e. e.words) (same_id q id) (old q));
-        caps =
-            λ q. tells.caps q ∙ sym (ap (cap_at q.index) (added q.holder) ∙ empty (λ s. s.cap) refl q (same_id q.holder id) refl);
-        parents =
-            λ q.
-            tells.parents q
-            ∙ sym (ap (parent_at q.index) (added q.holder) ∙ empty (λ s. s.parent) refl q (same_id q.holder id) refl);
+        caps = λ q. tells.caps q ∙ sym (added_read old new object (record { 0 = m.next }) vacant added cap_in refl q);
+        parents = λ q. tells.parents q ∙ sym (added_read old new object (record { 0 = m.next }) vacant added parent_in refl q);
       }
     where
       spread :
@@ -301,14 +294,3 @@ module _ (numbers : ℕ) (m : Machine) (old new : ObjId → Option Entry) (tells
           → option_map read (cond b (Some (new_entry object)) o) ≡ cond b (Some (read (new_entry object))) (option_map read o)
       spread read true o = refl
       spread read false o = refl
-
-      empty :
-          {A : Type 0} (read : Slot → Option A) → read (record { cap = None; parent = None }) ≡ None → (q : SlotRef) (tie : Bool)
-          → same_id q.holder (record { 0 = m.next }) ≡ tie
-          → read_at read q.index (cond tie (Some (new_entry object)) (old q.holder)) ≡ read_at read q.index (old q.holder)
-      empty read none q false e = refl
-      empty read none q true e =
-          read_empty read _ none (slot_count object) q.index
-          ∙ sym
-          (ap (read_at read q.index)
-          (subst (λ k. old k ≡ None) (sym (same_from_tie id_total id_apart q.holder (record { 0 = m.next }) e)) vacant))

@@ -15,35 +15,41 @@ use Rattle.slab.specs.Slab as slab
 use Rattle.slab.specs.Slab.{Slab}
 use Rattle.base.specs.declared.ids.ObjId.{ObjId}
 use Rattle.base.specs.declared.ids.SlotRef.{SlotRef}
-use Rattle.machine.specs.declared.cap.Cap.{Cap}
 use Rattle.machine.specs.declared.object.Object.{Object}
 use Rattle.machine.specs.Objects.{slot_count}
-use Rattle.machine.specs.Machine.{Machine, same_id, object_of, has_slot, with_cap, with_parent, with_object}
+use Rattle.machine.specs.Machine.{Machine, same_id, object_of, has_slot, with_object}
 use Rattle.machine.proofs.LookUps.{id_total, id_apart}
 use Rattle.machine.specs.Machine.{with_queue, with_new, empty_machine, queue_of}
 use Rattle.machine.proofs.LookUps.{object_of-empty, queue_of-empty}
 use Rattle.machine.proofs.LookUps.{words_of-empty, cap_of-empty, parent_of-empty}
 use Rattle.objects.specs.declared.entry.Entry.{Entry}
 use Rattle.objects.specs.declared.links.Standing.{Standing}
+use Rattle.objects.specs.declared.slots.Slot.{Slot}
 use Rattle.objects.specs.declared.state.State.TheInside.{Inside}
 use Rattle.machine.specs.Changes.{first_waiting, with_waiting, without_first}
-use Rattle.objects.specs.Entries.{place_of, entry_of, with_entry, put_cap_in, set_parent_in, replace_in}
-use Rattle.objects.specs.Entries.{new_entry, AddsEntry, SameEntries}
+use Rattle.objects.specs.Entries.{place_of, entry_of, slot_at, with_entry, replace_in}
+use Rattle.objects.specs.Entries.{empty_slot, new_entry, AddsEntry, SameEntries}
+use Rattle.objects.specs.Family.{cap_in, links_of, AreKin}
 use Rattle.objects.specs.Links.{ends_of, standing_of, queue_in, AreQueued, pushed, left, popped}
 use Rattle.objects.specs.Queues.{walk, AreQueues}
 use Rattle.objects.specs.Radices.{HasRadix}
 use Rattle.objects.specs.State.{machine_of, IsSized, IsConsistent}
 use Rattle.objects.specs.Waiting.{WaitsNowhere}
+use Rattle.objects.proofs.Families.{no_family, same_family}
 use Rattle.objects.proofs.FiniteLemmas.{by_key, cond_here, cond_elsewhere}
-use Rattle.objects.proofs.EditLemmas.{length_edited}
 use Rattle.objects.proofs.EntryLemmas.{some-none, placed_other, entry_of-with_entry, entry_of-added, entry_of-same}
 use Rattle.objects.proofs.EntryLemmas.{is_some-changed}
 use Rattle.objects.proofs.StateLemmas.{Tells, tells-machine_of, next-machine_of, same_from_tells, object_at}
-use Rattle.objects.proofs.ChangeLemmas.{tells-put_cap, tells-set_parent, tells-replace, tells-queue, tells-same, tells-new}
+use Rattle.objects.proofs.ChangeLemmas.{added_read, reading_kept, slots_kept, tells-replace, tells-queue, tells-same, tells-new}
 use Rattle.objects.proofs.ChangeLemmas.{changed_here, changed_other, part_kept, links, rest, links_kept}
 use Rattle.objects.proofs.QueueLemmas.{cases_id, walk_none, walk_first, more_numbers, longer_walk}
 use Rattle.objects.proofs.LinkLemmas.{Requeues, relinked_places, stands_nowhere, pushed_requeues, pushed_queue, popped_requeues}
 use Rattle.objects.proofs.LinkLemmas.{popped_queue}
+
+-- the derivation tree, where slots are as they were
+same_slots :
+    (old new : ObjId → Option Entry) → ((q : SlotRef) → slot_at new q ≡ slot_at old q) → AreKin old → AreKin new
+same_slots old new same = same_family _ _ _ _ (λ q. ap links_of (same q)) (λ q. ap cap_in (same q))
 
 -- the state with the entry of one object changed
 abbrev pub with_changed : Inside → ObjId → (Entry → Entry) → Inside
@@ -52,9 +58,9 @@ with_changed s id change = record s { entries = with_entry s.places s.entries id
 pub IsConsistent-changed :
     (s : Inside) → IsConsistent s → (id : ObjId) (change : Entry → Entry)
     → ((e : Entry) → entry_of s.places s.entries id ≡ Some e → IsSized e → IsSized (change e))
-    → ((e : Entry) → links (change e) ≡ links e)
+    → ((e : Entry) → links (change e) ≡ links e) → ((e : Entry) → (change e).slots ≡ e.slots)
     → IsConsistent (with_changed s id change)
-IsConsistent-changed s consistent id change keeps linked =
+IsConsistent-changed s consistent id change keeps linked slots =
     let changed = entry_of-with_entry s.places s.entries consistent.apart id change in
     record {
       apart = consistent.apart;
@@ -66,6 +72,10 @@ IsConsistent-changed s consistent id change keeps linked =
         | inr differs ↦ consistent.sized q entry (sym (changed_other _ _ id change changed q differs) ∙ is)
       ];
       queued = links_kept _ _ (part_kept _ _ id change changed links linked) s.next consistent.queued;
+      kin =
+          same_slots _ _
+          (λ q. reading_kept _ _ id change changed (λ e. slice_get e.slots q.index) (λ e. ap (λ l. slice_get l q.index) (slots e)) q.holder)
+          consistent.kin;
     }
   where
     sized_here :
@@ -97,6 +107,7 @@ IsConsistent-requeued s consistent entries id kept requeues =
       bounded = consistent.bounded;
       sized = λ q entry is. by_entry q entry is (entry_of s.places s.entries q) refl;
       queued = requeues.queued;
+      kin = same_slots _ _ (slots_kept _ _ requeues.same) consistent.kin;
     }
   where
     by_entry :
@@ -127,28 +138,6 @@ found_slot s consistent slot has = by_entry (entry_of s.places s.entries slot.ho
       let within : slot.index < slot_count e.object = ltb-true slot.index (slot_count e.object) (rw some at has) in
       let sized : length e.slots ≡ slot_count e.object = (consistent.sized slot.holder e is).0 in
       (e, is, omega arith)
-
-next-with_cap : (m : Machine) (slot : SlotRef) (filling : Cap) → (with_cap m slot filling).next ≡ m.next
-unfolding with_cap
-next-with_cap m slot filling = refl
-
-pub put_cap_gives :
-    (s : Inside) → IsConsistent s → (slot : SlotRef) (filling : Cap) → IsTrue (has_slot (machine_of s) slot)
-    → machine_of (with_changed s slot.holder (put_cap_in slot.index filling)) ≡ with_cap (machine_of s) slot filling
-put_cap_gives s consistent slot filling has =
-    let found = found_slot s consistent slot has in
-    let s' : Inside = with_changed s slot.holder (put_cap_in slot.index filling) in
-    same_from_tells _ _ _ (entry_of s'.places s'.entries) (tells-machine_of s')
-    (tells-put_cap s.next (machine_of s) (entry_of s.places s.entries) (entry_of s'.places s'.entries) (tells-machine_of s) slot filling
-    (entry_of-with_entry s.places s.entries consistent.apart slot.holder (put_cap_in slot.index filling)) found.0 found.1 found.2)
-    (next-machine_of s' ∙ sym (next-with_cap (machine_of s) slot filling ∙ next-machine_of s))
-
-pub IsConsistent-put_cap :
-    (s : Inside) → IsConsistent s → (slot : SlotRef) (filling : Cap)
-    → IsConsistent (with_changed s slot.holder (put_cap_in slot.index filling))
-IsConsistent-put_cap s consistent slot filling =
-    IsConsistent-changed s consistent slot.holder (put_cap_in slot.index filling)
-    (λ e is sized. (length_edited _ e.slots slot.index ∙ sized.0, sized.1)) (λ e. refl)
 
 -- who waits first
 
@@ -231,6 +220,7 @@ IsConsistent-empty s none next =
       bounded = omega arith;
       sized = λ id entry is. (let absent = none_of s none id in cc);
       queued = empty_queued s none next;
+      kin = no_family _ _ (λ q. ap (λ o. links_of (option_and_then (λ e. slice_get e.slots q.index) o)) (none_of s none q.holder));
     }
 
 -- entries that are as they were, though memory for more was found
@@ -247,6 +237,10 @@ IsConsistent-same s consistent places entries same =
       sized = λ id entry is. consistent.sized id entry (sym (entry_of-same s.places places s.entries entries same id) ∙ is);
       queued =
           links_kept _ _ (λ q. ap (option_map links) (entry_of-same s.places places s.entries entries same q)) s.next consistent.queued;
+      kin =
+          same_slots _ _
+          (λ q. ap (option_and_then (λ e. slice_get e.slots q.index)) (entry_of-same s.places places s.entries entries same q.holder))
+          consistent.kin;
     }
 
 pub same_gives :
@@ -355,8 +349,16 @@ IsConsistent-added s consistent room object radix places entries adds =
           (vacant_number s consistent)
           (entry_of-added s.places places s.entries entries (record { 0 = s.next }) (new_entry object) consistent.held adds)
           consistent.queued;
+      kin = same_family _ _ _ _ (read_before links_of refl) (read_before cap_in refl) consistent.kin;
     }
   where
+    read_before :
+        {A : Type 0} (read : Option Slot → A) → read (Some empty_slot) ≡ read None → (q : SlotRef)
+        → read (slot_at (entry_of places entries) q) ≡ read (slot_at (entry_of s.places s.entries) q)
+    read_before read none =
+        added_read (entry_of s.places s.entries) (entry_of places entries) object (record { 0 = s.next }) (vacant_number s consistent)
+        (entry_of-added s.places places s.entries entries (record { 0 = s.next }) (new_entry object) consistent.held adds) read none
+
     before : (a : ℕ) → (a ≡ s.next → ⊥) → tree.get nat_cmp s.places a ≡ tree.get nat_cmp places a
     before a differs = sym (placed_other s.places places s.next (Some adds.place) adds.placed a differs)
 
@@ -419,30 +421,6 @@ HasRadix-machine_of s consistent id object present = by_entry (entry_of s.places
       let some : object_of (machine_of s) id ≡ Some e.object = (tells-machine_of s).objects id ∙ ap object_at is in
       subst HasRadix (same_Some e.object object (sym some ∙ present)) (consistent.sized id e is).1
 
--- a parent is set
-
-pub IsConsistent-set_parent :
-    (s : Inside) → IsConsistent s → (slot parent : SlotRef) → IsConsistent (with_changed s slot.holder (set_parent_in slot.index parent))
-IsConsistent-set_parent s consistent slot parent =
-    IsConsistent-changed s consistent slot.holder (set_parent_in slot.index parent)
-    (λ e is sized. (length_edited _ e.slots slot.index ∙ sized.0, sized.1)) (λ e. refl)
-
-next-with_parent : (m : Machine) (slot parent : SlotRef) → (with_parent m slot parent).next ≡ m.next
-unfolding with_parent
-next-with_parent m slot parent = refl
-
-pub set_parent_gives :
-    (s : Inside) → IsConsistent s → (slot parent : SlotRef) → IsTrue (has_slot (machine_of s) slot)
-    → machine_of (with_changed s slot.holder (set_parent_in slot.index parent)) ≡ with_parent (machine_of s) slot parent
-set_parent_gives s consistent slot parent has =
-    let found = found_slot s consistent slot has in
-    let s' : Inside = with_changed s slot.holder (set_parent_in slot.index parent) in
-    same_from_tells _ _ _ (entry_of s'.places s'.entries) (tells-machine_of s')
-    (tells-set_parent s.next (machine_of s) (entry_of s.places s.entries) (entry_of s'.places s'.entries) (tells-machine_of s) slot
-    parent (entry_of-with_entry s.places s.entries consistent.apart slot.holder (set_parent_in slot.index parent)) found.0 found.1
-    found.2)
-    (next-machine_of s' ∙ sym (next-with_parent (machine_of s) slot parent ∙ next-machine_of s))
-
 -- an object's content is set
 
 -- an object that the machine has has an entry
@@ -461,7 +439,7 @@ IsConsistent-replace s consistent id object radix same =
     IsConsistent-changed s consistent id (replace_in object) (λ e is sized.
     let found : object_of (machine_of s) id ≡ Some e.object = (tells-machine_of s).objects id ∙ ap object_at is in
     let count : slot_count object ≡ slot_count e.object = rw found at same in
-    (sized.0 ∙ sym count, radix)) (λ e. refl)
+    (sized.0 ∙ sym count, radix)) (λ e. refl) (λ e. refl)
 
 next-with_object : (m : Machine) (id : ObjId) (object : Object) → (with_object m id object).next ≡ m.next
 unfolding with_object

@@ -1,5 +1,5 @@
 -- What a list edited at one place has at each place, and how an edit is a write.
-use Rattle.std.proofs.Common.{◌≡◌, ◌≢◌, ℕ, zero, suc, ◌<◌, List, [], ◌∷◌, length, get_or, set, refl, sym, ap, arith}
+use Rattle.std.proofs.Common.{◌≡◌, ◌≢◌, ℕ, zero, suc, ◌<◌, List, [], ◌∷◌, length, set, refl, ap, arith}
 use Rattle.std.specs.Prelude.{option_map, slice_get}
 use Rattle.objects.specs.Edits.{edited}
 
@@ -8,13 +8,6 @@ module _ {X : Type 0} (change : X → X) where
   edited_past [] place past = refl
   edited_past (x ∷ xs) zero past = absurd (past (omega arith))
   edited_past (x ∷ xs) (suc place) past = ap (λ ys. x ∷ ys) (edited_past xs place (λ within. past (omega arith)))
-
-  pub edited_within :
-      (xs : List X) (place : ℕ) (x : X) → x ≡ get_or xs place x → place < length xs
-      → edited change xs place ≡ set xs place (change x)
-  edited_within [] place x is within = absurd (omega arith)
-  edited_within (y ∷ xs) zero x is within = ap (λ z. change z ∷ xs) (sym is)
-  edited_within (y ∷ xs) (suc place) x is within = ap (λ ys. y ∷ ys) (edited_within xs place x is (omega arith))
 
   pub length_edited : (xs : List X) (place : ℕ) → length (edited change xs place) ≡ length xs
   length_edited [] place = refl
@@ -33,3 +26,10 @@ module _ {X : Type 0} (change : X → X) where
   slice_get_edited_other (x ∷ xs) zero (suc at) apart = refl
   slice_get_edited_other (x ∷ xs) (suc place) zero apart = refl
   slice_get_edited_other (x ∷ xs) (suc place) (suc at) apart = slice_get_edited_other xs place at (λ same. apart (ap suc same))
+
+-- an edit that puts a value in place of what is there is a write
+pub edited_within :
+    {X : Type 0} (x : X) (xs : List X) (place : ℕ) → place < length xs → edited (λ _. x) xs place ≡ set xs place x
+edited_within x [] place within = absurd (omega arith)
+edited_within x (y ∷ xs) zero within = refl
+edited_within x (y ∷ xs) (suc place) within = ap (λ ys. y ∷ ys) (edited_within x xs place (omega arith))

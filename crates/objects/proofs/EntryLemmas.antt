@@ -1,6 +1,6 @@
 -- What the entries are after a change: each object has the entry that it had, but for the one that was changed or added.
-use Rattle.std.proofs.Common.{◌≡◌, ◌≢◌, ℕ, zero, suc, ◌<◌, List, [], ◌∷◌, false, cond, length, replicate, refl, sym, ap, subst}
-use Rattle.std.proofs.Common.{◌∙◌, arith, inl, inr}
+use Rattle.std.proofs.Common.{◌≡◌, ◌≢◌, ℕ, zero, suc, false, cond, replicate, refl, sym, ap, subst}
+use Rattle.std.proofs.Common.{◌∙◌, inl, inr}
 use Rattle.std.specs.Prelude.{Option, Some, None, is_some, IsSome, option_map, option_and_then, slice_get}
 use Rattle.std.specs.Ordering.{nat_cmp, is_eq}
 use Rattle.std.specs.FinMap.{nat_cmp-IsAntisymmetric}
@@ -16,9 +16,7 @@ use Rattle.machine.specs.Machine.{same_id}
 use Rattle.machine.proofs.LookUps.{id_total, id_apart}
 use Rattle.objects.specs.declared.entry.Entry.{Entry}
 use Rattle.objects.specs.declared.slots.Slot.{Slot}
-use Rattle.objects.specs.Edits.{edited}
 use Rattle.objects.specs.Entries.{place_of, entry_of, changed_at, changed, with_entry, AddsEntry, SameEntries}
-use Rattle.objects.proofs.EditLemmas.{slice_get_edited_other}
 use Rattle.objects.proofs.FiniteLemmas.{by_key, same_from_tie}
 
 -- no two numbers share a place
@@ -125,35 +123,10 @@ entry_of-same places places' entries entries' same q =
       kept None = refl
       kept (Some place) = same.kept place
 
--- what is read of the slots of an entry after an edit of one of them
-
-module _ {A : Type 0} (read : Slot → Option A) (change : Slot → Slot) where
-  pub read_here :
-      (value : A) → ((slot : Slot) → read (change slot) ≡ Some value) → (slots : List Slot) (index : ℕ) → index < length slots
-      → option_and_then read (slice_get (edited change slots index) index) ≡ Some value
-  read_here value sets [] index within = absurd (omega arith)
-  read_here value sets (slot ∷ slots) zero within = sets slot
-  read_here value sets (slot ∷ slots) (suc index) within = read_here value sets slots index (omega arith)
-
-  pub read_other :
-      (slots : List Slot) (index at : ℕ) → at ≢ index
-      → option_and_then read (slice_get (edited change slots index) at) ≡ option_and_then read (slice_get slots at)
-  read_other slots index at apart = ap (option_and_then read) (slice_get_edited_other change slots index at apart)
-
-  -- an edit that keeps what is read of each slot
-  pub read_kept :
-      ((slot : Slot) → read (change slot) ≡ read slot) → (slots : List Slot) (index at : ℕ)
-      → option_and_then read (slice_get (edited change slots index) at) ≡ option_and_then read (slice_get slots at)
-  read_kept keeps [] index at = refl
-  read_kept keeps (slot ∷ slots) zero zero = keeps slot
-  read_kept keeps (slot ∷ slots) zero (suc at) = refl
-  read_kept keeps (slot ∷ slots) (suc index) zero = refl
-  read_kept keeps (slot ∷ slots) (suc index) (suc at) = read_kept keeps slots index at
-
--- an empty slot holds nothing
+-- where an empty slot reads as an absent one, so does each slot of a new object
 pub read_empty :
-    {A : Type 0} (read : Slot → Option A) (slot : Slot) → read slot ≡ None → (count at : ℕ)
-    → option_and_then read (slice_get (replicate count slot) at) ≡ None
+    {A : Type 0} (read : Option Slot → A) (slot : Slot) → read (Some slot) ≡ read None → (count at : ℕ)
+    → read (slice_get (replicate count slot) at) ≡ read None
 read_empty read slot none zero at = refl
 read_empty read slot none (suc count) zero = none
 read_empty read slot none (suc count) (suc at) = read_empty read slot none count at

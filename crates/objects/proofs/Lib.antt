@@ -1,9 +1,14 @@
 pub mod ChangeLemmas
 pub mod ConsistentLemmas
+pub mod Detaching
 pub mod EditLemmas
 pub mod EntryLemmas
+pub mod Families
 pub mod FiniteLemmas
+pub mod Forests
 pub mod LinkLemmas
 pub mod QueueLemmas
 pub mod RankLemmas
+pub mod SlotLemmas
 pub mod StateLemmas
+pub mod TreeState

@@ -14,7 +14,6 @@ use Rattle.slab.specs.Slab as slab
 use Rattle.slab.specs.Slab.{Slab}
 use Rattle.base.specs.declared.ids.ObjId.{ObjId}
 use Rattle.base.specs.declared.ids.SlotRef.{SlotRef}
-use Rattle.machine.specs.declared.cap.Cap.{Cap}
 use Rattle.machine.specs.declared.object.Object.{Object}
 use Rattle.machine.specs.Machine.{Machine, same_id, same_slot, object_of, queue_of}
 use Rattle.machine.proofs.LookUps.{id_total, id_apart, slot_total, slot_apart}
@@ -23,7 +22,8 @@ use Rattle.machine.proofs.LookUps.{same_machine}
 use Rattle.objects.specs.declared.entry.Entry.{Entry}
 use Rattle.objects.specs.declared.slots.Slot.{Slot}
 use Rattle.objects.specs.declared.state.State.TheInside.{Inside}
-use Rattle.objects.specs.Entries.{place_of, entry_of, cap_in, parent_in}
+use Rattle.objects.specs.Entries.{place_of, entry_of, slot_at}
+use Rattle.objects.specs.Family.{cap_in, parent_in}
 use Rattle.objects.specs.Links.{queue_in}
 use Rattle.objects.specs.State.{slots_of, machine_from, machine_of}
 use Rattle.objects.proofs.FiniteLemmas.{get-tabulate, ties_itself, same_from_tie}
@@ -35,19 +35,13 @@ object_at entry = option_map (λ e. e.object) entry
 abbrev pub words_at : Option Entry → Option (List ℕ)
 words_at entry = option_map (λ e. e.words) entry
 
-abbrev pub cap_at : ℕ → Option Entry → Option Cap
-cap_at index entry = option_and_then (λ e. cap_in e index) entry
-
-abbrev pub parent_at : ℕ → Option Entry → Option SlotRef
-parent_at index entry = option_and_then (λ e. parent_in e index) entry
-
 -- the machine answers what the entries say, where there are so many numbers
 pub record Tells (numbers : ℕ) (m : Machine) (entry : ObjId → Option Entry) : Type 0 where
   pub objects : (q : ObjId) → object_of m q ≡ object_at (entry q)
   pub queues : (q : ObjId) → queue_of m q ≡ queue_in numbers entry (entry q)
   pub words : (q : ObjId) → words_of m q ≡ words_at (entry q)
-  pub caps : (q : SlotRef) → cap_of m q ≡ cap_at q.index (entry q.holder)
-  pub parents : (q : SlotRef) → parent_of m q ≡ parent_at q.index (entry q.holder)
+  pub caps : (q : SlotRef) → cap_of m q ≡ cap_in (slot_at entry q)
+  pub parents : (q : SlotRef) → parent_of m q ≡ parent_in (slot_at entry q)
 
 -- machines of which the same entries tell are one
 pub same_from_tells :
@@ -131,11 +125,12 @@ some_within read (slot ∷ slots) (suc index) some =
 some_slot :
     {A : Type 0} (read : Slot → Option A) (entry : ObjId → Option Entry) (ids : List ObjId)
     → ((q : ObjId) → IsSome (entry q) → list_any (same_id q) ids ≡ true) → (q : SlotRef)
-    → IsSome (option_and_then (λ e. option_and_then read (slice_get e.slots q.index)) (entry q.holder))
+    → IsSome (option_and_then read (slot_at entry q))
     → list_any (same_slot q) (flat_map (λ id. slots_of id (entry id)) ids) ≡ true
 some_slot read entry ids all q some = by_entry (entry q.holder) refl some where
   by_entry :
-      (o : Option Entry) → entry q.holder ≡ o → IsSome (option_and_then (λ e. option_and_then read (slice_get e.slots q.index)) o)
+      (o : Option Entry) → entry q.holder ≡ o
+      → IsSome (option_and_then read (option_and_then (λ e. slice_get e.slots q.index) o))
       → list_any (same_slot q) (flat_map (λ id. slots_of id (entry id)) ids) ≡ true
   by_entry None is some = absurd (false≢true some)
   by_entry (Some e) is some = slot_listed entry ids all q e is (some_within read e.slots q.index some)
@@ -165,12 +160,12 @@ tells-machine_from entry ids next all =
           (λ some. all q (sym (is_some-option_map _ (entry q)) ∙ some));
       caps =
           λ q.
-          get-tabulate slot_total slot_apart (λ slot. cap_at slot.index (entry slot.holder)) slots q
+          get-tabulate slot_total slot_apart (λ slot. cap_in (slot_at entry slot)) slots q
           (some_slot (λ slot. slot.cap) entry ids all q);
       parents =
           λ q.
-          get-tabulate slot_total slot_apart (λ slot. parent_at slot.index (entry slot.holder)) slots q
-          (some_slot (λ slot. slot.parent) entry ids all q);
+          get-tabulate slot_total slot_apart (λ slot. parent_in (slot_at entry slot)) slots q
+          (some_slot (λ slot. slot.links.parent) entry ids all q);
     }
 
 pub tells-machine_of : (s : Inside) → Tells s.next (machine_of s) (entry_of s.places s.entries)

@@ -7,12 +7,12 @@ use Rattle.slab.specs.Slab as slab
 use Rattle.slab.specs.Slab.{Slab}
 use Rattle.base.specs.declared.ids.ObjId.{ObjId}
 use Rattle.base.specs.declared.ids.SlotRef.{SlotRef}
-use Rattle.machine.specs.declared.cap.Cap.{Cap}
 use Rattle.machine.specs.declared.object.Object.{Object}
 use Rattle.machine.specs.Objects.{slot_count, word_count}
 use Rattle.objects.specs.declared.entry.Entry.{Entry}
 use Rattle.objects.specs.declared.links.Ends.{Ends}
 use Rattle.objects.specs.declared.links.Standing.{Standing}
+use Rattle.objects.specs.declared.slots.Slot.{Slot}
 use Rattle.objects.specs.Edits.{edited}
 
 -- where an object's entry is
@@ -38,12 +38,8 @@ with_entry places entries id change = changed entries change (place_of places id
 
 -- the changes to an entry
 
-abbrev pub put_cap_in : ℕ → Cap → Entry → Entry
-put_cap_in index filling entry = record entry { slots = edited (λ slot. record slot { cap = Some filling }) entry.slots index }
-
-abbrev pub set_parent_in : ℕ → SlotRef → Entry → Entry
-set_parent_in index parent entry =
-    record entry { slots = edited (λ slot. record slot { parent = Some parent }) entry.slots index }
+abbrev pub set_slot_in : ℕ → Slot → Entry → Entry
+set_slot_in index slot entry = record entry { slots = edited (λ _. slot) entry.slots index }
 
 abbrev pub replace_in : Object → Entry → Entry
 replace_in object entry = record entry { object = object }
@@ -54,23 +50,24 @@ set_ends_in ends entry = record entry { ends = ends }
 abbrev pub set_standing_in : Standing → Entry → Entry
 set_standing_in standing entry = record entry { standing = standing }
 
+-- a slot that holds nothing and is in no pair of the derivation tree
+abbrev pub empty_slot : Slot
+empty_slot = record { cap = None; links = record { parent = None; first = None; next = None; previous = None } }
+
 -- the entry of a new object: its slots are empty, nobody waits at it, and its words are zero
 abbrev pub new_entry : Object → Entry
 new_entry object =
     record {
       object = object;
-      slots = replicate (slot_count object) (record { cap = None; parent = None });
+      slots = replicate (slot_count object) empty_slot;
       ends = record { first = None; last = None };
       standing = record { at = None; previous = None; next = None };
       words = replicate (word_count object) 0;
     }
 
--- what a slot of an entry holds
-abbrev pub cap_in : Entry → ℕ → Option Cap
-cap_in entry index = option_and_then (λ slot. slot.cap) (slice_get entry.slots index)
-
-abbrev pub parent_in : Entry → ℕ → Option SlotRef
-parent_in entry index = option_and_then (λ slot. slot.parent) (slice_get entry.slots index)
+-- a slot, if it is there
+abbrev pub slot_at : (ObjId → Option Entry) → SlotRef → Option Slot
+slot_at entry at = option_and_then (λ e. slice_get e.slots at.index) (entry at.holder)
 
 -- the entry is added under the number, at a place that was empty
 pub record AddsEntry (places places' : BTreeMap ℕ ℕ) (entries entries' : Slab Entry) (number : ℕ) (entry : Entry) : Type 0 where

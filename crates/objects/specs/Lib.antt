@@ -1,6 +1,8 @@
 pub mod Edits
 pub mod Entries
+pub mod Family
 pub mod Finite
+pub mod Forest
 pub mod Links
 pub mod Queues
 pub mod Radices

@@ -1,6 +1,5 @@
 -- What contracts see of a `State`, and what is true of each.
 use Rattle.std.specs.Prelude.{◌≡◌, ℕ, ◌<◌, ◌≤◌, List, [], map, length, Option, Some, None, IsSome, option_map}
-use Rattle.std.specs.Prelude.{option_and_then}
 use Rattle.std.specs.List.{flat_map, range_with_len}
 use Rattle.std.specs.Ordering.{nat_cmp}
 use Rattle.std.specs.BTreeMap as tree
@@ -12,7 +11,8 @@ use Rattle.machine.specs.Machine.{Machine}
 use Rattle.machine.specs.Objects.{slot_count}
 use Rattle.objects.specs.declared.entry.Entry.{Entry}
 use Rattle.objects.specs.declared.state.State.TheInside.{Inside}
-use Rattle.objects.specs.Entries.{entry_of, cap_in, parent_in}
+use Rattle.objects.specs.Entries.{entry_of, slot_at}
+use Rattle.objects.specs.Family.{cap_in, parent_in, AreKin}
 use Rattle.objects.specs.Finite.{tabulate}
 use Rattle.objects.specs.Links.{queue_in, AreQueued}
 use Rattle.objects.specs.Radices.{HasRadix}
@@ -30,8 +30,8 @@ machine_from entry ids next =
       objects = tabulate (λ id. option_map (λ e. e.object) (entry id)) ids;
       queues = tabulate (λ id. queue_in next entry (entry id)) ids;
       words = tabulate (λ id. option_map (λ e. e.words) (entry id)) ids;
-      caps = tabulate (λ slot. option_and_then (λ e. cap_in e slot.index) (entry slot.holder)) slots;
-      parents = tabulate (λ slot. option_and_then (λ e. parent_in e slot.index) (entry slot.holder)) slots;
+      caps = tabulate (λ slot. cap_in (slot_at entry slot)) slots;
+      parents = tabulate (λ slot. parent_in (slot_at entry slot)) slots;
       next = next;
     }
 
@@ -44,7 +44,7 @@ abbrev pub IsSized : Entry → Type 0
 IsSized entry = (length entry.slots ≡ slot_count entry.object) × HasRadix entry.object
 
 -- each number in use has a place of its own with an entry and is below the next one, its object has as many slots as it should,
--- a CNode has a radix, and the links are those of queues
+-- a CNode has a radix, and the links are those of queues and of a derivation tree
 pub record IsConsistent (s : Inside) : Type 0 where
   pub apart : (a b place : ℕ) → tree.get nat_cmp s.places a ≡ Some place → tree.get nat_cmp s.places b ≡ Some place → a ≡ b
   pub held : (a place : ℕ) → tree.get nat_cmp s.places a ≡ Some place → IsSome (slab.get s.entries place)
@@ -52,3 +52,4 @@ pub record IsConsistent (s : Inside) : Type 0 where
   pub bounded : s.next ≤ OBJECT_NUMBERS
   pub sized : (id : ObjId) (entry : Entry) → entry_of s.places s.entries id ≡ Some entry → IsSized entry
   pub queued : AreQueued (entry_of s.places s.entries) s.next
+  pub kin : AreKin (entry_of s.places s.entries)

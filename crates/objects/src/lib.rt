@@ -16,8 +16,8 @@ pub use base::{
     Cause, CoreNo, Edge, Kind, Kinds, Label, LookupFailure, ObjId, Refusal, Rights, SlotRef,
 };
 pub use machine::{
-    Answer, Badged, Binding, CNode, Call, Cap, Context, Control, Detail, Endpoint, Event, Filled,
-    Frame, Guard, Inbox, Initial, Message, Notification, Object, ObjectKind, Outcome, Pair, Radix,
-    ReceiveSlot, Receiving, Reply, ReplyState, RunState, Sending, Share, Tcb, Untyped,
+    Answer, Badged, Binding, CNode, Call, Cap, CapData, Context, Control, Detail, Endpoint, Event,
+    Filled, Frame, Guard, Inbox, Initial, Message, Notification, Object, ObjectKind, Outcome, Pair,
+    Radix, Receiving, Reply, ReplyState, RunState, Sending, Share, SlotAddress, Tcb, Untyped,
 };
 pub use state::State;

@@ -1,4 +1,4 @@
-use base::ObjId;
+use base::{ObjId, SlotRef};
 
 /// The ends of the queue of the threads that wait at an object; none where nobody waits.
 #[derive(Clone, Copy)]
@@ -28,5 +28,25 @@ impl Standing {
         at: None,
         previous: None,
         next: None,
+    };
+}
+
+/// Where a slot stands in the derivation tree: its parent, the first of its children, and the children
+/// of its parent after and before it. None of the four where it is empty, or has neither parent nor
+/// children.
+#[derive(Clone, Copy)]
+pub struct TreeLinks {
+    pub parent: Option<SlotRef>,
+    pub first: Option<SlotRef>,
+    pub next: Option<SlotRef>,
+    pub previous: Option<SlotRef>,
+}
+
+impl TreeLinks {
+    pub const NONE: TreeLinks = TreeLinks {
+        parent: None,
+        first: None,
+        next: None,
+        previous: None,
     };
 }

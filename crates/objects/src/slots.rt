@@ -1,7 +1,8 @@
 ghost use Rattle.std.specs.Prelude.{◌≡◌, replicate, slice_get, IfOk};
 ghost use Rattle.objects.specs.Edits.{edited};
+ghost use Rattle.objects.specs.Entries.{empty_slot};
 
-use base::SlotRef;
+use crate::links::TreeLinks;
 use machine::Cap;
 use std::alloc::{AllocError, Global};
 use std::marker::Model;
@@ -10,14 +11,13 @@ use std::marker::Model;
 #[derive(Clone, Copy)]
 pub struct Slot {
     pub cap: Option<Cap>,
-    /// Where the capability that this one was derived from is.
-    pub parent: Option<SlotRef>,
+    pub links: TreeLinks,
 }
 
 impl Slot {
     pub const EMPTY: Slot = Slot {
         cap: None,
-        parent: None,
+        links: TreeLinks::NONE,
     };
 }
 
@@ -39,7 +39,7 @@ impl Model for Slots {
 impl Slots {
     /// So many empty slots.
     pub fn empty(alloc: Global, count: u64) -> Result<Slots, AllocError>
-        ensures { IfOk result (λ slots. slots ≡ replicate count (record { cap = None; parent = None })) }
+        ensures { IfOk result (λ slots. slots ≡ replicate count empty_slot) }
     {
         let mut items = Vec::new(alloc);
         items.resize(count as usize, Slot::EMPTY)?;
@@ -53,21 +53,12 @@ impl Slots {
         self.items.get(index as usize).copied()
     }
 
-    /// Fills the slot at the index, if there is one.
-    pub fn put_cap(&mut self, index: u64, cap: Cap)
-        ensures { self.new ≡ edited (λ slot. record slot { cap = Some cap }) self.old index }
+    /// Sets the slot at the index, if there is one.
+    pub fn set(&mut self, index: u64, slot: Slot)
+        ensures { self.new ≡ edited (λ _. slot) self.old index }
     {
-        if let Some(slot) = self.items.get_mut(index as usize) {
-            slot.cap = Some(cap);
-        }
-    }
-
-    /// Sets the parent of the slot at the index, if there is one.
-    pub fn set_parent(&mut self, index: u64, parent: SlotRef)
-        ensures { self.new ≡ edited (λ slot. record slot { parent = Some parent }) self.old index }
-    {
-        if let Some(slot) = self.items.get_mut(index as usize) {
-            slot.parent = Some(parent);
+        if let Some(place) = self.items.get_mut(index as usize) {
+            *place = slot;
         }
     }
 }

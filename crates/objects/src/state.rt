@@ -39,13 +39,16 @@ impl Model for State {
 
 impl State {
     ghost use Rattle.base.specs.declared.ids.ObjId.{ObjId as Id};
+    ghost use Rattle.base.specs.declared.ids.SlotRef.{SlotRef as Slot};
     ghost use Rattle.base.specs.declared.limits.TheConstants.{MAX_RADIX, OBJECT_NUMBERS};
     ghost use Rattle.machine.specs.declared.object.CNode.{CNode};
     ghost use Rattle.machine.specs.declared.object.Object.TheVariants as o;
-    ghost use Rattle.std.specs.Prelude.{◌≡◌, ◌<◌, ◌≤◌, IsTrue, IfOk, OnErr, OnOk, option_copied};
-    ghost use Rattle.std.specs.Prelude.{IsSome, IfSome};
+    ghost use Rattle.std.specs.Prelude.{◌≡◌, ◌≢◌, ◌<◌, ◌≤◌, IsTrue, IfOk, OnErr, OnOk, option_copied};
+    ghost use Rattle.std.specs.Prelude.{Some, None, IsSome, IfSome, IfNone};
     ghost use Rattle.machine.specs.Machine.{empty_machine, object_of, cap_of, parent_of, has_slot, with_new, with_cap};
-    ghost use Rattle.machine.specs.Machine.{with_parent, with_object};
+    ghost use Rattle.machine.specs.Machine.{with_parent, with_object, without_cap, without_parent};
+    ghost use Rattle.machine.specs.Tree.{IsAlone, IsRanked};
+    ghost use Rattle.machine.specs.WellFormed.{Descends};
     ghost use Rattle.machine.specs.Objects.{slot_count};
     ghost use Rattle.objects.specs.Waiting.{WaitsNowhere};
     ghost use Rattle.machine.specs.Changes.{first_waiting, with_pending, with_tcb, with_context, with_waiting, without_first};
@@ -146,16 +149,54 @@ impl State {
         requires { IsTrue (has_slot self.old slot) }
         ensures { self.new ≡ with_cap self.old slot cap }
     {
-        store::put_cap(&self.places, &mut self.entries, slot, cap);
+        store::set_cap(&self.places, &mut self.entries, slot, Some(cap));
     }
 
-    /// Makes the capability in `slot` a child of that in `parent` in the derivation tree (seL4
-    /// manual, "Capability Derivation Tree").
-    pub fn set_parent(&mut self, slot: SlotRef, parent: SlotRef)
-        requires { IsTrue (has_slot self.old slot) }
+    /// Empties the slot, which is in no pair of the derivation tree.
+    pub fn take_cap(&mut self, slot: SlotRef)
+        requires alone { IsAlone self.old slot }
+        ensures { self.new ≡ without_cap self.old slot }
+    {
+        store::set_cap(&self.places, &mut self.entries, slot, None);
+    }
+
+    /// A child of the slot in the derivation tree, if it has one.
+    pub fn first_child(&self, slot: SlotRef) -> Option<SlotRef>
+        ensures some { IfSome result (λ child. parent_of self.now child ≡ Some slot) }
+        ensures none { IfNone result ((child : Slot) → parent_of self.now child ≢ Some slot) }
+    {
+        store::first_child(&self.places, &self.entries, slot)
+    }
+
+    /// Makes the capability in `slot`, which has no parent, a child of that in `parent` in the
+    /// derivation tree (seL4 manual, "Capability Derivation Tree"). The slot keeps its children, so
+    /// the parent may not descend from it.
+    pub fn attach(&mut self, slot: SlotRef, parent: SlotRef)
+        requires below { IsSome (cap_of self.old slot) }
+        requires above { IsSome (cap_of self.old parent) }
+        requires root { parent_of self.old slot ≡ None }
+        requires ranked { IsRanked (with_parent self.old slot parent) }
         ensures { self.new ≡ with_parent self.old slot parent }
     {
-        store::set_parent(&self.places, &mut self.entries, slot, parent);
+        store::attach(&self.places, &mut self.entries, slot, parent);
+    }
+
+    /// Takes the slot away from its parent, if it has one. It keeps its children.
+    pub fn detach(&mut self, slot: SlotRef)
+        ensures { self.new ≡ without_parent self.old slot }
+    {
+        store::detach(&self.places, &mut self.entries, slot);
+    }
+
+    /// Pairs of the derivation tree join filled slots, and no slot descends from itself.
+    pub fn keeps_a_forest(&self)
+        ensures below { (slot parent : Slot) → parent_of self.now slot ≡ Some parent → IsSome (cap_of self.now slot) }
+        ensures above { (slot parent : Slot) → parent_of self.now slot ≡ Some parent → IsSome (cap_of self.now parent) }
+        ensures ranked { IsRanked self.now }
+        ensures acyclic { (slot : Slot) → ¬ Descends self.now slot slot }
+    {
+        // Reading a field makes known what the type keeps.
+        let _ = &self.next;
     }
 
     // Sets the object's content, which has as many slots as before.

@@ -1,13 +1,14 @@
 //! The entry of an object, found by its number: a map from numbers to places, and the entries at
 //! these.
-ghost use Rattle.std.specs.Prelude.{◌≡◌, option_copied, option_map, option_and_then, OnOk, OnErr};
-ghost use Rattle.objects.specs.Entries.{entry_of, cap_in, parent_in, with_entry, put_cap_in, set_parent_in, replace_in};
+ghost use Rattle.std.specs.Prelude.{◌≡◌, Some, option_copied, option_map, option_and_then, OnOk, OnErr};
+ghost use Rattle.objects.specs.Entries.{entry_of, slot_at, with_entry, set_slot_in, replace_in};
 ghost use Rattle.objects.specs.Entries.{new_entry, AddsEntry, SameEntries, set_ends_in, set_standing_in};
+ghost use Rattle.objects.specs.Family.{cap_in, parent_in, links_at, with_slot, with_links, attached, head_of, leaving, detached};
 ghost use Rattle.objects.specs.Links.{standing_of, with_standing, pushed, popped};
 
 use crate::entry::Entry;
-use crate::links::{Ends, Standing};
-use crate::slots::Slots;
+use crate::links::{Ends, Standing, TreeLinks};
+use crate::slots::{Slot, Slots};
 use crate::words::Words;
 use base::{ObjId, SlotRef};
 use machine::{Cap, Object};
@@ -38,28 +39,46 @@ pub fn object<'a>(
     Some(&entry(places, entries, id)?.object)
 }
 
-/// The capability in the slot.
-pub fn cap(places: &BTreeMap<u64, usize>, entries: &Slab<Entry>, slot: SlotRef) -> Option<Cap>
-    ensures { result ≡ option_and_then (λ entry. cap_in entry slot.index) (entry_of places.now entries.now slot.holder) }
+/// The slot, if it is there.
+pub fn slot(places: &BTreeMap<u64, usize>, entries: &Slab<Entry>, at: SlotRef) -> Option<Slot>
+    ensures { result ≡ slot_at (entry_of places.now entries.now) at }
 {
-    entry(places, entries, slot.holder)?
-        .slots
-        .get(slot.index)?
-        .cap
+    entry(places, entries, at.holder)?.slots.get(at.index)
+}
+
+/// The capability in the slot.
+pub fn cap(places: &BTreeMap<u64, usize>, entries: &Slab<Entry>, at: SlotRef) -> Option<Cap>
+    ensures { result ≡ cap_in (slot_at (entry_of places.now entries.now) at) }
+{
+    slot(places, entries, at)?.cap
 }
 
 /// The parent of the slot.
-pub fn parent(
+pub fn parent(places: &BTreeMap<u64, usize>, entries: &Slab<Entry>, at: SlotRef) -> Option<SlotRef>
+    ensures { result ≡ parent_in (slot_at (entry_of places.now entries.now) at) }
+{
+    slot(places, entries, at)?.links.parent
+}
+
+/// The first child of the slot.
+pub fn first_child(
     places: &BTreeMap<u64, usize>,
     entries: &Slab<Entry>,
-    slot: SlotRef,
+    at: SlotRef,
 ) -> Option<SlotRef>
-    ensures { result ≡ option_and_then (λ entry. parent_in entry slot.index) (entry_of places.now entries.now slot.holder) }
+    ensures { result ≡ (links_at (entry_of places.now entries.now) at).first }
 {
-    entry(places, entries, slot.holder)?
-        .slots
-        .get(slot.index)?
-        .parent
+    links(places, entries, at).first
+}
+
+// The links of the slot; one that is absent has none.
+fn links(places: &BTreeMap<u64, usize>, entries: &Slab<Entry>, at: SlotRef) -> TreeLinks
+    ensures { result ≡ links_at (entry_of places.now entries.now) at }
+{
+    match slot(places, entries, at) {
+        Some(slot) => slot.links,
+        None => TreeLinks::NONE,
+    }
 }
 
 // The ends of the queue at the object.
@@ -86,30 +105,151 @@ fn standing(places: &BTreeMap<u64, usize>, entries: &Slab<Entry>, thread: ObjId)
     }
 }
 
-/// Fills the slot, if there is one.
-pub fn put_cap(places: &BTreeMap<u64, usize>, entries: &mut Slab<Entry>, slot: SlotRef, cap: Cap)
-    ensures { entries.new ≡ with_entry places.now entries.old slot.holder (put_cap_in slot.index cap) }
+fn set_slot(places: &BTreeMap<u64, usize>, entries: &mut Slab<Entry>, at: SlotRef, slot: Slot)
+    ensures { entries.new ≡ with_entry places.now entries.old at.holder (set_slot_in at.index slot) }
 {
-    if let Some(place) = places.get(&slot.holder.0) {
+    if let Some(place) = places.get(&at.holder.0) {
         if let Some(entry) = entries.get_mut(*place) {
-            entry.slots.put_cap(slot.index, cap);
+            entry.slots.set(at.index, slot);
         }
     }
 }
 
-/// Sets the slot's parent, if there is such a slot.
-pub fn set_parent(
+/// Says what the slot holds, if it is there.
+pub fn set_cap(
+    places: &BTreeMap<u64, usize>,
+    entries: &mut Slab<Entry>,
+    at: SlotRef,
+    cap: Option<Cap>,
+)
+    ensures { entries.new ≡ with_slot places.now entries.old at (λ slot. record slot { cap = cap }) }
+{
+    if let Some(slot) = slot(places, entries, at) {
+        set_slot(places, entries, at, Slot { cap, ..slot });
+    }
+}
+
+// Says which the slot's first child is, if a slot is named.
+fn set_first(
+    places: &BTreeMap<u64, usize>,
+    entries: &mut Slab<Entry>,
+    at: Option<SlotRef>,
+    first: Option<SlotRef>,
+)
+    ensures { entries.new ≡ with_links places.now entries.old at (λ l. record l { first = first }) }
+{
+    if let Some(at) = at {
+        if let Some(slot) = slot(places, entries, at) {
+            let links = TreeLinks {
+                first,
+                ..slot.links
+            };
+            set_slot(places, entries, at, Slot { links, ..slot });
+        }
+    }
+}
+
+// Says which sibling follows the slot, if one is named.
+fn set_follower(
+    places: &BTreeMap<u64, usize>,
+    entries: &mut Slab<Entry>,
+    at: Option<SlotRef>,
+    next: Option<SlotRef>,
+)
+    ensures { entries.new ≡ with_links places.now entries.old at (λ l. record l { next = next }) }
+{
+    if let Some(at) = at {
+        if let Some(slot) = slot(places, entries, at) {
+            let links = TreeLinks { next, ..slot.links };
+            set_slot(places, entries, at, Slot { links, ..slot });
+        }
+    }
+}
+
+// Says which sibling the slot follows, if one is named.
+fn set_leader(
+    places: &BTreeMap<u64, usize>,
+    entries: &mut Slab<Entry>,
+    at: Option<SlotRef>,
+    previous: Option<SlotRef>,
+)
+    ensures { entries.new ≡ with_links places.now entries.old at (λ l. record l { previous = previous }) }
+{
+    if let Some(at) = at {
+        if let Some(slot) = slot(places, entries, at) {
+            let links = TreeLinks {
+                previous,
+                ..slot.links
+            };
+            set_slot(places, entries, at, Slot { links, ..slot });
+        }
+    }
+}
+
+// Says whose child the slot is, and between which siblings it stands.
+fn set_standing_under(
+    places: &BTreeMap<u64, usize>,
+    entries: &mut Slab<Entry>,
+    at: SlotRef,
+    parent: Option<SlotRef>,
+    next: Option<SlotRef>,
+)
+    ensures { entries.new
+        ≡ with_links places.now entries.old (Some at) (λ l. record l { parent = parent; next = next; previous = None }) }
+{
+    if let Some(slot) = slot(places, entries, at) {
+        let links = TreeLinks {
+            parent,
+            next,
+            previous: None,
+            ..slot.links
+        };
+        set_slot(places, entries, at, Slot { links, ..slot });
+    }
+}
+
+/// Puts a slot that has no parent before the children of another.
+pub fn attach(
     places: &BTreeMap<u64, usize>,
     entries: &mut Slab<Entry>,
     slot: SlotRef,
     parent: SlotRef,
 )
-    ensures { entries.new ≡ with_entry places.now entries.old slot.holder (set_parent_in slot.index parent) }
+    ensures { entries.new ≡ attached places.now entries.old slot parent }
 {
-    if let Some(place) = places.get(&slot.holder.0) {
-        if let Some(entry) = entries.get_mut(*place) {
-            entry.slots.set_parent(slot.index, parent);
-        }
+    let head = links(places, entries, parent).first;
+    set_leader(places, entries, head, Some(slot));
+    set_standing_under(places, entries, slot, Some(parent), head);
+    set_first(places, entries, Some(parent), Some(slot));
+}
+
+// Whose first child a slot with these links is.
+fn heads(links: TreeLinks) -> Option<SlotRef>
+    ensures { result ≡ head_of links links.previous }
+{
+    match links.previous {
+        None => links.parent,
+        Some(_) => None,
+    }
+}
+
+// Takes the slot, which has these links, away from its parent.
+fn leave(places: &BTreeMap<u64, usize>, entries: &mut Slab<Entry>, slot: SlotRef, links: TreeLinks)
+    ensures { entries.new ≡ leaving places.now entries.old slot links }
+{
+    set_first(places, entries, heads(links), links.next);
+    set_follower(places, entries, links.previous, links.next);
+    set_leader(places, entries, links.next, links.previous);
+    set_standing_under(places, entries, slot, None, None);
+}
+
+/// Takes the slot away from its parent, if it has one.
+pub fn detach(places: &BTreeMap<u64, usize>, entries: &mut Slab<Entry>, slot: SlotRef)
+    ensures { entries.new ≡ detached places.now entries.old slot }
+{
+    let links = links(places, entries, slot);
+    if let Some(_) = links.parent {
+        leave(places, entries, slot, links);
     }
 }
 

@@ -154,18 +154,46 @@ at_boot t m id object lawful boot present =
     let P : Object → Type 0 = λ object. IsAtBoot t id object in
     subst P (sym declared.is) (at_boot-bound t id declared.initial.object (declared-law t id object lawful declared).blank)
 
+-- a capability that the table puts into a slot is in its list
+in_slot :
+    (t : Layout) (slot : SlotRef) (held : Cap) → initial_cap t slot ≡ Some held
+    → Contains t.caps (record { slot = slot; cap = held })
+unfolding initial_cap
+in_slot t slot held filled =
+    let at_slot : Filled → Bool = λ filled. same_slot filled.slot slot in
+    let found = map-some (λ (filled : Filled). filled.cap) (find at_slot t.caps) held filled in
+    let there = finds at_slot t.caps found.0 found.1 in
+    let same : found.0.slot ≡ slot = one_slot found.0.slot slot there.1 in
+    let is : found.0 ≡ record { slot = slot; cap = held } = λ i. record { slot = same i; cap = sym found.2 i } in
+    subst (Contains t.caps) is there.0
+
+-- it is marked as its source says
+pub marked :
+    (t : Layout) (slot : SlotRef) (held : Cap) → IsLawful t → initial_cap t slot ≡ Some held
+    → held.original ≡ is_original t slot held.detail
+marked t slot held lawful filled =
+    let P : Filled → Type 0 = λ filled. filled.cap.original ≡ is_original t filled.slot filled.cap.detail in
+    All-contains P t.caps (record { slot = slot; cap = held }) lawful.marked (in_slot t slot held filled)
+
+-- a slot and its parent are a pair of the table
+pub paired :
+    (t : Layout) (slot parent : SlotRef) → IsLawful t → initial_parent t slot ≡ Some parent
+    → IsPairOf t (record { parent = parent; child = slot })
+unfolding initial_parent
+paired t slot parent lawful joined =
+    let of_slot : Pair → Bool = λ pair. same_slot pair.child slot in
+    let found = map-some (λ (pair : Pair). pair.parent) (find of_slot t.pairs) parent joined in
+    let there = finds of_slot t.pairs found.0 found.1 in
+    let same : found.0.child ≡ slot = one_slot found.0.child slot there.1 in
+    let is : found.0 ≡ record { parent = parent; child = slot } = λ i. record { parent = sym found.2 i; child = same i } in
+    let P : Pair → Type 0 = λ pair. IsPairOf t pair in
+    subst P is (All-contains P t.pairs found.0 lawful.tree there.0)
+
 -- a capability of a boot state is one that its table puts into the slot
 pub fills :
     (t : Layout) (m : Machine) (slot : SlotRef) (held : Cap) → IsBoot t m → cap_of m slot ≡ Some held
     → Contains t.caps (record { slot = slot; cap = held })
-unfolding initial_cap
-fills t m slot held boot filled =
-    let in_slot : Filled → Bool = λ filled. same_slot filled.slot slot in
-    let found = map-some (λ (filled : Filled). filled.cap) (find in_slot t.caps) held (sym (boot.caps slot) ∙ filled) in
-    let there = finds in_slot t.caps found.0 found.1 in
-    let same : found.0.slot ≡ slot = one_slot found.0.slot slot there.1 in
-    let is : found.0 ≡ record { slot = slot; cap = held } = λ i. record { slot = same i; cap = sym found.2 i } in
-    subst (Contains t.caps) is there.0
+fills t m slot held boot filled = in_slot t slot held (sym (boot.caps slot) ∙ filled)
 
 pub cap-law :
     (t : Layout) (m : Machine) (slot : SlotRef) (held : Cap) → IsLawful t → IsBoot t m → cap_of m slot ≡ Some held
@@ -178,23 +206,13 @@ cap-law t m slot held lawful boot filled =
 pub mark-law :
     (t : Layout) (m : Machine) (slot : SlotRef) (held : Cap) → IsLawful t → IsBoot t m → cap_of m slot ≡ Some held
     → held.original ≡ is_original t slot held.detail
-mark-law t m slot held lawful boot filled =
-    let P : Filled → Type 0 = λ filled. filled.cap.original ≡ is_original t filled.slot filled.cap.detail in
-    All-contains P t.caps (record { slot = slot; cap = held }) lawful.marked (fills t m slot held boot filled)
+mark-law t m slot held lawful boot filled = marked t slot held lawful (sym (boot.caps slot) ∙ filled)
 
--- a slot and its parent are a pair of the table
+-- and a slot's parent there is its parent in the table
 pub pair-law :
     (t : Layout) (m : Machine) (slot parent : SlotRef) → IsLawful t → IsBoot t m → parent_of m slot ≡ Some parent
     → IsPairOf t (record { parent = parent; child = slot })
-unfolding initial_parent
-pair-law t m slot parent lawful boot joined =
-    let of_slot : Pair → Bool = λ pair. same_slot pair.child slot in
-    let found = map-some (λ (pair : Pair). pair.parent) (find of_slot t.pairs) parent (sym (boot.parents slot) ∙ joined) in
-    let there = finds of_slot t.pairs found.0 found.1 in
-    let same : found.0.child ≡ slot = one_slot found.0.child slot there.1 in
-    let is : found.0 ≡ record { parent = parent; child = slot } = λ i. record { parent = sym found.2 i; child = same i } in
-    let P : Pair → Type 0 = λ pair. IsPairOf t pair in
-    subst P is (All-contains P t.pairs found.0 lawful.tree there.0)
+pair-law t m slot parent lawful boot joined = paired t slot parent lawful (sym (boot.parents slot) ∙ joined)
 
 -- the table binds a thread to a context
 abbrev pub Binds : Layout → ObjId → ObjId → Type 0

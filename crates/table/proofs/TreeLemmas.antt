@@ -21,13 +21,13 @@ use Rattle.machine.specs.declared.cap.Detail.TheVariants as d
 use Rattle.machine.specs.declared.layout.Filled.{Filled}
 use Rattle.machine.specs.declared.layout.Pair.{Pair}
 use Rattle.machine.specs.declared.object.ObjectKind.TheVariants as kind
-use Rattle.machine.specs.Capabilities.{kind_of_detail}
+use Rattle.machine.specs.Capabilities.{badge_of, kind_of_detail}
 use Rattle.machine.specs.Layout.{Layout, initial_cap, initial_parent}
 use Rattle.machine.specs.Machine.{same_id, same_slot, slot_cmp}
 use Rattle.machine.proofs.LookUps.{id_total, one_id}
 use Rattle.table.specs.Aims.{Marks}
 use Rattle.table.specs.Rules.{IsCapOf, IsDraft, IsLawful, Rises}
-use Rattle.table.specs.Tree.{badge_of, is_for_untyped, tree_of, source_of, is_original, is_original_from, with_mark}
+use Rattle.table.specs.Tree.{is_for_untyped, tree_of, source_of, is_original, is_original_from, with_mark}
 use Rattle.table.specs.Tree.{with_originals}
 use Rattle.table.specs.Tree.{IsPairOf, are_kin, is_kin, tree_fault}
 use Rattle.table.proofs.CapAdded.{untyped_at}

@@ -11,15 +11,9 @@ use Rattle.machine.specs.declared.cap.Detail.TheVariants as d
 use Rattle.machine.specs.declared.layout.Filled.{Filled}
 use Rattle.machine.specs.declared.layout.Pair.{Pair}
 use Rattle.machine.specs.declared.object.ObjectKind.TheVariants as kind
-use Rattle.machine.specs.Capabilities.{kind_of_detail}
+use Rattle.machine.specs.Capabilities.{badge_of, kind_of_detail}
 use Rattle.machine.specs.Layout.{Layout, empty_layout, initial_cap, initial_parent}
 use Rattle.machine.specs.Machine.{same_id}
-
--- a capability's badge; a kind without badges has badge 0
-abbrev pub badge_of : Detail → ℕ
-badge_of (d.Endpoint end) = end.badge
-badge_of (d.Notification end) = end.badge
-badge_of _ = 0
 
 -- a capability's rights, as bits; a kind without rights has none
 abbrev pub rights_of : Detail → ℕ

@@ -1,11 +1,18 @@
 ghost use Rattle.machine.specs.Boot.{IsBoot, IsFresh};
-ghost use Rattle.machine.specs.Layout.{Layout};
-ghost use Rattle.machine.specs.Machine.{Machine};
+ghost use Rattle.machine.specs.Layout.{Layout, initial_parent};
+ghost use Rattle.machine.specs.Machine.{Machine, parent_of};
+ghost use Rattle.machine.specs.Tree.{IsRanked};
 ghost use Rattle.machine.specs.WellFormed.{IsWellFormed};
+ghost use Rattle.std.specs.Prelude.{◌≡◌, Some};
+ghost use Rattle.base.specs.declared.ids.SlotRef.{SlotRef};
 ghost use Rattle.table.specs.Rules.{IsLawful};
 
-/// A law: the boot state of a lawful capability table is well formed, and is as the boot rule says.
+/// A law: the boot state of a lawful capability table is well formed, and is as the boot rule
+/// says; ranks rise along the pairs of its derivation tree, all or some.
 pub fn boot_states_are_well_formed()
     ensures well_formed { (t : Layout) (m : Machine) → IsLawful t → IsBoot t m → IsWellFormed m }
+    ensures ranked { (t : Layout) (m : Machine) → IsLawful t
+        → ((slot parent : SlotRef) → parent_of m slot ≡ Some parent → initial_parent t slot ≡ Some parent)
+        → IsRanked m }
     ensures fresh { (t : Layout) (m : Machine) → IsLawful t → IsBoot t m → IsFresh t m }
 {}

@@ -9,16 +9,6 @@ use base::{Rights, SlotRef};
 use bitflags::Flags;
 use machine::{Cap, Detail, Filled, Pair};
 
-/// A capability's badge; a kind without badges has badge 0.
-fn badge_of(detail: &Detail) -> u64
-    ensures { result ≡ tree.badge_of detail.now }
-{
-    match detail {
-        Detail::Endpoint(end) | Detail::Notification(end) => end.badge,
-        _ => 0,
-    }
-}
-
 /// A capability's rights; a kind without rights has none.
 fn rights_of(detail: &Detail) -> Rights
     ensures { result.0 ≡ tree.rights_of detail.now }
@@ -71,7 +61,7 @@ fn is_original(caps: &[Filled], pairs: &[Pair], slot: SlotRef, detail: &Detail) 
     ensures { result ≡ tree.is_original (tree_of caps.now pairs.now) slot detail.now }
 {
     match source_of(caps, pairs, slot) {
-        Some(source) => badge_of(detail) != badge_of(&source.detail),
+        Some(source) => detail.badge() != source.detail.badge(),
         None => true,
     }
 }
@@ -96,7 +86,7 @@ fn are_kin(above: &Cap, below: &Cap) -> bool
     above.object == below.object
         && !matches!(below.detail, Detail::Untyped)
         && above.original
-        && (badge_of(&above.detail) == 0 || badge_of(&above.detail) == badge_of(&below.detail))
+        && (above.detail.badge() == 0 || above.detail.badge() == below.detail.badge())
         && rights_of(&above.detail).contains(rights_of(&below.detail))
 }
 

@@ -11,6 +11,8 @@ pub mod Shrinking
 pub mod Keeps
 pub mod Steady
 pub mod TouchKeeps
+pub mod SlotKeeps
+pub mod SlotCalls
 pub mod SetKeeps
 pub mod Contents
 pub mod NotificationKeeps
@@ -19,7 +21,13 @@ pub mod AtBoot
 pub mod Gains
 pub mod Losses
 pub mod Reasons
+pub mod TestPolicies
+pub mod GapPolicy
 pub mod SmallSystem
+pub mod GapSystem
+pub mod BootFacts
+pub mod GapConfined
+pub mod GapUnsafe
 pub mod Unallowed
 pub mod Unsafe
 pub mod Outsides

@@ -26,6 +26,7 @@ use Rattle.verdict.specs.Shrinks.{IsSame}
 use Rattle.verdict.proofs.Keeps.{Acts, Keeps}
 use Rattle.verdict.proofs.NotificationKeeps.{poll_keeps, signal_keeps, wait_keeps}
 use Rattle.verdict.proofs.Shrinking.{same_context}
+use Rattle.verdict.proofs.SlotCalls.{derive_keeps, move_keeps}
 
 -- one clause for each call
 call_keeps :
@@ -38,6 +39,12 @@ call_keeps t allowed event a m next sound closed caller (call.Poll address) labe
     poll_keeps t allowed event a m sound closed.subjects_agree caller address labelled next done
 call_keeps t allowed event a m next sound closed caller (call.Wait address) labelled done =
     wait_keeps t allowed event a m sound closed.subjects_agree caller address labelled next done
+call_keeps t allowed event a m next sound closed caller (call.Copy to from rights) labelled done =
+    derive_keeps t allowed event a m sound closed caller labelled to from next done
+call_keeps t allowed event a m next sound closed caller (call.Mint to from rights given) labelled done =
+    derive_keeps t allowed event a m sound closed caller labelled to from next done
+call_keeps t allowed event a m next sound closed caller (call.Move to from) labelled done =
+    move_keeps t allowed event a m sound closed caller labelled to from next done
 
 -- a step is allowed and guards budgets, and keeps what belongs to the table and what is confined
 record StepKeeps (t : Layout) (allowed : EdgeTest) (m : Machine) (event : Event) (next : Machine) : Type 0 where
@@ -73,7 +80,9 @@ step_keeps t allowed m next sound closed event outcome step = by (step_done m ev
   by (inr same) = subst (λ (after : Machine). StepKeeps t allowed m event after) (sym same) (record {
     sound = sound;
     integrity = λ id. inl (record { content = refl; queue = refl; words = refl; slots = λ index. refl });
-    budgets = λ id old new was is. inl (ap (λ (context : Context). context.share) (same_context new old (same_Some (o.Context new) (o.Context old) (sym is ∙ was))));
+    budgets = λ id old new was is.
+        let same = same_context new old (same_Some (o.Context new) (o.Context old) (sym is ∙ was)) in
+        inl (ap (λ (context : Context). context.share) same);
   })
 
 -- sound machines lead to sound machines
@@ -94,7 +103,8 @@ safe_from t allowed closed at_boot =
     record {
       labelled = λ m reached. (sound_at m reached).of_table.labelled;
       confined = λ m reached. (sound_at m reached).confined;
-      integrity = λ m next event outcome reached step. (step_keeps t allowed m next (sound_at m reached) closed event outcome step).integrity;
+      integrity = λ m next event outcome reached step.
+          (step_keeps t allowed m next (sound_at m reached) closed event outcome step).integrity;
       budgets = λ m next event outcome reached step. (step_keeps t allowed m next (sound_at m reached) closed event outcome step).budgets;
     }
   where

@@ -60,7 +60,7 @@ space_cap = record { object = id 0; detail = d.CNode (record { size = 63; value 
 abbrev pub signal_cap : Cap
 signal_cap = record { object = id 2; detail = d.Notification (record { rights = record { 0 = 2 }; badge = 1 }); original = true }
 
-abbrev labelled : ℕ → Object → Initial
+abbrev pub labelled : ℕ → Object → Initial
 labelled label object = record { label = label; object = object }
 
 -- the policy without edges
@@ -83,7 +83,7 @@ signalling = record {
 
 -- what holds of each element and each later one, by a test
 
-pairs_test : {X : Type 0} → (X → X → Bool) → List X → Bool
+unfoldable pub pairs_test : {X : Type 0} → (X → X → Bool) → List X → Bool
 pairs_test p [] = true
 pairs_test p (x ∷ xs) = list_all (p x) xs && pairs_test p xs
 
@@ -91,7 +91,7 @@ both : (a b : Bool) → (a && b) ≡ true → (a ≡ true) × (b ≡ true)
 both true b e = (refl, e)
 both false b e = absurd (false≢true e)
 
-pairs_pass : {X : Type 0} (p : X → X → Bool) (xs : List X) → pairs_test p xs ≡ true → AllPairs (λ a b. p a b ≡ true) xs
+pub pairs_pass : {X : Type 0} (p : X → X → Bool) (xs : List X) → pairs_test p xs ≡ true → AllPairs (λ a b. p a b ≡ true) xs
 unfolding pairs_test
 pairs_pass p [] e = λ i j d below within. absurd (omega arith)
 pairs_pass p (x ∷ xs) e =
@@ -102,12 +102,12 @@ unless : (b : Bool) → not b ≡ true → b ≡ false
 unless true e = absurd (false≢true e)
 unless false e = refl
 
-less : (r : Ordering) → is_lt r ≡ true → r ≡ Less
+pub less : (r : Ordering) → is_lt r ≡ true → r ≡ Less
 less Less e = refl
 less Equal e = absurd (false≢true e)
 less Greater e = absurd (false≢true e)
 
-names_differ :
+pub names_differ :
     (names : List (List ℕ)) → pairs_test (λ a b. not (bytes_eq a b)) names ≡ true → AllPairs (λ one other. one ≢ other) names
 names_differ names e = λ i j d below within same.
     false≢true
@@ -119,7 +119,7 @@ apart_from_meets one other e address a b =
     let second : nat_lt (address_of other) (end_of one) ≡ true = lt-ltb (address_of other) (end_of one) (omega arith) in
     false≢true (sym e ∙ ap (λ t. t && nat_lt (address_of other) (end_of one)) first ∙ second)
 
-all_apart :
+pub all_apart :
     (initials : List Initial) → pairs_test (λ a b. not (meets a.object b.object)) initials ≡ true
     → AllPairs (λ one other. IsApart one.object other.object) initials
 all_apart initials e = λ i j d below within.

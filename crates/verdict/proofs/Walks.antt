@@ -37,7 +37,7 @@ through m node guard level (Some (o.CNode slots)) is e =
     (same, rw is refl)
 through m node guard level _ is e = cc
 
-shows : (m : Machine) (slot : SlotRef) (level : Level) → level_at m slot ≡ Some level → Shows m slot level.node
+pub shows : (m : Machine) (slot : SlotRef) (level : Level) → level_at m slot ≡ Some level → Shows m slot level.node
 unfolding level_at
 shows m slot level e = by_cap (cap_of m slot) refl e where
   by_detail :
@@ -66,7 +66,7 @@ unfolding hop
 hop_stays level string place e = grind (arith, e)
 
 module _ (m : Machine) (P : ObjId → Type 0) (handed : IsHandedOn m P) where
-  walk_ends :
+  pub walk_ends :
       (most : ℕ) (level : Level) (string : List Bool) (place : SlotRef × List Bool) → P level.node
       → walk most m level string ≡ Ok place → P place.0.holder
   unfolding walk

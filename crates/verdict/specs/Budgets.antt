@@ -1,11 +1,10 @@
 -- Who may change what a scheduling context is configured for: its core, budget and period (seL4 manual, "Scheduling Contexts",
 -- SchedControl_Configure; the edges are confine's own).
-use Rattle.std.specs.Prelude.{◌≡◌, ℕ, ◌⊎◌, Bool, true, false, Some, Ok}
+use Rattle.std.specs.Prelude.{◌≡◌, ℕ, ◌⊎◌, true, Option, Some, None, Ok}
 use Rattle.base.specs.declared.ids.ObjId.{ObjId}
 use Rattle.base.specs.declared.ids.SlotRef.{SlotRef}
 use Rattle.base.specs.declared.kind.Kind.TheVariants as authority
 use Rattle.machine.specs.declared.call.Call.{Call}
-use Rattle.machine.specs.declared.call.Call.TheVariants as call
 use Rattle.machine.specs.declared.call.Event.{Event}
 use Rattle.machine.specs.declared.cap.Cap.{Cap}
 use Rattle.machine.specs.declared.object.Context.{Context}
@@ -18,25 +17,18 @@ use Rattle.machine.specs.Lookup.{lookup_of}
 use Rattle.machine.specs.Machine.{Machine, object_of, cap_of}
 use Rattle.policy.specs.Domain.{EdgeTest}
 
--- the address of the capability that a call invokes
-abbrev pub invoked : Call → ℕ
-invoked (call.Signal address) = address
-invoked (call.Poll address) = address
-invoked (call.Wait address) = address
-
--- whether a call configures a context
-abbrev pub is_configure : Call → Bool
-is_configure (call.Signal _) = false
-is_configure (call.Poll _) = false
-is_configure (call.Wait _) = false
+-- the address of the control's capability through which a call configures a context, if it is such a call
+abbrev pub configures : Call → Option ℕ
+configures _ = None
 
 -- the call configures a context, through a control's capability, and the caller's label has the edges that this takes
 pub record MayConfigure (t : Layout) (allowed : EdgeTest) (m : Machine) (event : Event) (context : ObjId) : Type 0 where
-  pub configures : is_configure event.call ≡ true
+  pub address : ℕ
+  pub configured : configures event.call ≡ Some address
   pub slot : SlotRef
   pub left : ℕ
   pub held : Cap
-  pub found : lookup_of m event.thread (invoked event.call) ≡ Ok (slot, left)
+  pub found : lookup_of m event.thread address ≡ Ok (slot, left)
   pub filled : cap_of m slot ≡ Some held
   pub control : kind_of_detail held.detail ≡ kind.Control
   pub caller_label : ℕ

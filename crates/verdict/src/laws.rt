@@ -28,7 +28,7 @@ ghost use Rattle.policy.specs.Cut.{IsBase, IsCut, IsHolding, IsNear, is_link};
 ghost use Rattle.policy.specs.Closed.{IsClosed};
 ghost use Rattle.policy.specs.Domain.{EdgeTest};
 ghost use Rattle.policy.specs.Full.{IsFull};
-ghost use Rattle.policy.specs.Needed.{subjects_agree};
+ghost use Rattle.policy.specs.Needed.{derive_by_grant, subjects_agree};
 ghost use Rattle.policy.specs.Policy.{allows};
 ghost use Rattle.table.specs.Rules.{IsLawful};
 ghost use Rattle.verdict.specs.declared.denial.Denial.{Denial};
@@ -153,6 +153,13 @@ pub fn a_budget_needs_authority()
 /// isn't safe.
 pub fn safety_needs_agreeing_subjects()
     ensures { UnsafeWithout subjects_agree }
+{}
+
+/// A law: P5 is needed, as far as it says that derive is transitive. There is a system that breaks no
+/// other rule and whose boot state is confined, and a thread of it copies a derived capability into
+/// another label's CNode, so that a label derives where it has no edge for it.
+pub fn safety_needs_transitive_derivation()
+    ensures { UnsafeWithout derive_by_grant }
 {}
 
 /// A law: a state is confined exactly where no authority lies outside the policy at any place of the

@@ -4,6 +4,7 @@ use Rattle.table.proofs.BootFresh.{boot-fresh}
 use Rattle.table.proofs.BootLinks.{boot-links}
 use Rattle.table.proofs.BootNumbers.{boot-numbers}
 use Rattle.table.proofs.BootSlots.{boot-slots}
+use Rattle.table.proofs.BootTree.{boot-ranked}
 use Rattle.table.proofs.boot_law.boot_states_are_well_formed.Goals as goal
 
 pub returns-clause-well_formed : goal.returns-clause-well_formed
@@ -15,6 +16,9 @@ returns-clause-well_formed c =
       links = boot-links t m lawful boot;
       numbers = boot-numbers t m lawful boot;
     }
+
+pub returns-clause-ranked : goal.returns-clause-ranked
+returns-clause-ranked c = boot-ranked
 
 pub returns-clause-fresh : goal.returns-clause-fresh
 returns-clause-fresh c = boot-fresh

@@ -2,8 +2,8 @@
 use Rattle.std.proofs.Common.{refl, sym, arith}
 use Rattle.std.proofs.lemmas.Bool.{false≢true}
 use Rattle.objects.proofs.EditLemmas.{edited_past, edited_within}
-use Rattle.objects.proofs.slots.Slots.set_parent.Goals as goal
-use Rattle.objects.proofs.slots.Slots.set_parent.Goals.{in-Some, in_default}
+use Rattle.objects.proofs.slots.Slots.set.Goals as goal
+use Rattle.objects.proofs.slots.Slots.set.Goals.{in-Some, in_default}
 
 pub returns : goal.returns
 returns c =
@@ -11,7 +11,7 @@ returns c =
       | in-Some w ↦
           rw (w.self-inside-is, ← c.self.view_is)
           (sym
-          (edited_within _ c.self.inside.items.items c.args.index w.in-Some.slot.now w.in-Some.ensures.value
+          (edited_within c.args.slot c.self.inside.items.items c.args.index
           (omega (arith, w.in-Some.ensures.variant.0 refl))))
       | in_default w ↦
           rw (w.self-inside-is, ← c.self.view_is)

@@ -1,0 +1,177 @@
+-- What copying, minting and moving a capability need of the slots that the call names, and what these calls keep.
+use Rattle.std.proofs.Common.{◌≡◌, ◌≢◌, Bool, true, false, refl, sym, ap, subst, ◌∙◌}
+use Rattle.std.specs.Prelude.{Option, Some, None, Ok, IsTrue, IsSome, option_map, if◌then◌else◌}
+use Rattle.std.proofs.lemmas.Bool.{lt-ltb}
+use Rattle.base.specs.declared.ids.ObjId.{ObjId}
+use Rattle.base.specs.declared.ids.SlotRef.{SlotRef}
+use Rattle.base.specs.declared.rights.Rights.{Rights}
+use Rattle.machine.specs.declared.call.Answer.TheVariants as answer
+use Rattle.machine.specs.declared.call.CapData.{CapData}
+use Rattle.machine.specs.declared.call.Made.TheVariants.{Done}
+use Rattle.machine.specs.declared.cap.Cap.{Cap}
+use Rattle.machine.specs.declared.cap.Detail.{Detail}
+use Rattle.machine.specs.declared.object.Object.TheVariants as o
+use Rattle.machine.specs.declared.slot_address.Ends.{Ends}
+use Rattle.machine.specs.declared.slot_address.SlotAddress.{SlotAddress}
+use Rattle.machine.specs.Machine.{Machine, cap_of, has_slot, object_of, parent_of, same_slot, with_cap}
+use Rattle.machine.specs.Objects.{slot_count}
+use Rattle.machine.specs.Step.Copy.{copy_of, copyable, masked}
+use Rattle.machine.specs.Step.Mint.{mint_of, minted}
+use Rattle.machine.specs.Step.Move.{move_of}
+use Rattle.machine.specs.Step.Target.{ends_of}
+use Rattle.machine.specs.Tree.{IsAlone, exchange, parent_of_copy, with_copy, with_exchanged, with_moved}
+use Rattle.machine.specs.WellFormed.{IsWellFormed}
+use Rattle.machine.proofs.Exchange.{exchange_twice, parent_of-with_exchanged, slot_itself}
+use Rattle.machine.proofs.FillsFormed.{derives_formed}
+use Rattle.machine.proofs.LedSlots.{InNode, led_slot}
+use Rattle.machine.proofs.LookUps.{cap_of-with_cap, parent_of-with_cap}
+use Rattle.machine.proofs.MovesFormed.{move_formed}
+use Rattle.machine.proofs.SlotRows.{copy_done, empty_alone, ends_found, mint_done, move_done}
+
+-- a slot of a CNode is there
+node_slot : (m : Machine) (slot : SlotRef) → InNode m slot → IsTrue (has_slot m slot)
+node_slot m slot within = rw within.1 (lt-ltb slot.index (slot_count (o.CNode within.0)) within.2)
+
+-- the slot that a call names as its target is there
+pub target_there :
+    (m : Machine) (caller : ObjId) (to from : SlotAddress) (ends : Ends) → ends_of m caller to from ≡ Ok ends
+    → IsTrue (has_slot m ends.target)
+target_there m caller to from ends e =
+    node_slot m ends.target (led_slot m caller to ends.target (ends_found m caller to from ends e).leads_to)
+
+-- it is empty
+pub target_vacant :
+    (m : Machine) (caller : ObjId) (to from : SlotAddress) (ends : Ends) → ends_of m caller to from ≡ Ok ends
+    → cap_of m ends.target ≡ None
+target_vacant m caller to from ends e = (ends_found m caller to from ends e).vacant
+
+-- the source holds what was found in it
+pub source_filled :
+    (m : Machine) (caller : ObjId) (to from : SlotAddress) (ends : Ends) → ends_of m caller to from ≡ Ok ends
+    → cap_of m ends.source ≡ Some ends.held
+source_filled m caller to from ends e = (ends_found m caller to from ends e).filled
+
+-- a slot that is filled holds something
+pub filled_now : (m : Machine) (slot : SlotRef) (held : Cap) → IsSome (cap_of (with_cap m slot held) slot)
+filled_now m slot held =
+    subst (λ (c : Option Cap). IsSome c) (sym (cap_of-with_cap m slot held slot)) (by_tie (same_slot slot slot) (slot_itself slot))
+  where
+    by_tie : (tie : Bool) → tie ≡ true → IsSome (if tie then Some held else cap_of m slot)
+    by_tie true is = refl
+    by_tie false is = cc
+
+-- a filled slot stays filled where one is filled
+pub filled_still :
+    (m : Machine) (slot q : SlotRef) (held was : Cap) → cap_of m q ≡ Some was → IsSome (cap_of (with_cap m slot held) q)
+filled_still m slot q held was full =
+    subst (λ (c : Option Cap). IsSome c) (sym (cap_of-with_cap m slot held q)) (by_tie (same_slot q slot))
+  where
+    by_tie : (tie : Bool) → IsSome (if tie then Some held else cap_of m q)
+    by_tie true = refl
+    by_tie false = rw full refl
+
+-- the parent of a copy is filled
+parent_filled :
+    (m : Machine) (source parent : SlotRef) (held : Cap) → IsWellFormed m → cap_of m source ≡ Some held
+    → parent_of_copy m source held ≡ Some parent → (over : Cap) × (cap_of m parent ≡ Some over)
+parent_filled m source parent held formed full is = by_original held.original refl where
+  by_original : (original : Bool) → held.original ≡ original → (over : Cap) × (cap_of m parent ≡ Some over)
+  by_original true first =
+      let named : parent_of_copy m source held ≡ Some source = rw first refl in
+      let same : source ≡ parent = cc in
+      (held, ap (cap_of m) (sym same) ∙ full)
+  by_original false later =
+      let named : parent_of_copy m source held ≡ parent_of m source = rw later refl in
+      formed.slots.parent_filled source parent (sym named ∙ is)
+
+-- it stays filled where the target is filled
+pub parent_still :
+    (m : Machine) (target source parent : SlotRef) (held new : Cap) → IsWellFormed m → cap_of m source ≡ Some held
+    → parent_of_copy m source held ≡ Some parent → IsSome (cap_of (with_cap m target new) parent)
+parent_still m target source parent held new formed full is =
+    let over = parent_filled m source parent held formed full is in filled_still m target parent new over.0 over.1
+
+-- the target isn't its own parent
+pub parent_apart :
+    (m : Machine) (target source parent : SlotRef) (held : Cap) → IsWellFormed m → cap_of m target ≡ None
+    → cap_of m source ≡ Some held → parent_of_copy m source held ≡ Some parent → target ≢ parent
+parent_apart m target source parent held formed empty full is same =
+    let over = parent_filled m source parent held formed full is in
+    let none : None ≡ Some over.0 = sym empty ∙ ap (cap_of m) same ∙ over.1 in
+    cc
+
+-- a slot that was empty is in no pair when it is filled
+pub filled_alone :
+    (m : Machine) (slot : SlotRef) (held : Cap) → IsWellFormed m → cap_of m slot ≡ None → IsAlone (with_cap m slot held) slot
+filled_alone m slot held formed empty =
+    record {
+      root = parent_of-with_cap m slot held slot ∙ empty_alone m slot formed empty;
+      leaf = λ child. no_child child (parent_of-with_cap m slot held child);
+    }
+  where
+    no_child :
+        (child : SlotRef) → parent_of (with_cap m slot held) child ≡ parent_of m child
+        → parent_of (with_cap m slot held) child ≢ Some slot
+    no_child child same e =
+        let was = formed.slots.parent_filled child slot (sym same ∙ e) in
+        let none : None ≡ Some was.0 = sym empty ∙ was.1 in
+        cc
+
+-- the first of two slots that change places comes to where the second was
+exchange_first : (a b : SlotRef) → exchange a b a ≡ b
+exchange_first a b = rw (slot_itself a) refl
+
+-- a slot is in no pair when it has changed places with one that was in none
+pub exchanged_alone : (m : Machine) (a b : SlotRef) → IsAlone m b → IsAlone (with_exchanged m a b) a
+exchanged_alone m a b alone =
+    record {
+      root =
+          parent_of-with_exchanged m a b a
+          ∙ ap (λ (q : SlotRef). option_map (exchange a b) (parent_of m q)) (exchange_first a b)
+          ∙ ap (option_map (exchange a b)) alone.root;
+      leaf = λ child e. by_parent child (parent_of m (exchange a b child)) refl (sym (parent_of-with_exchanged m a b child) ∙ e);
+    }
+  where
+    by_parent :
+        (child : SlotRef) (parent : Option SlotRef) → parent_of m (exchange a b child) ≡ parent
+        → option_map (exchange a b) (parent_of m (exchange a b child)) ≢ Some a
+    by_parent child None is e =
+        let none : None ≡ Some a = sym (ap (option_map (exchange a b)) is) ∙ e in cc
+    by_parent child (Some parent) is e =
+        let some : Some (exchange a b parent) ≡ Some a = sym (ap (option_map (exchange a b)) is) ∙ e in
+        let to : exchange a b parent ≡ a = cc in
+        let at : parent ≡ b = sym (exchange_twice a b parent) ∙ ap (exchange a b) to ∙ exchange_first a b in
+        alone.leaf (exchange a b child) (is ∙ ap (λ (q : SlotRef). Some q) at)
+
+-- a copy keeps machines well formed
+pub copied_formed :
+    (m : Machine) (caller : ObjId) (to from : SlotAddress) (mask : Rights) (ends : Ends) → IsWellFormed m
+    → ends_of m caller to from ≡ Ok ends → copyable ends.held.detail ≡ Ok tt
+    → IsWellFormed (with_copy m ends.target ends.source ends.held (masked mask ends.held.detail))
+unfolding copy_of
+copied_formed m caller to from mask ends formed found may =
+    let next = with_copy m ends.target ends.source ends.held (masked mask ends.held.detail) in
+    let row : copy_of m caller to from mask ≡ Ok (Done answer.Nothing, next) = rw (found, may) refl in
+    derives_formed m caller to from next formed (copy_done m caller to from mask (Done answer.Nothing) next formed row)
+
+-- and so does a mint
+pub minted_formed :
+    (m : Machine) (caller : ObjId) (to from : SlotAddress) (mask : Rights) (given : CapData) (ends : Ends) (detail : Detail)
+    → IsWellFormed m → ends_of m caller to from ≡ Ok ends → copyable ends.held.detail ≡ Ok tt
+    → minted (object_of m ends.held.object) given (masked mask ends.held.detail) ≡ Ok detail
+    → IsWellFormed (with_copy m ends.target ends.source ends.held detail)
+unfolding mint_of
+minted_formed m caller to from mask given ends detail formed found may new =
+    let next = with_copy m ends.target ends.source ends.held detail in
+    let row : mint_of m caller to from mask given ≡ Ok (Done answer.Nothing, next) = rw (found, may, new) refl in
+    derives_formed m caller to from next formed (mint_done m caller to from mask given (Done answer.Nothing) next formed row)
+
+-- and a move
+pub relocated_formed :
+    (m : Machine) (caller : ObjId) (to from : SlotAddress) (ends : Ends) → IsWellFormed m → ends_of m caller to from ≡ Ok ends
+    → IsWellFormed (with_moved m ends.target ends.source ends.held)
+unfolding move_of
+relocated_formed m caller to from ends formed found =
+    let next = with_moved m ends.target ends.source ends.held in
+    let row : move_of m caller to from ≡ Ok (Done answer.Nothing, next) = rw found refl in
+    move_formed m caller to from next formed (move_done m caller to from (Done answer.Nothing) next row)

@@ -1,0 +1,26 @@
+-- The filled target is in no pair of the tree, and the source is in none once the two have changed places.
+use Rattle.cnodeops.proofs.CopyLemmas.{exchanged_alone, filled_alone, filled_now, filled_still}
+use Rattle.cnodeops.proofs.moving.relocate.Goals as goal
+
+pub move_node-requires-clause-source : goal.move_node-requires-clause-source
+move_node-requires-clause-source c =
+    let ends = c.args.ends in
+    rw c.put_cap.ensures (filled_still c.args.state.now ends.target ends.source ends.held ends.held c.requires.filled)
+
+pub move_node-requires-clause-target : goal.move_node-requires-clause-target
+move_node-requires-clause-target c =
+    rw c.put_cap.ensures (filled_now c.args.state.now c.args.ends.target c.args.ends.held)
+
+pub move_node-requires-clause-alone : goal.move_node-requires-clause-alone
+move_node-requires-clause-alone c =
+    rw c.put_cap.ensures
+    (filled_alone c.args.state.now c.args.ends.target c.args.ends.held c.requires.well_formed c.requires.vacant)
+
+pub take_cap-requires : goal.take_cap-requires
+take_cap-requires c =
+    let ends = c.args.ends in
+    rw (c.move_node.ensures, c.put_cap.ensures)
+    (record {
+      alone = exchanged_alone _ ends.source ends.target
+          (filled_alone c.args.state.now ends.target ends.held c.requires.well_formed c.requires.vacant);
+    })

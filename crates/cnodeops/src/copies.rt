@@ -1,0 +1,77 @@
+ghost use Rattle.std.specs.Prelude.{◌≡◌, IsTrue, Some, None};
+ghost use Rattle.machine.specs.Machine.{cap_of, has_slot, parent_of};
+ghost use Rattle.machine.specs.Step.Copy.{copyable, masked};
+ghost use Rattle.machine.specs.Tree.{copied, parent_of_copy, with_copy};
+ghost use Rattle.machine.specs.WellFormed.{IsWellFormed};
+
+use base::{Cause, Rights, SlotRef};
+use bitflags::Flags;
+use derivation::insert_child;
+use machine::{Badged, Cap, Detail, Ends};
+use objects::State;
+
+/// Refuses to copy untyped memory.
+pub fn copyable(detail: &Detail) -> Result<(), Cause>
+    ensures { result ≡ copyable detail.now }
+{
+    match detail {
+        Detail::Untyped => Err(Cause::IllegalOperation),
+        _ => Ok(()),
+    }
+}
+
+/// What a capability says with those of its rights alone that are in the mask.
+pub fn masked(mask: Rights, detail: Detail) -> Detail
+    ensures { result ≡ masked mask detail }
+{
+    match detail {
+        Detail::Endpoint(end) => Detail::Endpoint(Badged {
+            rights: end.rights.intersection(mask),
+            ..end
+        }),
+        Detail::Notification(end) => Detail::Notification(Badged {
+            rights: end.rights.intersection(mask),
+            ..end
+        }),
+        Detail::Frame(rights) => Detail::Frame(rights.intersection(mask)),
+        _ => detail,
+    }
+}
+
+/// A copy that says this.
+fn copied(source: &Cap, detail: Detail) -> Cap
+    ensures { result ≡ copied source.now detail }
+{
+    Cap {
+        object: source.object,
+        detail,
+        original: detail.badge() != source.detail.badge(),
+    }
+}
+
+/// The parent of a copy.
+fn parent_of_copy(state: &State, slot: SlotRef, source: &Cap) -> Option<SlotRef>
+    ensures { result ≡ parent_of_copy state.now slot source.now }
+{
+    if source.original {
+        Some(slot)
+    } else {
+        state.parent(slot)
+    }
+}
+
+/// Fills the target with a copy that says this, and puts it into the derivation tree.
+#[tactic(auto, unfolding(machine::specs::Tree::with_copy))]
+pub fn derive(state: &mut State, ends: Ends, detail: Detail)
+    requires well_formed { IsWellFormed state.old }
+    requires there { IsTrue (has_slot state.old ends.target) }
+    requires vacant { cap_of state.old ends.target ≡ None }
+    requires filled { cap_of state.old ends.source ≡ Some ends.held }
+    ensures { state.new ≡ with_copy state.old ends.target ends.source ends.held detail }
+{
+    let parent = parent_of_copy(state, ends.source, &ends.held);
+    state.put_cap(ends.target, copied(&ends.held, detail));
+    if let Some(parent) = parent {
+        insert_child(state, ends.target, parent);
+    }
+}

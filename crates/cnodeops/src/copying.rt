@@ -1,0 +1,33 @@
+ghost use Rattle.std.specs.Prelude.{◌≡◌};
+ghost use Rattle.machine.specs.Makes.{Makes};
+ghost use Rattle.machine.specs.Step.Copy.{copy_of};
+ghost use Rattle.machine.specs.WellFormed.{IsWellFormed};
+
+use crate::copies::{copyable, derive, masked};
+use crate::slots::ends;
+use base::{Cause, ObjId, Rights};
+use machine::{Answer, Made, SlotAddress};
+use objects::State;
+
+/// Copies the capability in the slot that the caller names as `from` to the empty slot that it names as
+/// `to`, with those of its rights that are among `rights` (seL4 manual, seL4_CNode_Copy).
+///
+/// The copy is a child of its source where that is original, else of the source's parent; it isn't
+/// original.
+#[tactic(auto, unfolding(machine::specs::Step::Copy::copy_of))]
+pub fn copy(
+    state: &mut State,
+    caller: ObjId,
+    to: SlotAddress,
+    from: SlotAddress,
+    rights: Rights,
+) -> Result<Made, Cause>
+    requires well_formed { IsWellFormed state.old }
+    ensures row { Makes state.old state.new result (copy_of state.old caller to from rights) }
+    ensures well_formed { IsWellFormed state.new }
+{
+    let ends = ends(state, caller, to, from)?;
+    copyable(&ends.held.detail)?;
+    derive(state, ends, masked(rights, ends.held.detail));
+    Ok(Made::Done(Answer::Nothing))
+}

@@ -1,0 +1,83 @@
+ghost use Rattle.std.specs.Prelude.{◌≡◌, ◌≢◌, ◌↔◌, ◌⊎◌, IfOk, IfErr, IsErrAnd};
+ghost use Rattle.base.specs.declared.ids.SlotRef.{SlotRef as Slot};
+ghost use Rattle.base.specs.declared.refusal.Cause.{Cause as Why};
+ghost use Rattle.base.specs.declared.refusal.Cause.TheVariants.{FailedLookup};
+ghost use Rattle.base.specs.declared.refusal.LookupFailure.TheVariants.{MissingCapability};
+ghost use Rattle.base.specs.Refusals.{refusal_of};
+ghost use Rattle.machine.specs.Step.Target.{exactly, lookup_target_of};
+ghost use Rattle.cspace.specs.Chain.{TargetFinds, TargetFails};
+
+use crate::walk::{level_at, walk};
+use base::{Cause, LookupFailure, Refusal, SlotRef};
+use objects::State;
+
+/// The slot where a lookup ends, if no bits are left there.
+fn exactly(slot: SlotRef, left: u32) -> Result<SlotRef, Cause>
+    ensures { result ≡ exactly (slot, left) }
+{
+    if left > 0 {
+        return Err(Cause::FailedLookup(LookupFailure::DepthMismatch));
+    }
+    Ok(slot)
+}
+
+/// The slot where a walk ends that takes the low `depth` bits of an index, from the CNode whose
+/// capability the slot `from` holds.
+#[tactic(auto, unfolding(machine::specs::Step::Target::lookup_target_of))]
+fn walk_target(state: &State, from: SlotRef, index: u64, depth: u64) -> Result<SlotRef, Cause>
+    ensures { result ≡ lookup_target_of state.now from index depth }
+{
+    let Some(level) = level_at(state, from) else {
+        return Err(Cause::FailedLookup(LookupFailure::InvalidRoot));
+    };
+    if depth < 1 || depth > 64 {
+        return Err(Cause::RangeError);
+    }
+    let (slot, left) = walk(state, level, index, depth as u32).map_err(Cause::FailedLookup)?;
+    exactly(slot, left)
+}
+
+/// The slot to which the low `depth` bits of an index lead, from the CNode whose capability the
+/// slot `from` holds (seL4 manual, "Capability Address Lookup"). The slot may be empty.
+///
+/// It finds a slot exactly where a chain of CNode capabilities ends whose guards and indices,
+/// joined, are these bits, and there is one such chain. It fails with an invalid root where
+/// `from` holds no CNode capability, with a range error where the depth isn't from 1 to 64, with
+/// a guard or depth mismatch where a CNode on the way selects no slot, and with a depth mismatch
+/// where bits are left at a slot that holds no CNode capability.
+pub fn resolve_target(
+    state: &State,
+    from: SlotRef,
+    index: u64,
+    depth: u64,
+) -> Result<SlotRef, Cause>
+    ensures value { result ≡ lookup_target_of state.now from index depth }
+    ensures found { (slot : Slot) → (result ≡ Ok slot) ↔ TargetFinds state.now from index depth slot }
+    ensures failed { (cause : Why) → (result ≡ Err cause) ↔ TargetFails state.now from index depth cause }
+    ensures either { ((slot : Slot) × TargetFinds state.now from index depth slot)
+        ⊎ ((cause : Why) × TargetFails state.now from index depth cause) }
+    ensures unique { (slot other : Slot)
+        → (a : TargetFinds state.now from index depth slot) (b : TargetFinds state.now from index depth other)
+        → (a.root ≡ b.root) × (a.resolves.links ≡ b.resolves.links) × (a.resolves.last ≡ b.resolves.last) }
+    ensures never_missing { result ≢ Err (FailedLookup MissingCapability) }
+{
+    state.cnodes_take_bits();
+    walk_target(state, from, index, depth)
+}
+
+/// The same as [`resolve_target`], but a failure is a refusal as it is written.
+pub fn lookup_target(
+    state: &State,
+    from: SlotRef,
+    index: u64,
+    depth: u64,
+) -> Result<SlotRef, Refusal>
+    ensures value { IfOk result (λ slot. lookup_target_of state.now from index depth ≡ Ok slot) }
+    ensures refusal { IfErr result (λ refusal.
+        IsErrAnd (lookup_target_of state.now from index depth) (λ cause. refusal ≡ refusal_of cause)) }
+    ensures found { (slot : Slot) → (result ≡ Ok slot) ↔ TargetFinds state.now from index depth slot }
+    ensures failed { (cause : Why)
+        → (result ≡ Err (refusal_of cause)) ↔ TargetFails state.now from index depth cause }
+{
+    Ok(resolve_target(state, from, index, depth)?)
+}

@@ -1,0 +1,19 @@
+-- Once all are given up, the tree is as if all had been at first. Each turn leaves one less.
+use Rattle.std.proofs.Common.{◌≡◌}
+use Rattle.std.specs.Prelude.{Some, None}
+use Rattle.std.specs.FinMap.{keys}
+use Rattle.base.specs.declared.ids.SlotRef.{SlotRef}
+use Rattle.machine.specs.Machine.{parent_of}
+use Rattle.derivation.specs.Removing.{parent_past}
+use Rattle.derivation.proofs.Children.{children_among}
+use Rattle.derivation.proofs.removing.release.Given as goal
+
+abbrev pub invariant-loop-child : goal.invariant-loop-child
+invariant-loop-child l = record {
+  rest : l.state ≡ record l.fn.state { parents = l.state.parents };
+  same : (q : SlotRef) → parent_past l.state l.slot None q ≡ parent_past l.fn.state l.slot None q;
+  had : (q parent : SlotRef) → parent_of l.state q ≡ Some parent → parent_of l.fn.state q ≡ Some parent;
+}
+
+abbrev pub decreases-loop-child : goal.decreases-loop-child
+decreases-loop-child l = children_among l.state l.slot (keys l.fn.state.parents)

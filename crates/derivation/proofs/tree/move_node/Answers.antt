@@ -1,0 +1,19 @@
+-- The two steps make the exchange.
+use Rattle.std.proofs.Common.{sym, ap, ◌∙◌}
+use Rattle.machine.specs.Machine.{parent_of}
+use Rattle.derivation.specs.Moving.{handed_over}
+use Rattle.derivation.proofs.Moves.{apart_lifted, cap_of-lifted, taken_over}
+use Rattle.derivation.proofs.tree.move_node.Goals as goal
+
+pub hand_over-requires-clause-target : goal.hand_over-requires-clause-target
+hand_over-requires-clause-target c = rw (c.lift.ensures.value, cap_of-lifted) c.requires.target
+
+pub hand_over-requires-clause-apart : goal.hand_over-requires-clause-apart
+hand_over-requires-clause-apart c = λ child is.
+    apart_lifted c.args.state.now c.args.from c.args.to c.requires.alone child (ap (λ m. parent_of m child) (sym c.lift.ensures.value) ∙ is)
+
+pub returns : goal.returns
+returns c =
+    c.hand_over.ensures
+    ∙ ap (λ m. handed_over m c.args.from c.args.to) c.lift.ensures.value
+    ∙ taken_over c.args.state.now c.args.from c.args.to c.requires.alone

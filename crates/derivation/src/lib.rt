@@ -1,0 +1,10 @@
+//! The derivation tree: which capability was derived from which.
+//!
+//! Each call takes no memory, and is told as a change of the pairs of child and parent.
+#![tactic(auto)]
+
+mod removing;
+mod tree;
+
+pub use removing::remove_node;
+pub use tree::{descends, insert_child, move_node};

@@ -1,0 +1,39 @@
+ghost use Rattle.std.specs.Prelude.{◌≡◌, Some, None};
+ghost use Rattle.base.specs.declared.ids.SlotRef.{SlotRef as Slot};
+ghost use Rattle.machine.specs.Machine.{parent_of};
+ghost use Rattle.derivation.specs.Removing.{HasParents, parent_past, parent_without};
+
+use crate::tree::hand_over;
+use base::SlotRef;
+use objects::State;
+
+/// Takes a slot out of the tree. Its children come under its parent; where it has none, they have
+/// none. It takes time in the number of children.
+pub fn remove_node(state: &mut State, slot: SlotRef)
+    ensures { HasParents state.old state.new (parent_without state.old slot) }
+{
+    let parent = state.parent(slot);
+    give_up(state, slot, parent);
+    state.detach(slot);
+}
+
+// Makes the children of the slot those of another, which is its parent, or of none.
+fn give_up(state: &mut State, slot: SlotRef, to: Option<SlotRef>)
+    requires { (parent : Slot) → to ≡ Some parent → parent_of state.old slot ≡ Some parent }
+    ensures { HasParents state.old state.new (parent_past state.old slot to) }
+{
+    state.keeps_a_forest();
+    match to {
+        Some(parent) => hand_over(state, slot, parent),
+        None => release(state, slot),
+    }
+}
+
+// Takes the children of the slot away from it.
+fn release(state: &mut State, slot: SlotRef)
+    ensures { HasParents state.old state.new (parent_past state.old slot None) }
+{
+    while let Some(child) = state.first_child(slot) {
+        state.detach(child);
+    }
+}

@@ -1,0 +1,108 @@
+-- The operands of copies, mints and moves: what was read is what they spell, and each spelling is read back.
+use Rattle.std.proofs.Common.{◌≡◌, ℕ, ◌<◌, Bool, true, false, cond, List, [], ◌∷◌, ◌++◌, Option, Some, None, Ok, codes, refl, ap, subst, ◌∙◌}
+use Rattle.std.specs.List.{AllByRecursion}
+use Rattle.base.proofs.RightsWords.{rights_again, rights_named}
+use Rattle.base.specs.declared.rights.Rights.{Rights}
+use Rattle.base.specs.Rights.{letter_of, rights_of_word, rights_word, IsRights}
+use Rattle.machine.specs.declared.call.CapData.{CapData}
+use Rattle.machine.specs.declared.call.CapData.TheVariants.{Badge, Guard}
+use Rattle.machine.specs.Spelling.{data_words, slot_address_words}
+use Rattle.words.specs.Parts.{by_word, in_turn, keyed, IsPart}
+use Rattle.words.specs.Reading.{bind, or_syntax, word_at}
+use Rattle.words.specs.Text.{IsPlainWord}
+use Rattle.words.proofs.Parts.{after_word, both_parts, keyed_part, number_part, part_as, read_as_again}
+use Rattle.words.proofs.TextLaws.{both}
+use Rattle.words.proofs.WordLaws.{bind_ok, plain_bytes, plain_decimal, word_then}
+use Rattle.evtext.specs.Event.{data_at, guard_of, rights_at, slot_address_at, slot_address_of, IsData, IsSlotAddress}
+
+-- a slot is three numbers
+pub slot_address_part : IsPart slot_address_at slot_address_words IsSlotAddress
+unfolding slot_address_at
+slot_address_part =
+    part_as (both_parts number_part (both_parts number_part number_part)) slot_address_of slot_address_words IsSlotAddress
+    (λ parts. refl) (λ parts is. (is.0, is.1.0, is.1.1))
+    (λ slot is. ((slot.root, (slot.index, slot.depth)), refl, (is.0, (is.1, is.2))))
+
+-- the word of rights is plain
+
+plain_cond : (test : Bool) (one other : List ℕ) → IsPlainWord one → IsPlainWord other → IsPlainWord (cond test one other)
+plain_cond true one other h k = h
+plain_cond false one other h k = k
+
+plain_rights : (rights : Rights) → IsPlainWord (rights_word rights)
+plain_rights rights =
+    plain_cond _ (codes "-") _ (plain_bytes (codes "-") refl)
+    (both (λ b. 32 < b) _ _
+    (both (λ b. 32 < b) _ _
+    (both (λ b. 32 < b) _ _ (letter 1 (codes "r") (plain_bytes (codes "r") refl))
+    (letter 2 (codes "w") (plain_bytes (codes "w") refl)))
+    (letter 4 (codes "g") (plain_bytes (codes "g") refl)))
+    (letter 8 (codes "y") (plain_bytes (codes "y") refl)))
+  where
+    letter : (right : ℕ) (word : List ℕ) → IsPlainWord word → IsPlainWord (letter_of rights right word)
+    letter right word plain = plain_cond _ word [] plain tt
+
+-- a value that is no fault of form is there
+syntax_ok : {X : Type 0} (found : Option X) (x : X) → or_syntax found ≡ Ok x → found ≡ Some x
+unfolding or_syntax
+syntax_ok None x h = absurd (cc h)
+syntax_ok (Some found) x h = let same : found ≡ x = cc in ap (λ v. Some v) same
+
+-- a set of the four rights is a word
+pub rights_part : IsPart rights_at (λ rights. rights_word rights ∷ []) IsRights
+unfolding rights_at bind word_at or_syntax
+rights_part = record { takes = takes; again = again; plain = λ rights is. (plain_rights rights, tt) } where
+  takes : (words : List (List ℕ)) (taken : Rights × List (List ℕ)) → rights_at words ≡ Ok taken
+      → (words ≡ rights_word taken.0 ∷ taken.1) × IsRights taken.0
+  takes words taken h =
+      let read = word_then _ words taken h in
+      let set = bind_ok (or_syntax (rights_of_word read.word)) _ taken read.goes_on in
+      let named = rights_named read.word set.0 (syntax_ok (rights_of_word read.word) set.0 set.1) in
+      let same : (set.0, read.rest) ≡ taken = cc in
+      subst (λ t. (words ≡ rights_word t.0 ∷ t.1) × IsRights t.0) same
+      (read.words_are ∙ ap (λ w. w ∷ read.rest) named.0, named.1)
+
+  again : (rights : Rights) (rest : List (List ℕ)) → IsRights rights → rights_at (rights_word rights ∷ rest) ≡ Ok (rights, rest)
+  again rights rest is = ap (λ o. bind (or_syntax o) (λ r. Ok (r, rest))) (rights_again rights is)
+
+-- what a mint gives is a badge or a guard, each after its word
+
+data_again : (given : CapData) (rest : List (List ℕ)) → IsData given → data_at (data_words given ++ rest) ≡ Ok (given, rest)
+unfolding data_at keyed by_word bind word_at
+data_again (Badge badge) rest fits = read_as_again number_part Badge badge rest fits
+data_again (Guard size value) rest fits = read_as_again (both_parts number_part number_part) guard_of (size, value) rest fits
+
+plain_data : (given : CapData) → IsData given → AllByRecursion IsPlainWord (data_words given)
+plain_data (Badge badge) fits = (plain_bytes (codes "badge") refl, (plain_decimal badge fits, tt))
+plain_data (Guard size value) fits =
+    (plain_bytes (codes "guard") refl, (plain_decimal size fits.0, (plain_decimal value fits.1, tt)))
+
+pub data_part : IsPart data_at data_words IsData
+unfolding data_at
+data_part = keyed_part data_words IsData _ (
+  after_word number_part (codes "badge") Badge data_words IsData (λ n. refl) (λ n small. small),
+  (
+    after_word (both_parts number_part number_part) (codes "guard") guard_of data_words IsData (λ parts. refl) (λ parts is. is),
+    tt,
+  ),
+) data_again plain_data
+
+-- the operands of each call
+
+pub copy_operands : IsPart
+    (in_turn slot_address_at (in_turn slot_address_at rights_at))
+    (λ parts. slot_address_words parts.0 ++ (slot_address_words parts.1.0 ++ rights_word parts.1.1 ∷ []))
+    (λ parts. IsSlotAddress parts.0 × (IsSlotAddress parts.1.0 × IsRights parts.1.1))
+copy_operands = both_parts slot_address_part (both_parts slot_address_part rights_part)
+
+pub mint_operands : IsPart
+    (in_turn slot_address_at (in_turn slot_address_at (in_turn rights_at data_at)))
+    (λ parts. slot_address_words parts.0 ++ (slot_address_words parts.1.0 ++ rights_word parts.1.1.0 ∷ data_words parts.1.1.1))
+    (λ parts. IsSlotAddress parts.0 × (IsSlotAddress parts.1.0 × (IsRights parts.1.1.0 × IsData parts.1.1.1)))
+mint_operands = both_parts slot_address_part (both_parts slot_address_part (both_parts rights_part data_part))
+
+pub move_operands : IsPart
+    (in_turn slot_address_at slot_address_at)
+    (λ parts. slot_address_words parts.0 ++ slot_address_words parts.1)
+    (λ parts. IsSlotAddress parts.0 × IsSlotAddress parts.1)
+move_operands = both_parts slot_address_part slot_address_part

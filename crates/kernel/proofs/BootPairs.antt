@@ -1,0 +1,67 @@
+-- The next pair of a table, whose earlier pairs are a state's derivation tree, may come to the tree.
+use Rattle.std.proofs.Common.{◌≡◌, ℕ, zero, suc, ◌+◌, ◌<◌, Bool, true, false, cond, List, [], ◌∷◌, length, get_or, take, refl, sym, ap, ◌∙◌}
+use Rattle.std.specs.Prelude.{Option, Some, None, IsSome, option_map, AllPairs}
+use Rattle.std.specs.List.{find}
+use Rattle.std.specs.Ordering.{is_eq}
+use Rattle.std.specs.declared.cmp.Ordering.TheVariants.{Less}
+use Rattle.base.specs.declared.ids.SlotRef.{SlotRef}
+use Rattle.machine.specs.declared.layout.Pair.{Pair}
+use Rattle.machine.specs.Boot.{IsBoot}
+use Rattle.machine.specs.Layout.{Layout, initial_cap, initial_parent}
+use Rattle.machine.specs.Machine.{Machine, cap_of, parent_of, slot_cmp, same_slot, with_parent}
+use Rattle.table.specs.Tree.{IsPairOf}
+use Rattle.kernel.proofs.BootLemmas.{below_next, boot-derived, find-missing}
+
+-- what is found among the first elements of a list is found in the list
+find-first : {X : Type 0} (p : X → Bool) (n : ℕ) (xs : List X) (x : X) → find p (take n xs) ≡ Some x → find p xs ≡ Some x
+find-first p zero xs x is = cc
+find-first p (suc n) [] x is = cc
+find-first p (suc n) (y ∷ xs) x is = by_test (find-first p n xs x) (p y) is where
+  by_test :
+      (find p (take n xs) ≡ Some x → find p xs ≡ Some x) → (test : Bool) → cond test (Some y) (find p (take n xs)) ≡ Some x
+      → cond test (Some y) (find p xs) ≡ Some x
+  by_test rest true first = first
+  by_test rest false later = rest later
+
+module _ (t : Layout) (m : Machine) (i : ℕ) (d : Pair) where
+  abbrev next : Pair
+  next = get_or t.pairs i d
+
+  -- its two slots are filled
+
+  pub next_below : IsBoot (record t { pairs = take i t.pairs }) m → IsPairOf t next → IsSome (cap_of m next.child)
+  unfolding initial_cap
+  next_below boot pair = rw (boot.caps next.child ∙ pair.child) refl
+
+  pub next_above : IsBoot (record t { pairs = take i t.pairs }) m → IsPairOf t next → IsSome (cap_of m next.parent)
+  unfolding initial_cap
+  next_above boot pair = rw (boot.caps next.parent ∙ pair.parent) refl
+
+  module _ (rise : AllPairs (λ one other. slot_cmp one.child other.child ≡ Less) t.pairs) (within : i < length t.pairs)
+      (boot : IsBoot (record t { pairs = take i t.pairs }) m) where
+    -- its child has no parent yet: pairs rise by child
+    pub next_root : parent_of m next.child ≡ None
+    unfolding initial_parent
+    next_root =
+        boot.parents next.child
+        ∙ ap (option_map (λ pair. pair.parent))
+        (find-missing (λ pair. same_slot pair.child next.child) (take i t.pairs) d
+        (λ k lower. ap is_eq (below_next (λ (p : Pair). p.child) t.pairs i d rise within k lower)))
+
+    -- the pairs of the state are the table's then
+    pub next_ranked :
+        (slot parent : SlotRef) → parent_of (with_parent m next.child next.parent) slot ≡ Some parent
+        → initial_parent t slot ≡ Some parent
+    unfolding initial_parent
+    next_ranked slot parent joined =
+        by_found (find here (take (i + 1) t.pairs)) refl
+        (sym ((boot-derived t m i d rise within boot).parents slot) ∙ joined) where
+          here : Pair → Bool
+          here pair = same_slot pair.child slot
+
+          by_found :
+              (found : Option Pair) → find here (take (i + 1) t.pairs) ≡ found → option_map (λ pair. pair.parent) found ≡ Some parent
+              → option_map (λ pair. pair.parent) (find here t.pairs) ≡ Some parent
+          by_found None is e = cc
+          by_found (Some pair) is e =
+              ap (option_map (λ pair. pair.parent)) (find-first here (i + 1) t.pairs pair is) ∙ e

@@ -1,0 +1,39 @@
+-- Copy (seL4 manual, seL4_CNode_Copy): an empty slot gets a copy of a capability, with those of its rights that are in a mask.
+use Rattle.std.specs.Prelude.{Result, Ok, Err}
+use Rattle.std.specs.Int.RustNames.{bit_and}
+use Rattle.base.specs.declared.ids.ObjId.{ObjId}
+use Rattle.base.specs.declared.refusal.Cause.{Cause}
+use Rattle.base.specs.declared.refusal.Cause.TheVariants as cause
+use Rattle.base.specs.declared.rights.Rights.{Rights}
+use Rattle.machine.specs.declared.call.Answer.TheVariants as answer
+use Rattle.machine.specs.declared.call.Made.{Made}
+use Rattle.machine.specs.declared.call.Made.TheVariants.{Done}
+use Rattle.machine.specs.declared.cap.Detail.{Detail}
+use Rattle.machine.specs.declared.cap.Detail.TheVariants as d
+use Rattle.machine.specs.declared.slot_address.SlotAddress.{SlotAddress}
+use Rattle.machine.specs.Machine.{Machine}
+use Rattle.machine.specs.Refusing.{◌>>=◌}
+use Rattle.machine.specs.Step.Target.{ends_of}
+use Rattle.machine.specs.Tree.{with_copy}
+
+-- untyped memory isn't copied
+abbrev pub copyable : Detail → Result (Unit {0}) Cause
+copyable d.Untyped = Err cause.IllegalOperation
+copyable _ = Ok tt
+
+-- the rights that are in both
+abbrev pub both : Rights → Rights → Rights
+both one other = record { 0 = bit_and one.0 other.0 }
+
+-- with those rights alone that are in the mask; a kind without rights stays as it is
+abbrev pub masked : Rights → Detail → Detail
+masked mask (d.Endpoint end) = d.Endpoint (record end { rights = both end.rights mask })
+masked mask (d.Notification end) = d.Notification (record end { rights = both end.rights mask })
+masked mask (d.Frame rights) = d.Frame (both rights mask)
+masked mask detail = detail
+
+unfoldable pub copy_of : Machine → ObjId → SlotAddress → SlotAddress → Rights → Result (Made × Machine) Cause
+copy_of m caller to from mask = do
+  ends ← ends_of m caller to from
+  _ ← copyable ends.held.detail
+  Ok (Done answer.Nothing, with_copy m ends.target ends.source ends.held (masked mask ends.held.detail))

@@ -1,0 +1,77 @@
+-- The slots that a call names below a CNode: an empty one to fill, and a filled one to take from (seL4 manual, "Capability Address
+-- Lookup"; the order of the conditions is confine's own).
+use Rattle.std.specs.Prelude.{ℕ, ◌==◌, ◌&&◌, nat_le, Option, Some, None, Result, Ok, Err, if◌then◌else◌}
+use Rattle.base.specs.declared.ids.ObjId.{ObjId}
+use Rattle.base.specs.declared.ids.SlotRef.{SlotRef}
+use Rattle.base.specs.declared.refusal.Cause.{Cause}
+use Rattle.base.specs.declared.refusal.Cause.TheVariants as cause
+use Rattle.base.specs.declared.refusal.LookupFailure.TheVariants.{InvalidRoot, MissingCapability, DepthMismatch}
+use Rattle.machine.specs.declared.cap.Cap.{Cap}
+use Rattle.machine.specs.declared.cap.Detail.{Detail}
+use Rattle.machine.specs.declared.cap.Detail.TheVariants as d
+use Rattle.machine.specs.declared.slot_address.Ends.{Ends}
+use Rattle.machine.specs.declared.slot_address.SlotAddress.{SlotAddress}
+use Rattle.machine.specs.Bits.{bits}
+use Rattle.machine.specs.Lookup.{Level, level_at, walk, counted, lookup_of}
+use Rattle.machine.specs.Machine.{Machine, cap_of}
+use Rattle.machine.specs.Refusing.{◌>>=◌}
+use Rattle.machine.specs.Step.Find.{find_cap}
+
+-- a lookup begins at a CNode
+abbrev pub rooted : Option Level → Result Level Cause
+rooted None = Err (cause.FailedLookup InvalidRoot)
+rooted (Some level) = Ok level
+
+-- so many bits of an index can be looked up
+abbrev pub in_depth : ℕ → Result (Unit {0}) Cause
+in_depth depth = if nat_le 1 depth && nat_le depth 64 then Ok tt else Err cause.RangeError
+
+-- a lookup that has to use up all its bits
+abbrev pub exactly : SlotRef × ℕ → Result SlotRef Cause
+exactly place = if place.1 == 0 then Ok place.0 else Err (cause.FailedLookup DepthMismatch)
+
+-- target lookup: the slot to which the low `depth` bits of an index lead, from the CNode whose capability a slot holds
+unfoldable pub lookup_target_of : Machine → SlotRef → ℕ → ℕ → Result SlotRef Cause
+lookup_target_of m from index depth = do
+  level ← rooted (level_at m from)
+  _ ← in_depth depth
+  place ← counted (walk 65 m level (bits depth index))
+  exactly place
+
+-- a capability that has to be a CNode's
+abbrev pub of_cnode : Detail → Result (Unit {0}) Cause
+of_cnode (d.CNode _) = Ok tt
+of_cnode _ = Err cause.InvalidCapability
+
+-- the slot that a call names as its target
+unfoldable pub target_of : Machine → ObjId → SlotAddress → Result SlotRef Cause
+target_of m caller address = do
+  found ← find_cap m caller address.root
+  _ ← of_cnode found.1.detail
+  lookup_target_of m found.0 address.index address.depth
+
+-- a slot that has to be empty
+abbrev pub vacant : Option Cap → Result (Unit {0}) Cause
+vacant None = Ok tt
+vacant (Some _) = Err cause.DeleteFirst
+
+-- what a slot holds that a lookup found
+abbrev pub filled : Option Cap → Result Cap Cause
+filled None = Err (cause.FailedLookup MissingCapability)
+filled (Some held) = Ok held
+
+-- the slot that a call names as its source, with the capability in it
+unfoldable pub source_of : Machine → ObjId → SlotAddress → Result (SlotRef × Cap) Cause
+source_of m caller address = do
+  place ← lookup_of m caller address.root
+  slot ← lookup_target_of m place.0 address.index address.depth
+  held ← filled (cap_of m slot)
+  Ok (slot, held)
+
+-- the slots that a call names to fill one from the other: first the empty one, then the filled one
+unfoldable pub ends_of : Machine → ObjId → SlotAddress → SlotAddress → Result Ends Cause
+ends_of m caller to from = do
+  target ← target_of m caller to
+  _ ← vacant (cap_of m target)
+  source ← source_of m caller from
+  Ok (record { target = target; source = source.0; held = source.1 })

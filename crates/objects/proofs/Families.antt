@@ -1,0 +1,358 @@
+-- The links of slots stay those of a forest that joins filled slots, where a slot comes under a parent, and where it leaves its own.
+use Rattle.std.proofs.Common.{◌≡◌, ◌≢◌, ℕ, ◌<◌, ◌⊎◌, inl, inr, refl, sym, ap, subst, ◌∙◌, arith}
+use Rattle.std.specs.Prelude.{Option, Some, None, IsSome}
+use Rattle.std.specs.BTreeMap.{BTreeMap}
+use Rattle.slab.specs.Slab.{Slab}
+use Rattle.base.specs.declared.ids.SlotRef.{SlotRef}
+use Rattle.machine.specs.declared.cap.Cap.{Cap}
+use Rattle.objects.specs.declared.entry.Entry.{Entry}
+use Rattle.objects.specs.declared.links.TreeLinks.{TreeLinks}
+use Rattle.objects.specs.Entries.{entry_of, slot_at}
+use Rattle.objects.specs.Family.{cap_in, links_at, with_links, attached, head_of, leaving, by_links, IsFamily, AreKin}
+use Rattle.objects.specs.Forest.{Joins, Leaves}
+use Rattle.objects.proofs.Detaching.{left_forest}
+use Rattle.objects.proofs.EntryLemmas.{IsApart}
+use Rattle.objects.proofs.Forests.{empty_forest, joined_forest}
+use Rattle.objects.proofs.SlotLemmas.{SetsLinks, SlotsAlone, alone_twice, cases_slot, filled_there, link_kept, linked_there, sets_links}
+
+-- where links and fillings are as they were
+pub same_family :
+    (links links' : SlotRef → TreeLinks) (cap cap' : SlotRef → Option Cap) → ((q : SlotRef) → links' q ≡ links q)
+    → ((q : SlotRef) → cap' q ≡ cap q) → IsFamily links cap → IsFamily links' cap'
+same_family links links' cap cap' linked filled family =
+    subst (λ l. IsFamily l cap') (λ i q. sym (linked q) i) (subst (λ c. IsFamily links c) (λ i q. sym (filled q) i) family)
+
+-- where no slot has links
+pub no_family :
+    (links : SlotRef → TreeLinks) (cap : SlotRef → Option Cap)
+    → ((q : SlotRef) → links q ≡ record { parent = None; first = None; next = None; previous = None }) → IsFamily links cap
+no_family links cap none =
+    record {
+      forest =
+          empty_forest (by_links links) (λ q. ap (λ l. l.parent) (none q)) (λ q. ap (λ l. l.first) (none q))
+          (λ q. ap (λ l. l.next) (none q)) (λ q. ap (λ l. l.previous) (none q));
+      below = λ c p is. let root = ap (λ (l : TreeLinks). l.parent) (none c) in cc;
+      above = λ c p is. let root = ap (λ (l : TreeLinks). l.parent) (none c) in cc;
+    }
+
+-- where capabilities have come or gone, but not those of pairs
+pub refilled_family :
+    (links : SlotRef → TreeLinks) (cap cap' : SlotRef → Option Cap) → IsFamily links cap
+    → ((c p : SlotRef) → (links c).parent ≡ Some p → IsSome (cap c) → IsSome (cap' c))
+    → ((c p : SlotRef) → (links c).parent ≡ Some p → IsSome (cap p) → IsSome (cap' p)) → IsFamily links cap'
+refilled_family links cap cap' family low high =
+    record {
+      forest = family.forest;
+      below = λ c p is. low c p is (family.below c p is);
+      above = λ c p is. high c p is (family.above c p is);
+    }
+
+module _ (places : BTreeMap ℕ ℕ) (apart : IsApart places) (entries : Slab Entry) (kin : AreKin (entry_of places entries)) where
+  abbrev old : SlotRef → TreeLinks
+  old = links_at (entry_of places entries)
+
+  abbrev held : SlotRef → Option Cap
+  held q = cap_in (slot_at (entry_of places entries) q)
+
+  abbrev there : SlotRef → Type 0
+  there q = IsSome (slot_at (entry_of places entries) q)
+
+  behind_differs : (a b : SlotRef) → (old b).previous ≡ Some a → a ≢ b
+  behind_differs a b behind same =
+      let less : kin.forest.order a < kin.forest.order b = kin.forest.later a b behind in
+      let equal : kin.forest.order a ≡ kin.forest.order b = ap kin.forest.order same in omega arith
+
+  parent_differs : (c p : SlotRef) → (old c).parent ≡ Some p → p ≢ c
+  parent_differs c p is same =
+      let less : kin.forest.depth p < kin.forest.depth c = kin.forest.deeper c p is in
+      let equal : kin.forest.depth p ≡ kin.forest.depth c = ap kin.forest.depth same in omega arith
+
+  -- a root comes under a parent
+
+  module _ (slot parent : SlotRef) (below : IsSome (held slot)) (above : IsSome (held parent))
+      (root : (old slot).parent ≡ None) (differs : slot ≢ parent) where
+    abbrev head : Option SlotRef
+    head = (old parent).first
+
+    abbrev set_leader : TreeLinks → TreeLinks
+    set_leader l = record l { previous = Some slot }
+
+    abbrev set_under : TreeLinks → TreeLinks
+    set_under l = record l { parent = Some parent; next = head; previous = None }
+
+    abbrev set_first : TreeLinks → TreeLinks
+    set_first l = record l { first = Some slot }
+
+    abbrev entries1 : Slab Entry
+    entries1 = with_links places entries head set_leader
+
+    abbrev entries2 : Slab Entry
+    entries2 = with_links places entries1 (Some slot) set_under
+
+    first_step : SetsLinks places entries entries1 head set_leader
+    first_step =
+        sets_links places apart entries head set_leader
+        (λ q is. linked_there (slot_at (entry_of places entries) q) (λ l. l.parent) parent refl (kin.forest.headed parent q is).0)
+
+    second_step : SetsLinks places entries1 entries2 (Some slot) set_under
+    second_step =
+        sets_links places apart entries1 (Some slot) set_under
+        (λ q is.
+        let one : slot ≡ q = cc in
+        first_step.there q (subst there one (filled_there (slot_at (entry_of places entries) slot) below)))
+
+    third_step : SetsLinks places entries2 (attached places entries slot parent) (Some parent) set_first
+    third_step =
+        sets_links places apart entries2 (Some parent) set_first
+        (λ q is.
+        let one : parent ≡ q = cc in
+        second_step.there q
+        (first_step.there q (subst there one (filled_there (slot_at (entry_of places entries) parent) above))))
+
+    abbrev joined : SlotRef → TreeLinks
+    joined = links_at (entry_of places (attached places entries slot parent))
+
+    not_head : (q : SlotRef) → head ≡ Some q → q ≢ slot
+    not_head q is same = let under = (kin.forest.headed parent q is).0 in cc
+
+    one_of : (a b : SlotRef) → a ≢ b → Some a ≢ Some b
+    one_of a b apart same = apart cc
+
+    first1 : (q : SlotRef) → (links_at (entry_of places entries1) q).first ≡ (old q).first
+    first1 = link_kept places entries entries1 head set_leader first_step (λ l. l.first) (λ l. refl)
+
+    parent1 : (q : SlotRef) → (links_at (entry_of places entries1) q).parent ≡ (old q).parent
+    parent1 = link_kept places entries entries1 head set_leader first_step (λ l. l.parent) (λ l. refl)
+
+    next1 : (q : SlotRef) → (links_at (entry_of places entries1) q).next ≡ (old q).next
+    next1 = link_kept places entries entries1 head set_leader first_step (λ l. l.next) (λ l. refl)
+
+    first2 : (q : SlotRef) → (links_at (entry_of places entries2) q).first ≡ (links_at (entry_of places entries1) q).first
+    first2 = link_kept places entries1 entries2 (Some slot) set_under second_step (λ l. l.first) (λ l. refl)
+
+    kept3 : (link : TreeLinks → Option SlotRef) → ((l : TreeLinks) → link (set_first l) ≡ link l) → (q : SlotRef)
+        → link (joined q) ≡ link (links_at (entry_of places entries2) q)
+    kept3 =
+        link_kept places entries2 (attached places entries slot parent) (Some parent) set_first third_step
+
+    pub joins : Joins (by_links old) (by_links joined) slot parent
+    joins =
+        record {
+          parent_here = kept3 (λ l. l.parent) (λ l. refl) slot ∙ ap (λ l. l.parent) (second_step.here slot refl);
+          parent_other =
+              λ q apart.
+              kept3 (λ l. l.parent) (λ l. refl) q ∙ ap (λ l. l.parent) (second_step.other q (one_of slot q (λ same. apart (sym same))))
+              ∙ parent1 q;
+          first_here = ap (λ l. l.first) (third_step.here parent refl);
+          first_other =
+              λ q apart.
+              ap (λ l. l.first) (third_step.other q (one_of parent q (λ same. apart (sym same)))) ∙ first2 q ∙ first1 q;
+          next_here = kept3 (λ l. l.next) (λ l. refl) slot ∙ ap (λ l. l.next) (second_step.here slot refl);
+          next_other =
+              λ q apart.
+              kept3 (λ l. l.next) (λ l. refl) q ∙ ap (λ l. l.next) (second_step.other q (one_of slot q (λ same. apart (sym same))))
+              ∙ next1 q;
+          previous_here =
+              λ q is.
+              kept3 (λ l. l.previous) (λ l. refl) q
+              ∙ ap (λ l. l.previous) (second_step.other q (one_of slot q (λ same. not_head q is (sym same))))
+              ∙ ap (λ l. l.previous) (first_step.here q is);
+          previous_other =
+              λ q other. kept3 (λ l. l.previous) (λ l. refl) q ∙ (elim (cases_slot q slot) [
+                | inl same ↦
+                    subst (λ k. (links_at (entry_of places entries2) k).previous ≡ (old k).previous) (sym same)
+                    (ap (λ l. l.previous) (second_step.here slot refl) ∙ sym (kin.forest.rooted slot root))
+                | inr apart ↦
+                    ap (λ l. l.previous) (second_step.other q (one_of slot q (λ same. apart (sym same))))
+                    ∙ ap (λ l. l.previous) (first_step.other q other)
+              ]);
+        }
+
+    pub attached_caps : (q : SlotRef) → cap_in (slot_at (entry_of places (attached places entries slot parent)) q) ≡ held q
+    attached_caps q = third_step.caps q ∙ second_step.caps q ∙ first_step.caps q
+
+    pub attached_alone : SlotsAlone places entries (attached places entries slot parent)
+    attached_alone =
+        alone_twice places entries entries1 (attached places entries slot parent) first_step.alone
+        (alone_twice places entries1 entries2 (attached places entries slot parent) second_step.alone third_step.alone)
+
+    pub attached_kin :
+        (rank : SlotRef → ℕ) → ((c p : SlotRef) → (joined c).parent ≡ Some p → rank p < rank c)
+        → AreKin (entry_of places (attached places entries slot parent))
+    attached_kin rank ranked =
+        record {
+          forest = joined_forest cases_slot (by_links old) (by_links joined) slot parent kin.forest joins root rank ranked;
+          below = λ c p is. subst IsSome (sym (attached_caps c)) (by_slot c p is (cases_slot c slot)).0;
+          above = λ c p is. subst IsSome (sym (attached_caps p)) (by_slot c p is (cases_slot c slot)).1;
+        }
+      where
+        by_slot :
+            (c p : SlotRef) → (joined c).parent ≡ Some p → (c ≡ slot) ⊎ (c ≢ slot) → IsSome (held c) × IsSome (held p)
+        by_slot c p is (inl same) =
+            let one : parent ≡ p = let here = joins.parent_here in cc in
+            (subst (λ q. IsSome (held q)) (sym same) below, subst (λ q. IsSome (held q)) one above)
+        by_slot c p is (inr apart) =
+            let was : (old c).parent ≡ Some p = sym (joins.parent_other c apart) ∙ is in
+            (kin.below c p was, kin.above c p was)
+
+  -- a slot leaves its parent
+
+  module _ (slot parent : SlotRef) (under : (old slot).parent ≡ Some parent) where
+    abbrev mine : TreeLinks
+    mine = old slot
+
+    abbrev headed : Option SlotRef
+    headed = head_of mine mine.previous
+
+    abbrev drop_first : TreeLinks → TreeLinks
+    drop_first l = record l { first = mine.next }
+
+    abbrev skip_next : TreeLinks → TreeLinks
+    skip_next l = record l { next = mine.next }
+
+    abbrev skip_previous : TreeLinks → TreeLinks
+    skip_previous l = record l { previous = mine.previous }
+
+    abbrev unlink : TreeLinks → TreeLinks
+    unlink l = record l { parent = None; next = None; previous = None }
+
+    abbrev rest1 : Slab Entry
+    rest1 = with_links places entries headed drop_first
+
+    abbrev rest2 : Slab Entry
+    rest2 = with_links places rest1 mine.previous skip_next
+
+    abbrev rest3 : Slab Entry
+    rest3 = with_links places rest2 mine.next skip_previous
+
+    abbrev left : Slab Entry
+    left = leaving places entries slot mine
+
+    headed_is : (q : SlotRef) (o : Option SlotRef) → head_of mine o ≡ Some q → q ≡ parent
+    headed_is q None is = cc
+    headed_is q (Some before) is = cc
+
+    step1 : SetsLinks places entries rest1 headed drop_first
+    step1 =
+        sets_links places apart entries headed drop_first
+        (λ q is.
+        subst there (sym (headed_is q mine.previous is))
+        (filled_there (slot_at (entry_of places entries) parent) (kin.above slot parent under)))
+
+    step2 : SetsLinks places rest1 rest2 mine.previous skip_next
+    step2 =
+        sets_links places apart rest1 mine.previous skip_next
+        (λ q is.
+        step1.there q
+        (linked_there (slot_at (entry_of places entries) q) (λ l. l.next) slot refl (kin.forest.back q slot is)))
+
+    step3 : SetsLinks places rest2 rest3 mine.next skip_previous
+    step3 =
+        sets_links places apart rest2 mine.next skip_previous
+        (λ q is.
+        step2.there q
+        (step1.there q
+        (linked_there (slot_at (entry_of places entries) q) (λ l. l.previous) slot refl (kin.forest.onward slot q is))))
+
+    step4 : SetsLinks places rest3 left (Some slot) unlink
+    step4 =
+        sets_links places apart rest3 (Some slot) unlink
+        (λ q is.
+        let one : slot ≡ q = cc in
+        step3.there q
+        (step2.there q
+        (step1.there q (subst there one (filled_there (slot_at (entry_of places entries) slot) (kin.below slot parent under))))))
+
+    abbrev apart_links : SlotRef → TreeLinks
+    apart_links = links_at (entry_of places left)
+
+    other4 : (q : SlotRef) → q ≢ slot → apart_links q ≡ links_at (entry_of places rest3) q
+    other4 q apart = step4.other q (λ same. apart cc)
+
+    kept1 :
+        (link : TreeLinks → Option SlotRef) → ((l : TreeLinks) → link (drop_first l) ≡ link l) → (q : SlotRef)
+        → link (links_at (entry_of places rest1) q) ≡ link (old q)
+    kept1 = link_kept places entries rest1 headed drop_first step1
+
+    kept2 :
+        (link : TreeLinks → Option SlotRef) → ((l : TreeLinks) → link (skip_next l) ≡ link l) → (q : SlotRef)
+        → link (links_at (entry_of places rest2) q) ≡ link (links_at (entry_of places rest1) q)
+    kept2 = link_kept places rest1 rest2 mine.previous skip_next step2
+
+    kept_both :
+        (link : TreeLinks → Option SlotRef) → ((l : TreeLinks) → link (skip_previous l) ≡ link l) → (q : SlotRef)
+        → link (links_at (entry_of places rest3) q) ≡ link (links_at (entry_of places rest2) q)
+    kept_both = link_kept places rest2 rest3 mine.next skip_previous step3
+
+    kept4 :
+        (link : TreeLinks → Option SlotRef) → ((l : TreeLinks) → link (unlink l) ≡ link l) → (q : SlotRef)
+        → link (apart_links q) ≡ link (links_at (entry_of places rest3) q)
+    kept4 = link_kept places rest3 left (Some slot) unlink step4
+
+    previous_apart : (q : SlotRef) → mine.previous ≡ Some q → q ≢ slot
+    previous_apart q is = behind_differs q slot is
+
+    next_apart : (q : SlotRef) → mine.next ≡ Some q → q ≢ slot
+    next_apart q is same = behind_differs slot q (kin.forest.onward slot q is) (sym same)
+
+    first3 : (q : SlotRef) → (apart_links q).first ≡ (links_at (entry_of places rest1) q).first
+    first3 q = kept4 (λ l. l.first) (λ l. refl) q ∙ kept_both (λ l. l.first) (λ l. refl) q ∙ kept2 (λ l. l.first) (λ l. refl) q
+
+    pub leaves : Leaves (by_links old) (by_links apart_links) slot parent
+    leaves =
+        record {
+          parent_here = ap (λ l. l.parent) (step4.here slot refl);
+          parent_other =
+              λ q apart.
+              ap (λ l. l.parent) (other4 q apart) ∙ kept_both (λ l. l.parent) (λ l. refl) q ∙ kept2 (λ l. l.parent) (λ l. refl) q
+              ∙ kept1 (λ l. l.parent) (λ l. refl) q;
+          first_here =
+              λ none. first3 parent ∙ ap (λ l. l.first) (step1.here parent (ap (head_of mine) none ∙ under));
+          first_same = λ some. first3 parent ∙ ap (λ l. l.first) (step1.other parent (behind_another mine.previous refl some));
+          first_other =
+              λ q apart. first3 q ∙ ap (λ l. l.first) (step1.other q (λ is. apart (headed_is q mine.previous is)));
+          next_here = ap (λ l. l.next) (step4.here slot refl);
+          next_before =
+              λ q is.
+              ap (λ l. l.next) (other4 q (previous_apart q is)) ∙ kept_both (λ l. l.next) (λ l. refl) q
+              ∙ ap (λ l. l.next) (step2.here q is);
+          next_other =
+              λ q apart other.
+              ap (λ l. l.next) (other4 q apart) ∙ kept_both (λ l. l.next) (λ l. refl) q ∙ ap (λ l. l.next) (step2.other q other)
+              ∙ kept1 (λ l. l.next) (λ l. refl) q;
+          previous_here = ap (λ l. l.previous) (step4.here slot refl);
+          previous_after =
+              λ q is. ap (λ l. l.previous) (other4 q (next_apart q is)) ∙ ap (λ l. l.previous) (step3.here q is);
+          previous_other =
+              λ q apart other.
+              ap (λ l. l.previous) (other4 q apart) ∙ ap (λ l. l.previous) (step3.other q other)
+              ∙ kept2 (λ l. l.previous) (λ l. refl) q ∙ kept1 (λ l. l.previous) (λ l. refl) q;
+        }
+      where
+        behind_another : (o : Option SlotRef) → mine.previous ≡ o → mine.previous ≢ None → headed ≢ Some parent
+        behind_another None is some = absurd (some is)
+        behind_another (Some before) is some = λ same. (let none : headed ≡ None = ap (head_of mine) is in cc)
+
+    pub detached_caps : (q : SlotRef) → cap_in (slot_at (entry_of places left) q) ≡ held q
+    detached_caps q = step4.caps q ∙ step3.caps q ∙ step2.caps q ∙ step1.caps q
+
+    pub detached_alone : SlotsAlone places entries left
+    detached_alone =
+        alone_twice places entries rest1 left step1.alone
+        (alone_twice places rest1 rest2 left step2.alone (alone_twice places rest2 rest3 left step3.alone step4.alone))
+
+    pub detached_kin : AreKin (entry_of places left)
+    detached_kin =
+        record {
+          forest = left_forest cases_slot (by_links old) (by_links apart_links) slot parent kin.forest leaves under;
+          below = λ c p is. subst IsSome (sym (detached_caps c)) (kin.below c p (was c p is));
+          above = λ c p is. subst IsSome (sym (detached_caps p)) (kin.above c p (was c p is));
+        }
+      where
+        was : (c p : SlotRef) → (apart_links c).parent ≡ Some p → (old c).parent ≡ Some p
+        was c p is = elim (cases_slot c slot) [
+          | inl same ↦ absurd (root_now c p is same)
+          | inr apart ↦ sym (leaves.parent_other c apart) ∙ is
+        ] where
+          root_now : (c p : SlotRef) → (apart_links c).parent ≡ Some p → c ≡ slot → ⊥
+          root_now c p is same = let here = leaves.parent_here in cc

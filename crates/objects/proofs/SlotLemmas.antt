@@ -1,0 +1,166 @@
+-- What the entries tell of their slots after the capability or the links of one slot have changed.
+use Rattle.std.proofs.Common.{◌≡◌, ◌≢◌, ℕ, zero, suc, ◌<◌, List, [], ◌∷◌, length, arith, ◌⊎◌, inl, inr, refl, sym, ap, subst, ◌∙◌}
+use Rattle.std.specs.Prelude.{Option, Some, None, is_some, IsSome, option_map, slice_get}
+use Rattle.std.specs.BTreeMap.{BTreeMap}
+use Rattle.std.proofs.lemmas.Bool.{false≢true, cases_eq}
+use Rattle.slab.specs.Slab as slab
+use Rattle.slab.specs.Slab.{Slab}
+use Rattle.base.specs.declared.ids.SlotRef.{SlotRef}
+use Rattle.base.specs.declared.ids.ObjId.{ObjId}
+use Rattle.objects.specs.declared.entry.Entry.{Entry}
+use Rattle.objects.specs.declared.links.TreeLinks.{TreeLinks}
+use Rattle.objects.specs.declared.slots.Slot.{Slot}
+use Rattle.objects.specs.Entries.{place_of, entry_of, slot_at, set_slot_in}
+use Rattle.objects.specs.Family.{cap_in, links_of, links_at, changed_slot, with_slot, with_links}
+use Rattle.objects.proofs.ChangeLemmas.{part_kept, slot_here, slot_other, bulk}
+use Rattle.objects.proofs.EditLemmas.{length_edited}
+use Rattle.objects.proofs.EntryLemmas.{IsApart, entry_of-with_entry, is_some-changed}
+use Rattle.objects.proofs.Forests.{cases_link}
+use Rattle.objects.proofs.QueueLemmas.{cases_id}
+
+pub cases_slot : (a b : SlotRef) → (a ≡ b) ⊎ (a ≢ b)
+cases_slot a b =
+    elim (cases_id a.holder b.holder) [
+      | inl holder ↦ elim (cases_eq a.index b.index) [
+        | inl index ↦ inl (λ i. record { holder = holder i; index = index i })
+        | inr differs ↦ inr (λ same. differs (ap (λ (s : SlotRef). s.index) same))
+      ]
+      | inr differs ↦ inr (λ same. differs (ap (λ (s : SlotRef). s.holder) same))
+    ]
+
+-- a slot with a link is there
+pub linked_there :
+    (o : Option Slot) (link : TreeLinks → Option SlotRef) (x : SlotRef)
+    → link (record { parent = None; first = None; next = None; previous = None }) ≡ None → link (links_of o) ≡ Some x → IsSome o
+linked_there None link x none is = cc
+linked_there (Some slot) link x none is = refl
+
+-- and so is one with a capability
+pub filled_there : (o : Option Slot) → IsSome (cap_in o) → IsSome o
+filled_there None some = absurd (false≢true some)
+filled_there (Some slot) some = refl
+
+-- and one whose index is below the number of slots
+pub within_there : (slots : List Slot) (index : ℕ) → index < length slots → IsSome (slice_get slots index)
+within_there [] index within = absurd (omega arith)
+within_there (slot ∷ slots) zero within = refl
+within_there (slot ∷ slots) (suc index) within = within_there slots index (omega arith)
+
+-- nothing but slots has changed, and there are as many as before
+pub record SlotsAlone (places : BTreeMap ℕ ℕ) (old new : Slab Entry) : Type 0 where
+  pub kept : (place : ℕ) → is_some (slab.get new place) ≡ is_some (slab.get old place)
+  pub same : (q : ObjId) → option_map bulk (entry_of places new q) ≡ option_map bulk (entry_of places old q)
+
+pub alone_twice :
+    (places : BTreeMap ℕ ℕ) (one two three : Slab Entry) → SlotsAlone places one two → SlotsAlone places two three
+    → SlotsAlone places one three
+alone_twice places one two three first second =
+    record { kept = λ place. second.kept place ∙ first.kept place; same = λ q. second.same q ∙ first.same q }
+
+-- one slot is another
+pub record ChangesSlot (places : BTreeMap ℕ ℕ) (old new : Slab Entry) (at : SlotRef) (change : Slot → Slot) : Type 0 where
+  pub here : slot_at (entry_of places new) at ≡ option_map change (slot_at (entry_of places old) at)
+  pub other : (q : SlotRef) → q ≢ at → slot_at (entry_of places new) q ≡ slot_at (entry_of places old) q
+  pub alone : SlotsAlone places old new
+
+pub changes_slot :
+    (places : BTreeMap ℕ ℕ) → IsApart places → (entries : Slab Entry) (at : SlotRef) (change : Slot → Slot)
+    → ChangesSlot places entries (with_slot places entries at change) at change
+changes_slot places apart entries at change = by_slot (slot_at (entry_of places entries) at) refl where
+  by_slot :
+      (o : Option Slot) → slot_at (entry_of places entries) at ≡ o
+      → ChangesSlot places entries (changed_slot places entries at change o) at change
+  by_slot None is =
+      record {
+        here = is ∙ sym (ap (option_map change) is);
+        other = λ q differs. refl;
+        alone = record { kept = λ place. refl; same = λ q. refl };
+      }
+  by_slot (Some slot) is =
+      let set : Entry → Entry = set_slot_in at.index (change slot) in
+      let changed = entry_of-with_entry places entries apart at.holder set in
+      record {
+        here = slot_here _ _ at (change slot) changed (ap is_some is) ∙ sym (ap (option_map change) is);
+        other = slot_other _ _ at (change slot) changed;
+        alone = record {
+          kept = is_some-changed entries set (place_of places at.holder);
+          same = part_kept _ _ at.holder set changed bulk
+              (λ e. λ i. (e.object, length_edited (λ _. change slot) e.slots at.index i, e.ends, e.standing, e.words));
+        };
+      }
+
+-- the links of one slot, if one is named, are others
+pub record SetsLinks (places : BTreeMap ℕ ℕ) (old new : Slab Entry) (at : Option SlotRef) (change : TreeLinks → TreeLinks) : Type 0 where
+  pub here : (q : SlotRef) → at ≡ Some q → links_at (entry_of places new) q ≡ change (links_at (entry_of places old) q)
+  pub other : (q : SlotRef) → at ≢ Some q → links_at (entry_of places new) q ≡ links_at (entry_of places old) q
+  pub caps : (q : SlotRef) → cap_in (slot_at (entry_of places new) q) ≡ cap_in (slot_at (entry_of places old) q)
+  pub there : (q : SlotRef) → IsSome (slot_at (entry_of places old) q) → IsSome (slot_at (entry_of places new) q)
+  pub alone : SlotsAlone places old new
+
+mapped_there : (change : Slot → Slot) (o : Option Slot) → IsSome o → IsSome (option_map change o)
+mapped_there change None some = some
+mapped_there change (Some slot) some = refl
+
+abbrev relinked : (TreeLinks → TreeLinks) → Slot → Slot
+relinked change slot = record slot { links = change slot.links }
+
+mapped_links :
+    (change : TreeLinks → TreeLinks) (o : Option Slot) → IsSome o
+    → links_of (option_map (relinked change) o) ≡ change (links_of o)
+mapped_links change None some = absurd (false≢true some)
+mapped_links change (Some slot) some = refl
+
+mapped_cap :
+    (change : TreeLinks → TreeLinks) (o : Option Slot)
+    → cap_in (option_map (relinked change) o) ≡ cap_in o
+mapped_cap change None = refl
+mapped_cap change (Some slot) = refl
+
+pub sets_links :
+    (places : BTreeMap ℕ ℕ) → IsApart places → (entries : Slab Entry) (at : Option SlotRef) (change : TreeLinks → TreeLinks)
+    → ((q : SlotRef) → at ≡ Some q → IsSome (slot_at (entry_of places entries) q))
+    → SetsLinks places entries (with_links places entries at change) at change
+sets_links places apart entries None change there =
+    record {
+      here = λ q is. cc;
+      other = λ q differs. refl;
+      caps = λ q. refl;
+      there = λ q some. some;
+      alone = record { kept = λ place. refl; same = λ q. refl };
+    }
+sets_links places apart entries (Some at) change there =
+    let edit : Slot → Slot = relinked change in
+    let changes = changes_slot places apart entries at edit in
+    record {
+      here = λ q is.
+          let one : at ≡ q = cc in
+          ap (λ k. links_at (entry_of places (with_slot places entries at edit)) k) (sym one)
+          ∙ ap links_of changes.here ∙ mapped_links change (slot_at (entry_of places entries) at) (there at refl)
+          ∙ ap (λ k. change (links_at (entry_of places entries) k)) one;
+      other = λ q differs. ap links_of (changes.other q (λ same. differs (ap Some (sym same))));
+      caps = λ q. elim (cases_slot q at) [
+        | inl same ↦
+            subst (λ k. cap_in (slot_at (entry_of places (with_slot places entries at edit)) k) ≡ cap_in (slot_at (entry_of places entries) k))
+            (sym same) (ap cap_in changes.here ∙ mapped_cap change (slot_at (entry_of places entries) at))
+        | inr differs ↦ ap cap_in (changes.other q differs)
+      ];
+      there = λ q some. elim (cases_slot q at) [
+        | inl same ↦
+            subst (λ k. IsSome (slot_at (entry_of places (with_slot places entries at edit)) k)) (sym same)
+            (subst IsSome (sym changes.here)
+            (mapped_there edit (slot_at (entry_of places entries) at) (there at refl)))
+        | inr differs ↦ subst IsSome (sym (changes.other q differs)) some
+      ];
+      alone = changes.alone;
+    }
+
+-- a link that a change keeps
+pub link_kept :
+    (places : BTreeMap ℕ ℕ) (old new : Slab Entry) (at : Option SlotRef) (change : TreeLinks → TreeLinks)
+    → SetsLinks places old new at change → (link : TreeLinks → Option SlotRef) → ((l : TreeLinks) → link (change l) ≡ link l)
+    → (q : SlotRef) → link (links_at (entry_of places new) q) ≡ link (links_at (entry_of places old) q)
+link_kept places old new at change sets link keeps q =
+    elim (cases_link cases_slot at q) [
+      | inl is ↦ ap link (sets.here q is) ∙ keeps (links_at (entry_of places old) q)
+      | inr differs ↦ ap link (sets.other q differs)
+    ]

@@ -1,0 +1,182 @@
+-- A system whose policy lacks one derive edge: a thread of label 0 with a CNode of its label, which holds a capability for itself and one
+-- for a CNode of label 1 that was derived from one in a CNode of label 2. The thread copies that capability into the CNode that it is for.
+use Rattle.std.proofs.Common.{◌≡◌, ◌≢◌, ℕ, inl, true, false, [], ◌∷◌, Some, None, refl, arith, lit<, lit≤}
+use Rattle.std.specs.Prelude.{codes}
+use Rattle.std.specs.List.{All}
+use Rattle.std.specs.Ordering.{is_lt}
+use Rattle.std.proofs.lemmas.List.Elements.{All-from_recursion}
+use Rattle.std.proofs.lemmas.List.Sums.{AllPass-from_list_all}
+use Rattle.machine.specs.declared.cap.Cap.{Cap}
+use Rattle.machine.specs.declared.cap.Detail.TheVariants as d
+use Rattle.machine.specs.declared.layout.Filled.{Filled}
+use Rattle.machine.specs.declared.layout.Initial.{Initial}
+use Rattle.machine.specs.declared.object.Object.{Object}
+use Rattle.machine.specs.declared.object.Object.TheVariants as o
+use Rattle.machine.specs.declared.object.ObjectKind.TheVariants as kind
+use Rattle.machine.specs.Capabilities.{kind_of_detail}
+use Rattle.machine.specs.Layout.{Layout, initial_of, initial_cap, initial_parent}
+use Rattle.machine.specs.Machine.{slot_cmp}
+use Rattle.table.specs.Rules.{IsLawful, IsObjectOf, IsCapOf, IsBindingOf, IsSlotPair, is_control_of, kind_at}
+use Rattle.table.specs.Tree.{IsPairOf, is_original, source_of}
+use Rattle.verdict.proofs.SmallSystem.{id, slot, labelled, filled, thread, pairs_test, pairs_pass, less, names_differ, all_apart}
+
+abbrev pub cnode : ℕ → Object
+cnode address = o.CNode (record { address = address; radix = 1 })
+
+abbrev pub context : Object
+context = o.Context (record { address = 0x4000; share = Some (record { core = 0; budget = 10; period = 10 }); thread = None })
+
+-- a capability for a CNode, with a guard of 63 zeros
+abbrev pub node_cap : ℕ → Cap
+node_cap number = record { object = id number; detail = d.CNode (record { size = 63; value = 0 }); original = true }
+
+-- one that was derived
+abbrev pub derived_cap : Cap
+derived_cap = record { object = id 1; detail = d.CNode (record { size = 63; value = 0 }); original = false }
+
+unfoldable pub gap : Layout
+gap = record {
+  labels = codes "a" ∷ codes "b" ∷ codes "c" ∷ [];
+  names = codes "own" ∷ codes "other" ∷ codes "source" ∷ codes "thread" ∷ codes "context" ∷ [];
+  objects =
+      labelled 0 (cnode 0x1000) ∷ labelled 1 (cnode 0x1040) ∷ labelled 2 (cnode 0x1080) ∷ labelled 0 (thread None)
+      ∷ labelled 0 context ∷ [];
+  caps =
+      filled (slot 0 0) (node_cap 0) ∷ filled (slot 0 1) derived_cap ∷ filled (slot 2 0) (node_cap 1)
+      ∷ filled (slot 3 0) (node_cap 0) ∷ [];
+  pairs = record { parent = slot 2 0; child = slot 0 1 } ∷ [];
+  bindings = record { thread = id 3; context = id 4 } ∷ [];
+}
+
+abbrev NoControl : Initial → Type 0
+NoControl initial = (core : ℕ) → is_control_of initial.object core ≡ false
+
+abbrev IsNoUntyped : Filled → Type 0
+IsNoUntyped line = kind_of_detail line.cap.detail ≢ kind.Untyped
+
+no_control : All NoControl gap.objects
+unfolding gap
+no_control = All-from_recursion NoControl gap.objects ((λ _. refl), ((λ _. refl), ((λ _. refl), ((λ _. refl), ((λ _. refl), tt)))))
+
+no_untyped : All IsNoUntyped gap.caps
+unfolding gap
+no_untyped = All-from_recursion IsNoUntyped gap.caps ((λ e. cc), ((λ e. cc), ((λ e. cc), ((λ e. cc), tt))))
+
+caps_fit : All (IsCapOf gap.objects) gap.caps
+unfolding gap
+caps_fit = All-from_recursion (IsCapOf gap.objects) gap.caps (
+  record {
+    place = record { holder = labelled 0 (cnode 0x1000); held = refl; within = lit< tt };
+    target = labelled 0 (cnode 0x1000);
+    aimed = refl;
+    root = λ e. cc;
+    detail = (lit≤ tt, lit< tt);
+  },
+  (
+    record {
+      place = record { holder = labelled 0 (cnode 0x1000); held = refl; within = lit< tt };
+      target = labelled 1 (cnode 0x1040);
+      aimed = refl;
+      root = λ e. cc;
+      detail = (lit≤ tt, lit< tt);
+    },
+    (
+      record {
+        place = record { holder = labelled 2 (cnode 0x1080); held = refl; within = lit< tt };
+        target = labelled 1 (cnode 0x1040);
+        aimed = refl;
+        root = λ e. cc;
+        detail = (lit≤ tt, lit< tt);
+      },
+      (
+        record {
+          place = record { holder = labelled 0 (thread None); held = refl; within = lit< tt };
+          target = labelled 0 (cnode 0x1000);
+          aimed = refl;
+          root = λ _. refl;
+          detail = (lit≤ tt, lit< tt);
+        },
+        tt,
+      ),
+    ),
+  ),
+)
+
+pub gap_lawful : IsLawful gap
+unfolding gap initial_of initial_cap initial_parent kind_at pairs_test is_original source_of
+gap_lawful = record {
+  draft = record {
+    labels = record {
+      few = lit≤ tt;
+      spelled = search (AllPass-from_list_all);
+      differ = names_differ gap.labels refl;
+    };
+    objects = record {
+      spelled = search (AllPass-from_list_all);
+      differ = names_differ gap.names refl;
+      named = refl;
+      few = lit≤ tt;
+      few_slots = lit≤ tt;
+      few_threads = lit≤ tt;
+      each =
+          All-from_recursion (IsObjectOf 3) gap.objects (
+            record { label = lit< tt; blank = (lit< tt, lit≤ tt); aligned = refl; end = lit≤ tt },
+            (
+              record { label = lit< tt; blank = (lit< tt, lit≤ tt); aligned = refl; end = lit≤ tt },
+              (
+                record { label = lit< tt; blank = (lit< tt, lit≤ tt); aligned = refl; end = lit≤ tt },
+                (
+                  record { label = lit< tt; blank = (tt, refl, refl); aligned = refl; end = lit≤ tt },
+                  (
+                    record { label = lit< tt; blank = ((lit≤ tt, lit≤ tt, lit≤ tt, lit< tt), refl); aligned = refl; end = lit≤ tt },
+                    tt,
+                  ),
+                ),
+              ),
+            ),
+          );
+      apart = all_apart gap.objects refl;
+      controls_differ = λ i j d below within core is. no_control j d within core;
+    };
+    caps = record {
+      each = caps_fit;
+      rise = λ i j d below within.
+          less _ (pairs_pass (λ a b. is_lt (slot_cmp a.slot b.slot)) gap.caps refl i j d below within);
+      untypeds_once = λ i j d below within untyped. absurd (no_untyped j d within untyped);
+    };
+    pairs = record {
+      each =
+          All-from_recursion (IsSlotPair gap.objects) gap.pairs (
+            record {
+              parent = record { holder = labelled 2 (cnode 0x1080); held = refl; within = lit< tt };
+              child = record { holder = labelled 0 (cnode 0x1000); held = refl; within = lit< tt };
+            },
+            tt,
+          );
+      rise = λ i j d below within. absurd (omega arith);
+    };
+    bindings = record {
+      each = All-from_recursion (IsBindingOf gap.objects) gap.bindings (record { thread = refl; context = refl }, tt);
+      rise = λ i j d below within. absurd (omega arith);
+      contexts_differ = λ i j d below within. absurd (omega arith);
+    };
+  };
+  marked =
+      All-from_recursion (λ filled. filled.cap.original ≡ is_original gap filled.slot filled.cap.detail) gap.caps
+      (refl, (refl, (refl, (refl, tt))));
+  tree =
+      All-from_recursion (IsPairOf gap) gap.pairs (
+        record {
+          above = node_cap 1;
+          below = derived_cap;
+          parent = refl;
+          child = refl;
+          object = refl;
+          derivable = λ e. cc;
+          original = refl;
+          badge = inl refl;
+          rights = refl;
+        },
+        tt,
+      );
+}

@@ -1,0 +1,155 @@
+-- The system whose policy lacks one derive edge isn't safe: its thread copies a derived capability into another label's CNode, and what
+-- it was derived from then derives there.
+use Rattle.std.proofs.Common.{◌≡◌, ℕ, [], ◌∷◌, Some, None, Ok, refl, sym, subst, ◌∙◌}
+use Rattle.std.proofs.lemmas.Bool.{false≢true}
+use Rattle.base.specs.declared.ids.ObjId.{ObjId}
+use Rattle.base.specs.declared.kind.Kind.TheVariants.{Derive}
+use Rattle.machine.specs.declared.call.Answer.TheVariants.{Nothing}
+use Rattle.machine.specs.declared.call.Call.TheVariants.{Copy}
+use Rattle.machine.specs.declared.call.Event.{Event}
+use Rattle.machine.specs.declared.call.Made.TheVariants.{Done}
+use Rattle.machine.specs.declared.call.Outcome.TheVariants as outcome
+use Rattle.machine.specs.declared.object.Object.{Object}
+use Rattle.machine.specs.declared.object.Object.TheVariants as o
+use Rattle.machine.specs.declared.slot_address.SlotAddress.{SlotAddress}
+use Rattle.machine.specs.Authority.{HasAuthority, label_of}
+use Rattle.machine.specs.Authority.HasAuthority.{by_pair}
+use Rattle.machine.specs.Boot.{IsBoot}
+use Rattle.machine.specs.Layout.{initial_of, initial_cap, initial_parent, declared_label, bound_context, bound_thread}
+use Rattle.machine.specs.Lookup.{level_at, lookup_of, walk, hop}
+use Rattle.machine.specs.Machine.{Machine, object_of, cap_of, parent_of, with_cap, with_parent}
+use Rattle.machine.specs.Step.{admitted, made_by, step_of}
+use Rattle.machine.specs.Step.Step.{ends}
+use Rattle.machine.specs.Step.Copy.{copy_of}
+use Rattle.machine.specs.Step.Find.{find_cap}
+use Rattle.machine.specs.Step.Target.{ends_of, lookup_target_of, source_of, target_of}
+use Rattle.machine.specs.Tree.{with_copy}
+use Rattle.machine.proofs.LookUps.{parent_of-with_parent}
+use Rattle.policy.specs.Needed.{Obeys, derive_by_grant}
+use Rattle.table.proofs.AtBoot.{boot_label}
+use Rattle.table.proofs.BootState.{boot_state, boot_state_is}
+use Rattle.verdict.specs.Confined.{IsConfined}
+use Rattle.verdict.specs.Counterexamples.{UnsafeWithout}
+use Rattle.verdict.specs.Safe.{IsReached, IsSafe}
+use Rattle.verdict.proofs.GapConfined.{gap_confined}
+use Rattle.verdict.proofs.GapPolicy.{has, others, within}
+use Rattle.verdict.proofs.GapSystem.{gap, gap_lawful, cnode, node_cap, derived_cap}
+use Rattle.verdict.proofs.ObjectLabels.{same_label}
+use Rattle.verdict.proofs.TestPolicies.{allows_policy, is_policy, policy_of}
+use Rattle.verdict.proofs.SmallSystem.{id, slot, thread}
+
+-- the slot of the other CNode, and the slot of the thread's own that holds that CNode's capability
+abbrev to : SlotAddress
+to = record { root = 1; index = 0; depth = 64 }
+
+abbrev from : SlotAddress
+from = record { root = 0; index = 1; depth = 64 }
+
+unfoldable pub copying : Event
+copying = record { core = 0; thread = id 3; call = Copy to from (record { 0 = 0 }) }
+
+-- the context, once it is bound to a thread
+abbrev running : ObjId → Object
+running runner =
+    o.Context (record { address = 0x4000; share = Some (record { core = 0; budget = 10; period = 10 }); thread = Some runner })
+
+module _ (m : Machine) (boot : IsBoot gap m) where
+  caller : object_of m (id 3) ≡ Some (thread (Some (id 4)))
+  unfolding gap initial_of bound_context
+  caller = boot.objects (id 3)
+
+  own : object_of m (id 0) ≡ Some (cnode 0x1000)
+  unfolding gap initial_of
+  own = boot.objects (id 0)
+
+  other : object_of m (id 1) ≡ Some (cnode 0x1040)
+  unfolding gap initial_of
+  other = boot.objects (id 1)
+
+  root : cap_of m (slot 3 0) ≡ Some (node_cap 0)
+  unfolding gap initial_cap
+  root = boot.caps (slot 3 0)
+
+  own_cap : cap_of m (slot 0 0) ≡ Some (node_cap 0)
+  unfolding gap initial_cap
+  own_cap = boot.caps (slot 0 0)
+
+  held : cap_of m (slot 0 1) ≡ Some derived_cap
+  unfolding gap initial_cap
+  held = boot.caps (slot 0 1)
+
+  empty : cap_of m (slot 1 0) ≡ None
+  unfolding gap initial_cap
+  empty = boot.caps (slot 1 0)
+
+  above : parent_of m (slot 0 1) ≡ Some (slot 2 0)
+  unfolding gap initial_parent
+  above = boot.parents (slot 0 1)
+
+  pub after_copy : Machine
+  after_copy = with_parent (with_cap m (slot 1 0) derived_cap) (slot 1 0) (slot 2 0)
+
+  target : target_of m (id 3) to ≡ Ok (slot 1 0)
+  unfolding target_of find_cap lookup_of lookup_target_of level_at walk hop
+  target = rw (caller, root, own, held, held, other) refl
+
+  source : source_of m (id 3) from ≡ Ok (slot 0 1, derived_cap)
+  unfolding source_of lookup_of lookup_target_of level_at walk hop
+  source = rw (caller, root, own, own_cap, own, held) refl
+
+  copies : copy_of m (id 3) to from (record { 0 = 0 }) ≡ Ok (Done Nothing, after_copy)
+  unfolding copy_of ends_of with_copy after_copy
+  copies = rw (target, empty, source, above) refl
+
+  runs_on : object_of m (id 4) ≡ Some (running (id 3))
+  unfolding gap initial_of bound_thread
+  runs_on = boot.objects (id 4)
+
+  admits : admitted m 0 (id 3) ≡ Ok (record { core = 0; budget = 10; period = 10 })
+  unfolding admitted
+  admits = rw (caller, runs_on) refl
+
+  made : step_of m copying ≡ (outcome.Done Nothing, after_copy)
+  unfolding copying step_of made_by
+  made = rw (admits, copies) refl
+
+  derived : parent_of after_copy (slot 1 0) ≡ Some (slot 2 0)
+  unfolding after_copy
+  derived = parent_of-with_parent (with_cap m (slot 1 0) derived_cap) (slot 1 0) (slot 2 0) (slot 1 0)
+
+  label_after : (n label : ℕ) → declared_label gap (id n) ≡ Some label → label_of gap after_copy (id n) ≡ Some label
+  unfolding after_copy with_parent with_cap object_of
+  label_after n label declared = same_label gap m after_copy (id n) refl ∙ boot_label gap m boot (id n) ∙ declared
+
+  -- the slot in label 2 derives on the one in label 1
+  outside : HasAuthority gap after_copy 2 Derive 1
+  unfolding gap initial_of declared_label
+  outside = by_pair (slot 1 0) (slot 2 0) derived (label_after 2 2 refl) (label_after 1 1 refl)
+
+not_safe : ¬ IsSafe gap has
+unfolding has
+not_safe safe =
+    let m = boot_state gap in
+    let boot = boot_state_is gap in
+    let reached : IsReached gap (after_copy m boot) =
+    record {
+      boot = m;
+      booted = boot;
+      events = copying ∷ [];
+      outcomes = outcome.Done Nothing ∷ [];
+      run = (after_copy m boot, ends (made m boot), refl);
+    } in
+    false≢true (safe.confined (after_copy m boot) reached 2 Derive 1 (outside m boot))
+
+pub unsafe_without_derivation : UnsafeWithout derive_by_grant
+unsafe_without_derivation =
+    let allowed = allows_policy has within in
+    record {
+      t = gap;
+      edges = policy_of has;
+      lawful = gap_lawful;
+      policy = is_policy has within;
+      others = λ other differ. subst (λ test. Obeys test other) (sym allowed) (others other differ);
+      confined = λ m boot. subst (λ test. IsConfined gap test m) (sym allowed) (gap_confined m boot);
+      unsafe = λ safe. not_safe (subst (IsSafe gap) allowed safe);
+    }

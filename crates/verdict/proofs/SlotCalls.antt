@@ -1,0 +1,290 @@
+-- Copy, Mint and Move within a caller's authority: both slots are in CNodes that its label controls, so that the labels of both may do the
+-- same, and derive on one another.
+use Rattle.std.proofs.Common.{◌≡◌, ◌≢◌, ℕ, ◌⊎◌, inl, inr, Bool, true, false, Some, None, refl, sym, ap, subst, ◌∙◌}
+use Rattle.std.specs.Prelude.{if◌then◌else◌}
+use Rattle.std.proofs.lemmas.Bool.{false≢true}
+use Rattle.std.proofs.lemmas.Option.{none-some, same_Some}
+use Rattle.base.specs.declared.ids.ObjId.{ObjId}
+use Rattle.base.specs.declared.ids.SlotRef.{SlotRef}
+use Rattle.base.specs.declared.kind.Kind.{Kind}
+use Rattle.base.specs.declared.kind.Kind.TheVariants as authority
+use Rattle.base.specs.Kinds.{is_structural}
+use Rattle.machine.specs.declared.call.Event.{Event}
+use Rattle.machine.specs.declared.cap.Cap.{Cap}
+use Rattle.machine.specs.declared.object.ObjectKind.TheVariants as kind
+use Rattle.machine.specs.declared.slot_address.SlotAddress.{SlotAddress}
+use Rattle.machine.specs.Authority.{label_of}
+use Rattle.machine.specs.Authority.HasAuthority.{by_cap, by_pair}
+use Rattle.machine.specs.Capabilities.{gives}
+use Rattle.machine.specs.Layout.{Layout}
+use Rattle.machine.specs.Machine.{Machine, cap_of, parent_of, same_slot}
+use Rattle.machine.specs.Tree.{copied, exchange, parent_of_copy}
+use Rattle.machine.specs.WellFormed.{IsWellFormed, kind_of}
+use Rattle.machine.proofs.AuthorityLemmas.{gives_fewer, gives_no_structure}
+use Rattle.machine.proofs.FillsFormed.{derives_formed}
+use Rattle.machine.proofs.Ids.{one_or_two}
+use Rattle.machine.proofs.LedSlots.{led_slot}
+use Rattle.machine.proofs.LookUps.{one_slot}
+use Rattle.machine.proofs.MovesFormed.{move_formed, pair_was}
+use Rattle.machine.proofs.SlotRows.{Derives, MoveDone}
+use Rattle.policy.specs.Closed.{IsClosed}
+use Rattle.policy.specs.Domain.{EdgeTest}
+use Rattle.verdict.specs.Invariant.{IsHeld, IsSound}
+use Rattle.verdict.proofs.Held.{bare_of, held_of}
+use Rattle.verdict.proofs.Keeps.{Keeps}
+use Rattle.verdict.proofs.Reach.{IsControlled, led_controlled}
+use Rattle.verdict.proofs.SlotKeeps.{SlotsFit, slots_keep}
+
+-- a slot of another object is another slot
+apart_slots : (q slot : SlotRef) → q.holder ≢ slot.holder → same_slot q slot ≡ false
+apart_slots q slot apart = by_tie (same_slot q slot) refl where
+  by_tie : (tie : Bool) → same_slot q slot ≡ tie → same_slot q slot ≡ false
+  by_tie true is = absurd (apart (ap (λ (s : SlotRef). s.holder) (one_slot q slot is)))
+  by_tie false is = is
+
+-- one label is near another: what may derive to it may derive to the other, and where it may derive to the other may
+record IsNear (allowed : EdgeTest) (label other : ℕ) : Type 0 where
+  down : (from : ℕ) → allowed from authority.Derive label ≡ true → allowed from authority.Derive other ≡ true
+  up : (to : ℕ) → allowed label authority.Derive to ≡ true → allowed other authority.Derive to ≡ true
+
+module _
+    (t : Layout) (allowed : EdgeTest) (event : Event) (a : ℕ) (m : Machine) (sound : IsSound t allowed m) (closed : IsClosed allowed)
+    (caller : ObjId) (labelled : label_of t m caller ≡ Some a) (to from : SlotAddress) (next : Machine) where
+  held_before : IsHeld t allowed m
+  held_before = held_of t allowed m sound
+
+  abbrev Controlled : ObjId → Type 0
+  Controlled id = IsControlled t allowed m a id
+
+  -- labels that the caller's controls derive on one another
+  derives : (one other : ObjId) → (x : Controlled one) → (y : Controlled other) → allowed x.label authority.Derive y.label ≡ true
+  derives one other x y = closed.derive_in_domain a x.label y.label (inr x.controls) (inr y.controls)
+
+  -- and may do the same
+  same_edges :
+      (one other : ObjId) (x : Controlled one) (y : Controlled other) (k : Kind) (end : ℕ) → is_structural k ≡ false
+      → allowed x.label k end ≡ true → allowed y.label k end ≡ true
+  same_edges one other x y k end of_use edge =
+      sym (closed.subjects_agree a y.label (inr y.controls) k of_use end)
+      ∙ closed.subjects_agree a x.label (inr x.controls) k of_use end ∙ edge
+
+  of_use : (cap : Cap) (k : Kind) → gives cap.detail k ≡ true → is_structural k ≡ false
+  of_use cap k given = by_case (is_structural k) refl where
+    by_case : (structural : Bool) → is_structural k ≡ structural → is_structural k ≡ false
+    by_case true is = absurd (false≢true (sym (gives_no_structure cap.detail k is) ∙ given))
+    by_case false is = is
+
+  -- what a found capability gives, from the label of any CNode that the caller's controls
+  edges :
+      (target source : SlotRef) (held : Cap) → (y : Controlled target.holder) → Controlled source.holder
+      → cap_of m source ≡ Some held → (k : Kind) (start end : ℕ) → gives held.detail k ≡ true
+      → label_of t m target.holder ≡ Some start → label_of t m held.object ≡ Some end → allowed start k end ≡ true
+  edges target source held y x filled k start end given begins ends =
+      let is : start ≡ y.label = same_Some start y.label (sym begins ∙ y.labelled) in
+      ap (λ l. allowed l k end) is
+      ∙ same_edges source.holder target.holder x y k end (of_use held k given)
+      (held_before.confined x.label k end (by_cap source held filled x.is_node given x.labelled ends))
+
+  module _ (done : Derives m caller to from next) where
+    mine : Controlled done.target.holder
+    mine = led_controlled t allowed m held_before closed.subjects_agree a caller to done.target labelled done.finds.leads_to
+
+    source_mine : Controlled done.source.holder
+    source_mine = led_controlled t allowed m held_before closed.subjects_agree a caller from done.source labelled done.finds.leads_from
+
+    formed : IsWellFormed next
+    formed = derives_formed m caller to from next sound.well_formed done
+
+    copy_caps :
+        (q : SlotRef) (cap : Cap) → cap_of next q ≡ Some cap
+        → (cap_of m q ≡ Some cap)
+        ⊎ ((kind_of m q.holder ≡ Some kind.CNode)
+        × ((start : ℕ) (k : Kind) (end : ℕ) → gives cap.detail k ≡ true → label_of t m q.holder ≡ Some start
+        → label_of t m cap.object ≡ Some end → allowed start k end ≡ true))
+    copy_caps q cap e = by_tie (same_slot q done.target) refl (sym (done.changes.caps q) ∙ e) where
+      by_tie :
+          (tie : Bool) → same_slot q done.target ≡ tie
+          → (if tie then Some (copied done.held done.detail) else cap_of m q) ≡ Some cap
+          → (cap_of m q ≡ Some cap)
+          ⊎ ((kind_of m q.holder ≡ Some kind.CNode)
+          × ((start : ℕ) (k : Kind) (end : ℕ) → gives cap.detail k ≡ true → label_of t m q.holder ≡ Some start
+          → label_of t m cap.object ≡ Some end → allowed start k end ≡ true))
+      by_tie false is same = inl same
+      by_tie true is same =
+          let at = one_slot q done.target is in
+          let cap_is : copied done.held done.detail ≡ cap = same_Some _ _ same in
+          inr (
+            ap (λ (s : SlotRef). kind_of m s.holder) at ∙ mine.is_node,
+            λ start k end given begins ends.
+                edges done.target done.source done.held mine source_mine done.finds.filled k start end
+                (gives_fewer done.detail done.held.detail k done.narrower (ap (λ (c : Cap). gives c.detail k) cap_is ∙ given))
+                (ap (λ (s : SlotRef). label_of t m s.holder) (sym at) ∙ begins)
+                (ap (λ (c : Cap). label_of t m c.object) cap_is ∙ ends),
+          )
+
+    copy_pairs :
+        (q parent : SlotRef) (start end : ℕ) → parent_of next q ≡ Some parent → label_of t m parent.holder ≡ Some start
+        → label_of t m q.holder ≡ Some end → allowed start authority.Derive end ≡ true
+    copy_pairs q parent start end e begins ends = by_tie (same_slot q done.target) refl (sym (done.changes.parents q) ∙ e) where
+      between : allowed source_mine.label authority.Derive mine.label ≡ true
+      between = derives done.source.holder done.target.holder source_mine mine
+
+      by_original :
+          (original : Bool) → (if original then Some done.source else parent_of m done.source) ≡ Some parent
+          → allowed start authority.Derive mine.label ≡ true
+      by_original true same =
+          let at : done.source ≡ parent = same_Some _ _ same in
+          let is : start ≡ source_mine.label =
+          same_Some start source_mine.label (sym begins ∙ ap (λ (s : SlotRef). label_of t m s.holder) (sym at) ∙ source_mine.labelled) in
+          ap (λ l. allowed l authority.Derive mine.label) is ∙ between
+      by_original false above =
+          closed.derive_by_grant.derived start source_mine.label mine.label
+          (held_before.confined start authority.Derive source_mine.label
+          (by_pair done.source parent above begins source_mine.labelled)) between
+
+      by_tie :
+          (tie : Bool) → same_slot q done.target ≡ tie
+          → (if tie then parent_of_copy m done.source done.held else parent_of m q) ≡ Some parent
+          → allowed start authority.Derive end ≡ true
+      by_tie false is same = held_before.confined start authority.Derive end (by_pair q parent same begins ends)
+      by_tie true is same =
+          let at = one_slot q done.target is in
+          let end_is : end ≡ mine.label =
+          same_Some end mine.label (sym ends ∙ ap (λ (s : SlotRef). label_of t m s.holder) at ∙ mine.labelled) in
+          ap (λ l. allowed start authority.Derive l) end_is ∙ by_original done.held.original same
+
+    copy_fits : SlotsFit t allowed a m next
+    copy_fits = record {
+      same = done.changes.objects;
+      caps = copy_caps;
+      pairs = copy_pairs;
+      slots = λ id. elim (one_or_two id done.target.holder) [
+        | inl same ↦ inr (subst (λ (i : ObjId). IsControlled t allowed m a i) (sym same) mine)
+        | inr apart ↦ inl (λ index.
+            done.changes.caps (record { holder = id; index = index })
+            ∙ ap (λ tie. if tie then Some (copied done.held done.detail) else cap_of m (record { holder = id; index = index }))
+            (apart_slots (record { holder = id; index = index }) done.target apart))
+      ];
+      kinds = formed.slots.object;
+      bare = bare_of next formed;
+    }
+
+    pub derive_keeps : Keeps t allowed m event a m next
+    derive_keeps = slots_keep t allowed m event a m next held_before copy_fits
+
+  module _ (done : MoveDone m caller to from next) where
+    goal_mine : Controlled done.target.holder
+    goal_mine = led_controlled t allowed m held_before closed.subjects_agree a caller to done.target labelled done.finds.leads_to
+
+    start_mine : Controlled done.source.holder
+    start_mine = led_controlled t allowed m held_before closed.subjects_agree a caller from done.source labelled done.finds.leads_from
+
+    moved_formed : IsWellFormed next
+    moved_formed = move_formed m caller to from next sound.well_formed done
+
+    -- a capability was there, or is the one that moved
+    move_caps :
+        (q : SlotRef) (cap : Cap) → cap_of next q ≡ Some cap
+        → (cap_of m q ≡ Some cap)
+        ⊎ ((kind_of m q.holder ≡ Some kind.CNode)
+        × ((start : ℕ) (k : Kind) (end : ℕ) → gives cap.detail k ≡ true → label_of t m q.holder ≡ Some start
+        → label_of t m cap.object ≡ Some end → allowed start k end ≡ true))
+    move_caps q cap e =
+        by_tie (same_slot q done.target) (same_slot q done.source) refl (sym (done.changes.caps q) ∙ e)
+      where
+        by_tie :
+            (tie also : Bool) → same_slot q done.target ≡ tie
+            → (if tie then Some done.held else if also then None else cap_of m q) ≡ Some cap
+            → (cap_of m q ≡ Some cap)
+            ⊎ ((kind_of m q.holder ≡ Some kind.CNode)
+            × ((start : ℕ) (k : Kind) (end : ℕ) → gives cap.detail k ≡ true → label_of t m q.holder ≡ Some start
+            → label_of t m cap.object ≡ Some end → allowed start k end ≡ true))
+        by_tie false true is same = absurd (none-some cap same)
+        by_tie false false is same = inl same
+        by_tie true also is same =
+            let at = one_slot q done.target is in
+            let cap_is : done.held ≡ cap = same_Some _ _ same in
+            inr (
+              ap (λ (s : SlotRef). kind_of m s.holder) at ∙ goal_mine.is_node,
+              λ start k end given begins ends.
+                  edges done.target done.source done.held goal_mine start_mine done.finds.filled k start end
+                  (ap (λ (c : Cap). gives c.detail k) cap_is ∙ given)
+                  (ap (λ (s : SlotRef). label_of t m s.holder) (sym at) ∙ begins)
+                  (ap (λ (c : Cap). label_of t m c.object) cap_is ∙ ends),
+            )
+
+    -- the labels of two controlled CNodes are near
+    near_controlled : (one other : ObjId) → (x : Controlled one) → (y : Controlled other) → IsNear allowed x.label y.label
+    near_controlled one other x y = record {
+      down = λ start edge. closed.derive_by_grant.derived start x.label y.label edge (derives one other x y);
+      up = λ end edge. closed.derive_by_grant.derived y.label x.label end (derives other one y x) edge;
+    }
+
+    -- a slot that is one of the two, and the other of them, have near labels
+    at_controlled :
+        (q slot was : SlotRef) → q ≡ slot → (y : Controlled slot.holder) → Controlled was.holder → (label : ℕ)
+        → label_of t m q.holder ≡ Some label
+        → (other : ℕ) × (label_of t m was.holder ≡ Some other) × IsNear allowed other label
+    at_controlled q slot was at y x label begins =
+        let is : y.label ≡ label =
+        same_Some y.label label (sym y.labelled ∙ ap (λ (s : SlotRef). label_of t m s.holder) (sym at) ∙ begins) in
+        (x.label, x.labelled, subst (λ l. IsNear allowed x.label l) is (near_controlled was.holder slot.holder x y))
+
+    -- a slot's label is near that of the slot that it has changed names with
+    near :
+        (q : SlotRef) (label : ℕ) → label_of t m q.holder ≡ Some label
+        → (other : ℕ) × (label_of t m (exchange done.source done.target q).holder ≡ Some other) × IsNear allowed other label
+    near q label begins = by_tie (same_slot q done.source) (same_slot q done.target) refl refl where
+      by_tie :
+          (tie also : Bool) → same_slot q done.source ≡ tie → same_slot q done.target ≡ also
+          → (other : ℕ)
+          × (label_of t m (if tie then done.target else if also then done.source else q).holder ≡ Some other)
+          × IsNear allowed other label
+      by_tie true also is apart = at_controlled q done.source done.target (one_slot q done.source is) start_mine goal_mine label begins
+      by_tie false true apart is = at_controlled q done.target done.source (one_slot q done.target is) goal_mine start_mine label begins
+      by_tie false false apart also = (label, begins, record { down = λ start edge. edge; up = λ end edge. edge })
+
+    -- each pair was one of the slots that have changed names
+    move_pairs :
+        (q parent : SlotRef) (start end : ℕ) → parent_of next q ≡ Some parent → label_of t m parent.holder ≡ Some start
+        → label_of t m q.holder ≡ Some end → allowed start authority.Derive end ≡ true
+    move_pairs q parent start end e begins ends =
+        let above = near parent start begins in
+        let below = near q end ends in
+        let was =
+        pair_was m next done.source done.target done.held sound.well_formed done.changes
+        (led_slot m caller to done.target done.finds.leads_to) done.finds.vacant done.finds.filled q parent e in
+        let edge : allowed above.0 authority.Derive below.0 ≡ true =
+        held_before.confined above.0 authority.Derive below.0
+        (by_pair (exchange done.source done.target q) (exchange done.source done.target parent) was above.1 below.1) in
+        below.2.down start (above.2.up below.0 edge)
+
+    -- an object that has neither slot keeps what its slots hold
+    others_keep :
+        (id : ObjId) → id ≢ done.target.holder → id ≢ done.source.holder → (index : ℕ)
+        → cap_of next (record { holder = id; index = index }) ≡ cap_of m (record { holder = id; index = index })
+    others_keep id not_target not_source index =
+        let q : SlotRef = record { holder = id; index = index } in
+        done.changes.caps q
+        ∙ ap (λ tie. if tie then Some done.held else if same_slot q done.source then None else cap_of m q)
+        (apart_slots q done.target not_target)
+        ∙ ap (λ tie. if tie then None else cap_of m q) (apart_slots q done.source not_source)
+
+    move_fits : SlotsFit t allowed a m next
+    move_fits = record {
+      same = done.changes.objects;
+      caps = move_caps;
+      pairs = move_pairs;
+      slots = λ id. elim (one_or_two id done.target.holder) [
+        | inl same ↦ inr (subst (λ (i : ObjId). IsControlled t allowed m a i) (sym same) goal_mine)
+        | inr apart ↦ elim (one_or_two id done.source.holder) [
+          | inl same ↦ inr (subst (λ (i : ObjId). IsControlled t allowed m a i) (sym same) start_mine)
+          | inr also ↦ inl (others_keep id apart also)
+        ]
+      ];
+      kinds = moved_formed.slots.object;
+      bare = bare_of next moved_formed;
+    }
+
+    pub move_keeps : Keeps t allowed m event a m next
+    move_keeps = slots_keep t allowed m event a m next held_before move_fits

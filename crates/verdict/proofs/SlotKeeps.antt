@@ -1,0 +1,140 @@
+-- A change of slots keeps what a part of a call keeps: each capability and pair of the tree that is new is in the policy, and the CNodes
+-- whose slots change are the caller's to change.
+use Rattle.std.proofs.Common.{◌≡◌, ℕ, ◌⊎◌, inl, inr, true, Some, None, refl, sym, ap, ◌∙◌, arith}
+use Rattle.std.proofs.lemmas.Option.{none-some, same_Some}
+use Rattle.base.specs.declared.ids.ObjId.{ObjId}
+use Rattle.base.specs.declared.ids.SlotRef.{SlotRef}
+use Rattle.base.specs.declared.kind.Kind.{Kind}
+use Rattle.base.specs.declared.kind.Kind.TheVariants as authority
+use Rattle.machine.specs.declared.call.Event.{Event}
+use Rattle.machine.specs.declared.cap.Cap.{Cap}
+use Rattle.machine.specs.declared.object.Context.{Context}
+use Rattle.machine.specs.declared.object.Object.{Object}
+use Rattle.machine.specs.declared.object.Object.TheVariants as o
+use Rattle.machine.specs.declared.object.ObjectKind.TheVariants as kind
+use Rattle.machine.specs.Authority.{label_of}
+use Rattle.machine.specs.Authority.HasAuthority.{by_cap, by_root, by_pair, by_link}
+use Rattle.machine.specs.Capabilities.{gives, kind_of_detail}
+use Rattle.machine.specs.Layout.{Layout}
+use Rattle.machine.specs.Machine.{Machine, object_of, cap_of, parent_of}
+use Rattle.machine.specs.Objects.{kind_of_object, address_of}
+use Rattle.machine.specs.WellFormed.{kind_of}
+use Rattle.machine.proofs.SameObjects.{kinds_same}
+use Rattle.machine.proofs.SlotChanges.{SameObjects}
+use Rattle.policy.specs.Domain.{EdgeTest}
+use Rattle.policy.specs.Full.IsFull.{modifies}
+use Rattle.verdict.specs.Confined.{IsConfined}
+use Rattle.verdict.specs.Invariant.{IsBare, IsHeld}
+use Rattle.verdict.specs.OfTable.{IsOfTable}
+use Rattle.verdict.proofs.Contents.{full}
+use Rattle.verdict.proofs.Keeps.{Acts, Keeps}
+use Rattle.verdict.proofs.ObjectLabels.{same_label}
+use Rattle.verdict.proofs.Reach.{IsControlled}
+use Rattle.verdict.proofs.Shrinking.{same_context}
+
+-- what a change of slots has to meet
+pub record SlotsFit (t : Layout) (allowed : EdgeTest) (a : ℕ) (m next : Machine) : Type 0 where
+  pub same : SameObjects m next
+  -- a capability was there, or is in a slot of a CNode and its edges are in the policy
+  pub caps :
+      (q : SlotRef) (cap : Cap) → cap_of next q ≡ Some cap
+      → (cap_of m q ≡ Some cap)
+      ⊎ ((kind_of m q.holder ≡ Some kind.CNode)
+      × ((from : ℕ) (k : Kind) (to : ℕ) → gives cap.detail k ≡ true → label_of t m q.holder ≡ Some from
+      → label_of t m cap.object ≡ Some to → allowed from k to ≡ true))
+  -- each pair's edge is in the policy
+  pub pairs :
+      (q parent : SlotRef) (from to : ℕ) → parent_of next q ≡ Some parent → label_of t m parent.holder ≡ Some from
+      → label_of t m q.holder ≡ Some to → allowed from authority.Derive to ≡ true
+  -- an object's slots are as they were, or it is a CNode that the caller's label controls
+  pub slots :
+      (id : ObjId) → ((index : ℕ) → cap_of next (record { holder = id; index = index }) ≡ cap_of m (record { holder = id; index = index }))
+      ⊎ IsControlled t allowed m a id
+  -- the object of a capability is of its kind, and what is absent has nothing
+  pub kinds : (q : SlotRef) (cap : Cap) → cap_of next q ≡ Some cap → kind_of next cap.object ≡ Some (kind_of_detail cap.detail)
+  pub bare : (id : ObjId) → object_of next id ≡ None → IsBare next id
+
+module _
+    (t : Layout) (allowed : EdgeTest) (began : Machine) (event : Event) (a : ℕ) (m next : Machine) (held : IsHeld t allowed m)
+    (fit : SlotsFit t allowed a m next) where
+  was : (q : ObjId) (object : Object) → object_of next q ≡ Some object → object_of m q ≡ Some object
+  was q object at = sym (fit.same.objects q) ∙ at
+
+  labels : (q : ObjId) → label_of t next q ≡ label_of t m q
+  labels q = same_label t m next q (fit.same.objects q)
+
+  kinds : (q : ObjId) → kind_of next q ≡ kind_of m q
+  kinds q = kinds_same m next fit.same q
+
+  confined : IsConfined t allowed next
+  confined from k to (by_cap q cap filled is_node given source target) = by_case (fit.caps q cap filled) where
+    by_case :
+        (cap_of m q ≡ Some cap)
+        ⊎ ((kind_of m q.holder ≡ Some kind.CNode)
+        × ((from : ℕ) (k : Kind) (to : ℕ) → gives cap.detail k ≡ true → label_of t m q.holder ≡ Some from
+        → label_of t m cap.object ≡ Some to → allowed from k to ≡ true))
+        → allowed from k to ≡ true
+    by_case (inl before) =
+        held.confined from k to
+        (by_cap q cap before (sym (kinds q.holder) ∙ is_node) given (sym (labels q.holder) ∙ source) (sym (labels cap.object) ∙ target))
+    by_case (inr new) = new.1 from k to given (sym (labels q.holder) ∙ source) (sym (labels cap.object) ∙ target)
+  confined from k to (by_root q cap filled is_thread source target) = by_case (fit.caps q cap filled) where
+    by_case :
+        (cap_of m q ≡ Some cap)
+        ⊎ ((kind_of m q.holder ≡ Some kind.CNode)
+        × ((from : ℕ) (k : Kind) (to : ℕ) → gives cap.detail k ≡ true → label_of t m q.holder ≡ Some from
+        → label_of t m cap.object ≡ Some to → allowed from k to ≡ true))
+        → allowed from authority.Space to ≡ true
+    by_case (inl before) =
+        held.confined from authority.Space to
+        (by_root q cap before (sym (kinds q.holder) ∙ is_thread) (sym (labels q.holder) ∙ source) (sym (labels cap.object) ∙ target))
+    by_case (inr new) =
+        let two : Some kind.CNode ≡ Some kind.Tcb = sym new.0 ∙ sym (kinds q.holder) ∙ is_thread in
+        cc
+  confined from k to (by_pair q parent derived source target) =
+      fit.pairs q parent from to derived (sym (labels parent.holder) ∙ source) (sym (labels q.holder) ∙ target)
+  confined from k to (by_link q end object at linked source target) =
+      held.confined from k to (by_link q end object (was q object at) linked (sym (labels q) ∙ source) (sym (labels end) ∙ target))
+
+  of_table : IsOfTable t next
+  of_table = record {
+    labelled = λ q object at.
+        let label = held.of_table.labelled q object (was q object at) in (label.0, labels q ∙ label.1);
+    initial = λ q object declared at. held.of_table.initial q object declared (was q object at);
+    ranged = λ q memory label address at labelled.
+        held.of_table.ranged q memory label address (was q (o.Untyped memory) at) (sym (labels q) ∙ labelled);
+    counted = let number = fit.same.number in let before = held.of_table.counted in omega (arith, number, before);
+  }
+
+  acts : (q : ObjId) → Acts t allowed a m next q
+  acts q = by_case (fit.slots q) where
+    by_case :
+        ((index : ℕ) → cap_of next (record { holder = q; index = index }) ≡ cap_of m (record { holder = q; index = index }))
+        ⊎ IsControlled t allowed m a q → Acts t allowed a m next q
+    by_case (inl slots) =
+        inl (record { content = fit.same.objects q; queue = fit.same.queues q; words = fit.same.words q; slots = slots })
+    by_case (inr mine) =
+        inr (full t allowed a m next q mine.label mine.labelled (modifies authority.Control refl mine.controls))
+
+  pub slots_keep : Keeps t allowed began event a m next
+  slots_keep = record {
+    held = record {
+      of_table = of_table;
+      confined = confined;
+      kinds = fit.kinds;
+      numbered = λ q object at.
+          let below = held.numbered q object (was q object at) in
+          let number = fit.same.number in
+          omega (arith, below, number);
+      bare = fit.bare;
+    };
+    acts = acts;
+    stays = λ q before after there is.
+        let one = same_Some after before (sym (was q after is) ∙ there) in
+        (ap kind_of_object one, ap address_of one);
+    born = λ q object absent is. absurd (none-some object (sym absent ∙ was q object is));
+    grows = let number = fit.same.number in omega (arith, number);
+    budgets = λ q before after there is.
+        let one = same_Some (o.Context after) (o.Context before) (sym (was q (o.Context after) is) ∙ there) in
+        inl (ap (λ (c : Context). c.share) (same_context after before one));
+  }
