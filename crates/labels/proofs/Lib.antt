@@ -1,3 +1,4 @@
 pub mod EdgeLists
 pub mod SlotAuthority
 pub mod TableAuthority
+pub mod BootLabels

@@ -1,12 +1,14 @@
-ghost use Rattle.std.specs.Prelude.{◌≡◌, ◌↔◌, ℕ, true};
+ghost use Rattle.std.specs.Prelude.{◌≡◌, ◌↔◌, ◌<◌, ℕ, true, length};
 ghost use Rattle.base.specs.declared.ids.SlotRef.{SlotRef as Slot};
 ghost use Rattle.base.specs.declared.kind.Kind.{Kind as KindOf};
 ghost use Rattle.labels.specs.SlotAuthority.{GivesBySlot};
 ghost use Rattle.labels.specs.SlotEdges.{slot_edges_of};
+ghost use Rattle.machine.specs.Authority.{HasAuthority};
 ghost use Rattle.machine.specs.Boot.{IsBoot};
 ghost use Rattle.machine.specs.Layout.{Layout};
 ghost use Rattle.machine.specs.Machine.{Machine};
 ghost use Rattle.policy.specs.Policy.{allows};
+ghost use Rattle.table.specs.Rules.{IsLawful};
 
 /// A law about tables, with nothing to run: the edges of a slot are the authority that the table's boot
 /// state has by that slot, through its capability or as a child in the derivation tree.
@@ -14,4 +16,14 @@ ghost use Rattle.policy.specs.Policy.{allows};
 pub fn slot_edges_are_authority()
     ensures { (t : Layout) (boot : Machine) (slot : Slot) (from : ℕ) (kind : KindOf) (to : ℕ) → IsBoot t boot
         → allows (slot_edges_of t slot) from kind to ≡ true ↔ GivesBySlot t boot slot from kind to }
+{}
+
+/// A law about tables, with nothing to run: the authority that a table's boot state has joins labels of
+/// the table.
+#[tactic(auto, using(crate::proofs::BootLabels::authority_within))]
+pub fn boot_authority_joins_labels_of_its_table()
+    ensures { (t : Layout) (boot : Machine) (from : ℕ) (kind : KindOf) (to : ℕ) → IsLawful t
+        → IsBoot t boot
+        → HasAuthority t boot from kind to
+        → (from < length t.labels) × (to < length t.labels) }
 {}

@@ -9,4 +9,4 @@ mod laws;
 pub use boot_authority::authority;
 pub use edges::{filled_edges, slot_edges};
 pub use label::{declared_label, label_of};
-pub use laws::slot_edges_are_authority;
+pub use laws::{boot_authority_joins_labels_of_its_table, slot_edges_are_authority};

@@ -3,6 +3,9 @@ pub mod Needs
 pub mod Places
 pub mod KindNumbers
 pub mod Cells
+pub mod ClosingRules
+pub mod ClosingGrowth
+pub mod ClosingSets
 pub mod RuleSets
 pub mod Rules
 pub mod Sweep

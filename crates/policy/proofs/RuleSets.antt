@@ -43,12 +43,12 @@ remains a b has missing = rw (has, missing) refl
 
 -- what comes about and isn't in a row
 module _ (test : EdgeTest) (from : ℕ) (kind : Kind) (comes row lacks : Labels) (in_row : IsRow test from kind row) (differ : IsDifference comes row lacks) where
-  out : (label : ℕ) → is_in lacks label ≡ true → (is_in comes label ≡ true) × (test from kind label ≡ false)
+  pub out : (label : ℕ) → is_in lacks label ≡ true → (is_in comes label ≡ true) × (test from kind label ≡ false)
   out label e =
       let parts = lacking (is_in comes label) (is_in row label) (sym (differ label) ∙ e) in
       (parts.0, sym (in_row label) ∙ parts.1)
 
-  back : (label : ℕ) → is_in comes label ≡ true → test from kind label ≡ false → is_in lacks label ≡ true
+  pub back : (label : ℕ) → is_in comes label ≡ true → test from kind label ≡ false → is_in lacks label ≡ true
   back label has missing = differ label ∙ remains (is_in comes label) (is_in row label) has (in_row label ∙ missing)
 
 -- P4

@@ -5,6 +5,8 @@ pub mod Domain
 pub mod Closed
 pub mod Needed
 pub mod Broken
+pub mod Closing
+pub mod Settling
 pub mod Full
 pub mod Cut
 pub mod Search

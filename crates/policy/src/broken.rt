@@ -1,6 +1,6 @@
 mod cells;
-mod rules;
-mod steps;
+pub(crate) mod rules;
+pub(crate) mod steps;
 
 ghost use Rattle.std.specs.Prelude.{◌≡◌, ◌<◌, ◌∷◌, [], IfErr, IfOk, IsOk, IsTrue};
 ghost use Rattle.base.specs.Refusals.{out_of_memory};

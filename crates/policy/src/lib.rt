@@ -2,6 +2,7 @@
 #![tactic(auto)]
 
 mod broken;
+mod closing;
 mod cut;
 mod full;
 mod laws;
@@ -9,5 +10,6 @@ mod policy;
 mod steps;
 
 pub use broken::{Broken, first_broken};
+pub use closing::close;
 pub use laws::{closed_policies_are_unbroken, closed_policies_obey_seven_rules};
 pub use policy::Policy;

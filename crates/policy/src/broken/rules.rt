@@ -63,8 +63,8 @@ pub(crate) fn control_lacks(policy: &Policy, subject: Label) -> Option<Broken>
     })
 }
 
-// Whether control gives the edge of this kind.
-fn is_given_by_control(kind: Kind) -> bool
+/// Whether control gives the edge of this kind.
+pub(crate) fn is_given_by_control(kind: Kind) -> bool
     ensures { IsTrue result ↔ IsGivenByControl kind }
 {
     match kind {
@@ -108,8 +108,8 @@ pub(crate) fn domain_lacks(policy: &Policy, parent: Label) -> Option<Broken>
     Some(Broken::DomainLacks { parent, child })
 }
 
-// The labels at which P4 is broken with this parent.
-fn not_derived_in_domain(policy: &Policy, parent: Label) -> Labels
+/// The labels at which P4 is broken with this parent.
+pub(crate) fn not_derived_in_domain(policy: &Policy, parent: Label) -> Labels
     ensures { (child : ℕ) → (is_in result child ≡ true) ↔ DomainLacks (allows policy.now) parent child }
 {
     domain(policy, subjects(policy, parent)).difference(policy.row(parent, Kind::Derive))
@@ -123,8 +123,8 @@ pub(crate) fn derive_lacks(policy: &Policy, parent: Label) -> Option<Broken>
     Some(Broken::DeriveLacks { parent, child })
 }
 
-// The labels at which P5 is broken with this parent.
-fn not_derived(policy: &Policy, parent: Label) -> Labels
+/// The labels at which P5 is broken with this parent.
+pub(crate) fn not_derived(policy: &Policy, parent: Label) -> Labels
     ensures { (child : ℕ) → (is_in result child ≡ true) ↔ DeriveLacks (allows policy.now) parent child }
 {
     let endpoints = policy.targets(subjects(policy, parent), &[Kind::Grant]);
@@ -154,8 +154,8 @@ pub(crate) fn reply_lacks(policy: &Policy, reply: Label) -> Option<Broken>
     Some(Broken::ReplyLacks { reply, thread })
 }
 
-// The labels at which P7 is broken with this reply.
-fn not_held(policy: &Policy, reply: Label) -> Labels
+/// The labels at which P7 is broken with this reply.
+pub(crate) fn not_held(policy: &Policy, reply: Label) -> Labels
     ensures { (thread : ℕ) → (is_in result thread ≡ true) ↔ ReplyLacks (allows policy.now) reply thread }
 {
     let servers = policy.sources(Labels::only(reply), &[Kind::Reply]);

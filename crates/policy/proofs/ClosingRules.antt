@@ -1,0 +1,100 @@
+-- What the rules ask for: every closed policy has it, and a policy that has all of it is closed.
+use Rattle.std.proofs.Common.{◌≡◌, ℕ, ◌<◌, Bool, true, false, inl, inr, refl, sym, ◌∙◌}
+use Rattle.base.specs.declared.kind.Kind.{Kind}
+use Rattle.base.specs.declared.kind.Kind.TheVariants.{Space, Control, Receive, Grant, Call, Reply, Context, Derive, Runs, Holds}
+use Rattle.policy.specs.Broken.{ComesToDerive, ComesToHold, granted, derived, server, caller}
+use Rattle.policy.specs.Closed.{IsClosed, MayBeGranted}
+use Rattle.policy.specs.Closing.{IsWithin}
+use Rattle.policy.specs.Settling.{Shares, of_its_domain, of_their_domain, by_grant, IsGiven, shared, controlled, IsAskedFor, gives, derives, comes, runs, holds}
+use Rattle.policy.specs.Domain.{EdgeTest, IsInDomain}
+
+-- what is asked for by the edges of one policy, a closed policy has that has these edges
+module _ (one other : EdgeTest) (within : IsWithin one other) (closed : IsClosed other) where
+  in_domain : (a x : ℕ) → IsInDomain one a x → IsInDomain other a x
+  in_domain a x (inl space) = inl (within a Space x space)
+  in_domain a x (inr control) = inr (within a Control x control)
+
+  may : (a b : ℕ) → MayBeGranted one a b → MayBeGranted other a b
+  may a b h = record {
+    endpoint = h.endpoint;
+    grants = within a Grant h.endpoint h.grants;
+    receives = within b Receive h.endpoint h.receives;
+  }
+
+  has_given : (from : ℕ) (kind : Kind) (to : ℕ) → IsGiven one from kind to → other from kind to ≡ true
+  has_given from kind to (shared giver (of_its_domain domain) of_use has) =
+      sym (closed.subjects_agree giver from (in_domain giver from domain) kind of_use to) ∙ within giver kind to has
+  has_given from kind to (shared giver (of_their_domain domain) of_use has) =
+      closed.subjects_agree from giver (in_domain from giver domain) kind of_use to ∙ within giver kind to has
+  has_given from kind to (shared giver (by_grant h) of_use has) =
+      closed.grant_shares giver from (may giver from h) kind of_use to (within giver kind to has)
+  has_given from kind to (controlled (inl space) e) = rw space (closed.control_gives_all.space from to (within from Control to e))
+  has_given from kind to (controlled (inr of_use) e) = closed.control_gives_all.kinds from to (within from Control to e) kind of_use.0 of_use.1
+
+  has_derived : (from to : ℕ) → ComesToDerive one from to → other from Derive to ≡ true
+  has_derived from to (granted giver taker h of_parent of_child) =
+      closed.derive_by_grant.granted giver taker from to (may giver taker h) (in_domain giver from of_parent) (in_domain taker to of_child)
+  has_derived from to (derived middle first second) =
+      closed.derive_by_grant.derived from middle to (within from Derive middle first) (within middle Derive to second)
+
+  has_held : (reply thread : ℕ) → ComesToHold one reply thread → other reply Holds thread ≡ true
+  has_held reply thread (server e) = closed.reply_holds.server thread reply (within thread Reply reply e)
+  has_held reply thread (caller b endpoint e calls receives) =
+      closed.reply_holds.caller b reply thread endpoint (within b Reply reply e) (within thread Call endpoint calls) (within b Receive endpoint receives)
+
+  pub has_asked : (from : ℕ) (kind : Kind) (to : ℕ) → IsAskedFor one from kind to → other from kind to ≡ true
+  has_asked from kind to (gives h) = has_given from kind to h
+  has_asked from kind to (derives is subject parent child) =
+      rw is (closed.derive_in_domain subject from to (in_domain subject from parent) (in_domain subject to child))
+  has_asked from kind to (comes is h) = rw is (has_derived from to h)
+  has_asked from kind to (runs is e) = rw is (closed.context_runs from to (within from Context to e))
+  has_asked from kind to (holds is h) = rw is (has_held from to h)
+
+alike : (a b : Bool) → (a ≡ true → b ≡ true) → (b ≡ true → a ≡ true) → a ≡ b
+alike true b forth back = sym (forth refl)
+alike false true forth back = back refl
+alike false false forth back = refl
+
+-- a policy that has all that it asks for is closed
+pub closed_if_settled : (test : EdgeTest) → ((from : ℕ) (kind : Kind) (to : ℕ) → IsAskedFor test from kind to → test from kind to ≡ true) → IsClosed test
+closed_if_settled test settled = record {
+  subjects_agree = λ a b domain kind of_use to.
+      alike (test a kind to) (test b kind to) (λ has. settled b kind to (gives (shared a (of_its_domain domain) of_use has)))
+      (λ has. settled a kind to (gives (shared b (of_their_domain domain) of_use has)));
+  control_gives_all = record {
+    space = λ a b e. settled a Space b (gives (controlled (inl refl) e));
+    kinds = λ a b e kind of_use other. settled a kind b (gives (controlled (inr (of_use, other)) e));
+  };
+  grant_shares = λ a b h kind of_use to has. settled b kind to (gives (shared a (by_grant h) of_use has));
+  derive_in_domain = λ a x y parent child. settled x Derive y (derives refl a parent child);
+  derive_by_grant = record {
+    granted = λ a b x y h parent child. settled x Derive y (comes refl (granted a b h parent child));
+    derived = λ x y z first second. settled x Derive z (comes refl (derived y first second));
+  };
+  context_runs = λ a s e. settled a Runs s (runs refl e);
+  reply_holds = record {
+    server = λ b r e. settled r Holds b (holds refl (server e));
+    caller = λ b r c endpoint e calls receives. settled r Holds c (holds refl (caller b endpoint e calls receives));
+  };
+}
+
+-- both ends of what is asked for are ends of edges
+module _ (test : EdgeTest) (joins : (from : ℕ) (kind : Kind) (to : ℕ) → test from kind to ≡ true → (from < 64) × (to < 64)) where
+  domain_joins : (a x : ℕ) → IsInDomain test a x → (a < 64) × (x < 64)
+  domain_joins a x (inl e) = joins a Space x e
+  domain_joins a x (inr e) = joins a Control x e
+
+  shared_joins : (giver taker : ℕ) → Shares test giver taker → taker < 64
+  shared_joins giver taker (of_its_domain domain) = (domain_joins giver taker domain).1
+  shared_joins giver taker (of_their_domain domain) = (domain_joins taker giver domain).0
+  shared_joins giver taker (by_grant h) = (joins taker Receive h.endpoint h.receives).0
+
+  pub asked_starts : (from : ℕ) (kind : Kind) (to : ℕ) → IsAskedFor test from kind to → from < 64
+  asked_starts from kind to (gives (shared giver h of_use has)) = shared_joins giver from h
+  asked_starts from kind to (gives (controlled given e)) = (joins from Control to e).0
+  asked_starts from kind to (derives is subject parent child) = (domain_joins subject from parent).1
+  asked_starts from kind to (comes is (granted giver taker h parent child)) = (domain_joins giver from parent).1
+  asked_starts from kind to (comes is (derived middle first second)) = (joins from Derive middle first).0
+  asked_starts from kind to (runs is e) = (joins from Context to e).0
+  asked_starts from kind to (holds is (server e)) = (joins to Reply from e).1
+  asked_starts from kind to (holds is (caller b endpoint e calls receives)) = (joins b Reply from e).1

@@ -1,0 +1,13 @@
+use Rattle.std.proofs.Common.{◌++◌, ◌∙◌}
+use Rattle.policy.proofs.ClosingGrowth.{both_added, least_of_same}
+use Rattle.policy.proofs.closing.close.Goals as goal
+
+pub returns-clause-least : goal.returns-clause-least
+returns-clause-least c =
+    let old = c.args.policy.now in
+    let edges = c.args.edges.now in
+    let second = c.add_all-2.new.policy in
+    least_of_same (old ++ edges) second c.settle.new.policy
+    (both_added old edges c.deref.result.now c.new-closed.result c.add_all.new.policy second (c.deref.ensures.value ∙ c.in_ok-edges.ensures.all) c.new-closed.ensures
+    c.in_ok-add_all.ensures.added c.in_ok-add_all-2.ensures.added)
+    c.in_ok-settle.ensures.least

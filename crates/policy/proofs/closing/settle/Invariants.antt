@@ -1,0 +1,16 @@
+use Rattle.policy.specs.Closed.{IsClosed}
+use Rattle.policy.specs.Closing.{IsWithin}
+use Rattle.policy.specs.Domain.{EdgeTest}
+use Rattle.policy.specs.Policy.{allows}
+use Rattle.policy.proofs.ClosingGrowth.{absent_count}
+use Rattle.policy.proofs.closing.settle.Given as goal
+
+-- what was there is there, and every closed policy that has it has what is there now
+abbrev pub invariant-loop-policy : goal.invariant-loop-policy
+invariant-loop-policy l = record {
+  has : IsWithin (allows l.initial.policy) (allows l.policy);
+  least : (other : EdgeTest) → IsClosed other → IsWithin (allows l.initial.policy) other → IsWithin (allows l.policy) other;
+}
+
+abbrev pub decreases-loop-policy : goal.decreases-loop-policy
+decreases-loop-policy l = absent_count l.policy

@@ -1,0 +1,40 @@
+use Rattle.std.proofs.Common.{sym, ◌∙◌, subst, arith}
+use mathlib.Core.Bool.{false≢true}
+use Rattle.std.proofs.lemmas.Option.{slice_get-get_or}
+use Rattle.policy.specs.Settling.{Grows, IsSettled}
+use Rattle.policy.specs.Policy.{allows}
+use Rattle.policy.proofs.ClosingGrowth.{grows_more, grows_no_more}
+use Rattle.policy.proofs.ClosingSets.{one_more_kind}
+use Rattle.policy.proofs.KindNumbers.{all_kinds, kind_number_below}
+use Rattle.policy.proofs.closing.settle_label.Goals as goal
+use Rattle.policy.proofs.closing.settle_label.Goals.{then-branch, else-branch}
+
+pub loop-kind-preserved : goal.loop-kind-preserved
+loop-kind-preserved c =
+    let from = c.args.from in
+    let middle = c.loop-kind.policy in
+    let new = c.settle_row.new.policy in
+    let step = c.in_ok-settle_row.ensures in
+    let so_far = c.loop-kind.invariant in
+    elim c.if-branch.branch [
+      | then-branch w ↦ record {
+        grows = rw w.changed-is
+            (grows_more c.args.policy.now middle new c.loop-kind.changed so_far.grows (subst (Grows middle new) w.if-branch.true step.grows));
+        settled = λ is. absurd (false≢true (sym is ∙ w.changed-is));
+      }
+      | else-branch w ↦ record {
+        grows = rw w.changed-is
+            (grows_no_more c.args.policy.now middle new c.loop-kind.changed so_far.grows (subst (Grows middle new) w.if-branch.false step.grows));
+        settled = λ is.
+            one_more_kind (IsSettled (allows new) from) c.loop-kind.kind-index _
+            (slice_get-get_or all_kinds c.loop-kind.kind-index _ (omega arith))
+            (λ kind below. subst (λ edges. IsSettled (allows edges) from kind) (sym (step.grows.same w.if-branch.false))
+            (so_far.settled (sym w.changed-is ∙ is) kind below))
+            (step.settled w.if-branch.false);
+      }
+    ]
+
+pub returns-clause-settled : goal.returns-clause-settled
+returns-clause-settled c is kind =
+    let below = kind_number_below kind in
+    c.loop-kind.invariant.settled is kind (omega (arith, below))

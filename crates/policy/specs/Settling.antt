@@ -1,0 +1,65 @@
+-- How a policy is closed: the edges that the rules of closed policies ask for, and the steps in which those that are missing are
+-- added (confine's own).
+use Rattle.std.specs.Prelude.{◌≡◌, ℕ, ◌<◌, ◌⊎◌, Bool, true, false, List}
+use Rattle.base.specs.declared.edge.Edge.{Edge}
+use Rattle.base.specs.declared.kind.Kind.{Kind}
+use Rattle.base.specs.declared.kind.Kind.TheVariants.{Control, Context, Derive, Runs, Holds}
+use Rattle.base.specs.declared.label.TheConstants.Label as Label
+use Rattle.base.specs.declared.labels.Labels.{Labels}
+use Rattle.base.specs.Kinds.{is_structural}
+use Rattle.base.specs.Labels.{is_in}
+use Rattle.policy.specs.Broken.{IsGivenByControl, ComesToDerive, ComesToHold}
+use Rattle.policy.specs.Closed.{IsClosed, MayBeGranted}
+use Rattle.policy.specs.Closing.{IsWithin}
+use Rattle.policy.specs.Domain.{EdgeTest, IsInDomain}
+use Rattle.policy.specs.Policy.{allows}
+
+-- what the giver may do the taker may do too: they are of one domain, or the taker may be granted the giver's capabilities
+pub data Shares (test : EdgeTest) (giver taker : ℕ) : Type 0 where
+  of_its_domain : IsInDomain test giver taker → Shares test giver taker
+  of_their_domain : IsInDomain test taker giver → Shares test giver taker
+  by_grant : MayBeGranted test giver taker → Shares test giver taker
+
+-- an edge that its label shares with another, or has by control
+pub data IsGiven (test : EdgeTest) (from : ℕ) (kind : Kind) (to : ℕ) : Type 0 where
+  shared : (giver : ℕ) → Shares test giver from → is_structural kind ≡ false → test giver kind to ≡ true → IsGiven test from kind to
+  controlled : IsGivenByControl kind → test from Control to ≡ true → IsGiven test from kind to
+
+-- an edge that closed policies have if they have the edges of this one
+pub data IsAskedFor (test : EdgeTest) (from : ℕ) (kind : Kind) (to : ℕ) : Type 0 where
+  gives : IsGiven test from kind to → IsAskedFor test from kind to
+  derives : kind ≡ Derive → (subject : ℕ) → IsInDomain test subject from → IsInDomain test subject to → IsAskedFor test from kind to
+  comes : kind ≡ Derive → ComesToDerive test from to → IsAskedFor test from kind to
+  runs : kind ≡ Runs → test from Context to ≡ true → IsAskedFor test from kind to
+  holds : kind ≡ Holds → ComesToHold test from to → IsAskedFor test from kind to
+
+-- an edge that is asked for and isn't there
+pub record IsMissing (test : EdgeTest) (from : ℕ) (kind : Kind) (to : ℕ) : Type 0 where
+  pub asked : IsAskedFor test from kind to
+  pub missing : test from kind to ≡ false
+
+-- no edge of this kind is missing at this label
+abbrev pub IsSettled : EdgeTest → ℕ → Kind → Type 0
+IsSettled test from kind = (to : ℕ) → IsAskedFor test from kind to → test from kind to ≡ true
+
+-- the edges of a kind from a label to each of a set are added, and no other
+pub record Joins (old new : List Edge) (from : ℕ) (kind : Kind) (labels : Labels) : Type 0 where
+  pub kept : IsWithin (allows old) (allows new)
+  pub joined : (to : ℕ) → to < Label.COUNT → is_in labels to ≡ true → allows new from kind to ≡ true
+  pub only : (start : ℕ) (way : Kind) (end : ℕ) → allows new start way end ≡ true
+      → (allows old start way end ≡ true) ⊎ ((start ≡ from) × (way ≡ kind) × (is_in labels end ≡ true))
+
+-- an edge that is in one policy, and not in another
+pub record IsNew (old new : List Edge) : Type 0 where
+  pub from : ℕ
+  pub kind : Kind
+  pub to : ℕ
+  pub absent : allows old from kind to ≡ false
+  pub present : allows new from kind to ≡ true
+
+-- edges are added that every closed policy has if it has the old ones; whether there are any
+pub record Grows (old new : List Edge) (changed : Bool) : Type 0 where
+  pub kept : IsWithin (allows old) (allows new)
+  pub forced : (other : EdgeTest) → IsClosed other → IsWithin (allows old) other → IsWithin (allows new) other
+  pub added : changed ≡ true → IsNew old new
+  pub same : changed ≡ false → new ≡ old

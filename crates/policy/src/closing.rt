@@ -1,0 +1,168 @@
+ghost use Rattle.std.specs.Prelude.{◌≡◌, ◌↔◌, ◌++◌, ◌||◌, ℕ, true, false, IfErr, IfOk, OnOk};
+ghost use Rattle.base.specs.declared.kind.Kind.{Kind};
+ghost use Rattle.base.specs.declared.kind.Kind.TheVariants.{Control};
+ghost use Rattle.base.specs.Labels.{is_in};
+ghost use Rattle.base.specs.Refusals.{out_of_memory};
+ghost use Rattle.policy.specs.Broken.{IsGivenByControl};
+ghost use Rattle.policy.specs.Closed.{IsClosed};
+ghost use Rattle.policy.specs.Closing.{IsLeastClosed};
+ghost use Rattle.policy.specs.Settling.{Grows, IsGiven, IsMissing, IsSettled, Joins, Shares};
+ghost use Rattle.policy.specs.Policy.{allows};
+
+use crate::Policy;
+use crate::broken::rules::{is_given_by_control, not_derived, not_derived_in_domain, not_held};
+use crate::broken::steps::{domain, subjects};
+use base::{Edge, Kind, Label, Labels, Refusal};
+use std::alloc::Global;
+
+/// The least closed policy that has the edges of a policy, and these: every closed policy that has them
+/// has all of its edges.
+///
+/// # Errors
+///
+/// 40 where memory is refused.
+pub fn close(alloc: Global, policy: &Policy, edges: &[Edge]) -> Result<Policy, Refusal>
+    ensures least { IfOk result (λ closed. IsLeastClosed (policy.now ++ edges.now) closed) }
+    ensures memory { IfErr result (λ refusal. refusal ≡ out_of_memory) }
+{
+    let mut closed = Policy::new(alloc);
+    add_all(&mut closed, &policy.edges(alloc)?)?;
+    add_all(&mut closed, edges)?;
+    settle(&mut closed)?;
+    Ok(closed)
+}
+
+// Adds edges.
+fn add_all(policy: &mut Policy, edges: &[Edge]) -> Result<(), Refusal>
+    ensures added { OnOk result ((from : ℕ) (kind : Kind) (to : ℕ) →
+        allows policy.new from kind to ≡ (allows edges.now from kind to || allows policy.old from kind to)) }
+    ensures memory { IfErr result (λ refusal. refusal ≡ out_of_memory) }
+{
+    for edge in edges {
+        policy.add(*edge)?;
+    }
+    Ok(())
+}
+
+// Adds the edges that closed policies have, until none is missing.
+fn settle(policy: &mut Policy) -> Result<(), Refusal>
+    ensures least { OnOk result (IsLeastClosed policy.old policy.new) }
+    ensures memory { IfErr result (λ refusal. refusal ≡ out_of_memory) }
+{
+    while settle_labels(policy)? {
+        policy.edges_rise();
+    }
+    Ok(())
+}
+
+// Adds what is missing at each label. Whether anything was.
+fn settle_labels(policy: &mut Policy) -> Result<bool, Refusal>
+    ensures grows { IfOk result (λ changed. Grows policy.old policy.new changed) }
+    ensures settled { IfOk result (λ changed. changed ≡ false → IsClosed (allows policy.new)) }
+    ensures memory { IfErr result (λ refusal. refusal ≡ out_of_memory) }
+{
+    policy.edges_rise();
+    let mut changed = false;
+    for number in 0..Label::COUNT {
+        if let Some(from) = Label::new(number) {
+            if settle_label(policy, from)? {
+                changed = true;
+            }
+        }
+    }
+    Ok(changed)
+}
+
+// Adds what is missing at a label. Whether anything was.
+fn settle_label(policy: &mut Policy, from: Label) -> Result<bool, Refusal>
+    ensures grows { IfOk result (λ changed. Grows policy.old policy.new changed) }
+    ensures settled { IfOk result (λ changed. changed ≡ false → (kind : Kind) → IsSettled (allows policy.new) from kind) }
+    ensures memory { IfErr result (λ refusal. refusal ≡ out_of_memory) }
+{
+    let mut changed = false;
+    for kind in Kind::ALL {
+        if settle_row(policy, from, kind)? {
+            changed = true;
+        }
+    }
+    Ok(changed)
+}
+
+// Adds the edges of this kind that are missing at a label. Whether any was.
+fn settle_row(policy: &mut Policy, from: Label, kind: Kind) -> Result<bool, Refusal>
+    ensures grows { IfOk result (λ changed. Grows policy.old policy.new changed) }
+    ensures settled { IfOk result (λ changed. changed ≡ false → IsSettled (allows policy.new) from kind) }
+    ensures memory { IfErr result (λ refusal. refusal ≡ out_of_memory) }
+{
+    let lacks = missing(policy, from, kind);
+    match lacks.first() {
+        None => Ok(false),
+        Some(first) => {
+            // A label's number is below `Label::COUNT`.
+            first.number();
+            join(policy, from, kind, lacks)?;
+            Ok(true)
+        }
+    }
+}
+
+// Adds the edges of this kind from a label to those of a set.
+fn join(policy: &mut Policy, from: Label, kind: Kind, labels: Labels) -> Result<(), Refusal>
+    ensures joins { OnOk result (Joins policy.old policy.new from kind labels) }
+    ensures memory { IfErr result (λ refusal. refusal ≡ out_of_memory) }
+{
+    for number in 0..Label::COUNT {
+        if let Some(to) = Label::new(number) {
+            if labels.has(to) {
+                policy.add(Edge { from, kind, to })?;
+            }
+        }
+    }
+    Ok(())
+}
+
+// The labels to which an edge of this kind is missing.
+fn missing(policy: &Policy, from: Label, kind: Kind) -> Labels
+    ensures { (to : ℕ) → (is_in result to ≡ true) ↔ IsMissing (allows policy.now) from kind to }
+{
+    match kind {
+        Kind::Derive => not_derived_in_domain(policy, from).union(not_derived(policy, from)),
+        Kind::Runs => policy
+            .row(from, Kind::Context)
+            .difference(policy.row(from, Kind::Runs)),
+        Kind::Holds => not_held(policy, from),
+        _ => given(policy, from, kind).difference(policy.row(from, kind)),
+    }
+}
+
+// The labels to which the label is given the edge of this kind, by control or by who shares with it.
+fn given(policy: &Policy, from: Label, kind: Kind) -> Labels
+    ensures { (to : ℕ) → (is_in result to ≡ true) ↔ IsGiven (allows policy.now) from kind to }
+{
+    let controlled = controlled(policy, from, kind);
+    if kind.is_structural() {
+        return controlled;
+    }
+    controlled.union(policy.targets(givers(policy, from), &[kind]))
+}
+
+// The labels to which control gives the label the edge of this kind.
+fn controlled(policy: &Policy, from: Label, kind: Kind) -> Labels
+    ensures { (to : ℕ) → (is_in result to ≡ true)
+        ↔ (IsGivenByControl kind × (allows policy.now from Control to ≡ true)) }
+{
+    if is_given_by_control(kind) {
+        policy.row(from, Kind::Control)
+    } else {
+        Labels::none()
+    }
+}
+
+// The labels that share with this one what they may do.
+fn givers(policy: &Policy, taker: Label) -> Labels
+    ensures { (giver : ℕ) → (is_in result giver ≡ true) ↔ Shares (allows policy.now) giver taker }
+{
+    let around = domain(policy, Labels::only(taker));
+    let granting = policy.sources(policy.row(taker, Kind::Receive), &[Kind::Grant]);
+    subjects(policy, taker).union(around).union(granting)
+}
