@@ -4,10 +4,13 @@
 
 mod changes;
 mod engine;
+mod events;
 mod expected;
+mod facts;
 mod literal;
 mod repeats;
 mod session;
+mod state;
 mod tally;
 mod texts;
 mod wrong;

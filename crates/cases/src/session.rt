@@ -1,6 +1,7 @@
 //! The lines of a file of cases, one after another.
 use crate::changes::{Place, change_text, last_line, place_of, quoted};
-use crate::engine::{Answer, Command, Given, answer_to};
+use crate::engine::{Command, Given, answer_to};
+use crate::events::Events;
 use crate::expected::expected;
 use crate::literal::text_of;
 use crate::repeats::{line_for, repeat_of};
@@ -23,6 +24,8 @@ enum Block<'a> {
     Text(File),
     /// They are the events of a script with their outcomes.
     Events,
+    /// Each says something of the state that these events leave.
+    Leaves,
     /// Each is such an event, of a script of its own.
     EachEvent,
 }
@@ -37,9 +40,8 @@ pub struct Session<'a> {
     block: Block<'a>,
     /// The line that began the block.
     begun: Case<'a>,
-    /// A script that is being told, and its log.
-    script: String,
-    log: String,
+    /// The script that is being told.
+    events: Events,
 }
 
 impl<'a> Session<'a> {
@@ -51,8 +53,7 @@ impl<'a> Session<'a> {
             asked: Command::Run,
             block: Block::None,
             begun,
-            script: String::new(alloc),
-            log: String::new(alloc),
+            events: Events::new(alloc),
         }
     }
 
@@ -84,7 +85,11 @@ impl<'a> Session<'a> {
         self.block = Block::None;
         match block {
             Block::Events => self.try_events(rt, self.begun, tally),
-            _ => Ok(()),
+            Block::Leaves => Ok(()),
+            _ => {
+                self.events.clear();
+                Ok(())
+            }
         }
     }
 
@@ -113,8 +118,17 @@ impl<'a> Session<'a> {
             ("in", words) => return changes_in(words),
             ("each", "event") => return Ok(Block::EachEvent),
             ("events", "") => {
-                self.begin_events()?;
+                self.events.begin()?;
                 return Ok(Block::Events);
+            }
+            ("then", "") => {
+                self.events.go_on()?;
+                return Ok(Block::Events);
+            }
+            ("leaves", "") => {
+                let table = self.texts.text(File::Table).as_bytes();
+                self.events.tell_left(table)?;
+                return Ok(Block::Leaves);
             }
             (file, words) => return self.begin_text(File::named(file)?, words),
         }
@@ -199,10 +213,14 @@ impl<'a> Session<'a> {
             Block::None => Err(Wrong("nothing takes an indented line here")),
             Block::Changes(file, place) => self.try_change(rt, file, place, case, tally),
             Block::Text(file) => Ok(writeln!(self.texts.text_mut(file), "{}", case.line)?),
-            Block::Events => self.push_event(case.line),
+            Block::Events => self.events.push(case.line),
+            Block::Leaves => {
+                let table = self.texts.text(File::Table).as_bytes();
+                self.events.compare_left(table, case, tally)
+            }
             Block::EachEvent => {
-                self.begin_events()?;
-                self.push_event(case.line)?;
+                self.events.begin()?;
+                self.events.push(case.line)?;
                 self.try_events(rt, case, tally)
             }
         }
@@ -283,42 +301,14 @@ impl<'a> Session<'a> {
         Ok(())
     }
 
-    /// Begins a script and its log.
-    fn begin_events(&mut self) -> Result<(), Wrong> {
-        self.script.clear();
-        self.log.clear();
-        self.script.push_str("confine-script 1\n")?;
-        self.log.push_str("confine-log 1\n")?;
-        Ok(())
-    }
-
-    /// Adds a line of the log, `EVENT = OUTCOME`.
-    fn push_event(&mut self, line: &str) -> Result<(), Wrong> {
-        let (event, _) = line
-            .split_once(" = ")
-            .ok_or(Wrong("an event has an outcome"))?;
-        writeln!(self.script, "{event}")?;
-        writeln!(self.log, "{line}")?;
-        Ok(())
-    }
-
-    /// Tries the script that was told, which has to give its log.
+    /// Tries the script that was told.
     fn try_events<R: Threads + Sync>(
-        &mut self,
+        &self,
         rt: &R,
         case: Case<'_>,
         tally: &mut Tally,
     ) -> Result<(), Wrong> {
-        self.script.push_str("end\n")?;
-        self.log.push_str("end\n")?;
-        let expected = Answer {
-            status: 0,
-            text: Vec::from_slice(self.alloc, self.log.as_bytes())?,
-        };
-        let given = with(self.texts.given(), File::Script, self.script.as_bytes());
-        let came = answer_to(rt, self.alloc, Command::Run, given);
-        tally.compare(case, &expected, &came);
-        Ok(())
+        self.events.compare_run(rt, self.texts.given(), case, tally)
     }
 }
 

@@ -63,6 +63,15 @@ impl Tally {
         }
     }
 
+    /// Counts a case of a state, and tells it where another fact came than the expected.
+    pub fn compare_facts(&mut self, case: Case<'_>, expected: &str, came: &str) {
+        self.run = self.run.saturating_add(1);
+        if came != expected {
+            self.differing = self.differing.saturating_add(1);
+            let _ = self.tell_facts(case, expected, came);
+        }
+    }
+
     /// Counts a line that tells no case as one that differs.
     pub fn tell_wrong(&mut self, case: Case<'_>, wrong: Wrong) {
         self.run = self.run.saturating_add(1);
@@ -73,10 +82,20 @@ impl Tally {
     }
 
     fn tell(&mut self, case: Case<'_>, expected: &Answer, came: &Answer) -> Result<(), AllocError> {
-        let Case { file, number, line } = case;
-        writeln!(self.told, "{file}:{number}: {line}")?;
+        self.tell_case(case)?;
         self.tell_answer("expected", expected)?;
         self.tell_answer("came", came)
+    }
+
+    fn tell_facts(&mut self, case: Case<'_>, expected: &str, came: &str) -> Result<(), AllocError> {
+        self.tell_case(case)?;
+        writeln!(self.told, "  expected: {expected}")?;
+        writeln!(self.told, "  came: {came}")
+    }
+
+    fn tell_case(&mut self, case: Case<'_>) -> Result<(), AllocError> {
+        let Case { file, number, line } = case;
+        writeln!(self.told, "{file}:{number}: {line}")
     }
 
     fn tell_answer(&mut self, what: &str, answer: &Answer) -> Result<(), AllocError> {
