@@ -2,3 +2,5 @@ mod Names
 mod Loads
 mod LabelLists
 mod Answered
+mod ClosedLabels
+mod ClosedText

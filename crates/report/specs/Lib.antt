@@ -6,3 +6,4 @@ pub mod Files
 pub mod Commands
 pub mod Answers
 pub mod Opening
+pub mod Closings

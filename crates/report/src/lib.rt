@@ -3,6 +3,7 @@
 #![tactic(auto)]
 
 mod checking;
+mod closing;
 mod command;
 mod end;
 mod engine;
@@ -14,6 +15,7 @@ mod running;
 mod verifying;
 
 pub use checking::{OnAccept, check, check_on};
+pub use closing::{close, close_on, start_on};
 pub use deal::{Gate, Open};
 pub use devices::{ReadError, Sink, Source, Unopened, Watched, WriteError};
 pub use end::{End, File};

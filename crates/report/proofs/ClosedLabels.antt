@@ -1,0 +1,136 @@
+-- The least closed policy over labels of a table joins none but those.
+use Rattle.std.proofs.Common.{◌≡◌, ◌≢◌, ℕ, ◌<◌, Bool, true, false, ◌&&◌, ◌||◌, List, [], ◌∷◌, ◌++◌, length, refl, sym, ap, ◌∙◌, arith, inl, inr}
+use Rattle.std.specs.Prelude.{nat_lt, ◌==◌}
+use Rattle.std.specs.List.{AllByRecursion}
+use Rattle.std.proofs.lemmas.Bool.{and_parts, or_cases}
+use Rattle.std.proofs.lemmas.Bool.Decides.{nat_tests}
+use Rattle.base.specs.declared.edge.Edge.{Edge}
+use Rattle.base.specs.declared.kind.Kind.{Kind}
+use Rattle.base.specs.Kinds.{kind_number}
+use Rattle.captext.specs.PolicyText.{IsEdgeOf}
+use Rattle.labels.proofs.EdgeLists.{allows-append}
+use Rattle.machine.specs.Layout.{Layout}
+use Rattle.policy.specs.Closed.{IsClosed, MayBeGranted}
+use Rattle.policy.specs.Closing.{IsLeastClosed, IsWithin}
+use Rattle.policy.specs.Domain.{EdgeTest, IsInDomain}
+use Rattle.policy.specs.Policy.{allows, is_edge}
+use Rattle.policy.proofs.RowEdges.{of_parts, same_parts}
+
+-- the policy with every edge between labels below a number
+among : ℕ → EdgeTest
+among n from kind to = nat_lt from n && nat_lt to n
+
+both_below : (n from to : ℕ) → (nat_lt from n && nat_lt to n) ≡ true → (from < n) × (to < n)
+both_below n from to e = (grind (arith, nat_tests, e), grind (arith, nat_tests, e))
+
+below_both : (n from to : ℕ) → from < n → to < n → (nat_lt from n && nat_lt to n) ≡ true
+below_both n from to a b = grind (arith, nat_tests)
+
+one_below : (n from to other : ℕ) → from < n → to < n → (nat_lt from n && nat_lt other n) ≡ (nat_lt to n && nat_lt other n)
+one_below n from to other a b = grind (arith, nat_tests)
+
+module _ (n : ℕ) where
+  joined : (from : ℕ) (kind : Kind) (to : ℕ) → among n from kind to ≡ true → (from < n) × (to < n)
+  unfolding among
+  joined from kind to e = both_below n from to e
+
+  joins : (from : ℕ) (kind : Kind) (to : ℕ) → from < n → to < n → among n from kind to ≡ true
+  unfolding among
+  joins from kind to a b = below_both n from to a b
+
+  in_domain : (a b : ℕ) → IsInDomain (among n) a b → (a < n) × (b < n)
+  in_domain a b (inl e) = joined a _ b e
+  in_domain a b (inr e) = joined a _ b e
+
+  agree : (a b : ℕ) → IsInDomain (among n) a b → (kind : Kind) (to : ℕ) → among n a kind to ≡ among n b kind to
+  unfolding among
+  agree a b of kind to = one_below n a b to (in_domain a b of).0 (in_domain a b of).1
+
+  -- it is closed
+  all_closed : IsClosed (among n)
+  all_closed =
+      record {
+        subjects_agree = λ a b of kind of_use to. agree a b of kind to;
+        control_gives_all = record {
+          space = λ a b e. joins a _ b (joined a _ b e).0 (joined a _ b e).1;
+          kinds = λ a b e kind of_use other. joins a kind b (joined a _ b e).0 (joined a _ b e).1;
+        };
+        grant_shares = λ a b granted kind of_use to e.
+            joins b kind to (joined b _ granted.endpoint granted.receives).0 (joined a kind to e).1;
+        derive_in_domain = λ a x y one two. joins x _ y (in_domain a x one).1 (in_domain a y two).1;
+        derive_by_grant = record {
+          granted = λ a b x y granted one two. joins x _ y (in_domain a x one).1 (in_domain b y two).1;
+          derived = λ x y z one two. joins x _ z (joined x _ y one).0 (joined y _ z two).1;
+        };
+        context_runs = λ a s e. joins a _ s (joined a _ s e).0 (joined a _ s e).1;
+        reply_holds = record {
+          server = λ b r e. joins r _ b (joined b _ r e).1 (joined b _ r e).0;
+          caller = λ b r c endpoint e call receive. joins r _ c (joined b _ r e).1 (joined c _ endpoint call).0;
+        };
+      }
+
+-- so a policy that is within each closed one with some edges joins labels that these join
+pub least_within :
+    (n : ℕ) (edges policy : List Edge) → IsLeastClosed edges policy
+    → ((from : ℕ) (kind : Kind) (to : ℕ) → allows edges from kind to ≡ true → (from < n) × (to < n))
+    → (from : ℕ) (kind : Kind) (to : ℕ) → allows policy from kind to ≡ true → (from < n) × (to < n)
+least_within n edges policy least below from kind to e =
+    joined n from kind to
+    (least.least (among n) (all_closed n)
+    (λ f k t has. joins n f k t (below f k t has).0 (below f k t has).1)
+    from kind to e)
+
+-- edges of two lists
+pub either_within :
+    (n : ℕ) (one other : List Edge)
+    → ((from : ℕ) (kind : Kind) (to : ℕ) → allows one from kind to ≡ true → (from < n) × (to < n))
+    → ((from : ℕ) (kind : Kind) (to : ℕ) → allows other from kind to ≡ true → (from < n) × (to < n))
+    → (from : ℕ) (kind : Kind) (to : ℕ) → allows (one ++ other) from kind to ≡ true → (from < n) × (to < n)
+either_within n one other first second from kind to e =
+    elim (or_cases _ _ (sym (allows-append one other from kind to) ∙ e)) [
+      | inl here ↦ first from kind to here
+      | inr there ↦ second from kind to there
+    ]
+
+-- edges of a table's labels, edge by edge and as a list
+
+pub listed_within :
+    (t : Layout) (edges : List Edge) → AllByRecursion (IsEdgeOf t) edges
+    → (from : ℕ) (kind : Kind) (to : ℕ) → allows edges from kind to ≡ true
+    → (from < length t.labels) × (to < length t.labels)
+unfolding allows
+listed_within t [] each from kind to e = cc
+listed_within t (edge ∷ edges) each from kind to e = elim (or_cases _ _ e) [
+  | inl here ↦
+      let same = same_parts edge from kind to here in
+      let a : edge.from < length t.labels = each.0.0 in
+      let b : edge.to < length t.labels = each.0.1 in
+      (omega (arith, same.0, a), omega (arith, same.2, b))
+  | inr there ↦ listed_within t edges each.1 from kind to there
+]
+
+pub within_listed :
+    (t : Layout) (edges : List Edge)
+    → ((from : ℕ) (kind : Kind) (to : ℕ) → allows edges from kind to ≡ true → (from < length t.labels) × (to < length t.labels))
+    → AllByRecursion (IsEdgeOf t) edges
+unfolding allows
+within_listed t [] within = tt
+within_listed t (edge ∷ edges) within = (
+  within edge.from edge.kind edge.to (first edge edges),
+  within_listed t edges (λ from kind to e. within from kind to (later edge edges from kind to e)),
+) where
+  or_left : (a b : Bool) → a ≡ true → (a || b) ≡ true
+  or_left true b e = refl
+  or_left false b e = cc
+
+  or_right : (a b : Bool) → b ≡ true → (a || b) ≡ true
+  or_right true b e = refl
+  or_right false b e = e
+
+  first : (edge : Edge) (edges : List Edge) → allows (edge ∷ edges) edge.from edge.kind edge.to ≡ true
+  first edge edges = or_left _ _ (of_parts edge edge.from edge.kind edge.to refl refl refl)
+
+  later :
+      (edge : Edge) (edges : List Edge) (from : ℕ) (kind : Kind) (to : ℕ) → allows edges from kind to ≡ true
+      → allows (edge ∷ edges) from kind to ≡ true
+  later edge edges from kind to e = or_right _ _ e
