@@ -284,6 +284,21 @@ def random_edges(seed, one_in):
     return [edge for edge in every_edge() if chosen.randrange(one_in) == 0]
 
 
+def table_of_labels():
+    """The table of the same labels without an object."""
+    return text("confine-table 1", [f"label {label}" for label in CHECK_LABELS])
+
+
+def chain():
+    """The edges by which each label derives for the next."""
+    return [(a, "derive", b) for a, b in zip(CHECK_LABELS, CHECK_LABELS[1:])]
+
+
+def chained():
+    """The least closed policy that has them: each label derives for all after it."""
+    return [(a, "derive", b) for i, a in enumerate(CHECK_LABELS) for b in CHECK_LABELS[i + 1 :]]
+
+
 def denial(rule, place):
     return report({"place": place, "rule": rule, "verdict": "deny"})
 

@@ -1,5 +1,5 @@
 //! The commands of the program, over texts in memory.
-use report::{OnAccept, Open, Watched, check, run, verify};
+use report::{OnAccept, Open, Watched, check, close, run, verify};
 use std::alloc::Global;
 use std::thread::Threads;
 
@@ -11,6 +11,7 @@ pub enum Command {
     /// A check that writes the certificate.
     Cert,
     Verify,
+    Close,
 }
 
 impl Command {
@@ -21,6 +22,7 @@ impl Command {
             "check" => Some(Command::Check),
             "cert" => Some(Command::Cert),
             "verify" => Some(Command::Verify),
+            "close" => Some(Command::Close),
             _ => None,
         }
     }
@@ -64,6 +66,7 @@ pub fn answer_to<R: Threads + Sync>(
             &mut certificate,
             &mut out,
         ),
+        Command::Close => close(alloc, &mut table, &mut policy, &mut out),
         Command::Check => {
             let wanted = OnAccept::Report;
             check(

@@ -7,7 +7,7 @@ use crate::texts::{File, Texts};
 use crate::wrong::Wrong;
 use std::alloc::{AllocError, Global};
 
-/// The answer that these words say: `log`, `report`, `certificate`, `each OUTCOME`, `accept`, ``writes
+/// The answer that these words say: `log`, `report`, `certificate`, `policy`, `each OUTCOME`, `accept`, ``writes
 /// `TEXT` ``, `deny RULE PLACE`, or a fault, which is in this file and line where they don't say another.
 pub fn expected(
     alloc: Global,
@@ -20,6 +20,7 @@ pub fn expected(
         "log" => return told(alloc, &texts.log),
         "report" => return told(alloc, &texts.report),
         "certificate" => return told(alloc, texts.text(File::Certificate)),
+        "policy" => return told(alloc, texts.text(File::Policy)),
         "accept" => return told(alloc, "{\"verdict\":\"accept\"}\n"),
         _ => (),
     }

@@ -1,11 +1,12 @@
 -- What is done with files that were opened by the names that a request gives (confine's own).
-use Rattle.std.specs.Prelude.{◌≡◌, ℕ, List, Option, Result}
+use Rattle.std.specs.Prelude.{◌≡◌, ℕ, List, Option, Some, None, Result}
 use Rattle.std.specs.declared.io.Error.{Error}
+use Rattle.report.specs.Closings.{IsClosedOverOn, IsStartedOn}
 use Rattle.report.specs.Ends.{status_of}
 use Rattle.report.specs.Opening.{IsCheckedOn, IsRunOn, IsVerifiedOn}
 use Rattle.report.specs.declared.end.End.{End}
 use Rattle.confine.specs.declared.request.Request.{Request}
-use Rattle.confine.specs.declared.request.Request.TheVariants.{Check, Verify, Run}
+use Rattle.confine.specs.declared.request.Request.TheVariants.{Check, Verify, Run, Close}
 
 -- a file was opened by this name, and this holds of what that gave
 pub record OnOpened {F : Type 0} (opens : List ℕ → Result F Error → Type 0) (name : List ℕ) (holds : Result F Error → Type 0) : Type 0 where
@@ -24,6 +25,11 @@ Serves {W} opens remaining contents (Verify table policy certificate) out end =
 Serves {W} opens remaining contents (Run table policy script) out end =
     OnOpened opens table.now (λ t. OnOpened opens policy.now (λ p. OnOpened opens script.now (λ s.
     (back : W) × IsRunOn remaining contents t p s out end back)))
+Serves {W} opens remaining contents (Close table (Some policy)) out end =
+    OnOpened opens table.now (λ t. OnOpened opens policy.now (λ p.
+    (back : W) × IsClosedOverOn remaining contents t p out end back))
+Serves {W} opens remaining contents (Close table None) out end =
+    OnOpened opens table.now (λ t. (back : W) × IsStartedOn remaining contents t out end back)
 
 -- this is the exit status of an end of which this holds
 abbrev pub IsStatusOf : (End → Type 0) → ℕ → Type 0

@@ -1,10 +1,11 @@
 -- What a command line may ask for (confine's own).
 use Rattle.std.specs.Prelude.{◌≤◌}
 use Rattle.confine.specs.declared.request.Request.{Request}
-use Rattle.confine.specs.declared.request.Request.TheVariants.{Check, Verify, Run}
+use Rattle.confine.specs.declared.request.Request.TheVariants.{Check, Verify, Run, Close}
 
 -- a check has 1 to 16 workers
 abbrev pub IsWithinLimits : Request → Type 0
 IsWithinLimits (Check table policy workers on_accept) = (1 ≤ workers) × (workers ≤ 16)
 IsWithinLimits (Verify table policy certificate) = Unit {0}
 IsWithinLimits (Run table policy script) = Unit {0}
+IsWithinLimits (Close table policy) = Unit {0}

@@ -14,6 +14,9 @@ pub const ABOUT_VERIFY: &str =
 pub const ABOUT_RUN: &str =
     "Checks a table against a policy, runs a script of kernel calls and prints its log";
 
+pub const ABOUT_CLOSE: &str =
+    "Writes the least policy to which a table keeps, with the edges of one that is named";
+
 // Clap indents what a file holds by twelve columns.
 pub const TABLE: &str = "\
 The objects, the capabilities and who holds them. Its lines, between `confine-table 1`
@@ -48,6 +51,10 @@ rise by label, kind and label:
 
 The kinds, rising: control, reset, send, receive, grant, call, notify, await, read,
 write, reply, context, schedcontrol, space, derive, runs, holds.";
+
+pub const POLICY_TO_CLOSE: &str = "\
+What each label is meant to do in any case, in lines as `confine check` reads them; none
+but what the table and the rules ask for, if it is left out.";
 
 pub const CERTIFICATE: &str = "\
 What the table gives, as `confine check --cert` writes it. Its lines, between
@@ -258,5 +265,43 @@ confine run short policy script
 It prints the number of the fault, and ends with status 2:
 
 {\"fault\":50,\"file\":\"table\",\"line\":3}
+"
+);
+
+pub const EXAMPLE_CLOSE: &str = with_table!(
+    "a thread `main` may signal a bell and poll it.
+Which policy does that take?",
+    "\
+confine close table | tee policy
+
+It prints the least policy to which the table keeps, and ends with status 0:
+
+confine-policy 1
+edge a reset b
+edge a notify b
+edge a await b
+edge a space a
+edge a derive a
+edge a runs a
+end
+
+Each edge is there for a capability, a root or a binding of the table, or since a rule asks for it
+where the others are. Every policy to which the table keeps has all of them. So what isn't meant has
+to go from the table: without the right to read, nobody awaits `b`.
+
+sed -i 's/ring rw/ring w/' table
+confine close table
+
+Now the least policy is a smaller one, with status 0:
+
+confine-policy 1
+edge a reset b
+edge a notify b
+edge a space a
+edge a derive a
+edge a runs a
+end
+
+Where a policy is named as well, its edges stay, and those come to them that are missing.
 "
 );

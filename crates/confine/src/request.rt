@@ -29,6 +29,11 @@ pub enum Request<'a> {
         policy: &'a str,
         script: &'a str,
     },
+    /// Closes a policy over a table; where none is named, one without an edge.
+    Close {
+        table: &'a str,
+        policy: Option<&'a str>,
+    },
 }
 
 // The numbers of workers, as they are written.
@@ -54,11 +59,11 @@ fn request_of<'a>(matches: &ArgMatches<'a>) -> Option<Request<'a>>
 {
     let (name, found) = matches.subcommand()?;
     let table = found.get_str("table")?;
-    let policy = found.get_str("policy")?;
+    let policy = found.get_str("policy");
     match name {
         "check" => Some(Request::Check {
             table,
-            policy,
+            policy: policy?,
             workers: workers_of(found)?,
             on_accept: if found.get_flag("cert") {
                 OnAccept::Certificate
@@ -68,14 +73,15 @@ fn request_of<'a>(matches: &ArgMatches<'a>) -> Option<Request<'a>>
         }),
         "verify" => Some(Request::Verify {
             table,
-            policy,
+            policy: policy?,
             certificate: found.get_str("certificate")?,
         }),
         "run" => Some(Request::Run {
             table,
-            policy,
+            policy: policy?,
             script: found.get_str("script")?,
         }),
+        "close" => Some(Request::Close { table, policy }),
         _ => None,
     }
 }
@@ -96,7 +102,8 @@ fn command<'a>(alloc: Global) -> Result<Command<'a>, AllocError> {
         .subcommand_required(true)
         .subcommand(check_command(alloc)?)?
         .subcommand(verify_command(alloc)?)?
-        .subcommand(run_command(alloc)?)
+        .subcommand(run_command(alloc)?)?
+        .subcommand(close_command(alloc)?)
 }
 
 fn check_command<'a>(alloc: Global) -> Result<Command<'a>, AllocError> {
@@ -125,6 +132,14 @@ fn verify_command<'a>(alloc: Global) -> Result<Command<'a>, AllocError> {
 fn run_command<'a>(alloc: Global) -> Result<Command<'a>, AllocError> {
     let script = file(alloc, "script", "SCRIPT", help::SCRIPT);
     on_system(alloc, "run", help::ABOUT_RUN, help::EXAMPLE_RUN)?.arg(script)
+}
+
+fn close_command<'a>(alloc: Global) -> Result<Command<'a>, AllocError> {
+    Command::new(alloc, "close")
+        .about(help::ABOUT_CLOSE)
+        .after_help(help::EXAMPLE_CLOSE)
+        .arg(file(alloc, "table", "TABLE", help::TABLE))?
+        .arg(file(alloc, "policy", "POLICY", help::POLICY_TO_CLOSE).required(false))
 }
 
 // A command whose first files are a table and a policy.

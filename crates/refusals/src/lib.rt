@@ -1,4 +1,4 @@
-//! The calls of a run, of a check and of a verification, whose memory is refused: tests alone, for
+//! The calls of a run, of a check, of a verification and of a closing, whose memory is refused: tests alone, for
 //! `tests/refuse-memory`, which has their allocations refused one by one.
 //!
 //! A test `CALL_after_COUNT` makes so many allocations of its own, then prepares what the call is given,
@@ -15,6 +15,8 @@ mod bell;
 mod certificates;
 #[cfg(test)]
 mod checks;
+#[cfg(test)]
+mod closings;
 #[cfg(test)]
 mod edges;
 #[cfg(test)]

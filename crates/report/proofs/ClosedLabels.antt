@@ -1,19 +1,18 @@
 -- The least closed policy over labels of a table joins none but those.
-use Rattle.std.proofs.Common.{◌≡◌, ◌≢◌, ℕ, ◌<◌, Bool, true, false, ◌&&◌, ◌||◌, List, [], ◌∷◌, ◌++◌, length, refl, sym, ap, ◌∙◌, arith, inl, inr}
-use Rattle.std.specs.Prelude.{nat_lt, ◌==◌}
+use Rattle.std.proofs.Common.{◌≡◌, ℕ, ◌<◌, Bool, true, false, ◌&&◌, ◌||◌, List, [], ◌∷◌, ◌++◌, length, refl, sym, ap, ◌∙◌, arith, inl, inr}
+use Rattle.std.specs.Prelude.{nat_lt}
 use Rattle.std.specs.List.{AllByRecursion}
-use Rattle.std.proofs.lemmas.Bool.{and_parts, or_cases}
+use Rattle.std.proofs.lemmas.Bool.{or_cases}
 use Rattle.std.proofs.lemmas.Bool.Decides.{nat_tests}
 use Rattle.base.specs.declared.edge.Edge.{Edge}
 use Rattle.base.specs.declared.kind.Kind.{Kind}
-use Rattle.base.specs.Kinds.{kind_number}
 use Rattle.captext.specs.PolicyText.{IsEdgeOf}
 use Rattle.labels.proofs.EdgeLists.{allows-append}
 use Rattle.machine.specs.Layout.{Layout}
-use Rattle.policy.specs.Closed.{IsClosed, MayBeGranted}
-use Rattle.policy.specs.Closing.{IsLeastClosed, IsWithin}
+use Rattle.policy.specs.Closed.{IsClosed}
+use Rattle.policy.specs.Closing.{IsLeastClosed}
 use Rattle.policy.specs.Domain.{EdgeTest, IsInDomain}
-use Rattle.policy.specs.Policy.{allows, is_edge}
+use Rattle.policy.specs.Policy.{allows}
 use Rattle.policy.proofs.RowEdges.{of_parts, same_parts}
 
 -- the policy with every edge between labels below a number
