@@ -1,13 +1,13 @@
 -- The text of a policy for the labels of a table: a header, a line `edge FROM KIND TO` for each edge, and `end` (confine's own;
 -- the edges are those of 'seL4 Enforces Integrity', section 3).
-use Rattle.std.specs.Prelude.{ℕ, ◌<◌, List, [], ◌∷◌, length, codes, slice_index_or}
+use Rattle.std.specs.Prelude.{ℕ, ◌<◌, List, [], ◌∷◌, length, map, codes, slice_index_or}
 use Rattle.std.specs.List.{AllByRecursion}
 use Rattle.base.specs.declared.edge.Edge.{Edge}
 use Rattle.base.specs.Kinds.{kind_name}
 use Rattle.machine.specs.Layout.{Layout}
 use Rattle.policy.specs.Policy.{IsRising}
 use Rattle.words.specs.Reading.{list_text}
-use Rattle.words.specs.Text.{words_of}
+use Rattle.words.specs.Text.{text_of, words_of}
 
 abbrev pub policy_header : List (List ℕ)
 policy_header = words_of (codes "confine-policy 1")
@@ -19,6 +19,10 @@ label_name t label = slice_index_or t.labels label []
 -- the line of an edge
 abbrev pub edge_words : Layout → Edge → List (List ℕ)
 edge_words t edge = codes "edge" ∷ label_name t edge.from ∷ kind_name edge.kind ∷ label_name t edge.to ∷ []
+
+-- the lines of edges
+abbrev pub edge_lines : Layout → List Edge → List ℕ
+edge_lines t edges = text_of (map (edge_words t) edges)
 
 -- the text of a policy
 abbrev pub policy_text : Layout → List Edge → List ℕ

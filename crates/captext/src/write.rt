@@ -2,7 +2,7 @@ ghost use Rattle.std.specs.Prelude.{◌≡◌, ◌++◌, ℕ, List, map, Ok, IfO
 ghost use Rattle.std.specs.List.{AllByRecursion};
 ghost use Rattle.base.specs.Refusals.{out_of_memory};
 ghost use Rattle.captext.specs.Policies.{read_policy_of};
-ghost use Rattle.captext.specs.PolicyText.{edge_words, label_name, policy_text, IsEdgeOf};
+ghost use Rattle.captext.specs.PolicyText.{edge_lines, edge_words, label_name, policy_text, IsEdgeOf};
 ghost use Rattle.captext.specs.Spelling.{place_word};
 ghost use Rattle.captext.specs.Tables.{read_table_of};
 ghost use Rattle.captext.specs.TableText.{binding_words, cap_words, label_lines, object_lines, object_name, object_words, pair_words};
@@ -60,6 +60,20 @@ pub fn write_policy(alloc: Global, policy: &Policy, table: &Table) -> Result<Vec
     policy.edges_rise();
     let edges = policy.edges(alloc)?;
     Ok(policy_string(alloc, &edges, table)?.into_bytes())
+}
+
+/// The lines of edges as a policy has them, with the names that their labels have in the table.
+///
+/// # Errors
+///
+/// 40 where memory is refused.
+pub fn write_edges(alloc: Global, edges: &[Edge], table: &Table) -> Result<Vec<u8>, Refusal>
+    ensures lines { IfOk result (λ text. text.items ≡ edge_lines table.now edges.now) }
+    ensures memory { IfErr result (λ refusal. refusal ≡ out_of_memory) }
+{
+    let mut text = String::new(alloc);
+    write_lines(&mut text, table, edges)?;
+    Ok(text.into_bytes())
 }
 
 fn table_string(alloc: Global, table: &Table) -> Result<String, AllocError>
