@@ -17,7 +17,7 @@ use Rattle.policy.proofs.Stepping.{chosen, found_kind, of_kind, only_kind, targe
 
 -- the labels that a label of a set is near to
 
-linking : (kind : Kind) → is_link kind ≡ true → list_any (is_kind kind) LINKS ≡ true
+pub linking : (kind : Kind) → is_link kind ≡ true → list_any (is_kind kind) LINKS ≡ true
 linking kind is = of_kind (is_link kind) _ is (each_kind (λ k. not (is_link k) || list_any (is_kind k) LINKS) refl kind)
 
 module _ (test : EdgeTest) (labels : Labels) (other : ℕ) (linked linking_it : Bool)
@@ -81,16 +81,16 @@ module _ (test : EdgeTest) (actor : ℕ) (controlled : Labels) (controlled_is : 
 
 -- the kinds by which a capability leads to its object
 
-abbrev is_holding : Kind → Bool
+abbrev pub is_holding : Kind → Bool
 is_holding kind = not (is_structural kind) || is_kind Space kind
 
-holding_from : (kind : Kind) → is_holding kind ≡ true → IsHolding kind
+pub holding_from : (kind : Kind) → is_holding kind ≡ true → IsHolding kind
 holding_from kind is = elim (or_cases (not (is_structural kind)) (is_kind Space kind) is) [
   | inl of_use ↦ inl (not-true (is_structural kind) of_use)
   | inr space ↦ inr (sym (same_kind Space kind (eqb-true _ _ space)))
 ]
 
-holding_to : (kind : Kind) → IsHolding kind → list_any (is_kind kind) HOLDING ≡ true
+pub holding_to : (kind : Kind) → IsHolding kind → list_any (is_kind kind) HOLDING ≡ true
 holding_to kind (inl of_use) =
     of_kind (not (is_structural kind)) _ (ap not of_use) (each_kind (λ k. not (not (is_structural k)) || list_any (is_kind k) HOLDING) refl kind)
 holding_to kind (inr space) = ap (λ k. list_any (is_kind k) HOLDING) space

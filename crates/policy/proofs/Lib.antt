@@ -16,3 +16,8 @@ pub mod Members
 pub mod Stepping
 pub mod FullSets
 pub mod CutSets
+pub mod WalkOrder
+pub mod Walking
+pub mod StepWalks
+pub mod FullWalks
+pub mod CutWalks

@@ -42,7 +42,7 @@ is_eq-Equal Less e = cc
 is_eq-Equal Equal e = refl
 is_eq-Equal Greater e = cc
 
-tied : (edge : Edge) → edge_cmp edge edge ≡ Equal
+pub tied : (edge : Edge) → edge_cmp edge edge ≡ Equal
 tied edge = is_eq-Equal (edge_cmp edge edge) (sym (is_edge-edge_cmp edge edge) ∙ itself edge)
 
 same_from_tie : (edge other : Edge) → edge_cmp other edge ≡ Equal → other ≡ edge

@@ -40,7 +40,7 @@ is_by_number a b = is_order (kind_partial_order.ghosts.partial_cmp a b) (nat_cmp
 kind_cmp : (a b : Kind) → kind_partial_order.ghosts.partial_cmp a b ≡ Some (nat_cmp (kind_number a) (kind_number b))
 kind_cmp a b = order_is _ _ (each_kind (is_by_number a) (each_kind (λ k. list_all (is_by_number k) all_kinds) refl a) b)
 
-partial_ordering_then-Some : (r s : Ordering) → partial_ordering_then (Some r) (Some s) ≡ Some (ordering_then r s)
+pub partial_ordering_then-Some : (r s : Ordering) → partial_ordering_then (Some r) (Some s) ≡ Some (ordering_then r s)
 partial_ordering_then-Some Less s = refl
 partial_ordering_then-Some Equal s = refl
 partial_ordering_then-Some Greater s = refl

@@ -27,19 +27,19 @@ use Rattle.policy.specs.Rows.{row_number, row_of, edge_count, edge_at, all_edges
 use Rattle.policy.proofs.KindNumbers.{all_kinds, number_stands}
 use Rattle.policy.proofs.Order.{edge_total}
 
-nat_less : (a b : ℕ) → a < b → nat_cmp a b ≡ Less
+pub nat_less : (a b : ℕ) → a < b → nat_cmp a b ≡ Less
 nat_less a b lt = ap (λ t. cond t Less (cond (a == b) Equal Greater)) (lt-ltb a b lt)
 
-nat_same : (a b : ℕ) → a ≡ b → nat_cmp a b ≡ Equal
+pub nat_same : (a b : ℕ) → a ≡ b → nat_cmp a b ≡ Equal
 nat_same a b same =
     ap (λ t. cond t Less (cond (a == b) Equal Greater)) (le-ltb a b (omega arith)) ∙ ap (λ t. cond t Equal Greater) (eq-eqb a b same)
 
 -- the kind that stands at a number has it
-numbered : (n : ℕ) → n < 17 → kind_number (get_or all_kinds n Control) ≡ n
+pub numbered : (n : ℕ) → n < 17 → kind_number (get_or all_kinds n Control) ≡ n
 numbered n below = number_stands n (get_or all_kinds n Control) (slice_get-get_or all_kinds n Control below)
 
 -- a number in three parts
-by_parts : (a b c x y z : ℕ) → (a < x) ⊎ ((a ≡ x) × ((b < y) ⊎ ((b ≡ y) × (c < z))))
+pub by_parts : (a b c x y z : ℕ) → (a < x) ⊎ ((a ≡ x) × ((b < y) ⊎ ((b ≡ y) × (c < z))))
     → ordering_then (nat_cmp a x) (ordering_then (nat_cmp b y) (nat_cmp c z)) ≡ Less
 by_parts a b c x y z (inl first) = ap (λ r. ordering_then r (ordering_then (nat_cmp b y) (nat_cmp c z))) (nat_less a x first)
 by_parts a b c x y z (inr (same, inl second)) =
@@ -66,7 +66,7 @@ parts_rise i j lt = elim (cases_order (i / 64 / 17) (j / 64 / 17)) [
 ]
 
 -- edges rise with their numbers
-edge_rises : (i j : ℕ) → i < j → edge_cmp (edge_at i) (edge_at j) ≡ Less
+pub edge_rises : (i j : ℕ) → i < j → edge_cmp (edge_at i) (edge_at j) ≡ Less
 unfolding edge_at
 edge_rises i j lt =
     let kinds : kind_number (get_or all_kinds (i / 64 % 17) Control) ≡ i / 64 % 17 = numbered (i / 64 % 17) (omega arith) in

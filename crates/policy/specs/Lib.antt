@@ -9,6 +9,8 @@ pub mod Closing
 pub mod Settling
 pub mod Full
 pub mod Cut
+pub mod Reasons
 pub mod Search
 pub mod Sweep
 pub mod Steps
+pub mod Walks

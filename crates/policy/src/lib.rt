@@ -8,8 +8,11 @@ mod full;
 mod laws;
 mod policy;
 mod steps;
+mod walks;
+mod why;
 
 pub use broken::{Broken, first_broken};
 pub use closing::close;
 pub use laws::{closed_policies_are_unbroken, closed_policies_obey_seven_rules};
 pub use policy::Policy;
+pub use why::Why;

@@ -18,7 +18,7 @@ const KINDS: usize = 17;
 
 const ROWS: usize = LABELS * KINDS;
 
-const EDGES: usize = ROWS * LABELS;
+pub(crate) const EDGES: usize = ROWS * LABELS;
 
 /// A set of edges of authority.
 ///
@@ -181,8 +181,8 @@ fn later(last: Option<Edge>, edge: Edge) -> Edge
     }
 }
 
-// The edge of this number, in the order of edges.
-fn edge_numbered(number: usize) -> Option<Edge>
+/// The edge of this number, in the order of edges.
+pub(crate) fn edge_numbered(number: usize) -> Option<Edge>
     ensures { SomeIff result (number < edge_count) (edge_at number) }
 {
     if number >= EDGES {

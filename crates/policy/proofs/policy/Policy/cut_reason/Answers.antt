@@ -1,0 +1,26 @@
+use Rattle.std.proofs.Common.{[], ◌∷◌, subst}
+use Rattle.std.proofs.lemmas.Result.{IfOk-weaker}
+use Rattle.policy.specs.Policy.{allows}
+use Rattle.policy.specs.Walks.{FindsWalk}
+use Rattle.policy.proofs.CutWalks.{cut_least}
+use Rattle.policy.proofs.Walking.{IsPartWalk}
+use Rattle.policy.proofs.policy.Policy.cut_reason.Goals as goal
+
+pub returns-clause-least : goal.returns-clause-least
+returns-clause-least c =
+    let test = allows c.args.self.now in
+    let a = c.args.actor in
+    let l = c.args.object in
+    let control = c.along-control.result in
+    let derive = c.along-derive.result in
+    let reach = c.along-reach.result in
+    let link = c.either_way-link.result in
+    IfOk-weaker c.part_walk.result _ _ (λ found finds.
+    cut_least test a l control derive reach link (record {
+      control_is = c.along-control.ensures;
+      derive_is = c.along-derive.ensures;
+      reach_is = c.along-reach.ensures;
+      link_is = c.either_way-link.ensures;
+    }) found
+    (subst (λ ss. FindsWalk (IsPartWalk test ss (control ∷ derive ∷ reach ∷ link ∷ link ∷ []) a l) found) c.new-chain.ensures.items finds))
+    c.part_walk.ensures.least

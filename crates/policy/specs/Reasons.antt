@@ -1,0 +1,76 @@
+-- Why a label has authority on another: the edges that a case of full authority or a path of cut authority names, in the order in
+-- which it names them, and the reason that is told of several (the authority is that of `Full` and `Cut`; telling why is confine's own).
+use Rattle.std.specs.Prelude.{◌≡◌, ℕ, List, [], ◌∷◌, ◌++◌, ◌⊎◌, length}
+use Rattle.std.proofs.Common.{inl, inr}
+use Rattle.base.specs.declared.edge.Edge.{Edge}
+use Rattle.base.specs.declared.kind.Kind.{Kind}
+use Rattle.base.specs.declared.kind.Kind.TheVariants.{Control, Send, Receive, Grant, Notify, Await, Reply, Derive, Holds}
+use Rattle.base.specs.Kinds.{kind_number}
+use Rattle.policy.specs.Cut.{IsBase, IsCut, IsNear, stays, along, against}
+use Rattle.policy.specs.Domain.{EdgeTest}
+use Rattle.policy.specs.Full.{IsFull, own, modifies, sends, receives, notifies, links, grants, replies}
+use Rattle.policy.specs.Places.{IsLeast}
+use Rattle.policy.specs.declared.why.Why.{Why}
+use Rattle.policy.specs.declared.why.Why.TheVariants as why
+
+abbrev pub edge : ℕ → Kind → ℕ → Edge
+edge from kind to = record { from = from; kind = kind; to = to }
+
+-- the edges that a case of full authority names
+abbrev pub full_edges : {test : EdgeTest} {a l : ℕ} → IsFull test a l → List Edge
+full_edges (own same) = []
+full_edges {test} {a} {l} (modifies kind is_modifying there) = edge a kind l ∷ []
+full_edges {test} {a} {l} (sends endpoint sent received) = edge a Send endpoint ∷ edge l Receive endpoint ∷ []
+full_edges {test} {a} {l} (receives endpoint received sent) = edge a Receive endpoint ∷ edge l Send endpoint ∷ []
+full_edges {test} {a} {l} (notifies notification notified awaited) = edge a Notify notification ∷ edge l Await notification ∷ []
+full_edges {test} {a} {l} (links endpoint receiver sent received replied) =
+    edge a Send endpoint ∷ edge receiver Receive endpoint ∷ edge receiver Reply l ∷ []
+full_edges {test} {a} {l} (grants endpoint receiver granted received controlled) =
+    edge a Grant endpoint ∷ edge receiver Receive endpoint ∷ edge receiver Control l ∷ []
+full_edges {test} {a} {l} (replies reply replied held) = edge a Reply reply ∷ edge reply Holds l ∷ []
+
+-- the edge of a step that is taken, and none where it isn't
+abbrev pub if_taken : {Stays Taken : Type 0} → Stays ⊎ Taken → (Taken → Edge) → List Edge
+if_taken (inl left) edge_of = []
+if_taken (inr taken) edge_of = edge_of taken ∷ []
+
+-- the edges from a label to where it may remove capabilities
+abbrev pub base_edges : {test : EdgeTest} {a base : ℕ} → IsBase test a base → List Edge
+base_edges {test} {a} {base} based =
+    if_taken based.control (λ there. edge a Control based.controlled)
+    ++ if_taken based.derive (λ there. edge based.controlled Derive base)
+
+-- the edge of a step along a link, either way
+abbrev pub near_edges : {test : EdgeTest} {x y : ℕ} → IsNear test x y → List Edge
+near_edges (stays same) = []
+near_edges {test} {x} {y} (along kind is_link there) = edge x kind y ∷ []
+near_edges {test} {x} {y} (against kind is_link there) = edge y kind x ∷ []
+
+-- the edges that a path of cut authority takes
+abbrev pub cut_edges : {test : EdgeTest} {a l : ℕ} → IsCut test a l → List Edge
+cut_edges path =
+    base_edges path.based ++ if_taken path.edge (λ held. edge path.base held.0 path.reached)
+    ++ near_edges path.one ++ near_edges path.two
+
+-- these are the edges of a case of full authority
+abbrev pub IsFullBy : EdgeTest → ℕ → ℕ → List Edge → Type 0
+IsFullBy test a l edges = (reason : IsFull test a l) × (full_edges reason ≡ edges)
+
+-- these are the edges of a path of cut authority
+abbrev pub IsCutBy : EdgeTest → ℕ → ℕ → List Edge → Type 0
+IsCutBy test a l edges = (path : IsCut test a l) × (cut_edges path ≡ edges)
+
+-- edges as numbers
+abbrev pub edge_numbers : List Edge → List ℕ
+edge_numbers [] = []
+edge_numbers (edge ∷ edges) = edge.from ∷ kind_number edge.kind ∷ edge.to ∷ edge_numbers edges
+
+-- the order of reasons: that with fewer edges first, and of as many that whose first other edge comes first
+abbrev pub reason_place : List Edge → List ℕ
+reason_place edges = length edges ∷ edge_numbers edges
+
+-- which authority a label has on another, and the first reason for it
+abbrev pub IsWhy : EdgeTest → ℕ → ℕ → Why → Type 0
+IsWhy test a l (why.Full edges) = IsLeast reason_place (IsFullBy test a l) edges.items
+IsWhy test a l (why.Cut edges) = (¬ IsFull test a l) × IsLeast reason_place (IsCutBy test a l) edges.items
+IsWhy test a l why.Nothing = (¬ IsFull test a l) × (¬ IsCut test a l)

@@ -1,0 +1,73 @@
+-- Walks along chains of steps: each step goes along an edge or against one (confine's own).
+use Rattle.std.specs.Prelude.{◌≡◌, ℕ, Bool, true, List, [], ◌∷◌, ◌⊎◌, ◌==◌, Option, Some, None, MatchOption, if◌then◌else◌, Vec}
+use Rattle.std.specs.declared.alloc.Global.{Global}
+use Rattle.std.specs.declared.cmp.Ordering.TheVariants.{Less}
+use Rattle.std.specs.List.{list_any}
+use Rattle.std.specs.Ordering.{is_lt, nat_cmp}
+use Rattle.std.specs.Cmp.Lexicographic.{slice_cmp}
+use Rattle.base.specs.declared.edge.Edge.{Edge}
+use Rattle.base.specs.declared.kind.Kind.{Kind}
+use Rattle.base.specs.declared.labels.Labels.{Labels}
+use Rattle.base.specs.Kinds.{kind_number}
+use Rattle.base.specs.Labels.{is_in}
+use Rattle.policy.specs.declared.walks.Step.{Step}
+use Rattle.policy.specs.Domain.{EdgeTest}
+use Rattle.policy.specs.Places.{IsLeast, IsNone}
+use Rattle.policy.specs.Policy.{edge_cmp}
+use Rattle.policy.specs.Reasons.{reason_place}
+
+abbrev pub is_of : List Kind → Kind → Bool
+is_of kinds kind = list_any (λ other. kind_number kind == kind_number other) kinds
+
+abbrev pub GoesAlong : List Kind → Step → Type 0
+GoesAlong kinds step = (step.along.now ≡ kinds) × (step.against.now ≡ [])
+
+abbrev pub GoesAgainst : List Kind → Step → Type 0
+GoesAgainst kinds step = (step.along.now ≡ []) × (step.against.now ≡ kinds)
+
+abbrev pub GoesEitherWay : List Kind → Step → Type 0
+GoesEitherWay kinds step = (step.along.now ≡ kinds) × (step.against.now ≡ kinds)
+
+-- the step goes from one label to the next by this edge
+pub data Passes (step : Step) (from : ℕ) (edge : Edge) (next : ℕ) : Type 0 where
+  along : is_of step.along.now edge.kind ≡ true → edge.from ≡ from → edge.to ≡ next → Passes step from edge next
+  against : is_of step.against.now edge.kind ≡ true → edge.to ≡ from → edge.from ≡ next → Passes step from edge next
+
+abbrev pub IsThere : EdgeTest → Edge → Type 0
+IsThere test edge = test edge.from edge.kind edge.to ≡ true
+
+-- edges that lead from one label to another, one for each step
+abbrev pub IsWalk : EdgeTest → List Step → ℕ → ℕ → List Edge → Type 0
+IsWalk test [] from to [] = from ≡ to
+IsWalk test [] from to (edge ∷ edges) = ⊥
+IsWalk test (step ∷ steps) from to [] = ⊥
+IsWalk test (step ∷ steps) from to (edge ∷ edges) =
+    (next : ℕ) × IsThere test edge × Passes step from edge next × IsWalk test steps next to edges
+
+-- some of the steps, in their order
+abbrev pub IsPartOf : List Step → List Step → Type 0
+IsPartOf part [] = part ≡ []
+IsPartOf part (step ∷ steps) = IsPartOf part steps ⊎ ((rest : List Step) × (part ≡ step ∷ rest) × IsPartOf rest steps)
+
+-- by this edge a step leads to a label of the set
+abbrev pub Leads : EdgeTest → Step → ℕ → Labels → Edge → Type 0
+Leads test step from goals edge = (next : ℕ) × (is_in goals next ≡ true) × IsThere test edge × Passes step from edge next
+
+-- the end of an edge that isn't this one, if they are two
+abbrev pub other_end : Edge → ℕ → ℕ
+other_end edge from = if edge.from == from then edge.to else edge.from
+
+-- the first edge that has a property, or nothing where none has it
+abbrev pub FindsFirst : (Edge → Type 0) → Option Edge → Type 0
+FindsFirst P found = MatchOption found (IsNone P) (λ edge. P edge × ((other : Edge) → P other → edge_cmp other edge ≡ Less → ⊥))
+
+-- the least walk that has a property, or nothing where none has it
+abbrev pub FindsWalk : (List Edge → Type 0) → Option (Vec Edge Global) → Type 0
+FindsWalk P found = MatchOption found (IsNone P) (λ edges. IsLeast reason_place P edges.items)
+
+-- the lesser of two walks, if there are any
+abbrev pub lesser_of : Option (Vec Edge Global) → Option (Vec Edge Global) → Option (Vec Edge Global)
+lesser_of None other = other
+lesser_of (Some one) None = Some one
+lesser_of (Some one) (Some other) =
+    if is_lt (slice_cmp nat_cmp (reason_place other.items) (reason_place one.items)) then Some other else Some one

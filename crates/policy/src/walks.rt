@@ -1,0 +1,205 @@
+ghost use Rattle.std.specs.Prelude.{◌≡◌, ◌↔◌, ◌==◌, ◌&&◌, ℕ, List, ◌++◌, true, IfErr, IfOk, IsTrue, OnOk};
+ghost use Rattle.std.specs.Ordering.{is_lt, nat_cmp};
+ghost use Rattle.std.specs.Cmp.Lexicographic.{slice_cmp};
+ghost use Rattle.base.specs.declared.edge.Edge.{Edge};
+ghost use Rattle.base.specs.Labels.{is_in};
+ghost use Rattle.base.specs.Refusals.{out_of_memory};
+ghost use Rattle.policy.specs.declared.walks.Step.{Step as StepOf};
+ghost use Rattle.policy.specs.Policy.{allows};
+ghost use Rattle.policy.specs.Reasons.{reason_place};
+ghost use Rattle.policy.specs.Walks.{FindsFirst, FindsWalk, GoesAgainst, GoesAlong, GoesEitherWay, IsPartOf, IsWalk, Leads, is_of, lesser_of, other_end};
+
+use crate::Policy;
+use crate::policy::{EDGES, edge_numbered};
+use base::{Edge, Kind, Label, Labels, Refusal};
+use std::alloc::Global;
+
+/// A step of a walk: along an edge of one of some kinds, or against one of others.
+#[derive(Clone, Copy)]
+pub(crate) struct Step<'a> {
+    pub(crate) along: &'a [Kind],
+    pub(crate) against: &'a [Kind],
+}
+
+impl<'a> Step<'a> {
+    /// The step along an edge of one of the kinds.
+    pub(crate) fn along(kinds: &'a [Kind]) -> Step<'a>
+        ensures { GoesAlong kinds.now result }
+    {
+        Step {
+            along: kinds,
+            against: &[],
+        }
+    }
+
+    /// The step against an edge of one of the kinds.
+    pub(crate) fn against(kinds: &'a [Kind]) -> Step<'a>
+        ensures { GoesAgainst kinds.now result }
+    {
+        Step {
+            along: &[],
+            against: kinds,
+        }
+    }
+
+    /// The step along an edge of one of the kinds or against one.
+    pub(crate) fn either_way(kinds: &'a [Kind]) -> Step<'a>
+        ensures { GoesEitherWay kinds.now result }
+    {
+        Step {
+            along: kinds,
+            against: kinds,
+        }
+    }
+}
+
+impl Policy {
+    /// The least of the walks that take some of the steps, in their order, after all of a chain.
+    pub(crate) fn part_walk<'a>(
+        &self,
+        alloc: Global,
+        chain: &mut Vec<Step<'a>>,
+        steps: &[Step<'a>],
+        from: Label,
+        to: Label,
+    ) -> Result<Option<Vec<Edge>>, Refusal>
+        ensures least { IfOk result (FindsWalk (λ edges. (part : List StepOf) × IsPartOf part steps.now
+            × IsWalk (allows self.now) (chain.old.items ++ part) from to edges)) }
+        ensures chain { OnOk result (chain.new.items ≡ chain.old.items) }
+        ensures memory { IfErr result (λ refusal. refusal ≡ out_of_memory) }
+    {
+        let Some((step, rest)) = steps.split_first() else {
+            return self.walk(alloc, chain, from, to);
+        };
+        let without = self.part_walk(alloc, chain, rest, from, to)?;
+        chain.push(*step)?;
+        let with = self.part_walk(alloc, chain, rest, from, to)?;
+        chain.pop();
+        Ok(lesser(without, with))
+    }
+
+    /// The least of the walks that take each of the steps.
+    pub(crate) fn walk(
+        &self,
+        alloc: Global,
+        steps: &[Step],
+        from: Label,
+        to: Label,
+    ) -> Result<Option<Vec<Edge>>, Refusal>
+        ensures least { IfOk result (FindsWalk (IsWalk (allows self.now) steps.now from to)) }
+        ensures memory { IfErr result (λ refusal. refusal ≡ out_of_memory) }
+    {
+        let Some((step, rest)) = steps.split_first() else {
+            return Ok(if from == to {
+                Some(Vec::new(alloc))
+            } else {
+                None
+            });
+        };
+        let Some(edge) = self.first_edge(step, from, self.reaching(rest, to)) else {
+            return Ok(None);
+        };
+        let Some(mut edges) = self.walk(alloc, rest, end(&edge, from), to)? else {
+            return Ok(None);
+        };
+        edges.insert(0, edge)?;
+        Ok(Some(edges))
+    }
+
+    // The labels from which walks of these steps lead to a label.
+    fn reaching(&self, steps: &[Step], to: Label) -> Labels
+        ensures { (from : ℕ) → (is_in result from ≡ true)
+            ↔ ((edges : List Edge) × IsWalk (allows self.now) steps.now from to edges) }
+    {
+        match steps.split_first() {
+            None => Labels::only(to),
+            Some((step, rest)) => self.before(step, self.reaching(rest, to)),
+        }
+    }
+
+    // The labels from which a step leads to a label of the set.
+    fn before(&self, step: &Step, goals: Labels) -> Labels
+        ensures { (from : ℕ) → (is_in result from ≡ true)
+            ↔ ((edge : Edge) × Leads (allows self.now) step.now from goals edge) }
+    {
+        self.sources(goals, step.along)
+            .union(self.targets(goals, step.against))
+    }
+
+    // The first edge by which a step leads to a label of the set.
+    fn first_edge(&self, step: &Step, from: Label, goals: Labels) -> Option<Edge>
+        ensures { FindsFirst (Leads (allows self.now) step.now from goals) result }
+    {
+        self.edges_rise();
+        for number in 0..EDGES {
+            if let Some(edge) = edge_numbered(number) {
+                if self.leads(step, from, goals, &edge) {
+                    return Some(edge);
+                }
+            }
+        }
+        None
+    }
+
+    // Whether a step leads to a label of the set by this edge.
+    fn leads(&self, step: &Step, from: Label, goals: Labels, edge: &Edge) -> bool
+        ensures { IsTrue result ↔ Leads (allows self.now) step.now from goals edge.now }
+    {
+        let Edge {
+            from: start,
+            kind,
+            to: end,
+        } = *edge;
+        if !(goes(step.along, kind, start, from) && goals.has(end))
+            && !(goes(step.against, kind, end, from) && goals.has(start))
+        {
+            return false;
+        }
+        self.has(*edge)
+    }
+}
+
+// Whether a step by edges of some kinds may begin with this kind of edge at this end.
+fn goes(kinds: &[Kind], kind: Kind, end: Label, from: Label) -> bool
+    ensures { result ≡ ((end == from) && is_of kinds.now kind) }
+{
+    end == from && kinds.contains(&kind)
+}
+
+// The end of an edge that isn't this one, if they are two.
+fn end(edge: &Edge, from: Label) -> Label
+    ensures { result ≡ other_end edge.now from }
+{
+    if edge.from == from {
+        edge.to
+    } else {
+        edge.from
+    }
+}
+
+/// The lesser of two walks, if there are any.
+pub(crate) fn lesser(one: Option<Vec<Edge>>, other: Option<Vec<Edge>>) -> Option<Vec<Edge>>
+    ensures { result ≡ lesser_of one other }
+{
+    match (one, other) {
+        (Some(one), Some(other)) => {
+            if comes_before(&other, &one) {
+                Some(other)
+            } else {
+                Some(one)
+            }
+        }
+        (None, other) => other,
+        (one, None) => one,
+    }
+}
+
+// Whether a walk comes before another: it has fewer edges, or as many and the first other one is less.
+fn comes_before(one: &[Edge], other: &[Edge]) -> bool
+    ensures { result ≡ is_lt (slice_cmp nat_cmp (reason_place one.now) (reason_place other.now)) }
+{
+    if one.len() != other.len() {
+        return one.len() < other.len();
+    }
+    one < other
+}

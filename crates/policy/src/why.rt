@@ -1,0 +1,102 @@
+ghost use Rattle.std.specs.Prelude.{◌≡◌, IfErr, IfOk};
+ghost use Rattle.base.specs.Refusals.{out_of_memory};
+ghost use Rattle.policy.specs.Policy.{allows};
+ghost use Rattle.policy.specs.Reasons.{IsCutBy, IsFullBy, IsWhy};
+ghost use Rattle.policy.specs.Walks.{FindsWalk};
+
+use crate::Policy;
+use crate::cut::{HOLDING, LINKS};
+use crate::full::MODIFYING;
+use crate::walks::{Step, lesser};
+use base::{Edge, Kind, Label, Refusal};
+use std::alloc::Global;
+
+/// Which authority a label has on another, and the edges of one reason for it: of those with the fewest
+/// edges the least. No edge is a reason where the labels are the same.
+#[derive(Drop)]
+pub enum Why {
+    /// Full authority: what its threads do may change the other's objects.
+    Full(Vec<Edge>),
+    /// Cut authority alone: the other's objects may shrink when its threads delete capabilities.
+    Cut(Vec<Edge>),
+    /// No authority.
+    Nothing,
+}
+
+impl Policy {
+    /// Which authority `actor` has on objects of the label `object`, and why.
+    ///
+    /// # Errors
+    ///
+    /// 40 where memory is refused.
+    pub fn why(&self, alloc: Global, actor: Label, object: Label) -> Result<Why, Refusal>
+        ensures why { IfOk result (λ why. IsWhy (allows self.now) actor object why) }
+        ensures memory { IfErr result (λ refusal. refusal ≡ out_of_memory) }
+    {
+        if let Some(edges) = self.full_reason(alloc, actor, object)? {
+            return Ok(Why::Full(edges));
+        }
+        match self.cut_reason(alloc, actor, object)? {
+            Some(edges) => Ok(Why::Cut(edges)),
+            None => Ok(Why::Nothing),
+        }
+    }
+
+    // The least of the reasons for full authority, one walk for each of its cases.
+    fn full_reason(
+        &self,
+        alloc: Global,
+        actor: Label,
+        object: Label,
+    ) -> Result<Option<Vec<Edge>>, Refusal>
+        ensures least { IfOk result (FindsWalk (IsFullBy (allows self.now) actor object)) }
+        ensures memory { IfErr result (λ refusal. refusal ≡ out_of_memory) }
+    {
+        let modify = Step::along(&MODIFYING);
+        let send = Step::along(&[Kind::Send]);
+        let sender = Step::against(&[Kind::Send]);
+        let receive = Step::along(&[Kind::Receive]);
+        let receiver = Step::against(&[Kind::Receive]);
+        let notify = Step::along(&[Kind::Notify]);
+        let awaiter = Step::against(&[Kind::Await]);
+        let reply = Step::along(&[Kind::Reply]);
+        let grant = Step::along(&[Kind::Grant]);
+        let control = Step::along(&[Kind::Control]);
+        let held = Step::along(&[Kind::Holds]);
+        let own = self.walk(alloc, &[], actor, object)?;
+        let modifies = self.walk(alloc, &[modify], actor, object)?;
+        let sends = self.walk(alloc, &[send, receiver], actor, object)?;
+        let receives = self.walk(alloc, &[receive, sender], actor, object)?;
+        let notifies = self.walk(alloc, &[notify, awaiter], actor, object)?;
+        let links = self.walk(alloc, &[send, receiver, reply], actor, object)?;
+        let grants = self.walk(alloc, &[grant, receiver, control], actor, object)?;
+        let replies = self.walk(alloc, &[reply, held], actor, object)?;
+        let one = lesser(lesser(own, modifies), lesser(sends, receives));
+        let other = lesser(lesser(notifies, links), lesser(grants, replies));
+        Ok(lesser(one, other))
+    }
+
+    // The least of the reasons for cut authority: a walk each of whose steps may be left out.
+    fn cut_reason(
+        &self,
+        alloc: Global,
+        actor: Label,
+        object: Label,
+    ) -> Result<Option<Vec<Edge>>, Refusal>
+        ensures least { IfOk result (FindsWalk (IsCutBy (allows self.now) actor object)) }
+        ensures memory { IfErr result (λ refusal. refusal ≡ out_of_memory) }
+    {
+        let control = Step::along(&[Kind::Control]);
+        let derive = Step::along(&[Kind::Derive]);
+        let reach = Step::along(&HOLDING);
+        let link = Step::either_way(&LINKS);
+        let mut chain = Vec::new(alloc);
+        self.part_walk(
+            alloc,
+            &mut chain,
+            &[control, derive, reach, link, link],
+            actor,
+            object,
+        )
+    }
+}
