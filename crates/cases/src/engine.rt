@@ -1,28 +1,37 @@
 //! The commands of the program, over texts in memory.
-use report::{OnAccept, Open, Watched, check, close, run, verify};
+use report::{OnAccept, OnClose, Open, Watched, check, close, run, verify, why};
 use std::alloc::Global;
 use std::thread::Threads;
 
 /// What a case asks for.
 #[derive(Clone, Copy)]
-pub enum Command {
+pub enum Command<'a> {
     Run,
     Check,
     /// A check that writes the certificate.
     Cert,
     Verify,
     Close,
+    /// A closing that tells what is missing.
+    Missing,
+    /// Why one label has authority on another.
+    Why(&'a str, &'a str),
 }
 
-impl Command {
-    /// The command that a word names.
-    pub fn named(word: &str) -> Option<Command> {
-        match word {
+impl<'a> Command<'a> {
+    /// The command that these words name.
+    pub fn named(words: &'a str) -> Option<Command<'a>> {
+        if let Some(labels) = words.strip_prefix("why ") {
+            let (actor, object) = labels.split_once(' ')?;
+            return Some(Command::Why(actor, object));
+        }
+        match words {
             "run" => Some(Command::Run),
             "check" => Some(Command::Check),
             "cert" => Some(Command::Cert),
             "verify" => Some(Command::Verify),
             "close" => Some(Command::Close),
+            "missing" => Some(Command::Missing),
             _ => None,
         }
     }
@@ -48,7 +57,7 @@ pub struct Answer {
 pub fn answer_to<R: Threads + Sync>(
     rt: &R,
     alloc: Global,
-    command: Command,
+    command: Command<'_>,
     given: Given<'_>,
 ) -> Answer {
     let mut table = Watched::new(given.table);
@@ -66,7 +75,17 @@ pub fn answer_to<R: Threads + Sync>(
             &mut certificate,
             &mut out,
         ),
-        Command::Close => close(alloc, &mut table, &mut policy, &mut out),
+        Command::Close => {
+            let wanted = OnClose::Policy;
+            close(alloc, &mut table, &mut policy, wanted, &mut out)
+        }
+        Command::Missing => {
+            let wanted = OnClose::Missing;
+            close(alloc, &mut table, &mut policy, wanted, &mut out)
+        }
+        Command::Why(actor, object) => {
+            why(alloc, &mut table, &mut policy, actor, object, &mut out)
+        }
         Command::Check => {
             let wanted = OnAccept::Report;
             check(

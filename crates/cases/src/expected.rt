@@ -8,7 +8,8 @@ use crate::wrong::Wrong;
 use std::alloc::{AllocError, Global};
 
 /// The answer that these words say: `log`, `report`, `certificate`, `policy`, `each OUTCOME`, `accept`, ``writes
-/// `TEXT` ``, `deny RULE PLACE`, or a fault, which is in this file and line where they don't say another.
+/// `TEXT` ``, `full EDGES`, `cut EDGES`, `none`, `lacks EDGES`, `deny RULE PLACE`, or a fault, which is in this
+/// file and line where they don't say another.
 pub fn expected(
     alloc: Global,
     words: &str,
@@ -23,6 +24,9 @@ pub fn expected(
         "policy" => return told(alloc, texts.text(File::Policy)),
         "accept" => return told(alloc, "{\"verdict\":\"accept\"}\n"),
         _ => (),
+    }
+    if let Some(answer) = listed(alloc, words)? {
+        return Ok(answer);
     }
     if let Some(text) = words.strip_prefix("writes ") {
         let text = text_of(alloc, quoted(text)?)?;
@@ -42,6 +46,24 @@ pub fn expected(
 fn told(alloc: Global, text: &str) -> Result<Answer, Wrong> {
     let text = Vec::from_slice(alloc, text.as_bytes())?;
     Ok(Answer { status: 0, text })
+}
+
+/// What is told by a list of edges, each as `FROM KIND TO`, with commas between them.
+fn listed(alloc: Global, words: &str) -> Result<Option<Answer>, Wrong> {
+    let (word, edges) = words.split_once(' ').unwrap_or((words, ""));
+    let (heading, status) = match word {
+        "full" => ("full\n", 0),
+        "cut" => ("cut\n", 1),
+        "none" => ("none\n", 1),
+        "lacks" => ("", if edges.is_empty() { 0 } else { 1 }),
+        _ => return Ok(None),
+    };
+    let mut text = String::from_str(alloc, heading)?;
+    for edge in edges.split(", ").filter(|edge| !edge.is_empty()) {
+        writeln!(text, "edge {edge}")?;
+    }
+    let text = text.into_bytes();
+    Ok(Some(Answer { status, text }))
 }
 
 /// The log of a script of which each event has this outcome.

@@ -36,7 +36,7 @@ pub struct Session<'a> {
     alloc: Global,
     texts: Texts,
     /// What the cases ask for.
-    asked: Command,
+    asked: Command<'a>,
     block: Block<'a>,
     /// The line that began the block.
     begun: Case<'a>,
@@ -256,7 +256,7 @@ impl<'a> Session<'a> {
     fn try_as_it_is<R: Threads + Sync>(
         &self,
         rt: &R,
-        command: Command,
+        command: Command<'_>,
         answer: &str,
         case: Case<'_>,
         tally: &mut Tally,
@@ -269,7 +269,7 @@ impl<'a> Session<'a> {
     fn try_given<R: Threads + Sync>(
         &self,
         rt: &R,
-        command: Command,
+        command: Command<'_>,
         given: Given<'_>,
         words: &str,
         place: (File, usize),
@@ -312,9 +312,9 @@ impl<'a> Session<'a> {
     }
 }
 
-/// The command that a word names.
-fn asked(word: &str) -> Result<Command, Wrong> {
-    Command::named(word).ok_or(Wrong("there is no such command"))
+/// The command that these words name.
+fn asked(words: &str) -> Result<Command<'_>, Wrong> {
+    Command::named(words).ok_or(Wrong("there is no such command"))
 }
 
 /// The changes of a file at a place, `FILE PLACE`.

@@ -4,9 +4,10 @@ use Rattle.std.specs.declared.io.Error.{Error}
 use Rattle.report.specs.Closings.{IsClosedOverOn, IsStartedOn}
 use Rattle.report.specs.Ends.{status_of}
 use Rattle.report.specs.Opening.{IsCheckedOn, IsRunOn, IsVerifiedOn}
+use Rattle.report.specs.Questions.{IsToldOn}
 use Rattle.report.specs.declared.end.End.{End}
 use Rattle.confine.specs.declared.request.Request.{Request}
-use Rattle.confine.specs.declared.request.Request.TheVariants.{Check, Verify, Run, Close}
+use Rattle.confine.specs.declared.request.Request.TheVariants.{Check, Verify, Run, Close, Why}
 
 -- a file was opened by this name, and this holds of what that gave
 pub record OnOpened {F : Type 0} (opens : List ℕ → Result F Error → Type 0) (name : List ℕ) (holds : Result F Error → Type 0) : Type 0 where
@@ -25,11 +26,14 @@ Serves {W} opens remaining contents (Verify table policy certificate) out end =
 Serves {W} opens remaining contents (Run table policy script) out end =
     OnOpened opens table.now (λ t. OnOpened opens policy.now (λ p. OnOpened opens script.now (λ s.
     (back : W) × IsRunOn remaining contents t p s out end back)))
-Serves {W} opens remaining contents (Close table (Some policy)) out end =
+Serves {W} opens remaining contents (Close table (Some policy) on_close) out end =
     OnOpened opens table.now (λ t. OnOpened opens policy.now (λ p.
-    (back : W) × IsClosedOverOn remaining contents t p out end back))
-Serves {W} opens remaining contents (Close table None) out end =
-    OnOpened opens table.now (λ t. (back : W) × IsStartedOn remaining contents t out end back)
+    (back : W) × IsClosedOverOn on_close remaining contents t p out end back))
+Serves {W} opens remaining contents (Close table None on_close) out end =
+    OnOpened opens table.now (λ t. (back : W) × IsStartedOn on_close remaining contents t out end back)
+Serves {W} opens remaining contents (Why table policy actor object) out end =
+    OnOpened opens table.now (λ t. OnOpened opens policy.now (λ p.
+    (back : W) × IsToldOn actor.now object.now remaining contents t p out end back))
 
 -- this is the exit status of an end of which this holds
 abbrev pub IsStatusOf : (End → Type 0) → ℕ → Type 0

@@ -17,6 +17,9 @@ pub const ABOUT_RUN: &str =
 pub const ABOUT_CLOSE: &str =
     "Writes the least policy to which a table keeps, with the edges of one that is named";
 
+pub const ABOUT_WHY: &str =
+    "Tells which authority a label has on another by a policy, and by which edges";
+
 // Clap indents what a file holds by twelve columns.
 pub const TABLE: &str = "\
 The objects, the capabilities and who holds them. Its lines, between `confine-table 1`
@@ -84,6 +87,13 @@ are looked up from there, 1 to 64. All numbers are decimal.";
 pub const WORKERS: &str = "Threads that look over the slots side by side, 1 to 16";
 
 pub const CERT: &str = "Writes the certificate of an accepted table in place of the report";
+
+pub const MISSING: &str =
+    "Writes the lines alone that POLICY lacks; the status is 1 where there are any";
+
+pub const ACTOR: &str = "The label that acts, by its name in the table";
+
+pub const OBJECT: &str = "The label whose objects it acts on";
 
 // An example of a small table.
 macro_rules! with_table {
@@ -302,6 +312,40 @@ edge a derive a
 edge a runs a
 end
 
-Where a policy is named as well, its edges stay, and those come to them that are missing.
+Where a policy is named as well, its edges stay, and those come to them that are missing. What is
+missing is told alone by `--missing`:
+
+sed -i '/reset/d' policy
+confine close table policy --missing
+
+It prints the lines that are to be added, each where it belongs, and ends with status 1:
+
+edge a reset b
+"
+);
+
+pub const EXAMPLE_WHY: &str = with_policy!(
+    "a thread `main` may signal a bell and poll it.
+What may label `a` do to what is labelled `b`?",
+    "\
+confine why table policy a b
+
+It has full authority, since it may notify, and ends with status 0:
+
+full
+edge a notify b
+
+So threads of `a` may change objects of `b`. And the other way round:
+
+confine why table policy b a
+
+There is cut authority alone, and it ends with status 1:
+
+cut
+edge a await b
+
+Whoever deletes the bell takes away from objects of `a`, whose thread may wait at it. Of several
+reasons that with the fewest edges is told. Where there is no authority it prints `none`, and the
+status is 1. It is told of the policy: whether a table keeps to it, `confine check` tells.
 "
 );

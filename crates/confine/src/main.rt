@@ -6,13 +6,15 @@ ghost use Rattle.std.specs.Fn.{FnReturnsAt};
 ghost use Rattle.report.specs.Ends.{status_of};
 ghost use Rattle.confine.specs.Opening.{IsStatusOf, Serves};
 ghost use Rattle.confine.specs.Requests.{IsWithinLimits};
-ghost use Rattle.confine.specs.declared.request.Request.TheVariants.{Check, Verify, Run, Close};
+ghost use Rattle.confine.specs.declared.request.Request.TheVariants.{Check, Verify, Run, Close, Why};
 
 mod help;
 mod request;
 
 use clap::error::ErrorKind;
-use report::{End, OnAccept, Open, check_on, close_on, run_on, start_on, verify_on};
+use report::{
+    End, OnAccept, OnClose, Open, check_on, close_on, run_on, start_on, verify_on, why_on,
+};
 use request::{Request, read_request};
 use std::alloc::Global;
 use std::env::Env;
@@ -111,7 +113,17 @@ where
             policy,
             script,
         } => serve_run(rt, table, policy, script, opener, out),
-        Request::Close { table, policy } => serve_close(rt, table, policy, opener, out),
+        Request::Close {
+            table,
+            policy,
+            on_close,
+        } => serve_close(rt, table, policy, on_close, opener, out),
+        Request::Why {
+            table,
+            policy,
+            actor,
+            object,
+        } => serve_why(rt, table, policy, actor, object, opener, out),
     }
 }
 
@@ -192,24 +204,55 @@ where
 }
 
 /// Closes the policy of this name over the table of this name, or makes one for the table alone.
-fn serve_close<R, F, O, W>(rt: &R, table: &str, policy: Option<&str>, opener: O, out: W) -> End
+fn serve_close<R, F, O, W>(
+    rt: &R,
+    table: &str,
+    policy: Option<&str>,
+    on_close: OnClose,
+    opener: O,
+    out: W,
+) -> End
 where
     R: AllocGlobal,
     F: Read + Drop,
     O: Fn(&str) -> io::Result<F> + Drop,
     W: Write + Drop,
     requires { O.IsAlwaysCallable opener }
-    ensures served { Serves (FnReturnsAt O.Fn opener) F.remaining W.contents (Close table.entry policy.entry) out result }
+    ensures served { Serves (FnReturnsAt O.Fn opener) F.remaining W.contents (Close table.entry policy.entry on_close) out result }
     ensures exit { status_of result ≤ 2 }
 {
     let table = opener(table);
     match policy {
         Some(policy) => {
             let policy = opener(policy);
-            close_on(rt.alloc(), table, policy, out).0
+            close_on(rt.alloc(), table, policy, on_close, out).0
         }
-        None => start_on(rt.alloc(), table, out).0,
+        None => start_on(rt.alloc(), table, on_close, out).0,
     }
+}
+
+/// Tells which authority a label has on another by the policy of this name, and why.
+fn serve_why<R, F, O, W>(
+    rt: &R,
+    table: &str,
+    policy: &str,
+    actor: &str,
+    object: &str,
+    opener: O,
+    out: W,
+) -> End
+where
+    R: AllocGlobal,
+    F: Read + Drop,
+    O: Fn(&str) -> io::Result<F> + Drop,
+    W: Write + Drop,
+    requires { O.IsAlwaysCallable opener }
+    ensures served { Serves (FnReturnsAt O.Fn opener) F.remaining W.contents (Why table.entry policy.entry actor.entry object.entry) out result }
+    ensures exit { status_of result ≤ 2 }
+{
+    let table = opener(table);
+    let policy = opener(policy);
+    why_on(rt.alloc(), table, policy, actor, object, out).0
 }
 
 /// Says on standard error why there is no answer, where there is none; gives the exit status. That

@@ -4,7 +4,7 @@ ghost use Rattle.confine.specs.Requests.{IsWithinLimits};
 use crate::help;
 use clap::error::ErrorKind;
 use clap::{Arg, ArgAction, ArgMatches, Command, Error};
-use report::OnAccept;
+use report::{OnAccept, OnClose};
 use std::alloc::{AllocError, Global};
 
 /// What a command line asks for, with the names of the files.
@@ -33,6 +33,14 @@ pub enum Request<'a> {
     Close {
         table: &'a str,
         policy: Option<&'a str>,
+        on_close: OnClose,
+    },
+    /// Tells which authority a label has on another by a policy, and why.
+    Why {
+        table: &'a str,
+        policy: &'a str,
+        actor: &'a str,
+        object: &'a str,
     },
 }
 
@@ -81,7 +89,21 @@ fn request_of<'a>(matches: &ArgMatches<'a>) -> Option<Request<'a>>
             policy: policy?,
             script: found.get_str("script")?,
         }),
-        "close" => Some(Request::Close { table, policy }),
+        "close" => Some(Request::Close {
+            table,
+            policy,
+            on_close: if found.get_flag("missing") {
+                OnClose::Missing
+            } else {
+                OnClose::Policy
+            },
+        }),
+        "why" => Some(Request::Why {
+            table,
+            policy: policy?,
+            actor: found.get_str("actor")?,
+            object: found.get_str("object")?,
+        }),
         _ => None,
     }
 }
@@ -103,7 +125,8 @@ fn command<'a>(alloc: Global) -> Result<Command<'a>, AllocError> {
         .subcommand(check_command(alloc)?)?
         .subcommand(verify_command(alloc)?)?
         .subcommand(run_command(alloc)?)?
-        .subcommand(close_command(alloc)?)
+        .subcommand(close_command(alloc)?)?
+        .subcommand(why_command(alloc)?)
 }
 
 fn check_command<'a>(alloc: Global) -> Result<Command<'a>, AllocError> {
@@ -125,21 +148,34 @@ fn check_command<'a>(alloc: Global) -> Result<Command<'a>, AllocError> {
 }
 
 fn verify_command<'a>(alloc: Global) -> Result<Command<'a>, AllocError> {
-    let certificate = file(alloc, "certificate", "CERT", help::CERTIFICATE);
+    let certificate = word(alloc, "certificate", "CERT", help::CERTIFICATE);
     on_system(alloc, "verify", help::ABOUT_VERIFY, help::EXAMPLE_VERIFY)?.arg(certificate)
 }
 
 fn run_command<'a>(alloc: Global) -> Result<Command<'a>, AllocError> {
-    let script = file(alloc, "script", "SCRIPT", help::SCRIPT);
+    let script = word(alloc, "script", "SCRIPT", help::SCRIPT);
     on_system(alloc, "run", help::ABOUT_RUN, help::EXAMPLE_RUN)?.arg(script)
 }
 
 fn close_command<'a>(alloc: Global) -> Result<Command<'a>, AllocError> {
+    let missing = Arg::new(alloc, "missing")
+        .long("missing")
+        .help(help::MISSING)
+        .action(ArgAction::SetTrue);
     Command::new(alloc, "close")
         .about(help::ABOUT_CLOSE)
         .after_help(help::EXAMPLE_CLOSE)
-        .arg(file(alloc, "table", "TABLE", help::TABLE))?
-        .arg(file(alloc, "policy", "POLICY", help::POLICY_TO_CLOSE).required(false))
+        .arg(word(alloc, "table", "TABLE", help::TABLE))?
+        .arg(word(alloc, "policy", "POLICY", help::POLICY_TO_CLOSE).required(false))?
+        .arg(missing)
+}
+
+fn why_command<'a>(alloc: Global) -> Result<Command<'a>, AllocError> {
+    let actor = word(alloc, "actor", "A", help::ACTOR);
+    let object = word(alloc, "object", "B", help::OBJECT);
+    on_system(alloc, "why", help::ABOUT_WHY, help::EXAMPLE_WHY)?
+        .arg(actor)?
+        .arg(object)
 }
 
 // A command whose first files are a table and a policy.
@@ -152,12 +188,12 @@ fn on_system<'a>(
     Command::new(alloc, name)
         .about(about)
         .after_help(example)
-        .arg(file(alloc, "table", "TABLE", help::TABLE))?
-        .arg(file(alloc, "policy", "POLICY", help::POLICY))
+        .arg(word(alloc, "table", "TABLE", help::TABLE))?
+        .arg(word(alloc, "policy", "POLICY", help::POLICY))
 }
 
-// The argument that names a file.
-fn file<'a>(alloc: Global, id: &'a str, name: &'a str, help: &'a str) -> Arg<'a> {
+// An argument that is a word, such as the name of a file.
+fn word<'a>(alloc: Global, id: &'a str, name: &'a str, help: &'a str) -> Arg<'a> {
     Arg::new(alloc, id)
         .value_name(name)
         .help(help)

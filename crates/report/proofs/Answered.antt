@@ -1,14 +1,16 @@
 -- The answer to what was loaded.
-use Rattle.std.proofs.Common.{◌≡◌, ℕ, List, Result, Ok, Err, IfOk, IsOkAnd}
+use Rattle.std.proofs.Common.{◌≡◌, ℕ, List, Option, Some, Result, Ok, Err, IfOk, IsOkAnd}
 use Rattle.base.specs.declared.edge.Edge.{Edge}
 use Rattle.machine.specs.Layout.{Layout}
-use Rattle.report.specs.Commands.{IsAnswer}
-use Rattle.report.specs.Ends.{IfCannotWrite, IfStatus}
-use Rattle.report.specs.Files.{Contents, Gives, faulty, unknown, whole}
+use Rattle.report.specs.Commands.{IsAnswer, IsUnlabelled}
+use Rattle.report.specs.Ends.{IfCannotWrite, IfNoLabel, IfStatus}
+use Rattle.report.specs.Files.{Contents, Gives, IfUnlabelled, faulty, unknown, whole}
 use Rattle.report.specs.declared.command.Answer.{Answer}
+use Rattle.report.specs.declared.end.Asked.{Asked}
 use Rattle.report.specs.declared.end.End.{End}
 use Rattle.report.specs.declared.end.End.TheVariants as ends
 use Rattle.report.specs.declared.engine.Unanswered.{Unanswered}
+use Rattle.report.specs.declared.engine.Unanswered.TheVariants as unanswered
 use Rattle.report.specs.declared.load.Loaded.{Loaded}
 use Rattle.report.specs.declared.load.Stop.{Stop}
 
@@ -19,6 +21,33 @@ pub answered : {X Y : Type 0} (view : X → Y) (judges : Layout → List Edge �
 answered view judges loaded text status right (whole t edges y) gives = rw (gives.0, gives.1, gives.2) right
 answered view judges loaded text status right (faulty file fault) gives = absurd gives
 answered view judges loaded text status right unknown gives = tt
+
+-- a label that the table lacks is lacking in what the files hold
+pub lacking : {X Y : Type 0} (view : X → Y) (lacks : Layout → Option Asked) (loaded : Loaded X) (asked : Asked)
+    → lacks loaded.table ≡ Some asked → (contents : Contents Y) → Gives view contents (Ok loaded) → IsUnlabelled lacks contents asked
+lacking view lacks loaded asked is (whole t edges y) gives = rw gives.0 is
+lacking view lacks loaded asked is (faulty file fault) gives = absurd gives
+lacking view lacks loaded asked is unknown gives = (loaded.table, is)
+
+-- the same, where there is no answer for it
+pub lacking_at : {A X Y : Type 0} (view : X → Y) (lacks : Layout → Option Asked) (loaded : Loaded X) (answer : Result A Unanswered)
+    → IfUnlabelled answer (λ asked. lacks loaded.table ≡ Some asked)
+    → IfUnlabelled answer (λ asked. (contents : Contents Y) → Gives view contents (Ok loaded) → IsUnlabelled lacks contents asked)
+lacking_at view lacks loaded (Ok a) is = tt
+lacking_at view lacks loaded (Err unanswered.NoMemory) is = tt
+lacking_at view lacks loaded (Err (unanswered.CannotRead file)) is = tt
+lacking_at view lacks loaded (Err (unanswered.NoLabel asked)) is = lacking view lacks loaded asked is
+
+-- the label that is told is one that the table lacks
+pub unlabelled : {X Y : Type 0} (view : X → Y) (lacks : Layout → Option Asked) (loaded : Result (Loaded X) Stop) (end : End)
+    (answer : Result Answer Unanswered) (contents : Contents Y) → Gives view contents loaded
+    → IfUnlabelled answer (λ asked. (contents : Contents Y) → Gives view contents loaded → IsUnlabelled lacks contents asked)
+    → IfNoLabel end (λ asked. answer ≡ Err (unanswered.NoLabel asked)) → IfNoLabel end (IsUnlabelled lacks contents)
+unlabelled view lacks loaded (ends.Status status) answer contents gives is told = tt
+unlabelled view lacks loaded ends.NoMemory answer contents gives is told = tt
+unlabelled view lacks loaded (ends.CannotRead file) answer contents gives is told = tt
+unlabelled view lacks loaded ends.CannotWrite answer contents gives is told = tt
+unlabelled view lacks loaded (ends.NoLabel asked) answer contents gives is told = (rw told at is) contents gives
 
 -- the answer to all that the files may hold is the answer to what they hold
 pub at_contents : {X Y : Type 0} (view : X → Y) (judges : Layout → List Edge → Y → List ℕ → ℕ → Type 0) (loaded : Result (Loaded X) Stop) (answer : Result Answer Unanswered)
@@ -37,6 +66,7 @@ written (ends.Status status) (Ok answer) IsRight A right told = (answer.text.ite
 written (ends.Status status) (Err why) IsRight A right told = absurd told
 written ends.NoMemory answer IsRight A right told = tt
 written (ends.CannotRead file) answer IsRight A right told = tt
+written (ends.NoLabel asked) answer IsRight A right told = tt
 written ends.CannotWrite answer IsRight A right told = tt
 
 pub began : (end : End) (answer : Result Answer Unanswered) (IsRight : List ℕ → ℕ → Type 0) (A : List ℕ → Type 0)
@@ -46,5 +76,6 @@ pub began : (end : End) (answer : Result Answer Unanswered) (IsRight : List ℕ 
 began (ends.Status status) answer IsRight A right told = tt
 began ends.NoMemory answer IsRight A right told = tt
 began (ends.CannotRead file) answer IsRight A right told = tt
+began (ends.NoLabel asked) answer IsRight A right told = tt
 began ends.CannotWrite (Ok answer) IsRight A right told = (answer.text.items, answer.status, right, told)
 began ends.CannotWrite (Err why) IsRight A right told = absurd told

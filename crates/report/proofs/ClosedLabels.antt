@@ -1,5 +1,5 @@
 -- The least closed policy over labels of a table joins none but those.
-use Rattle.std.proofs.Common.{◌≡◌, ℕ, ◌<◌, Bool, true, false, ◌&&◌, ◌||◌, List, [], ◌∷◌, ◌++◌, length, refl, sym, ap, ◌∙◌, arith, inl, inr}
+use Rattle.std.proofs.Common.{◌≡◌, ℕ, ◌<◌, Bool, true, false, ◌&&◌, ◌||◌, List, [], ◌∷◌, ◌++◌, length, refl, sym, ◌∙◌, arith, inl, inr}
 use Rattle.std.specs.Prelude.{nat_lt}
 use Rattle.std.specs.List.{AllByRecursion}
 use Rattle.std.proofs.lemmas.Bool.{or_cases}
@@ -108,28 +108,30 @@ listed_within t (edge ∷ edges) each from kind to e = elim (or_cases _ _ e) [
   | inr there ↦ listed_within t edges each.1 from kind to there
 ]
 
+or_left : (a b : Bool) → a ≡ true → (a || b) ≡ true
+or_left true b e = refl
+or_left false b e = cc
+
+or_right : (a b : Bool) → b ≡ true → (a || b) ≡ true
+or_right true b e = refl
+or_right false b e = e
+
+pub first_allowed : (edge : Edge) (edges : List Edge) → allows (edge ∷ edges) edge.from edge.kind edge.to ≡ true
+unfolding allows
+first_allowed edge edges = or_left _ _ (of_parts edge edge.from edge.kind edge.to refl refl refl)
+
+pub later_allowed :
+    (edge : Edge) (edges : List Edge) (from : ℕ) (kind : Kind) (to : ℕ) → allows edges from kind to ≡ true
+    → allows (edge ∷ edges) from kind to ≡ true
+unfolding allows
+later_allowed edge edges from kind to e = or_right _ _ e
+
 pub within_listed :
     (t : Layout) (edges : List Edge)
     → ((from : ℕ) (kind : Kind) (to : ℕ) → allows edges from kind to ≡ true → (from < length t.labels) × (to < length t.labels))
     → AllByRecursion (IsEdgeOf t) edges
-unfolding allows
 within_listed t [] within = tt
 within_listed t (edge ∷ edges) within = (
-  within edge.from edge.kind edge.to (first edge edges),
-  within_listed t edges (λ from kind to e. within from kind to (later edge edges from kind to e)),
-) where
-  or_left : (a b : Bool) → a ≡ true → (a || b) ≡ true
-  or_left true b e = refl
-  or_left false b e = cc
-
-  or_right : (a b : Bool) → b ≡ true → (a || b) ≡ true
-  or_right true b e = refl
-  or_right false b e = e
-
-  first : (edge : Edge) (edges : List Edge) → allows (edge ∷ edges) edge.from edge.kind edge.to ≡ true
-  first edge edges = or_left _ _ (of_parts edge edge.from edge.kind edge.to refl refl refl)
-
-  later :
-      (edge : Edge) (edges : List Edge) (from : ℕ) (kind : Kind) (to : ℕ) → allows edges from kind to ≡ true
-      → allows (edge ∷ edges) from kind to ≡ true
-  later edge edges from kind to e = or_right _ _ e
+  within edge.from edge.kind edge.to (first_allowed edge edges),
+  within_listed t edges (λ from kind to e. within from kind to (later_allowed edge edges from kind to e)),
+)

@@ -3,4 +3,5 @@ mod Loads
 mod LabelLists
 mod Answered
 mod ClosedLabels
+mod Missing
 mod ClosedText

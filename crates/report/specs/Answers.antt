@@ -1,5 +1,5 @@
 -- What the commands answer to a table, a policy and a third file (confine's own).
-use Rattle.std.specs.Prelude.{◌≡◌, ℕ, Bool, false, List, [], Some, Ok, Err, Result}
+use Rattle.std.specs.Prelude.{◌≡◌, ℕ, Bool, false, List, [], Option, None, Some, Ok, Err, Result}
 use Rattle.std.specs.List.{zip}
 use Rattle.base.specs.declared.edge.Edge.{Edge}
 use Rattle.certificate.specs.Certificate.{certificate_text}
@@ -25,6 +25,7 @@ use Rattle.report.specs.Relations.{Decides}
 use Rattle.report.specs.Reports.{accept_data, check_data, denial_report, line_of}
 use Rattle.report.specs.declared.checking.OnAccept.{OnAccept}
 use Rattle.report.specs.declared.checking.OnAccept.TheVariants as on_accept
+use Rattle.report.specs.declared.end.Asked.{Asked}
 use Rattle.report.specs.declared.end.End.{End}
 use Rattle.report.specs.declared.end.File.TheVariants as file
 use Rattle.report.specs.declared.load.NoFile.{NoFile}
@@ -86,15 +87,19 @@ no_file = record { old = record {}; new = record {}; bytes = Some []; failed = f
 unfoldable pub read_nothing : Layout → List ℕ → Result (List ℕ) Fault
 read_nothing t bytes = Ok []
 
+-- a command that asks about no label lacks none
+abbrev pub no_label : Layout → Option Asked
+no_label t = None
+
 -- a table was checked against a policy
 abbrev pub IsChecked : {T P O : Type 0} → OnAccept → Input T → Input P → Output O → End → Type 0
 IsChecked written table policy out end =
-    IsCarriedOut file.Policy read_nothing (λ t edges none. Checks written t edges) table policy no_file out end
+    IsCarriedOut file.Policy read_nothing no_label (λ t edges none. Checks written t edges) table policy no_file out end
 
 -- a certificate was verified with a table and a policy
 abbrev pub IsVerifiedWith : {T P S O : Type 0} → Input T → Input P → Input S → Output O → End → Type 0
-IsVerifiedWith = IsCarriedOut file.Certificate read_certificate_of Verifies
+IsVerifiedWith = IsCarriedOut file.Certificate read_certificate_of no_label Verifies
 
 -- a script was run on a table and a policy, where they are accepted
 abbrev pub IsRun : {T P S O : Type 0} → Input T → Input P → Input S → Output O → End → Type 0
-IsRun = IsCarriedOut file.Script (λ t. read_script_of) Runs
+IsRun = IsCarriedOut file.Script (λ t. read_script_of) no_label Runs

@@ -6,9 +6,10 @@ use Rattle.captext.specs.Policies.{read_policy_of}
 use Rattle.captext.specs.Tables.{read_table_of}
 use Rattle.devices.specs.Devices.{AppendsBeginning}
 use Rattle.machine.specs.Layout.{Layout}
-use Rattle.report.specs.Ends.{IfCannotWrite, IfStatus, IfUnwritten, is_unwritable, status_of, unread_file}
+use Rattle.report.specs.Ends.{IfCannotWrite, IfNoLabel, IfStatus, IfUnwritten, is_unwritable, status_of, unread_file}
 use Rattle.report.specs.Files.{Contents, contents_of, faulty, unknown, whole}
 use Rattle.report.specs.Reports.{fault_report}
+use Rattle.report.specs.declared.end.Asked.{Asked}
 use Rattle.report.specs.declared.end.End.{End}
 use Rattle.report.specs.declared.end.File.{File}
 use Rattle.report.specs.declared.end.File.TheVariants.{Table, Policy}
@@ -61,9 +62,15 @@ IsAnswer judges (whole t edges x) text status = judges t edges x text status
 IsAnswer judges (faulty file fault) text status = (text ≡ fault_report fault.number file fault.line) × (status ≡ 2)
 IsAnswer judges unknown text status = Unit {0}
 
--- a command whose third file has this name and is read so, and which judges so, was carried out
+-- of a command that asks about labels this is the first that the table lacks
+abbrev pub IsUnlabelled : {X : Type 0} → (Layout → Option Asked) → Contents X → Asked → Type 0
+IsUnlabelled lacks (whole t edges x) asked = lacks t ≡ Some asked
+IsUnlabelled lacks (faulty file fault) asked = ⊥
+IsUnlabelled lacks unknown asked = (t : Layout) × (lacks t ≡ Some asked)
+
+-- a command whose third file has this name and is read so, which asks about labels so, and which judges so, was carried out
 pub record IsCarriedOut
-    {T P S O X : Type 0} (name : File) (read : Layout → List ℕ → Result X Fault) (judges : Layout → List Edge → X → List ℕ → ℕ → Type 0)
+    {T P S O X : Type 0} (name : File) (read : Layout → List ℕ → Result X Fault) (lacks : Layout → Option Asked) (judges : Layout → List Edge → X → List ℕ → ℕ → Type 0)
     (table : Input T) (policy : Input P) (third : Input S) (out : Output O) (end : End) : Type 0 where
   -- what was written is the answer to the bytes of the files, or a beginning of it, or nothing
   pub answered : IfStatus end (λ status. (text : List ℕ)
@@ -71,6 +78,8 @@ pub record IsCarriedOut
   pub begun : IfCannotWrite end ((text : List ℕ) × (status : ℕ)
       × IsAnswer judges (contents_of name read table.bytes policy.bytes third.bytes) text status × AppendsBeginning out.before out.after text)
   pub unwritten : IfUnwritten end (out.new ≡ out.old)
+  -- a label is told that the table lacks
+  pub unlabelled : IfNoLabel end (IsUnlabelled lacks (contents_of name read table.bytes policy.bytes third.bytes))
   pub flushed : IfStatus end (λ status. out.is_flushed ≡ true)
   pub exit : status_of end ≤ 2
   -- each file is as it was, or those before it were read and are texts

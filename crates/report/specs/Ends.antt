@@ -2,8 +2,10 @@
 use Rattle.std.specs.Prelude.{ℕ, Bool, true, false, List, ◌++◌, codes, Option, Some, None}
 use Rattle.report.specs.declared.end.File.{File}
 use Rattle.report.specs.declared.end.File.TheVariants.{Table, Policy, Certificate, Script}
+use Rattle.report.specs.declared.end.Asked.{Asked}
+use Rattle.report.specs.declared.end.Asked.TheVariants.{Actor, Object}
 use Rattle.report.specs.declared.end.End.{End}
-use Rattle.report.specs.declared.end.End.TheVariants.{Status, NoMemory, CannotRead, CannotWrite}
+use Rattle.report.specs.declared.end.End.TheVariants.{Status, NoMemory, CannotRead, NoLabel, CannotWrite}
 
 -- the word for a file
 abbrev pub file_word : File → List ℕ
@@ -16,11 +18,17 @@ file_word Script = codes "script"
 abbrev pub unread_message : File → List ℕ
 unread_message file = codes "confine: cannot read " ++ file_word file
 
+-- the line that says that the table has no such label
+abbrev pub unlabelled_message : Asked → List ℕ
+unlabelled_message Actor = codes "confine: A is no label of the table"
+unlabelled_message Object = codes "confine: B is no label of the table"
+
 -- the line on standard error, without its line feed
 abbrev pub message_of : End → Option (List ℕ)
 message_of (Status status) = None
 message_of NoMemory = Some (codes "confine: no memory")
 message_of (CannotRead file) = Some (unread_message file)
+message_of (NoLabel asked) = Some (unlabelled_message asked)
 message_of CannotWrite = Some (codes "confine: cannot write")
 
 -- the exit status
@@ -28,6 +36,7 @@ abbrev pub status_of : End → ℕ
 status_of (Status status) = status
 status_of NoMemory = 2
 status_of (CannotRead file) = 2
+status_of (NoLabel asked) = 2
 status_of CannotWrite = 2
 
 -- the file that couldn't be read
@@ -35,6 +44,7 @@ abbrev pub unread_file : End → Option File
 unread_file (Status status) = None
 unread_file NoMemory = None
 unread_file (CannotRead file) = Some file
+unread_file (NoLabel asked) = None
 unread_file CannotWrite = None
 
 -- the answer couldn't be written
@@ -42,6 +52,7 @@ abbrev pub is_unwritable : End → Bool
 is_unwritable (Status status) = false
 is_unwritable NoMemory = false
 is_unwritable (CannotRead file) = false
+is_unwritable (NoLabel asked) = false
 is_unwritable CannotWrite = true
 
 -- a fact for an end whose answer was written
@@ -49,6 +60,7 @@ abbrev pub IfStatus : End → (ℕ → Type 0) → Type 0
 IfStatus (Status status) P = P status
 IfStatus NoMemory P = Unit {0}
 IfStatus (CannotRead file) P = Unit {0}
+IfStatus (NoLabel asked) P = Unit {0}
 IfStatus CannotWrite P = Unit {0}
 
 -- a fact for an end before anything was written
@@ -56,6 +68,7 @@ abbrev pub IfUnwritten : End → Type 0 → Type 0
 IfUnwritten (Status status) P = Unit {0}
 IfUnwritten NoMemory P = P
 IfUnwritten (CannotRead file) P = P
+IfUnwritten (NoLabel asked) P = P
 IfUnwritten CannotWrite P = Unit {0}
 
 -- a fact for an end whose answer couldn't be written
@@ -63,4 +76,13 @@ abbrev pub IfCannotWrite : End → Type 0 → Type 0
 IfCannotWrite (Status status) P = Unit {0}
 IfCannotWrite NoMemory P = Unit {0}
 IfCannotWrite (CannotRead file) P = Unit {0}
+IfCannotWrite (NoLabel asked) P = Unit {0}
 IfCannotWrite CannotWrite P = P
+
+-- a fact for an end since a label isn't there
+abbrev pub IfNoLabel : End → (Asked → Type 0) → Type 0
+IfNoLabel (Status status) P = Unit {0}
+IfNoLabel NoMemory P = Unit {0}
+IfNoLabel (CannotRead file) P = Unit {0}
+IfNoLabel (NoLabel asked) P = P asked
+IfNoLabel CannotWrite P = Unit {0}

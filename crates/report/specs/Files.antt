@@ -4,6 +4,7 @@ use Rattle.base.specs.declared.edge.Edge.{Edge}
 use Rattle.captext.specs.Policies.{read_policy_of}
 use Rattle.captext.specs.Tables.{read_table_of}
 use Rattle.machine.specs.Layout.{Layout}
+use Rattle.report.specs.declared.end.Asked.{Asked}
 use Rattle.report.specs.declared.end.File.{File}
 use Rattle.report.specs.declared.end.File.TheVariants.{Table, Policy}
 use Rattle.report.specs.declared.load.Loaded.{Loaded}
@@ -68,6 +69,14 @@ abbrev pub unread_by : {X : Type 0} → Result X Unanswered → Option File
 unread_by (Ok x) = None
 unread_by (Err unanswered.NoMemory) = None
 unread_by (Err (unanswered.CannotRead file)) = Some file
+unread_by (Err (unanswered.NoLabel asked)) = None
+
+-- a fact for where there is no answer since a label isn't there
+abbrev pub IfUnlabelled : {X : Type 0} → Result X Unanswered → (Asked → Type 0) → Type 0
+IfUnlabelled (Ok x) P = Unit {0}
+IfUnlabelled (Err unanswered.NoMemory) P = Unit {0}
+IfUnlabelled (Err (unanswered.CannotRead file)) P = Unit {0}
+IfUnlabelled (Err (unanswered.NoLabel asked)) P = P asked
 
 -- one file was loaded as its text is read, or its text has the fault that the stop tells
 abbrev pub LoadsAs : {X Y : Type 0} → (X → Y) → Result X Stop → Result Y Fault → Type 0

@@ -7,3 +7,4 @@ pub mod Commands
 pub mod Answers
 pub mod Opening
 pub mod Closings
+pub mod Questions

@@ -10,7 +10,7 @@ use crate::command::{Answer, Command, NoMemory, denial_text};
 use crate::engine::{carry_out, carry_out_on};
 use crate::load::{Loaded, NoFile};
 use crate::reports::check_report;
-use crate::{End, File, Sink, Source};
+use crate::{Asked, End, File, Sink, Source};
 use captext::Fault;
 use checker::{Certificate, Gate, Verdict};
 use policy::Policy;
@@ -118,6 +118,8 @@ impl<J: Fn(&Loaded<()>) -> Result<Answer, NoMemory>> Command for Checking<'_, J>
 
     ghost read_of = { answers.read_nothing };
 
+    ghost lacks = { λ _. answers.no_label };
+
     ghost may_judge = { λ check. J.IsAlwaysCallable check.judge.now
         × ((loaded : _) (answer : _) → J.post check.judge.now loaded answer
         → IfOk answer (λ answer. answers.Checks check.on_accept loaded.now.table loaded.now.policy answer.text.items answer.status)
@@ -132,6 +134,10 @@ impl<J: Fn(&Loaded<()>) -> Result<Answer, NoMemory>> Command for Checking<'_, J>
     #[tactic(auto, unfolding(crate::specs::Answers::read_nothing))]
     fn read_third(_alloc: Global, _table: &Table, _bytes: &[u8]) -> Result<(), Fault> {
         Ok(())
+    }
+
+    fn unlabelled(&self, _table: &Table) -> Option<Asked> {
+        None
     }
 
     fn judge(&self, _alloc: Global, loaded: &Loaded<()>) -> Result<Answer, NoMemory> {

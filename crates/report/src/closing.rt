@@ -1,4 +1,5 @@
 ghost use Rattle.std.specs.Prelude.{◌≡◌, ◌≤◌, false, IfOk};
+ghost use Rattle.captext.specs.PolicyText.{edge_lines};
 ghost use Rattle.report.specs.Answers as answers;
 ghost use Rattle.report.specs.Closings as closings;
 ghost use Rattle.report.specs.Commands.{input, output};
@@ -7,9 +8,9 @@ ghost use Rattle.report.specs.declared.end.File.TheVariants as file;
 use crate::command::{Answer, Command, NoMemory};
 use crate::engine::{carry_out, carry_out_on};
 use crate::load::{Loaded, NoFile};
-use crate::{End, File, Sink, Source, Watched};
-use base::Refusal;
-use captext::{Fault, write_policy};
+use crate::{Asked, End, File, Sink, Source, Watched};
+use base::{Edge, Refusal};
+use captext::{Fault, write_edges, write_policy};
 use devices::open_result;
 use kernel::each_table_has_one_boot_state;
 use labels::{authority, boot_authority_joins_labels_of_its_table};
@@ -19,11 +20,27 @@ use std::io::{self, Read, Write};
 use table::Table;
 use verdict::a_verdict_is_on_the_boot_state;
 
+/// What [`close`] writes.
+#[derive(Clone, Copy, PartialEq, Eq, Debug)]
+pub enum OnClose {
+    /// The text of the least policy, with status 0.
+    Policy,
+    /// The lines of those of its edges that the given policy lacks: with status 0 where there are none,
+    /// and so the table keeps to the given policy, and 1 where there are some.
+    Missing,
+}
+
 /// Closes a policy over a table: finds the least policy that has the policy's edges and to which the
 /// table keeps.
 ///
-/// Writes its text, with status 0; or the report of the first fault, with status 2.
-pub fn close<T, P, O>(alloc: Global, table: &mut T, policy: &mut P, out: &mut O) -> End
+/// Writes what is asked for; or the report of the first fault, with status 2.
+pub fn close<T, P, O>(
+    alloc: Global,
+    table: &mut T,
+    policy: &mut P,
+    on_close: OnClose,
+    out: &mut O,
+) -> End
 where
     T: Source,
     P: Source,
@@ -31,10 +48,17 @@ where
     requires table { T.failed table.old ≡ false }
     requires policy { P.failed policy.old ≡ false }
     requires out { O.failed out.old ≡ false }
-    ensures { closings.IsClosedOver (input T.remaining T.failed table.old table.new)
+    ensures { closings.IsClosedOver on_close (input T.remaining T.failed table.old table.new)
         (input P.remaining P.failed policy.old policy.new) (output O.contents O.failed O.is_flushed out.old out.new) result }
 {
-    carry_out(&Closing, alloc, table, policy, &mut NoFile, out)
+    carry_out(
+        &Closing { on_close },
+        alloc,
+        table,
+        policy,
+        &mut NoFile,
+        out,
+    )
 }
 
 /// The same on what opening the two files gave. Gives the end, and the writer back.
@@ -42,14 +66,22 @@ pub fn close_on<F, W>(
     alloc: Global,
     table: io::Result<F>,
     policy: io::Result<F>,
+    on_close: OnClose,
     out: W,
 ) -> (End, W)
 where
     F: Read + Drop,
     W: Write + Drop,
-    ensures { closings.IsClosedOverOn F.remaining W.contents table policy out result.0 result.1 }
+    ensures { closings.IsClosedOverOn on_close F.remaining W.contents table policy out result.0 result.1 }
 {
-    carry_out_on(&Closing, alloc, table, policy, &mut NoFile, out)
+    carry_out_on(
+        &Closing { on_close },
+        alloc,
+        table,
+        policy,
+        &mut NoFile,
+        out,
+    )
 }
 
 // The text of a policy without an edge, whatever the labels are.
@@ -57,22 +89,24 @@ const NO_EDGES: &[u8] = b"confine-policy 1\nend\n";
 
 /// Makes a policy for a table alone, as closing one without an edge does, on what opening the table's
 /// file gave. Gives the end, and the writer back.
-pub fn start_on<F, W>(alloc: Global, table: io::Result<F>, out: W) -> (End, W)
+pub fn start_on<F, W>(alloc: Global, table: io::Result<F>, on_close: OnClose, out: W) -> (End, W)
 where
     F: Read + Drop,
     W: Write + Drop,
-    ensures { closings.IsStartedOn F.remaining W.contents table out result.0 result.1 }
+    ensures { closings.IsStartedOn on_close F.remaining W.contents table out result.0 result.1 }
 {
     let mut table = open_result(table);
     let mut policy = Watched::new(NO_EDGES);
     let mut out = Watched::new(out);
-    let end = close(alloc, &mut table, &mut policy, &mut out);
+    let end = close(alloc, &mut table, &mut policy, on_close, &mut out);
     (end, out.into_inner())
 }
 
 /// The command `close`, which has no third file.
 #[derive(Clone, Copy)]
-struct Closing;
+struct Closing {
+    on_close: OnClose,
+}
 
 impl Command for Closing {
     type Third = ();
@@ -87,9 +121,11 @@ impl Command for Closing {
 
     ghost read_of = { answers.read_nothing };
 
+    ghost lacks = { λ _. answers.no_label };
+
     ghost may_judge = { λ _. Unit {0} };
 
-    ghost judges = { λ _ t edges none. closings.Closes t edges };
+    ghost judges = { λ closing t edges none. closings.Closes closing.on_close t edges };
 
     fn third_file() -> File {
         File::Policy
@@ -100,18 +136,25 @@ impl Command for Closing {
         Ok(())
     }
 
+    fn unlabelled(&self, _table: &Table) -> Option<Asked> {
+        None
+    }
+
     fn judge(&self, alloc: Global, loaded: &Loaded<()>) -> Result<Answer, NoMemory> {
-        Ok(Answer {
-            text: closing_text(alloc, &loaded.table, &loaded.policy)?,
-            status: 0,
-        })
+        Ok(closed(alloc, &loaded.table, &loaded.policy, self.on_close)?)
     }
 }
 
-/// The text of the least closed policy that has the edges of a policy and all authority of a table's
-/// boot state.
-fn closing_text(alloc: Global, table: &Table, policy: &Policy) -> Result<Vec<u8>, Refusal>
-    ensures { IfOk result (λ text. closings.IsClosing table.now policy.now text.items) }
+/// What is asked for of the least closed policy that has the edges of a policy and all authority of a
+/// table's boot state.
+fn closed(
+    alloc: Global,
+    table: &Table,
+    policy: &Policy,
+    on_close: OnClose,
+) -> Result<Answer, Refusal>
+    ensures right { IfOk result (λ answer. closings.Closes on_close table.now policy.now answer.text.items answer.status) }
+    ensures exit { IfOk result (λ answer. answer.status ≤ 2) }
 {
     // Laws about tables, their boot states, and verdicts on these.
     a_verdict_is_on_the_boot_state();
@@ -120,5 +163,37 @@ fn closing_text(alloc: Global, table: &Table, policy: &Policy) -> Result<Vec<u8>
     let _ = table.objects();
     let edges = authority(alloc, table)?;
     let closed = policy::close(alloc, policy, &edges)?;
-    write_policy(alloc, &closed, table)
+    match on_close {
+        OnClose::Policy => Ok(Answer {
+            text: write_policy(alloc, &closed, table)?,
+            status: 0,
+        }),
+        OnClose::Missing => missing_answer(alloc, table, policy, &closed),
+    }
+}
+
+/// The lines of the edges that are missing, and whether there are any.
+fn missing_answer(
+    alloc: Global,
+    table: &Table,
+    policy: &Policy,
+    closed: &Policy,
+) -> Result<Answer, Refusal>
+    ensures text { IfOk result (λ answer. answer.text.items ≡ edge_lines table.now (closings.missing_edges policy.now closed.now)) }
+    ensures status { IfOk result (λ answer. answer.status ≡ closings.missing_status (closings.missing_edges policy.now closed.now)) }
+{
+    let missing = missing_edges(alloc, policy, closed)?;
+    Ok(Answer {
+        text: write_edges(alloc, &missing, table)?,
+        status: if missing.is_empty() { 0 } else { 1 },
+    })
+}
+
+/// The edges of the second policy that the first lacks.
+fn missing_edges(alloc: Global, policy: &Policy, closed: &Policy) -> Result<Vec<Edge>, Refusal>
+    ensures { IfOk result (λ missing. missing.items ≡ closings.missing_edges policy.now closed.now) }
+{
+    let mut missing = closed.edges(alloc)?;
+    missing.retain(|edge| !policy.has(*edge));
+    Ok(missing)
 }

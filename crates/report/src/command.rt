@@ -1,17 +1,18 @@
-ghost use Rattle.std.specs.Prelude.{◌≡◌, ◌≤◌, ℕ, List, IfOk, Result};
+ghost use Rattle.std.specs.Prelude.{◌≡◌, ◌≤◌, ℕ, List, IfOk, None, Option, Result};
 ghost use Rattle.base.specs.declared.edge.Edge.{Edge};
 ghost use Rattle.machine.specs.Layout.{Layout};
 ghost use Rattle.report.specs.Places.{place_names};
 ghost use Rattle.report.specs.Reports.{denial_report};
+ghost use Rattle.report.specs.declared.end.Asked.{Asked};
 ghost use Rattle.report.specs.declared.end.File.{File};
 ghost use Rattle.verdict.specs.Verdict.{rule_name};
 ghost use Rattle.words.specs.Reading.{Reads};
 ghost use Rattle.words.specs.declared.faults.Fault.{Fault};
 
-use crate::File;
 use crate::load::Loaded;
 use crate::places::place_names;
 use crate::reports::denial_report;
+use crate::{Asked, File};
 use base::Refusal;
 use captext::Fault;
 use std::alloc::{AllocError, Global};
@@ -56,6 +57,9 @@ pub(crate) trait Command {
 
     ghost read_of: { Layout → List ℕ → Result Held Fault };
 
+    // Which of the labels that it asks about a table lacks first, if it asks about any.
+    ghost lacks: { Self → Layout → Option Asked };
+
     // What judging asks of its caller.
     ghost may_judge: { Self → Type 0 };
 
@@ -69,9 +73,14 @@ pub(crate) trait Command {
     fn read_third(alloc: Global, table: &Table, bytes: &[u8]) -> Result<Self::Third, Fault>
         ensures { Reads held result (read_of table.now bytes.now) };
 
+    /// Which of the labels that it asks about the table lacks first.
+    fn unlabelled(&self, table: &Table) -> Option<Asked>
+        ensures { result ≡ lacks self.now table.now };
+
     /// The answer to a table, a policy and what the third file holds.
     fn judge(&self, alloc: Global, loaded: &Loaded<Self::Third>) -> Result<Answer, NoMemory>
-        requires { may_judge self.now }
+        requires may { may_judge self.now }
+        requires labels { lacks self.now loaded.now.table ≡ None }
         ensures right { IfOk result (λ answer.
             judges self.now loaded.now.table loaded.now.policy (held loaded.now.third) answer.text.items answer.status) }
         ensures exit { IfOk result (λ answer. answer.status ≤ 2) };

@@ -1,6 +1,6 @@
 ghost use Rattle.std.specs.Prelude.{◌≡◌, Some};
 ghost use Rattle.std.specs.Option.{option_copied};
-ghost use Rattle.report.specs.Ends.{file_word, message_of, status_of, unread_message};
+ghost use Rattle.report.specs.Ends.{file_word, message_of, status_of, unlabelled_message, unread_message};
 
 use std::fmt;
 
@@ -47,15 +47,38 @@ impl fmt::Display for File {
     }
 }
 
+/// A label that a command asks about, as the command line names it.
+#[derive(Clone, Copy, PartialEq, Eq, Debug)]
+pub enum Asked {
+    /// The label whose authority is asked for: `A`.
+    Actor,
+    /// The label on which it has that authority: `B`.
+    Object,
+}
+
+impl Asked {
+    /// The line that says that the table has no such label.
+    fn unlabelled_message(self) -> &'static str
+        ensures { result.now ≡ unlabelled_message self }
+    {
+        match self {
+            Asked::Actor => "confine: A is no label of the table",
+            Asked::Object => "confine: B is no label of the table",
+        }
+    }
+}
+
 /// How an engine ends.
 #[derive(Clone, Copy, PartialEq, Eq, Debug)]
 pub enum End {
-    /// The answer was written: 0 for a yes, 1 for a denial, 2 for a fault of a text.
+    /// The answer was written: 0 for a yes, 1 for a denial or a no, 2 for a fault of a text.
     Status(u8),
     /// Memory was refused, and nothing was written.
     NoMemory,
     /// The file couldn't be read, and nothing was written.
     CannotRead(File),
+    /// The table has no label of the name that was asked for, and nothing was written.
+    NoLabel(Asked),
     /// The answer couldn't be written, or only a beginning of it.
     CannotWrite,
 }
@@ -67,7 +90,7 @@ impl End {
     {
         match self {
             End::Status(status) => status,
-            End::NoMemory | End::CannotRead(_) | End::CannotWrite => 2,
+            End::NoMemory | End::CannotRead(_) | End::NoLabel(_) | End::CannotWrite => 2,
         }
     }
 
@@ -79,6 +102,7 @@ impl End {
             End::Status(_) => None,
             End::NoMemory => Some("confine: no memory"),
             End::CannotRead(file) => Some(file.unread_message()),
+            End::NoLabel(asked) => Some(asked.unlabelled_message()),
             End::CannotWrite => Some("confine: cannot write"),
         }
     }

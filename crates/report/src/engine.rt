@@ -1,15 +1,15 @@
-ghost use Rattle.std.specs.Prelude.{◌≡◌, ◌≤◌, false, true, IfOk, IsOkAnd};
+ghost use Rattle.std.specs.Prelude.{◌≡◌, ◌≤◌, false, true, Err, IfOk, IsOkAnd, None, Some};
 ghost use Rattle.std.specs.Io.KnownBytes.{Appends};
 ghost use Rattle.devices.specs.Devices.{AppendsBeginning};
-ghost use Rattle.report.specs.Commands.{IsAnswer, IsCarriedOut, input, output};
-ghost use Rattle.report.specs.Ends.{IfCannotWrite, IfStatus, IfUnwritten, is_unwritable, status_of, unread_file};
-ghost use Rattle.report.specs.Files.{Contents, Gives, unread_by, unread_of};
+ghost use Rattle.report.specs.Commands.{IsAnswer, IsCarriedOut, IsUnlabelled, input, output};
+ghost use Rattle.report.specs.Ends.{IfCannotWrite, IfNoLabel, IfStatus, IfUnwritten, is_unwritable, status_of, unread_file};
+ghost use Rattle.report.specs.Files.{Contents, Gives, IfUnlabelled, unread_by, unread_of};
 ghost use Rattle.report.specs.Opening.{IsCarriedOutOn};
 
 use crate::command::{Answer, Command};
 use crate::load::{Loaded, Stop, load};
 use crate::reports::fault_report;
-use crate::{End, File, Sink, Source, Watched};
+use crate::{Asked, End, File, Sink, Source, Watched};
 use devices::open_result;
 use std::alloc::Global;
 use std::io::{self, Read, Write};
@@ -19,6 +19,7 @@ use std::io::{self, Read, Write};
 pub(crate) enum Unanswered {
     NoMemory,
     CannotRead(File),
+    NoLabel(Asked),
 }
 
 /// Carries a command out on its files, and writes its answer.
@@ -41,7 +42,7 @@ where
     requires policy { P.failed policy.old ≡ false }
     requires third { S.failed third.old ≡ false }
     requires out { O.failed out.old ≡ false }
-    ensures { IsCarriedOut C.third_file C.read_of (C.judges command.now) (input T.remaining T.failed table.old table.new)
+    ensures { IsCarriedOut C.third_file C.read_of (C.lacks command.now) (C.judges command.now) (input T.remaining T.failed table.old table.new)
         (input P.remaining P.failed policy.old policy.new) (input S.remaining S.failed third.old third.new)
         (output O.contents O.failed O.is_flushed out.old out.new) result }
 {
@@ -65,7 +66,7 @@ where
     W: Write + Drop,
     requires command { C.may_judge command.now }
     requires third { S.failed third.old ≡ false }
-    ensures { IsCarriedOutOn C.third_file C.read_of (C.judges command.now) F.remaining W.contents table policy
+    ensures { IsCarriedOutOn C.third_file C.read_of (C.lacks command.now) (C.judges command.now) F.remaining W.contents table policy
         (input S.remaining S.failed third.old third.new) out result.0 result.1 }
 {
     let mut table = open_result(table);
@@ -85,13 +86,12 @@ fn answer<C: Command>(
     ensures right { IfOk result (λ answer. (contents : Contents C.Held) → Gives C.held contents loaded.now
         → IsAnswer (C.judges command.now) contents answer.text.items answer.status) }
     ensures exit { IfOk result (λ answer. answer.status ≤ 2) }
+    ensures unlabelled { IfUnlabelled result (λ asked. (contents : Contents C.Held) → Gives C.held contents loaded.now
+        → IsUnlabelled (C.lacks command.now) contents asked) }
     ensures unread { unread_by result ≡ unread_of loaded.now }
 {
     match loaded {
-        Ok(loaded) => match command.judge(alloc, loaded) {
-            Ok(answer) => Ok(answer),
-            Err(_) => Err(Unanswered::NoMemory),
-        },
+        Ok(loaded) => judged(command, alloc, loaded),
         Err(Stop::Faulty(file, fault)) => match fault_report(
             alloc,
             fault.number,
@@ -106,6 +106,28 @@ fn answer<C: Command>(
     }
 }
 
+/// The answer to what was loaded, if the table has the labels that are asked about.
+fn judged<C: Command>(
+    command: &C,
+    alloc: Global,
+    loaded: &Loaded<C::Third>,
+) -> Result<Answer, Unanswered>
+    requires { C.may_judge command.now }
+    ensures right { IfOk result (λ answer.
+        C.judges command.now loaded.now.table loaded.now.policy (C.held loaded.now.third) answer.text.items answer.status) }
+    ensures exit { IfOk result (λ answer. answer.status ≤ 2) }
+    ensures unlabelled { IfUnlabelled result (λ asked. C.lacks command.now loaded.now.table ≡ Some asked) }
+    ensures unread { unread_by result ≡ None }
+{
+    match command.unlabelled(&loaded.table) {
+        Some(asked) => Err(Unanswered::NoLabel(asked)),
+        None => match command.judge(alloc, loaded) {
+            Ok(answer) => Ok(answer),
+            Err(_) => Err(Unanswered::NoMemory),
+        },
+    }
+}
+
 /// Writes an answer, if there is one.
 fn write<O: Sink>(out: &mut O, answer: Result<Answer, Unanswered>) -> End
     requires { O.failed out.old ≡ false }
@@ -116,6 +138,7 @@ fn write<O: Sink>(out: &mut O, answer: Result<Answer, Unanswered>) -> End
     ensures unwritten { IfUnwritten result (out.new ≡ out.old) }
     ensures flushed { IfStatus result (λ status. O.is_flushed out.new ≡ true) }
     ensures exit { IfOk answer (λ answer. answer.status ≤ 2) → status_of result ≤ 2 }
+    ensures unlabelled { IfNoLabel result (λ asked. answer ≡ Err (Unanswered.NoLabel asked)) }
     ensures unread { unread_file result ≡ unread_by answer }
     ensures unwritable { is_unwritable result ≡ O.failed out.new }
 {
@@ -125,6 +148,7 @@ fn write<O: Sink>(out: &mut O, answer: Result<Answer, Unanswered>) -> End
             Err(_) => End::CannotWrite,
         },
         Err(Unanswered::CannotRead(file)) => End::CannotRead(file),
+        Err(Unanswered::NoLabel(asked)) => End::NoLabel(asked),
         Err(Unanswered::NoMemory) => End::NoMemory,
     }
 }

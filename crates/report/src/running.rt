@@ -10,7 +10,7 @@ ghost use Rattle.report.specs.declared.end.File.TheVariants as file;
 use crate::command::{Answer, Command, NoMemory, denial_text};
 use crate::engine::{carry_out, carry_out_on};
 use crate::load::Loaded;
-use crate::{End, File, Sink, Source};
+use crate::{Asked, End, File, Sink, Source};
 use base::Refusal;
 use captext::Fault;
 use deal::Open;
@@ -89,6 +89,8 @@ impl<R: Threads + Sync> Command for Running<'_, R> {
 
     ghost read_of = { λ table. read_script_of };
 
+    ghost lacks = { λ _. answers.no_label };
+
     ghost may_judge = { λ _. IsSync R.row };
 
     ghost judges = { λ run. answers.Runs };
@@ -99,6 +101,10 @@ impl<R: Threads + Sync> Command for Running<'_, R> {
 
     fn read_third(alloc: Global, _table: &Table, bytes: &[u8]) -> Result<Vec<Event>, Fault> {
         read_script(alloc, bytes)
+    }
+
+    fn unlabelled(&self, _table: &Table) -> Option<Asked> {
+        None
     }
 
     fn judge(&self, alloc: Global, loaded: &Loaded<Vec<Event>>) -> Result<Answer, NoMemory> {

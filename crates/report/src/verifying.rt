@@ -11,7 +11,7 @@ use crate::command::{Answer, Command, NoMemory, denial_text};
 use crate::engine::{carry_out, carry_out_on};
 use crate::load::Loaded;
 use crate::reports::accept_report;
-use crate::{End, File, Sink, Source};
+use crate::{Asked, End, File, Sink, Source};
 use captext::Fault;
 use certificate::{Certificate, NotAccepted};
 use devices::open_result;
@@ -92,6 +92,8 @@ impl<R: Threads + Sync> Command for Verifying<'_, R> {
 
     ghost read_of = { read_certificate_of };
 
+    ghost lacks = { λ _. answers.no_label };
+
     ghost may_judge = { λ _. IsSync R.row };
 
     ghost judges = { λ verify. answers.Verifies };
@@ -102,6 +104,10 @@ impl<R: Threads + Sync> Command for Verifying<'_, R> {
 
     fn read_third(alloc: Global, table: &Table, bytes: &[u8]) -> Result<Certificate, Fault> {
         certificate::read(alloc, bytes, table)
+    }
+
+    fn unlabelled(&self, _table: &Table) -> Option<Asked> {
+        None
     }
 
     fn judge(&self, alloc: Global, loaded: &Loaded<Certificate>) -> Result<Answer, NoMemory> {

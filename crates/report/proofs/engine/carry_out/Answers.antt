@@ -3,7 +3,7 @@ use Rattle.std.specs.Io.KnownBytes.{Appends}
 use Rattle.devices.specs.Devices.{AppendsBeginning}
 use Rattle.report.specs.Commands.{IsAnswer}
 use Rattle.report.specs.Files.{contents_of}
-use Rattle.report.proofs.Answered.{at_contents, began, written}
+use Rattle.report.proofs.Answered.{at_contents, began, unlabelled, written}
 use Rattle.report.proofs.engine.carry_out.Goals as goal
 
 pub returns : goal.returns
@@ -16,6 +16,7 @@ returns g c =
       answered = written c.write.result c.answer.result (IsAnswer judges held) (Appends (g.O.Sink.contents c.args.out.now) (g.O.Sink.contents c.write.new.out)) right c.write.ensures.status;
       begun = began c.write.result c.answer.result (IsAnswer judges held) (AppendsBeginning (g.O.Sink.contents c.args.out.now) (g.O.Sink.contents c.write.new.out)) right c.write.ensures.begun;
       unwritten = c.write.ensures.unwritten;
+      unlabelled = unlabelled command.held (command.lacks c.args.command.now) c.load-loaded.result c.write.result c.answer.result held c.load-loaded.ensures.loaded c.answer.ensures.unlabelled c.write.ensures.unlabelled;
       flushed = c.write.ensures.flushed;
       exit = c.write.ensures.exit c.answer.ensures.exit;
       policy_waits = c.load-loaded.ensures.policy_waits;

@@ -1,0 +1,64 @@
+-- What is told of a label's authority on another (the authority is that of 'seL4 Enforces Integrity', section 4, restated; telling why
+-- it is there is confine's own).
+use Rattle.std.specs.Prelude.{◌≡◌, ℕ, List, ◌++◌, codes, Option, Some, None, Result}
+use Rattle.std.specs.declared.io.Error.{Error}
+use Rattle.base.specs.declared.edge.Edge.{Edge}
+use Rattle.captext.specs.PolicyText.{edge_lines}
+use Rattle.machine.specs.Layout.{Layout}
+use Rattle.policy.specs.Policy.{allows}
+use Rattle.policy.specs.Reasons.{IsWhy}
+use Rattle.policy.specs.declared.why.Why.{Why}
+use Rattle.policy.specs.declared.why.Why.TheVariants as why
+use Rattle.report.specs.Answers.{no_file, read_nothing}
+use Rattle.report.specs.Commands.{Input, IsCarriedOut, Output}
+use Rattle.report.specs.Opening.{IsCarriedOutOn}
+use Rattle.report.specs.declared.end.Asked.{Asked}
+use Rattle.report.specs.declared.end.Asked.TheVariants as asked
+use Rattle.report.specs.declared.end.End.{End}
+use Rattle.report.specs.declared.end.File.TheVariants as file
+use Rattle.table.specs.Names.{label_named}
+
+-- of two labels that may be there, the first that isn't
+abbrev pub first_absent : Option ℕ → Option ℕ → Option Asked
+first_absent None object = Some asked.Actor
+first_absent (Some a) None = Some asked.Object
+first_absent (Some a) (Some b) = None
+
+-- of two names, the first that is no label of the table
+abbrev pub unlabelled : Layout → List ℕ → List ℕ → Option Asked
+unlabelled t actor object = first_absent (label_named t actor) (label_named t object)
+
+-- the lines that tell an authority: which it is, and the edges of the reason
+abbrev pub why_text : Layout → Why → List ℕ
+why_text t (why.Full edges) = codes "full\n" ++ edge_lines t edges.items
+why_text t (why.Cut edges) = codes "cut\n" ++ edge_lines t edges.items
+why_text t why.Nothing = codes "none\n"
+
+-- 0 for full authority, else 1
+abbrev pub why_status : Why → ℕ
+why_status (why.Full edges) = 0
+why_status (why.Cut edges) = 1
+why_status why.Nothing = 1
+
+-- a text and a status tell which authority the label of one name has on that of another by a policy, and the first reason for it
+pub record Tells (actor object : List ℕ) (t : Layout) (edges : List Edge) (text : List ℕ) (status : ℕ) : Type 0 where
+  pub of_actor : ℕ
+  pub of_object : ℕ
+  pub actor_named : label_named t actor ≡ Some of_actor
+  pub object_named : label_named t object ≡ Some of_object
+  pub authority : Why
+  pub is_why : IsWhy (allows edges) of_actor of_object authority
+  pub told : text ≡ why_text t authority
+  pub exit : status ≡ why_status authority
+
+-- it was told which authority a label has on another
+abbrev pub IsTold : {T P O : Type 0} → List ℕ → List ℕ → Input T → Input P → Output O → End → Type 0
+IsTold actor object table policy out end =
+    IsCarriedOut file.Policy read_nothing (λ t. unlabelled t actor object) (λ t edges none. Tells actor object t edges) table policy no_file out end
+
+-- the same on what opening the files gave
+abbrev pub IsToldOn :
+    {F W : Type 0} → List ℕ → List ℕ → (F → Option (List ℕ)) → (W → Option (List ℕ)) → Result F Error → Result F Error → W → End → W → Type 0
+IsToldOn actor object remaining contents table policy out end back =
+    IsCarriedOutOn file.Policy read_nothing (λ t. unlabelled t actor object) (λ t edges none. Tells actor object t edges) remaining contents table
+    policy no_file out end back

@@ -1,0 +1,157 @@
+ghost use Rattle.std.specs.Prelude.{◌≡◌, ◌++◌, [], false, IfOk};
+ghost use Rattle.captext.specs.PolicyText.{edge_lines};
+ghost use Rattle.report.specs.Answers as answers;
+ghost use Rattle.report.specs.Commands.{input, output};
+ghost use Rattle.report.specs.Questions as questions;
+ghost use Rattle.report.specs.declared.end.File.TheVariants as file;
+ghost use Rattle.words.specs.Reading.{Reads};
+
+use crate::command::{Answer, Command, NoMemory};
+use crate::engine::{carry_out, carry_out_on};
+use crate::load::{Loaded, NoFile};
+use crate::{Asked, End, File, Sink, Source};
+use base::{Edge, Refusal};
+use captext::{Fault, write_edges};
+use policy::Why;
+use std::alloc::Global;
+use std::io::{self, Read, Write};
+use table::Table;
+
+/// Which authority a label has on another by a policy, and why.
+///
+/// Writes `full` with status 0, or `cut` or `none` with status 1, each in a line of its own, and then the
+/// edges of one reason, as the policy has them; or the report of the first fault, with status 2.
+pub fn why<T, P, O>(
+    alloc: Global,
+    table: &mut T,
+    policy: &mut P,
+    actor: &str,
+    object: &str,
+    out: &mut O,
+) -> End
+where
+    T: Source,
+    P: Source,
+    O: Sink,
+    requires table { T.failed table.old ≡ false }
+    requires policy { P.failed policy.old ≡ false }
+    requires out { O.failed out.old ≡ false }
+    ensures { questions.IsTold actor.now object.now (input T.remaining T.failed table.old table.new)
+        (input P.remaining P.failed policy.old policy.new) (output O.contents O.failed O.is_flushed out.old out.new) result }
+{
+    let question = Question { actor, object };
+    carry_out(&question, alloc, table, policy, &mut NoFile, out)
+}
+
+/// The same on what opening the two files gave. Gives the end, and the writer back.
+pub fn why_on<F, W>(
+    alloc: Global,
+    table: io::Result<F>,
+    policy: io::Result<F>,
+    actor: &str,
+    object: &str,
+    out: W,
+) -> (End, W)
+where
+    F: Read + Drop,
+    W: Write + Drop,
+    ensures { questions.IsToldOn actor.now object.now F.remaining W.contents table policy out result.0 result.1 }
+{
+    let question = Question { actor, object };
+    carry_out_on(&question, alloc, table, policy, &mut NoFile, out)
+}
+
+/// The command `why`, which has no third file.
+#[derive(Clone, Copy)]
+struct Question<'a> {
+    actor: &'a str,
+    object: &'a str,
+}
+
+impl Command for Question<'_> {
+    type Third = ();
+
+    ghost third_file = { file.Policy };
+
+    ghost use Rattle.std.specs.Prelude.{ℕ, List, []};
+
+    ghost Held = { List ℕ };
+
+    ghost held = { λ none. [] };
+
+    ghost read_of = { answers.read_nothing };
+
+    ghost lacks = { λ question t. questions.unlabelled t question.actor.now question.object.now };
+
+    ghost may_judge = { λ _. Unit {0} };
+
+    ghost judges = { λ question t edges none. questions.Tells question.actor.now question.object.now t edges };
+
+    fn third_file() -> File
+        ensures { result ≡ file.Policy }
+    {
+        File::Policy
+    }
+
+    #[tactic(auto, unfolding(crate::specs::Answers::read_nothing))]
+    fn read_third(_alloc: Global, _table: &Table, _bytes: &[u8]) -> Result<(), Fault>
+        ensures { Reads (λ none. []) result (answers.read_nothing _table.now _bytes.now) }
+    {
+        Ok(())
+    }
+
+    fn unlabelled(&self, table: &Table) -> Option<Asked> {
+        if table.label_named(self.actor).is_none() {
+            Some(Asked::Actor)
+        } else if table.label_named(self.object).is_none() {
+            Some(Asked::Object)
+        } else {
+            None
+        }
+    }
+
+    fn judge(&self, alloc: Global, loaded: &Loaded<()>) -> Result<Answer, NoMemory> {
+        match (
+            loaded.table.label_named(self.actor),
+            loaded.table.label_named(self.object),
+        ) {
+            (Some(actor), Some(object)) => {
+                let why = loaded.policy.why(alloc, actor, object)?;
+                Ok(why_answer(alloc, &loaded.table, &why)?)
+            }
+            // The labels were looked up before.
+            _ => unreachable!(),
+        }
+    }
+}
+
+/// What is told of an authority.
+fn why_answer(alloc: Global, table: &Table, why: &Why) -> Result<Answer, Refusal>
+    ensures text { IfOk result (λ answer. answer.text.items ≡ questions.why_text table.now why.now) }
+    ensures status { IfOk result (λ answer. answer.status ≡ questions.why_status why.now) }
+{
+    match why {
+        Why::Full(edges) => Ok(Answer {
+            text: headed(alloc, "full\n", table, edges)?,
+            status: 0,
+        }),
+        Why::Cut(edges) => Ok(Answer {
+            text: headed(alloc, "cut\n", table, edges)?,
+            status: 1,
+        }),
+        Why::Nothing => Ok(Answer {
+            text: headed(alloc, "none\n", table, &[])?,
+            status: 1,
+        }),
+    }
+}
+
+/// A line, and the lines of edges.
+fn headed(alloc: Global, line: &str, table: &Table, edges: &[Edge]) -> Result<Vec<u8>, Refusal>
+    ensures { IfOk result (λ text. text.items ≡ line.now ++ edge_lines table.now edges.now) }
+{
+    let mut text = Vec::new(alloc);
+    text.extend_from_slice(line.as_bytes())?;
+    text.extend_from_slice(&write_edges(alloc, edges, table)?)?;
+    Ok(text)
+}
