@@ -112,6 +112,8 @@ impl<'a> Session<'a> {
             return Ok(Block::None);
         }
         match (word, words) {
+            // What it says is asked of the whole file.
+            ("all", "differ") => (),
             ("system", name) => self.read_system(rt, folder, name)?,
             ("asks", name) => self.asked = asked(name)?,
             ("beginnings", words) => self.try_beginnings(rt, words, case, tally)?,

@@ -54,6 +54,12 @@ impl Tally {
         self.differing = self.differing.saturating_add(other.differing);
     }
 
+    /// Has those count as differing that don't, of cases whose answers are wrong.
+    pub fn turn_round(&mut self) {
+        self.differing = self.run.saturating_sub(self.differing);
+        self.told.clear();
+    }
+
     /// Counts a case, and tells it where another answer came than the expected.
     pub fn compare(&mut self, case: Case<'_>, expected: &Answer, came: &Answer) {
         self.run = self.run.saturating_add(1);
