@@ -1,6 +1,6 @@
 -- What is placed after a change: each object has the entry that it had, but for the one that was changed or added; and the entries by
 -- number are these.
-use Rattle.std.proofs.Common.{◌≡◌, ◌≢◌, ℕ, Bool, true, false, cond, List, [], ◌∷◌, map, refl, sym, ap, subst}
+use Rattle.std.proofs.Common.{◌≡◌, ◌≢◌, ℕ, true, false, cond, List, [], ◌∷◌, map, refl, sym, ap, subst}
 use Rattle.std.proofs.Common.{◌∙◌, ◌⊎◌, inl, inr}
 use Rattle.std.specs.Prelude.{Option, Some, None, is_some, IsSome, option_map, option_and_then, ◌||◌}
 use Rattle.std.specs.Ordering.{nat_cmp, is_eq}

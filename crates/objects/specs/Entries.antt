@@ -1,5 +1,5 @@
 -- The entry of each object, what it says, and what the entries are after a change to one.
-use Rattle.std.specs.Prelude.{ℕ, Option, Some, None, option_map, option_and_then, slice_get, replicate}
+use Rattle.std.specs.Prelude.{ℕ, Option, None, option_map, option_and_then, slice_get, replicate}
 use Rattle.std.specs.FinMap as map
 use Rattle.std.specs.FinMap.{FinMap}
 use Rattle.base.specs.declared.ids.ObjId.{ObjId}

@@ -1,7 +1,6 @@
 -- The derivation tree in the slots of entries: when the links that slots have are those of a forest, and what the entries are after a
 -- slot has come under a parent or has left its own (confine's own).
 use Rattle.std.specs.Prelude.{◌≡◌, Option, Some, None, IsSome, option_and_then}
-use Rattle.std.proofs.Common.{ℕ}
 use Rattle.base.specs.declared.ids.ObjId.{ObjId}
 use Rattle.base.specs.declared.ids.SlotRef.{SlotRef}
 use Rattle.machine.specs.declared.cap.Cap.{Cap}
