@@ -1,23 +1,16 @@
 -- What is true of each state stays true under each change, and what contracts see of the state after it.
-use Rattle.std.proofs.Common.{◌≡◌, ℕ, ◌+◌, ◌<◌, ◌^◌, ◌≢◌, ◌⊎◌, List, [], ◌∷◌, ◌++◌, Bool, true, false, cond, length, refl, sym, ap}
+use Rattle.std.proofs.Common.{◌≡◌, ℕ, ◌+◌, ◌<◌, ◌^◌, ◌≢◌, List, [], ◌∷◌, ◌++◌, Bool, true, false, cond, length, refl, sym, ap}
 use Rattle.std.proofs.Common.{subst, ◌∙◌, arith, inl, inr}
 use Rattle.std.specs.Prelude.{Option, Some, None, is_some, IsSome, IfSome, option_map}
 use Rattle.std.specs.Prelude.{option_and_then, slice_get, IsTrue}
-use Rattle.std.specs.Option.{option_or, option_and}
-use Rattle.std.specs.Ordering.{nat_cmp}
-use Rattle.std.specs.BTreeMap as tree
-use Rattle.std.specs.BTreeMap.{BTreeMap}
-use Rattle.std.proofs.lemmas.Bool.{false≢true, ltb-true, cases_eq}
+use Rattle.std.proofs.lemmas.Bool.{false≢true, ltb-true}
 use Rattle.std.proofs.lemmas.Option.{same_Some}
 use Rattle.std.proofs.lemmas.List.{length-replicate}
-use Rattle.std.specs.Map.{lookup}
-use Rattle.slab.specs.Slab as slab
-use Rattle.slab.specs.Slab.{Slab}
 use Rattle.base.specs.declared.ids.ObjId.{ObjId}
 use Rattle.base.specs.declared.ids.SlotRef.{SlotRef}
 use Rattle.machine.specs.declared.object.Object.{Object}
 use Rattle.machine.specs.Objects.{slot_count}
-use Rattle.machine.specs.Machine.{Machine, same_id, object_of, has_slot, with_object}
+use Rattle.machine.specs.Machine.{Machine, id_cmp, same_id, object_of, has_slot, with_object}
 use Rattle.machine.proofs.LookUps.{id_total, id_apart}
 use Rattle.machine.specs.Machine.{with_queue, with_new, empty_machine, queue_of}
 use Rattle.machine.proofs.LookUps.{object_of-empty, queue_of-empty}
@@ -27,8 +20,9 @@ use Rattle.objects.specs.declared.links.Standing.{Standing}
 use Rattle.objects.specs.declared.slots.Slot.{Slot}
 use Rattle.objects.specs.declared.state.State.TheInside.{Inside}
 use Rattle.machine.specs.Changes.{first_waiting, with_waiting, without_first}
-use Rattle.objects.specs.Entries.{place_of, entry_of, slot_at, with_entry, replace_in}
-use Rattle.objects.specs.Entries.{empty_slot, new_entry, AddsEntry, SameEntries}
+use Rattle.objects.specs.Entries.{Entries, entry_of, slot_at, with_entry, replace_in}
+use Rattle.std.specs.FinMap as finite
+use Rattle.objects.specs.Entries.{empty_slot, new_entry}
 use Rattle.objects.specs.Family.{cap_in, links_of, AreKin}
 use Rattle.objects.specs.Links.{ends_of, standing_of, queue_in, AreQueued, pushed, left, popped}
 use Rattle.objects.specs.Queues.{walk, AreQueues}
@@ -36,14 +30,13 @@ use Rattle.objects.specs.Radices.{HasRadix}
 use Rattle.objects.specs.State.{machine_of, IsSized, IsConsistent}
 use Rattle.objects.specs.Waiting.{WaitsNowhere}
 use Rattle.objects.proofs.Families.{no_family, same_family}
-use Rattle.objects.proofs.FiniteLemmas.{by_key, cond_here, cond_elsewhere}
-use Rattle.objects.proofs.EntryLemmas.{some-none, placed_other, entry_of-with_entry, entry_of-added, entry_of-same}
-use Rattle.objects.proofs.EntryLemmas.{is_some-changed}
-use Rattle.objects.proofs.StateLemmas.{Tells, tells-machine_of, next-machine_of, same_from_tells, object_at}
+use Rattle.objects.proofs.FiniteLemmas.{by_key, same_from_tie, cond_here, cond_elsewhere}
+use Rattle.objects.proofs.EntryLemmas.{some-none, entry_of-with_entry}
+use Rattle.objects.proofs.StateLemmas.{Tells, present_kept, tells-machine_of, next-machine_of, same_from_tells, object_at}
 use Rattle.objects.proofs.ChangeLemmas.{added_read, reading_kept, slots_kept, tells-replace, tells-queue, tells-same, tells-new}
 use Rattle.objects.proofs.ChangeLemmas.{changed_here, changed_other, part_kept, links, rest, links_kept}
 use Rattle.objects.proofs.QueueLemmas.{cases_id, walk_none, walk_first, more_numbers, longer_walk}
-use Rattle.objects.proofs.LinkLemmas.{Requeues, relinked_places, stands_nowhere, pushed_requeues, pushed_queue, popped_requeues}
+use Rattle.objects.proofs.LinkLemmas.{Requeues, stands_nowhere, pushed_requeues, pushed_queue, popped_requeues}
 use Rattle.objects.proofs.LinkLemmas.{popped_queue}
 
 -- the derivation tree, where slots are as they were
@@ -53,22 +46,22 @@ same_slots old new same = same_family _ _ _ _ (λ q. ap links_of (same q)) (λ q
 
 -- the state with the entry of one object changed
 abbrev pub with_changed : Inside → ObjId → (Entry → Entry) → Inside
-with_changed s id change = record s { entries = with_entry s.places s.entries id change }
+with_changed s id change = record s { store = with_entry s.store id change }
 
 pub IsConsistent-changed :
     (s : Inside) → IsConsistent s → (id : ObjId) (change : Entry → Entry)
-    → ((e : Entry) → entry_of s.places s.entries id ≡ Some e → IsSized e → IsSized (change e))
+    → ((e : Entry) → entry_of s.store id ≡ Some e → IsSized e → IsSized (change e))
     → ((e : Entry) → links (change e) ≡ links e) → ((e : Entry) → (change e).slots ≡ e.slots)
     → IsConsistent (with_changed s id change)
 IsConsistent-changed s consistent id change keeps linked slots =
-    let changed = entry_of-with_entry s.places s.entries consistent.apart id change in
+    let changed = entry_of-with_entry s.store id change in
     record {
-      apart = consistent.apart;
-      held = λ a place is. is_some-changed s.entries change (place_of s.places id) place ∙ consistent.held a place is;
-      fresh = consistent.fresh;
+      fresh =
+          λ q some.
+          consistent.fresh q (present_kept links _ _ (sym (part_kept _ _ id change changed links linked q)) some);
       bounded = consistent.bounded;
       sized = λ q entry is. elim (cases_id q id) [
-        | inl same ↦ sized_here q entry same (entry_of s.places s.entries id) refl is
+        | inl same ↦ sized_here q entry same (entry_of s.store id) refl is
         | inr differs ↦ consistent.sized q entry (sym (changed_other _ _ id change changed q differs) ∙ is)
       ];
       queued = links_kept _ _ (part_kept _ _ id change changed links linked) s.next consistent.queued;
@@ -79,40 +72,37 @@ IsConsistent-changed s consistent id change keeps linked slots =
     }
   where
     sized_here :
-        (q : ObjId) (entry : Entry) → q ≡ id → (o : Option Entry) → entry_of s.places s.entries id ≡ o
-        → entry_of s.places (with_entry s.places s.entries id change) q ≡ Some entry → IsSized entry
+        (q : ObjId) (entry : Entry) → q ≡ id → (o : Option Entry) → entry_of s.store id ≡ o
+        → entry_of (with_entry s.store id change) q ≡ Some entry → IsSized entry
     sized_here q entry same None was is =
-        let now : entry_of s.places (with_entry s.places s.entries id change) id ≡ None =
-        entry_of-with_entry s.places s.entries consistent.apart id change id ∙ cond_here id_total id_apart id _ _
+        let now : entry_of (with_entry s.store id change) id ≡ None =
+        entry_of-with_entry s.store id change id ∙ cond_here id_total id_apart id _ _
         ∙ ap (option_map change) was in
         cc
     sized_here q entry same (Some e) was is =
-        let now : entry_of s.places (with_entry s.places s.entries id change) id ≡ Some (change e) =
-        changed_here _ _ id change (entry_of-with_entry s.places s.entries consistent.apart id change) e was in
+        let now : entry_of (with_entry s.store id change) id ≡ Some (change e) =
+        changed_here _ _ id change (entry_of-with_entry s.store id change) e was in
         let found : Some (change e) ≡ Some entry =
-        sym now ∙ ap (entry_of s.places (with_entry s.places s.entries id change)) (sym same) ∙ is in
+        sym now ∙ ap (entry_of (with_entry s.store id change)) (sym same) ∙ is in
         subst IsSized (same_Some (change e) entry found) (keeps e was (consistent.sized id e was))
 
 -- the state with its links changed
 pub IsConsistent-requeued :
-    (s : Inside) → IsConsistent s → (entries : Slab Entry) (id : ObjId)
-    → ((place : ℕ) → is_some (slab.get entries place) ≡ is_some (slab.get s.entries place))
-    → Requeues (entry_of s.places s.entries) (entry_of s.places entries) s.next id
-    → IsConsistent (record s { entries = entries })
-IsConsistent-requeued s consistent entries id kept requeues =
+    (s : Inside) → IsConsistent s → (entries : Entries) (id : ObjId)
+    → Requeues (entry_of s.store) (entry_of entries) s.next id
+    → IsConsistent (record s { store = entries })
+IsConsistent-requeued s consistent entries id requeues =
     record {
-      apart = consistent.apart;
-      held = λ a place is. kept place ∙ consistent.held a place is;
-      fresh = consistent.fresh;
+      fresh = λ q some. consistent.fresh q (present_kept rest _ _ (sym (requeues.same q)) some);
       bounded = consistent.bounded;
-      sized = λ q entry is. by_entry q entry is (entry_of s.places s.entries q) refl;
+      sized = λ q entry is. by_entry q entry is (entry_of s.store q) refl;
       queued = requeues.queued;
       kin = same_slots _ _ (slots_kept _ _ requeues.same) consistent.kin;
     }
   where
     by_entry :
-        (q : ObjId) (entry : Entry) → entry_of s.places entries q ≡ Some entry → (o : Option Entry)
-        → entry_of s.places s.entries q ≡ o → IsSized entry
+        (q : ObjId) (entry : Entry) → entry_of entries q ≡ Some entry → (o : Option Entry)
+        → entry_of s.store q ≡ o → IsSized entry
     by_entry q entry is None was =
         let none : Some (rest entry) ≡ None =
         ap (option_map rest) (sym is) ∙ requeues.same q ∙ ap (option_map rest) was in cc
@@ -124,11 +114,11 @@ IsConsistent-requeued s consistent entries id kept requeues =
 -- a slot that the machine has is one of an entry
 pub found_slot :
     (s : Inside) → IsConsistent s → (slot : SlotRef) → IsTrue (has_slot (machine_of s) slot)
-    → (e : Entry) × (entry_of s.places s.entries slot.holder ≡ Some e) × (slot.index < length e.slots)
-found_slot s consistent slot has = by_entry (entry_of s.places s.entries slot.holder) refl where
+    → (e : Entry) × (entry_of s.store slot.holder ≡ Some e) × (slot.index < length e.slots)
+found_slot s consistent slot has = by_entry (entry_of s.store slot.holder) refl where
   by_entry :
-      (o : Option Entry) → entry_of s.places s.entries slot.holder ≡ o
-      → (e : Entry) × (entry_of s.places s.entries slot.holder ≡ Some e) × (slot.index < length e.slots)
+      (o : Option Entry) → entry_of s.store slot.holder ≡ o
+      → (e : Entry) × (entry_of s.store slot.holder ≡ Some e) × (slot.index < length e.slots)
   by_entry None is =
       let none : object_of (machine_of s) slot.holder ≡ None = (tells-machine_of s).objects slot.holder ∙ ap object_at is in
       absurd (false≢true (rw none at has))
@@ -143,14 +133,14 @@ found_slot s consistent slot has = by_entry (entry_of s.places s.entries slot.ho
 
 pub first_waiting-machine_of :
     (s : Inside) → IsConsistent s → (id : ObjId)
-    → first_waiting (machine_of s) id ≡ option_and_then (λ e. e.ends.first) (entry_of s.places s.entries id)
+    → first_waiting (machine_of s) id ≡ option_and_then (λ e. e.ends.first) (entry_of s.store id)
 unfolding first_waiting
 first_waiting-machine_of s consistent id =
     ap (option_and_then (λ threads. slice_get threads 0)) ((tells-machine_of s).queues id)
-    ∙ by_entry (entry_of s.places s.entries id) refl where
+    ∙ by_entry (entry_of s.store id) refl where
       by_entry :
-          (o : Option Entry) → entry_of s.places s.entries id ≡ o
-          → option_and_then (λ threads. slice_get threads 0) (queue_in s.next (entry_of s.places s.entries) o)
+          (o : Option Entry) → entry_of s.store id ≡ o
+          → option_and_then (λ threads. slice_get threads 0) (queue_in s.next (entry_of s.store) o)
           ≡ option_and_then (λ e. e.ends.first) o
       by_entry None is = refl
       by_entry (Some e) is =
@@ -172,14 +162,14 @@ next-empty : empty_machine.next ≡ 0
 unfolding empty_machine
 next-empty = refl
 
-none_of : (s : Inside) → s.places.entries ≡ [] → (q : ObjId) → entry_of s.places s.entries q ≡ None
-none_of s none q = ap (λ es. option_and_then (slab.get s.entries) (lookup (tree.is_at (nat_cmp q.0)) es)) none
+none_of : (s : Inside) → s.store ≡ finite.empty → (q : ObjId) → entry_of s.store q ≡ None
+none_of s none q = ap (λ (m : Entries). finite.get m q) none ∙ finite.get-empty id_cmp q
 
-pub empty_gives : (s : Inside) → s.places.entries ≡ [] → s.next ≡ 0 → machine_of s ≡ empty_machine
+pub empty_gives : (s : Inside) → s.store ≡ finite.empty → s.next ≡ 0 → machine_of s ≡ empty_machine
 empty_gives s none next =
-    same_from_tells _ _ _ (entry_of s.places s.entries) (tells-machine_of s)
-    (subst (λ n. Tells n empty_machine (entry_of s.places s.entries)) (sym next)
-    (tells-same 0 empty_machine (λ _. None) (entry_of s.places s.entries) tells-empty (none_of s none)))
+    same_from_tells _ _ _ (entry_of s.store) (tells-machine_of s)
+    (subst (λ n. Tells n empty_machine (entry_of s.store)) (sym next)
+    (tells-same 0 empty_machine (λ _. None) (entry_of s.store) tells-empty (none_of s none)))
     (next-machine_of s ∙ next ∙ sym next-empty)
 
 -- where there are no entries, nobody waits
@@ -204,64 +194,29 @@ no_queues =
       nowhere = λ a is. (refl, refl);
     }
 
-empty_queued : (s : Inside) → s.places.entries ≡ [] → s.next ≡ 0 → AreQueued (entry_of s.places s.entries) s.next
+empty_queued : (s : Inside) → s.store ≡ finite.empty → s.next ≡ 0 → AreQueued (entry_of s.store) s.next
 empty_queued s none next =
-    links_kept (λ _. None) (entry_of s.places s.entries) (λ q. ap (option_map links) (none_of s none q)) s.next
+    links_kept (λ _. None) (entry_of s.store) (λ q. ap (option_map links) (none_of s none q)) s.next
     (subst (AreQueued (λ _. None)) (sym next) no_queues)
 
-pub IsConsistent-empty : (s : Inside) → s.places.entries ≡ [] → s.next ≡ 0 → IsConsistent s
+pub IsConsistent-empty : (s : Inside) → s.store ≡ finite.empty → s.next ≡ 0 → IsConsistent s
 IsConsistent-empty s none next =
-    let unplaced : (a : ℕ) → tree.get nat_cmp s.places a ≡ None =
-    λ a. ap (λ es. lookup (tree.is_at (nat_cmp a)) es) none in
     record {
-      apart = λ a b place here there. (let nowhere = unplaced a in cc);
-      held = λ a place is. (let nowhere = unplaced a in cc);
-      fresh = λ a some. absurd (some-none (tree.get nat_cmp s.places a) some (unplaced a));
+      fresh = λ id some. absurd (some-none (entry_of s.store id) some (none_of s none id));
       bounded = omega arith;
       sized = λ id entry is. (let absent = none_of s none id in cc);
       queued = empty_queued s none next;
       kin = no_family _ _ (λ q. ap (λ o. links_of (option_and_then (λ e. slice_get e.slots q.index) o)) (none_of s none q.holder));
     }
 
--- entries that are as they were, though memory for more was found
-
-pub IsConsistent-same :
-    (s : Inside) → IsConsistent s → (places : BTreeMap ℕ ℕ) (entries : Slab Entry) → SameEntries s.places places s.entries entries
-    → IsConsistent (record s { places = places; entries = entries })
-IsConsistent-same s consistent places entries same =
-    record {
-      apart = λ a b place here there. consistent.apart a b place (sym (same.placed a) ∙ here) (sym (same.placed b) ∙ there);
-      held = λ a place is. ap is_some (same.kept place) ∙ consistent.held a place (sym (same.placed a) ∙ is);
-      fresh = λ a some. consistent.fresh a (sym (ap is_some (same.placed a)) ∙ some);
-      bounded = consistent.bounded;
-      sized = λ id entry is. consistent.sized id entry (sym (entry_of-same s.places places s.entries entries same id) ∙ is);
-      queued =
-          links_kept _ _ (λ q. ap (option_map links) (entry_of-same s.places places s.entries entries same q)) s.next consistent.queued;
-      kin =
-          same_slots _ _
-          (λ q. ap (option_and_then (λ e. slice_get e.slots q.index)) (entry_of-same s.places places s.entries entries same q.holder))
-          consistent.kin;
-    }
-
-pub same_gives :
-    (s : Inside) (places : BTreeMap ℕ ℕ) (entries : Slab Entry) → SameEntries s.places places s.entries entries
-    → machine_of (record s { places = places; entries = entries }) ≡ machine_of s
-same_gives s places entries same =
-    let s' : Inside = record s { places = places; entries = entries } in
-    same_from_tells _ _ _ (entry_of places entries) (tells-machine_of s')
-    (tells-same s.next (machine_of s) (entry_of s.places s.entries) (entry_of places entries) (tells-machine_of s)
-    (entry_of-same s.places places s.entries entries same))
-    (next-machine_of s' ∙ sym (next-machine_of s))
-
 -- a new object
 
-number_unused : (s : Inside) → IsConsistent s → (o : Option ℕ) → tree.get nat_cmp s.places s.next ≡ o → o ≡ None
-number_unused s consistent None is = refl
-number_unused s consistent (Some place) is = let below : s.next < s.next = consistent.fresh s.next (ap is_some is) in absurd (omega arith)
-
-vacant_number : (s : Inside) → IsConsistent s → entry_of s.places s.entries (record { 0 = s.next }) ≡ None
-vacant_number s consistent =
-    ap (option_and_then (slab.get s.entries)) (number_unused s consistent (tree.get nat_cmp s.places s.next) refl)
+vacant_number : (s : Inside) → IsConsistent s → entry_of s.store (record { 0 = s.next }) ≡ None
+vacant_number s consistent = by_entry (entry_of s.store (record { 0 = s.next })) refl where
+  by_entry : (o : Option Entry) → entry_of s.store (record { 0 = s.next }) ≡ o → o ≡ None
+  by_entry None is = refl
+  by_entry (Some e) is =
+      let below : s.next < s.next = consistent.fresh (record { 0 = s.next }) (ap is_some is) in absurd (omega arith)
 
 -- a new object changes no queue
 
@@ -317,105 +272,70 @@ module _ (old new : ObjId → Option Entry) (numbers : ℕ) (id : ObjId) (object
           ≡ walk (λ a. standing_of (old a)) numbers (ends_of o).first) is
           (longer_walk (λ a. ends_of (old a)) (λ a. standing_of (old a)) numbers queued q))
 
-pub IsConsistent-added :
-    (s : Inside) → IsConsistent s → s.next < 2 ^ 48 → (object : Object) → HasRadix object
-    → (places : BTreeMap ℕ ℕ) (entries : Slab Entry) → AddsEntry s.places places s.entries entries s.next (new_entry object)
-    → IsConsistent (record s { places = places; entries = entries; next = s.next + 1 })
-IsConsistent-added s consistent room object radix places entries adds =
-    record {
-      apart = λ a b place here there. elim (cases_eq a s.next) [
-        | inl first ↦ elim (cases_eq b s.next) [
-          | inl second ↦ first ∙ sym second
-          | inr differs ↦ absurd (clash b place differs there (subst (λ n. tree.get nat_cmp places n ≡ Some place) first here))
-        ]
-        | inr differs ↦ elim (cases_eq b s.next) [
-          | inl second ↦ absurd (clash a place differs here (subst (λ n. tree.get nat_cmp places n ≡ Some place) second there))
-          | inr apart ↦ consistent.apart a b place (before a differs ∙ here) (before b apart ∙ there)
-        ]
-      ];
-      held = λ a place is. held_after a place is (cases_eq place adds.place) (cases_eq a s.next);
-      fresh = λ a some. elim (cases_eq a s.next) [
-        | inl same ↦ omega arith
-        | inr differs ↦ let below : a < s.next = consistent.fresh a (ap is_some (before a differs) ∙ some) in omega arith
-      ];
-      bounded = omega arith;
-      sized =
-          λ q entry is.
-          sized_after q entry (same_id q (record { 0 = s.next }))
-          (sym (entry_of-added s.places places s.entries entries (record { 0 = s.next }) (new_entry object) consistent.held adds q)
-          ∙ is);
-      queued =
-          new_queued (entry_of s.places s.entries) (entry_of places entries) s.next (record { 0 = s.next }) object
-          (vacant_number s consistent)
-          (entry_of-added s.places places s.entries entries (record { 0 = s.next }) (new_entry object) consistent.held adds)
-          consistent.queued;
-      kin = same_family _ _ _ _ (read_before links_of refl) (read_before cap_in refl) consistent.kin;
-    }
-  where
-    read_before :
-        {A : Type 0} (read : Option Slot → A) → read (Some empty_slot) ≡ read None → (q : SlotRef)
-        → read (slot_at (entry_of places entries) q) ≡ read (slot_at (entry_of s.places s.entries) q)
-    read_before read none =
-        added_read (entry_of s.places s.entries) (entry_of places entries) object (record { 0 = s.next }) (vacant_number s consistent)
-        (entry_of-added s.places places s.entries entries (record { 0 = s.next }) (new_entry object) consistent.held adds) read none
-
-    before : (a : ℕ) → (a ≡ s.next → ⊥) → tree.get nat_cmp s.places a ≡ tree.get nat_cmp places a
-    before a differs = sym (placed_other s.places places s.next (Some adds.place) adds.placed a differs)
-
-    clash :
-        (b place : ℕ) → (b ≡ s.next → ⊥) → tree.get nat_cmp places b ≡ Some place → tree.get nat_cmp places s.next ≡ Some place
-        → ⊥
-    clash b place differs there here =
-        let same : adds.place ≡ place = same_Some adds.place place (sym adds.placed.1 ∙ here) in
-        some-none (slab.get s.entries place) (consistent.held b place (before b differs ∙ there))
-        (subst (λ k. slab.get s.entries k ≡ None) same adds.vacant)
-
-    held_after :
-        (a place : ℕ) → tree.get nat_cmp places a ≡ Some place → (place ≡ adds.place) ⊎ (place ≡ adds.place → ⊥)
-        → (a ≡ s.next) ⊎ (a ≡ s.next → ⊥) → IsSome (slab.get entries place)
-    held_after a place is (inl same) number = ap is_some (ap (slab.get entries) same ∙ adds.added.changed)
-    held_after a place is (inr apart) (inl number) =
-        absurd
-        (apart (same_Some place adds.place (sym (subst (λ n. tree.get nat_cmp places n ≡ Some place) number is) ∙ adds.placed.1)))
-    held_after a place is (inr apart) (inr number) =
-        ap is_some (adds.added.others place apart) ∙ consistent.held a place (before a number ∙ is)
-
-    sized_after :
-        (q : ObjId) (entry : Entry) (tie : Bool) → cond tie (Some (new_entry object)) (entry_of s.places s.entries q) ≡ Some entry
-        → IsSized entry
-    sized_after q entry true is =
-        subst IsSized (same_Some (new_entry object) entry is) (length-replicate (slot_count object) _, radix)
-    sized_after q entry false is = consistent.sized q entry is
-
 next-with_new : (m : Machine) (object : Object) → (with_new m object).next ≡ m.next + 1
 unfolding with_new
 next-with_new m object = refl
 
-pub added_gives :
-    (s : Inside) → IsConsistent s → (object : Object) (places : BTreeMap ℕ ℕ) (entries : Slab Entry)
-    → AddsEntry s.places places s.entries entries s.next (new_entry object)
-    → machine_of (record s { places = places; entries = entries; next = s.next + 1 }) ≡ with_new (machine_of s) object
-added_gives s consistent object places entries adds =
-    let s' : Inside = record s { places = places; entries = entries; next = s.next + 1 } in
-    let id : ObjId = record { 0 = s.next } in
-    let added :
-    (q : ObjId) → entry_of places entries q ≡ cond (same_id q id) (Some (new_entry object)) (entry_of s.places s.entries q) =
-    entry_of-added s.places places s.entries entries id (new_entry object) consistent.held adds in
-    let vacant : entry_of s.places s.entries id ≡ None = vacant_number s consistent in
-    same_from_tells _ _ _ (entry_of places entries) (tells-machine_of s')
-    (tells-new s.next (machine_of s) (entry_of s.places s.entries) (entry_of places entries) (tells-machine_of s) object
-    (rw (next-machine_of s) added)
-    (rw (next-machine_of s) vacant)
-    (rw (next-machine_of s)
-    (new_queues (entry_of s.places s.entries) (entry_of places entries) s.next id object vacant added consistent.queued)))
-    (next-machine_of s' ∙ sym (next-with_new (machine_of s) object ∙ ap (λ n. n + 1) (next-machine_of s)))
+-- the state with a new object
+abbrev pub with_added : Inside → Object → Inside
+with_added s object =
+    record { store = finite.insert s.store (record { 0 = s.next }) (new_entry object); next = s.next + 1 }
+
+module _ (s : Inside) (consistent : IsConsistent s) (object : Object) where
+  abbrev id : ObjId
+  id = record { 0 = s.next }
+
+  abbrev with_it : ObjId → Option Entry
+  with_it = entry_of (with_added s object).store
+
+  added : (q : ObjId) → with_it q ≡ cond (same_id q id) (Some (new_entry object)) (entry_of s.store q)
+  added = finite.get-insert id_total s.store id (new_entry object)
+
+  vacant : entry_of s.store id ≡ None
+  vacant = vacant_number s consistent
+
+  read_before :
+      {A : Type 0} (read : Option Slot → A) → read (Some empty_slot) ≡ read None → (q : SlotRef)
+      → read (slot_at with_it q) ≡ read (slot_at (entry_of s.store) q)
+  read_before read none = added_read (entry_of s.store) with_it object id vacant added read none
+
+  fresh_after : (q : ObjId) (tie : Bool) → same_id q id ≡ tie → IsSome (cond tie (Some (new_entry object)) (entry_of s.store q)) → q.0 < s.next + 1
+  fresh_after q true is some =
+      let same : q.0 ≡ s.next = ap (λ (k : ObjId). k.0) (same_from_tie id_total id_apart q id is) in omega arith
+  fresh_after q false is some = let below : q.0 < s.next = consistent.fresh q some in omega arith
+
+  sized_after :
+      HasRadix object → (q : ObjId) (entry : Entry) (tie : Bool)
+      → cond tie (Some (new_entry object)) (entry_of s.store q) ≡ Some entry → IsSized entry
+  sized_after radix q entry true is =
+      subst IsSized (same_Some (new_entry object) entry is) (length-replicate (slot_count object) _, radix)
+  sized_after radix q entry false is = consistent.sized q entry is
+
+  pub IsConsistent-added : s.next < 2 ^ 48 → HasRadix object → IsConsistent (with_added s object)
+  IsConsistent-added room radix =
+      record {
+        fresh = λ q some. fresh_after q (same_id q id) refl (subst IsSome (added q) some);
+        bounded = omega arith;
+        sized = λ q entry is. sized_after radix q entry (same_id q id) (sym (added q) ∙ is);
+        queued = new_queued (entry_of s.store) with_it s.next id object vacant added consistent.queued;
+        kin = same_family _ _ _ _ (read_before links_of refl) (read_before cap_in refl) consistent.kin;
+      }
+
+  pub added_gives : machine_of (with_added s object) ≡ with_new (machine_of s) object
+  added_gives =
+      same_from_tells _ _ _ with_it (tells-machine_of (with_added s object))
+      (tells-new s.next (machine_of s) (entry_of s.store) with_it (tells-machine_of s) object
+      (rw (next-machine_of s) added)
+      (rw (next-machine_of s) vacant)
+      (rw (next-machine_of s) (new_queues (entry_of s.store) with_it s.next id object vacant added consistent.queued)))
+      (next-machine_of (with_added s object) ∙ sym (next-with_new (machine_of s) object ∙ ap (λ n. n + 1) (next-machine_of s)))
 
 -- each object that the machine has is an entry's, so a CNode has a radix
 
 pub HasRadix-machine_of :
     (s : Inside) → IsConsistent s → (id : ObjId) (object : Object) → object_of (machine_of s) id ≡ Some object → HasRadix object
-HasRadix-machine_of s consistent id object present = by_entry (entry_of s.places s.entries id) refl where
-  by_entry : (o : Option Entry) → entry_of s.places s.entries id ≡ o → HasRadix object
+HasRadix-machine_of s consistent id object present = by_entry (entry_of s.store id) refl where
+  by_entry : (o : Option Entry) → entry_of s.store id ≡ o → HasRadix object
   by_entry None is = let none : object_of (machine_of s) id ≡ None = (tells-machine_of s).objects id ∙ ap object_at is in cc
   by_entry (Some e) is =
       let some : object_of (machine_of s) id ≡ Some e.object = (tells-machine_of s).objects id ∙ ap object_at is in
@@ -425,9 +345,9 @@ HasRadix-machine_of s consistent id object present = by_entry (entry_of s.places
 
 -- an object that the machine has has an entry
 found_entry :
-    (s : Inside) (id : ObjId) → IsSome (object_of (machine_of s) id) → (e : Entry) × (entry_of s.places s.entries id ≡ Some e)
-found_entry s id some = by_entry (entry_of s.places s.entries id) refl where
-  by_entry : (o : Option Entry) → entry_of s.places s.entries id ≡ o → (e : Entry) × (entry_of s.places s.entries id ≡ Some e)
+    (s : Inside) (id : ObjId) → IsSome (object_of (machine_of s) id) → (e : Entry) × (entry_of s.store id ≡ Some e)
+found_entry s id some = by_entry (entry_of s.store id) refl where
+  by_entry : (o : Option Entry) → entry_of s.store id ≡ o → (e : Entry) × (entry_of s.store id ≡ Some e)
   by_entry None is = absurd (some-none (object_of (machine_of s) id) some ((tells-machine_of s).objects id ∙ ap object_at is))
   by_entry (Some e) is = (e, is)
 
@@ -451,9 +371,9 @@ pub replace_gives :
 replace_gives s consistent id object some =
     let found = found_entry s id some in
     let s' : Inside = with_changed s id (replace_in object) in
-    same_from_tells _ _ _ (entry_of s'.places s'.entries) (tells-machine_of s')
-    (tells-replace s.next (machine_of s) (entry_of s.places s.entries) (entry_of s'.places s'.entries) (tells-machine_of s) id object
-    (entry_of-with_entry s.places s.entries consistent.apart id (replace_in object)) found.0 found.1)
+    same_from_tells _ _ _ (entry_of s'.store) (tells-machine_of s')
+    (tells-replace s.next (machine_of s) (entry_of s.store) (entry_of s'.store) (tells-machine_of s) id object
+    (entry_of-with_entry s.store id (replace_in object)) found.0 found.1)
     (next-machine_of s' ∙ sym (next-with_object (machine_of s) id object ∙ next-machine_of s))
 
 -- a thread comes to wait, or leaves
@@ -464,17 +384,17 @@ next-with_queue m id threads = refl
 
 module _ (s : Inside) (consistent : IsConsistent s) (id : ObjId) where
   abbrev entry : ObjId → Option Entry
-  entry = entry_of s.places s.entries
+  entry = entry_of s.store
 
   -- the machine where one queue is another
   queue_gives :
-      (entries : Slab Entry) (queue : List ObjId) → Requeues entry (entry_of s.places entries) s.next id
-      → queue_in s.next (entry_of s.places entries) (entry_of s.places entries id) ≡ Some queue
-      → machine_of (record s { entries = entries }) ≡ with_queue (machine_of s) id queue
+      (entries : Entries) (queue : List ObjId) → Requeues entry (entry_of entries) s.next id
+      → queue_in s.next (entry_of entries) (entry_of entries id) ≡ Some queue
+      → machine_of (record s { store = entries }) ≡ with_queue (machine_of s) id queue
   queue_gives entries queue requeues here =
-      let s' : Inside = record s { entries = entries } in
-      same_from_tells _ _ _ (entry_of s.places entries) (tells-machine_of s')
-      (tells-queue s.next (machine_of s) entry (entry_of s.places entries) (tells-machine_of s) id queue requeues.same here
+      let s' : Inside = record s { store = entries } in
+      same_from_tells _ _ _ (entry_of entries) (tells-machine_of s')
+      (tells-queue s.next (machine_of s) entry (entry_of entries) (tells-machine_of s) id queue requeues.same here
       requeues.others)
       (next-machine_of s' ∙ sym (next-with_queue (machine_of s) id queue ∙ next-machine_of s))
 
@@ -513,10 +433,7 @@ module _ (s : Inside) (consistent : IsConsistent s) (id : ObjId) where
       by_entry (Some e) is = ap is_some is
 
     thread_known : thread.0 < s.next
-    thread_known = consistent.fresh thread.0 (placed (place_of s.places thread) thread_there) where
-      placed : (o : Option ℕ) → IsSome (option_and_then (slab.get s.entries) o) → IsSome o
-      placed None some = some
-      placed (Some place) some = refl
+    thread_known = consistent.fresh thread thread_there
 
     thread_free : (standing_of (entry thread)).at ≡ None
     thread_free =
@@ -524,79 +441,74 @@ module _ (s : Inside) (consistent : IsConsistent s) (id : ObjId) where
         (λ q threads is. free q threads ((tells-machine_of s).queues q ∙ is))
 
     pub IsConsistent-pushed :
-        IsConsistent (record s { entries = pushed s.places s.entries id thread (option_map (λ e. e.ends) (entry id)) })
+        IsConsistent (record s { store = pushed s.store id thread (option_map (λ e. e.ends) (entry id)) })
     IsConsistent-pushed = by_entry (entry id) refl where
       by_entry :
           (o : Option Entry) → entry id ≡ o
-          → IsConsistent (record s { entries = pushed s.places s.entries id thread (option_map (λ e. e.ends) o) })
+          → IsConsistent (record s { store = pushed s.store id thread (option_map (λ e. e.ends) o) })
       by_entry None is = consistent
       by_entry (Some e) is =
-          IsConsistent-requeued s consistent (pushed s.places s.entries id thread (Some e.ends)) id
-          (relinked_places s.places consistent.apart s.entries e.ends.last (λ s. record s { next = Some thread }) thread
-          (record { at = Some id; previous = e.ends.last; next = None }) id
-          (record { first = option_or e.ends.first (Some thread); last = Some thread }))
-          (pushed_requeues s.places consistent.apart s.entries s.next id thread consistent.queued e is thread_there thread_known thread_free)
+          IsConsistent-requeued s consistent (pushed s.store id thread (Some e.ends)) id
+          (pushed_requeues s.store s.next id thread consistent.queued e is thread_there thread_known thread_free)
 
     pub push_gives :
-        machine_of (record s { entries = pushed s.places s.entries id thread (option_map (λ e. e.ends) (entry id)) })
+        machine_of (record s { store = pushed s.store id thread (option_map (λ e. e.ends) (entry id)) })
         ≡ with_waiting (machine_of s) id thread
     push_gives = by_entry (entry id) refl where
       by_entry :
           (o : Option Entry) → entry id ≡ o
-          → machine_of (record s { entries = pushed s.places s.entries id thread (option_map (λ e. e.ends) o) })
+          → machine_of (record s { store = pushed s.store id thread (option_map (λ e. e.ends) o) })
           ≡ with_waiting (machine_of s) id thread
       by_entry None is =
           sym
           (waiting_none (machine_of s) thread
           ((tells-machine_of s).queues id ∙ ap (queue_in s.next entry) is))
       by_entry (Some e) is =
-          queue_gives (pushed s.places s.entries id thread (Some e.ends)) _
-          (pushed_requeues s.places consistent.apart s.entries s.next id thread consistent.queued e is thread_there thread_known thread_free)
-          (pushed_queue s.places consistent.apart s.entries s.next id thread consistent.queued e is thread_there thread_known thread_free)
+          queue_gives (pushed s.store id thread (Some e.ends)) _
+          (pushed_requeues s.store s.next id thread consistent.queued e is thread_there thread_known thread_free)
+          (pushed_queue s.store s.next id thread consistent.queued e is thread_there thread_known thread_free)
           ∙ sym
           (waiting_some (machine_of s) thread _ ((tells-machine_of s).queues id ∙ ap (queue_in s.next entry) is))
 
   pub IsConsistent-popped :
-      IsConsistent (record s { entries = popped s.places s.entries id (option_map (λ e. e.ends) (entry id)) })
+      IsConsistent (record s { store = popped s.store id (option_map (λ e. e.ends) (entry id)) })
   IsConsistent-popped = by_entry (entry id) refl where
     by_first :
         (e : Entry) → entry id ≡ Some e → (o : Option ObjId) → e.ends.first ≡ o
-        → IsConsistent (record s { entries = left s.places s.entries id e.ends o })
+        → IsConsistent (record s { store = left s.store id e.ends o })
     by_first e is None first = consistent
     by_first e is (Some thread) first =
         let next : Option ObjId = (standing_of (entry thread)).next in
-        IsConsistent-requeued s consistent (left s.places s.entries id e.ends (Some thread)) id
-        (relinked_places s.places consistent.apart s.entries next (λ s. record s { previous = None }) thread
-        (record { at = None; previous = None; next = None }) id (record { first = next; last = option_and next e.ends.last }))
-        (popped_requeues s.places consistent.apart s.entries s.next id thread consistent.queued e is first)
+        IsConsistent-requeued s consistent (left s.store id e.ends (Some thread)) id
+        (popped_requeues s.store s.next id thread consistent.queued e is first)
 
     by_entry :
         (o : Option Entry) → entry id ≡ o
-        → IsConsistent (record s { entries = popped s.places s.entries id (option_map (λ e. e.ends) o) })
+        → IsConsistent (record s { store = popped s.store id (option_map (λ e. e.ends) o) })
     by_entry None is = consistent
     by_entry (Some e) is = by_first e is e.ends.first refl
 
   pub pop_gives :
-      machine_of (record s { entries = popped s.places s.entries id (option_map (λ e. e.ends) (entry id)) })
+      machine_of (record s { store = popped s.store id (option_map (λ e. e.ends) (entry id)) })
       ≡ without_first (machine_of s) id
   pop_gives = by_entry (entry id) refl where
     by_first :
         (e : Entry) → entry id ≡ Some e → (o : Option ObjId) → e.ends.first ≡ o
-        → machine_of (record s { entries = left s.places s.entries id e.ends o }) ≡ without_first (machine_of s) id
+        → machine_of (record s { store = left s.store id e.ends o }) ≡ without_first (machine_of s) id
     by_first e is None first =
         sym
         (first_nil (machine_of s)
         ((tells-machine_of s).queues id ∙ ap (queue_in s.next entry) is
         ∙ ap Some (ap (walk (λ thread. standing_of (entry thread)) s.next) first ∙ walk_none (λ thread. standing_of (entry thread)) s.next)))
     by_first e is (Some thread) first =
-        let queues = popped_queue s.places consistent.apart s.entries s.next id thread consistent.queued e is first in
-        queue_gives (left s.places s.entries id e.ends (Some thread)) queues.0
-        (popped_requeues s.places consistent.apart s.entries s.next id thread consistent.queued e is first) queues.2
+        let queues = popped_queue s.store s.next id thread consistent.queued e is first in
+        queue_gives (left s.store id e.ends (Some thread)) queues.0
+        (popped_requeues s.store s.next id thread consistent.queued e is first) queues.2
         ∙ sym (first_cons (machine_of s) thread queues.0 ((tells-machine_of s).queues id ∙ queues.1))
 
     by_entry :
         (o : Option Entry) → entry id ≡ o
-        → machine_of (record s { entries = popped s.places s.entries id (option_map (λ e. e.ends) o) })
+        → machine_of (record s { store = popped s.store id (option_map (λ e. e.ends) o) })
         ≡ without_first (machine_of s) id
     by_entry None is = sym (first_none (machine_of s) ((tells-machine_of s).queues id ∙ ap (queue_in s.next entry) is))
     by_entry (Some e) is = by_first e is e.ends.first refl

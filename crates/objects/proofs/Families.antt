@@ -1,17 +1,13 @@
 -- The links of slots stay those of a forest that joins filled slots, where a slot comes under a parent, and where it leaves its own.
 use Rattle.std.proofs.Common.{◌≡◌, ◌≢◌, ℕ, ◌<◌, ◌⊎◌, inl, inr, refl, sym, ap, subst, ◌∙◌, arith}
 use Rattle.std.specs.Prelude.{Option, Some, None, IsSome}
-use Rattle.std.specs.BTreeMap.{BTreeMap}
-use Rattle.slab.specs.Slab.{Slab}
 use Rattle.base.specs.declared.ids.SlotRef.{SlotRef}
 use Rattle.machine.specs.declared.cap.Cap.{Cap}
-use Rattle.objects.specs.declared.entry.Entry.{Entry}
 use Rattle.objects.specs.declared.links.TreeLinks.{TreeLinks}
-use Rattle.objects.specs.Entries.{entry_of, slot_at}
+use Rattle.objects.specs.Entries.{Entries, entry_of, slot_at}
 use Rattle.objects.specs.Family.{cap_in, links_at, with_links, attached, head_of, leaving, by_links, IsFamily, AreKin}
 use Rattle.objects.specs.Forest.{Joins, Leaves}
 use Rattle.objects.proofs.Detaching.{left_forest}
-use Rattle.objects.proofs.EntryLemmas.{IsApart}
 use Rattle.objects.proofs.Forests.{empty_forest, joined_forest}
 use Rattle.objects.proofs.SlotLemmas.{SetsLinks, SlotsAlone, alone_twice, cases_slot, filled_there, link_kept, linked_there, sets_links}
 
@@ -47,15 +43,15 @@ refilled_family links cap cap' family low high =
       above = λ c p is. high c p is (family.above c p is);
     }
 
-module _ (places : BTreeMap ℕ ℕ) (apart : IsApart places) (entries : Slab Entry) (kin : AreKin (entry_of places entries)) where
+module _ (entries : Entries) (kin : AreKin (entry_of entries)) where
   abbrev old : SlotRef → TreeLinks
-  old = links_at (entry_of places entries)
+  old = links_at (entry_of entries)
 
   abbrev held : SlotRef → Option Cap
-  held q = cap_in (slot_at (entry_of places entries) q)
+  held q = cap_in (slot_at (entry_of entries) q)
 
   abbrev there : SlotRef → Type 0
-  there q = IsSome (slot_at (entry_of places entries) q)
+  there q = IsSome (slot_at (entry_of entries) q)
 
   behind_differs : (a b : SlotRef) → (old b).previous ≡ Some a → a ≢ b
   behind_differs a b behind same =
@@ -83,34 +79,34 @@ module _ (places : BTreeMap ℕ ℕ) (apart : IsApart places) (entries : Slab En
     abbrev set_first : TreeLinks → TreeLinks
     set_first l = record l { first = Some slot }
 
-    abbrev entries1 : Slab Entry
-    entries1 = with_links places entries head set_leader
+    abbrev entries1 : Entries
+    entries1 = with_links entries head set_leader
 
-    abbrev entries2 : Slab Entry
-    entries2 = with_links places entries1 (Some slot) set_under
+    abbrev entries2 : Entries
+    entries2 = with_links entries1 (Some slot) set_under
 
-    first_step : SetsLinks places entries entries1 head set_leader
+    first_step : SetsLinks entries entries1 head set_leader
     first_step =
-        sets_links places apart entries head set_leader
-        (λ q is. linked_there (slot_at (entry_of places entries) q) (λ l. l.parent) parent refl (kin.forest.headed parent q is).0)
+        sets_links entries head set_leader
+        (λ q is. linked_there (slot_at (entry_of entries) q) (λ l. l.parent) parent refl (kin.forest.headed parent q is).0)
 
-    second_step : SetsLinks places entries1 entries2 (Some slot) set_under
+    second_step : SetsLinks entries1 entries2 (Some slot) set_under
     second_step =
-        sets_links places apart entries1 (Some slot) set_under
+        sets_links entries1 (Some slot) set_under
         (λ q is.
         let one : slot ≡ q = cc in
-        first_step.there q (subst there one (filled_there (slot_at (entry_of places entries) slot) below)))
+        first_step.there q (subst there one (filled_there (slot_at (entry_of entries) slot) below)))
 
-    third_step : SetsLinks places entries2 (attached places entries slot parent) (Some parent) set_first
+    third_step : SetsLinks entries2 (attached entries slot parent) (Some parent) set_first
     third_step =
-        sets_links places apart entries2 (Some parent) set_first
+        sets_links entries2 (Some parent) set_first
         (λ q is.
         let one : parent ≡ q = cc in
         second_step.there q
-        (first_step.there q (subst there one (filled_there (slot_at (entry_of places entries) parent) above))))
+        (first_step.there q (subst there one (filled_there (slot_at (entry_of entries) parent) above))))
 
     abbrev joined : SlotRef → TreeLinks
-    joined = links_at (entry_of places (attached places entries slot parent))
+    joined = links_at (entry_of (attached entries slot parent))
 
     not_head : (q : SlotRef) → head ≡ Some q → q ≢ slot
     not_head q is same = let under = (kin.forest.headed parent q is).0 in cc
@@ -118,22 +114,22 @@ module _ (places : BTreeMap ℕ ℕ) (apart : IsApart places) (entries : Slab En
     one_of : (a b : SlotRef) → a ≢ b → Some a ≢ Some b
     one_of a b apart same = apart cc
 
-    first1 : (q : SlotRef) → (links_at (entry_of places entries1) q).first ≡ (old q).first
-    first1 = link_kept places entries entries1 head set_leader first_step (λ l. l.first) (λ l. refl)
+    first1 : (q : SlotRef) → (links_at (entry_of entries1) q).first ≡ (old q).first
+    first1 = link_kept entries entries1 head set_leader first_step (λ l. l.first) (λ l. refl)
 
-    parent1 : (q : SlotRef) → (links_at (entry_of places entries1) q).parent ≡ (old q).parent
-    parent1 = link_kept places entries entries1 head set_leader first_step (λ l. l.parent) (λ l. refl)
+    parent1 : (q : SlotRef) → (links_at (entry_of entries1) q).parent ≡ (old q).parent
+    parent1 = link_kept entries entries1 head set_leader first_step (λ l. l.parent) (λ l. refl)
 
-    next1 : (q : SlotRef) → (links_at (entry_of places entries1) q).next ≡ (old q).next
-    next1 = link_kept places entries entries1 head set_leader first_step (λ l. l.next) (λ l. refl)
+    next1 : (q : SlotRef) → (links_at (entry_of entries1) q).next ≡ (old q).next
+    next1 = link_kept entries entries1 head set_leader first_step (λ l. l.next) (λ l. refl)
 
-    first2 : (q : SlotRef) → (links_at (entry_of places entries2) q).first ≡ (links_at (entry_of places entries1) q).first
-    first2 = link_kept places entries1 entries2 (Some slot) set_under second_step (λ l. l.first) (λ l. refl)
+    first2 : (q : SlotRef) → (links_at (entry_of entries2) q).first ≡ (links_at (entry_of entries1) q).first
+    first2 = link_kept entries1 entries2 (Some slot) set_under second_step (λ l. l.first) (λ l. refl)
 
     kept3 : (link : TreeLinks → Option SlotRef) → ((l : TreeLinks) → link (set_first l) ≡ link l) → (q : SlotRef)
-        → link (joined q) ≡ link (links_at (entry_of places entries2) q)
+        → link (joined q) ≡ link (links_at (entry_of entries2) q)
     kept3 =
-        link_kept places entries2 (attached places entries slot parent) (Some parent) set_first third_step
+        link_kept entries2 (attached entries slot parent) (Some parent) set_first third_step
 
     pub joins : Joins (by_links old) (by_links joined) slot parent
     joins =
@@ -160,7 +156,7 @@ module _ (places : BTreeMap ℕ ℕ) (apart : IsApart places) (entries : Slab En
           previous_other =
               λ q other. kept3 (λ l. l.previous) (λ l. refl) q ∙ (elim (cases_slot q slot) [
                 | inl same ↦
-                    subst (λ k. (links_at (entry_of places entries2) k).previous ≡ (old k).previous) (sym same)
+                    subst (λ k. (links_at (entry_of entries2) k).previous ≡ (old k).previous) (sym same)
                     (ap (λ l. l.previous) (second_step.here slot refl) ∙ sym (kin.forest.rooted slot root))
                 | inr apart ↦
                     ap (λ l. l.previous) (second_step.other q (one_of slot q (λ same. apart (sym same))))
@@ -168,17 +164,17 @@ module _ (places : BTreeMap ℕ ℕ) (apart : IsApart places) (entries : Slab En
               ]);
         }
 
-    pub attached_caps : (q : SlotRef) → cap_in (slot_at (entry_of places (attached places entries slot parent)) q) ≡ held q
+    pub attached_caps : (q : SlotRef) → cap_in (slot_at (entry_of (attached entries slot parent)) q) ≡ held q
     attached_caps q = third_step.caps q ∙ second_step.caps q ∙ first_step.caps q
 
-    pub attached_alone : SlotsAlone places entries (attached places entries slot parent)
+    pub attached_alone : SlotsAlone entries (attached entries slot parent)
     attached_alone =
-        alone_twice places entries entries1 (attached places entries slot parent) first_step.alone
-        (alone_twice places entries1 entries2 (attached places entries slot parent) second_step.alone third_step.alone)
+        alone_twice entries entries1 (attached entries slot parent) first_step.alone
+        (alone_twice entries1 entries2 (attached entries slot parent) second_step.alone third_step.alone)
 
     pub attached_kin :
         (rank : SlotRef → ℕ) → ((c p : SlotRef) → (joined c).parent ≡ Some p → rank p < rank c)
-        → AreKin (entry_of places (attached places entries slot parent))
+        → AreKin (entry_of (attached entries slot parent))
     attached_kin rank ranked =
         record {
           forest = joined_forest cases_slot (by_links old) (by_links joined) slot parent kin.forest joins root rank ranked;
@@ -216,78 +212,78 @@ module _ (places : BTreeMap ℕ ℕ) (apart : IsApart places) (entries : Slab En
     abbrev unlink : TreeLinks → TreeLinks
     unlink l = record l { parent = None; next = None; previous = None }
 
-    abbrev rest1 : Slab Entry
-    rest1 = with_links places entries headed drop_first
+    abbrev rest1 : Entries
+    rest1 = with_links entries headed drop_first
 
-    abbrev rest2 : Slab Entry
-    rest2 = with_links places rest1 mine.previous skip_next
+    abbrev rest2 : Entries
+    rest2 = with_links rest1 mine.previous skip_next
 
-    abbrev rest3 : Slab Entry
-    rest3 = with_links places rest2 mine.next skip_previous
+    abbrev rest3 : Entries
+    rest3 = with_links rest2 mine.next skip_previous
 
-    abbrev left : Slab Entry
-    left = leaving places entries slot mine
+    abbrev left : Entries
+    left = leaving entries slot mine
 
     headed_is : (q : SlotRef) (o : Option SlotRef) → head_of mine o ≡ Some q → q ≡ parent
     headed_is q None is = cc
     headed_is q (Some before) is = cc
 
-    step1 : SetsLinks places entries rest1 headed drop_first
+    step1 : SetsLinks entries rest1 headed drop_first
     step1 =
-        sets_links places apart entries headed drop_first
+        sets_links entries headed drop_first
         (λ q is.
         subst there (sym (headed_is q mine.previous is))
-        (filled_there (slot_at (entry_of places entries) parent) (kin.above slot parent under)))
+        (filled_there (slot_at (entry_of entries) parent) (kin.above slot parent under)))
 
-    step2 : SetsLinks places rest1 rest2 mine.previous skip_next
+    step2 : SetsLinks rest1 rest2 mine.previous skip_next
     step2 =
-        sets_links places apart rest1 mine.previous skip_next
+        sets_links rest1 mine.previous skip_next
         (λ q is.
         step1.there q
-        (linked_there (slot_at (entry_of places entries) q) (λ l. l.next) slot refl (kin.forest.back q slot is)))
+        (linked_there (slot_at (entry_of entries) q) (λ l. l.next) slot refl (kin.forest.back q slot is)))
 
-    step3 : SetsLinks places rest2 rest3 mine.next skip_previous
+    step3 : SetsLinks rest2 rest3 mine.next skip_previous
     step3 =
-        sets_links places apart rest2 mine.next skip_previous
+        sets_links rest2 mine.next skip_previous
         (λ q is.
         step2.there q
         (step1.there q
-        (linked_there (slot_at (entry_of places entries) q) (λ l. l.previous) slot refl (kin.forest.onward slot q is))))
+        (linked_there (slot_at (entry_of entries) q) (λ l. l.previous) slot refl (kin.forest.onward slot q is))))
 
-    step4 : SetsLinks places rest3 left (Some slot) unlink
+    step4 : SetsLinks rest3 left (Some slot) unlink
     step4 =
-        sets_links places apart rest3 (Some slot) unlink
+        sets_links rest3 (Some slot) unlink
         (λ q is.
         let one : slot ≡ q = cc in
         step3.there q
         (step2.there q
-        (step1.there q (subst there one (filled_there (slot_at (entry_of places entries) slot) (kin.below slot parent under))))))
+        (step1.there q (subst there one (filled_there (slot_at (entry_of entries) slot) (kin.below slot parent under))))))
 
     abbrev apart_links : SlotRef → TreeLinks
-    apart_links = links_at (entry_of places left)
+    apart_links = links_at (entry_of left)
 
-    other4 : (q : SlotRef) → q ≢ slot → apart_links q ≡ links_at (entry_of places rest3) q
+    other4 : (q : SlotRef) → q ≢ slot → apart_links q ≡ links_at (entry_of rest3) q
     other4 q apart = step4.other q (λ same. apart cc)
 
     kept1 :
         (link : TreeLinks → Option SlotRef) → ((l : TreeLinks) → link (drop_first l) ≡ link l) → (q : SlotRef)
-        → link (links_at (entry_of places rest1) q) ≡ link (old q)
-    kept1 = link_kept places entries rest1 headed drop_first step1
+        → link (links_at (entry_of rest1) q) ≡ link (old q)
+    kept1 = link_kept entries rest1 headed drop_first step1
 
     kept2 :
         (link : TreeLinks → Option SlotRef) → ((l : TreeLinks) → link (skip_next l) ≡ link l) → (q : SlotRef)
-        → link (links_at (entry_of places rest2) q) ≡ link (links_at (entry_of places rest1) q)
-    kept2 = link_kept places rest1 rest2 mine.previous skip_next step2
+        → link (links_at (entry_of rest2) q) ≡ link (links_at (entry_of rest1) q)
+    kept2 = link_kept rest1 rest2 mine.previous skip_next step2
 
     kept_both :
         (link : TreeLinks → Option SlotRef) → ((l : TreeLinks) → link (skip_previous l) ≡ link l) → (q : SlotRef)
-        → link (links_at (entry_of places rest3) q) ≡ link (links_at (entry_of places rest2) q)
-    kept_both = link_kept places rest2 rest3 mine.next skip_previous step3
+        → link (links_at (entry_of rest3) q) ≡ link (links_at (entry_of rest2) q)
+    kept_both = link_kept rest2 rest3 mine.next skip_previous step3
 
     kept4 :
         (link : TreeLinks → Option SlotRef) → ((l : TreeLinks) → link (unlink l) ≡ link l) → (q : SlotRef)
-        → link (apart_links q) ≡ link (links_at (entry_of places rest3) q)
-    kept4 = link_kept places rest3 left (Some slot) unlink step4
+        → link (apart_links q) ≡ link (links_at (entry_of rest3) q)
+    kept4 = link_kept rest3 left (Some slot) unlink step4
 
     previous_apart : (q : SlotRef) → mine.previous ≡ Some q → q ≢ slot
     previous_apart q is = behind_differs q slot is
@@ -295,7 +291,7 @@ module _ (places : BTreeMap ℕ ℕ) (apart : IsApart places) (entries : Slab En
     next_apart : (q : SlotRef) → mine.next ≡ Some q → q ≢ slot
     next_apart q is same = behind_differs slot q (kin.forest.onward slot q is) (sym same)
 
-    first3 : (q : SlotRef) → (apart_links q).first ≡ (links_at (entry_of places rest1) q).first
+    first3 : (q : SlotRef) → (apart_links q).first ≡ (links_at (entry_of rest1) q).first
     first3 q = kept4 (λ l. l.first) (λ l. refl) q ∙ kept_both (λ l. l.first) (λ l. refl) q ∙ kept2 (λ l. l.first) (λ l. refl) q
 
     pub leaves : Leaves (by_links old) (by_links apart_links) slot parent
@@ -333,15 +329,15 @@ module _ (places : BTreeMap ℕ ℕ) (apart : IsApart places) (entries : Slab En
         behind_another None is some = absurd (some is)
         behind_another (Some before) is some = λ same. (let none : headed ≡ None = ap (head_of mine) is in cc)
 
-    pub detached_caps : (q : SlotRef) → cap_in (slot_at (entry_of places left) q) ≡ held q
+    pub detached_caps : (q : SlotRef) → cap_in (slot_at (entry_of left) q) ≡ held q
     detached_caps q = step4.caps q ∙ step3.caps q ∙ step2.caps q ∙ step1.caps q
 
-    pub detached_alone : SlotsAlone places entries left
+    pub detached_alone : SlotsAlone entries left
     detached_alone =
-        alone_twice places entries rest1 left step1.alone
-        (alone_twice places rest1 rest2 left step2.alone (alone_twice places rest2 rest3 left step3.alone step4.alone))
+        alone_twice entries rest1 left step1.alone
+        (alone_twice rest1 rest2 left step2.alone (alone_twice rest2 rest3 left step3.alone step4.alone))
 
-    pub detached_kin : AreKin (entry_of places left)
+    pub detached_kin : AreKin (entry_of left)
     detached_kin =
         record {
           forest = left_forest cases_slot (by_links old) (by_links apart_links) slot parent kin.forest leaves under;

@@ -7,6 +7,7 @@ pub mod Families
 pub mod FiniteLemmas
 pub mod Forests
 pub mod LinkLemmas
+pub mod PlaceLemmas
 pub mod QueueLemmas
 pub mod RankLemmas
 pub mod SlotLemmas

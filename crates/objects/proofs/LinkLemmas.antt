@@ -2,18 +2,16 @@
 use Rattle.std.proofs.Common.{◌≡◌, ◌≢◌, ℕ, ◌<◌, List, [], ◌∷◌, ◌++◌, refl, sym, ap, subst, ◌∙◌, arith, inl, inr}
 use Rattle.std.specs.Prelude.{Option, Some, None, is_some, IsSome, option_map, Contains}
 use Rattle.std.specs.Option.{option_or, option_and}
-use Rattle.std.specs.BTreeMap.{BTreeMap}
 use Rattle.std.proofs.lemmas.Bool.{false≢true}
-use Rattle.slab.specs.Slab as slab
-use Rattle.slab.specs.Slab.{Slab}
 use Rattle.base.specs.declared.ids.ObjId.{ObjId}
 use Rattle.objects.specs.declared.entry.Entry.{Entry}
 use Rattle.objects.specs.declared.links.Ends.{Ends}
 use Rattle.objects.specs.declared.links.Standing.{Standing}
-use Rattle.objects.specs.Entries.{place_of, entry_of, with_entry, set_ends_in, set_standing_in}
+use Rattle.objects.specs.Entries.{Entries, entry_of, with_entry, set_ends_in, set_standing_in}
 use Rattle.objects.specs.Links.{ends_of, standing_of, queue_in, AreQueued, with_standing, relinked, pushed, left}
 use Rattle.objects.specs.Queues.{walk}
-use Rattle.objects.proofs.EntryLemmas.{IsApart, entry_of-with_entry, is_some-changed}
+use Rattle.objects.proofs.EntryLemmas.{entry_of-with_entry}
+use Rattle.objects.proofs.StateLemmas.{present_kept}
 use Rattle.objects.proofs.ChangeLemmas.{changed_here, changed_other, rest}
 use Rattle.objects.proofs.QueueLemmas.{Joins, Leaves, cases_id, walk_none, reaches, joined_queues, joined_here, joined_elsewhere}
 use Rattle.objects.proofs.QueueLemmas.{left_queues, left_here, left_elsewhere}
@@ -35,19 +33,15 @@ record SetsStanding (old new : ObjId → Option Entry) (thread : Option ObjId) (
   pub ends : (q : ObjId) → ends_of (new q) ≡ ends_of (old q)
   pub same : SameRest old new
 
-present_map : {A : Type 0} (part : Entry → A) (o : Option Entry) → is_some (option_map part o) ≡ is_some o
-present_map part None = refl
-present_map part (Some e) = refl
-
 still_there : (old new : ObjId → Option Entry) → SameRest old new → (q : ObjId) → IsSome (old q) → IsSome (new q)
-still_there old new same q there = sym (present_map rest (new q)) ∙ ap is_some (same q) ∙ present_map rest (old q) ∙ there
+still_there old new same q = present_kept rest (old q) (new q) (same q)
 
-module _ (places : BTreeMap ℕ ℕ) (apart : IsApart places) (entries : Slab Entry) where
+module _ (entries : Entries) where
   abbrev entry : ObjId → Option Entry
-  entry = entry_of places entries
+  entry = entry_of entries
 
   abbrev after : ObjId → (Entry → Entry) → ObjId → Option Entry
-  after id change = entry_of places (with_entry places entries id change)
+  after id change = entry_of (with_entry entries id change)
 
   -- what is read of each entry, where the change of one keeps it
   kept :
@@ -57,10 +51,10 @@ module _ (places : BTreeMap ℕ ℕ) (apart : IsApart places) (entries : Slab En
       elim (cases_id q id) [
         | inl same ↦
             ap (λ k. read (after id change k)) same
-            ∙ ap read (changed_here _ _ id change (entry_of-with_entry places entries apart id change) e is) ∙ keeps
+            ∙ ap read (changed_here _ _ id change (entry_of-with_entry entries id change) e is) ∙ keeps
             ∙ ap read (sym is) ∙ ap (λ k. read (entry k)) (sym same)
         | inr differs ↦
-            ap read (changed_other _ _ id change (entry_of-with_entry places entries apart id change) q differs)
+            ap read (changed_other _ _ id change (entry_of-with_entry entries id change) q differs)
       ]
 
   sets_ends :
@@ -70,23 +64,23 @@ module _ (places : BTreeMap ℕ ℕ) (apart : IsApart places) (entries : Slab En
   sets_ends id ends (Some e) is some =
       let change : Entry → Entry = set_ends_in ends in
       record {
-        here = ap ends_of (changed_here _ _ id change (entry_of-with_entry places entries apart id change) e is);
+        here = ap ends_of (changed_here _ _ id change (entry_of-with_entry entries id change) e is);
         other =
             λ q differs.
-            ap ends_of (changed_other _ _ id change (entry_of-with_entry places entries apart id change) q differs);
+            ap ends_of (changed_other _ _ id change (entry_of-with_entry entries id change) q differs);
         standing = kept id change e is standing_of refl;
         same = kept id change e is (option_map rest) refl;
       }
 
   sets_standing :
       (thread : Option ObjId) (change : Standing → Standing) → ((q : ObjId) → thread ≡ Some q → IsSome (entry q))
-      → SetsStanding entry (entry_of places (with_standing places entries thread change)) thread change
+      → SetsStanding entry (entry_of (with_standing entries thread change)) thread change
   sets_standing None change there =
       record { here = λ q is. cc; other = λ q differs. refl; ends = λ q. refl; same = λ q. refl }
   sets_standing (Some thread) change there = by_entry (entry thread) refl (there thread refl) where
     by_entry :
         (o : Option Entry) → entry thread ≡ o → IsSome o
-        → SetsStanding entry (entry_of places (with_standing places entries (Some thread) change)) (Some thread) change
+        → SetsStanding entry (entry_of (with_standing entries (Some thread) change)) (Some thread) change
     by_entry None is some = absurd (false≢true some)
     by_entry (Some e) is some =
         let set : Entry → Entry = set_standing_in (change (standing_of (entry thread))) in
@@ -94,23 +88,15 @@ module _ (places : BTreeMap ℕ ℕ) (apart : IsApart places) (entries : Slab En
           here = λ q same.
               let one : thread ≡ q = cc in
               ap (λ k. standing_of (after thread set k)) (sym one)
-              ∙ ap standing_of (changed_here _ _ thread set (entry_of-with_entry places entries apart thread set) e is)
+              ∙ ap standing_of (changed_here _ _ thread set (entry_of-with_entry entries thread set) e is)
               ∙ ap (λ k. change (standing_of (entry k))) one;
           other = λ q differs.
               ap standing_of
-              (changed_other _ _ thread set (entry_of-with_entry places entries apart thread set) q
+              (changed_other _ _ thread set (entry_of-with_entry entries thread set) q
               (λ same. differs (ap Some (sym same))));
           ends = kept thread set e is ends_of refl;
           same = kept thread set e is (option_map rest) refl;
         }
-
-  -- no place comes or goes
-  standing_places :
-      (thread : Option ObjId) (change : Standing → Standing) (place : ℕ)
-      → is_some (slab.get (with_standing places entries thread change) place) ≡ is_some (slab.get entries place)
-  standing_places None change place = refl
-  standing_places (Some thread) change place =
-      is_some-changed entries (set_standing_in (change (standing_of (entry thread)))) (place_of places thread) place
 
 -- who waits at an object that is there
 pub queue_there :
@@ -173,26 +159,26 @@ record Relinks (old new : ObjId → Option Entry) (neighbour : Option ObjId) (ch
   pub other : (q : ObjId) → q ≢ thread → neighbour ≢ Some q → standing_of (new q) ≡ standing_of (old q)
   pub same : SameRest old new
 
-module _ (places : BTreeMap ℕ ℕ) (apart : IsApart places) (entries : Slab Entry) (neighbour : Option ObjId)
+module _ (entries : Entries) (neighbour : Option ObjId)
     (change : Standing → Standing) (thread : ObjId) (standing : Standing) (id : ObjId) (ends : Ends) where
-  abbrev entries1 : Slab Entry
-  entries1 = with_standing places entries neighbour change
+  abbrev entries1 : Entries
+  entries1 = with_standing entries neighbour change
 
-  abbrev entries2 : Slab Entry
-  entries2 = with_standing places entries1 (Some thread) (λ _. standing)
+  abbrev entries2 : Entries
+  entries2 = with_standing entries1 (Some thread) (λ _. standing)
 
   relinks :
-      ((q : ObjId) → neighbour ≡ Some q → IsSome (entry_of places entries q)) → IsSome (entry_of places entries thread)
-      → IsSome (entry_of places entries id)
-      → Relinks (entry_of places entries)
-      (entry_of places (relinked places entries neighbour change thread standing id ends)) neighbour change thread standing id ends
+      ((q : ObjId) → neighbour ≡ Some q → IsSome (entry_of entries q)) → IsSome (entry_of entries thread)
+      → IsSome (entry_of entries id)
+      → Relinks (entry_of entries)
+      (entry_of (relinked entries neighbour change thread standing id ends)) neighbour change thread standing id ends
   relinks there_neighbour there_thread there_id =
-      let first = sets_standing places apart entries neighbour change there_neighbour in
-      let there : (q : ObjId) → Some thread ≡ Some q → IsSome (entry_of places entries1 q) =
-      λ q is. still_there _ _ first.same q (let one : thread ≡ q = cc in subst (λ k. IsSome (entry_of places entries k)) one there_thread) in
-      let second = sets_standing places apart entries1 (Some thread) (λ _. standing) there in
+      let first = sets_standing entries neighbour change there_neighbour in
+      let there : (q : ObjId) → Some thread ≡ Some q → IsSome (entry_of entries1 q) =
+      λ q is. still_there _ _ first.same q (let one : thread ≡ q = cc in subst (λ k. IsSome (entry_of entries k)) one there_thread) in
+      let second = sets_standing entries1 (Some thread) (λ _. standing) there in
       let third =
-      sets_ends places apart entries2 id ends (entry_of places entries2 id) refl
+      sets_ends entries2 id ends (entry_of entries2 id) refl
       (still_there _ _ second.same id (still_there _ _ first.same id there_id)) in
       record {
         ends_here = third.here;
@@ -203,25 +189,16 @@ module _ (places : BTreeMap ℕ ℕ) (apart : IsApart places) (entries : Slab En
         same = λ q. third.same q ∙ second.same q ∙ first.same q;
       }
 
-  pub relinked_places :
-      (place : ℕ)
-      → is_some (slab.get (relinked places entries neighbour change thread standing id ends) place)
-      ≡ is_some (slab.get entries place)
-  relinked_places place =
-      is_some-changed entries2 (set_ends_in ends) (place_of places id) place
-      ∙ standing_places places apart entries1 (Some thread) (λ _. standing) place
-      ∙ standing_places places apart entries neighbour change place
-
 -- what a change of the queue at one object leaves
 pub record Requeues (old new : ObjId → Option Entry) (numbers : ℕ) (id : ObjId) : Type 0 where
   pub queued : AreQueued new numbers
   pub same : SameRest old new
   pub others : (q : ObjId) → q ≢ id → queue_in numbers new (new q) ≡ queue_in numbers old (old q)
 
-module _ (places : BTreeMap ℕ ℕ) (apart : IsApart places) (entries : Slab Entry) (numbers : ℕ) (id thread : ObjId)
-    (queued : AreQueued (entry_of places entries) numbers) (e : Entry) (is : entry_of places entries id ≡ Some e) where
+module _ (entries : Entries) (numbers : ℕ) (id thread : ObjId)
+    (queued : AreQueued (entry_of entries) numbers) (e : Entry) (is : entry_of entries id ≡ Some e) where
   abbrev old : ObjId → Option Entry
-  old = entry_of places entries
+  old = entry_of entries
 
   abbrev ends_old : ObjId → Ends
   ends_old q = ends_of (old q)
@@ -233,7 +210,7 @@ module _ (places : BTreeMap ℕ ℕ) (apart : IsApart places) (entries : Slab En
 
   module _ (there : IsSome (old thread)) (known : thread.0 < numbers) (free : (standing_old thread).at ≡ None) where
     abbrev new : ObjId → Option Entry
-    new = entry_of places (pushed places entries id thread (Some e.ends))
+    new = entry_of (pushed entries id thread (Some e.ends))
 
     last_waits : (q : ObjId) → e.ends.last ≡ Some q → (standing_old q).at ≡ Some id
     last_waits q last = (queued.last_is id q (ap (λ o. (ends_of o).last) is ∙ last)).0
@@ -243,7 +220,7 @@ module _ (places : BTreeMap ℕ ℕ) (apart : IsApart places) (entries : Slab En
         (record { at = Some id; previous = e.ends.last; next = None }) id
         (record { first = option_or e.ends.first (Some thread); last = Some thread })
     pushes =
-        relinks places apart entries e.ends.last (λ s. record s { next = Some thread }) thread
+        relinks entries e.ends.last (λ s. record s { next = Some thread }) thread
         (record { at = Some id; previous = e.ends.last; next = None }) id
         (record { first = option_or e.ends.first (Some thread); last = Some thread })
         (λ q last. standing_there old q id (last_waits q last)) there (ap is_some is)
@@ -286,7 +263,7 @@ module _ (places : BTreeMap ℕ ℕ) (apart : IsApart places) (entries : Slab En
 
   module _ (first : e.ends.first ≡ Some thread) where
     abbrev rest_after : ObjId → Option Entry
-    rest_after = entry_of places (left places entries id e.ends (Some thread))
+    rest_after = entry_of (left entries id e.ends (Some thread))
 
     abbrev next : Option ObjId
     next = (standing_old thread).next
@@ -301,7 +278,7 @@ module _ (places : BTreeMap ℕ ℕ) (apart : IsApart places) (entries : Slab En
         Relinks old rest_after next (λ s. record s { previous = None }) thread
         (record { at = None; previous = None; next = None }) id (record { first = next; last = option_and next e.ends.last })
     pops =
-        relinks places apart entries next (λ s. record s { previous = None }) thread
+        relinks entries next (λ s. record s { previous = None }) thread
         (record { at = None; previous = None; next = None }) id (record { first = next; last = option_and next e.ends.last })
         (λ q behind. standing_there old q id (queued.beside thread q behind ∙ first_waits))
         (standing_there old thread id first_waits) (ap is_some is)

@@ -1,20 +1,17 @@
 -- What the entries tell of their slots after the capability or the links of one slot have changed.
 use Rattle.std.proofs.Common.{◌≡◌, ◌≢◌, ℕ, zero, suc, ◌<◌, List, [], ◌∷◌, length, arith, ◌⊎◌, inl, inr, refl, sym, ap, subst, ◌∙◌}
 use Rattle.std.specs.Prelude.{Option, Some, None, is_some, IsSome, option_map, slice_get}
-use Rattle.std.specs.BTreeMap.{BTreeMap}
 use Rattle.std.proofs.lemmas.Bool.{false≢true, cases_eq}
-use Rattle.slab.specs.Slab as slab
-use Rattle.slab.specs.Slab.{Slab}
 use Rattle.base.specs.declared.ids.SlotRef.{SlotRef}
 use Rattle.base.specs.declared.ids.ObjId.{ObjId}
 use Rattle.objects.specs.declared.entry.Entry.{Entry}
 use Rattle.objects.specs.declared.links.TreeLinks.{TreeLinks}
 use Rattle.objects.specs.declared.slots.Slot.{Slot}
-use Rattle.objects.specs.Entries.{place_of, entry_of, slot_at, set_slot_in}
+use Rattle.objects.specs.Entries.{Entries, entry_of, slot_at, set_slot_in}
 use Rattle.objects.specs.Family.{cap_in, links_of, links_at, changed_slot, with_slot, with_links}
 use Rattle.objects.proofs.ChangeLemmas.{part_kept, slot_here, slot_other, bulk}
 use Rattle.objects.proofs.EditLemmas.{length_edited}
-use Rattle.objects.proofs.EntryLemmas.{IsApart, entry_of-with_entry, is_some-changed}
+use Rattle.objects.proofs.EntryLemmas.{entry_of-with_entry}
 use Rattle.objects.proofs.Forests.{cases_link}
 use Rattle.objects.proofs.QueueLemmas.{cases_id}
 
@@ -47,55 +44,53 @@ within_there (slot ∷ slots) zero within = refl
 within_there (slot ∷ slots) (suc index) within = within_there slots index (omega arith)
 
 -- nothing but slots has changed, and there are as many as before
-pub record SlotsAlone (places : BTreeMap ℕ ℕ) (old new : Slab Entry) : Type 0 where
-  pub kept : (place : ℕ) → is_some (slab.get new place) ≡ is_some (slab.get old place)
-  pub same : (q : ObjId) → option_map bulk (entry_of places new q) ≡ option_map bulk (entry_of places old q)
+pub record SlotsAlone (old new : Entries) : Type 0 where
+  pub same : (q : ObjId) → option_map bulk (entry_of new q) ≡ option_map bulk (entry_of old q)
 
 pub alone_twice :
-    (places : BTreeMap ℕ ℕ) (one two three : Slab Entry) → SlotsAlone places one two → SlotsAlone places two three
-    → SlotsAlone places one three
-alone_twice places one two three first second =
-    record { kept = λ place. second.kept place ∙ first.kept place; same = λ q. second.same q ∙ first.same q }
+    (one two three : Entries) → SlotsAlone one two → SlotsAlone two three
+    → SlotsAlone one three
+alone_twice one two three first second =
+    record { same = λ q. second.same q ∙ first.same q }
 
 -- one slot is another
-pub record ChangesSlot (places : BTreeMap ℕ ℕ) (old new : Slab Entry) (at : SlotRef) (change : Slot → Slot) : Type 0 where
-  pub here : slot_at (entry_of places new) at ≡ option_map change (slot_at (entry_of places old) at)
-  pub other : (q : SlotRef) → q ≢ at → slot_at (entry_of places new) q ≡ slot_at (entry_of places old) q
-  pub alone : SlotsAlone places old new
+pub record ChangesSlot (old new : Entries) (at : SlotRef) (change : Slot → Slot) : Type 0 where
+  pub here : slot_at (entry_of new) at ≡ option_map change (slot_at (entry_of old) at)
+  pub other : (q : SlotRef) → q ≢ at → slot_at (entry_of new) q ≡ slot_at (entry_of old) q
+  pub alone : SlotsAlone old new
 
 pub changes_slot :
-    (places : BTreeMap ℕ ℕ) → IsApart places → (entries : Slab Entry) (at : SlotRef) (change : Slot → Slot)
-    → ChangesSlot places entries (with_slot places entries at change) at change
-changes_slot places apart entries at change = by_slot (slot_at (entry_of places entries) at) refl where
+    (entries : Entries) (at : SlotRef) (change : Slot → Slot)
+    → ChangesSlot entries (with_slot entries at change) at change
+changes_slot entries at change = by_slot (slot_at (entry_of entries) at) refl where
   by_slot :
-      (o : Option Slot) → slot_at (entry_of places entries) at ≡ o
-      → ChangesSlot places entries (changed_slot places entries at change o) at change
+      (o : Option Slot) → slot_at (entry_of entries) at ≡ o
+      → ChangesSlot entries (changed_slot entries at change o) at change
   by_slot None is =
       record {
         here = is ∙ sym (ap (option_map change) is);
         other = λ q differs. refl;
-        alone = record { kept = λ place. refl; same = λ q. refl };
+        alone = record { same = λ q. refl };
       }
   by_slot (Some slot) is =
       let set : Entry → Entry = set_slot_in at.index (change slot) in
-      let changed = entry_of-with_entry places entries apart at.holder set in
+      let changed = entry_of-with_entry entries at.holder set in
       record {
         here = slot_here _ _ at (change slot) changed (ap is_some is) ∙ sym (ap (option_map change) is);
         other = slot_other _ _ at (change slot) changed;
         alone = record {
-          kept = is_some-changed entries set (place_of places at.holder);
           same = part_kept _ _ at.holder set changed bulk
               (λ e. λ i. (e.object, length_edited (λ _. change slot) e.slots at.index i, e.ends, e.standing, e.words));
         };
       }
 
 -- the links of one slot, if one is named, are others
-pub record SetsLinks (places : BTreeMap ℕ ℕ) (old new : Slab Entry) (at : Option SlotRef) (change : TreeLinks → TreeLinks) : Type 0 where
-  pub here : (q : SlotRef) → at ≡ Some q → links_at (entry_of places new) q ≡ change (links_at (entry_of places old) q)
-  pub other : (q : SlotRef) → at ≢ Some q → links_at (entry_of places new) q ≡ links_at (entry_of places old) q
-  pub caps : (q : SlotRef) → cap_in (slot_at (entry_of places new) q) ≡ cap_in (slot_at (entry_of places old) q)
-  pub there : (q : SlotRef) → IsSome (slot_at (entry_of places old) q) → IsSome (slot_at (entry_of places new) q)
-  pub alone : SlotsAlone places old new
+pub record SetsLinks (old new : Entries) (at : Option SlotRef) (change : TreeLinks → TreeLinks) : Type 0 where
+  pub here : (q : SlotRef) → at ≡ Some q → links_at (entry_of new) q ≡ change (links_at (entry_of old) q)
+  pub other : (q : SlotRef) → at ≢ Some q → links_at (entry_of new) q ≡ links_at (entry_of old) q
+  pub caps : (q : SlotRef) → cap_in (slot_at (entry_of new) q) ≡ cap_in (slot_at (entry_of old) q)
+  pub there : (q : SlotRef) → IsSome (slot_at (entry_of old) q) → IsSome (slot_at (entry_of new) q)
+  pub alone : SlotsAlone old new
 
 mapped_there : (change : Slot → Slot) (o : Option Slot) → IsSome o → IsSome (option_map change o)
 mapped_there change None some = some
@@ -117,38 +112,38 @@ mapped_cap change None = refl
 mapped_cap change (Some slot) = refl
 
 pub sets_links :
-    (places : BTreeMap ℕ ℕ) → IsApart places → (entries : Slab Entry) (at : Option SlotRef) (change : TreeLinks → TreeLinks)
-    → ((q : SlotRef) → at ≡ Some q → IsSome (slot_at (entry_of places entries) q))
-    → SetsLinks places entries (with_links places entries at change) at change
-sets_links places apart entries None change there =
+    (entries : Entries) (at : Option SlotRef) (change : TreeLinks → TreeLinks)
+    → ((q : SlotRef) → at ≡ Some q → IsSome (slot_at (entry_of entries) q))
+    → SetsLinks entries (with_links entries at change) at change
+sets_links entries None change there =
     record {
       here = λ q is. cc;
       other = λ q differs. refl;
       caps = λ q. refl;
       there = λ q some. some;
-      alone = record { kept = λ place. refl; same = λ q. refl };
+      alone = record { same = λ q. refl };
     }
-sets_links places apart entries (Some at) change there =
+sets_links entries (Some at) change there =
     let edit : Slot → Slot = relinked change in
-    let changes = changes_slot places apart entries at edit in
+    let changes = changes_slot entries at edit in
     record {
       here = λ q is.
           let one : at ≡ q = cc in
-          ap (λ k. links_at (entry_of places (with_slot places entries at edit)) k) (sym one)
-          ∙ ap links_of changes.here ∙ mapped_links change (slot_at (entry_of places entries) at) (there at refl)
-          ∙ ap (λ k. change (links_at (entry_of places entries) k)) one;
+          ap (λ k. links_at (entry_of (with_slot entries at edit)) k) (sym one)
+          ∙ ap links_of changes.here ∙ mapped_links change (slot_at (entry_of entries) at) (there at refl)
+          ∙ ap (λ k. change (links_at (entry_of entries) k)) one;
       other = λ q differs. ap links_of (changes.other q (λ same. differs (ap Some (sym same))));
       caps = λ q. elim (cases_slot q at) [
         | inl same ↦
-            subst (λ k. cap_in (slot_at (entry_of places (with_slot places entries at edit)) k) ≡ cap_in (slot_at (entry_of places entries) k))
-            (sym same) (ap cap_in changes.here ∙ mapped_cap change (slot_at (entry_of places entries) at))
+            subst (λ k. cap_in (slot_at (entry_of (with_slot entries at edit)) k) ≡ cap_in (slot_at (entry_of entries) k))
+            (sym same) (ap cap_in changes.here ∙ mapped_cap change (slot_at (entry_of entries) at))
         | inr differs ↦ ap cap_in (changes.other q differs)
       ];
       there = λ q some. elim (cases_slot q at) [
         | inl same ↦
-            subst (λ k. IsSome (slot_at (entry_of places (with_slot places entries at edit)) k)) (sym same)
+            subst (λ k. IsSome (slot_at (entry_of (with_slot entries at edit)) k)) (sym same)
             (subst IsSome (sym changes.here)
-            (mapped_there edit (slot_at (entry_of places entries) at) (there at refl)))
+            (mapped_there edit (slot_at (entry_of entries) at) (there at refl)))
         | inr differs ↦ subst IsSome (sym (changes.other q differs)) some
       ];
       alone = changes.alone;
@@ -156,11 +151,11 @@ sets_links places apart entries (Some at) change there =
 
 -- a link that a change keeps
 pub link_kept :
-    (places : BTreeMap ℕ ℕ) (old new : Slab Entry) (at : Option SlotRef) (change : TreeLinks → TreeLinks)
-    → SetsLinks places old new at change → (link : TreeLinks → Option SlotRef) → ((l : TreeLinks) → link (change l) ≡ link l)
-    → (q : SlotRef) → link (links_at (entry_of places new) q) ≡ link (links_at (entry_of places old) q)
-link_kept places old new at change sets link keeps q =
+    (old new : Entries) (at : Option SlotRef) (change : TreeLinks → TreeLinks)
+    → SetsLinks old new at change → (link : TreeLinks → Option SlotRef) → ((l : TreeLinks) → link (change l) ≡ link l)
+    → (q : SlotRef) → link (links_at (entry_of new) q) ≡ link (links_at (entry_of old) q)
+link_kept old new at change sets link keeps q =
     elim (cases_link cases_slot at q) [
-      | inl is ↦ ap link (sets.here q is) ∙ keeps (links_at (entry_of places old) q)
+      | inl is ↦ ap link (sets.here q is) ∙ keeps (links_at (entry_of old) q)
       | inr differs ↦ ap link (sets.other q differs)
     ]

@@ -1,17 +1,12 @@
 -- How a state's entries and the machine that contracts see go together: what the machine answers, and what each change makes of
 -- it.
-use Rattle.std.proofs.Common.{◌≡◌, ℕ, zero, suc, ◌+◌, ◌<◌, ◌≤◌, List, [], ◌∷◌, Bool, true, false, cond, length, map, refl, sym}
+use Rattle.std.proofs.Common.{◌≡◌, ℕ, zero, suc, ◌+◌, ◌<◌, ◌≤◌, List, [], ◌∷◌, Bool, true, false, length, map, refl, sym}
 use Rattle.std.proofs.Common.{ap, subst, ◌∙◌, arith, inl, inr}
 use Rattle.std.specs.Prelude.{Option, Some, None, is_some, IsSome, option_map, option_and_then, slice_get, ◌||◌}
 use Rattle.std.specs.List.{list_any, flat_map, range_with_len}
 use Rattle.std.proofs.lemmas.List.Folds.{list_any-append}
 use Rattle.std.proofs.lemmas.Bool.{false≢true, cases_eq, or_left, or_right, or_cases}
-use Rattle.std.specs.Ordering.{nat_cmp}
-use Rattle.std.specs.BTreeMap as tree
-use Rattle.std.specs.BTreeMap.{BTreeMap}
-use Rattle.std.specs.Map.{lookup}
-use Rattle.slab.specs.Slab as slab
-use Rattle.slab.specs.Slab.{Slab}
+use Rattle.std.specs.FinMap as finite
 use Rattle.base.specs.declared.ids.ObjId.{ObjId}
 use Rattle.base.specs.declared.ids.SlotRef.{SlotRef}
 use Rattle.machine.specs.declared.object.Object.{Object}
@@ -22,7 +17,7 @@ use Rattle.machine.proofs.LookUps.{same_machine}
 use Rattle.objects.specs.declared.entry.Entry.{Entry}
 use Rattle.objects.specs.declared.slots.Slot.{Slot}
 use Rattle.objects.specs.declared.state.State.TheInside.{Inside}
-use Rattle.objects.specs.Entries.{place_of, entry_of, slot_at}
+use Rattle.objects.specs.Entries.{Entries, entry_of, slot_at}
 use Rattle.objects.specs.Family.{cap_in, parent_in}
 use Rattle.objects.specs.Links.{queue_in}
 use Rattle.objects.specs.State.{slots_of, machine_from, machine_of}
@@ -81,25 +76,8 @@ any-in_range q from (suc count) low high =
       | inr differs ↦ or_right _ _ (any-in_range q (from + 1) count (omega arith) (omega arith))
     ]
 
-any-number :
-    (q : ObjId) (es : List (ℕ × ℕ))
-    → is_some (lookup (tree.is_at (nat_cmp q.0)) es)
-    ≡ list_any (same_id q) (map (λ number. record { 0 = number }) (map (λ e. e.0) es))
-any-number q [] = refl
-any-number q (e ∷ es) =
-    elim (tree.is_at (nat_cmp q.0) e.0) as
-    (λ tie.
-    is_some (cond tie (Some e.1) (lookup (tree.is_at (nat_cmp q.0)) es))
-    ≡ (tie || list_any (same_id q) (map (λ number. record { 0 = number }) (map (λ e. e.0) es))))
-    [ true ↦ refl | false ↦ any-number q es ]
-
-listed :
-    (places : BTreeMap ℕ ℕ) (entries : Slab Entry) (q : ObjId) → IsSome (entry_of places entries q)
-    → list_any (same_id q) (map (λ number. record { 0 = number }) (tree.keys places)) ≡ true
-listed places entries q some = sym (any-number q places.entries) ∙ placed (place_of places q) some where
-  placed : (o : Option ℕ) → IsSome (option_and_then (slab.get entries) o) → is_some o ≡ true
-  placed None some = some
-  placed (Some place) some = refl
+listed : (entries : Entries) (q : ObjId) → IsSome (entry_of entries q) → list_any (same_id q) (finite.keys entries) ≡ true
+listed entries q some = sym (finite.contains_key-keys entries q) ∙ some
 
 slot_listed :
     (entry : ObjId → Option Entry) (ids : List ObjId) → ((q : ObjId) → IsSome (entry q) → list_any (same_id q) ids ≡ true)
@@ -139,6 +117,11 @@ is_some-option_map : {A B : Type 0} (f : A → B) (o : Option A) → is_some (op
 is_some-option_map f None = refl
 is_some-option_map f (Some x) = refl
 
+-- where a part of an entry is as it was, the entry is there still
+pub present_kept :
+    {A : Type 0} (part : Entry → A) (old new : Option Entry) → option_map part new ≡ option_map part old → IsSome old → IsSome new
+present_kept part old new same some = sym (is_some-option_map part new) ∙ ap is_some same ∙ is_some-option_map part old ∙ some
+
 tells-machine_from :
     (entry : ObjId → Option Entry) (ids : List ObjId) (next : ℕ)
     → ((q : ObjId) → IsSome (entry q) → list_any (same_id q) ids ≡ true) → Tells next (machine_from entry ids next) entry
@@ -168,11 +151,11 @@ tells-machine_from entry ids next all =
           (some_slot (λ slot. slot.links.parent) entry ids all q);
     }
 
-pub tells-machine_of : (s : Inside) → Tells s.next (machine_of s) (entry_of s.places s.entries)
+pub tells-machine_of : (s : Inside) → Tells s.next (machine_of s) (entry_of s.store)
 unfolding machine_of
 tells-machine_of s =
-    tells-machine_from (entry_of s.places s.entries) (map (λ number. record { 0 = number }) (tree.keys s.places)) s.next
-    (listed s.places s.entries)
+    tells-machine_from (entry_of s.store) (finite.keys s.store) s.next
+    (listed s.store)
 
 pub next-machine_of : (s : Inside) → (machine_of s).next ≡ s.next
 unfolding machine_of

@@ -5,7 +5,6 @@ use Rattle.std.specs.Prelude.{Option, Some, None, IsSome, IfSome, IfNone, option
 use Rattle.std.specs.FinMap as map
 use Rattle.std.proofs.lemmas.Bool.{false≢true}
 use Rattle.std.proofs.lemmas.Option.{same_Some}
-use Rattle.slab.specs.Slab.{Slab}
 use Rattle.base.specs.declared.ids.ObjId.{ObjId}
 use Rattle.base.specs.declared.ids.SlotRef.{SlotRef}
 use Rattle.machine.specs.declared.cap.Cap.{Cap}
@@ -19,7 +18,7 @@ use Rattle.machine.proofs.SlotChanges.{SameObjects}
 use Rattle.objects.specs.declared.entry.Entry.{Entry}
 use Rattle.objects.specs.declared.slots.Slot.{Slot}
 use Rattle.objects.specs.declared.state.State.TheInside.{Inside}
-use Rattle.objects.specs.Entries.{entry_of, slot_at}
+use Rattle.objects.specs.Entries.{Entries, entry_of, slot_at}
 use Rattle.objects.specs.Family.{cap_in, parent_in, links_of, links_at, by_links, with_slot, attached, leaving, leaving_from, detached, AreKin}
 use Rattle.objects.specs.Radices.{HasRadix}
 use Rattle.objects.specs.State.{machine_of, IsSized, IsConsistent}
@@ -30,32 +29,30 @@ use Rattle.objects.proofs.FiniteLemmas.{by_key, cond_here}
 use Rattle.machine.proofs.TreeRanks.{ranked_acyclic}
 use Rattle.objects.proofs.Forests.{childless}
 use Rattle.objects.proofs.SlotLemmas.{SlotsAlone, ChangesSlot, changes_slot, cases_slot, filled_there, within_there}
-use Rattle.objects.proofs.StateLemmas.{tells-machine_of, next-machine_of, same_from_tells}
+use Rattle.objects.proofs.StateLemmas.{present_kept, tells-machine_of, next-machine_of, same_from_tells}
 
-abbrev with_entries : Inside → Slab Entry → Inside
-with_entries s entries = record s { entries = entries }
+abbrev with_entries : Inside → Entries → Inside
+with_entries s entries = record s { store = entries }
 
 -- a change of slots alone
 IsConsistent-slots :
-    (s : Inside) → IsConsistent s → (entries : Slab Entry) → SlotsAlone s.places s.entries entries
-    → AreKin (entry_of s.places entries) → IsConsistent (with_entries s entries)
+    (s : Inside) → IsConsistent s → (entries : Entries) → SlotsAlone s.store entries
+    → AreKin (entry_of entries) → IsConsistent (with_entries s entries)
 IsConsistent-slots s consistent entries alone kin =
     record {
-      apart = consistent.apart;
-      held = λ a place is. alone.kept place ∙ consistent.held a place is;
-      fresh = consistent.fresh;
+      fresh = λ q some. consistent.fresh q (present_kept bulk _ _ (sym (alone.same q)) some);
       bounded = consistent.bounded;
-      sized = λ q entry is. by_entry q entry is (entry_of s.places s.entries q) refl;
+      sized = λ q entry is. by_entry q entry is (entry_of s.store q) refl;
       queued =
           links_kept _ _
-          (λ q. part_read bulk (λ b. (b.2, b.3)) (entry_of s.places s.entries q) (entry_of s.places entries q) (alone.same q))
+          (λ q. part_read bulk (λ b. (b.2, b.3)) (entry_of s.store q) (entry_of entries q) (alone.same q))
           s.next consistent.queued;
       kin = kin;
     }
   where
     by_entry :
-        (q : ObjId) (entry : Entry) → entry_of s.places entries q ≡ Some entry → (o : Option Entry)
-        → entry_of s.places s.entries q ≡ o → IsSized entry
+        (q : ObjId) (entry : Entry) → entry_of entries q ≡ Some entry → (o : Option Entry)
+        → entry_of s.store q ≡ o → IsSized entry
     by_entry q entry is None was =
         let none : Some (bulk entry) ≡ None =
         ap (option_map bulk) (sym is) ∙ alone.same q ∙ ap (option_map bulk) was in cc
@@ -65,14 +62,14 @@ IsConsistent-slots s consistent entries alone kin =
         subst (λ b. (b.1 ≡ slot_count b.0) × HasRadix b.0) same (consistent.sized q e was)
 
 slots_give :
-    (s : Inside) (entries : Slab Entry) (next : Machine) → SlotsAlone s.places s.entries entries
-    → SameObjects (machine_of s) next → ((q : SlotRef) → cap_of next q ≡ cap_in (slot_at (entry_of s.places entries) q))
-    → ((q : SlotRef) → parent_of next q ≡ parent_in (slot_at (entry_of s.places entries) q))
+    (s : Inside) (entries : Entries) (next : Machine) → SlotsAlone s.store entries
+    → SameObjects (machine_of s) next → ((q : SlotRef) → cap_of next q ≡ cap_in (slot_at (entry_of entries) q))
+    → ((q : SlotRef) → parent_of next q ≡ parent_in (slot_at (entry_of entries) q))
     → machine_of (with_entries s entries) ≡ next
 slots_give s entries next alone objects caps parents =
     let s' : Inside = with_entries s entries in
-    same_from_tells _ _ _ (entry_of s.places entries) (tells-machine_of s')
-    (tells-slots s.next (machine_of s) (entry_of s.places s.entries) (entry_of s.places entries) (tells-machine_of s) next objects
+    same_from_tells _ _ _ (entry_of entries) (tells-machine_of s')
+    (tells-slots s.next (machine_of s) (entry_of s.store) (entry_of entries) (tells-machine_of s) next objects
     alone.same caps parents)
     (next-machine_of s' ∙ sym (objects.number ∙ next-machine_of s))
 
@@ -83,7 +80,7 @@ parent_linked (Some slot) = refl
 
 module _ (s : Inside) (consistent : IsConsistent s) where
   abbrev entry : ObjId → Option Entry
-  entry = entry_of s.places s.entries
+  entry = entry_of s.store
 
   cap_is : (q : SlotRef) → cap_of (machine_of s) q ≡ cap_in (slot_at entry q)
   cap_is = (tells-machine_of s).caps
@@ -97,28 +94,28 @@ module _ (s : Inside) (consistent : IsConsistent s) where
     abbrev set : Slot → Slot
     set slot = record slot { cap = filling }
 
-    abbrev entries : Slab Entry
-    entries = with_slot s.places s.entries at set
+    abbrev entries : Entries
+    entries = with_slot s.store at set
 
-    changes : ChangesSlot s.places s.entries entries at set
-    changes = changes_slot s.places consistent.apart s.entries at set
+    changes : ChangesSlot s.store entries at set
+    changes = changes_slot s.store at set
 
     set_links : (o : Option Slot) → links_of (option_map set o) ≡ links_of o
     set_links None = refl
     set_links (Some slot) = refl
 
-    kept_links : (q : SlotRef) → links_at (entry_of s.places entries) q ≡ links_at entry q
+    kept_links : (q : SlotRef) → links_at (entry_of entries) q ≡ links_at entry q
     kept_links q =
         elim (cases_slot q at) [
           | inl same ↦
-              subst (λ k. links_at (entry_of s.places entries) k ≡ links_at entry k) (sym same)
+              subst (λ k. links_at (entry_of entries) k ≡ links_at entry k) (sym same)
               (ap links_of changes.here ∙ set_links (slot_at entry at))
           | inr apart ↦ ap links_of (changes.other q apart)
         ]
 
-    kept_parents : (q : SlotRef) → parent_in (slot_at (entry_of s.places entries) q) ≡ parent_in (slot_at entry q)
+    kept_parents : (q : SlotRef) → parent_in (slot_at (entry_of entries) q) ≡ parent_in (slot_at entry q)
     kept_parents q =
-        parent_linked (slot_at (entry_of s.places entries) q) ∙ ap (λ l. l.parent) (kept_links q) ∙ sym (parent_linked (slot_at entry q))
+        parent_linked (slot_at (entry_of entries) q) ∙ ap (λ l. l.parent) (kept_links q) ∙ sym (parent_linked (slot_at entry q))
 
     set_cap : (o : Option Slot) → IsSome o → cap_in (option_map set o) ≡ filling
     set_cap None some = absurd (false≢true some)
@@ -126,7 +123,7 @@ module _ (s : Inside) (consistent : IsConsistent s) where
 
     set_gives :
         (next : Machine) → SameObjects (machine_of s) next
-        → ((q : SlotRef) → cap_of next q ≡ cap_in (slot_at (entry_of s.places entries) q))
+        → ((q : SlotRef) → cap_of next q ≡ cap_in (slot_at (entry_of entries) q))
         → ((q : SlotRef) → parent_of next q ≡ parent_of (machine_of s) q) → machine_of (with_entries s entries) ≡ next
     set_gives next objects caps parents =
         slots_give s entries next changes.alone objects caps
@@ -139,17 +136,17 @@ module _ (s : Inside) (consistent : IsConsistent s) where
     set_kin low high =
         IsConsistent-slots s consistent entries changes.alone
         (same_family _ _ _ _ kept_links (λ q. refl)
-        (refilled_family (links_at entry) (λ q. cap_in (slot_at entry q)) (λ q. cap_in (slot_at (entry_of s.places entries) q)) consistent.kin
+        (refilled_family (links_at entry) (λ q. cap_in (slot_at entry q)) (λ q. cap_in (slot_at (entry_of entries) q)) consistent.kin
         (λ c p is. by_slot c (λ same. low c p (parent_is c ∙ is) same))
         (λ c p is. by_slot p (λ same. high c p (parent_is c ∙ is) same))))
       where
         by_slot :
             (q : SlotRef) → (q ≡ at → IsSome filling) → IsSome (cap_in (slot_at entry q))
-            → IsSome (cap_in (slot_at (entry_of s.places entries) q))
+            → IsSome (cap_in (slot_at (entry_of entries) q))
         by_slot q fills some =
             elim (cases_slot q at) [
               | inl same ↦
-                  subst (λ k. IsSome (cap_in (slot_at (entry_of s.places entries) k))) (sym same)
+                  subst (λ k. IsSome (cap_in (slot_at (entry_of entries) k))) (sym same)
                   (subst IsSome (sym (ap cap_in changes.here ∙ set_cap (slot_at entry at) (filled_there (slot_at entry at)
                   (subst (λ k. IsSome (cap_in (slot_at entry k))) same some)))) (fills same))
               | inr apart ↦ subst (λ o. IsSome (cap_in o)) (sym (changes.other q apart)) some
@@ -165,12 +162,12 @@ module _ (s : Inside) (consistent : IsConsistent s) where
 
   pub IsConsistent-put_cap :
       (slot : SlotRef) (held : Cap)
-      → IsConsistent (with_entries s (with_slot s.places s.entries slot (λ old. record old { cap = Some held })))
+      → IsConsistent (with_entries s (with_slot s.store slot (λ old. record old { cap = Some held })))
   IsConsistent-put_cap slot held = set_kin slot (Some held) (λ c p is same. refl) (λ c p is same. refl)
 
   pub put_cap_gives :
       (slot : SlotRef) (held : Cap) → IsTrue (has_slot (machine_of s) slot)
-      → machine_of (with_entries s (with_slot s.places s.entries slot (λ old. record old { cap = Some held })))
+      → machine_of (with_entries s (with_slot s.store slot (λ old. record old { cap = Some held })))
       ≡ with_cap (machine_of s) slot held
   put_cap_gives slot held has =
       set_gives slot (Some held) (with_cap (machine_of s) slot held) (put_same slot held)
@@ -179,7 +176,7 @@ module _ (s : Inside) (consistent : IsConsistent s) where
       ∙ sym
       (by_key slot_total slot_apart q slot _ _ _
       (λ same.
-      ap (λ k. cap_in (slot_at (entry_of s.places (entries slot (Some held))) k)) same
+      ap (λ k. cap_in (slot_at (entry_of (entries slot (Some held))) k)) same
       ∙ ap cap_in (changes slot (Some held)).here ∙ set_cap slot (Some held) (slot_at entry slot) (slot_there slot has))
       (λ apart. ap cap_in ((changes slot (Some held)).other q apart) ∙ sym (cap_is q))))
       (put_parents slot held)
@@ -204,7 +201,7 @@ module _ (s : Inside) (consistent : IsConsistent s) where
 
   pub IsConsistent-take_cap :
       (slot : SlotRef) → IsAlone (machine_of s) slot
-      → IsConsistent (with_entries s (with_slot s.places s.entries slot (λ old. record old { cap = None })))
+      → IsConsistent (with_entries s (with_slot s.store slot (λ old. record old { cap = None })))
   IsConsistent-take_cap slot alone =
       set_kin slot None
       (λ c p is same. let none : parent_of (machine_of s) c ≡ None = ap (parent_of (machine_of s)) same ∙ alone.root in cc)
@@ -212,7 +209,7 @@ module _ (s : Inside) (consistent : IsConsistent s) where
 
   pub take_cap_gives :
       (slot : SlotRef)
-      → machine_of (with_entries s (with_slot s.places s.entries slot (λ old. record old { cap = None })))
+      → machine_of (with_entries s (with_slot s.store slot (λ old. record old { cap = None })))
       ≡ without_cap (machine_of s) slot
   take_cap_gives slot =
       set_gives slot None (without_cap (machine_of s) slot) (take_same slot)
@@ -221,7 +218,7 @@ module _ (s : Inside) (consistent : IsConsistent s) where
       ∙ sym
       (by_key slot_total slot_apart q slot _ _ _
       (λ same.
-      ap (λ k. cap_in (slot_at (entry_of s.places (entries slot None)) k)) same ∙ ap cap_in (changes slot None).here
+      ap (λ k. cap_in (slot_at (entry_of (entries slot None)) k)) same ∙ ap cap_in (changes slot None).here
       ∙ emptied (slot_at entry slot))
       (λ apart. ap cap_in ((changes slot None).other q apart) ∙ sym (cap_is q))))
       (take_parents slot)
@@ -282,22 +279,22 @@ module _ (s : Inside) (consistent : IsConsistent s) where
         let less : ranked.0 parent < ranked.0 slot = ranked.1 slot parent here in
         let equal : ranked.0 slot ≡ ranked.0 parent = ap ranked.0 same in omega arith
 
-    abbrev under : Slab Entry
-    under = attached s.places s.entries slot parent
+    abbrev under : Entries
+    under = attached s.store slot parent
 
-    attach_links : (q : SlotRef) → parent_of (with_parent (machine_of s) slot parent) q ≡ (links_at (entry_of s.places under) q).parent
+    attach_links : (q : SlotRef) → parent_of (with_parent (machine_of s) slot parent) q ≡ (links_at (entry_of under) q).parent
     attach_links q =
         parent_of-with_parent (machine_of s) slot parent q
         ∙ sym
-        (let joined = joins s.places consistent.apart s.entries consistent.kin slot parent low high rootless differs in
-        by_key slot_total slot_apart q slot _ _ _ (λ same. ap (λ k. (links_at (entry_of s.places under) k).parent) same ∙ joined.parent_here)
+        (let joined = joins s.store consistent.kin slot parent low high rootless differs in
+        by_key slot_total slot_apart q slot _ _ _ (λ same. ap (λ k. (links_at (entry_of under) k).parent) same ∙ joined.parent_here)
         (λ apart. joined.parent_other q apart ∙ sym (parent_is q)))
 
     pub IsConsistent-attached : IsConsistent (with_entries s under)
     IsConsistent-attached =
         IsConsistent-slots s consistent under
-        (attached_alone s.places consistent.apart s.entries consistent.kin slot parent low high rootless differs)
-        (attached_kin s.places consistent.apart s.entries consistent.kin slot parent low high rootless differs ranked.0
+        (attached_alone s.store consistent.kin slot parent low high rootless differs)
+        (attached_kin s.store consistent.kin slot parent low high rootless differs ranked.0
         (λ c p is. ranked.1 c p (attach_links c ∙ is)))
 
     attach_same : SameObjects (machine_of s) (with_parent (machine_of s) slot parent)
@@ -307,17 +304,17 @@ module _ (s : Inside) (consistent : IsConsistent s) where
     pub attach_gives : machine_of (with_entries s under) ≡ with_parent (machine_of s) slot parent
     attach_gives =
         slots_give s under (with_parent (machine_of s) slot parent)
-        (attached_alone s.places consistent.apart s.entries consistent.kin slot parent low high rootless differs) attach_same
+        (attached_alone s.store consistent.kin slot parent low high rootless differs) attach_same
         (λ q.
         cap_of-with_parent (machine_of s) slot parent q ∙ cap_is q
-        ∙ sym (attached_caps s.places consistent.apart s.entries consistent.kin slot parent low high rootless differs q))
-        (λ q. attach_links q ∙ sym (parent_linked (slot_at (entry_of s.places under) q)))
+        ∙ sym (attached_caps s.store consistent.kin slot parent low high rootless differs q))
+        (λ q. attach_links q ∙ sym (parent_linked (slot_at (entry_of under) q)))
 
   -- a slot leaves its parent
 
   module _ (slot : SlotRef) where
-    abbrev away : Slab Entry
-    away = leaving s.places s.entries slot (links_at entry slot)
+    abbrev away : Entries
+    away = leaving s.store slot (links_at entry slot)
 
     detach_same : SameObjects (machine_of s) (without_parent (machine_of s) slot)
     unfolding object_of queue_of words_of without_parent
@@ -336,41 +333,41 @@ module _ (s : Inside) (consistent : IsConsistent s) where
       linked : (links_at entry slot).parent ≡ Some parent
       linked = sym (parent_is slot) ∙ above
 
-      gone : (q : SlotRef) → (links_at (entry_of s.places away) q).parent ≡ cond (same_slot q slot) None (links_at entry q).parent
+      gone : (q : SlotRef) → (links_at (entry_of away) q).parent ≡ cond (same_slot q slot) None (links_at entry q).parent
       gone q =
-          let left = leaves s.places consistent.apart s.entries consistent.kin slot parent linked in
-          by_key slot_total slot_apart q slot _ _ _ (λ same. ap (λ k. (links_at (entry_of s.places away) k).parent) same ∙ left.parent_here)
+          let left = leaves s.store consistent.kin slot parent linked in
+          by_key slot_total slot_apart q slot _ _ _ (λ same. ap (λ k. (links_at (entry_of away) k).parent) same ∙ left.parent_here)
           (λ apart. left.parent_other q apart)
 
       child_consistent : IsConsistent (with_entries s away)
       child_consistent =
-          IsConsistent-slots s consistent away (detached_alone s.places consistent.apart s.entries consistent.kin slot parent linked)
-          (detached_kin s.places consistent.apart s.entries consistent.kin slot parent linked)
+          IsConsistent-slots s consistent away (detached_alone s.store consistent.kin slot parent linked)
+          (detached_kin s.store consistent.kin slot parent linked)
 
       child_gives : machine_of (with_entries s away) ≡ without_parent (machine_of s) slot
       child_gives =
           slots_give s away (without_parent (machine_of s) slot)
-          (detached_alone s.places consistent.apart s.entries consistent.kin slot parent linked) detach_same
+          (detached_alone s.store consistent.kin slot parent linked) detach_same
           (λ q.
           detach_caps q ∙ cap_is q
-          ∙ sym (detached_caps s.places consistent.apart s.entries consistent.kin slot parent linked q))
+          ∙ sym (detached_caps s.store consistent.kin slot parent linked q))
           (λ q.
           detach_parents q ∙ ap (cond (same_slot q slot) None) (parent_is q) ∙ sym (gone q)
-          ∙ sym (parent_linked (slot_at (entry_of s.places away) q)))
+          ∙ sym (parent_linked (slot_at (entry_of away) q)))
 
-    pub IsConsistent-detached : IsConsistent (with_entries s (detached s.places s.entries slot))
+    pub IsConsistent-detached : IsConsistent (with_entries s (detached s.store slot))
     IsConsistent-detached = by_parent (links_at entry slot).parent refl where
       by_parent :
           (o : Option SlotRef) → (links_at entry slot).parent ≡ o
-          → IsConsistent (with_entries s (leaving_from s.places s.entries slot (links_at entry slot) o))
+          → IsConsistent (with_entries s (leaving_from s.store slot (links_at entry slot) o))
       by_parent None is = consistent
       by_parent (Some parent) is = child_consistent parent (parent_is slot ∙ is)
 
-    pub detach_gives : machine_of (with_entries s (detached s.places s.entries slot)) ≡ without_parent (machine_of s) slot
+    pub detach_gives : machine_of (with_entries s (detached s.store slot)) ≡ without_parent (machine_of s) slot
     detach_gives = by_parent (links_at entry slot).parent refl where
       by_parent :
           (o : Option SlotRef) → (links_at entry slot).parent ≡ o
-          → machine_of (with_entries s (leaving_from s.places s.entries slot (links_at entry slot) o))
+          → machine_of (with_entries s (leaving_from s.store slot (links_at entry slot) o))
           ≡ without_parent (machine_of s) slot
       by_parent None is =
           same_machine (machine_of s) (without_parent (machine_of s) slot) (λ q. sym (detach_same.objects q))

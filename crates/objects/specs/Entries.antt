@@ -1,40 +1,30 @@
--- Where the entry of an object is kept, what it says, and what the store is after a change to one entry.
-use Rattle.std.specs.Prelude.{◌≡◌, ℕ, Option, Some, None, option_and_then, slice_get, replicate}
-use Rattle.std.specs.Ordering.{nat_cmp}
-use Rattle.std.specs.BTreeMap as tree
-use Rattle.std.specs.BTreeMap.{BTreeMap}
-use Rattle.slab.specs.Slab as slab
-use Rattle.slab.specs.Slab.{Slab}
+-- The entry of each object, what it says, and what the entries are after a change to one.
+use Rattle.std.specs.Prelude.{ℕ, Option, None, option_map, option_and_then, slice_get, replicate}
+use Rattle.std.specs.FinMap as map
+use Rattle.std.specs.FinMap.{FinMap}
 use Rattle.base.specs.declared.ids.ObjId.{ObjId}
 use Rattle.base.specs.declared.ids.SlotRef.{SlotRef}
 use Rattle.machine.specs.declared.object.Object.{Object}
+use Rattle.machine.specs.Machine.{id_cmp}
 use Rattle.machine.specs.Objects.{slot_count, word_count}
 use Rattle.objects.specs.declared.entry.Entry.{Entry}
 use Rattle.objects.specs.declared.links.Ends.{Ends}
 use Rattle.objects.specs.declared.links.Standing.{Standing}
 use Rattle.objects.specs.declared.slots.Slot.{Slot}
 use Rattle.objects.specs.Edits.{edited}
+use Rattle.objects.specs.Finite.{put_some}
 
--- where an object's entry is
-abbrev pub place_of : BTreeMap ℕ ℕ → ObjId → Option ℕ
-place_of places id = tree.get nat_cmp places id.0
+-- the entries of the objects, by number
+abbrev pub Entries : Type 0
+Entries = FinMap id_cmp Entry
 
 -- an object's entry
-abbrev pub entry_of : BTreeMap ℕ ℕ → Slab Entry → ObjId → Option Entry
-entry_of places entries id = option_and_then (slab.get entries) (place_of places id)
-
--- the entries with that at a place changed, if it has one
-abbrev pub changed_at : Slab Entry → (Entry → Entry) → ℕ → Option Entry → Slab Entry
-changed_at entries change place None = entries
-changed_at entries change place (Some entry) = slab.with_value entries place (change entry)
-
-abbrev pub changed : Slab Entry → (Entry → Entry) → Option ℕ → Slab Entry
-changed entries change None = entries
-changed entries change (Some place) = changed_at entries change place (slab.get entries place)
+abbrev pub entry_of : Entries → ObjId → Option Entry
+entry_of entries id = map.get entries id
 
 -- the entries after a change to that of one object, if it is present
-abbrev pub with_entry : BTreeMap ℕ ℕ → Slab Entry → ObjId → (Entry → Entry) → Slab Entry
-with_entry places entries id change = changed entries change (place_of places id)
+abbrev pub with_entry : Entries → ObjId → (Entry → Entry) → Entries
+with_entry entries id change = put_some entries id (option_map change (entry_of entries id))
 
 -- the changes to an entry
 
@@ -68,15 +58,3 @@ new_entry object =
 -- a slot, if it is there
 abbrev pub slot_at : (ObjId → Option Entry) → SlotRef → Option Slot
 slot_at entry at = option_and_then (λ e. slice_get e.slots at.index) (entry at.holder)
-
--- the entry is added under the number, at a place that was empty
-pub record AddsEntry (places places' : BTreeMap ℕ ℕ) (entries entries' : Slab Entry) (number : ℕ) (entry : Entry) : Type 0 where
-  pub place : ℕ
-  pub vacant : slab.get entries place ≡ None
-  pub placed : tree.Updates nat_cmp places places' number (Some place)
-  pub added : slab.Updates entries entries' place (Some entry)
-
--- each number has the place that it had, and each place its entry
-pub record SameEntries (places places' : BTreeMap ℕ ℕ) (entries entries' : Slab Entry) : Type 0 where
-  pub placed : (number : ℕ) → tree.get nat_cmp places' number ≡ tree.get nat_cmp places number
-  pub kept : (place : ℕ) → slab.get entries' place ≡ slab.get entries place

@@ -1,16 +1,13 @@
 -- The derivation tree in the slots of entries: when the links that slots have are those of a forest, and what the entries are after a
 -- slot has come under a parent or has left its own (confine's own).
 use Rattle.std.specs.Prelude.{◌≡◌, Option, Some, None, IsSome, option_and_then}
-use Rattle.std.specs.BTreeMap.{BTreeMap}
-use Rattle.std.proofs.Common.{ℕ}
-use Rattle.slab.specs.Slab.{Slab}
 use Rattle.base.specs.declared.ids.ObjId.{ObjId}
 use Rattle.base.specs.declared.ids.SlotRef.{SlotRef}
 use Rattle.machine.specs.declared.cap.Cap.{Cap}
 use Rattle.objects.specs.declared.entry.Entry.{Entry}
 use Rattle.objects.specs.declared.links.TreeLinks.{TreeLinks}
 use Rattle.objects.specs.declared.slots.Slot.{Slot}
-use Rattle.objects.specs.Entries.{entry_of, slot_at, with_entry, set_slot_in}
+use Rattle.objects.specs.Entries.{Entries, entry_of, slot_at, with_entry, set_slot_in}
 use Rattle.objects.specs.Forest.{Links, IsForest}
 
 -- what a slot holds, if it is there
@@ -48,29 +45,29 @@ abbrev pub AreKin : (ObjId → Option Entry) → Type 0
 AreKin entry = IsFamily (links_at entry) (λ q. cap_in (slot_at entry q))
 
 -- the entries with a slot changed, if it is there
-abbrev pub changed_slot : BTreeMap ℕ ℕ → Slab Entry → SlotRef → (Slot → Slot) → Option Slot → Slab Entry
-changed_slot places entries at change None = entries
-changed_slot places entries at change (Some slot) = with_entry places entries at.holder (set_slot_in at.index (change slot))
+abbrev pub changed_slot : Entries → SlotRef → (Slot → Slot) → Option Slot → Entries
+changed_slot entries at change None = entries
+changed_slot entries at change (Some slot) = with_entry entries at.holder (set_slot_in at.index (change slot))
 
-abbrev pub with_slot : BTreeMap ℕ ℕ → Slab Entry → SlotRef → (Slot → Slot) → Slab Entry
-with_slot places entries at change = changed_slot places entries at change (slot_at (entry_of places entries) at)
+abbrev pub with_slot : Entries → SlotRef → (Slot → Slot) → Entries
+with_slot entries at change = changed_slot entries at change (slot_at (entry_of entries) at)
 
 -- the entries with the links of a slot changed, if one is named
-abbrev pub with_links : BTreeMap ℕ ℕ → Slab Entry → Option SlotRef → (TreeLinks → TreeLinks) → Slab Entry
-with_links places entries None change = entries
-with_links places entries (Some at) change = with_slot places entries at (λ slot. record slot { links = change slot.links })
+abbrev pub with_links : Entries → Option SlotRef → (TreeLinks → TreeLinks) → Entries
+with_links entries None change = entries
+with_links entries (Some at) change = with_slot entries at (λ slot. record slot { links = change slot.links })
 
 -- a slot comes under a parent that has this first child, before that
-abbrev pub before_head : BTreeMap ℕ ℕ → Slab Entry → SlotRef → SlotRef → Option SlotRef → Slab Entry
-before_head places entries slot parent head =
-    with_links places
-    (with_links places (with_links places entries head (λ l. record l { previous = Some slot })) (Some slot)
+abbrev pub before_head : Entries → SlotRef → SlotRef → Option SlotRef → Entries
+before_head entries slot parent head =
+    with_links
+    (with_links (with_links entries head (λ l. record l { previous = Some slot })) (Some slot)
     (λ l. record l { parent = Some parent; next = head; previous = None }))
     (Some parent) (λ l. record l { first = Some slot })
 
-abbrev pub attached : BTreeMap ℕ ℕ → Slab Entry → SlotRef → SlotRef → Slab Entry
-attached places entries slot parent =
-    before_head places entries slot parent (links_at (entry_of places entries) parent).first
+abbrev pub attached : Entries → SlotRef → SlotRef → Entries
+attached entries slot parent =
+    before_head entries slot parent (links_at (entry_of entries) parent).first
 
 -- whose first child a slot with these links is
 abbrev pub head_of : TreeLinks → Option SlotRef → Option SlotRef
@@ -78,21 +75,21 @@ head_of links None = links.parent
 head_of links (Some previous) = None
 
 -- a slot that has these links leaves its parent: the siblings before and after it are neighbours
-abbrev pub leaving : BTreeMap ℕ ℕ → Slab Entry → SlotRef → TreeLinks → Slab Entry
-leaving places entries slot links =
-    with_links places
-    (with_links places
-    (with_links places
-    (with_links places entries (head_of links links.previous) (λ l. record l { first = links.next }))
+abbrev pub leaving : Entries → SlotRef → TreeLinks → Entries
+leaving entries slot links =
+    with_links
+    (with_links
+    (with_links
+    (with_links entries (head_of links links.previous) (λ l. record l { first = links.next }))
     links.previous (λ l. record l { next = links.next }))
     links.next (λ l. record l { previous = links.previous }))
     (Some slot) (λ l. record l { parent = None; next = None; previous = None })
 
 -- a root has none to leave
-abbrev pub leaving_from : BTreeMap ℕ ℕ → Slab Entry → SlotRef → TreeLinks → Option SlotRef → Slab Entry
-leaving_from places entries slot links None = entries
-leaving_from places entries slot links (Some parent) = leaving places entries slot links
+abbrev pub leaving_from : Entries → SlotRef → TreeLinks → Option SlotRef → Entries
+leaving_from entries slot links None = entries
+leaving_from entries slot links (Some parent) = leaving entries slot links
 
-abbrev pub detached : BTreeMap ℕ ℕ → Slab Entry → SlotRef → Slab Entry
-detached places entries slot =
-    let links : TreeLinks = links_at (entry_of places entries) slot in leaving_from places entries slot links links.parent
+abbrev pub detached : Entries → SlotRef → Entries
+detached entries slot =
+    let links : TreeLinks = links_at (entry_of entries) slot in leaving_from entries slot links links.parent

@@ -4,6 +4,7 @@ pub mod Family
 pub mod Finite
 pub mod Forest
 pub mod Links
+pub mod Places
 pub mod Queues
 pub mod Radices
 pub mod State

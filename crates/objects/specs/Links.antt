@@ -1,14 +1,12 @@
 -- The links that the entries of objects have, and what the entries are after a thread has come to wait or has left (confine's own).
 use Rattle.std.specs.Prelude.{ℕ, List, Option, Some, None, option_map}
 use Rattle.std.specs.Option.{option_or, option_and}
-use Rattle.std.specs.BTreeMap.{BTreeMap}
-use Rattle.slab.specs.Slab.{Slab}
 use Rattle.base.specs.declared.ids.ObjId.{ObjId}
 use Rattle.objects.specs.declared.entry.Entry.{Entry}
 use Rattle.objects.specs.declared.links.Ends.{Ends}
 use Rattle.objects.specs.declared.links.Standing.{Standing}
 use Rattle.objects.specs.Queues.{walk, AreQueues}
-use Rattle.objects.specs.Entries.{entry_of, with_entry, set_ends_in, set_standing_in}
+use Rattle.objects.specs.Entries.{Entries, entry_of, with_entry, set_ends_in, set_standing_in}
 
 -- the ends of the queue at an object; nobody waits at one that is absent
 abbrev pub ends_of : Option Entry → Ends
@@ -29,35 +27,35 @@ abbrev pub AreQueued : (ObjId → Option Entry) → ℕ → Type 0
 AreQueued entry numbers = AreQueues (λ id. ends_of (entry id)) (λ id. standing_of (entry id)) numbers
 
 -- where a thread stands, if one is named
-abbrev pub with_standing : BTreeMap ℕ ℕ → Slab Entry → Option ObjId → (Standing → Standing) → Slab Entry
-with_standing places entries None change = entries
-with_standing places entries (Some thread) change =
-    with_entry places entries thread (set_standing_in (change (standing_of (entry_of places entries thread))))
+abbrev pub with_standing : Entries → Option ObjId → (Standing → Standing) → Entries
+with_standing entries None change = entries
+with_standing entries (Some thread) change =
+    with_entry entries thread (set_standing_in (change (standing_of (entry_of entries thread))))
 
 -- the neighbour, if one is named, then the thread, then the ends of the queue at the object
 abbrev pub relinked :
-    BTreeMap ℕ ℕ → Slab Entry → Option ObjId → (Standing → Standing) → ObjId → Standing → ObjId → Ends → Slab Entry
-relinked places entries neighbour change thread standing id ends =
-    with_entry places
-    (with_entry places (with_standing places entries neighbour change) thread (set_standing_in standing))
+    Entries → Option ObjId → (Standing → Standing) → ObjId → Standing → ObjId → Ends → Entries
+relinked entries neighbour change thread standing id ends =
+    with_entry
+    (with_entry (with_standing entries neighbour change) thread (set_standing_in standing))
     id (set_ends_in ends)
 
 -- a thread comes to the end of a queue that has these ends
-abbrev pub pushed : BTreeMap ℕ ℕ → Slab Entry → ObjId → ObjId → Option Ends → Slab Entry
-pushed places entries id thread None = entries
-pushed places entries id thread (Some ends) =
-    relinked places entries ends.last (λ s. record s { next = Some thread }) thread
+abbrev pub pushed : Entries → ObjId → ObjId → Option Ends → Entries
+pushed entries id thread None = entries
+pushed entries id thread (Some ends) =
+    relinked entries ends.last (λ s. record s { next = Some thread }) thread
     (record { at = Some id; previous = ends.last; next = None }) id
     (record { first = option_or ends.first (Some thread); last = Some thread })
 
 -- the first thread, if there is one, leaves a queue that has these ends
-abbrev pub left : BTreeMap ℕ ℕ → Slab Entry → ObjId → Ends → Option ObjId → Slab Entry
-left places entries id ends None = entries
-left places entries id ends (Some first) =
-    let next : Option ObjId = (standing_of (entry_of places entries first)).next in
-    relinked places entries next (λ s. record s { previous = None }) first (record { at = None; previous = None; next = None }) id
+abbrev pub left : Entries → ObjId → Ends → Option ObjId → Entries
+left entries id ends None = entries
+left entries id ends (Some first) =
+    let next : Option ObjId = (standing_of (entry_of entries first)).next in
+    relinked entries next (λ s. record s { previous = None }) first (record { at = None; previous = None; next = None }) id
     (record { first = next; last = option_and next ends.last })
 
-abbrev pub popped : BTreeMap ℕ ℕ → Slab Entry → ObjId → Option Ends → Slab Entry
-popped places entries id None = entries
-popped places entries id (Some ends) = left places entries id ends ends.first
+abbrev pub popped : Entries → ObjId → Option Ends → Entries
+popped entries id None = entries
+popped entries id (Some ends) = left entries id ends ends.first

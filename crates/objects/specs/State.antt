@@ -1,9 +1,7 @@
 -- What contracts see of a `State`, and what is true of each.
 use Rattle.std.specs.Prelude.{◌≡◌, ℕ, ◌<◌, ◌≤◌, List, [], map, length, Option, Some, None, IsSome, option_map}
 use Rattle.std.specs.List.{flat_map, range_with_len}
-use Rattle.std.specs.Ordering.{nat_cmp}
-use Rattle.std.specs.BTreeMap as tree
-use Rattle.slab.specs.Slab as slab
+use Rattle.std.specs.FinMap as finite
 use Rattle.base.specs.declared.ids.ObjId.{ObjId}
 use Rattle.base.specs.declared.ids.SlotRef.{SlotRef}
 use Rattle.base.specs.declared.limits.TheConstants.{OBJECT_NUMBERS}
@@ -37,19 +35,17 @@ machine_from entry ids next =
 
 -- the state as a machine
 unfoldable pub machine_of : Inside → Machine
-machine_of s = machine_from (entry_of s.places s.entries) (map (λ number. record { 0 = number }) (tree.keys s.places)) s.next
+machine_of s = machine_from (entry_of s.store) (finite.keys s.store) s.next
 
 -- an entry has as many slots as its object should, and a CNode has a radix
 abbrev pub IsSized : Entry → Type 0
 IsSized entry = (length entry.slots ≡ slot_count entry.object) × HasRadix entry.object
 
--- each number in use has a place of its own with an entry and is below the next one, its object has as many slots as it should,
--- a CNode has a radix, and the links are those of queues and of a derivation tree
+-- each number in use is below the next one, its object has as many slots as it should, a CNode has a radix, and the links are those
+-- of queues and of a derivation tree
 pub record IsConsistent (s : Inside) : Type 0 where
-  pub apart : (a b place : ℕ) → tree.get nat_cmp s.places a ≡ Some place → tree.get nat_cmp s.places b ≡ Some place → a ≡ b
-  pub held : (a place : ℕ) → tree.get nat_cmp s.places a ≡ Some place → IsSome (slab.get s.entries place)
-  pub fresh : (a : ℕ) → IsSome (tree.get nat_cmp s.places a) → a < s.next
+  pub fresh : (id : ObjId) → IsSome (entry_of s.store id) → id.0 < s.next
   pub bounded : s.next ≤ OBJECT_NUMBERS
-  pub sized : (id : ObjId) (entry : Entry) → entry_of s.places s.entries id ≡ Some entry → IsSized entry
-  pub queued : AreQueued (entry_of s.places s.entries) s.next
-  pub kin : AreKin (entry_of s.places s.entries)
+  pub sized : (id : ObjId) (entry : Entry) → entry_of s.store id ≡ Some entry → IsSized entry
+  pub queued : AreQueued (entry_of s.store) s.next
+  pub kin : AreKin (entry_of s.store)

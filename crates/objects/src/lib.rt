@@ -7,6 +7,7 @@
 
 mod entry;
 mod links;
+mod places;
 mod slots;
 mod state;
 mod store;

@@ -1,10 +1,8 @@
-use crate::entry::{Entry, cnode_takes_bits};
-use crate::store;
+use crate::entry::cnode_takes_bits;
+use crate::store::Store;
 use base::{ObjId, SlotRef};
 use machine::{Cap, Context, Notification, Object, Tcb};
-use slab::Slab;
 use std::alloc::{AllocError, Global};
-use std::collections::BTreeMap;
 use std::marker::Model;
 
 /// The kernel's state.
@@ -12,11 +10,8 @@ use std::marker::Model;
 /// A look-up or a change of one object takes time logarithmic in the number of objects.
 #[derive(Drop)]
 pub struct State {
-    /// From the number of an object to the key of its entry.
-    places: BTreeMap<u64, usize>,
-    entries: Slab<Entry>,
+    store: Store,
     next: u64,
-    alloc: Global,
 }
 
 impl Model for State {
@@ -58,10 +53,8 @@ impl State {
         ensures { result ≡ empty_machine }
     {
         State {
-            places: BTreeMap::new(alloc),
-            entries: Slab::new(alloc),
+            store: Store::new(alloc),
             next: 0,
-            alloc,
         }
     }
 
@@ -86,14 +79,14 @@ impl State {
     pub fn object(&self, id: ObjId) -> Option<&Object>
         ensures { option_copied result ≡ object_of self.now id }
     {
-        store::object(&self.places, &self.entries, id)
+        self.store.object(id)
     }
 
     /// The capability in the slot; none where the slot is empty or isn't there.
     pub fn cap(&self, slot: SlotRef) -> Option<Cap>
         ensures { result ≡ cap_of self.now slot }
     {
-        store::cap(&self.places, &self.entries, slot)
+        self.store.cap(slot)
     }
 
     /// The slot whose capability that in this one was derived from, if it was derived (seL4 manual,
@@ -101,7 +94,7 @@ impl State {
     pub fn parent(&self, slot: SlotRef) -> Option<SlotRef>
         ensures { result ≡ parent_of self.now slot }
     {
-        store::parent(&self.places, &self.entries, slot)
+        self.store.parent(slot)
     }
 
     /// Whether there is such a slot, filled or not.
@@ -118,7 +111,7 @@ impl State {
     pub fn first_waiting(&self, id: ObjId) -> Option<ObjId>
         ensures { result ≡ first_waiting self.now id }
     {
-        store::first(&self.places, &self.entries, id)
+        self.store.first(id)
     }
 
     /// Adds an object under the next number. Its slots are empty, nobody waits at it, and its words
@@ -133,13 +126,7 @@ impl State {
     {
         cnode_takes_bits(&object);
         let number = self.next;
-        store::add(
-            self.alloc,
-            &mut self.places,
-            &mut self.entries,
-            number,
-            object,
-        )?;
+        self.store.add(number, object)?;
         self.next += 1;
         Ok(ObjId(number))
     }
@@ -149,7 +136,7 @@ impl State {
         requires { IsTrue (has_slot self.old slot) }
         ensures { self.new ≡ with_cap self.old slot cap }
     {
-        store::set_cap(&self.places, &mut self.entries, slot, Some(cap));
+        self.store.set_cap(slot, Some(cap));
     }
 
     /// Empties the slot, which is in no pair of the derivation tree.
@@ -157,7 +144,7 @@ impl State {
         requires alone { IsAlone self.old slot }
         ensures { self.new ≡ without_cap self.old slot }
     {
-        store::set_cap(&self.places, &mut self.entries, slot, None);
+        self.store.set_cap(slot, None);
     }
 
     /// A child of the slot in the derivation tree, if it has one.
@@ -165,7 +152,7 @@ impl State {
         ensures some { IfSome result (λ child. parent_of self.now child ≡ Some slot) }
         ensures none { IfNone result ((child : Slot) → parent_of self.now child ≢ Some slot) }
     {
-        store::first_child(&self.places, &self.entries, slot)
+        self.store.first_child(slot)
     }
 
     /// Makes the capability in `slot`, which has no parent, a child of that in `parent` in the
@@ -178,14 +165,14 @@ impl State {
         requires ranked { IsRanked (with_parent self.old slot parent) }
         ensures { self.new ≡ with_parent self.old slot parent }
     {
-        store::attach(&self.places, &mut self.entries, slot, parent);
+        self.store.attach(slot, parent);
     }
 
     /// Takes the slot away from its parent, if it has one. It keeps its children.
     pub fn detach(&mut self, slot: SlotRef)
         ensures { self.new ≡ without_parent self.old slot }
     {
-        store::detach(&self.places, &mut self.entries, slot);
+        self.store.detach(slot);
     }
 
     /// Pairs of the derivation tree join filled slots, and no slot descends from itself.
@@ -206,7 +193,7 @@ impl State {
         ensures { self.new ≡ with_object self.old id object }
     {
         cnode_takes_bits(&object);
-        store::replace(&self.places, &mut self.entries, id, object);
+        self.store.replace(id, object);
     }
 
     /// Sets the word of the notification. Does nothing where there is none of that number.
@@ -250,7 +237,7 @@ impl State {
         requires free { WaitsNowhere self.old thread }
         ensures { self.new ≡ with_waiting self.old id thread }
     {
-        store::push(&self.places, &mut self.entries, id, thread);
+        self.store.push(id, thread);
     }
 
     /// Takes the thread that has waited longest at the object, if one waits.
@@ -258,6 +245,6 @@ impl State {
         ensures value { result ≡ first_waiting self.old id }
         ensures rest { self.new ≡ without_first self.old id }
     {
-        store::pop(&self.places, &mut self.entries, id)
+        self.store.pop(id)
     }
 }

@@ -1,226 +1,343 @@
-//! The entry of an object, found by its number: a map from numbers to places, and the entries at
-//! these.
-ghost use Rattle.std.specs.Prelude.{◌≡◌, Some, option_copied, option_map, option_and_then, OnOk, OnErr};
-ghost use Rattle.objects.specs.Entries.{entry_of, slot_at, with_entry, set_slot_in, replace_in};
-ghost use Rattle.objects.specs.Entries.{new_entry, AddsEntry, SameEntries, set_ends_in, set_standing_in};
-ghost use Rattle.objects.specs.Family.{cap_in, parent_in, links_at, with_slot, with_links, attached, head_of, leaving, detached};
-ghost use Rattle.objects.specs.Links.{standing_of, with_standing, pushed, popped};
+//! The entries of the objects, found by number.
+ghost use Rattle.std.specs.Prelude.{◌≡◌, None, Some, option_copied, option_map, option_and_then, OnOk, OnErr};
+ghost use Rattle.objects.specs.Family.{head_of};
 
 use crate::entry::Entry;
 use crate::links::{Ends, Standing, TreeLinks};
-use crate::slots::{Slot, Slots};
-use crate::words::Words;
+use crate::places;
+use crate::slots::Slot;
 use base::{ObjId, SlotRef};
 use machine::{Cap, Object};
 use slab::Slab;
 use std::alloc::{AllocError, Global};
 use std::collections::BTreeMap;
+use std::marker::Model;
 
-/// The object's entry.
-pub fn entry<'a>(
-    places: &BTreeMap<u64, usize>,
-    entries: &'a Slab<Entry>,
-    id: ObjId,
-) -> Option<&'a Entry>
-    ensures { option_copied result ≡ entry_of places.now entries.now id }
-{
-    let place = places.get(&id.0)?;
-    entries.get(*place)
+/// The entries of the objects, by number.
+#[derive(Drop)]
+pub struct Store {
+    /// From the number of an object to the key of its entry.
+    places: BTreeMap<u64, usize>,
+    entries: Slab<Entry>,
+    alloc: Global,
 }
 
-/// The object's content.
-pub fn object<'a>(
-    places: &BTreeMap<u64, usize>,
-    entries: &'a Slab<Entry>,
-    id: ObjId,
-) -> Option<&'a Object>
-    ensures { option_copied result ≡ option_map (λ entry. entry.object) (entry_of places.now entries.now id) }
-{
-    Some(&entry(places, entries, id)?.object)
+impl Model for Store {
+    ghost use Rattle.std.specs.FinMap as finite;
+    ghost use Rattle.std.specs.FinMap.{FinMap};
+    ghost use Rattle.base.specs.declared.ids.ObjId.{ObjId as Id};
+    ghost use Rattle.base.specs.contracts.ids.ObjId as id;
+    ghost use Rattle.machine.specs.Machine.{id_cmp};
+    ghost use Rattle.objects.specs.declared.entry.Entry.{Entry as Item};
+    ghost use Rattle.objects.specs.contracts.entry.Entry as item;
+
+    ghost Value = { FinMap id_cmp Item };
+
+    ghost coded = { finite.code id.the_row.coded item.the_row.coded };
+
+    ghost use Rattle.objects.specs.Places.{entries_by_number, IsPlaced};
+
+    ghost view = { entries_by_number };
+
+    ghost invariant = { IsPlaced };
 }
 
-/// The slot, if it is there.
-pub fn slot(places: &BTreeMap<u64, usize>, entries: &Slab<Entry>, at: SlotRef) -> Option<Slot>
-    ensures { result ≡ slot_at (entry_of places.now entries.now) at }
-{
-    entry(places, entries, at.holder)?.slots.get(at.index)
-}
+impl Store {
+    ghost use Rattle.std.specs.FinMap as finite;
+    ghost use Rattle.objects.specs.Entries.{entry_of, slot_at, with_entry, set_slot_in, replace_in};
+    ghost use Rattle.objects.specs.Entries.{new_entry, set_ends_in, set_standing_in};
+    ghost use Rattle.objects.specs.Family.{cap_in, parent_in, links_at, with_slot, with_links, attached, leaving, detached};
+    ghost use Rattle.objects.specs.Links.{standing_of, with_standing, pushed, popped};
 
-/// The capability in the slot.
-pub fn cap(places: &BTreeMap<u64, usize>, entries: &Slab<Entry>, at: SlotRef) -> Option<Cap>
-    ensures { result ≡ cap_in (slot_at (entry_of places.now entries.now) at) }
-{
-    slot(places, entries, at)?.cap
-}
-
-/// The parent of the slot.
-pub fn parent(places: &BTreeMap<u64, usize>, entries: &Slab<Entry>, at: SlotRef) -> Option<SlotRef>
-    ensures { result ≡ parent_in (slot_at (entry_of places.now entries.now) at) }
-{
-    slot(places, entries, at)?.links.parent
-}
-
-/// The first child of the slot.
-pub fn first_child(
-    places: &BTreeMap<u64, usize>,
-    entries: &Slab<Entry>,
-    at: SlotRef,
-) -> Option<SlotRef>
-    ensures { result ≡ (links_at (entry_of places.now entries.now) at).first }
-{
-    links(places, entries, at).first
-}
-
-// The links of the slot; one that is absent has none.
-fn links(places: &BTreeMap<u64, usize>, entries: &Slab<Entry>, at: SlotRef) -> TreeLinks
-    ensures { result ≡ links_at (entry_of places.now entries.now) at }
-{
-    match slot(places, entries, at) {
-        Some(slot) => slot.links,
-        None => TreeLinks::NONE,
-    }
-}
-
-// The ends of the queue at the object.
-fn ends(places: &BTreeMap<u64, usize>, entries: &Slab<Entry>, id: ObjId) -> Option<Ends>
-    ensures { result ≡ option_map (λ entry. entry.ends) (entry_of places.now entries.now id) }
-{
-    Some(entry(places, entries, id)?.ends)
-}
-
-/// Who waits first at the object.
-pub fn first(places: &BTreeMap<u64, usize>, entries: &Slab<Entry>, id: ObjId) -> Option<ObjId>
-    ensures { result ≡ option_and_then (λ entry. entry.ends.first) (entry_of places.now entries.now id) }
-{
-    entry(places, entries, id)?.ends.first
-}
-
-// Where the thread stands.
-fn standing(places: &BTreeMap<u64, usize>, entries: &Slab<Entry>, thread: ObjId) -> Standing
-    ensures { result ≡ standing_of (entry_of places.now entries.now thread) }
-{
-    match entry(places, entries, thread) {
-        Some(entry) => entry.standing,
-        None => Standing::NOWHERE,
-    }
-}
-
-fn set_slot(places: &BTreeMap<u64, usize>, entries: &mut Slab<Entry>, at: SlotRef, slot: Slot)
-    ensures { entries.new ≡ with_entry places.now entries.old at.holder (set_slot_in at.index slot) }
-{
-    if let Some(place) = places.get(&at.holder.0) {
-        if let Some(entry) = entries.get_mut(*place) {
-            entry.slots.set(at.index, slot);
+    /// No entries.
+    pub fn new(alloc: Global) -> Store
+        ensures { result ≡ finite.empty }
+    {
+        Store {
+            places: BTreeMap::new(alloc),
+            entries: Slab::new(alloc),
+            alloc,
         }
     }
-}
 
-/// Says what the slot holds, if it is there.
-pub fn set_cap(
-    places: &BTreeMap<u64, usize>,
-    entries: &mut Slab<Entry>,
-    at: SlotRef,
-    cap: Option<Cap>,
-)
-    ensures { entries.new ≡ with_slot places.now entries.old at (λ slot. record slot { cap = cap }) }
-{
-    if let Some(slot) = slot(places, entries, at) {
-        set_slot(places, entries, at, Slot { cap, ..slot });
+    /// The object's entry.
+    pub fn entry(&self, id: ObjId) -> Option<&Entry>
+        ensures { option_copied result ≡ entry_of self.now id }
+    {
+        places::entry(&self.places, &self.entries, id)
     }
-}
 
-// Says which the slot's first child is, if a slot is named.
-fn set_first(
-    places: &BTreeMap<u64, usize>,
-    entries: &mut Slab<Entry>,
-    at: Option<SlotRef>,
-    first: Option<SlotRef>,
-)
-    ensures { entries.new ≡ with_links places.now entries.old at (λ l. record l { first = first }) }
-{
-    if let Some(at) = at {
-        if let Some(slot) = slot(places, entries, at) {
+    /// The object's content.
+    pub fn object(&self, id: ObjId) -> Option<&Object>
+        ensures { option_copied result ≡ option_map (λ entry. entry.object) (entry_of self.now id) }
+    {
+        Some(&self.entry(id)?.object)
+    }
+
+    /// The slot, if it is there.
+    pub fn slot(&self, at: SlotRef) -> Option<Slot>
+        ensures { result ≡ slot_at (entry_of self.now) at }
+    {
+        self.entry(at.holder)?.slots.get(at.index)
+    }
+
+    /// The capability in the slot.
+    pub fn cap(&self, at: SlotRef) -> Option<Cap>
+        ensures { result ≡ cap_in (slot_at (entry_of self.now) at) }
+    {
+        self.slot(at)?.cap
+    }
+
+    /// The parent of the slot.
+    pub fn parent(&self, at: SlotRef) -> Option<SlotRef>
+        ensures { result ≡ parent_in (slot_at (entry_of self.now) at) }
+    {
+        self.slot(at)?.links.parent
+    }
+
+    /// The first child of the slot.
+    pub fn first_child(&self, at: SlotRef) -> Option<SlotRef>
+        ensures { result ≡ (links_at (entry_of self.now) at).first }
+    {
+        self.links(at).first
+    }
+
+    // The links of the slot; one that is absent has none.
+    fn links(&self, at: SlotRef) -> TreeLinks
+        ensures { result ≡ links_at (entry_of self.now) at }
+    {
+        match self.slot(at) {
+            Some(slot) => slot.links,
+            None => TreeLinks::NONE,
+        }
+    }
+
+    // The ends of the queue at the object.
+    fn ends(&self, id: ObjId) -> Option<Ends>
+        ensures { result ≡ option_map (λ entry. entry.ends) (entry_of self.now id) }
+    {
+        Some(self.entry(id)?.ends)
+    }
+
+    /// Who waits first at the object.
+    pub fn first(&self, id: ObjId) -> Option<ObjId>
+        ensures { result ≡ option_and_then (λ entry. entry.ends.first) (entry_of self.now id) }
+    {
+        self.entry(id)?.ends.first
+    }
+
+    // Where the thread stands.
+    fn standing(&self, thread: ObjId) -> Standing
+        ensures { result ≡ standing_of (entry_of self.now thread) }
+    {
+        match self.entry(thread) {
+            Some(entry) => entry.standing,
+            None => Standing::NOWHERE,
+        }
+    }
+
+    fn set_slot(&mut self, at: SlotRef, slot: Slot)
+        ensures { self.new ≡ with_entry self.old at.holder (set_slot_in at.index slot) }
+    {
+        places::set_slot(&self.places, &mut self.entries, at, slot);
+    }
+
+    /// Says what the slot holds, if it is there.
+    pub fn set_cap(&mut self, at: SlotRef, cap: Option<Cap>)
+        ensures { self.new ≡ with_slot self.old at (λ slot. record slot { cap = cap }) }
+    {
+        if let Some(slot) = self.slot(at) {
+            self.set_slot(at, Slot { cap, ..slot });
+        }
+    }
+
+    // Says which the slot's first child is, if a slot is named.
+    fn set_first(&mut self, at: Option<SlotRef>, first: Option<SlotRef>)
+        ensures { self.new ≡ with_links self.old at (λ l. record l { first = first }) }
+    {
+        if let Some(at) = at {
+            if let Some(slot) = self.slot(at) {
+                let links = TreeLinks {
+                    first,
+                    ..slot.links
+                };
+                self.set_slot(at, Slot { links, ..slot });
+            }
+        }
+    }
+
+    // Says which sibling follows the slot, if one is named.
+    fn set_follower(&mut self, at: Option<SlotRef>, next: Option<SlotRef>)
+        ensures { self.new ≡ with_links self.old at (λ l. record l { next = next }) }
+    {
+        if let Some(at) = at {
+            if let Some(slot) = self.slot(at) {
+                let links = TreeLinks { next, ..slot.links };
+                self.set_slot(at, Slot { links, ..slot });
+            }
+        }
+    }
+
+    // Says which sibling the slot follows, if one is named.
+    fn set_leader(&mut self, at: Option<SlotRef>, previous: Option<SlotRef>)
+        ensures { self.new ≡ with_links self.old at (λ l. record l { previous = previous }) }
+    {
+        if let Some(at) = at {
+            if let Some(slot) = self.slot(at) {
+                let links = TreeLinks {
+                    previous,
+                    ..slot.links
+                };
+                self.set_slot(at, Slot { links, ..slot });
+            }
+        }
+    }
+
+    // Says whose child the slot is, and between which siblings it stands.
+    fn set_standing_under(&mut self, at: SlotRef, parent: Option<SlotRef>, next: Option<SlotRef>)
+        ensures { self.new
+            ≡ with_links self.old (Some at) (λ l. record l { parent = parent; next = next; previous = None }) }
+    {
+        if let Some(slot) = self.slot(at) {
             let links = TreeLinks {
-                first,
+                parent,
+                next,
+                previous: None,
                 ..slot.links
             };
-            set_slot(places, entries, at, Slot { links, ..slot });
+            self.set_slot(at, Slot { links, ..slot });
         }
     }
-}
 
-// Says which sibling follows the slot, if one is named.
-fn set_follower(
-    places: &BTreeMap<u64, usize>,
-    entries: &mut Slab<Entry>,
-    at: Option<SlotRef>,
-    next: Option<SlotRef>,
-)
-    ensures { entries.new ≡ with_links places.now entries.old at (λ l. record l { next = next }) }
-{
-    if let Some(at) = at {
-        if let Some(slot) = slot(places, entries, at) {
-            let links = TreeLinks { next, ..slot.links };
-            set_slot(places, entries, at, Slot { links, ..slot });
+    /// Puts a slot that has no parent before the children of another.
+    pub fn attach(&mut self, slot: SlotRef, parent: SlotRef)
+        ensures { self.new ≡ attached self.old slot parent }
+    {
+        let head = self.links(parent).first;
+        self.set_leader(head, Some(slot));
+        self.set_standing_under(slot, Some(parent), head);
+        self.set_first(Some(parent), Some(slot));
+    }
+
+    // Takes the slot, which has these links, away from its parent.
+    fn leave(&mut self, slot: SlotRef, links: TreeLinks)
+        ensures { self.new ≡ leaving self.old slot links }
+    {
+        self.set_first(heads(links), links.next);
+        self.set_follower(links.previous, links.next);
+        self.set_leader(links.next, links.previous);
+        self.set_standing_under(slot, None, None);
+    }
+
+    /// Takes the slot away from its parent, if it has one.
+    pub fn detach(&mut self, slot: SlotRef)
+        ensures { self.new ≡ detached self.old slot }
+    {
+        let links = self.links(slot);
+        if let Some(_) = links.parent {
+            self.leave(slot, links);
         }
     }
-}
 
-// Says which sibling the slot follows, if one is named.
-fn set_leader(
-    places: &BTreeMap<u64, usize>,
-    entries: &mut Slab<Entry>,
-    at: Option<SlotRef>,
-    previous: Option<SlotRef>,
-)
-    ensures { entries.new ≡ with_links places.now entries.old at (λ l. record l { previous = previous }) }
-{
-    if let Some(at) = at {
-        if let Some(slot) = slot(places, entries, at) {
-            let links = TreeLinks {
+    /// Sets the object's content, if it is present.
+    pub fn replace(&mut self, id: ObjId, object: Object)
+        ensures { self.new ≡ with_entry self.old id (replace_in object) }
+    {
+        places::replace(&self.places, &mut self.entries, id, object);
+    }
+
+    fn set_ends(&mut self, id: ObjId, ends: Ends)
+        ensures { self.new ≡ with_entry self.old id (set_ends_in ends) }
+    {
+        places::set_ends(&self.places, &mut self.entries, id, ends);
+    }
+
+    fn set_standing(&mut self, thread: ObjId, standing: Standing)
+        ensures { self.new ≡ with_entry self.old thread (set_standing_in standing) }
+    {
+        places::set_standing(&self.places, &mut self.entries, thread, standing);
+    }
+
+    // Says who stands behind the thread, if one is named.
+    fn set_next(&mut self, thread: Option<ObjId>, next: Option<ObjId>)
+        ensures { self.new ≡ with_standing self.old thread (λ s. record s { next = next }) }
+    {
+        if let Some(thread) = thread {
+            let changed = Standing {
+                next,
+                ..self.standing(thread)
+            };
+            self.set_standing(thread, changed);
+        }
+    }
+
+    // Says who stands before the thread, if one is named.
+    fn set_previous(&mut self, thread: Option<ObjId>, previous: Option<ObjId>)
+        ensures { self.new ≡ with_standing self.old thread (λ s. record s { previous = previous }) }
+    {
+        if let Some(thread) = thread {
+            let changed = Standing {
                 previous,
-                ..slot.links
+                ..self.standing(thread)
             };
-            set_slot(places, entries, at, Slot { links, ..slot });
+            self.set_standing(thread, changed);
         }
     }
-}
 
-// Says whose child the slot is, and between which siblings it stands.
-fn set_standing_under(
-    places: &BTreeMap<u64, usize>,
-    entries: &mut Slab<Entry>,
-    at: SlotRef,
-    parent: Option<SlotRef>,
-    next: Option<SlotRef>,
-)
-    ensures { entries.new
-        ≡ with_links places.now entries.old (Some at) (λ l. record l { parent = parent; next = next; previous = None }) }
-{
-    if let Some(slot) = slot(places, entries, at) {
-        let links = TreeLinks {
-            parent,
-            next,
-            previous: None,
-            ..slot.links
-        };
-        set_slot(places, entries, at, Slot { links, ..slot });
+    /// Puts the thread at the end of the object's queue, if the object is present.
+    pub fn push(&mut self, id: ObjId, thread: ObjId)
+        ensures { self.new
+            ≡ pushed self.old id thread (option_map (λ entry. entry.ends) (entry_of self.old id)) }
+    {
+        if let Some(ends) = self.ends(id) {
+            let standing = Standing {
+                at: Some(id),
+                previous: ends.last,
+                next: None,
+            };
+            let ends = Ends {
+                first: ends.first.or(Some(thread)),
+                last: Some(thread),
+            };
+            self.set_next(standing.previous, Some(thread));
+            self.set_standing(thread, standing);
+            self.set_ends(id, ends);
+        }
     }
-}
 
-/// Puts a slot that has no parent before the children of another.
-pub fn attach(
-    places: &BTreeMap<u64, usize>,
-    entries: &mut Slab<Entry>,
-    slot: SlotRef,
-    parent: SlotRef,
-)
-    ensures { entries.new ≡ attached places.now entries.old slot parent }
-{
-    let head = links(places, entries, parent).first;
-    set_leader(places, entries, head, Some(slot));
-    set_standing_under(places, entries, slot, Some(parent), head);
-    set_first(places, entries, Some(parent), Some(slot));
+    /// Takes the first thread of the object's queue.
+    pub fn pop(&mut self, id: ObjId) -> Option<ObjId>
+        ensures value { result ≡ option_and_then (λ entry. entry.ends.first) (entry_of self.old id) }
+        ensures rest { self.new
+            ≡ popped self.old id (option_map (λ entry. entry.ends) (entry_of self.old id)) }
+    {
+        let ends = self.ends(id)?;
+        let first = ends.first?;
+        let next = self.standing(first).next;
+        let rest = Ends {
+            first: next,
+            last: next.and(ends.last),
+        };
+        self.set_previous(next, None);
+        self.set_standing(first, Standing::NOWHERE);
+        self.set_ends(id, rest);
+        Some(first)
+    }
+
+    /// Adds the entry of a new object under a number that is not in use.
+    pub fn add(&mut self, number: u64, object: Object) -> Result<(), AllocError>
+        ensures ok { OnOk result (self.new ≡ finite.insert self.old (record { 0 = number }) (new_entry object)) }
+        ensures err { OnErr result (self.new ≡ self.old) }
+    {
+        places::add(
+            self.alloc,
+            &mut self.places,
+            &mut self.entries,
+            number,
+            object,
+        )?;
+        Ok(())
+    }
 }
 
 // Whose first child a slot with these links is.
@@ -231,163 +348,4 @@ fn heads(links: TreeLinks) -> Option<SlotRef>
         None => links.parent,
         Some(_) => None,
     }
-}
-
-// Takes the slot, which has these links, away from its parent.
-fn leave(places: &BTreeMap<u64, usize>, entries: &mut Slab<Entry>, slot: SlotRef, links: TreeLinks)
-    ensures { entries.new ≡ leaving places.now entries.old slot links }
-{
-    set_first(places, entries, heads(links), links.next);
-    set_follower(places, entries, links.previous, links.next);
-    set_leader(places, entries, links.next, links.previous);
-    set_standing_under(places, entries, slot, None, None);
-}
-
-/// Takes the slot away from its parent, if it has one.
-pub fn detach(places: &BTreeMap<u64, usize>, entries: &mut Slab<Entry>, slot: SlotRef)
-    ensures { entries.new ≡ detached places.now entries.old slot }
-{
-    let links = links(places, entries, slot);
-    if let Some(_) = links.parent {
-        leave(places, entries, slot, links);
-    }
-}
-
-/// Sets the object's content, if it is present.
-pub fn replace(places: &BTreeMap<u64, usize>, entries: &mut Slab<Entry>, id: ObjId, object: Object)
-    ensures { entries.new ≡ with_entry places.now entries.old id (replace_in object) }
-{
-    if let Some(place) = places.get(&id.0) {
-        if let Some(entry) = entries.get_mut(*place) {
-            entry.object = object;
-        }
-    }
-}
-
-fn set_ends(places: &BTreeMap<u64, usize>, entries: &mut Slab<Entry>, id: ObjId, ends: Ends)
-    ensures { entries.new ≡ with_entry places.now entries.old id (set_ends_in ends) }
-{
-    if let Some(place) = places.get(&id.0) {
-        if let Some(entry) = entries.get_mut(*place) {
-            entry.ends = ends;
-        }
-    }
-}
-
-fn set_standing(
-    places: &BTreeMap<u64, usize>,
-    entries: &mut Slab<Entry>,
-    thread: ObjId,
-    standing: Standing,
-)
-    ensures { entries.new ≡ with_entry places.now entries.old thread (set_standing_in standing) }
-{
-    if let Some(place) = places.get(&thread.0) {
-        if let Some(entry) = entries.get_mut(*place) {
-            entry.standing = standing;
-        }
-    }
-}
-
-// Says who stands behind the thread, if one is named.
-fn set_next(
-    places: &BTreeMap<u64, usize>,
-    entries: &mut Slab<Entry>,
-    thread: Option<ObjId>,
-    next: Option<ObjId>,
-)
-    ensures { entries.new ≡ with_standing places.now entries.old thread (λ s. record s { next = next }) }
-{
-    if let Some(thread) = thread {
-        let changed = Standing {
-            next,
-            ..standing(places, entries, thread)
-        };
-        set_standing(places, entries, thread, changed);
-    }
-}
-
-// Says who stands before the thread, if one is named.
-fn set_previous(
-    places: &BTreeMap<u64, usize>,
-    entries: &mut Slab<Entry>,
-    thread: Option<ObjId>,
-    previous: Option<ObjId>,
-)
-    ensures { entries.new ≡ with_standing places.now entries.old thread (λ s. record s { previous = previous }) }
-{
-    if let Some(thread) = thread {
-        let changed = Standing {
-            previous,
-            ..standing(places, entries, thread)
-        };
-        set_standing(places, entries, thread, changed);
-    }
-}
-
-/// Puts the thread at the end of the object's queue, if the object is present.
-pub fn push(places: &BTreeMap<u64, usize>, entries: &mut Slab<Entry>, id: ObjId, thread: ObjId)
-    ensures { entries.new
-        ≡ pushed places.now entries.old id thread (option_map (λ entry. entry.ends) (entry_of places.now entries.old id)) }
-{
-    if let Some(ends) = ends(places, entries, id) {
-        let standing = Standing {
-            at: Some(id),
-            previous: ends.last,
-            next: None,
-        };
-        let ends = Ends {
-            first: ends.first.or(Some(thread)),
-            last: Some(thread),
-        };
-        set_next(places, entries, standing.previous, Some(thread));
-        set_standing(places, entries, thread, standing);
-        set_ends(places, entries, id, ends);
-    }
-}
-
-/// Takes the first thread of the object's queue.
-pub fn pop(places: &BTreeMap<u64, usize>, entries: &mut Slab<Entry>, id: ObjId) -> Option<ObjId>
-    ensures value { result ≡ option_and_then (λ entry. entry.ends.first) (entry_of places.now entries.old id) }
-    ensures rest { entries.new
-        ≡ popped places.now entries.old id (option_map (λ entry. entry.ends) (entry_of places.now entries.old id)) }
-{
-    let ends = ends(places, entries, id)?;
-    let first = ends.first?;
-    let next = standing(places, entries, first).next;
-    let rest = Ends {
-        first: next,
-        last: next.and(ends.last),
-    };
-    set_previous(places, entries, next, None);
-    set_standing(places, entries, first, Standing::NOWHERE);
-    set_ends(places, entries, id, rest);
-    Some(first)
-}
-
-/// Adds the entry of a new object under a number that is not in use.
-///
-/// On an error no entry has changed.
-pub fn add(
-    alloc: Global,
-    places: &mut BTreeMap<u64, usize>,
-    entries: &mut Slab<Entry>,
-    number: u64,
-    object: Object,
-) -> Result<(), AllocError>
-    ensures ok { OnOk result (AddsEntry places.old places.new entries.old entries.new number (new_entry object)) }
-    ensures err { OnErr result (SameEntries places.old places.new entries.old entries.new) }
-{
-    let entry = Entry {
-        object,
-        slots: Slots::empty(alloc, object.slot_count())?,
-        ends: Ends::NOBODY,
-        standing: Standing::NOWHERE,
-        words: Words::zeros(alloc, object.word_count())?,
-    };
-    entries.reserve(1)?;
-    let place = entries.vacant_key();
-    places.insert(number, place)?;
-    entries.insert_reserved(entry);
-    Ok(())
 }

@@ -1,5 +1,5 @@
 use Rattle.std.proofs.Common.{refl}
-use Rattle.objects.proofs.store.leave.Goals as goal
+use Rattle.objects.proofs.store.Store.leave.Goals as goal
 
 pub returns : goal.returns
 returns c =

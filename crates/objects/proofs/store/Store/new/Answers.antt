@@ -1,0 +1,10 @@
+use Rattle.objects.proofs.PlaceLemmas.{IsPlaced-empty, empty_by_number}
+use Rattle.objects.proofs.store.Store.new.Goals as goal
+
+pub invariant_of-result : goal.invariant_of-result
+invariant_of-result c =
+    IsPlaced-empty (record { places = c.new.result; entries = c.new-2.result; alloc = c.args.alloc }) c.new.ensures.empty
+
+pub returns : goal.returns
+returns c =
+    empty_by_number (record { places = c.new.result; entries = c.new-2.result; alloc = c.args.alloc }) c.new.ensures.empty
