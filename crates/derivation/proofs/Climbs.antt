@@ -14,20 +14,10 @@ descends_by m (child {slot} {parent} is) over at = inl cc
 descends_by m (further {slot} {parent} {above} is rest) over at =
     let same : parent ≡ over = cc in inr (subst (λ s. Descends m s above) same rest)
 
--- tests of two pairs of numbers
-both_parts : (a b c d : ℕ) → (eqb a b && eqb c d) ≡ true → (a ≡ b) × (c ≡ d)
-both_parts a b c d tie = (grind (arith, nat_tests), grind (arith, nat_tests))
-
+-- two slots differ where their parts do
 some_part : (a b c d : ℕ) → (eqb a b && eqb c d) ≡ false → a ≡ b → c ≡ d → ⊥
 some_part a b c d tie one two = grind (arith, nat_tests)
 
--- slots are equal where their parts are
-pub slots_same : (a b : SlotRef) → (eqb a.holder.0 b.holder.0 && eqb a.index b.index) ≡ true → a ≡ b
-slots_same a b tie =
-    let parts = both_parts a.holder.0 b.holder.0 a.index b.index tie in
-    λ i. record { holder = record { 0 = parts.0 i }; index = parts.1 i }
-
--- and only there
 pub slots_differ : (a b : SlotRef) → (eqb a.holder.0 b.holder.0 && eqb a.index b.index) ≡ false → a ≢ b
 slots_differ a b tie same =
     some_part a.holder.0 b.holder.0 a.index b.index tie (ap (λ (s : SlotRef). s.holder.0) same)

@@ -1,10 +1,12 @@
--- Cases on whether two numbers of objects are one.
-use Rattle.std.proofs.Common.{◌≡◌, ◌≢◌, ◌⊎◌, inl, inr, Bool, true, false, refl, sym, ap, subst, ◌∙◌}
+-- Cases on whether two numbers of objects are one, and when two slots are.
+use Rattle.std.proofs.Common.{◌≡◌, ◌≢◌, ℕ, ◌⊎◌, inl, inr, Bool, true, false, ◌&&◌, eqb, refl, sym, ap, subst, ◌∙◌, arith}
 use Rattle.std.specs.Prelude.{if◌then◌else◌}
 use Rattle.std.specs.Ordering.{is_eq}
 use Rattle.std.specs.Cmp.{tied_itself}
 use Rattle.std.proofs.lemmas.Bool.{false≢true}
+use Rattle.std.proofs.lemmas.Bool.Decides.{nat_tests}
 use Rattle.base.specs.declared.ids.ObjId.{ObjId}
+use Rattle.base.specs.declared.ids.SlotRef.{SlotRef}
 use Rattle.machine.specs.Machine.{same_id}
 use Rattle.machine.proofs.LookUps.{id_total, one_id}
 
@@ -28,3 +30,13 @@ at_other q id here elsewhere differs = by_tie (same_id q id) refl where
   by_tie : (tie : Bool) → same_id q id ≡ tie → (if tie then here else elsewhere) ≡ elsewhere
   by_tie true e = absurd (differs (one_id q id e))
   by_tie false e = refl
+
+-- tests of two pairs of numbers
+both_parts : (a b c d : ℕ) → (eqb a b && eqb c d) ≡ true → (a ≡ b) × (c ≡ d)
+both_parts a b c d tie = (grind (arith, nat_tests), grind (arith, nat_tests))
+
+-- slots are equal where their parts are
+pub slots_same : (a b : SlotRef) → (eqb a.holder.0 b.holder.0 && eqb a.index b.index) ≡ true → a ≡ b
+slots_same a b tie =
+    let parts = both_parts a.holder.0 b.holder.0 a.index b.index tie in
+    λ i. record { holder = record { 0 = parts.0 i }; index = parts.1 i }

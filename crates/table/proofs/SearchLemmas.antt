@@ -1,5 +1,5 @@
 -- What a binary search over rising keys finds is the first element with the key.
-use Rattle.std.proofs.Common.{◌≡◌, ℕ, ◌+◌, ◌<◌, ◌≤◌, ◌⊎◌, Bool, false, cond, List, [], ◌∷◌, length, get_or, None, Some, All}
+use Rattle.std.proofs.Common.{◌≡◌, ℕ, ◌+◌, ◌-◌, ◌<◌, ◌≤◌, ◌⊎◌, Bool, false, cond, List, [], ◌∷◌, length, get_or, None, Some, All}
 use Rattle.std.proofs.Common.{AllPairs, refl, sym, ap, ◌∙◌, inl, inr, arith}
 use Rattle.std.proofs.lemmas.Bool.{cases_lt}
 use Rattle.std.proofs.lemmas.Cmp.{alike_right}
@@ -7,7 +7,7 @@ use Rattle.std.proofs.lemmas.List.Elements.{All-head, All-tail}
 use Rattle.std.proofs.lemmas.List.Folds.{find_at}
 use Rattle.std.proofs.lemmas.List.Sorted.{searchable_from_sorted}
 use Rattle.std.proofs.lemmas.List.Sums.{position_or_len_is}
-use Rattle.std.proofs.lemmas.Option.{slice_get-get_or}
+use Rattle.std.proofs.lemmas.Option.{get_or_from_slice_get, slice_get-get_or, slice_get_within}
 use Rattle.std.specs.Cmp.{IsTotalOrder}
 use Rattle.std.specs.declared.cmp.Ordering.{Ordering}
 use Rattle.std.specs.declared.cmp.Ordering.TheVariants.{Less, Equal, Greater}
@@ -35,6 +35,12 @@ module _ {X K : Type 0} {R : K → K → Ordering} (order : IsTotalOrder R) (key
         before k lower =
             sym (alike_right order (key (get_or xs i d)) sought (key (get_or xs k d)) hit) ∙ rising k i d lower within
 
+  pub found_there :
+      (i : ℕ) (x : X) → i < length xs → x ≡ get_or xs i x → R (key x) sought ≡ Equal
+      → Some x ≡ find (λ y. is_eq (R (key y) sought)) xs
+  found_there i x within is hit =
+      ap (λ y. Some y) is ∙ found_at i x within (ap (λ y. R (key y) sought) (sym is) ∙ hit)
+
   sorted : IsSortedBy (λ one other. is_lt (R (key one) (key other))) xs
   sorted k d low within =
       ap is_lt
@@ -51,3 +57,42 @@ module _ {X K : Type 0} {R : K → K → Ordering} (order : IsTotalOrder R) (key
     by : (k : ℕ) (d : X) → k < length xs → (k < i) ⊎ (i ≤ k) → is_eq (R (key (get_or xs k d)) sought) ≡ false
     by k d within (inl lower) = ap is_eq (apart.0 k d (omega arith) lower)
     by k d within (inr upper) = ap is_eq (apart.1 k d upper within)
+
+  -- none is between neighbours: one that comes before what is sought, if there is one, and one that comes after
+  pub none_between :
+      (i : ℕ) → ((k : ℕ) → i ≡ k + 1 → (x : X) × (slice_get xs k ≡ Some x) × (R (key x) sought ≡ Less))
+      → ((x : X) → slice_get xs i ≡ Some x → R sought (key x) ≡ Less) → None ≡ find (λ x. is_eq (R (key x) sought)) xs
+  none_between i past ahead = not_found i (before, after) where
+    later : (k : ℕ) (d : X) → k < i → i ≡ (i - 1) + 1 → R (key (get_or xs k d)) sought ≡ Less
+    later k d lower is = by (past (i - 1) is) (cases_lt k (i - 1)) where
+      by :
+          (x : X) × (slice_get xs (i - 1) ≡ Some x) × (R (key x) sought ≡ Less) → (k < i - 1) ⊎ (i - 1 ≤ k)
+          → R (key (get_or xs k d)) sought ≡ Less
+      by last (inl earlier) =
+          order.trans (key (get_or xs k d)) (key (get_or xs (i - 1) d)) sought
+          (rising k (i - 1) d earlier (slice_get_within xs (i - 1) last.0 last.1))
+          (ap (λ x. R (key x) sought) (get_or_from_slice_get xs (i - 1) last.0 d last.1) ∙ last.2)
+      by last (inr same) =
+          let is_last : k ≡ i - 1 = omega arith in
+          ap (λ n. R (key (get_or xs n d)) sought) is_last
+          ∙ ap (λ x. R (key x) sought) (get_or_from_slice_get xs (i - 1) last.0 d last.1) ∙ last.2
+
+    before : (k : ℕ) (d : X) → 0 ≤ k → k < i → R (key (get_or xs k d)) sought ≡ Less
+    before k d _ lower = later k d lower (omega arith)
+
+    first : (d : X) → i < length xs → R (key (get_or xs i d)) sought ≡ Greater
+    first d within =
+        order.antisymm (key (get_or xs i d)) sought
+        ∙ ap ordering_reverse (ahead (get_or xs i d) (slice_get-get_or xs i d within))
+
+    after : (k : ℕ) (d : X) → i ≤ k → k < length xs → R (key (get_or xs k d)) sought ≡ Greater
+    after k d upper within = by (cases_lt i k) where
+      by : (i < k) ⊎ (k ≤ i) → R (key (get_or xs k d)) sought ≡ Greater
+      by (inl behind) =
+          order.antisymm (key (get_or xs k d)) sought
+          ∙ ap ordering_reverse
+          (order.trans sought (key (get_or xs i d)) (key (get_or xs k d))
+          (ahead (get_or xs i d) (slice_get-get_or xs i d (omega arith))) (rising i k d behind within))
+      by (inr same) =
+          let is : k ≡ i = omega arith in
+          ap (λ n. R (key (get_or xs n d)) sought) is ∙ first d (omega arith)

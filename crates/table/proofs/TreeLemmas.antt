@@ -1,10 +1,11 @@
 -- The tests of the derivation tree say what its rules say, and marks change nothing but marks.
-use Rattle.std.proofs.Common.{◌≡◌, ℕ, ◌+◌, ◌<◌, ◌≤◌, ◌⊎◌, ◌==◌, ◌||◌, Bool, true, false, cond, not, List, [], ◌∷◌, ◌++◌, map, is_some}
+use Rattle.std.proofs.Common.{◌≡◌, ℕ, ◌+◌, ◌<◌, ◌≤◌, ◌⊎◌, ◌==◌, ◌||◌, Bool, true, false, cond, not, nat_lt, List, [], ◌∷◌, ◌++◌, map, is_some}
 use Rattle.std.proofs.Common.{length, get_or, set, take, Option, None, Some, option_map, All, AllPairs, refl, sym, ap, subst, ◌∙◌, arith}
-use Rattle.std.proofs.lemmas.Bool.{and_from, and_parts, eq-eqb, eqb-true, false≢true, not-false, not-true}
+use Rattle.std.proofs.lemmas.Bool.{and_from, and_parts, eq-eqb, eqb-true, false≢true, le-ltb, lt-ltb, not-false, not-true}
 use Rattle.std.proofs.lemmas.Bool.{not_from_false, not_from_true}
 use Rattle.std.proofs.lemmas.Bool.Decides.{Decides-eqb, Decides-or}
 use Rattle.std.proofs.lemmas.Simd.{map-map}
+use Rattle.std.proofs.lemmas.List.Sums.{position_or_len_is}
 use Rattle.std.proofs.Math.Seq.{map-set_same}
 use Rattle.std.proofs.lemmas.List.{get_or-map, get_or-set_other, length-map, map_push, take_more, take_more_set}
 use Rattle.std.proofs.lemmas.List.Elements.{All-head, All-tail, All-map, All-weaker}
@@ -97,6 +98,31 @@ none_from_tree t all =
     ap (λ found. cond found (Some (position_or_len fails t.pairs)) None)
     (sym (list_any-position fails t.pairs)
     ∙ none_passes fails t.pairs (λ k d within. not_from_true _ (kin_from_pair t (get_or t.pairs k d) (all k d within))))
+
+-- the first pair that is none, and that there is none such
+
+pub fault_here :
+    (caps : List Filled) (pairs : List Pair) (i : ℕ) (d : Pair) → i < length pairs
+    → ((k : ℕ) (e : Pair) → k < i → is_kin (tree_of caps []) (get_or pairs k e) ≡ true)
+    → is_kin (tree_of caps []) (get_or pairs i d) ≡ false → tree_fault (tree_of caps pairs) ≡ Some i
+unfolding tree_fault is_kin initial_cap
+fault_here caps pairs i d within before at =
+    let fails : Pair → Bool = λ pair. not (is_kin (tree_of caps pairs) pair) in
+    let first : position_or_len fails pairs ≡ i =
+    position_or_len_is fails pairs i d (omega arith) (λ k lower. ap not (before k d lower)) (λ _. ap not at) in
+    ap (λ n. cond (nat_lt n (length pairs)) (Some n) None) first ∙ ap (λ b. cond b (Some i) None) (lt-ltb _ _ within)
+
+pub fault_nowhere :
+    (caps : List Filled) (pairs : List Pair) (d : Pair)
+    → ((k : ℕ) (e : Pair) → k < length pairs → is_kin (tree_of caps []) (get_or pairs k e) ≡ true)
+    → tree_fault (tree_of caps pairs) ≡ None
+unfolding tree_fault is_kin initial_cap
+fault_nowhere caps pairs d all =
+    let fails : Pair → Bool = λ pair. not (is_kin (tree_of caps pairs) pair) in
+    let first : position_or_len fails pairs ≡ length pairs =
+    position_or_len_is fails pairs (length pairs) d (omega arith) (λ k lower. ap not (all k d lower)) (λ below. absurd (omega (arith, below))) in
+    ap (λ n. cond (nat_lt n (length pairs)) (Some n) None) first
+    ∙ ap (λ b. cond b (Some (length pairs)) None) (le-ltb (length pairs) (length pairs) (omega arith))
 
 -- slots that are marked otherwise
 

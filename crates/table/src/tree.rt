@@ -1,6 +1,8 @@
-ghost use Rattle.std.specs.Prelude.{◌≡◌, [], Some, option_map};
+ghost use Rattle.std.specs.Prelude.{◌≡◌, ◌+◌, ℕ, [], IsTrue, None, Some, option_map, slice_get};
 ghost use Rattle.std.specs.List.{find};
-ghost use Rattle.machine.specs.Machine.{same_slot};
+ghost use Rattle.std.specs.declared.cmp.Ordering.TheVariants.{Less};
+ghost use Rattle.machine.specs.Machine.{same_slot, slot_cmp};
+ghost use Rattle.machine.specs.declared.layout.Pair.{Pair as Edge};
 ghost use Rattle.table.specs.Rules.{Rises, RisesByChild};
 ghost use Rattle.table.specs.Tree.{tree_of, with_originals};
 ghost use Rattle.table.specs.Tree as tree;
@@ -42,25 +44,69 @@ pub fn parent_in(pairs: &[Pair], slot: SlotRef) -> Option<SlotRef>
     }
 }
 
-/// The capability in a slot's parent.
+/// Whether there is no pair before the number `near`, or that before it comes before the slot.
+fn is_past(pairs: &[Pair], near: usize, slot: SlotRef) -> bool
+    ensures { IsTrue result → (k : ℕ) → near ≡ k + 1
+        → (pair : Edge) × (slice_get pairs.now k ≡ Some pair) × (slot_cmp pair.child slot ≡ Less) }
+{
+    match near.checked_sub(1) {
+        Some(last) => match pairs.get(last) {
+            Some(pair) => pair.child < slot,
+            None => false,
+        },
+        None => true,
+    }
+}
+
+/// Whether there is no pair at the number `near`, or that at it comes after the slot.
+fn is_ahead(pairs: &[Pair], near: usize, slot: SlotRef) -> bool
+    ensures { IsTrue result → (pair : Edge) → slice_get pairs.now near ≡ Some pair → slot_cmp slot pair.child ≡ Less }
+{
+    match pairs.get(near) {
+        Some(pair) => slot < pair.child,
+        None => true,
+    }
+}
+
+/// The parent of a slot, which is looked for at the number `near` before anywhere else.
+fn parent_near(pairs: &[Pair], near: usize, slot: SlotRef) -> Option<SlotRef>
+    requires { RisesByChild pairs.now }
+    ensures { result ≡ option_map (λ pair. pair.parent) (find (λ pair. same_slot pair.child slot) pairs.now) }
+{
+    match pairs.get(near) {
+        Some(pair) if pair.child == slot => Some(pair.parent),
+        _ if is_past(pairs, near, slot) && is_ahead(pairs, near, slot) => None,
+        _ => parent_in(pairs, slot),
+    }
+}
+
+/// The number after `near`, where the pair at it is that of the slot.
+fn past(pairs: &[Pair], near: usize, slot: SlotRef) -> usize {
+    match pairs.get(near) {
+        Some(pair) if pair.child == slot => near + 1,
+        _ => near,
+    }
+}
+
+/// The capability in the parent of a slot, whose pair is looked for at the number `near` first.
 #[tactic(auto, unfolding(crate::specs::Tree::source_of, machine::specs::Layout::initial_cap, machine::specs::Layout::initial_parent))]
-fn source_of(caps: &[Filled], pairs: &[Pair], slot: SlotRef) -> Option<Cap>
+fn source_of(caps: &[Filled], pairs: &[Pair], near: usize, slot: SlotRef) -> Option<Cap>
     requires caps { Rises caps.now }
     requires pairs { RisesByChild pairs.now }
     ensures { result ≡ tree.source_of (tree_of caps.now pairs.now) slot }
 {
-    let parent = parent_in(pairs, slot)?;
+    let parent = parent_near(pairs, near, slot)?;
     cap_in(caps, parent)
 }
 
-/// Whether a capability is original in a slot.
+/// Whether a capability is original in a slot, whose pair is looked for at the number `near` first.
 #[tactic(auto, unfolding(crate::specs::Tree::is_original))]
-fn is_original(caps: &[Filled], pairs: &[Pair], slot: SlotRef, detail: &Detail) -> bool
+fn is_original(caps: &[Filled], pairs: &[Pair], near: usize, slot: SlotRef, detail: &Detail) -> bool
     requires caps { Rises caps.now }
     requires pairs { RisesByChild pairs.now }
     ensures { result ≡ tree.is_original (tree_of caps.now pairs.now) slot detail.now }
 {
-    match source_of(caps, pairs, slot) {
+    match source_of(caps, pairs, near, slot) {
         Some(source) => detail.badge() != source.detail.badge(),
         None => true,
     }
@@ -72,10 +118,13 @@ pub fn mark_originals(caps: &mut [Filled], pairs: &[Pair])
     requires pairs { RisesByChild pairs.now }
     ensures { caps.new ≡ (with_originals (tree_of caps.old pairs.now)).caps }
 {
+    // Both rise, so the next slot that is a child is mostly that of the next pair.
+    let mut near = 0;
     for i in 0..caps.len() {
         let filled = caps[i];
-        let original = is_original(caps, pairs, filled.slot, &filled.cap.detail);
+        let original = is_original(caps, pairs, near, filled.slot, &filled.cap.detail);
         caps[i].cap.original = original;
+        near = past(pairs, near, filled.slot);
     }
 }
 
@@ -90,13 +139,33 @@ fn are_kin(above: &Cap, below: &Cap) -> bool
         && rights_of(&above.detail).contains(rights_of(&below.detail))
 }
 
-/// Whether the capabilities in the slots of a pair may be parent and child.
+/// The capability in a slot, which is looked for at the number `near` before anywhere else.
+fn cap_near(caps: &[Filled], near: usize, slot: SlotRef) -> Option<Cap>
+    requires { Rises caps.now }
+    ensures { result ≡ option_map (λ filled. filled.cap) (find (λ filled. same_slot filled.slot slot) caps.now) }
+{
+    match caps.get(near) {
+        Some(filled) if filled.slot == slot => Some(filled.cap),
+        _ => cap_in(caps, slot),
+    }
+}
+
+/// The number of the first filled slot from `near` on that doesn't come before the slot.
+fn forward(caps: &[Filled], mut near: usize, slot: SlotRef) -> usize {
+    while near < caps.len() && caps[near].slot < slot {
+        near += 1;
+    }
+    near
+}
+
+/// Whether the capabilities in the slots of a pair may be parent and child; that of the child is looked
+/// for at the number `near` first.
 #[tactic(auto, unfolding(crate::specs::Tree::is_kin, machine::specs::Layout::initial_cap))]
-fn is_kin(caps: &[Filled], pair: &Pair) -> bool
+fn is_kin(caps: &[Filled], near: usize, pair: &Pair) -> bool
     requires { Rises caps.now }
     ensures { result ≡ tree.is_kin (tree_of caps.now []) pair.now }
 {
-    match (cap_in(caps, pair.parent), cap_in(caps, pair.child)) {
+    match (cap_in(caps, pair.parent), cap_near(caps, near, pair.child)) {
         (Some(above), Some(below)) => are_kin(&above, &below),
         _ => false,
     }
@@ -108,5 +177,13 @@ pub fn tree_fault(caps: &[Filled], pairs: &[Pair]) -> Option<usize>
     requires { Rises caps.now }
     ensures { result ≡ tree.tree_fault (tree_of caps.now pairs.now) }
 {
-    pairs.iter().position(|pair| !is_kin(caps, pair))
+    // Both rise, so the children are met in turn.
+    let mut near = 0;
+    for (number, pair) in pairs.iter().enumerate() {
+        near = forward(caps, near, pair.child);
+        if !is_kin(caps, near, pair) {
+            return Some(number);
+        }
+    }
+    None
 }

@@ -1,0 +1,24 @@
+-- The slots rise, so that which is found is the one, and none is between two neighbours.
+use Rattle.std.proofs.Common.{refl, sym, ap, ◌∙◌, option_map}
+use Rattle.std.proofs.lemmas.Bool.{ltb-true}
+use Rattle.std.specs.Cmp.{tied_itself}
+use Rattle.base.specs.declared.ids.SlotRef.{SlotRef}
+use Rattle.machine.specs.declared.layout.Pair.{Pair}
+use Rattle.machine.specs.Machine.{slot_cmp}
+use Rattle.machine.proofs.Ids.{slots_same}
+use Rattle.machine.proofs.LookUps.{slot_total}
+use Rattle.table.proofs.SearchLemmas.{found_there, none_between}
+use Rattle.table.proofs.tree.parent_near.Goals as goal
+
+pub returns-in-Some : goal.returns-in-Some
+returns-in-Some c =
+    let same = slots_same c.in-Some.pair.now.child c.args.slot (sym c.eq.ensures ∙ c.if-eq.true) in
+    ap (option_map (λ (pair : Pair). pair.parent))
+    (found_there slot_total (λ (pair : Pair). pair.child) c.args.pairs.now c.requires c.args.slot c.args.near _
+    (ltb-true _ _ (sym c.in-Some.ensures.lookup.0)) c.in-Some.ensures.lookup.1 (ap (λ (s : SlotRef). slot_cmp s c.args.slot) same ∙ tied_itself slot_total c.args.slot))
+
+pub returns-in_default : goal.returns-in_default
+returns-in_default c =
+    ap (option_map (λ (pair : Pair). pair.parent))
+    (none_between slot_total (λ (pair : Pair). pair.child) c.args.pairs.now c.requires c.args.slot c.args.near
+    (c.if-is_past.ensures refl) (c.if-is_ahead.ensures refl))

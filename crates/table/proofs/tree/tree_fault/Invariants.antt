@@ -1,0 +1,8 @@
+use Rattle.std.proofs.Common.{◌≡◌, ℕ, ◌<◌, true, [], get_or}
+use Rattle.machine.specs.declared.layout.Pair.{Pair}
+use Rattle.table.specs.Tree.{is_kin, tree_of}
+use Rattle.table.proofs.tree.tree_fault.Given as goal
+
+-- the pairs so far keep the rules
+abbrev pub invariant-loop-number : goal.invariant-loop-number
+invariant-loop-number l = (k : ℕ) (d : Pair) → k < l.number → is_kin (tree_of l.caps []) (get_or l.pairs k d) ≡ true
