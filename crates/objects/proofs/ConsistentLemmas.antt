@@ -36,7 +36,7 @@ use Rattle.objects.specs.Radices.{HasRadix}
 use Rattle.objects.specs.State.{machine_of, IsSized, IsConsistent}
 use Rattle.objects.specs.Waiting.{WaitsNowhere}
 use Rattle.objects.proofs.Families.{no_family, same_family}
-use Rattle.objects.proofs.FiniteLemmas.{by_key, cond_here, cond_elsewhere}
+use Rattle.machine.proofs.FiniteLemmas.{by_key, cond_here, cond_elsewhere}
 use Rattle.objects.proofs.EntryLemmas.{some-none, placed_other, entry_of-with_entry, entry_of-added, entry_of-same}
 use Rattle.objects.proofs.EntryLemmas.{is_some-changed}
 use Rattle.objects.proofs.StateLemmas.{Tells, tells-machine_of, next-machine_of, same_from_tells, object_at}

@@ -17,7 +17,7 @@ use Rattle.machine.proofs.LookUps.{id_total, id_apart}
 use Rattle.objects.specs.declared.entry.Entry.{Entry}
 use Rattle.objects.specs.declared.slots.Slot.{Slot}
 use Rattle.objects.specs.Entries.{place_of, entry_of, changed_at, changed, with_entry, AddsEntry, SameEntries}
-use Rattle.objects.proofs.FiniteLemmas.{by_key, same_from_tie}
+use Rattle.machine.proofs.FiniteLemmas.{by_key, same_from_tie}
 
 -- no two numbers share a place
 abbrev pub IsApart : BTreeMap ℕ ℕ → Type 0
