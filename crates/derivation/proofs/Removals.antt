@@ -3,11 +3,12 @@ use Rattle.std.proofs.Common.{◌≡◌, ◌≢◌, ◌<◌, Bool, true, false, 
 use Rattle.std.specs.Prelude.{Option, Some, None, option_map, option_and_then, if◌then◌else◌}
 use Rattle.base.specs.declared.ids.SlotRef.{SlotRef}
 use Rattle.machine.specs.Machine.{Machine, parent_of, same_slot, without_parent}
+use Rattle.machine.specs.Orphans.{past}
 use Rattle.machine.specs.Tree.{IsRanked}
 use Rattle.machine.proofs.Exchange.{slot_itself}
 use Rattle.machine.proofs.LookUps.{one_slot}
 use Rattle.derivation.specs.Moving.{StandsNoLower, handed_over, in_place}
-use Rattle.derivation.specs.Removing.{HasParents, parent_past, parent_without, past}
+use Rattle.derivation.specs.Removing.{HasParents, parent_past, parent_without}
 use Rattle.derivation.proofs.Moves.{parent_of-handed_over}
 use Rattle.derivation.proofs.Pairs.{apart_slots, parent_of-without_parent}
 

@@ -28,3 +28,9 @@ pub mod Formed
 pub mod Threads
 pub mod Steps
 pub mod AuthorityLemmas
+pub mod FiniteLemmas
+pub mod RoundLemmas
+pub mod BelowLemmas
+pub mod GoneLemmas
+pub mod OrphanLemmas
+pub mod RemovalLooks

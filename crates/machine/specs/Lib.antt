@@ -16,3 +16,10 @@ pub mod WellFormed
 pub mod Authority
 pub mod Spelling
 pub mod Narrower
+pub mod Finite
+pub mod Rounds
+pub mod Below
+pub mod Gone
+pub mod Orphans
+pub mod Finalising
+pub mod Removal

@@ -10,6 +10,7 @@ mod cap;
 mod layout;
 mod object;
 mod radix;
+mod removal_laws;
 mod slot_address;
 mod spelling;
 mod step_laws;
@@ -24,6 +25,10 @@ pub use object::{
     Share, Untyped,
 };
 pub use radix::Radix;
+pub use removal_laws::{
+    a_removal_is_told_by_its_look_ups, descending_is_decided,
+    orphans_come_to_their_nearest_ancestor, what_goes_is_the_least_closed_set,
+};
 pub use slot_address::{Ends, SlotAddress};
 pub use step_laws::{steps_keep_machines_well_formed, steps_of_one_event_agree};
 pub use thread::{Inbox, Message, Receiving, RunState, Sending, Tcb};

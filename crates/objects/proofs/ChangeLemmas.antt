@@ -20,7 +20,7 @@ use Rattle.objects.specs.Entries.{slot_at, set_slot_in, replace_in, empty_slot, 
 use Rattle.objects.specs.Family.{cap_in, parent_in}
 use Rattle.objects.specs.Links.{ends_of, standing_of, queue_in, AreQueued}
 use Rattle.objects.specs.Queues.{walk, AreQueues}
-use Rattle.objects.proofs.FiniteLemmas.{same_from_tie, by_key, cond_here, cond_elsewhere}
+use Rattle.machine.proofs.FiniteLemmas.{same_from_tie, by_key, cond_here, cond_elsewhere}
 use Rattle.objects.proofs.EditLemmas.{slice_get_edited_other, slice_get_edited_same}
 use Rattle.objects.proofs.EntryLemmas.{read_empty}
 use Rattle.objects.proofs.StateLemmas.{Tells, object_at, words_at}

@@ -30,7 +30,7 @@ use Rattle.objects.specs.Radices.{HasRadix}
 use Rattle.objects.specs.State.{machine_of, IsSized, IsConsistent}
 use Rattle.objects.specs.Waiting.{WaitsNowhere}
 use Rattle.objects.proofs.Families.{no_family, same_family}
-use Rattle.objects.proofs.FiniteLemmas.{by_key, same_from_tie, cond_here, cond_elsewhere}
+use Rattle.machine.proofs.FiniteLemmas.{by_key, same_from_tie, cond_here, cond_elsewhere}
 use Rattle.objects.proofs.EntryLemmas.{some-none, entry_of-with_entry}
 use Rattle.objects.proofs.StateLemmas.{Tells, present_kept, tells-machine_of, next-machine_of, same_from_tells, object_at}
 use Rattle.objects.proofs.ChangeLemmas.{added_read, reading_kept, slots_kept, tells-replace, tells-queue, tells-same, tells-new}

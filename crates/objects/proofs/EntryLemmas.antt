@@ -9,8 +9,8 @@ use Rattle.machine.proofs.LookUps.{id_total, id_apart}
 use Rattle.objects.specs.declared.entry.Entry.{Entry}
 use Rattle.objects.specs.declared.slots.Slot.{Slot}
 use Rattle.objects.specs.Entries.{Entries, entry_of, with_entry}
-use Rattle.objects.specs.Finite.{put_some}
-use Rattle.objects.proofs.FiniteLemmas.{by_key, cond_here, cond_elsewhere}
+use Rattle.machine.specs.Finite.{put_some}
+use Rattle.machine.proofs.FiniteLemmas.{by_key, cond_here, cond_elsewhere}
 
 pub some-none : {X : Type 0} (o : Option X) → IsSome o → o ≡ None → ⊥
 some-none o some none = false≢true (sym (ap is_some none) ∙ some)

@@ -4,7 +4,6 @@ pub mod Detaching
 pub mod EditLemmas
 pub mod EntryLemmas
 pub mod Families
-pub mod FiniteLemmas
 pub mod Forests
 pub mod LinkLemmas
 pub mod PlaceLemmas

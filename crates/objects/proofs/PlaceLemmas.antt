@@ -24,7 +24,7 @@ use Rattle.objects.specs.declared.store.Store.TheInside.{Inside}
 use Rattle.objects.specs.Entries.{Entries, entry_of, with_entry}
 use Rattle.objects.specs.Places.{place_of, placed, entries_by_number, IsPlaced, changed_at, changed, with_placed, AddsEntry, SameEntries}
 use Rattle.objects.proofs.EntryLemmas.{some-none, entry_of-with_entry}
-use Rattle.objects.proofs.FiniteLemmas.{by_key, same_from_tie, get-tabulate}
+use Rattle.machine.proofs.FiniteLemmas.{by_key, same_from_tie, get-tabulate}
 
 -- no two numbers share a place
 abbrev pub IsApart : BTreeMap ℕ ℕ → Type 0

@@ -21,7 +21,7 @@ use Rattle.objects.specs.Entries.{Entries, entry_of, slot_at}
 use Rattle.objects.specs.Family.{cap_in, parent_in}
 use Rattle.objects.specs.Links.{queue_in}
 use Rattle.objects.specs.State.{slots_of, machine_from, machine_of}
-use Rattle.objects.proofs.FiniteLemmas.{get-tabulate, ties_itself, same_from_tie}
+use Rattle.machine.proofs.FiniteLemmas.{get-tabulate, ties_itself, same_from_tie}
 
 -- what is read of an entry, if it is there
 abbrev pub object_at : Option Entry → Option Object

@@ -25,7 +25,7 @@ use Rattle.objects.specs.State.{machine_of, IsSized, IsConsistent}
 use Rattle.objects.proofs.ChangeLemmas.{bulk, links_kept, part_read, tells-slots}
 use Rattle.objects.proofs.ConsistentLemmas.{found_slot}
 use Rattle.objects.proofs.Families.{attached_alone, attached_caps, attached_kin, detached_alone, detached_caps, detached_kin, joins, leaves, refilled_family, same_family}
-use Rattle.objects.proofs.FiniteLemmas.{by_key, cond_here}
+use Rattle.machine.proofs.FiniteLemmas.{by_key, cond_here}
 use Rattle.machine.proofs.TreeRanks.{ranked_acyclic}
 use Rattle.objects.proofs.Forests.{childless}
 use Rattle.objects.proofs.SlotLemmas.{SlotsAlone, ChangesSlot, changes_slot, cases_slot, filled_there, within_there}

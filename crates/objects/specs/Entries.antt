@@ -12,7 +12,7 @@ use Rattle.objects.specs.declared.links.Ends.{Ends}
 use Rattle.objects.specs.declared.links.Standing.{Standing}
 use Rattle.objects.specs.declared.slots.Slot.{Slot}
 use Rattle.objects.specs.Edits.{edited}
-use Rattle.objects.specs.Finite.{put_some}
+use Rattle.machine.specs.Finite.{put_some}
 
 -- the entries of the objects, by number
 abbrev pub Entries : Type 0

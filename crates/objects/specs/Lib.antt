@@ -1,7 +1,6 @@
 pub mod Edits
 pub mod Entries
 pub mod Family
-pub mod Finite
 pub mod Forest
 pub mod Links
 pub mod Places

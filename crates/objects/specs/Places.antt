@@ -9,7 +9,7 @@ use Rattle.base.specs.declared.ids.ObjId.{ObjId}
 use Rattle.objects.specs.declared.entry.Entry.{Entry}
 use Rattle.objects.specs.declared.store.Store.TheInside.{Inside}
 use Rattle.objects.specs.Entries.{Entries}
-use Rattle.objects.specs.Finite.{tabulate}
+use Rattle.machine.specs.Finite.{tabulate}
 
 -- where an object's entry is
 abbrev pub place_of : BTreeMap ℕ ℕ → ObjId → Option ℕ

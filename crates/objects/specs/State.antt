@@ -11,7 +11,7 @@ use Rattle.objects.specs.declared.entry.Entry.{Entry}
 use Rattle.objects.specs.declared.state.State.TheInside.{Inside}
 use Rattle.objects.specs.Entries.{entry_of, slot_at}
 use Rattle.objects.specs.Family.{cap_in, parent_in, AreKin}
-use Rattle.objects.specs.Finite.{tabulate}
+use Rattle.machine.specs.Finite.{tabulate}
 use Rattle.objects.specs.Links.{queue_in, AreQueued}
 use Rattle.objects.specs.Radices.{HasRadix}
 

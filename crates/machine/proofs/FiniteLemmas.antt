@@ -8,7 +8,7 @@ use Rattle.std.specs.List.{list_any}
 use Rattle.std.specs.FinMap as map
 use Rattle.std.specs.FinMap.{FinMap, IsAntisymmetric}
 use Rattle.std.proofs.lemmas.Bool.{false≢true}
-use Rattle.objects.specs.Finite.{put_some, tabulate}
+use Rattle.machine.specs.Finite.{put_some, tabulate}
 
 module _ {K : Type 0} {R : K → K → Ordering} (total : IsTotalOrder R) (apart : IsAntisymmetric R) where
   -- keys that tie are one

@@ -1,0 +1,50 @@
+-- Removal of capabilities: those that go with them, the objects that lose their last, what becomes of the rest, and the derivation
+-- tree (seL4 manual, "Deletion, Revocation, and Recycling").
+use Rattle.std.specs.Prelude.{Bool, ℕ, List, filter, Option, Some, None, option_map, if◌then◌else◌}
+use Rattle.std.specs.FinMap.{keys, values}
+use Rattle.base.specs.declared.ids.ObjId.{ObjId}
+use Rattle.base.specs.declared.ids.SlotRef.{SlotRef}
+use Rattle.machine.specs.declared.cap.Cap.{Cap}
+use Rattle.machine.specs.declared.object.Object.{Object}
+use Rattle.machine.specs.Finalising.{finalised, staying_in}
+use Rattle.machine.specs.Finite.{tabulate}
+use Rattle.machine.specs.Gone.{gone_of, loses_all}
+use Rattle.machine.specs.Machine.{Machine, object_of, queue_of, words_of, cap_of, parent_of}
+use Rattle.machine.specs.Orphans.{without_nodes}
+
+-- what each look-up answers where some slots go and some objects vanish
+
+abbrev pub object_after : Machine → (ObjId → Bool) → ObjId → Option Object
+object_after m vanished id = if vanished id then None else option_map (finalised m vanished) (object_of m id)
+
+abbrev pub queue_after : Machine → (ObjId → Bool) → ObjId → Option (List ObjId)
+queue_after m vanished id = if vanished id then None else option_map (staying_in m vanished) (queue_of m id)
+
+abbrev pub words_after : Machine → (ObjId → Bool) → ObjId → Option (List ℕ)
+words_after m vanished id = if vanished id then None else words_of m id
+
+abbrev pub cap_after : Machine → (SlotRef → Bool) → SlotRef → Option Cap
+cap_after m gone slot = if gone slot then None else cap_of m slot
+
+-- the parents that go leave the tree
+abbrev pub parent_after : Machine → (SlotRef → Bool) → SlotRef → Option SlotRef
+parent_after m gone slot = if gone slot then None else without_nodes (parent_of m) (filter gone (values m.parents)) slot
+
+unfoldable pub without_slots : Machine → (SlotRef → Bool) → (ObjId → Bool) → Machine
+without_slots m gone vanished =
+    record {
+      objects = tabulate (object_after m vanished) (keys m.objects);
+      queues = tabulate (queue_after m vanished) (keys m.queues);
+      words = tabulate (words_after m vanished) (keys m.words);
+      caps = tabulate (cap_after m gone) (keys m.caps);
+      parents = tabulate (parent_after m gone) (keys m.parents);
+      next = m.next;
+    }
+
+-- whether an object loses its last capability where the chosen slots are removed
+abbrev pub vanishes : Machine → (SlotRef → Bool) → ObjId → Bool
+vanishes m chosen = loses_all m (gone_of m chosen)
+
+-- the machine after the chosen slots are removed
+unfoldable pub removed : Machine → (SlotRef → Bool) → Machine
+removed m chosen = without_slots m (gone_of m chosen) (vanishes m chosen)
