@@ -19,8 +19,8 @@ pub use kind::{Kind, Kinds, kind_names_are_read_back};
 pub use label::Label;
 pub use labels::Labels;
 pub use limits::{
-    ADDRESS_BITS, ADDRESS_END, MAX_EVENTS, MAX_OBJECTS, MAX_PERIOD, MAX_RADIX, MAX_SLOTS,
-    MAX_THREADS, OBJECT_NUMBERS,
+    ADDRESS_BITS, ADDRESS_END, MAX_EVENTS, MAX_MADE, MAX_OBJECTS, MAX_PERIOD, MAX_PRESENT,
+    MAX_RADIX, MAX_SLOTS, MAX_THREADS, OBJECT_NUMBERS,
 };
 pub use refusal::{Cause, LookupFailure, Refusal, a_refusal_tells_its_cause};
 pub use rights::{Rights, rights_words_are_read_back};

@@ -7,6 +7,8 @@ pub mod Refusing
 pub mod Lookup
 pub mod Changes
 pub mod Tree
+pub mod Counts
+pub mod Memory
 pub mod Step
 pub mod Makes
 pub mod Outcomes

@@ -23,6 +23,11 @@ slot_count (o.CNode node) = 2 ^ node.radix
 slot_count (o.Tcb _) = 1
 slot_count _ = 0
 
+-- how many threads an object is
+abbrev pub thread_count : Object → ℕ
+thread_count (o.Tcb _) = 1
+thread_count _ = 0
+
 -- how many words of memory an object has
 abbrev pub word_count : Object → ℕ
 word_count (o.Frame _) = 512

@@ -28,6 +28,7 @@ pub mod Target
 pub mod Copy
 pub mod Mint
 pub mod Move
+pub mod Retype
 use Rattle.machine.specs.Step.Signal.{signal_of}
 use Rattle.machine.specs.Step.Poll.{poll_of}
 use Rattle.machine.specs.Step.Wait.{wait_of}

@@ -21,8 +21,8 @@ pub use call::{Answer, Call, CapData, Event, Log, Made, Outcome};
 pub use cap::{Badged, Cap, Detail, Guard};
 pub use layout::{Binding, Filled, Initial, Pair};
 pub use object::{
-    CNode, Context, Control, Endpoint, Frame, Notification, Object, ObjectKind, Reply, ReplyState,
-    Share, Untyped,
+    CNode, Context, Control, Endpoint, Frame, MemoryKind, Notification, Object, ObjectKind, Reply,
+    ReplyState, Share, Untyped,
 };
 pub use radix::Radix;
 pub use removal_laws::{

@@ -19,6 +19,19 @@ pub enum ObjectKind {
     Control,
 }
 
+/// The kinds of object that are made from untyped memory: all but controls.
+#[derive(Clone, Copy, PartialEq, Eq, Debug)]
+pub enum MemoryKind {
+    Untyped,
+    CNode,
+    Tcb,
+    Endpoint,
+    Notification,
+    Reply,
+    Context,
+    Frame,
+}
+
 /// Memory from which objects can be made: `2^bits` bytes from `base` on, of which those below
 /// `watermark` are in use.
 #[derive(Clone, Copy, PartialEq, Eq, Debug)]

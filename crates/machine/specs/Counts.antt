@@ -1,0 +1,19 @@
+-- How much a machine has at one time: objects, slots and threads (confine's own).
+use Rattle.std.specs.Prelude.{ℕ, List, map, length, sum}
+use Rattle.std.specs.FinMap.{entries}
+use Rattle.machine.specs.declared.object.Object.{Object}
+use Rattle.machine.specs.Machine.{Machine}
+use Rattle.machine.specs.Objects.{slot_count, thread_count}
+
+-- the objects that are there, by number
+abbrev pub present : Machine → List Object
+present m = map (λ entry. entry.1) (entries m.objects)
+
+unfoldable pub objects_in : Machine → ℕ
+objects_in m = length (present m)
+
+unfoldable pub slots_in : Machine → ℕ
+slots_in m = sum (map slot_count (present m))
+
+unfoldable pub threads_in : Machine → ℕ
+threads_in m = sum (map thread_count (present m))
