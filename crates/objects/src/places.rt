@@ -1,7 +1,7 @@
-//! Where the entry of an object is kept: a map from numbers to places, and the entries at these.
+//! Where the entry of an object is kept: a hash map from numbers to places, and the entries at these.
 ghost use Rattle.std.specs.Prelude.{◌≡◌, option_copied, OnOk, OnErr};
 ghost use Rattle.objects.specs.Entries.{set_slot_in, replace_in, new_entry, set_ends_in, set_standing_in};
-ghost use Rattle.objects.specs.Places.{placed, with_placed, AddsEntry, SameEntries};
+ghost use Rattle.objects.specs.Places.{places_in, placed, with_placed, AddsEntry, SameEntries};
 
 use crate::entry::Entry;
 use crate::links::{Ends, Standing};
@@ -11,23 +11,23 @@ use base::{ObjId, SlotRef};
 use machine::Object;
 use slab::Slab;
 use std::alloc::{AllocError, Global};
-use std::collections::BTreeMap;
+use std::collections::HashMap;
 
 /// The object's entry.
 pub fn entry<'a>(
-    places: &BTreeMap<u64, usize>,
+    places: &HashMap<u64, usize>,
     entries: &'a Slab<Entry>,
     id: ObjId,
 ) -> Option<&'a Entry>
-    ensures { option_copied result ≡ placed places.now entries.now id }
+    ensures { option_copied result ≡ placed (places_in places.now) entries.now id }
 {
     let place = places.get(&id.0)?;
     entries.get(*place)
 }
 
 /// Sets a slot of the holder, if both are present.
-pub fn set_slot(places: &BTreeMap<u64, usize>, entries: &mut Slab<Entry>, at: SlotRef, slot: Slot)
-    ensures { entries.new ≡ with_placed places.now entries.old at.holder (set_slot_in at.index slot) }
+pub fn set_slot(places: &HashMap<u64, usize>, entries: &mut Slab<Entry>, at: SlotRef, slot: Slot)
+    ensures { entries.new ≡ with_placed (places_in places.now) entries.old at.holder (set_slot_in at.index slot) }
 {
     if let Some(place) = places.get(&at.holder.0) {
         if let Some(entry) = entries.get_mut(*place) {
@@ -37,8 +37,8 @@ pub fn set_slot(places: &BTreeMap<u64, usize>, entries: &mut Slab<Entry>, at: Sl
 }
 
 /// Sets the object's content, if it is present.
-pub fn replace(places: &BTreeMap<u64, usize>, entries: &mut Slab<Entry>, id: ObjId, object: Object)
-    ensures { entries.new ≡ with_placed places.now entries.old id (replace_in object) }
+pub fn replace(places: &HashMap<u64, usize>, entries: &mut Slab<Entry>, id: ObjId, object: Object)
+    ensures { entries.new ≡ with_placed (places_in places.now) entries.old id (replace_in object) }
 {
     if let Some(place) = places.get(&id.0) {
         if let Some(entry) = entries.get_mut(*place) {
@@ -48,8 +48,8 @@ pub fn replace(places: &BTreeMap<u64, usize>, entries: &mut Slab<Entry>, id: Obj
 }
 
 /// Sets the ends of the queue at the object, if it is present.
-pub fn set_ends(places: &BTreeMap<u64, usize>, entries: &mut Slab<Entry>, id: ObjId, ends: Ends)
-    ensures { entries.new ≡ with_placed places.now entries.old id (set_ends_in ends) }
+pub fn set_ends(places: &HashMap<u64, usize>, entries: &mut Slab<Entry>, id: ObjId, ends: Ends)
+    ensures { entries.new ≡ with_placed (places_in places.now) entries.old id (set_ends_in ends) }
 {
     if let Some(place) = places.get(&id.0) {
         if let Some(entry) = entries.get_mut(*place) {
@@ -60,12 +60,12 @@ pub fn set_ends(places: &BTreeMap<u64, usize>, entries: &mut Slab<Entry>, id: Ob
 
 /// Says where the thread stands, if it is present.
 pub fn set_standing(
-    places: &BTreeMap<u64, usize>,
+    places: &HashMap<u64, usize>,
     entries: &mut Slab<Entry>,
     thread: ObjId,
     standing: Standing,
 )
-    ensures { entries.new ≡ with_placed places.now entries.old thread (set_standing_in standing) }
+    ensures { entries.new ≡ with_placed (places_in places.now) entries.old thread (set_standing_in standing) }
 {
     if let Some(place) = places.get(&thread.0) {
         if let Some(entry) = entries.get_mut(*place) {
@@ -79,13 +79,13 @@ pub fn set_standing(
 /// On an error no entry has changed.
 pub fn add(
     alloc: Global,
-    places: &mut BTreeMap<u64, usize>,
+    places: &mut HashMap<u64, usize>,
     entries: &mut Slab<Entry>,
     number: u64,
     object: Object,
 ) -> Result<(), AllocError>
-    ensures ok { OnOk result (AddsEntry places.old places.new entries.old entries.new number (new_entry object)) }
-    ensures err { OnErr result (SameEntries places.old places.new entries.old entries.new) }
+    ensures ok { OnOk result (AddsEntry (places_in places.old) (places_in places.new) entries.old entries.new number (new_entry object)) }
+    ensures err { OnErr result (SameEntries (places_in places.old) (places_in places.new) entries.old entries.new) }
 {
     let entry = Entry {
         object,

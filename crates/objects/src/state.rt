@@ -7,7 +7,7 @@ use std::marker::Model;
 
 /// The kernel's state.
 ///
-/// A look-up or a change of one object takes time logarithmic in the number of objects.
+/// A look-up or a change of one object finds it by a hash of its number, however many there are.
 #[derive(Drop)]
 pub struct State {
     store: Store,

@@ -10,14 +10,14 @@ use base::{ObjId, SlotRef};
 use machine::{Cap, Object};
 use slab::Slab;
 use std::alloc::{AllocError, Global};
-use std::collections::BTreeMap;
+use std::collections::HashMap;
 use std::marker::Model;
 
 /// The entries of the objects, by number.
 #[derive(Drop)]
 pub struct Store {
     /// From the number of an object to the key of its entry.
-    places: BTreeMap<u64, usize>,
+    places: HashMap<u64, usize>,
     entries: Slab<Entry>,
     alloc: Global,
 }
@@ -54,7 +54,7 @@ impl Store {
         ensures { result ≡ finite.empty }
     {
         Store {
-            places: BTreeMap::new(alloc),
+            places: HashMap::new(alloc),
             entries: Slab::new(alloc),
             alloc,
         }
