@@ -25,5 +25,7 @@ pub use object::{
 };
 pub use radix::Radix;
 pub use slot_address::{Ends, SlotAddress};
-pub use step_laws::{steps_keep_machines_well_formed, steps_of_one_event_agree};
+pub use step_laws::{
+    retypes_keep_machines_well_formed, steps_keep_machines_well_formed, steps_of_one_event_agree,
+};
 pub use thread::{Inbox, Message, Receiving, RunState, Sending, Tcb};
