@@ -61,7 +61,7 @@ all_formed {of = of} {bits = bits} {source = source} formed (first {m = m} {betw
 
 -- what a new object is like
 
-new_address : (of : MemoryKind) (bits at : ℕ) → address_of (new_object of bits at) ≡ at
+pub new_address : (of : MemoryKind) (bits at : ℕ) → address_of (new_object of bits at) ≡ at
 new_address kind.Untyped bits at = refl
 new_address kind.CNode bits at = refl
 new_address kind.Tcb bits at = refl
@@ -71,7 +71,7 @@ new_address kind.Reply bits at = refl
 new_address kind.Context bits at = refl
 new_address kind.Frame bits at = refl
 
-new_end : (of : MemoryKind) (bits at : ℕ) → end_of (new_object of bits at) ≡ at + new_size of bits
+pub new_end : (of : MemoryKind) (bits at : ℕ) → end_of (new_object of bits at) ≡ at + new_size of bits
 new_end kind.Untyped bits at = refl
 new_end kind.CNode bits at = refl
 new_end kind.Tcb bits at = refl
@@ -91,7 +91,7 @@ new_unlinked kind.Reply bits at = refl
 new_unlinked kind.Context bits at = refl
 new_unlinked kind.Frame bits at = tt
 
-new_kind : (of : MemoryKind) (bits at : ℕ) → kind_of_object (new_object of bits at) ≡ kind_of_detail (new_detail of)
+pub new_kind : (of : MemoryKind) (bits at : ℕ) → kind_of_object (new_object of bits at) ≡ kind_of_detail (new_detail of)
 new_kind kind.Untyped bits at = refl
 new_kind kind.CNode bits at = refl
 new_kind kind.Tcb bits at = refl
