@@ -86,14 +86,14 @@ fn runs_line(table: &Table, binding: &Binding) -> Line
 }
 
 /// Whether the slot is one of a CNode.
-fn is_in_cnode(table: &Table, filled: &Filled) -> bool
+fn is_of_cnode(table: &Table, filled: &Filled) -> bool
     ensures { result ≡ right.is_cnode (kind_at table.now filled.now.slot.holder) }
 {
     matches!(table.kind(filled.slot.holder), Some(ObjectKind::CNode))
 }
 
-/// Whether the slot is a thread's root slot.
-fn is_root(table: &Table, filled: &Filled) -> bool
+/// Whether the slot is a thread's, which has its root slot alone.
+fn is_of_thread(table: &Table, filled: &Filled) -> bool
     ensures { result ≡ right.is_thread (kind_at table.now filled.now.slot.holder) }
 {
     matches!(table.kind(filled.slot.holder), Some(ObjectKind::Tcb))
@@ -115,7 +115,7 @@ fn add_caps(lines: &mut Vec<Line>, table: &Table, caps: &[Filled]) -> Result<(),
         ++ map (right.cap_line table.now) (filter (λ filled. right.is_cnode (kind_at table.now filled.slot.holder)) caps.now)) }
 {
     for filled in caps {
-        if is_in_cnode(table, filled) {
+        if is_of_cnode(table, filled) {
             lines.push(cap_line(table, filled))?;
         }
     }
@@ -127,7 +127,7 @@ fn add_spaces(lines: &mut Vec<Line>, table: &Table, caps: &[Filled]) -> Result<(
         ++ map (right.space_line table.now) (filter (λ filled. right.is_thread (kind_at table.now filled.slot.holder)) caps.now)) }
 {
     for filled in caps {
-        if is_root(table, filled) {
+        if is_of_thread(table, filled) {
             lines.push(space_line(table, filled))?;
         }
     }

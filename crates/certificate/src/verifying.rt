@@ -1,7 +1,7 @@
 ghost use Rattle.std.specs.Prelude.{◌≡◌, ◌↔◌, IfOk, IfNone, IfSome, IsTrue};
 ghost use Rattle.certificate.specs.Verified.{DiffersFirst, IsVerified};
 ghost use Rattle.policy.specs.Policy.{allows};
-ghost use Rattle.verdict.specs.Safe.{StaysConfined, KeepsIntegrity, GuardsBudgets};
+ghost use Rattle.verdict.specs.Safe.{LabelsObjects, StaysConfined, KeepsIntegrity, GuardsBudgets};
 
 use crate::line::{Certificate, Line};
 use crate::making::make;
@@ -39,6 +39,7 @@ pub fn verify<'a, R: Threads + Sync>(
     certificate: &Certificate,
 ) -> Result<Accepted<'a>, NotAccepted>
     ensures verdict { IsVerified table.now policy.now certificate.now result }
+    ensures labelled { IfOk result (λ accepted. LabelsObjects table.now) }
     ensures confined { IfOk result (λ accepted. StaysConfined table.now (allows policy.now)) }
     ensures integrity { IfOk result (λ accepted. KeepsIntegrity table.now (allows policy.now)) }
     ensures budgets { IfOk result (λ accepted. GuardsBudgets table.now (allows policy.now)) }

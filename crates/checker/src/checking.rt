@@ -1,7 +1,7 @@
 ghost use Rattle.std.specs.Prelude.{◌≡◌, ◌≤◌, ◌↔◌, Err, IfOk};
 ghost use Rattle.checker.specs.Check.{IfAccepted, IsCheck, refusal_of};
 ghost use Rattle.policy.specs.Policy.{allows};
-ghost use Rattle.verdict.specs.Safe.{GuardsBudgets, KeepsIntegrity, StaysConfined};
+ghost use Rattle.verdict.specs.Safe.{GuardsBudgets, KeepsIntegrity, LabelsObjects, StaysConfined};
 
 use base::{Cause, Refusal};
 use certificate::{Certificate, make};
@@ -41,25 +41,14 @@ impl From<CheckError> for Refusal {
     }
 }
 
-/// The calls that the checker makes are refused for want of memory alone.
-impl From<Refusal> for CheckError {
-    ghost use Rattle.std.specs.Prelude.{◌≡◌};
-    ghost use Rattle.checker.specs.declared.checking.CheckError.TheVariants.{NoMemory};
-
-    ghost from_gives = { λ refusal error. error ≡ NoMemory };
-
-    fn from(_refusal: Refusal) -> CheckError {
-        CheckError::NoMemory
-    }
-}
-
 /// The verdict on a capability table and a policy, by 1 to 16 workers, each of which arrives at the gate
 /// first. It is the same for every number of them. With an acceptance comes the table's certificate.
 ///
 /// Where they are accepted, then after every list of kernel calls by any threads in any interleaving
 /// every capability lies within the policy; no step changes an object of a label on which its caller's
 /// label has no modifying authority; and a context's configured budget or period changes only by a
-/// caller whose label has the policy's SchedControl edge.
+/// caller whose label has the policy's SchedControl edge. Each object that is there then has a label,
+/// so that no authority goes unseen.
 ///
 /// # Errors
 ///
@@ -73,6 +62,7 @@ pub fn check<'a, R: Threads + Sync, G: Gate + Sync>(
     gate: &G,
 ) -> Result<Verdict<'a>, CheckError>
     ensures verdict { IfOk result (IsCheck table.now policy.now) }
+    ensures labelled { IfOk result (λ verdict. IfAccepted verdict (LabelsObjects table.now)) }
     ensures confined { IfOk result (λ verdict. IfAccepted verdict (StaysConfined table.now (allows policy.now))) }
     ensures integrity { IfOk result (λ verdict. IfAccepted verdict (KeepsIntegrity table.now (allows policy.now))) }
     ensures budgets { IfOk result (λ verdict. IfAccepted verdict (GuardsBudgets table.now (allows policy.now))) }
@@ -81,8 +71,12 @@ pub fn check<'a, R: Threads + Sync, G: Gate + Sync>(
     if workers < 1 || workers > 16 {
         return Err(CheckError::WorkerCount);
     }
-    match judge(rt, alloc, table, policy, workers, gate)? {
-        Ok(accepted) => Ok(Verdict::Accept(accepted, make(alloc, table)?)),
-        Err(denial) => Ok(Verdict::Deny(denial)),
+    match judge(rt, alloc, table, policy, workers, gate) {
+        Ok(Ok(accepted)) => match make(alloc, table) {
+            Ok(certificate) => Ok(Verdict::Accept(accepted, certificate)),
+            Err(_) => Err(CheckError::NoMemory),
+        },
+        Ok(Err(denial)) => Ok(Verdict::Deny(denial)),
+        Err(_) => Err(CheckError::NoMemory),
     }
 }

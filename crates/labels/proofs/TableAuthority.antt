@@ -18,19 +18,20 @@ use Rattle.machine.specs.declared.object.Object.TheVariants as o
 use Rattle.machine.specs.declared.object.ObjectKind.TheVariants as kind
 use Rattle.machine.specs.Authority.{HasAuthority, by_cap, by_root, by_pair, by_link, holds_thread, links, names_reply}
 use Rattle.machine.specs.Boot.{IsBoot, bound}
-use Rattle.machine.specs.Layout.{Layout, initial_of, declared_label, bound_context}
-use Rattle.machine.specs.Machine.{Machine, cap_of}
+use Rattle.machine.specs.Layout.{Layout, initial_of, initial_cap, declared_label, bound_context}
+use Rattle.machine.specs.Machine.{Machine}
 use Rattle.machine.specs.Objects.{kind_of_object}
 use Rattle.machine.proofs.Ids.{itself}
 use Rattle.machine.proofs.LookUps.{one_id}
 use Rattle.policy.specs.Policy.{allows}
 use Rattle.table.specs.Rules.{IsBlank, IsBindingOf, IsLawful}
 use Rattle.table.proofs.AtBoot.{boot_label, declared_at, initial_lawful, rest_links}
-use Rattle.table.proofs.Lookups.{bound_at, bound_from, filled_at, parent_at}
+use Rattle.table.proofs.BootParts.{pair-law}
+use Rattle.table.proofs.Lookups.{bound_at, bound_from, filled_at}
 use Rattle.labels.specs.SlotAuthority as slot
 use Rattle.labels.specs.SlotAuthority.{GivesBySlot}
 use Rattle.labels.specs.SlotEdges.{slot_edges_of}
-use Rattle.labels.specs.TableEdges.{edges_of_binding, edges_of_filled, edges_of_pair, table_edges}
+use Rattle.labels.specs.TableEdges.{edges_of_binding, edges_of_filled, table_edges}
 use Rattle.labels.proofs.EdgeLists.{allows-append, allows_before, allows_after, none_allowed, edge_in, edge_has}
 use Rattle.labels.proofs.SlotAuthority.{slot_authority}
 
@@ -142,16 +143,12 @@ module _ (t : Layout) (lawful : IsLawful t) (m : Machine) (boot : IsBoot t m) wh
 
   declares_authority : (from : ℕ) (k : Kind) (to : ℕ) → allows (table_edges t) from k to ≡ true → HasAuthority t m from k to
   declares_authority from k to e =
-      let caps = flat_map (edges_of_filled t) t.caps in
-      let pairs = flat_map (edges_of_pair t) t.pairs in
+      let slots = flat_map (edges_of_filled t) t.caps in
       let bindings = flat_map (edges_of_binding t) t.bindings in
-      elim (or_cases _ _ (sym (allows-append (caps ++ pairs) bindings from k to) ∙ e)) [
-        | inl slots ↦ elim (or_cases _ _ (sym (allows-append caps pairs from k to) ∙ slots)) [
-          | inl first ↦ let one = comes_from (edges_of_filled t) t.caps from k to first in by_slot one.element.slot from k to one.has
-          | inr second ↦ let one = comes_from (edges_of_pair t) t.pairs from k to second in by_slot one.element.child from k to one.has
-        ]
-        | inr third ↦
-            let one = comes_from (edges_of_binding t) t.bindings from k to third in
+      elim (or_cases _ _ (sym (allows-append slots bindings from k to) ∙ e)) [
+        | inl first ↦ let one = comes_from (edges_of_filled t) t.caps from k to first in by_slot one.element.slot from k to one.has
+        | inr second ↦
+            let one = comes_from (edges_of_binding t) t.bindings from k to second in
             by_binding one.at one.element from k to one.here one.has
       ]
 
@@ -160,35 +157,23 @@ module _ (t : Layout) (lawful : IsLawful t) (m : Machine) (boot : IsBoot t m) wh
   slot_has : (s : SlotRef) (from : ℕ) (k : Kind) (to : ℕ) → GivesBySlot t m s from k to → allows (slot_edges_of t s) from k to ≡ true
   slot_has s from k to gives = (slot_authority t m s from k to boot).1 gives
 
-  from_slots :
-      (from : ℕ) (k : Kind) (to : ℕ)
-      → allows (flat_map (edges_of_filled t) t.caps ++ flat_map (edges_of_pair t) t.pairs) from k to ≡ true
-      → allows (table_edges t) from k to ≡ true
-  from_slots from k to has =
-      allows_before (flat_map (edges_of_filled t) t.caps ++ flat_map (edges_of_pair t) t.pairs) (flat_map (edges_of_binding t) t.bindings) from k to has
-
-  from_caps :
-      (s : SlotRef) (held : Cap) (from : ℕ) (k : Kind) (to : ℕ) → cap_of m s ≡ Some held
+  from_slot :
+      (s : SlotRef) (held : Cap) (from : ℕ) (k : Kind) (to : ℕ) → initial_cap t s ≡ Some held
       → GivesBySlot t m s from k to → allows (table_edges t) from k to ≡ true
-  from_caps s held from k to is gives =
-      let at = filled_at t s held (sym (boot.caps s) ∙ is) in
-      from_slots from k to
-      (allows_before (flat_map (edges_of_filled t) t.caps) (flat_map (edges_of_pair t) t.pairs) from k to
+  from_slot s held from k to is gives =
+      let at = filled_at t s held is in
+      allows_before (flat_map (edges_of_filled t) t.caps) (flat_map (edges_of_binding t) t.bindings) from k to
       (comes (edges_of_filled t) t.caps at.at at.element from k to at.here
-      (ap (λ q. allows (slot_edges_of t q) from k to) at.key_is ∙ slot_has s from k to gives)))
+      (ap (λ q. allows (slot_edges_of t q) from k to) at.key_is ∙ slot_has s from k to gives))
 
   declared : (from : ℕ) (k : Kind) (to : ℕ) → HasAuthority t m from k to → allows (table_edges t) from k to ≡ true
   declared from k to (by_cap s held is of given source target) =
-      from_caps s held from k to is (slot.by_cap held is of given source target)
+      from_slot s held from k to (sym (boot.caps s) ∙ is) (slot.by_cap held is of given source target)
   declared from authority.Space to (by_root s held is of source target) =
-      from_caps s held from authority.Space to is (slot.by_root held is of source target)
+      from_slot s held from authority.Space to (sym (boot.caps s) ∙ is) (slot.by_root held is of source target)
   declared from authority.Derive to (by_pair s parent is source target) =
-      let at = parent_at t s parent (sym (boot.parents s) ∙ is) in
-      from_slots from authority.Derive to
-      (allows_after (flat_map (edges_of_filled t) t.caps) (flat_map (edges_of_pair t) t.pairs) from authority.Derive to
-      (comes (edges_of_pair t) t.pairs at.at at.element from authority.Derive to at.here
-      (ap (λ q. allows (slot_edges_of t q) from authority.Derive to) at.key_is
-      ∙ slot_has s from authority.Derive to (slot.by_pair parent is source target))))
+      let pair = pair-law t m s parent lawful boot is in
+      from_slot s pair.below from authority.Derive to pair.child (slot.by_pair parent is source target)
   declared from k to (by_link id end object at link source target) =
       let start = declared_at t m boot id object at in
       let to_context =
@@ -196,7 +181,7 @@ module _ (t : Layout) (lawful : IsLawful t) (m : Machine) (boot : IsBoot t m) wh
       (sym (ap (λ other. links other k end) start.object_is) ∙ link) in
       let bound_here = bound_at t id end to_context.context in
       subst (λ kind. allows (table_edges t) from kind to ≡ true) to_context.runs
-      (allows_after (flat_map (edges_of_filled t) t.caps ++ flat_map (edges_of_pair t) t.pairs) (flat_map (edges_of_binding t) t.bindings) from authority.Runs to
+      (allows_after (flat_map (edges_of_filled t) t.caps) (flat_map (edges_of_binding t) t.bindings) from authority.Runs to
       (comes (edges_of_binding t) t.bindings bound_here.at bound_here.element from authority.Runs to bound_here.here
       (edge_has (declared_label t bound_here.element.thread) (declared_label t bound_here.element.context) from authority.Runs to
       (ap (declared_label t) bound_here.key_is ∙ sym (boot_label t m boot id) ∙ source)

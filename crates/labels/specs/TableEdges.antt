@@ -5,20 +5,15 @@ use Rattle.base.specs.declared.edge.Edge.{Edge}
 use Rattle.base.specs.declared.kind.Kind.TheVariants.{Runs}
 use Rattle.machine.specs.declared.layout.Binding.{Binding}
 use Rattle.machine.specs.declared.layout.Filled.{Filled}
-use Rattle.machine.specs.declared.layout.Pair.{Pair}
 use Rattle.machine.specs.Layout.{Layout, declared_label}
 use Rattle.labels.specs.SlotEdges.{edge_between, slot_edges_of}
 
 abbrev pub edges_of_filled : Layout → Filled → List Edge
 edges_of_filled t filled = slot_edges_of t filled.slot
 
-abbrev pub edges_of_pair : Layout → Pair → List Edge
-edges_of_pair t pair = slot_edges_of t pair.child
-
 abbrev pub edges_of_binding : Layout → Binding → List Edge
 edges_of_binding t binding = edge_between (declared_label t binding.thread) (declared_label t binding.context) Runs
 
--- some of them more than once
+-- some of them more than once; the child of each pair of the tree is among the filled slots
 abbrev pub table_edges : Layout → List Edge
-table_edges t =
-    (flat_map (edges_of_filled t) t.caps ++ flat_map (edges_of_pair t) t.pairs) ++ flat_map (edges_of_binding t) t.bindings
+table_edges t = flat_map (edges_of_filled t) t.caps ++ flat_map (edges_of_binding t) t.bindings

@@ -44,9 +44,6 @@ fn collected(alloc: Global, table: &Table) -> Result<Policy, Refusal>
     for filled in table.caps() {
         add_slot(&mut found, alloc, table, filled.slot)?;
     }
-    for pair in table.pairs() {
-        add_slot(&mut found, alloc, table, pair.child)?;
-    }
     for binding in table.bindings() {
         add_binding(&mut found, table, binding)?;
     }

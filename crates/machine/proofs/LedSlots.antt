@@ -22,7 +22,7 @@ use Rattle.machine.specs.Objects.{slot_count}
 use Rattle.machine.proofs.SlotRows.{LeadsTo}
 
 -- a level is a CNode of that radix
-abbrev IsNode : Machine → Level → Type 0
+abbrev pub IsNode : Machine → Level → Type 0
 IsNode m level = (node : CNode) × (object_of m level.node ≡ Some (o.CNode node)) × (node.radix ≡ level.radix)
 
 -- a slot is one of a CNode's
@@ -52,7 +52,7 @@ node_of_cap m (Some held) level e = by_detail held.detail refl where
       (ap (λ (detail : Detail). level_of_cap m (Some (record held { detail = detail }))) (sym is) ∙ e)
   by_detail _ is = grind (arith, e, is)
 
-node_at : (m : Machine) (slot : SlotRef) (level : Level) → level_at m slot ≡ Some level → IsNode m level
+pub node_at : (m : Machine) (slot : SlotRef) (level : Level) → level_at m slot ≡ Some level → IsNode m level
 unfolding level_at
 node_at m slot level e = node_of_cap m (cap_of m slot) level e
 

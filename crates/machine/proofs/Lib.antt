@@ -16,6 +16,12 @@ pub mod Exchange
 pub mod Copies
 pub mod SlotRows
 pub mod LedSlots
+pub mod FilledSlots
+pub mod ObjectMade
+pub mod Likeness
+pub mod MadeFormed
+pub mod RetypeRow
+pub mod RetypeFormed
 pub mod FillsFormed
 pub mod MovesFormed
 pub mod Inversion

@@ -118,7 +118,7 @@ target_leads m caller address slot e =
     let finds = finds_cap m caller address.root (found.0).0 (found.0).1 found.1 in
     leads m caller address (found.0).0 finds.left slot finds.ends of.2
 
-is_vacant : (filling : Option Cap) (u : Unit {0}) → vacant filling ≡ Ok u → filling ≡ None
+pub is_vacant : (filling : Option Cap) (u : Unit {0}) → vacant filling ≡ Ok u → filling ≡ None
 is_vacant None u e = refl
 is_vacant (Some held) u e = cc
 

@@ -30,5 +30,7 @@ pub use removal_laws::{
     orphans_come_to_their_nearest_ancestor, what_goes_is_the_least_closed_set,
 };
 pub use slot_address::{Ends, SlotAddress};
-pub use step_laws::{steps_keep_machines_well_formed, steps_of_one_event_agree};
+pub use step_laws::{
+    retypes_keep_machines_well_formed, steps_keep_machines_well_formed, steps_of_one_event_agree,
+};
 pub use thread::{Inbox, Message, Receiving, RunState, Sending, Tcb};

@@ -1,10 +1,14 @@
-ghost use Rattle.std.specs.Prelude.{◌≡◌, ◌⊎◌, List};
+ghost use Rattle.base.specs.declared.ids.ObjId.{ObjId as Number};
+ghost use Rattle.std.specs.Prelude.{◌≡◌, ◌⊎◌, ℕ, List, Ok};
 ghost use Rattle.machine.specs.declared.call.Event.{Event as Occurs};
+ghost use Rattle.machine.specs.declared.call.Made.{Made as Comes};
 ghost use Rattle.machine.specs.declared.call.Outcome.{Outcome as Ended};
+ghost use Rattle.machine.specs.declared.object.MemoryKind.{MemoryKind as Kind};
 ghost use Rattle.machine.specs.Machine.{Machine};
 ghost use Rattle.machine.specs.Outcomes.{IsRefused};
 ghost use Rattle.machine.specs.Run.{Run};
 ghost use Rattle.machine.specs.Step.{LacksMemory, Step};
+ghost use Rattle.machine.specs.Step.Retype.{retype_of};
 ghost use Rattle.machine.specs.WellFormed.{IsWellFormed};
 
 /// A law: two steps of one event from one machine agree, unless one of them lacked memory. A refused
@@ -30,4 +34,12 @@ pub fn steps_keep_machines_well_formed()
         → IsWellFormed first
         → Run first events outcomes last
         → IsWellFormed last }
+{}
+
+/// A law: a retype that is made keeps a well-formed machine well formed.
+pub fn retypes_keep_machines_well_formed()
+    ensures { (m : Machine) (caller : Number) (untyped : ℕ) (kind : Kind) (bits to offset count : ℕ) (made : Comes) (next : Machine)
+        → IsWellFormed m
+        → retype_of m caller untyped kind bits to offset count ≡ Ok (made, next)
+        → IsWellFormed next }
 {}

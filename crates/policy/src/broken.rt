@@ -2,8 +2,7 @@ mod cells;
 pub(crate) mod rules;
 pub(crate) mod steps;
 
-ghost use Rattle.std.specs.Prelude.{◌≡◌, ◌<◌, ◌∷◌, [], IfErr, IfOk, IsOk, IsTrue};
-ghost use Rattle.base.specs.Refusals.{out_of_memory};
+ghost use Rattle.std.specs.Prelude.{◌≡◌, ◌<◌, ◌∷◌, [], IsTrue};
 ghost use Rattle.policy.specs.Broken.{IsBrokenAt, broken_place, broken_rule};
 ghost use Rattle.policy.specs.Places.{FindsLeast};
 ghost use Rattle.policy.specs.Policy.{allows};
@@ -11,7 +10,7 @@ ghost use Rattle.policy.specs.Search.{FindsBroken};
 ghost use Rattle.policy.specs.Sweep.{count_of, place_of, rule_number};
 
 use crate::Policy;
-use base::{Kind, Label, Refusal};
+use base::{Kind, Label};
 use rayon::prelude::*;
 use rules::{
     context_lacks, control_lacks, derive_lacks, domain_lacks, grant_lacks, reply_lacks,
@@ -174,21 +173,15 @@ fn label(number: usize) -> Label
 }
 
 /// The first rule of closed policies that a policy breaks, and the first place where it does. Pairs of
-/// labels are looked at side by side.
-///
-/// # Errors
-///
-/// None: it takes no memory.
-pub fn first_broken(rt: &(impl Threads + Sync), policy: &Policy) -> Result<Option<Broken>, Refusal>
-    ensures least { IfOk result (FindsLeast broken_place (IsBrokenAt (allows policy.now))) }
-    ensures memory { IfErr result (λ refusal. refusal ≡ out_of_memory) }
-    ensures answers { IsOk result }
+/// labels are looked at side by side. It takes no memory.
+pub fn first_broken(rt: &(impl Threads + Sync), policy: &Policy) -> Option<Broken>
+    ensures { FindsLeast broken_place (IsBrokenAt (allows policy.now)) result }
 {
     policy.edges_rise();
     for rule in Rule::ALL {
         if let Some(broken) = rule.first_broken(rt, policy) {
-            return Ok(Some(broken));
+            return Some(broken);
         }
     }
-    Ok(None)
+    None
 }

@@ -1,6 +1,6 @@
-//! How a run ends whose devices fail: its message, its status, and what it has written by then.
+//! How a command ends whose devices fail: its message, its status, and what it has written by then.
 use crate::failing::{Given, Page};
-use crate::session::{Ending, Files, run_onto};
+use crate::session::{Command, Ending, Files, ending_of};
 use report::File;
 use std::alloc::Global;
 use std::io::ErrorKind;
@@ -59,6 +59,10 @@ confine-log 1
 end
 ";
 
+const LEAST: &str = "confine-policy 1\nedge a context a\nedge a runs a\nend\n";
+
+const REASON: &str = "full\nedge a notify b\n";
+
 const DENIAL: &str =
     "{\"place\":[\"ca.0\",\"reset\",\"b\"],\"rule\":\"A1\",\"verdict\":\"deny\"}\n";
 
@@ -74,16 +78,21 @@ const NO_POLICY: &str = "confine: cannot read policy";
 
 const NO_SCRIPT: &str = "confine: cannot read script";
 
-/// The files, by name, with what is told where one can't be read.
-const MESSAGES: [(File, &str); 3] = [
-    (File::Table, NO_TABLE),
-    (File::Policy, NO_POLICY),
-    (File::Script, NO_SCRIPT),
+/// The files that each command reads, with what is told where one can't be read.
+const MESSAGES: [(Command, File, &str); 7] = [
+    (Command::Run, File::Table, NO_TABLE),
+    (Command::Run, File::Policy, NO_POLICY),
+    (Command::Run, File::Script, NO_SCRIPT),
+    (Command::Close, File::Table, NO_TABLE),
+    (Command::Close, File::Policy, NO_POLICY),
+    (Command::Why, File::Table, NO_TABLE),
+    (Command::Why, File::Policy, NO_POLICY),
 ];
 
 /// The files that are accepted: a notification from one label to another, on two cores.
 fn accepted() -> Files<'static> {
     Files {
+        command: Command::Run,
         table: Given::text(TABLE),
         policy: Given::text(POLICY),
         script: Given::text(SCRIPT),
@@ -105,10 +114,22 @@ fn empty_policy() -> Given<'static> {
     Given::text("confine-policy 1\nend\n")
 }
 
+/// A policy that lacks an edge, by P6, and a table with little in it.
+fn to_close() -> Files<'static> {
+    Files {
+        command: Command::Close,
+        table: Given::text("confine-table 1\nlabel a\nend\n"),
+        policy: Given::text("confine-policy 1\nedge a context a\nend\n"),
+        ..accepted()
+    }
+}
+
 /// Files of each kind of answer, with the status and the answer.
-fn answers() -> [(Files<'static>, u8, &'static str); 5] {
+fn answers() -> [(Files<'static>, u8, &'static str); 7] {
     let files = accepted();
     [
+        (to_close(), 0, LEAST),
+        (files.asking(Command::Why), 0, REASON),
         (files, 0, LOG),
         (files.with(File::Policy, empty_policy()), 1, DENIAL),
         (files.with(File::Table, faulty()), 2, FAULTY_TABLE),
@@ -117,7 +138,7 @@ fn answers() -> [(Files<'static>, u8, &'static str); 5] {
     ]
 }
 
-/// The run says this on standard error, ends with this status, and wrote this text. A device failed, or
+/// The command says this on standard error, ends with this status, and wrote this text. A device failed, or
 /// was interrupted, after so many bytes.
 fn ends<R: Abort>(
     rt: &R,
@@ -130,13 +151,13 @@ fn ends<R: Abort>(
     assert_eq!(rt; ending.end.status(), status, "after {after} bytes");
 }
 
-/// Runs the files, and sees how that ends.
-fn run_ends<R: Abort + AllocGlobal + Threads + Sync>(
+/// Carries out the command on the files, and sees how that ends.
+fn command_ends<R: Abort + AllocGlobal + Threads + Sync>(
     rt: &R,
     files: Files<'_>,
     end: (Option<&str>, u8, &str),
 ) -> Result<(), Fail> {
-    let ending = run_onto(rt, files, Page::new(rt.alloc()))?;
+    let ending = ending_of(rt, files, Page::new(rt.alloc()))?;
     ends(rt, &ending, end, 0);
     Ok(())
 }
@@ -161,13 +182,14 @@ fn each_file_is_parsed_before_the_next_is_read(rt: HostRuntime) -> Result<(), Fa
             table,
             policy,
             script,
+            ..files
         };
-        run_ends(&rt, files, (message, 2, written))?;
+        command_ends(&rt, files, (message, 2, written))?;
     }
     Ok(())
 }
 
-/// Which files a run asks for bytes that can't read this one.
+/// Which files a command asks for bytes that can't read this one.
 fn read_up_to(file: File) -> [bool; 3] {
     match file {
         File::Table => [true, false, false],
@@ -179,12 +201,14 @@ fn read_up_to(file: File) -> [bool; 3] {
 /// A file that fails after so many bytes can't be read, and those after it aren't asked.
 fn fails_after<R: Abort + AllocGlobal + Threads + Sync>(
     rt: &R,
-    (file, message): (File, &str),
+    (command, file, message): (Command, File, &str),
     given: Given<'_>,
     after: usize,
 ) -> Result<(), Fail> {
-    let files = accepted().with(file, given.failing(after, ErrorKind::Other));
-    let ending = run_onto(rt, files, Page::new(rt.alloc()))?;
+    let files = accepted()
+        .asking(command)
+        .with(file, given.failing(after, ErrorKind::Other));
+    let ending = ending_of(rt, files, Page::new(rt.alloc()))?;
     ends(rt, &ending, (Some(message), 2, ""), after);
     assert!(rt; ending.reads == read_up_to(file), "after {after} bytes");
     Ok(())
@@ -192,11 +216,11 @@ fn fails_after<R: Abort + AllocGlobal + Threads + Sync>(
 
 #[test]
 fn a_file_that_fails_at_any_byte_cannot_be_read(rt: HostRuntime) -> Result<(), Fail> {
-    for (file, message) in MESSAGES {
+    for (command, file, message) in MESSAGES {
         for most in [usize::MAX, 1] {
             let given = accepted().file(file).at_most(most);
             for after in 0..given.text.len() {
-                fails_after(&rt, (file, message), given, after)?;
+                fails_after(&rt, (command, file, message), given, after)?;
             }
         }
     }
@@ -212,11 +236,11 @@ fn a_read_that_fails_is_no_end_of_file(rt: HostRuntime) -> Result<(), Fail> {
         ErrorKind::InvalidData,
         ErrorKind::Other,
     ] {
-        for (file, message) in MESSAGES {
+        for (command, file, message) in MESSAGES {
             // Nor is it a fault of what was read.
             for given in [accepted().file(file), faulty()] {
-                let files = accepted().with(file, given.at_end(kind));
-                run_ends(&rt, files, (Some(message), 2, ""))?;
+                let files = accepted().asking(command).with(file, given.at_end(kind));
+                command_ends(&rt, files, (Some(message), 2, ""))?;
             }
         }
     }
@@ -227,12 +251,12 @@ fn a_read_that_fails_is_no_end_of_file(rt: HostRuntime) -> Result<(), Fail> {
 fn a_read_that_is_interrupted_is_asked_again(rt: HostRuntime) -> Result<(), Fail> {
     for after in 0..TABLE.len() {
         let mut files = accepted();
-        for (file, _) in MESSAGES {
+        for file in [File::Table, File::Policy, File::Script] {
             let given = files.file(file);
             let after = after.min(given.text.len());
             files = files.with(file, given.failing(after, ErrorKind::Interrupted));
         }
-        run_ends(&rt, files, (None, 0, LOG))?;
+        command_ends(&rt, files, (None, 0, LOG))?;
     }
     Ok(())
 }
@@ -240,9 +264,9 @@ fn a_read_that_is_interrupted_is_asked_again(rt: HostRuntime) -> Result<(), Fail
 #[test]
 fn a_read_without_memory_blames_no_file(rt: HostRuntime) -> Result<(), Fail> {
     let starved = Given::text("").failing(0, ErrorKind::OutOfMemory);
-    for (file, _) in MESSAGES {
-        let files = accepted().with(file, starved);
-        run_ends(&rt, files, (Some("confine: no memory"), 2, ""))?;
+    for (command, file, _) in MESSAGES {
+        let files = accepted().asking(command).with(file, starved);
+        command_ends(&rt, files, (Some("confine: no memory"), 2, ""))?;
     }
     Ok(())
 }
@@ -256,7 +280,7 @@ fn overflows<R: Abort + AllocGlobal + Threads + Sync>(
 ) -> Result<(), Fail> {
     let room = page.room;
     let written = answer.get(..room).ok_or("a beginning")?;
-    let ending = run_onto(rt, files, page)?;
+    let ending = ending_of(rt, files, page)?;
     ends(
         rt,
         &ending,
@@ -307,7 +331,7 @@ fn how_many_bytes_a_device_moves_changes_no_answer(rt: HostRuntime) -> Result<()
                 room: answer.len(),
                 ..Page::new(rt.alloc())
             };
-            let ending = run_onto(&rt, files.at_most(reads), page)?;
+            let ending = ending_of(&rt, files.at_most(reads), page)?;
             ends(&rt, &ending, (None, status, answer), 0);
         }
     }

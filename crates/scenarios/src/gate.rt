@@ -104,6 +104,7 @@ fn gate_check(rt: HostRuntime) {
         &meeting,
         &mut out,
     );
+    assert_eq!(rt; meeting.arrived.load(Ordering::SeqCst), 2);
     assert_eq!(rt; meeting.gave_up.load(Ordering::SeqCst), 0);
     assert_eq!(rt; end, End::Status(0));
 }

@@ -1,4 +1,4 @@
-//! Runs whose devices fail, and checks by several workers: what no text can say, so that it isn't among
+//! Commands whose devices fail, and checks by several workers: what no text can say, so that it isn't among
 //! the `cases`. Tests alone.
 #![tactic(auto)]
 

@@ -1,18 +1,35 @@
-//! A run over devices.
+//! A command that is carried out over devices.
+ghost use Rattle.std.specs.Prelude.{◌≡◌, false};
+
 use crate::failing::{Given, Page};
-use report::{End, File, Watched, run};
+use report::{End, File, OnClose, Sink, Source, Watched, close, run, why};
+use std::alloc::AllocGlobal;
 use std::test::Fail;
 use std::thread::Threads;
 
-/// The three files of a run.
+/// What is asked of the files.
+#[derive(Clone, Copy)]
+pub enum Command {
+    Run,
+    Close,
+    Why,
+}
+
+/// A command and its files; that of the script is for a run alone.
 #[derive(Clone, Copy)]
 pub struct Files<'a> {
+    pub command: Command,
     pub table: Given<'a>,
     pub policy: Given<'a>,
     pub script: Given<'a>,
 }
 
 impl<'a> Files<'a> {
+    /// The same files for another command.
+    pub fn asking(self, command: Command) -> Files<'a> {
+        Files { command, ..self }
+    }
+
     /// One of the files.
     pub fn file(self, file: File) -> Given<'a> {
         match file {
@@ -24,26 +41,18 @@ impl<'a> Files<'a> {
 
     /// The same with another in the place of one.
     pub fn with(self, file: File, given: Given<'a>) -> Files<'a> {
-        let Files {
-            table,
-            policy,
-            script,
-        } = self;
         match file {
             File::Table => Files {
                 table: given,
-                policy,
-                script,
+                ..self
             },
             File::Policy => Files {
-                table,
                 policy: given,
-                script,
+                ..self
             },
             File::Certificate | File::Script => Files {
-                table,
-                policy,
                 script: given,
+                ..self
             },
         }
     }
@@ -54,11 +63,12 @@ impl<'a> Files<'a> {
             table: self.table.at_most(most),
             policy: self.policy.at_most(most),
             script: self.script.at_most(most),
+            ..self
         }
     }
 }
 
-/// How a run ended, what it wrote, and which of the files it asked for bytes, in their order.
+/// How a command ended, what it wrote, and which of the files it asked for bytes, in their order.
 #[derive(Drop)]
 pub struct Ending {
     pub end: End,
@@ -66,8 +76,35 @@ pub struct Ending {
     pub reads: [bool; 3],
 }
 
-/// A run that reads these files and writes onto this page.
-pub fn run_onto<R: Threads + Sync + AllocGlobal>(
+/// Carries out a command over these devices.
+fn carry_out<R, T, P, S, O>(
+    rt: &R,
+    command: Command,
+    table: &mut T,
+    policy: &mut P,
+    script: &mut S,
+    out: &mut O,
+) -> End
+where
+    R: AllocGlobal + Threads + Sync,
+    T: Source,
+    P: Source,
+    S: Source,
+    O: Sink,
+    requires table { T.failed table.old ≡ false }
+    requires policy { P.failed policy.old ≡ false }
+    requires script { S.failed script.old ≡ false }
+    requires out { O.failed out.old ≡ false }
+{
+    match command {
+        Command::Run => run(rt, rt.alloc(), table, policy, script, out),
+        Command::Close => close(rt.alloc(), table, policy, OnClose::Policy, out),
+        Command::Why => why(rt.alloc(), table, policy, "a", "b", out),
+    }
+}
+
+/// A command that reads these files and writes onto this page.
+pub fn ending_of<R: Threads + Sync + AllocGlobal>(
     rt: &R,
     files: Files<'_>,
     page: Page,
@@ -76,9 +113,9 @@ pub fn run_onto<R: Threads + Sync + AllocGlobal>(
     let mut policy = Watched::new(files.policy.reader());
     let mut script = Watched::new(files.script.reader());
     let mut out = Watched::new(page);
-    let end = run(
+    let end = carry_out(
         rt,
-        rt.alloc(),
+        files.command,
         &mut table,
         &mut policy,
         &mut script,

@@ -33,3 +33,7 @@ pub mod Unsafe
 pub mod Outsides
 pub mod BootPlaces
 pub mod NoBudget
+pub mod Joined
+pub mod NewKeeps
+pub mod MakeKeeps
+pub mod RetypeKeeps

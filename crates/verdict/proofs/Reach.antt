@@ -31,11 +31,11 @@ pub record IsControlled (t : Layout) (allowed : EdgeTest) (m : Machine) (a : ℕ
   pub controls : allowed a authority.Control label ≡ true
 
 -- a CNode is in the domain of a label
-record IsWithin (t : Layout) (allowed : EdgeTest) (m : Machine) (a : ℕ) (node : ObjId) : Type 0 where
-  is_node : kind_of m node ≡ Some kind.CNode
-  label : ℕ
-  labelled : label_of t m node ≡ Some label
-  domain : IsInDomain allowed a label
+pub record IsWithin (t : Layout) (allowed : EdgeTest) (m : Machine) (a : ℕ) (node : ObjId) : Type 0 where
+  pub is_node : kind_of m node ≡ Some kind.CNode
+  pub label : ℕ
+  pub labelled : label_of t m node ≡ Some label
+  pub domain : IsInDomain allowed a label
 
 module _ (t : Layout) (allowed : EdgeTest) (m : Machine) (held : IsHeld t allowed m) where
   -- the object of a capability has a label
@@ -54,7 +54,7 @@ module _ (t : Layout) (allowed : EdgeTest) (m : Machine) (held : IsHeld t allowe
         ∙ held.confined within.label k to (by_cap slot cap filled within.is_node given within.labelled labelled)
 
     -- so a CNode in the domain hands it on
-    shown_controlled :
+    pub shown_controlled :
         (slot : SlotRef) (node : ObjId) → IsWithin t allowed m a slot.holder → Shows m slot node → IsControlled t allowed m a node
     shown_controlled slot node within s =
         let to = target_label slot s.held s.filled in
@@ -73,7 +73,7 @@ module _ (t : Layout) (allowed : EdgeTest) (m : Machine) (held : IsHeld t allowe
     shown_within : (slot : SlotRef) (node : ObjId) → IsWithin t allowed m a slot.holder → Shows m slot node → IsWithin t allowed m a node
     shown_within slot node within s = within_controlled node (shown_controlled slot node within s)
 
-    found_within :
+    pub found_within :
         (caller : ObjId) (address : ℕ) (slot : SlotRef) (left : ℕ) → label_of t m caller ≡ Some a
         → lookup_of m caller address ≡ Ok (slot, left) → IsWithin t allowed m a slot.holder
     found_within caller address slot left labelled ends =

@@ -36,7 +36,7 @@ use Rattle.verdict.proofs.Reach.{IsControlled, led_controlled}
 use Rattle.verdict.proofs.SlotKeeps.{SlotsFit, slots_keep}
 
 -- a slot of another object is another slot
-apart_slots : (q slot : SlotRef) → q.holder ≢ slot.holder → same_slot q slot ≡ false
+pub apart_slots : (q slot : SlotRef) → q.holder ≢ slot.holder → same_slot q slot ≡ false
 apart_slots q slot apart = by_tie (same_slot q slot) refl where
   by_tie : (tie : Bool) → same_slot q slot ≡ tie → same_slot q slot ≡ false
   by_tie true is = absurd (apart (ap (λ (s : SlotRef). s.holder) (one_slot q slot is)))

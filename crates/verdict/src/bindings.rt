@@ -1,12 +1,13 @@
 ghost use Rattle.std.specs.Prelude.{◌≡◌, ◌∷◌, [], Some};
-ghost use Rattle.machine.specs.Layout.{bound_context, declared_label};
+ghost use Rattle.machine.specs.Layout.{bound_context};
 ghost use Rattle.policy.specs.Policy.{allows};
 ghost use Rattle.verdict.specs.Rules.{a4};
 ghost use Rattle.verdict.specs.Verdict.{BreaksUnder, place_of};
 ghost use Rattle.policy.specs.Places.{FindsLeast};
 
 use crate::Denial;
-use base::{Edge, Kind, Label, ObjId};
+use base::{Edge, Kind};
+use labels::declared_label;
 use machine::Binding;
 use policy::Policy;
 use table::Table;
@@ -30,9 +31,9 @@ fn binding_excess(table: &Table, policy: &Policy, binding: &Binding) -> Option<D
     ensures { FindsLeast place_of (BreaksUnder table.now (allows policy.now) (a4 ∷ binding.now.thread.0 ∷ [])) result }
 {
     let edge = Edge {
-        from: label_of(table, binding.thread)?,
+        from: declared_label(table, binding.thread)?,
         kind: Kind::Runs,
-        to: label_of(table, binding.context)?,
+        to: declared_label(table, binding.context)?,
     };
     if policy.has(edge) {
         return None;
@@ -41,13 +42,4 @@ fn binding_excess(table: &Table, policy: &Policy, binding: &Binding) -> Option<D
         thread: binding.thread,
         context: binding.context,
     })
-}
-
-// The label of an object of the table.
-#[tactic(auto, unfolding(machine::specs::Layout::declared_label, machine::specs::Layout::initial_of))]
-fn label_of(table: &Table, id: ObjId) -> Option<Label>
-    ensures { result ≡ declared_label table.now id }
-{
-    let initial = table.objects().get(id.0 as usize)?;
-    Some(initial.label)
 }

@@ -2,7 +2,7 @@ ghost use Rattle.std.specs.Prelude.{◌≡◌, ◌≤◌, IfErr, IfOk};
 ghost use Rattle.base.specs.Refusals.{out_of_memory};
 ghost use Rattle.policy.specs.Places.{FindsLeast};
 ghost use Rattle.policy.specs.Policy.{allows};
-ghost use Rattle.verdict.specs.Safe.{StaysConfined, KeepsIntegrity, GuardsBudgets};
+ghost use Rattle.verdict.specs.Safe.{LabelsObjects, StaysConfined, KeepsIntegrity, GuardsBudgets};
 ghost use Rattle.verdict.specs.System.{IsVerdict};
 ghost use Rattle.verdict.specs.Verdict.{Breaks, place_of};
 
@@ -24,7 +24,8 @@ use table::Table;
 /// Where it accepts them, then after every list of kernel calls by any threads in any interleaving
 /// every capability lies within the policy; no step changes an object of a label on which its caller's
 /// label has no modifying authority; and a context's configured budget or period changes only by a
-/// caller whose label has the policy's SchedControl edge.
+/// caller whose label has the policy's SchedControl edge. Each object that is there then has a label,
+/// so that no authority goes unseen.
 ///
 /// # Errors
 ///
@@ -39,6 +40,7 @@ pub fn judge<'a, R: Threads + Sync, G: Gate + Sync>(
 ) -> Result<Result<Accepted<'a>, Denial>, Refusal>
     requires workers { (1 ≤ workers) × (workers ≤ 16) }
     ensures verdict { IfOk result (IsVerdict table.now policy.now) }
+    ensures labelled { IfOk result (λ answer. IfOk answer (λ accepted. LabelsObjects table.now)) }
     ensures confined { IfOk result (λ answer. IfOk answer (λ accepted. StaysConfined table.now (allows policy.now))) }
     ensures integrity { IfOk result (λ answer. IfOk answer (λ accepted. KeepsIntegrity table.now (allows policy.now))) }
     ensures budgets { IfOk result (λ answer. IfOk answer (λ accepted. GuardsBudgets table.now (allows policy.now))) }
@@ -63,7 +65,7 @@ fn first_denial<R: Threads + Sync, G: Gate + Sync>(
     ensures least { IfOk result (FindsLeast place_of (Breaks table.now (allows policy.now))) }
     ensures memory { IfErr result (λ refusal. refusal ≡ out_of_memory) }
 {
-    if let Some(broken) = first_broken(rt, policy)? {
+    if let Some(broken) = first_broken(rt, policy) {
         return Ok(Some(Denial::Policy(broken)));
     }
     if let Some(denial) = first_at_slots(rt, alloc, table, policy, workers, gate)? {

@@ -7,6 +7,7 @@ mod bindings;
 mod check;
 mod denial;
 mod laws;
+mod making;
 mod safe;
 mod slots;
 
@@ -19,4 +20,5 @@ pub use laws::{
     each_reason_of_authority_counts, gains_are_no_shrinking, losses_are_shrinking,
     safety_needs_agreeing_subjects, safety_needs_transitive_derivation,
 };
+pub use making::what_is_made_stays_within_authority;
 pub use safe::accepted_systems_are_safe;

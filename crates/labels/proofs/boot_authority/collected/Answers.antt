@@ -1,5 +1,5 @@
-use Rattle.std.proofs.Common.{◌++◌, [], flat_map}
-use Rattle.labels.specs.TableEdges.{edges_of_binding, edges_of_filled, edges_of_pair}
+use Rattle.std.proofs.Common.{[], flat_map}
+use Rattle.labels.specs.TableEdges.{edges_of_binding, edges_of_filled}
 use Rattle.labels.proofs.TableAuthority.{found_more}
 use Rattle.labels.proofs.boot_authority.collected.Goals as goal
 
@@ -10,17 +10,10 @@ loop-filled-preserved c = λ from kind to.
     from kind to c.caps-filled-items.ensures.caps c.loop-filled-test.true (c.loop-filled.invariant from kind to)
     (c.in_ok-add_slot.ensures.ok from kind to)
 
-pub loop-pair-preserved : goal.loop-pair-preserved
-loop-pair-preserved c = λ from kind to.
-    let t = c.args.table.now in
-    found_more (edges_of_pair t) (flat_map (edges_of_filled t) t.caps) c.loop-pair.found c.add_slot-in-loop-pair.new.found
-    c.pairs-pair-items.result.now t.pairs c.loop-pair.pair-index _ from kind to c.pairs-pair-items.ensures.pairs c.loop-pair-test.true
-    (c.loop-pair.invariant from kind to) (c.in_ok-add_slot-2.ensures.ok from kind to)
-
 pub loop-binding-preserved : goal.loop-binding-preserved
 loop-binding-preserved c = λ from kind to.
     let t = c.args.table.now in
-    found_more (edges_of_binding t) (flat_map (edges_of_filled t) t.caps ++ flat_map (edges_of_pair t) t.pairs) c.loop-binding.found
+    found_more (edges_of_binding t) (flat_map (edges_of_filled t) t.caps) c.loop-binding.found
     c.add_binding.new.found c.bindings-binding-items.result.now t.bindings c.loop-binding.binding-index _ from kind to
     c.bindings-binding-items.ensures.bindings c.loop-binding-test.true (c.loop-binding.invariant from kind to)
     (c.in_ok-add_binding.ensures.ok from kind to)

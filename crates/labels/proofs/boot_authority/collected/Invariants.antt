@@ -1,7 +1,7 @@
 use Rattle.std.proofs.Common.{◌≡◌, ℕ, ◌++◌, take, flat_map}
 use Rattle.base.specs.declared.kind.Kind.{Kind}
 use Rattle.policy.specs.Policy.{allows}
-use Rattle.labels.specs.TableEdges.{edges_of_binding, edges_of_filled, edges_of_pair}
+use Rattle.labels.specs.TableEdges.{edges_of_binding, edges_of_filled}
 use Rattle.labels.proofs.boot_authority.collected.Given as goal
 
 -- the edges so far are found
@@ -11,17 +11,9 @@ invariant-loop-filled l =
     (from : ℕ) (kind : Kind) (to : ℕ) → allows l.found from kind to
     ≡ allows (flat_map (edges_of_filled l.table) (take l.filled-index l.table.caps)) from kind to
 
-abbrev pub invariant-loop-pair : goal.invariant-loop-pair
-invariant-loop-pair l =
-    (from : ℕ) (kind : Kind) (to : ℕ) → allows l.found from kind to
-    ≡ allows
-    (flat_map (edges_of_filled l.table) l.table.caps ++ flat_map (edges_of_pair l.table) (take l.pair-index l.table.pairs))
-    from kind to
-
 abbrev pub invariant-loop-binding : goal.invariant-loop-binding
 invariant-loop-binding l =
     (from : ℕ) (kind : Kind) (to : ℕ) → allows l.found from kind to
     ≡ allows
-    ((flat_map (edges_of_filled l.table) l.table.caps ++ flat_map (edges_of_pair l.table) l.table.pairs)
-    ++ flat_map (edges_of_binding l.table) (take l.binding-index l.table.bindings))
+    (flat_map (edges_of_filled l.table) l.table.caps ++ flat_map (edges_of_binding l.table) (take l.binding-index l.table.bindings))
     from kind to

@@ -5,8 +5,8 @@ use Rattle.policy.proofs.Places.{none_more, none_at_all, least_here}
 use Rattle.policy.proofs.RulePlaces.{all_rules, of_rules, of_all}
 use Rattle.policy.proofs.broken.first_broken.Goals as goal
 
-pub returns-in-Some-clause-least : goal.returns-in-Some-clause-least
-returns-in-Some-clause-least g c =
+pub returns-in-Some : goal.returns-in-Some
+returns-in-Some g c =
     let test = allows c.args.policy.now in
     of_all test (Some c.in-Some.broken)
     (least_here (of_rules test) c.loop-rule.rule-index _ (slice_get-get_or all_rules c.loop-rule.rule-index _ (omega arith))
@@ -17,7 +17,7 @@ loop-rule-preserved g c =
     none_more (of_rules (allows c.args.policy.now)) c.loop-rule.rule-index _
     (slice_get-get_or all_rules c.loop-rule.rule-index _ (omega arith)) c.loop-rule.invariant c.in_default.ensures
 
-pub returns-clause-least : goal.returns-clause-least
-returns-clause-least g c =
+pub returns : goal.returns
+returns g c =
     let test = allows c.args.policy.now in
     of_all test None (none_at_all (of_rules test) c.loop-rule.rule-index (omega arith) c.loop-rule.invariant)

@@ -1,0 +1,62 @@
+-- What a machine is after one object was made from untyped memory, pointwise.
+use Rattle.std.proofs.Common.{◌≡◌, ℕ, ◌+◌, true, [], refl, ap, ◌∙◌}
+use Rattle.std.specs.FinMap.{insert, get-insert}
+use Rattle.std.specs.Prelude.{Some, replicate, if◌then◌else◌}
+use Rattle.base.specs.declared.ids.ObjId.{ObjId}
+use Rattle.base.specs.declared.ids.SlotRef.{SlotRef}
+use Rattle.machine.specs.declared.cap.Detail.{Detail}
+use Rattle.machine.specs.declared.object.MemoryKind.{MemoryKind}
+use Rattle.machine.specs.declared.object.Object.{Object}
+use Rattle.machine.specs.declared.object.Object.TheVariants as o
+use Rattle.machine.specs.declared.object.Untyped.{Untyped}
+use Rattle.machine.specs.Machine.{Machine, object_of, queue_of, words_of, cap_of, parent_of, same_id, same_slot, with_object}
+use Rattle.machine.specs.Machine.{with_new, with_cap, with_parent}
+use Rattle.machine.specs.Memory.{Source, new_cap, new_detail, new_object, new_size, placed, taken, with_made}
+use Rattle.machine.specs.Objects.{word_count}
+use Rattle.machine.proofs.LookUps.{id_total, slot_total}
+
+-- the number of the next object
+abbrev pub following : Machine → ObjId
+following m = record { 0 = m.next }
+
+-- untyped memory with another watermark
+abbrev pub marked : Untyped → ℕ → Untyped
+marked memory mark = record memory { watermark = mark }
+
+-- an object is new under the next number, its capability is in a slot as a child of the untyped memory's, and the memory has
+-- another watermark
+pub record MakesObject (m : Machine) (source : Source) (mark : ℕ) (object : Object) (detail : Detail) (slot : SlotRef)
+    (next : Machine) : Type 0 where
+  pub objects :
+      (q : ObjId)
+      → object_of next q
+      ≡ (if same_id q (following m) then Some object
+      else if same_id q source.id then Some (o.Untyped (marked source.memory mark)) else object_of m q)
+  pub queues : (q : ObjId) → queue_of next q ≡ (if same_id q (following m) then Some [] else queue_of m q)
+  pub words :
+      (q : ObjId) → words_of next q ≡ (if same_id q (following m) then Some (replicate (word_count object) 0) else words_of m q)
+  pub caps :
+      (q : SlotRef)
+      → cap_of next q
+      ≡ (if same_slot q slot then Some (record { object = following m; detail = detail; original = true }) else cap_of m q)
+  pub parents : (q : SlotRef) → parent_of next q ≡ (if same_slot q slot then Some source.slot else parent_of m q)
+  pub number : next.next ≡ m.next + 1
+
+pub made_makes :
+    (m : Machine) (source : Source) (kind : MemoryKind) (bits : ℕ) (slot : SlotRef)
+    → MakesObject m source (taken (new_size kind bits) source.memory).watermark
+    (new_object kind bits (placed (new_size kind bits) source.memory)) (new_detail kind) slot (with_made m source kind bits slot)
+unfolding object_of queue_of words_of cap_of parent_of with_object with_new with_cap with_parent with_made
+made_makes m source kind bits slot =
+    let memory : Object = o.Untyped (taken (new_size kind bits) source.memory) in
+    let object : Object = new_object kind bits (placed (new_size kind bits) source.memory) in
+    record {
+      objects = λ q.
+          get-insert id_total (insert m.objects source.id memory) (following m) object q
+          ∙ ap (λ found. if same_id q (following m) then Some object else found) (get-insert id_total m.objects source.id memory q);
+      queues = λ q. get-insert id_total m.queues (following m) [] q;
+      words = λ q. get-insert id_total m.words (following m) (replicate (word_count object) 0) q;
+      caps = λ q. get-insert slot_total m.caps slot (new_cap m.next kind) q;
+      parents = λ q. get-insert slot_total m.parents slot source.slot q;
+      number = refl;
+    }

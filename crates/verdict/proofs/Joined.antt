@@ -1,0 +1,122 @@
+-- What a machine's capabilities, pairs and links name is there: in a well-formed machine, and after a change of a content without links.
+use Rattle.std.proofs.Common.{◌≡◌, inl, inr, true, false, Option, Some, None, refl, sym, ap, ◌∙◌}
+use Rattle.std.proofs.lemmas.Bool.{and_parts, false≢true}
+use Rattle.std.proofs.lemmas.Option.{same_Some}
+use Rattle.base.specs.declared.ids.ObjId.{ObjId}
+use Rattle.base.specs.declared.ids.SlotRef.{SlotRef}
+use Rattle.base.specs.declared.kind.Kind.{Kind}
+use Rattle.base.specs.declared.kind.Kind.TheVariants as authority
+use Rattle.machine.specs.declared.cap.Cap.{Cap}
+use Rattle.machine.specs.declared.object.Object.{Object}
+use Rattle.machine.specs.declared.object.Object.TheVariants as o
+use Rattle.machine.specs.declared.object.Reply.{Reply}
+use Rattle.machine.specs.declared.object.ReplyState.{ReplyState}
+use Rattle.machine.specs.declared.object.ReplyState.TheVariants as reply
+use Rattle.machine.specs.declared.thread.RunState.{RunState}
+use Rattle.machine.specs.declared.thread.RunState.TheVariants as state
+use Rattle.machine.specs.declared.thread.Tcb.{Tcb}
+use Rattle.machine.specs.Authority.{holds_thread, links, names_reply, state_links}
+use Rattle.machine.specs.Machine.{Machine, object_of, cap_of, parent_of, with_object}
+use Rattle.machine.specs.WellFormed.{IsReceivingWith, IsThread, IsWellFormed, WaitsAt}
+use Rattle.machine.proofs.Ids.{at_itself, at_other, one_or_two}
+use Rattle.machine.proofs.LookUps.{cap_of-with_object, object_of-with_object, one_id, parent_of-with_object}
+
+-- an object is there
+abbrev pub IsThere : Machine → ObjId → Type 0
+IsThere m id = (object : Object) × (object_of m id ≡ Some object)
+
+-- the holders of filled slots and of pairs, and the ends of links, are there
+pub record IsJoined (m : Machine) : Type 0 where
+  pub filled : (slot : SlotRef) (cap : Cap) → cap_of m slot ≡ Some cap → IsThere m slot.holder
+  pub child : (slot parent : SlotRef) → parent_of m slot ≡ Some parent → IsThere m slot.holder
+  pub parent : (slot parent : SlotRef) → parent_of m slot ≡ Some parent → IsThere m parent.holder
+  pub ends :
+      (id end : ObjId) (object : Object) (k : Kind) → object_of m id ≡ Some object → links object k end ≡ true → IsThere m end
+
+named : (named : Option ObjId) (id : ObjId) → names_reply named id ≡ true → named ≡ Some id
+named None id e = absurd (false≢true e)
+named (Some other) id e = ap (λ i. Some i) (one_id other id e)
+
+module _ (m : Machine) (formed : IsWellFormed m) where
+  waited_at : (thread end : ObjId) (tcb : Tcb) → IsThread m thread tcb → WaitsAt tcb.state end → IsThere m end
+  waited_at thread end tcb is waits =
+      let queue = formed.links.waiting thread end tcb is waits in
+      formed.parts.queue_of_object end queue.0 queue.1
+
+  -- what a run state links to
+  state_end :
+      (thread end : ObjId) (tcb : Tcb) (run : RunState) (k : Kind) → IsThread m thread tcb
+      → ((id : ObjId) → WaitsAt run id → WaitsAt tcb.state id)
+      → ((id : ObjId) → IsReceivingWith run id → IsReceivingWith tcb.state id)
+      → state_links run k end ≡ true → IsThere m end
+  state_end thread end tcb (state.Sending sending) authority.Send is waits names e =
+      waited_at thread end tcb is (waits end (one_id sending.endpoint end e))
+  state_end thread end tcb (state.Sending sending) authority.Grant is waits names e =
+      waited_at thread end tcb is (waits end (one_id sending.endpoint end (and_parts _ _ e).1))
+  state_end thread end tcb (state.Sending sending) authority.Call is waits names e =
+      waited_at thread end tcb is (waits end (one_id sending.endpoint end (and_parts _ _ e).1))
+  state_end thread end tcb (state.Receiving receiving) authority.Receive is waits names e =
+      waited_at thread end tcb is (waits end (one_id receiving.endpoint end e))
+  state_end thread end tcb (state.Receiving receiving) authority.Reply is waits names e =
+      let there = formed.links.receiver_reply thread end tcb is (names end (named receiving.reply end e)) in
+      (o.Reply (record { address = there.0; state = reply.Waiting thread }), there.1)
+  state_end thread end tcb (state.Waiting notification) authority.Await is waits names e =
+      waited_at thread end tcb is (waits end (one_id notification end e))
+  state_end thread end tcb _ _ is waits names e = absurd (false≢true e)
+
+  -- the thread that a reply holds
+  held_end :
+      (id end : ObjId) (answers : Reply) (held : ReplyState) → answers.state ≡ held → object_of m id ≡ Some (o.Reply answers)
+      → holds_thread held end ≡ true → IsThere m end
+  held_end id end answers reply.Free is at e = absurd (false≢true e)
+  held_end id end answers (reply.Waiting thread) is at e =
+      let same = one_id thread end e in
+      let w = formed.links.waiting_reply id thread answers.address (at ∙ (λ i. Some (o.Reply (record { address = answers.address; state = is i })))) in
+      (o.Tcb w.0, ap (object_of m) (sym same) ∙ w.1)
+  held_end id end answers (reply.Called thread) is at e =
+      let same = one_id thread end e in
+      let w = formed.links.reply_called id thread answers.address (at ∙ (λ i. Some (o.Reply (record { address = answers.address; state = is i })))) in
+      (o.Tcb w.0, ap (object_of m) (sym same) ∙ w.1)
+
+  link_end :
+      (id end : ObjId) (object : Object) (k : Kind) → object_of m id ≡ Some object → links object k end ≡ true → IsThere m end
+  link_end id end (o.Tcb tcb) authority.Runs at e =
+      let there = formed.links.thread_context id end tcb at (named tcb.context end e) in (o.Context there.0, there.1)
+  link_end id end (o.Tcb tcb) k at e = state_end id end tcb tcb.state k at (λ i h. h) (λ i h. h) e
+  link_end id end (o.Reply answers) authority.Holds at e = held_end id end answers answers.state refl at e
+  link_end id end _ _ at e = absurd (false≢true e)
+
+  slot_there : (slot : SlotRef) (cap : Cap) → cap_of m slot ≡ Some cap → IsThere m slot.holder
+  slot_there slot cap at = let holder = formed.slots.holder slot cap at in (holder.0, holder.1)
+
+  pub joined_of : IsJoined m
+  joined_of = record {
+    filled = slot_there;
+    child = λ slot parent at. let below = formed.slots.child_filled slot parent at in slot_there slot below.0 below.1;
+    parent = λ slot parent at. let above = formed.slots.parent_filled slot parent at in slot_there parent above.0 above.1;
+    ends = link_end;
+  }
+
+-- a content that links to nothing replaces another
+pub joined_set :
+    (m : Machine) (id : ObjId) (old new : Object) → object_of m id ≡ Some old → ((k : Kind) (end : ObjId) → links new k end ≡ false)
+    → IsJoined m → IsJoined (with_object m id new)
+joined_set m id old new was alone joined = record {
+  filled = λ slot cap at. stays slot.holder (joined.filled slot cap (sym (cap_of-with_object m id new slot) ∙ at));
+  child = λ slot parent at. stays slot.holder (joined.child slot parent (sym (parent_of-with_object m id new slot) ∙ at));
+  parent = λ slot parent at. stays parent.holder (joined.parent slot parent (sym (parent_of-with_object m id new slot) ∙ at));
+  ends = λ q end object k at e. elim (one_or_two q id) [
+    | inl same ↦
+        let is : object ≡ new =
+        same_Some object new (sym at ∙ ap (object_of (with_object m id new)) same ∙ object_of-with_object m id new id ∙ at_itself id (Some new) (object_of m id)) in
+        absurd (false≢true (sym (alone k end) ∙ ap (λ (x : Object). links x k end) (sym is) ∙ e))
+    | inr apart ↦
+        stays end
+        (joined.ends q end object k (sym (object_of-with_object m id new q ∙ at_other q id (Some new) (object_of m q) apart) ∙ at) e)
+  ];
+} where
+  stays : (q : ObjId) → IsThere m q → IsThere (with_object m id new) q
+  stays q there = elim (one_or_two q id) [
+    | inl same ↦ (new, ap (object_of (with_object m id new)) same ∙ object_of-with_object m id new id ∙ at_itself id (Some new) (object_of m id))
+    | inr apart ↦ (there.0, object_of-with_object m id new q ∙ at_other q id (Some new) (object_of m q) apart ∙ there.1)
+  ]

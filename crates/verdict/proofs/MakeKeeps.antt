@@ -1,0 +1,347 @@
+-- An object that is made from untyped memory keeps what a part of a call keeps: the memory is the caller's to control, so that all kinds
+-- of authority over it are, and its capability comes into a CNode that is the caller's to control too.
+use Rattle.std.proofs.Common.{◌≡◌, ◌≢◌, ℕ, ◌+◌, ◌≤◌, ◌<◌, ◌^◌, ◌⊎◌, inl, inr, Bool, true, false, Some, None, option_map, refl, sym, ap, subst, ◌∙◌, arith}
+use Rattle.std.specs.Prelude.{if◌then◌else◌}
+use Rattle.std.proofs.lemmas.Bool.{false≢true}
+use Rattle.std.proofs.lemmas.Nat.{pow_pos}
+use Rattle.std.proofs.lemmas.Option.{none-some, same_Some}
+use Rattle.base.specs.declared.ids.ObjId.{ObjId}
+use Rattle.base.specs.declared.ids.SlotRef.{SlotRef}
+use Rattle.base.specs.declared.kind.Kind.{Kind}
+use Rattle.base.specs.declared.kind.Kind.TheVariants as authority
+use Rattle.base.specs.Kinds.{is_structural}
+use Rattle.machine.specs.declared.call.Event.{Event}
+use Rattle.machine.specs.declared.cap.Cap.{Cap}
+use Rattle.machine.specs.declared.object.MemoryKind.{MemoryKind}
+use Rattle.machine.specs.declared.object.MemoryKind.TheVariants as memory
+use Rattle.machine.specs.declared.object.Object.{Object}
+use Rattle.machine.specs.declared.object.Object.TheVariants as o
+use Rattle.machine.specs.declared.object.ObjectKind.TheVariants as kind
+use Rattle.machine.specs.declared.object.Untyped.{Untyped}
+use Rattle.machine.specs.Authority.{label_at, label_of, links}
+use Rattle.machine.specs.Authority.HasAuthority.{by_pair}
+use Rattle.machine.specs.Capabilities.{gives, kind_of_detail}
+use Rattle.machine.specs.Layout.{Layout}
+use Rattle.machine.specs.Machine.{Machine, object_of, queue_of, words_of, cap_of, parent_of, same_slot, with_cap, with_new, with_object, with_parent}
+use Rattle.machine.specs.Memory.{Source, new_cap, new_detail, new_object, new_size, placed, taken, with_made}
+use Rattle.machine.specs.Objects.{kind_of_object, address_of, end_of}
+use Rattle.machine.specs.WellFormed.{kind_of}
+use Rattle.machine.proofs.AuthorityLemmas.{gives_no_structure}
+use Rattle.machine.proofs.Ids.{at_itself, at_other, one_or_two}
+use Rattle.machine.proofs.LookUps.{cap_of-with_cap, cap_of-with_parent, object_of-with_new, object_of-with_object, one_slot, parent_of-with_cap, parent_of-with_parent}
+use Rattle.machine.proofs.ObjectMade.{marked}
+use Rattle.machine.proofs.RetypeFormed.{new_address, new_end, new_kind}
+use Rattle.machine.proofs.SlotChanges.{SameObjects}
+use Rattle.policy.specs.Closed.{IsClosed}
+use Rattle.policy.specs.Domain.{EdgeTest, IsInDomain}
+use Rattle.policy.specs.Full.IsFull.{modifies}
+use Rattle.verdict.specs.Invariant.{IsBare, IsHeld}
+use Rattle.verdict.proofs.Contents.{full}
+use Rattle.verdict.proofs.Joined.{IsJoined, joined_set}
+use Rattle.verdict.proofs.Keeps.{Keeps, keeps_keeps}
+use Rattle.verdict.proofs.NewKeeps.{IsMakeable, new_keeps, new_label}
+use Rattle.verdict.proofs.ObjectLabels.{kind_there, same_label}
+use Rattle.verdict.proofs.Reach.{IsControlled}
+use Rattle.verdict.proofs.SetKeeps.{set_keeps}
+use Rattle.verdict.proofs.SlotCalls.{apart_slots}
+use Rattle.verdict.proofs.SlotKeeps.{SlotsFit, slots_keep}
+
+-- a new object links to nothing
+new_alone : (of : MemoryKind) (bits at : ℕ) (k : Kind) (end : ObjId) → links (new_object of bits at) k end ≡ false
+new_alone memory.Tcb bits at authority.Runs end = refl
+new_alone memory.Tcb bits at _ end = refl
+new_alone memory.Reply bits at authority.Holds end = refl
+new_alone memory.Reply bits at _ end = refl
+new_alone memory.Untyped bits at k end = refl
+new_alone memory.CNode bits at k end = refl
+new_alone memory.Endpoint bits at k end = refl
+new_alone memory.Notification bits at k end = refl
+new_alone memory.Context bits at k end = refl
+new_alone memory.Frame bits at k end = refl
+
+-- and takes memory
+new_takes : (of : MemoryKind) (bits : ℕ) → 0 < new_size of bits
+new_takes memory.Untyped bits = pow_pos bits
+new_takes memory.CNode bits = pow_pos (bits + 5)
+new_takes memory.Tcb bits = omega arith
+new_takes memory.Endpoint bits = omega arith
+new_takes memory.Notification bits = omega arith
+new_takes memory.Reply bits = omega arith
+new_takes memory.Context bits = omega arith
+new_takes memory.Frame bits = omega arith
+
+-- no control is made
+no_control : (of : MemoryKind) → gives (new_detail of) authority.SchedControl ≡ false
+no_control memory.Untyped = refl
+no_control memory.CNode = refl
+no_control memory.Tcb = refl
+no_control memory.Endpoint = refl
+no_control memory.Notification = refl
+no_control memory.Reply = refl
+no_control memory.Context = refl
+no_control memory.Frame = refl
+
+-- made untyped memory begins where it is placed
+untyped_at :
+    (of : MemoryKind) (bits at : ℕ) (memory : Untyped) → new_object of bits at ≡ o.Untyped memory
+    → (memory.base ≡ at) × (end_of (o.Untyped memory) ≡ at + new_size of bits)
+untyped_at memory.Untyped bits at found is =
+    let same : (record { base = at; bits = bits; watermark = at }) ≡ found = cc in
+    (sym (ap (λ (u : Untyped). u.base) same), sym (ap (λ (u : Untyped). end_of (o.Untyped u)) same))
+untyped_at _ bits at found is = cc
+
+-- an object may be made in a step of a label's thread: its label controls the untyped memory and the CNode, and the memory's capability
+-- is held within its domain
+pub record MayMake
+    (t : Layout) (allowed : EdgeTest) (a : ℕ) (m : Machine) (source : Source) (of : MemoryKind) (bits : ℕ) (slot : SlotRef) : Type 0 where
+  pub was : ℕ
+  pub there : object_of m source.id ≡ Some (o.Untyped (marked source.memory was))
+  pub label : ℕ
+  pub labelled : label_of t m source.id ≡ Some label
+  pub controls : allowed a authority.Control label ≡ true
+  pub low : source.memory.base ≤ placed (new_size of bits) source.memory
+  pub high : placed (new_size of bits) source.memory + new_size of bits ≤ end_of (o.Untyped source.memory)
+  pub node : IsControlled t allowed m a slot.holder
+  pub above : ℕ
+  pub is_node : kind_of m source.slot.holder ≡ Some kind.CNode
+  pub above_labelled : label_of t m source.slot.holder ≡ Some above
+  pub domain : IsInDomain allowed a above
+
+module _
+    (t : Layout) (allowed : EdgeTest) (began : Machine) (event : Event) (a : ℕ) (m : Machine) (held : IsHeld t allowed m)
+    (joined : IsJoined m) (closed : IsClosed allowed) (source : Source) (of : MemoryKind) (bits : ℕ) (slot : SlotRef)
+    (may : MayMake t allowed a m source of bits slot) where
+  abbrev at : ℕ
+  at = placed (new_size of bits) source.memory
+
+  abbrev old : Object
+  old = o.Untyped (marked source.memory may.was)
+
+  abbrev mark : Object
+  mark = o.Untyped (taken (new_size of bits) source.memory)
+
+  abbrev object : Object
+  object = new_object of bits at
+
+  -- the machine with another watermark, then with the object, then with its capability
+  abbrev m1 : Machine
+  m1 = with_object m source.id mark
+
+  abbrev m2 : Machine
+  m2 = with_new m1 object
+
+  abbrev id : ObjId
+  id = record { 0 = m.next }
+
+  abbrev m3 : Machine
+  m3 = with_parent (with_cap m2 slot (new_cap m.next of)) slot source.slot
+
+  number : m1.next ≡ m.next
+  unfolding with_object
+  number = refl
+
+  marks : Keeps t allowed began event a m m1
+  marks =
+      set_keeps t allowed began event a m source.id held old mark
+      (record {
+        was = may.there;
+        kind = refl;
+        address = refl;
+        end = refl;
+        links = λ end k e. cc;
+        share = λ before after e. cc;
+      })
+      (full t allowed a m m1 source.id may.label may.labelled (modifies authority.Control refl may.controls))
+
+  -- the range has the memory's label
+  lies : (address : ℕ) → at ≤ address → address < at + new_size of bits → label_at t address ≡ Some may.label
+  lies address from below =
+      let low = may.low in
+      let high = may.high in
+      held.of_table.ranged source.id (marked source.memory may.was) may.label address may.there may.labelled (omega (arith, low, from))
+      (omega (arith, high, below))
+
+  makeable : IsMakeable t allowed a object
+  makeable = record {
+    label = may.label;
+    lies = ap (label_at t) (new_address of bits at) ∙ lies at (omega arith) (let takes = new_takes of bits in omega (arith, takes));
+    full = modifies authority.Control refl may.controls;
+    ranged = λ memory address is from below.
+        let range = untyped_at of bits at memory is in
+        let base = range.0 in
+        let end = range.1 in
+        lies address (omega (arith, base, from)) (omega (arith, end, below));
+    alone = new_alone of bits at;
+  }
+
+  joined1 : IsJoined m1
+  joined1 = joined_set m source.id old mark may.there (λ k end. refl) joined
+
+  makes : Keeps t allowed began event a m1 m2
+  makes = new_keeps t allowed began event a m1 marks.held joined1 object makeable
+
+  made : Keeps t allowed began event a m m2
+  made = keeps_keeps t allowed began event a m m1 m2 held marks makes
+
+  -- a CNode that was there is as it was
+  node_same : (q : ObjId) → kind_of m q ≡ Some kind.CNode → object_of m2 q ≡ object_of m q
+  node_same q is = object_of-with_new m1 object q ∙ at_other q (record { 0 = m1.next }) (Some object) (object_of m1 q) other ∙ object_of-with_object m source.id mark q ∙ at_other q source.id (Some mark) (object_of m q) apart where
+    apart : q ≢ source.id
+    apart same =
+        let two : Some kind.CNode ≡ Some kind.Untyped = sym is ∙ ap (kind_of m) same ∙ ap (option_map kind_of_object) may.there in
+        cc
+
+    other : q ≢ record { 0 = m1.next }
+    other same =
+        let there = kind_there m q kind.CNode is in
+        let below = held.numbered q there.0 there.1 in
+        let at : q.0 ≡ m1.next = ap (λ (i : ObjId). i.0) same in
+        let next = number in
+        omega (arith, below, at, next)
+
+  node_label : (q : ObjId) → kind_of m q ≡ Some kind.CNode → label_of t m2 q ≡ label_of t m q
+  node_label q is = same_label t m m2 q (node_same q is)
+
+  here : object_of m2 id ≡ Some object
+  unfolding with_object
+  here = object_of-with_new m1 object id ∙ at_itself id (Some object) (object_of m1 id)
+
+  here_label : label_of t m2 id ≡ Some may.label
+  unfolding with_object makeable
+  here_label = new_label t allowed began event a m1 marks.held joined1 object makeable
+
+  mine : IsControlled t allowed m2 a slot.holder
+  mine = record {
+    is_node = ap (option_map kind_of_object) (node_same slot.holder may.node.is_node) ∙ may.node.is_node;
+    label = may.node.label;
+    labelled = node_label slot.holder may.node.is_node ∙ may.node.labelled;
+    controls = may.node.controls;
+  }
+
+  -- each kind that the capability gives is the CNode's label's too
+  edges : (k : Kind) → gives (new_detail of) k ≡ true → allowed may.node.label k may.label ≡ true
+  edges k given =
+      sym (closed.subjects_agree a may.node.label (inr may.node.controls) k of_use may.label)
+      ∙ closed.control_gives_all.kinds a may.label may.controls k of_use not_control
+    where
+      by_case : (structural : Bool) → is_structural k ≡ structural → is_structural k ≡ false
+      by_case true is = absurd (false≢true (sym (gives_no_structure (new_detail of) k is) ∙ given))
+      by_case false is = is
+
+      of_use : is_structural k ≡ false
+      of_use = by_case (is_structural k) refl
+
+      not_control : k ≢ authority.SchedControl
+      not_control is = false≢true (sym (no_control of) ∙ ap (gives (new_detail of)) (sym is) ∙ given)
+
+  cap_now : (q : SlotRef) → cap_of m3 q ≡ (if same_slot q slot then Some (new_cap m.next of) else cap_of m2 q)
+  cap_now q = cap_of-with_parent (with_cap m2 slot (new_cap m.next of)) slot source.slot q ∙ cap_of-with_cap m2 slot (new_cap m.next of) q
+
+  parent_now : (q : SlotRef) → parent_of m3 q ≡ (if same_slot q slot then Some source.slot else parent_of m2 q)
+  parent_now q =
+      parent_of-with_parent (with_cap m2 slot (new_cap m.next of)) slot source.slot q
+      ∙ ap (λ found. if same_slot q slot then Some source.slot else found) (parent_of-with_cap m2 slot (new_cap m.next of) q)
+
+  same_objects : SameObjects m2 m3
+  unfolding object_of queue_of words_of with_cap with_parent
+  same_objects = record { objects = λ q. refl; queues = λ q. refl; words = λ q. refl; number = refl }
+
+  caps :
+      (q : SlotRef) (cap : Cap) → cap_of m3 q ≡ Some cap
+      → (cap_of m2 q ≡ Some cap)
+      ⊎ ((kind_of m2 q.holder ≡ Some kind.CNode)
+      × ((start : ℕ) (k : Kind) (end : ℕ) → gives cap.detail k ≡ true → label_of t m2 q.holder ≡ Some start
+      → label_of t m2 cap.object ≡ Some end → allowed start k end ≡ true))
+  unfolding mine
+  caps q cap e = by_tie (same_slot q slot) refl (sym (cap_now q) ∙ e) where
+    by_tie :
+        (tie : Bool) → same_slot q slot ≡ tie → (if tie then Some (new_cap m.next of) else cap_of m2 q) ≡ Some cap
+        → (cap_of m2 q ≡ Some cap)
+        ⊎ ((kind_of m2 q.holder ≡ Some kind.CNode)
+        × ((start : ℕ) (k : Kind) (end : ℕ) → gives cap.detail k ≡ true → label_of t m2 q.holder ≡ Some start
+        → label_of t m2 cap.object ≡ Some end → allowed start k end ≡ true))
+    by_tie false is same = inl same
+    by_tie true is same =
+        let at_slot = one_slot q slot is in
+        let cap_is : new_cap m.next of ≡ cap = same_Some _ _ same in
+        inr (
+          ap (λ (s : SlotRef). kind_of m2 s.holder) at_slot ∙ mine.is_node,
+          λ start k end given begins ends.
+              let start_is : start ≡ may.node.label =
+              same_Some start may.node.label (sym begins ∙ ap (λ (s : SlotRef). label_of t m2 s.holder) at_slot ∙ mine.labelled) in
+              let end_is : end ≡ may.label =
+              same_Some end may.label (sym ends ∙ ap (λ (c : Cap). label_of t m2 c.object) (sym cap_is) ∙ here_label) in
+              ap (λ l. allowed l k end) start_is ∙ ap (allowed may.node.label k) end_is
+              ∙ edges k (ap (λ (c : Cap). gives c.detail k) cap_is ∙ given),
+        )
+
+  pairs :
+      (q parent : SlotRef) (start end : ℕ) → parent_of m3 q ≡ Some parent → label_of t m2 parent.holder ≡ Some start
+      → label_of t m2 q.holder ≡ Some end → allowed start authority.Derive end ≡ true
+  unfolding mine
+  pairs q parent start end e begins ends = by_tie (same_slot q slot) refl (sym (parent_now q) ∙ e) where
+    by_tie :
+        (tie : Bool) → same_slot q slot ≡ tie → (if tie then Some source.slot else parent_of m2 q) ≡ Some parent
+        → allowed start authority.Derive end ≡ true
+    by_tie false is same = made.held.confined start authority.Derive end (by_pair q parent same begins ends)
+    by_tie true is same =
+        let at_slot = one_slot q slot is in
+        let parent_is : source.slot ≡ parent = same_Some _ _ same in
+        let start_is : start ≡ may.above =
+        same_Some start may.above
+        (sym begins ∙ ap (λ (s : SlotRef). label_of t m2 s.holder) (sym parent_is) ∙ node_label source.slot.holder may.is_node
+        ∙ may.above_labelled) in
+        let end_is : end ≡ may.node.label =
+        same_Some end may.node.label (sym ends ∙ ap (λ (s : SlotRef). label_of t m2 s.holder) at_slot ∙ mine.labelled) in
+        ap (λ l. allowed l authority.Derive end) start_is ∙ ap (allowed may.above authority.Derive) end_is
+        ∙ closed.derive_in_domain a may.above may.node.label may.domain (inr may.node.controls)
+
+  kinds : (q : SlotRef) (cap : Cap) → cap_of m3 q ≡ Some cap → kind_of m3 cap.object ≡ Some (kind_of_detail cap.detail)
+  kinds q cap e = ap (option_map kind_of_object) (same_objects.objects cap.object) ∙ by_tie (same_slot q slot) (sym (cap_now q) ∙ e) where
+    by_tie :
+        (tie : Bool) → (if tie then Some (new_cap m.next of) else cap_of m2 q) ≡ Some cap
+        → kind_of m2 cap.object ≡ Some (kind_of_detail cap.detail)
+    by_tie false same = made.held.kinds q cap same
+    by_tie true same =
+        subst (λ (c : Cap). kind_of m2 c.object ≡ Some (kind_of_detail c.detail)) (same_Some (new_cap m.next of) cap same)
+        (ap (option_map kind_of_object) here ∙ ap (λ k. Some k) (new_kind of bits at))
+
+  bare : (q : ObjId) → object_of m3 q ≡ None → IsBare m3 q
+  bare q gone =
+      let before = made.held.bare q (sym (same_objects.objects q) ∙ gone) in
+      let apart : q ≢ slot.holder = λ same.
+      let node = kind_there m2 slot.holder kind.CNode mine.is_node in
+      none-some node.0 (sym gone ∙ same_objects.objects q ∙ ap (object_of m2) same ∙ node.1) in
+      record {
+        queue = same_objects.queues q ∙ before.queue;
+        words = same_objects.words q ∙ before.words;
+        slots = λ index. elsewhere q index apart ∙ before.slots index;
+      }
+    where
+      elsewhere :
+          (i : ObjId) (index : ℕ) → i ≢ slot.holder
+          → cap_of m3 (record { holder = i; index = index }) ≡ cap_of m2 (record { holder = i; index = index })
+      elsewhere i index apart =
+          cap_now (record { holder = i; index = index })
+          ∙ ap (λ tie. if tie then Some (new_cap m.next of) else cap_of m2 (record { holder = i; index = index }))
+          (apart_slots (record { holder = i; index = index }) slot apart)
+
+  fit : SlotsFit t allowed a m2 m3
+  fit = record {
+    same = same_objects;
+    caps = caps;
+    pairs = pairs;
+    slots = λ i. elim (one_or_two i slot.holder) [
+      | inl same ↦ inr (subst (λ (n : ObjId). IsControlled t allowed m2 a n) (sym same) mine)
+      | inr apart ↦ inl (λ index.
+          cap_now (record { holder = i; index = index })
+          ∙ ap (λ tie. if tie then Some (new_cap m.next of) else cap_of m2 (record { holder = i; index = index }))
+          (apart_slots (record { holder = i; index = index }) slot apart))
+    ];
+    kinds = kinds;
+    bare = bare;
+  }
+
+  pub make_keeps : Keeps t allowed began event a m (with_made m source of bits slot)
+  unfolding with_made
+  make_keeps = keeps_keeps t allowed began event a m m2 m3 held made (slots_keep t allowed began event a m2 m3 made.held fit)

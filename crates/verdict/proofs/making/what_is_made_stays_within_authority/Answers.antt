@@ -1,0 +1,40 @@
+-- By what a made retype keeps.
+use Rattle.std.proofs.Common.{◌≡◌, ℕ, Some, Ok}
+use Rattle.base.specs.declared.ids.ObjId.{ObjId}
+use Rattle.machine.specs.declared.call.Call.TheVariants.{Signal}
+use Rattle.machine.specs.declared.call.Event.{Event}
+use Rattle.machine.specs.declared.call.Made.{Made}
+use Rattle.machine.specs.declared.object.MemoryKind.{MemoryKind}
+use Rattle.machine.specs.Authority.{label_of}
+use Rattle.machine.specs.Layout.{Layout}
+use Rattle.machine.specs.Machine.{Machine}
+use Rattle.machine.specs.Step.Retype.{retype_of}
+use Rattle.machine.proofs.RetypeRow.{retype_done}
+use Rattle.policy.specs.Closed.{IsClosed}
+use Rattle.policy.specs.Domain.{EdgeTest}
+use Rattle.verdict.specs.Invariant.{IsSound}
+use Rattle.verdict.proofs.Keeps.{Keeps}
+use Rattle.verdict.proofs.RetypeKeeps.{retype_keeps}
+use Rattle.verdict.proofs.making.what_is_made_stays_within_authority.Goals as goal
+
+-- some event of the thread; what is kept beside budgets doesn't hang on it
+abbrev some_event : ObjId → Event
+some_event caller = record { core = 0; thread = caller; call = Signal 0 }
+
+keeps :
+    (t : Layout) (allowed : EdgeTest) (a : ℕ) (m next : Machine) (caller : ObjId) (untyped : ℕ) (of : MemoryKind)
+    (bits to offset count : ℕ) (made : Made) → IsSound t allowed m → IsClosed allowed → label_of t m caller ≡ Some a
+    → retype_of m caller untyped of bits to offset count ≡ Ok (made, next) → Keeps t allowed m (some_event caller) a m next
+keeps t allowed a m next caller untyped of bits to offset count made sound closed labelled e =
+    retype_keeps t allowed (some_event caller) a m sound closed caller labelled untyped of bits to offset count next
+    (retype_done m caller untyped of bits to offset count made next e)
+
+pub returns : goal.returns
+returns c = record {
+  confined = λ t allowed a m next caller untyped of bits to offset count made sound closed labelled e.
+      (keeps t allowed a m next caller untyped of bits to offset count made sound closed labelled e).held.confined;
+  labelled = λ t allowed a m next caller untyped of bits to offset count made sound closed labelled e.
+      (keeps t allowed a m next caller untyped of bits to offset count made sound closed labelled e).held.of_table;
+  changes = λ t allowed a m next caller untyped of bits to offset count made sound closed labelled e.
+      (keeps t allowed a m next caller untyped of bits to offset count made sound closed labelled e).acts;
+}
