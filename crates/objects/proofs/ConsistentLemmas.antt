@@ -1,8 +1,9 @@
 -- What is true of each state stays true under each change, and what contracts see of the state after it.
-use Rattle.std.proofs.Common.{◌≡◌, ℕ, ◌+◌, ◌<◌, ◌^◌, ◌≢◌, List, [], ◌∷◌, ◌++◌, Bool, true, false, cond, length, refl, sym, ap}
-use Rattle.std.proofs.Common.{subst, ◌∙◌, arith, inl, inr}
+use Rattle.std.proofs.Common.{◌≡◌, ℕ, ◌+◌, ◌<◌, ◌^◌, ◌≤◌, ◌≢◌, List, [], ◌∷◌, ◌++◌, Bool, true, false, cond, length, refl, sym, ap}
+use Rattle.std.proofs.Common.{map, subst, ◌∙◌, arith, inl, inr}
 use Rattle.std.specs.Prelude.{Option, Some, None, is_some, IsSome, IfSome, option_map}
 use Rattle.std.specs.Prelude.{option_and_then, slice_get, IsTrue}
+use Rattle.std.specs.List.{fold, AllByRecursion}
 use Rattle.std.proofs.lemmas.Bool.{false≢true, ltb-true}
 use Rattle.std.proofs.lemmas.Option.{same_Some}
 use Rattle.std.proofs.lemmas.List.{length-replicate}
@@ -22,7 +23,7 @@ use Rattle.objects.specs.declared.state.State.TheInside.{Inside}
 use Rattle.machine.specs.Changes.{first_waiting, with_waiting, without_first}
 use Rattle.objects.specs.Entries.{Entries, entry_of, slot_at, with_entry, replace_in}
 use Rattle.std.specs.FinMap as finite
-use Rattle.objects.specs.Entries.{empty_slot, new_entry}
+use Rattle.objects.specs.Entries.{empty_slot, new_entry, with_more}
 use Rattle.objects.specs.Family.{cap_in, links_of, AreKin}
 use Rattle.objects.specs.Links.{ends_of, standing_of, queue_in, AreQueued, pushed, left, popped}
 use Rattle.objects.specs.Queues.{walk, AreQueues}
@@ -329,6 +330,43 @@ module _ (s : Inside) (consistent : IsConsistent s) (object : Object) where
       (rw (next-machine_of s) vacant)
       (rw (next-machine_of s) (new_queues (entry_of s.store) with_it s.next id object vacant added consistent.queued)))
       (next-machine_of (with_added s object) ∙ sym (next-with_new (machine_of s) object ∙ ap (λ n. n + 1) (next-machine_of s)))
+
+-- objects are added one after another
+
+abbrev with_all_added : Inside → List Object → Inside
+with_all_added s [] = s
+with_all_added s (object ∷ objects) = with_all_added (with_added s object) objects
+
+-- all of them are the next entries
+with_all_is :
+    (s : Inside) (objects : List Object) (next : ℕ) → next ≡ s.next + length objects
+    → record { store = with_more s.store s.next (map new_entry objects); next = next } ≡ with_all_added s objects
+with_all_is s [] next same = ap (λ n. record s { next = n }) (let ends : next ≡ s.next = omega (arith, same) in ends)
+with_all_is s (object ∷ objects) next same =
+    with_all_is (with_added s object) objects next (omega (arith, same))
+
+all_added :
+    (s : Inside) → IsConsistent s → (objects : List Object) → s.next + length objects ≤ 2 ^ 48
+    → AllByRecursion HasRadix objects
+    → IsConsistent (with_all_added s objects) × (machine_of (with_all_added s objects) ≡ fold with_new (machine_of s) objects)
+all_added s consistent [] room radices = (consistent, refl)
+all_added s consistent (object ∷ objects) room radices =
+    let rest =
+    all_added (with_added s object) (IsConsistent-added s consistent object (omega arith) radices.0) objects (omega arith)
+    radices.1 in
+    (rest.0, rest.1 ∙ ap (λ m. fold with_new m objects) (added_gives s consistent object))
+
+module _ (s : Inside) (consistent : IsConsistent s) (objects : List Object) (room : s.next + length objects ≤ 2 ^ 48)
+    (radices : AllByRecursion HasRadix objects) where
+  abbrev after : Inside
+  after = record { store = with_more s.store s.next (map new_entry objects); next = s.next + length objects }
+
+  pub IsConsistent-all_added : IsConsistent after
+  IsConsistent-all_added =
+      subst IsConsistent (sym (with_all_is s objects _ refl)) (all_added s consistent objects room radices).0
+
+  pub all_added_gives : machine_of after ≡ fold with_new (machine_of s) objects
+  all_added_gives = ap machine_of (with_all_is s objects _ refl) ∙ (all_added s consistent objects room radices).1
 
 -- each object that the machine has is an entry's, so a CNode has a radix
 

@@ -1,5 +1,5 @@
 -- The entry of each object, what it says, and what the entries are after a change to one.
-use Rattle.std.specs.Prelude.{ℕ, Option, None, option_map, option_and_then, slice_get, replicate}
+use Rattle.std.specs.Prelude.{ℕ, ◌+◌, List, [], ◌∷◌, Option, None, option_map, option_and_then, slice_get, replicate}
 use Rattle.std.specs.FinMap as map
 use Rattle.std.specs.FinMap.{FinMap}
 use Rattle.base.specs.declared.ids.ObjId.{ObjId}
@@ -54,6 +54,11 @@ new_entry object =
       standing = record { at = None; previous = None; next = None };
       words = replicate (word_count object) 0;
     }
+
+-- the entries with more, under one number after another
+abbrev pub with_more : Entries → ℕ → List Entry → Entries
+with_more entries number [] = entries
+with_more entries number (entry ∷ more) = with_more (map.insert entries (record { 0 = number }) entry) (number + 1) more
 
 -- a slot, if it is there
 abbrev pub slot_at : (ObjId → Option Entry) → SlotRef → Option Slot

@@ -1,5 +1,5 @@
 -- Where the entry of an object is kept: a map from numbers to places, and the entries at these.
-use Rattle.std.specs.Prelude.{◌≡◌, ◌≢◌, ℕ, nat_eq, map, Option, Some, None, IsSome, option_and_then}
+use Rattle.std.specs.Prelude.{◌≡◌, ◌≢◌, ℕ, ◌≤◌, nat_eq, map, Option, Some, None, IsSome, option_and_then}
 use Rattle.std.specs.HashMap as hash
 use Rattle.std.specs.HashMap.{HashMap}
 use Rattle.slab.specs.Slab as slab
@@ -54,3 +54,7 @@ pub record AddsEntry (places places' : ℕ → Option ℕ) (entries entries' : S
 pub record SameEntries (places places' : ℕ → Option ℕ) (entries entries' : Slab Entry) : Type 0 where
   pub placed : (number : ℕ) → places' number ≡ places number
   pub kept : (place : ℕ) → slab.get entries' place ≡ slab.get entries place
+
+-- so many more entries can be added without memory
+abbrev pub HasRoom : {S : Type 0} → HashMap ℕ ℕ S → Slab Entry → ℕ → Type 0
+HasRoom places entries count = (count ≤ hash.spare places) × slab.HasRoomFor entries count

@@ -1,9 +1,13 @@
+ghost use Rattle.std.specs.Prelude.{◌≡◌, map, IfOk, OnOk};
+ghost use Rattle.std.specs.List.{AllByRecursion};
+ghost use Rattle.objects.specs.Entries.{new_entry};
 ghost use Rattle.objects.specs.Radices.{HasRadix};
 
 use crate::links::{Ends, Standing};
 use crate::slots::Slots;
 use crate::words::Words;
 use machine::Object;
+use std::alloc::{AllocError, Global};
 
 /// An object with all that belongs to it.
 #[derive(Drop)]
@@ -15,6 +19,32 @@ pub struct Entry {
     /// Where it waits, if it is a thread that does.
     pub standing: Standing,
     pub words: Words,
+}
+
+// The entry of a new object.
+fn new_entry(alloc: Global, object: Object) -> Result<Entry, AllocError>
+    ensures { IfOk result (λ entry. entry ≡ new_entry object) }
+{
+    Ok(Entry {
+        object,
+        slots: Slots::empty(alloc, object.slot_count())?,
+        ends: Ends::NOBODY,
+        standing: Standing::NOWHERE,
+        words: Words::zeros(alloc, object.word_count())?,
+    })
+}
+
+/// The entries of new objects.
+pub fn new_entries(alloc: Global, objects: &[Object]) -> Result<Vec<Entry>, AllocError>
+    ensures made { IfOk result (λ made. made.items ≡ map new_entry objects.now) }
+    ensures radices { OnOk result (AllByRecursion HasRadix objects.now) }
+{
+    let mut made = Vec::new(alloc);
+    for object in objects {
+        cnode_takes_bits(object);
+        made.push(new_entry(alloc, *object)?)?;
+    }
+    Ok(made)
 }
 
 /// A CNode takes 1 to 12 bits of an address, as the type of its radix says.

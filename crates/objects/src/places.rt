@@ -1,16 +1,15 @@
 //! Where the entry of an object is kept: a hash map from numbers to places, and the entries at these.
-ghost use Rattle.std.specs.Prelude.{◌≡◌, option_copied, OnOk, OnErr};
-ghost use Rattle.objects.specs.Entries.{set_slot_in, replace_in, new_entry, set_ends_in, set_standing_in};
-ghost use Rattle.objects.specs.Places.{places_in, placed, with_placed, AddsEntry, SameEntries};
+ghost use Rattle.std.specs.Prelude.{◌≡◌, ◌+◌, ℕ, option_copied, OnOk};
+ghost use Rattle.objects.specs.Entries.{set_slot_in, replace_in, set_ends_in, set_standing_in};
+ghost use Rattle.objects.specs.Places.{places_in, placed, with_placed, AddsEntry, SameEntries, HasRoom};
 
 use crate::entry::Entry;
 use crate::links::{Ends, Standing};
-use crate::slots::{Slot, Slots};
-use crate::words::Words;
+use crate::slots::Slot;
 use base::{ObjId, SlotRef};
 use machine::Object;
 use slab::Slab;
-use std::alloc::{AllocError, Global};
+use std::alloc::AllocError;
 use std::collections::HashMap;
 
 /// The object's entry.
@@ -74,29 +73,33 @@ pub fn set_standing(
     }
 }
 
-/// Adds the entry of a new object under a number that is not in use.
+/// Makes room for so many more entries.
 ///
-/// On an error no entry has changed.
-pub fn add(
-    alloc: Global,
+/// No entry has changed, even on an error.
+pub fn reserve(
+    places: &mut HashMap<u64, usize>,
+    entries: &mut Slab<Entry>,
+    count: usize,
+) -> Result<(), AllocError>
+    ensures same { SameEntries (places_in places.old) (places_in places.new) entries.old entries.new }
+    ensures room { OnOk result (HasRoom places.new entries.new count) }
+{
+    places.reserve(count)?;
+    entries.reserve(count)
+}
+
+/// Adds an entry under a number that is not in use. There is room for it.
+pub fn add_reserved(
     places: &mut HashMap<u64, usize>,
     entries: &mut Slab<Entry>,
     number: u64,
-    object: Object,
-) -> Result<(), AllocError>
-    ensures ok { OnOk result (AddsEntry (places_in places.old) (places_in places.new) entries.old entries.new number (new_entry object)) }
-    ensures err { OnErr result (SameEntries (places_in places.old) (places_in places.new) entries.old entries.new) }
+    entry: Entry,
+)
+    requires { HasRoom places.old entries.old 1 }
+    ensures added { AddsEntry (places_in places.old) (places_in places.new) entries.old entries.new number entry }
+    ensures room { (more : ℕ) → HasRoom places.old entries.old (more + 1) → HasRoom places.new entries.new more }
 {
-    let entry = Entry {
-        object,
-        slots: Slots::empty(alloc, object.slot_count())?,
-        ends: Ends::NOBODY,
-        standing: Standing::NOWHERE,
-        words: Words::zeros(alloc, object.word_count())?,
-    };
-    entries.reserve(1)?;
-    let place = entries.vacant_key();
-    places.insert(number, place)?;
-    entries.insert_reserved(entry);
-    Ok(())
+    let place = entries.insert_reserved(entry);
+    let inserted: Result<_, _> = places.insert(number, place);
+    inserted.unwrap();
 }

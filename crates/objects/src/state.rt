@@ -38,8 +38,9 @@ impl State {
     ghost use Rattle.base.specs.declared.limits.TheConstants.{MAX_RADIX, OBJECT_NUMBERS};
     ghost use Rattle.machine.specs.declared.object.CNode.{CNode};
     ghost use Rattle.machine.specs.declared.object.Object.TheVariants as o;
-    ghost use Rattle.std.specs.Prelude.{◌≡◌, ◌≢◌, ◌<◌, ◌≤◌, IsTrue, IfOk, OnErr, OnOk, option_copied};
+    ghost use Rattle.std.specs.Prelude.{◌≡◌, ◌≢◌, ◌+◌, ◌<◌, ◌≤◌, length, IsTrue, IfOk, OnErr, OnOk, option_copied};
     ghost use Rattle.std.specs.Prelude.{Some, None, IsSome, IfSome, IfNone};
+    ghost use Rattle.std.specs.List.{fold};
     ghost use Rattle.machine.specs.Machine.{empty_machine, object_of, cap_of, parent_of, has_slot, with_new, with_cap};
     ghost use Rattle.machine.specs.Machine.{with_parent, with_object, without_cap, without_parent};
     ghost use Rattle.machine.specs.Tree.{IsAlone, IsRanked};
@@ -124,11 +125,22 @@ impl State {
         ensures numbered { IfOk result (λ id. id ≡ record { 0 = self.old.next }) }
         ensures err { OnErr result (self.new ≡ self.old) }
     {
-        cnode_takes_bits(&object);
-        let number = self.next;
-        self.store.add(number, object)?;
-        self.next += 1;
+        let number = self.next_id();
+        self.add_objects(&[object])?;
         Ok(ObjId(number))
+    }
+
+    /// Adds objects as [`State::add_object`] does, one after another.
+    ///
+    /// Fails where memory runs out, and then adds none.
+    pub fn add_objects(&mut self, objects: &[Object]) -> Result<(), AllocError>
+        requires { self.old.next + length objects.now ≤ OBJECT_NUMBERS }
+        ensures ok { OnOk result (self.new ≡ fold with_new self.old objects.now) }
+        ensures err { OnErr result (self.new ≡ self.old) }
+    {
+        self.store.add_all(self.next, objects)?;
+        self.next += objects.len() as u64;
+        Ok(())
     }
 
     /// Puts a capability into a slot, in place of what is there.

@@ -2,7 +2,7 @@
 ghost use Rattle.std.specs.Prelude.{◌≡◌, None, Some, option_copied, option_map, option_and_then, OnOk, OnErr};
 ghost use Rattle.objects.specs.Family.{head_of};
 
-use crate::entry::Entry;
+use crate::entry::{Entry, new_entries};
 use crate::links::{Ends, Standing, TreeLinks};
 use crate::places;
 use crate::slots::Slot;
@@ -45,9 +45,13 @@ impl Model for Store {
 impl Store {
     ghost use Rattle.std.specs.FinMap as finite;
     ghost use Rattle.objects.specs.Entries.{entry_of, slot_at, with_entry, set_slot_in, replace_in};
-    ghost use Rattle.objects.specs.Entries.{new_entry, set_ends_in, set_standing_in};
+    ghost use Rattle.objects.specs.Entries.{new_entry, with_more, set_ends_in, set_standing_in};
     ghost use Rattle.objects.specs.Family.{cap_in, parent_in, links_at, with_slot, with_links, attached, leaving, detached};
     ghost use Rattle.objects.specs.Links.{standing_of, with_standing, pushed, popped};
+    ghost use Rattle.objects.specs.Radices.{HasRadix};
+    ghost use Rattle.base.specs.declared.limits.TheConstants.{OBJECT_NUMBERS};
+    ghost use Rattle.std.specs.Prelude.{◌+◌, ◌≤◌, length, map};
+    ghost use Rattle.std.specs.List.{AllByRecursion};
 
     /// No entries.
     pub fn new(alloc: Global) -> Store
@@ -324,18 +328,21 @@ impl Store {
         Some(first)
     }
 
-    /// Adds the entry of a new object under a number that is not in use.
-    pub fn add(&mut self, number: u64, object: Object) -> Result<(), AllocError>
-        ensures ok { OnOk result (self.new ≡ finite.insert self.old (record { 0 = number }) (new_entry object)) }
+    /// Adds the entries of new objects under one number after another, from a first on that none in
+    /// use reaches.
+    pub fn add_all(&mut self, first: u64, objects: &[Object]) -> Result<(), AllocError>
+        requires { first + length objects.now ≤ OBJECT_NUMBERS }
+        ensures ok { OnOk result (self.new ≡ with_more self.old first (map new_entry objects.now)) }
+        ensures radices { OnOk result (AllByRecursion HasRadix objects.now) }
         ensures err { OnErr result (self.new ≡ self.old) }
     {
-        places::add(
-            self.alloc,
-            &mut self.places,
-            &mut self.entries,
-            number,
-            object,
-        )?;
+        let made = new_entries(self.alloc, objects)?;
+        places::reserve(&mut self.places, &mut self.entries, made.len())?;
+        let mut number = first;
+        for entry in made {
+            places::add_reserved(&mut self.places, &mut self.entries, number, entry);
+            number += 1;
+        }
         Ok(())
     }
 }

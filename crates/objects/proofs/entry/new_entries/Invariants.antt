@@ -1,0 +1,11 @@
+use Rattle.std.proofs.Common.{◌≡◌, map, take}
+use Rattle.std.specs.List.{AllByRecursion}
+use Rattle.objects.specs.Entries.{new_entry}
+use Rattle.objects.specs.Radices.{HasRadix}
+use Rattle.objects.proofs.entry.new_entries.Given as goal
+
+-- the entries so far are made
+abbrev pub invariant-loop-object : goal.invariant-loop-object
+invariant-loop-object l =
+    let before = take l.object-index l.objects in
+    (l.made.items ≡ map new_entry before) × AllByRecursion HasRadix before
