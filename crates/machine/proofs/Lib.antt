@@ -41,3 +41,4 @@ pub mod GoneLemmas
 pub mod OrphanLemmas
 pub mod RemovalLooks
 pub mod RemovalTable
+pub mod RemovalRows

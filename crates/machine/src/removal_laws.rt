@@ -1,14 +1,16 @@
-ghost use Rattle.std.specs.Prelude.{◌≡◌, Bool, true, false, List, Contains, Some, None, if◌then◌else◌};
+ghost use Rattle.std.specs.Prelude.{◌≡◌, Bool, true, false, List, Contains, Some, None, Ok, if◌then◌else◌};
 ghost use Rattle.std.specs.Bool.{Decides};
 ghost use Rattle.base.specs.declared.ids.ObjId.{ObjId as Id};
 ghost use Rattle.base.specs.declared.ids.SlotRef.{SlotRef as Slot};
 ghost use Rattle.machine.specs.Below.{is_below};
 ghost use Rattle.machine.specs.Gone.{IsGone, IsLeastSet, LosesAll, gone_of};
+ghost use Rattle.machine.specs.declared.call.Made.{Made as Comes};
 ghost use Rattle.machine.specs.declared.object.Context.{Context as Bound};
 ghost use Rattle.machine.specs.declared.object.Object.{Object as Thing};
 ghost use Rattle.machine.specs.declared.object.Object.TheVariants as o;
 ghost use Rattle.machine.specs.declared.object.Reply.{Reply as Holding};
 ghost use Rattle.machine.specs.declared.object.ReplyState.TheVariants as reply;
+ghost use Rattle.machine.specs.declared.slot_address.SlotAddress.{SlotAddress as Place};
 ghost use Rattle.machine.specs.declared.thread.Tcb.{Tcb as Thread};
 ghost use Rattle.machine.specs.Finalising.{
   IsHolding,
@@ -39,11 +41,26 @@ ghost use Rattle.machine.specs.Removal.{
   vanishes,
   words_after,
 };
+ghost use Rattle.machine.specs.Step.Delete.{delete_of};
+ghost use Rattle.machine.specs.Step.Revoke.{revoke_of};
+ghost use Rattle.machine.specs.Step.Target.{target_of};
 ghost use Rattle.machine.specs.WellFormed.{Descends, IsThread, IsWellFormed};
 
 /// A law: the test whether a slot descends from another decides it, in every machine.
 pub fn descending_is_decided()
     ensures { (m : Machine) (above slot : Slot) → Decides (is_below m above slot) (Descends m slot above) }
+{}
+
+/// A law: the slot that a delete names is empty once it is made, and from the slot that a revoke names
+/// nothing descends.
+pub fn deletes_and_revokes_leave_nothing()
+    ensures delete { (m : Machine) (caller : Id) (address : Place) (made : Comes) (next : Machine)
+        → delete_of m caller address ≡ Ok (made, next)
+        → (slot : Slot) × (target_of m caller address ≡ Ok slot) × (cap_of next slot ≡ None) }
+    ensures revoke { (m : Machine) (caller : Id) (address : Place) (made : Comes) (next : Machine)
+        → IsWellFormed m
+        → revoke_of m caller address ≡ Ok (made, next)
+        → (slot : Slot) × (target_of m caller address ≡ Ok slot) × ((below : Slot) → ¬ (Descends next below slot)) }
 {}
 
 /// A law: the slots that go where some are chosen are the least set that holds these and, whenever it
