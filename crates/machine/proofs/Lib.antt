@@ -40,3 +40,5 @@ pub mod BelowLemmas
 pub mod GoneLemmas
 pub mod OrphanLemmas
 pub mod RemovalLooks
+pub mod RemovalTable
+pub mod RemovalRows

@@ -88,7 +88,7 @@ module _ (parent : SlotRef → Option SlotRef) (apart : (gone : SlotRef → Bool
   all_raised (node ∷ nodes) = one_more nodes node (all_raised nodes)
 
 -- a way up a tree
-climbed :
+pub climbed :
     (m : Machine) (gone : SlotRef → Bool) (low : SlotRef) {from : Option SlotRef} {to : SlotRef}
     → Nearest (parent_of m) gone from (Some to) → parent_of m low ≡ from → Descends m low to
 climbed m gone low (survives is) e = child e

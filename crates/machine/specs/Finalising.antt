@@ -1,7 +1,7 @@
 -- What becomes of the objects that stay where others vanish: who waits for one is aborted or halted, and links to it are cut (seL4
 -- manual, "Endpoints", "Notifications", "Scheduling Contexts"; that who is reached in both ways is halted is confine's own). All is
 -- read off the machine as it was, so that no order shows.
-use Rattle.std.specs.Prelude.{Bool, true, false, not, ◌||◌, List, filter, Option, Some, None, if◌then◌else◌}
+use Rattle.std.specs.Prelude.{◌≡◌, Bool, true, false, not, ◌||◌, List, filter, Option, Some, None, if◌then◌else◌}
 use Rattle.base.specs.declared.ids.ObjId.{ObjId}
 use Rattle.machine.specs.declared.object.Object.{Object}
 use Rattle.machine.specs.declared.object.Object.TheVariants as o
@@ -61,11 +61,24 @@ is_released vanished _ = false
 abbrev pub leaves : Machine → (ObjId → Bool) → ObjId → Bool
 leaves m vanished thread = vanished thread || is_released vanished (object_of m thread)
 
+-- whether a reply waits with a thread, or has been called by it
+abbrev pub IsHolding : ReplyState → ObjId → Type 0
+IsHolding (reply.Waiting held) thread = held ≡ thread
+IsHolding (reply.Called held) thread = held ≡ thread
+IsHolding reply.Free thread = ⊥
+
 -- a reply that stays
 abbrev pub reply_after : Machine → (ObjId → Bool) → ReplyState → ReplyState
 reply_after m vanished (reply.Waiting thread) = if leaves m vanished thread then reply.Free else reply.Waiting thread
 reply_after m vanished (reply.Called thread) = if leaves m vanished thread then reply.Free else reply.Called thread
 reply_after m vanished reply.Free = reply.Free
+
+-- whether an object of its kind may have links to others
+abbrev pub has_links : Object → Bool
+has_links (o.Tcb _) = true
+has_links (o.Reply _) = true
+has_links (o.Context _) = true
+has_links _ = false
 
 -- an object that stays
 abbrev pub finalised : Machine → (ObjId → Bool) → Object → Object

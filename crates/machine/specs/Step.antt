@@ -29,6 +29,8 @@ pub mod Copy
 pub mod Mint
 pub mod Move
 pub mod Retype
+pub mod Delete
+pub mod Revoke
 use Rattle.machine.specs.Step.Signal.{signal_of}
 use Rattle.machine.specs.Step.Poll.{poll_of}
 use Rattle.machine.specs.Step.Wait.{wait_of}

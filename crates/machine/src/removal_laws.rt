@@ -1,9 +1,28 @@
-ghost use Rattle.std.specs.Prelude.{◌≡◌, Bool, true, false, None};
+ghost use Rattle.std.specs.Prelude.{◌≡◌, Bool, true, false, List, Contains, Some, None, Ok, if◌then◌else◌};
 ghost use Rattle.std.specs.Bool.{Decides};
 ghost use Rattle.base.specs.declared.ids.ObjId.{ObjId as Id};
 ghost use Rattle.base.specs.declared.ids.SlotRef.{SlotRef as Slot};
 ghost use Rattle.machine.specs.Below.{is_below};
 ghost use Rattle.machine.specs.Gone.{IsGone, IsLeastSet, LosesAll, gone_of};
+ghost use Rattle.machine.specs.declared.call.Made.{Made as Comes};
+ghost use Rattle.machine.specs.declared.object.Context.{Context as Bound};
+ghost use Rattle.machine.specs.declared.object.Object.{Object as Thing};
+ghost use Rattle.machine.specs.declared.object.Object.TheVariants as o;
+ghost use Rattle.machine.specs.declared.object.Reply.{Reply as Holding};
+ghost use Rattle.machine.specs.declared.object.ReplyState.TheVariants as reply;
+ghost use Rattle.machine.specs.declared.slot_address.SlotAddress.{SlotAddress as Place};
+ghost use Rattle.machine.specs.declared.thread.Tcb.{Tcb as Thread};
+ghost use Rattle.machine.specs.Finalising.{
+  IsHolding,
+  aborted,
+  halted,
+  has_links,
+  is_aborted,
+  is_halted,
+  leads_nowhere,
+  leaves,
+  unbound,
+};
 ghost use Rattle.machine.specs.Machine.{
   Machine,
   cap_of,
@@ -22,11 +41,26 @@ ghost use Rattle.machine.specs.Removal.{
   vanishes,
   words_after,
 };
-ghost use Rattle.machine.specs.WellFormed.{Descends};
+ghost use Rattle.machine.specs.Step.Delete.{delete_of};
+ghost use Rattle.machine.specs.Step.Revoke.{revoke_of};
+ghost use Rattle.machine.specs.Step.Target.{target_of};
+ghost use Rattle.machine.specs.WellFormed.{Descends, IsThread, IsWellFormed};
 
 /// A law: the test whether a slot descends from another decides it, in every machine.
 pub fn descending_is_decided()
     ensures { (m : Machine) (above slot : Slot) → Decides (is_below m above slot) (Descends m slot above) }
+{}
+
+/// A law: the slot that a delete names is empty once it is made, and from the slot that a revoke names
+/// nothing descends.
+pub fn deletes_and_revokes_leave_nothing()
+    ensures delete { (m : Machine) (caller : Id) (address : Place) (made : Comes) (next : Machine)
+        → delete_of m caller address ≡ Ok (made, next)
+        → (slot : Slot) × (target_of m caller address ≡ Ok slot) × (cap_of next slot ≡ None) }
+    ensures revoke { (m : Machine) (caller : Id) (address : Place) (made : Comes) (next : Machine)
+        → IsWellFormed m
+        → revoke_of m caller address ≡ Ok (made, next)
+        → (slot : Slot) × (target_of m caller address ≡ Ok slot) × ((below : Slot) → ¬ (Descends next below slot)) }
 {}
 
 /// A law: the slots that go where some are chosen are the least set that holds these and, whenever it
@@ -59,4 +93,73 @@ pub fn a_removal_is_told_by_its_look_ups()
     ensures caps { (m : Machine) (chosen : Slot → Bool) (slot : Slot) → cap_of (removed m chosen) slot ≡ cap_after m (gone_of m chosen) slot }
     ensures parents { (m : Machine) (chosen : Slot → Bool) (slot : Slot) → parent_of (removed m chosen) slot ≡ parent_after m (gone_of m chosen) slot }
     ensures next { (m : Machine) (chosen : Slot → Bool) → (removed m chosen).next ≡ m.next }
+{}
+
+/// A law: what objects that vanish do to those that stay, kind by kind. A CNode, untyped memory, a
+/// frame and a control do nothing more.
+pub fn vanished_objects_are_finalised()
+    // of an endpoint or a notification: who is queued is aborted, unless it is halted
+    ensures queued { (m : Machine) (chosen : Slot → Bool)
+        → IsWellFormed m
+        → (id thread : Id) (threads : List Id) (tcb : Thread)
+        → vanishes m chosen id ≡ true
+        → queue_of m id ≡ Some threads
+        → Contains threads thread
+        → IsThread m thread tcb
+        → vanishes m chosen thread ≡ false
+        → is_halted (vanishes m chosen) tcb.state ≡ false
+        → IsThread (removed m chosen) thread (unbound (vanishes m chosen) (aborted tcb)) }
+    // of a reply: the thread that waits with it or has called it is halted
+    ensures held { (m : Machine) (chosen : Slot → Bool)
+        → IsWellFormed m
+        → (id thread : Id) (holding : Holding) (tcb : Thread)
+        → vanishes m chosen id ≡ true
+        → object_of m id ≡ Some (o.Reply holding)
+        → IsHolding holding.state thread
+        → IsThread m thread tcb
+        → vanishes m chosen thread ≡ false
+        → IsThread (removed m chosen) thread (unbound (vanishes m chosen) (halted tcb)) }
+    // of a context: its thread loses it
+    ensures context { (m : Machine) (chosen : Slot → Bool)
+        → IsWellFormed m
+        → (id thread : Id) (context : Bound) (tcb : Thread)
+        → vanishes m chosen id ≡ true
+        → object_of m id ≡ Some (o.Context context)
+        → context.thread ≡ Some thread
+        → IsThread m thread tcb
+        → vanishes m chosen thread ≡ false
+        → (after : Thread) × IsThread (removed m chosen) thread after × (after.context ≡ None) }
+    // of a thread: it is in no queue, as whoever is aborted or halted
+    ensures queues { (m : Machine) (chosen : Slot → Bool) (id thread : Id) (threads : List Id)
+        → queue_of (removed m chosen) id ≡ Some threads
+        → Contains threads thread
+        → leaves m (vanishes m chosen) thread ≡ false }
+    // its reply becomes free, as that of whoever is aborted or halted; else a reply is as it was
+    ensures replies { (m : Machine) (chosen : Slot → Bool) (id thread : Id) (holding : Holding)
+        → object_of m id ≡ Some (o.Reply holding)
+        → IsHolding holding.state thread
+        → vanishes m chosen id ≡ false
+        → object_of (removed m chosen) id
+        ≡ Some (o.Reply (record holding { state = if leaves m (vanishes m chosen) thread then reply.Free else holding.state })) }
+    // its context is unbound
+    ensures contexts { (m : Machine) (chosen : Slot → Bool) (id thread : Id) (context : Bound)
+        → object_of m id ≡ Some (o.Context context)
+        → context.thread ≡ Some thread
+        → vanishes m chosen thread ≡ true
+        → vanishes m chosen id ≡ false
+        → object_of (removed m chosen) id ≡ Some (o.Context (record context { thread = None })) }
+    // a thread that none of this reaches is as it was
+    ensures threads { (m : Machine) (chosen : Slot → Bool) (thread : Id) (tcb : Thread)
+        → IsThread m thread tcb
+        → vanishes m chosen thread ≡ false
+        → is_halted (vanishes m chosen) tcb.state ≡ false
+        → is_aborted (vanishes m chosen) tcb.state ≡ false
+        → leads_nowhere (vanishes m chosen) tcb.context ≡ false
+        → IsThread (removed m chosen) thread tcb }
+    // and so is each object of another kind
+    ensures others { (m : Machine) (chosen : Slot → Bool) (id : Id) (object : Thing)
+        → object_of m id ≡ Some object
+        → vanishes m chosen id ≡ false
+        → has_links object ≡ false
+        → object_of (removed m chosen) id ≡ Some object }
 {}
