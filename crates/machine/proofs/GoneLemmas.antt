@@ -188,3 +188,25 @@ module _ (m : Machine) (chosen : SlotRef → Bool) where
         closed = closed_beside;
         least = λ other closed slot e. within m chosen other closed (sound_beside others out_gone slot e);
       }
+
+-- an object that had a capability and doesn't lose all has one that stays
+pub one_stays :
+    (m : Machine) (set : SlotRef → Bool) (slot : SlotRef) (held : Cap) → cap_of m slot ≡ Some held
+    → loses_all m set held.object ≡ false
+    → (at : SlotRef) × (now : Cap) × (cap_of m at ≡ Some now) × (now.object ≡ held.object) × (set at ≡ false)
+one_stays m set slot held there keeps = by_stay (some_cap m (stays_for set held.object)) refl where
+  had : some_cap m (is_for held.object) ≡ true
+  had = some_cap-from m (is_for held.object) slot held there (id_itself held.object)
+
+  by_stay :
+      (b : Bool) → some_cap m (stays_for set held.object) ≡ b
+      → (at : SlotRef) × (now : Cap) × (cap_of m at ≡ Some now) × (now.object ≡ held.object) × (set at ≡ false)
+  by_stay false none =
+      absurd
+      (false≢true
+      (sym keeps ∙ ap (λ b. b && not (some_cap m (stays_for set held.object))) had ∙ ap not none))
+  by_stay true some =
+      let found : (at : SlotRef) × (now : Cap) × (cap_of m at ≡ Some now) × (stays_for set held.object at now ≡ true) =
+      some_cap-found m (stays_for set held.object) some in
+      let parts : (same_id found.1.object held.object ≡ true) × (not (set found.0) ≡ true) = both_pass _ _ found.3 in
+      (found.0, found.1, found.2, one_id found.1.object held.object parts.0, not_passes _ parts.1)

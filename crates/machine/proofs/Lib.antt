@@ -42,3 +42,6 @@ pub mod OrphanLemmas
 pub mod RemovalLooks
 pub mod RemovalTable
 pub mod RemovalRows
+pub mod RemovalStays
+pub mod RemovalSlots
+pub mod RemovalNumbers
