@@ -45,3 +45,4 @@ pub mod RemovalRows
 pub mod RemovalStays
 pub mod RemovalSlots
 pub mod RemovalNumbers
+pub mod RemovalLinks

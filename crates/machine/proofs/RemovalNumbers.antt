@@ -3,15 +3,14 @@ use Rattle.std.proofs.Common.{◌≡◌, ◌<◌, ◌≤◌, Bool, false, sym, a
 use Rattle.std.specs.Prelude.{Some}
 use Rattle.base.specs.declared.ids.ObjId.{ObjId}
 use Rattle.base.specs.declared.ids.SlotRef.{SlotRef}
-use Rattle.machine.specs.declared.cap.Cap.{Cap}
 use Rattle.machine.specs.declared.object.Object.{Object}
 use Rattle.machine.specs.declared.object.Object.TheVariants as o
 use Rattle.machine.specs.declared.object.Untyped.{Untyped}
 use Rattle.machine.specs.Finalising.{finalised}
-use Rattle.machine.specs.Machine.{Machine, object_of, cap_of}
+use Rattle.machine.specs.Machine.{Machine, object_of}
 use Rattle.machine.specs.Objects.{address_of, end_of}
 use Rattle.machine.specs.Removal.{removed, vanishes}
-use Rattle.machine.specs.WellFormed.{Descends, IsRanged, IsWellFormed, LiesIn, Meets, NumbersFit}
+use Rattle.machine.specs.WellFormed.{IsRanged, IsWellFormed, LiesIn, Meets, NumbersFit}
 use Rattle.machine.proofs.RemovalLooks.{next-removed}
 use Rattle.machine.proofs.RemovalStays.{cap_stays, cap_was, descends_now, like_finalised, object_was, untyped_was}
 

@@ -48,7 +48,7 @@ module _ (m : Machine) (chosen : SlotRef → Bool) (formed : IsWellFormed m) whe
   abbrev vanished : ObjId → Bool
   vanished = vanishes m chosen
 
-  kind_now : (id : ObjId) → vanished id ≡ false → kind_of after id ≡ kind_of m id
+  pub kind_now : (id : ObjId) → vanished id ≡ false → kind_of after id ≡ kind_of m id
   kind_now id stays = by_object (object_of m id) refl where
     by_object : (found : Option Object) → object_of m id ≡ found → kind_of after id ≡ kind_of m id
     by_object (Some object) is =
@@ -118,7 +118,7 @@ module _ (m : Machine) (chosen : SlotRef → Bool) (formed : IsWellFormed m) whe
         high_filled (child is) = formed.slots.parent_filled _ _ is
         high_filled (further is d) = high_filled d
 
-  queue_was :
+  pub queue_was :
       (id : ObjId) (threads : List ObjId) → queue_of after id ≡ Some threads
       → (old : List ObjId) × (queue_of m id ≡ Some old) × (vanished id ≡ false) × (staying_in m vanished old ≡ threads)
   queue_was id threads e = by_cases (vanished id) (queue_of m id) refl refl (sym (queue_of-removed m chosen id) ∙ e) where

@@ -24,21 +24,21 @@ use Rattle.machine.proofs.RemovalLooks.{object_of-removed, queue_of-removed}
 use Rattle.machine.proofs.RoundLemmas.{not_passes}
 
 -- a run state that waits at a vanished object is aborted, or halted
-waits_aborted :
+pub waits_aborted :
     (vanished : ObjId → Bool) (run : RunState) (id : ObjId) → WaitsAt run id → vanished id ≡ true → is_aborted vanished run ≡ true
 waits_aborted vanished (state.Sending sending) id at gone = ap vanished at ∙ gone
 waits_aborted vanished (state.Receiving receiving) id at gone = ap vanished at ∙ gone
 waits_aborted vanished (state.Waiting notification) id at gone = ap vanished at ∙ gone
 waits_aborted vanished _ id at gone = absurd at
 
-receiver_halted :
+pub receiver_halted :
     (vanished : ObjId → Bool) (run : RunState) (id : ObjId) → IsReceivingWith run id → vanished id ≡ true
     → is_halted vanished run ≡ true
 receiver_halted vanished (state.Receiving receiving) id named gone = ap (leads_nowhere vanished) named ∙ gone
 receiver_halted vanished _ id named gone = absurd named
 
 -- the threads of one number are one
-one_thread : (m : Machine) (thread : ObjId) (one other : Tcb) → IsThread m thread one → IsThread m thread other → one ≡ other
+pub one_thread : (m : Machine) (thread : ObjId) (one other : Tcb) → IsThread m thread one → IsThread m thread other → one ≡ other
 one_thread m thread one other is there = tcb_of (sym is ∙ there) where
   content : Tcb → Object → Tcb
   content otherwise (o.Tcb tcb) = tcb

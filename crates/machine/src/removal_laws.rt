@@ -44,7 +44,7 @@ ghost use Rattle.machine.specs.Removal.{
 ghost use Rattle.machine.specs.Step.Delete.{delete_of};
 ghost use Rattle.machine.specs.Step.Revoke.{revoke_of};
 ghost use Rattle.machine.specs.Step.Target.{target_of};
-ghost use Rattle.machine.specs.WellFormed.{Descends, IsThread, IsWellFormed, NumbersFit, PartsFit, SlotsFit};
+ghost use Rattle.machine.specs.WellFormed.{Descends, IsThread, IsWellFormed};
 
 /// A law: the test whether a slot descends from another decides it, in every machine.
 pub fn descending_is_decided()
@@ -164,10 +164,7 @@ pub fn vanished_objects_are_finalised()
         → object_of (removed m chosen) id ≡ Some object }
 {}
 
-/// A law: a removal from a well-formed machine keeps what slots, the parts of objects, and
-/// numbers and ranges have to keep.
-pub fn removals_keep_slots_and_numbers()
-    ensures slots { (m : Machine) (chosen : Slot → Bool) → IsWellFormed m → SlotsFit (removed m chosen) }
-    ensures parts { (m : Machine) (chosen : Slot → Bool) → IsWellFormed m → PartsFit (removed m chosen) }
-    ensures numbers { (m : Machine) (chosen : Slot → Bool) → IsWellFormed m → NumbersFit (removed m chosen) }
+/// A law: a removal keeps a well-formed machine well formed.
+pub fn removals_keep_machines_well_formed()
+    ensures { (m : Machine) (chosen : Slot → Bool) → IsWellFormed m → IsWellFormed (removed m chosen) }
 {}
