@@ -99,6 +99,16 @@ fn engine_log_after_64(rt: HostRuntime) -> Result<(), Fail> {
     logs(&rt, 64)
 }
 
+#[test]
+fn engine_log_after_59(rt: HostRuntime) -> Result<(), Fail> {
+    logs(&rt, 59)
+}
+
+#[test]
+fn engine_log_after_54(rt: HostRuntime) -> Result<(), Fail> {
+    logs(&rt, 54)
+}
+
 fn denies<R: Abort + AllocGlobal + Threads + Sync>(rt: &R, count: u64) -> Result<(), Fail> {
     answers(rt, count, TABLE, EMPTY_POLICY, 1, DENIAL)
 }

@@ -32,6 +32,16 @@ fn boot_after_80(rt: HostRuntime) -> Result<(), Fail> {
     boots(&rt, 80)
 }
 
+#[test]
+fn boot_after_75(rt: HostRuntime) -> Result<(), Fail> {
+    boots(&rt, 75)
+}
+
+#[test]
+fn boot_after_70(rt: HostRuntime) -> Result<(), Fail> {
+    boots(&rt, 70)
+}
+
 /// A run of the script's events on the boot state: one that is refused has made no step.
 fn has_run(
     rt: &impl Abort,
@@ -79,4 +89,14 @@ fn run_after_80(rt: HostRuntime) -> Result<(), Fail> {
 #[test]
 fn run_after_75(rt: HostRuntime) -> Result<(), Fail> {
     runs(&rt, 75)
+}
+
+#[test]
+fn run_after_70(rt: HostRuntime) -> Result<(), Fail> {
+    runs(&rt, 70)
+}
+
+#[test]
+fn run_after_65(rt: HostRuntime) -> Result<(), Fail> {
+    runs(&rt, 65)
 }
