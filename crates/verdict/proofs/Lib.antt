@@ -37,3 +37,5 @@ pub mod Joined
 pub mod NewKeeps
 pub mod MakeKeeps
 pub mod RetypeKeeps
+pub mod RemovalConfined
+pub mod RemovalShrinks

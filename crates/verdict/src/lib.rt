@@ -8,6 +8,7 @@ mod check;
 mod denial;
 mod laws;
 mod making;
+mod removing;
 mod safe;
 mod slots;
 
@@ -21,4 +22,5 @@ pub use laws::{
     safety_needs_agreeing_subjects, safety_needs_transitive_derivation,
 };
 pub use making::what_is_made_stays_within_authority;
+pub use removing::{removals_stay_confined, what_a_removal_changes_shrinks};
 pub use safe::accepted_systems_are_safe;

@@ -1,0 +1,31 @@
+ghost use Rattle.std.specs.Prelude.{◌≡◌, Bool, ◌⊎◌};
+ghost use Rattle.base.specs.declared.ids.ObjId.{ObjId as Id};
+ghost use Rattle.base.specs.declared.ids.SlotRef.{SlotRef as Slot};
+ghost use Rattle.machine.specs.Layout.{Layout};
+ghost use Rattle.machine.specs.Machine.{Machine};
+ghost use Rattle.machine.specs.Removal.{removed};
+ghost use Rattle.machine.specs.WellFormed.{IsWellFormed};
+ghost use Rattle.policy.specs.Closed.{IsClosed};
+ghost use Rattle.policy.specs.Domain.{EdgeTest};
+ghost use Rattle.verdict.specs.Confined.{IsConfined};
+ghost use Rattle.verdict.specs.Invariant.{IsSound};
+ghost use Rattle.verdict.specs.OfTable.{IsOfTable};
+ghost use Rattle.verdict.specs.Shrinks.{IsSame, Shrinks};
+
+/// A law: whichever slots are removed, the machine stays within a closed policy and keeps to its table.
+pub fn removals_stay_confined()
+    ensures confined { (t : Layout) (allowed : EdgeTest) (m : Machine) (chosen : Slot → Bool)
+        → IsSound t allowed m
+        → IsClosed allowed
+        → IsConfined t allowed (removed m chosen) }
+    ensures labelled { (t : Layout) (allowed : EdgeTest) (m : Machine) (chosen : Slot → Bool)
+        → IsSound t allowed m
+        → IsOfTable t (removed m chosen) }
+{}
+
+/// A law: whichever slots are removed, each object is as it was, or shrinks.
+pub fn what_a_removal_changes_shrinks()
+    ensures { (m : Machine) (chosen : Slot → Bool)
+        → IsWellFormed m
+        → (id : Id) → IsSame m (removed m chosen) id ⊎ Shrinks m (removed m chosen) id }
+{}
