@@ -39,3 +39,5 @@ pub mod MakeKeeps
 pub mod RetypeKeeps
 pub mod RemovalConfined
 pub mod RemovalShrinks
+pub mod Cascade
+pub mod RemovalCuts

@@ -22,7 +22,6 @@ use Rattle.machine.specs.WellFormed.{IsWellFormed}
 use Rattle.machine.proofs.RemovalLinks.{removed_formed}
 use Rattle.machine.proofs.RemovalLooks.{cap_of-removed, object_of-removed, queue_of-removed, words_of-removed}
 use Rattle.machine.proofs.RemovalTable.{finalised_there}
-use Rattle.verdict.specs.Invariant.{IsBare}
 use Rattle.verdict.specs.Shrinks.{HasLess, IsBlocked, IsPart, IsSame, Lessens, LosesLink, Shrinks}
 use Rattle.verdict.specs.Shrinks.Lessens.{as_it_was, released, freed, unbound as unbinds}
 use Rattle.verdict.specs.Shrinks.IsPart.{ended, stayed, left}
@@ -151,10 +150,20 @@ module _ (m : Machine) (chosen : SlotRef → Bool) where
       by_vanished true gone = inl (object_gone id gone)
       by_vanished false stays = inr (has_less id object at stays)
 
+none_either : (b : Bool) → ◌≡◌ {A = Option Object} (cond b None None) None
+none_either true = refl
+none_either false = refl
+
 -- what isn't there before isn't after
-pub absent_same :
-    (m next : Machine) (id : ObjId) → IsBare m id → IsBare next id → object_of m id ≡ None → object_of next id ≡ None → IsSame m next id
-absent_same m next id before then absent gone =
+pub absent_stays :
+    (m : Machine) (chosen : SlotRef → Bool) → IsWellFormed m → (id : ObjId) → object_of m id ≡ None → IsSame m (removed m chosen) id
+absent_stays m chosen formed id absent =
+    let gone : object_of (removed m chosen) id ≡ None =
+    object_of-removed m chosen id
+    ∙ ap (λ found. cond (vanishes m chosen id) None (option_map (finalised m (vanishes m chosen)) found)) absent
+    ∙ none_either (vanishes m chosen id) in
+    let before = bare_of m formed id absent in
+    let then = bare_of (removed m chosen) (removed_formed m chosen formed) id gone in
     record {
       content = gone ∙ sym absent;
       queue = then.queue ∙ sym before.queue;
@@ -168,12 +177,4 @@ pub same_or_shrinks :
 same_or_shrinks m chosen formed id = by_object (object_of m id) refl where
   by_object : (found : Option Object) → object_of m id ≡ found → IsSame m (removed m chosen) id ⊎ Shrinks m (removed m chosen) id
   by_object (Some object) at = inr (removed_shrinks m chosen formed id object at)
-  by_object None absent =
-      let gone : object_of (removed m chosen) id ≡ None =
-      object_of-removed m chosen id ∙ ap (λ found. cond (vanishes m chosen id) None (option_map (finalised m (vanishes m chosen)) found)) absent
-      ∙ none_either (vanishes m chosen id) in
-      inl (absent_same m (removed m chosen) id (bare_of m formed id absent) (bare_of (removed m chosen) (removed_formed m chosen formed) id gone) absent gone)
-    where
-      none_either : (b : Bool) → ◌≡◌ {A = Option Object} (cond b None None) None
-      none_either true = refl
-      none_either false = refl
+  by_object None absent = inl (absent_stays m chosen formed id absent)

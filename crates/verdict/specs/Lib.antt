@@ -11,3 +11,4 @@ pub mod OfTable
 pub mod Invariant
 pub mod Counterexamples
 pub mod Slots
+pub mod Removals

@@ -22,5 +22,7 @@ pub use laws::{
     safety_needs_agreeing_subjects, safety_needs_transitive_derivation,
 };
 pub use making::what_is_made_stays_within_authority;
-pub use removing::{removals_stay_confined, what_a_removal_changes_shrinks};
+pub use removing::{
+    a_removal_changes_what_may_be_cut, removals_stay_confined, what_a_removal_changes_shrinks,
+};
 pub use safe::accepted_systems_are_safe;

@@ -1,15 +1,18 @@
-ghost use Rattle.std.specs.Prelude.{◌≡◌, Bool, ◌⊎◌};
+ghost use Rattle.std.specs.Prelude.{◌≡◌, ℕ, Bool, ◌⊎◌, Some};
 ghost use Rattle.base.specs.declared.ids.ObjId.{ObjId as Id};
 ghost use Rattle.base.specs.declared.ids.SlotRef.{SlotRef as Slot};
+ghost use Rattle.machine.specs.Authority.{label_of};
 ghost use Rattle.machine.specs.Layout.{Layout};
 ghost use Rattle.machine.specs.Machine.{Machine};
 ghost use Rattle.machine.specs.Removal.{removed};
 ghost use Rattle.machine.specs.WellFormed.{IsWellFormed};
 ghost use Rattle.policy.specs.Closed.{IsClosed};
+ghost use Rattle.policy.specs.Cut.{IsCut};
 ghost use Rattle.policy.specs.Domain.{EdgeTest};
 ghost use Rattle.verdict.specs.Confined.{IsConfined};
 ghost use Rattle.verdict.specs.Invariant.{IsSound};
 ghost use Rattle.verdict.specs.OfTable.{IsOfTable};
+ghost use Rattle.verdict.specs.Removals.{MayRemove};
 ghost use Rattle.verdict.specs.Shrinks.{IsSame, Shrinks};
 
 /// A law: whichever slots are removed, the machine stays within a closed policy and keeps to its table.
@@ -28,4 +31,15 @@ pub fn what_a_removal_changes_shrinks()
     ensures { (m : Machine) (chosen : Slot → Bool)
         → IsWellFormed m
         → (id : Id) → IsSame m (removed m chosen) id ⊎ Shrinks m (removed m chosen) id }
+{}
+
+/// A law: where a label may remove the chosen slots' capabilities, each object is as it was, or is of a
+/// label that the label may cut.
+pub fn a_removal_changes_what_may_be_cut()
+    ensures { (t : Layout) (allowed : EdgeTest) (a : ℕ) (m : Machine) (chosen : Slot → Bool)
+        → IsSound t allowed m
+        → IsClosed allowed
+        → MayRemove t allowed a m chosen
+        → (id : Id)
+        → IsSame m (removed m chosen) id ⊎ ((label : ℕ) × (label_of t m id ≡ Some label) × IsCut allowed a label) }
 {}
