@@ -2,6 +2,7 @@
 use Rattle.std.proofs.Common.{◌≡◌, ℕ, ◌≤◌, ◌⊎◌, inl, inr, Option, Some, None, refl, sym, ap, subst, ◌∙◌, arith}
 use Rattle.std.proofs.lemmas.Option.{none-some, same_Some}
 use Rattle.base.specs.declared.ids.ObjId.{ObjId}
+use Rattle.machine.specs.declared.call.Call.TheVariants.{Signal}
 use Rattle.machine.specs.declared.call.Event.{Event}
 use Rattle.machine.specs.declared.object.Context.{Context}
 use Rattle.machine.specs.declared.object.Object.{Object}
@@ -38,6 +39,10 @@ pub record Keeps (t : Layout) (allowed : EdgeTest) (began : Machine) (event : Ev
   pub budgets :
       (id : ObjId) (old new : Context) → object_of m id ≡ Some (o.Context old) → object_of next id ≡ Some (o.Context new)
       → (new.share ≡ old.share) ⊎ MayConfigure t allowed began event id
+
+-- some event of a thread, for what is kept and doesn't hang on the event
+abbrev pub some_event : ObjId → Event
+some_event thread = record { core = 0; thread = thread; call = Signal 0 }
 
 context_by_kind : (object : Object) → kind_of_object object ≡ kind.Context → (context : Context) × (object ≡ o.Context context)
 context_by_kind (o.Context context) is = (context, refl)

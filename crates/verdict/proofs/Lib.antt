@@ -41,3 +41,4 @@ pub mod RemovalConfined
 pub mod RemovalShrinks
 pub mod Cascade
 pub mod RemovalCuts
+pub mod RemovalKeeps

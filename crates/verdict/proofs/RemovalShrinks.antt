@@ -155,13 +155,16 @@ none_either true = refl
 none_either false = refl
 
 -- what isn't there before isn't after
+pub absent_after : (m : Machine) (chosen : SlotRef → Bool) (id : ObjId) → object_of m id ≡ None → object_of (removed m chosen) id ≡ None
+absent_after m chosen id absent =
+    object_of-removed m chosen id
+    ∙ ap (λ found. cond (vanishes m chosen id) None (option_map (finalised m (vanishes m chosen)) found)) absent
+    ∙ none_either (vanishes m chosen id)
+
 pub absent_stays :
     (m : Machine) (chosen : SlotRef → Bool) → IsWellFormed m → (id : ObjId) → object_of m id ≡ None → IsSame m (removed m chosen) id
 absent_stays m chosen formed id absent =
-    let gone : object_of (removed m chosen) id ≡ None =
-    object_of-removed m chosen id
-    ∙ ap (λ found. cond (vanishes m chosen id) None (option_map (finalised m (vanishes m chosen)) found)) absent
-    ∙ none_either (vanishes m chosen id) in
+    let gone = absent_after m chosen id absent in
     let before = bare_of m formed id absent in
     let then = bare_of (removed m chosen) (removed_formed m chosen formed) id gone in
     record {

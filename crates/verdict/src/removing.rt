@@ -1,14 +1,17 @@
-ghost use Rattle.std.specs.Prelude.{◌≡◌, ℕ, Bool, ◌⊎◌, Some};
+ghost use Rattle.std.specs.Prelude.{◌≡◌, ℕ, Bool, ◌⊎◌, Some, None};
 ghost use Rattle.base.specs.declared.ids.ObjId.{ObjId as Id};
 ghost use Rattle.base.specs.declared.ids.SlotRef.{SlotRef as Slot};
+ghost use Rattle.machine.specs.declared.object.Context.{Context as Bound};
+ghost use Rattle.machine.specs.declared.object.Object.TheVariants as o;
 ghost use Rattle.machine.specs.Authority.{label_of};
 ghost use Rattle.machine.specs.Layout.{Layout};
-ghost use Rattle.machine.specs.Machine.{Machine};
+ghost use Rattle.machine.specs.Machine.{Machine, object_of};
 ghost use Rattle.machine.specs.Removal.{removed};
 ghost use Rattle.machine.specs.WellFormed.{IsWellFormed};
 ghost use Rattle.policy.specs.Closed.{IsClosed};
 ghost use Rattle.policy.specs.Cut.{IsCut};
 ghost use Rattle.policy.specs.Domain.{EdgeTest};
+ghost use Rattle.verdict.specs.Allowed.{MayChange};
 ghost use Rattle.verdict.specs.Confined.{IsConfined};
 ghost use Rattle.verdict.specs.Invariant.{IsSound};
 ghost use Rattle.verdict.specs.OfTable.{IsOfTable};
@@ -42,4 +45,26 @@ pub fn a_removal_changes_what_may_be_cut()
         → MayRemove t allowed a m chosen
         → (id : Id)
         → IsSame m (removed m chosen) id ⊎ ((label : ℕ) × (label_of t m id ≡ Some label) × IsCut allowed a label) }
+{}
+
+/// A law: where a label may remove the chosen slots' capabilities, the machine stays sound, and no
+/// object changes but within the authority of the label. Nothing comes to be, and contexts keep their
+/// cores, budgets and periods.
+pub fn removals_stay_within_authority()
+    ensures sound { (t : Layout) (allowed : EdgeTest) (m : Machine) (chosen : Slot → Bool)
+        → IsSound t allowed m
+        → IsClosed allowed
+        → IsSound t allowed (removed m chosen) }
+    ensures changes { (t : Layout) (allowed : EdgeTest) (a : ℕ) (m : Machine) (chosen : Slot → Bool)
+        → IsSound t allowed m
+        → IsClosed allowed
+        → MayRemove t allowed a m chosen
+        → (id : Id) → IsSame m (removed m chosen) id ⊎ MayChange t allowed a m (removed m chosen) id }
+    ensures absent { (m : Machine) (chosen : Slot → Bool) (id : Id)
+        → object_of m id ≡ None
+        → object_of (removed m chosen) id ≡ None }
+    ensures budgets { (m : Machine) (chosen : Slot → Bool) (id : Id) (old new : Bound)
+        → object_of m id ≡ Some (o.Context old)
+        → object_of (removed m chosen) id ≡ Some (o.Context new)
+        → new.share ≡ old.share }
 {}

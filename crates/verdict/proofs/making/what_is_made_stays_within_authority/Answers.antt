@@ -1,8 +1,6 @@
 -- By what a made retype keeps.
 use Rattle.std.proofs.Common.{◌≡◌, ℕ, Some, Ok}
 use Rattle.base.specs.declared.ids.ObjId.{ObjId}
-use Rattle.machine.specs.declared.call.Call.TheVariants.{Signal}
-use Rattle.machine.specs.declared.call.Event.{Event}
 use Rattle.machine.specs.declared.call.Made.{Made}
 use Rattle.machine.specs.declared.object.MemoryKind.{MemoryKind}
 use Rattle.machine.specs.Authority.{label_of}
@@ -13,13 +11,9 @@ use Rattle.machine.proofs.RetypeRow.{retype_done}
 use Rattle.policy.specs.Closed.{IsClosed}
 use Rattle.policy.specs.Domain.{EdgeTest}
 use Rattle.verdict.specs.Invariant.{IsSound}
-use Rattle.verdict.proofs.Keeps.{Keeps}
+use Rattle.verdict.proofs.Keeps.{Keeps, some_event}
 use Rattle.verdict.proofs.RetypeKeeps.{retype_keeps}
 use Rattle.verdict.proofs.making.what_is_made_stays_within_authority.Goals as goal
-
--- some event of the thread; what is kept beside budgets doesn't hang on it
-abbrev some_event : ObjId → Event
-some_event caller = record { core = 0; thread = caller; call = Signal 0 }
 
 keeps :
     (t : Layout) (allowed : EdgeTest) (a : ℕ) (m next : Machine) (caller : ObjId) (untyped : ℕ) (of : MemoryKind)
