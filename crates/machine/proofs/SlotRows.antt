@@ -108,7 +108,7 @@ leads m caller address at left slot found e =
       ends = used_up (walk 65 m level.0 (bits address.depth address.index)) walked.0 slot walked.1 walked.2;
     }
 
-target_leads :
+pub target_leads :
     (m : Machine) (caller : ObjId) (address : SlotAddress) (slot : SlotRef) → target_of m caller address ≡ Ok slot
     → LeadsTo m caller address slot
 unfolding target_of

@@ -42,3 +42,4 @@ pub mod RemovalShrinks
 pub mod Cascade
 pub mod RemovalCuts
 pub mod RemovalKeeps
+pub mod RemovalCalls

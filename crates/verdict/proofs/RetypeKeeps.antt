@@ -74,7 +74,7 @@ record HasAtHand (t : Layout) (allowed : EdgeTest) (a : ℕ) (node : ObjId) (m :
 
 module _ (t : Layout) (allowed : EdgeTest) (began : Machine) (event : Event) (a : ℕ) (closed : IsClosed allowed) where
   -- nothing changed
-  unchanged : (m : Machine) → IsHeld t allowed m → Keeps t allowed began event a m m
+  pub unchanged : (m : Machine) → IsHeld t allowed m → Keeps t allowed began event a m m
   unchanged m held = record {
     held = held;
     acts = λ q. inl (record { content = refl; queue = refl; words = refl; slots = λ index. refl });

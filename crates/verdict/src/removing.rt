@@ -1,12 +1,16 @@
-ghost use Rattle.std.specs.Prelude.{◌≡◌, ℕ, Bool, ◌⊎◌, Some, None};
+ghost use Rattle.std.specs.Prelude.{◌≡◌, ℕ, Bool, ◌⊎◌, Some, None, Ok};
 ghost use Rattle.base.specs.declared.ids.ObjId.{ObjId as Id};
 ghost use Rattle.base.specs.declared.ids.SlotRef.{SlotRef as Slot};
+ghost use Rattle.machine.specs.declared.call.Made.{Made};
 ghost use Rattle.machine.specs.declared.object.Context.{Context as Bound};
 ghost use Rattle.machine.specs.declared.object.Object.TheVariants as o;
+ghost use Rattle.machine.specs.declared.slot_address.SlotAddress.{SlotAddress as Place};
 ghost use Rattle.machine.specs.Authority.{label_of};
 ghost use Rattle.machine.specs.Layout.{Layout};
 ghost use Rattle.machine.specs.Machine.{Machine, object_of};
 ghost use Rattle.machine.specs.Removal.{removed};
+ghost use Rattle.machine.specs.Step.Delete.{delete_of};
+ghost use Rattle.machine.specs.Step.Revoke.{revoke_of};
 ghost use Rattle.machine.specs.WellFormed.{IsWellFormed};
 ghost use Rattle.policy.specs.Closed.{IsClosed};
 ghost use Rattle.policy.specs.Cut.{IsCut};
@@ -67,4 +71,21 @@ pub fn removals_stay_within_authority()
         → object_of m id ≡ Some (o.Context old)
         → object_of (removed m chosen) id ≡ Some (o.Context new)
         → new.share ≡ old.share }
+{}
+
+/// A law: a delete and a revoke that are made keep the machine sound, and change no object but within the
+/// authority of the caller's label.
+pub fn deletes_and_revokes_stay_within_authority()
+    ensures delete { (t : Layout) (allowed : EdgeTest) (a : ℕ) (m next : Machine) (caller : Id) (address : Place) (made : Made)
+        → IsSound t allowed m
+        → IsClosed allowed
+        → label_of t m caller ≡ Some a
+        → delete_of m caller address ≡ Ok (made, next)
+        → IsSound t allowed next × ((id : Id) → IsSame m next id ⊎ MayChange t allowed a m next id) }
+    ensures revoke { (t : Layout) (allowed : EdgeTest) (a : ℕ) (m next : Machine) (caller : Id) (address : Place) (made : Made)
+        → IsSound t allowed m
+        → IsClosed allowed
+        → label_of t m caller ≡ Some a
+        → revoke_of m caller address ≡ Ok (made, next)
+        → IsSound t allowed next × ((id : Id) → IsSame m next id ⊎ MayChange t allowed a m next id) }
 {}
