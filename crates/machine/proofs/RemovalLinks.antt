@@ -125,7 +125,7 @@ module _ (m : Machine) (chosen : SlotRef → Bool) (formed : IsWellFormed m) whe
     by_vanished false e = refl
     by_vanished true e = sym (if_gone e) ∙ is
 
-  queue_now : (id : ObjId) (threads : List ObjId) → vanished id ≡ false → queue_of m id ≡ Some threads → queue_of after id ≡ Some (staying_in m vanished threads)
+  pub queue_now : (id : ObjId) (threads : List ObjId) → vanished id ≡ false → queue_of m id ≡ Some threads → queue_of after id ≡ Some (staying_in m vanished threads)
   queue_now id threads stays e =
       queue_of-removed m chosen id ∙ ap (λ b. cond b None (option_map (staying_in m vanished) (queue_of m id))) stays
       ∙ ap (option_map (staying_in m vanished)) e

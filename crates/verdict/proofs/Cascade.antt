@@ -31,7 +31,8 @@ use Rattle.policy.specs.Cut.IsNear.{stays, along}
 use Rattle.policy.specs.Domain.{EdgeTest}
 use Rattle.verdict.specs.Invariant.{IsSound}
 use Rattle.verdict.specs.Removals.{MayRemove}
-use Rattle.verdict.proofs.ObjectLabels.{kind_there}
+use Rattle.verdict.proofs.Held.{held_of}
+use Rattle.verdict.proofs.Reach.{target_label}
 
 -- the capability of a CNode or a thread gives control
 
@@ -109,12 +110,6 @@ module _
   filled_holder slot held filled =
       let holder = sound.well_formed.slots.holder slot held filled in counted_kinds m slot.holder holder.0 slot.index holder.1 holder.2
 
-  -- the object of a capability has a label
-  target_label : (slot : SlotRef) (held : Cap) → cap_of m slot ≡ Some held → (label : ℕ) × (label_of t m held.object ≡ Some label)
-  target_label slot held filled =
-      let there = kind_there m held.object (kind_of_detail held.detail) (sound.well_formed.slots.object slot held filled) in
-      sound.of_table.labelled held.object there.0 there.1
-
   -- with the last capability of a holder its slots go
   led_on :
       (slot last : SlotRef) (final : Cap) → cap_of m last ≡ Some final → final.object ≡ slot.holder → HasSlots m slot.holder
@@ -124,7 +119,7 @@ module _
     kinds = ap (kind_of m) (sym own) ∙ sound.well_formed.slots.object last final there
 
     to : (label : ℕ) × (label_of t m final.object ≡ Some label)
-    to = target_label last final there
+    to = target_label t allowed m (held_of t allowed m sound) last final there
 
     controls : HasSlots m slot.holder → gives final.detail authority.Control ≡ true
     controls (inl node) = node_control final.detail (let e = sym kinds ∙ node in cc)
@@ -183,7 +178,7 @@ module _
           (last : SlotRef) (final : Cap) → cap_of m last ≡ Some final → final.object ≡ id → IsLed t allowed a m last
           → HasSlots m last.holder → IsUsed t allowed a m id ⊎ IsSpace t allowed a m id
       by_holder last final there own led (inl node) =
-          let to = target_label last final there in
+          let to = target_label t allowed m (held_of t allowed m sound) last final there in
           let given = gives_use final.detail in
           inl (record {
             base = led.base;
@@ -197,7 +192,7 @@ module _
                 ∙ sound.confined led.label given.0 to.0 (by_cap last final there node given.2 led.labelled to.1);
           })
       by_holder last final there own led (inr thread) =
-          let to = target_label last final there in
+          let to = target_label t allowed m (held_of t allowed m sound) last final there in
           let is_node = sound.well_formed.slots.root last final there thread in
           inr (record {
             base = led.base;

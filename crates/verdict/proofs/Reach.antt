@@ -39,7 +39,7 @@ pub record IsWithin (t : Layout) (allowed : EdgeTest) (m : Machine) (a : ℕ) (n
 
 module _ (t : Layout) (allowed : EdgeTest) (m : Machine) (held : IsHeld t allowed m) where
   -- the object of a capability has a label
-  target_label : (slot : SlotRef) (cap : Cap) → cap_of m slot ≡ Some cap → (label : ℕ) × (label_of t m cap.object ≡ Some label)
+  pub target_label : (slot : SlotRef) (cap : Cap) → cap_of m slot ≡ Some cap → (label : ℕ) × (label_of t m cap.object ≡ Some label)
   target_label slot cap filled =
       let there = kind_there m cap.object (kind_of_detail cap.detail) (held.kinds slot cap filled) in
       held.of_table.labelled cap.object there.0 there.1

@@ -30,6 +30,7 @@ use Rattle.machine.specs.Removal.{removed, vanishes}
 use Rattle.machine.specs.WellFormed.{IsReceivingWith, IsThread, WaitsAt, WaitsAtKind}
 use Rattle.machine.proofs.GoneLemmas.{gone_decided, id_itself, losing_decided}
 use Rattle.machine.proofs.Queues.{first_in, other_in}
+use Rattle.machine.proofs.RemovalLinks.{queue_now}
 use Rattle.machine.proofs.RemovalLooks.{cap_of-removed}
 use Rattle.machine.proofs.RemovalTable.{finalised_there}
 use Rattle.machine.proofs.RoundLemmas.{both_pass}
@@ -41,7 +42,7 @@ use Rattle.verdict.specs.Invariant.{IsSound}
 use Rattle.verdict.specs.Removals.{MayRemove}
 use Rattle.verdict.specs.Shrinks.{IsSame}
 use Rattle.verdict.proofs.Cascade.{IsUsed, vanished_cut, vanished_used}
-use Rattle.verdict.proofs.RemovalShrinks.{absent_stays, queue_stays, words_stay}
+use Rattle.verdict.proofs.RemovalShrinks.{absent_stays, words_stay}
 
 -- nobody waits at a CNode
 node_waits : (run : RunState) → WaitsAtKind run kind.CNode → ⊥
@@ -388,7 +389,7 @@ module _
         by_slots content waiting (inr cut) = inr cut
         by_slots content waiting (inl slots) = inl (record {
           content = finalised_there m chosen id object at stays_there ∙ ap Some content ∙ sym at;
-          queue = queue_stays m chosen id queue.0 stays_there queue.1 ∙ ap Some waiting ∙ sym queue.1;
+          queue = queue_now m chosen sound.well_formed id queue.0 stays_there queue.1 ∙ ap Some waiting ∙ sym queue.1;
           words = words_stay m chosen id stays_there;
           slots = slots;
         })

@@ -16,11 +16,11 @@ use Rattle.machine.specs.declared.thread.Tcb.{Tcb}
 use Rattle.machine.specs.Finalising.{finalised, is_aborted, is_halted, leads_nowhere, leaves, link_after, reply_after, staying_in, tcb_after, unbound}
 use Rattle.machine.specs.Finalising as finalising
 use Rattle.machine.specs.Gone.{gone_of}
-use Rattle.machine.specs.Machine.{Machine, object_of, queue_of, words_of, cap_of}
+use Rattle.machine.specs.Machine.{Machine, object_of, words_of, cap_of}
 use Rattle.machine.specs.Removal.{removed, vanishes}
 use Rattle.machine.specs.WellFormed.{IsWellFormed}
-use Rattle.machine.proofs.RemovalLinks.{removed_formed}
-use Rattle.machine.proofs.RemovalLooks.{cap_of-removed, object_of-removed, queue_of-removed, words_of-removed}
+use Rattle.machine.proofs.RemovalLinks.{queue_now, removed_formed}
+use Rattle.machine.proofs.RemovalLooks.{cap_of-removed, object_of-removed, words_of-removed}
 use Rattle.machine.proofs.RemovalTable.{finalised_there}
 use Rattle.verdict.specs.Shrinks.{HasLess, IsBlocked, IsPart, IsSame, Lessens, LosesLink, Shrinks}
 use Rattle.verdict.specs.Shrinks.Lessens.{as_it_was, released, freed, unbound as unbinds}
@@ -104,13 +104,6 @@ module _ (m : Machine) (chosen : SlotRef → Bool) where
   abbrev vanished : ObjId → Bool
   vanished = vanishes m chosen
 
-  pub queue_stays :
-      (id : ObjId) (threads : List ObjId) → vanishes m chosen id ≡ false → queue_of m id ≡ Some threads
-      → queue_of (removed m chosen) id ≡ Some (staying_in m (vanishes m chosen) threads)
-  queue_stays id threads stays at =
-      queue_of-removed m chosen id ∙ ap (λ b. cond b None (option_map (staying_in m vanished) (queue_of m id))) stays
-      ∙ ap (option_map (staying_in m vanished)) at
-
   pub words_stay : (id : ObjId) → vanishes m chosen id ≡ false → words_of (removed m chosen) id ≡ words_of m id
   words_stay id stays = words_of-removed m chosen id ∙ ap (λ b. cond b None (words_of m id)) stays
 
@@ -138,7 +131,7 @@ module _ (m : Machine) (chosen : SlotRef → Bool) where
           waited = queue.0;
           waiting = staying_in m vanished queue.0;
           queue_was = queue.1;
-          queue_is = queue_stays id queue.0 stays queue.1;
+          queue_is = queue_now m chosen formed id queue.0 stays queue.1;
           queue = part_of_all (λ thread. not (leaves m vanished thread)) queue.0;
           words = words_stay id stays;
           slots = λ index. cap_lost (record { holder = id; index = index });
