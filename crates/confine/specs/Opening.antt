@@ -1,39 +1,68 @@
 -- What is done with files that were opened by the names that a request gives (confine's own).
 use Rattle.std.specs.Prelude.{◌≡◌, ℕ, List, Option, Some, None, Result}
 use Rattle.std.specs.declared.io.Error.{Error}
-use Rattle.report.specs.Closings.{IsClosedOverOn, IsStartedOn}
-use Rattle.report.specs.Ends.{status_of}
-use Rattle.report.specs.Opening.{IsCheckedOn, IsRunOn, IsVerifiedOn}
-use Rattle.report.specs.Questions.{IsToldOn}
-use Rattle.report.specs.declared.end.End.{End}
+use Rattle.confine.specs.declared.files.Files.{Files}
+use Rattle.confine.specs.declared.files.Files.TheVariants.{One, Two, Three}
 use Rattle.confine.specs.declared.request.Request.{Request}
 use Rattle.confine.specs.declared.request.Request.TheVariants.{Check, Verify, Run, Close, Why}
+use Rattle.devices.specs.Opened.{bytes_left, opened}
+use Rattle.devices.specs.Watched.{device_of, failed_of, is_flushed_of}
+use Rattle.devices.specs.declared.opened.Unopened.{Unopened}
+use Rattle.devices.specs.declared.watched.Watched.{Watched}
+use Rattle.either.specs.declared.Either.{Either}
+use Rattle.report.specs.Answers.{IsChecked, IsRun, IsVerifiedWith}
+use Rattle.report.specs.Closings.{IsClosedOver, IsStarted}
+use Rattle.report.specs.Commands.{Input, Output, input, output}
+use Rattle.report.specs.Ends.{status_of}
+use Rattle.report.specs.Questions.{IsTold}
+use Rattle.report.specs.declared.end.End.{End}
 
--- a file was opened by this name, and this holds of what that gave
-pub record OnOpened {F : Type 0} (opens : List ℕ → Result F Error → Type 0) (name : List ℕ) (holds : Result F Error → Type 0) : Type 0 where
+-- what is written to, before and after
+abbrev pub written : {W : Type 0} → (W → Option (List ℕ)) → Watched W → Watched W → Output (Watched W)
+written contents old new = output (λ o. contents (device_of o)) failed_of is_flushed_of old new
+
+-- a file was opened by this name, this is left of it, and this holds of it before and after
+pub record OnOpened
+    {F : Type 0} (opens : List ℕ → Result F Error → Type 0) (remaining : F → Option (List ℕ)) (name : List ℕ) (left : Watched (Either F Unopened))
+    (holds : Input (Watched (Either F Unopened)) → Type 0) : Type 0 where
   pub given : Result F Error
-  pub opened : opens name given
-  pub done : holds given
+  pub by_name : opens name given
+  pub done : holds (input (bytes_left remaining) failed_of (opened given) left)
 
--- what was asked for was done, on the files of these names
-abbrev pub Serves : {F W : Type 0} → (List ℕ → Result F Error → Type 0) → (F → Option (List ℕ)) → (W → Option (List ℕ)) → Request → W → End → Type 0
-Serves {W} opens remaining contents (Check table policy workers on_accept) out end =
-    OnOpened opens table.now (λ t. OnOpened opens policy.now (λ p.
-    (back : W) × IsCheckedOn on_accept remaining contents t p out end back))
-Serves {W} opens remaining contents (Verify table policy certificate) out end =
-    OnOpened opens table.now (λ t. OnOpened opens policy.now (λ p. OnOpened opens certificate.now (λ c.
-    (back : W) × IsVerifiedOn remaining contents t p c out end back)))
-Serves {W} opens remaining contents (Run table policy script) out end =
-    OnOpened opens table.now (λ t. OnOpened opens policy.now (λ p. OnOpened opens script.now (λ s.
-    (back : W) × IsRunOn remaining contents t p s out end back)))
-Serves {W} opens remaining contents (Close table (Some policy) on_close) out end =
-    OnOpened opens table.now (λ t. OnOpened opens policy.now (λ p.
-    (back : W) × IsClosedOverOn on_close remaining contents t p out end back))
-Serves {W} opens remaining contents (Close table None on_close) out end =
-    OnOpened opens table.now (λ t. (back : W) × IsStartedOn on_close remaining contents t out end back)
-Serves {W} opens remaining contents (Why table policy actor object) out end =
-    OnOpened opens table.now (λ t. OnOpened opens policy.now (λ p.
-    (back : W) × IsToldOn actor.now object.now remaining contents t p out end back))
+-- of the files that are left there are so many, and this holds of them
+abbrev pub OnOne : {F : Type 0} → Files F → (Watched (Either F Unopened) → Type 0) → Type 0
+OnOne (One table) holds = holds table
+OnOne (Two table policy) holds = ⊥
+OnOne (Three table policy third) holds = ⊥
+
+abbrev pub OnTwo : {F : Type 0} → Files F → (Watched (Either F Unopened) → Watched (Either F Unopened) → Type 0) → Type 0
+OnTwo (One table) holds = ⊥
+OnTwo (Two table policy) holds = holds table policy
+OnTwo (Three table policy third) holds = ⊥
+
+abbrev pub OnThree :
+    {F : Type 0} → Files F → (Watched (Either F Unopened) → Watched (Either F Unopened) → Watched (Either F Unopened) → Type 0) → Type 0
+OnThree (One table) holds = ⊥
+OnThree (Two table policy) holds = ⊥
+OnThree (Three table policy third) holds = holds table policy third
+
+-- what was asked for was done, on the files of these names, of which these are left, and on what is written to
+abbrev pub Serves :
+    {F O : Type 0} → (List ℕ → Result F Error → Type 0) → (F → Option (List ℕ)) → Output O → Request → Files F → End → Type 0
+Serves opens remaining out (Check table policy workers on_accept) files end = OnTwo files (λ t_left p_left.
+    OnOpened opens remaining table.now t_left (λ t. OnOpened opens remaining policy.now p_left (λ p. IsChecked on_accept t p out end)))
+Serves opens remaining out (Verify table policy certificate) files end = OnThree files (λ t_left p_left c_left.
+    OnOpened opens remaining table.now t_left (λ t. OnOpened opens remaining policy.now p_left (λ p.
+    OnOpened opens remaining certificate.now c_left (λ c. IsVerifiedWith t p c out end))))
+Serves opens remaining out (Run table policy script) files end = OnThree files (λ t_left p_left s_left.
+    OnOpened opens remaining table.now t_left (λ t. OnOpened opens remaining policy.now p_left (λ p.
+    OnOpened opens remaining script.now s_left (λ s. IsRun t p s out end))))
+Serves opens remaining out (Close table (Some policy) on_close) files end = OnTwo files (λ t_left p_left.
+    OnOpened opens remaining table.now t_left (λ t. OnOpened opens remaining policy.now p_left (λ p. IsClosedOver on_close t p out end)))
+Serves opens remaining out (Close table None on_close) files end = OnOne files (λ t_left.
+    OnOpened opens remaining table.now t_left (λ t. IsStarted on_close t out end))
+Serves opens remaining out (Why table policy actor object) files end = OnTwo files (λ t_left p_left.
+    OnOpened opens remaining table.now t_left (λ t. OnOpened opens remaining policy.now p_left (λ p. IsTold actor.now object.now t p out end)))
 
 -- this is the exit status of an end of which this holds
 abbrev pub IsStatusOf : (End → Type 0) → ℕ → Type 0

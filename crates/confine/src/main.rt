@@ -1,19 +1,22 @@
 //! The program `confine`: its command line, its files and its exit status.
 #![tactic(auto)]
 
-ghost use Rattle.std.specs.Prelude.{◌≡◌, ◌≤◌, IfOk, IsErr, OnErr};
+ghost use Rattle.std.specs.Prelude.{◌≡◌, ◌≤◌, false, IfOk, IsErr, IsSomeAnd, None, OnErr};
 ghost use Rattle.std.specs.Fn.{FnReturnsAt};
+ghost use Rattle.devices.specs.Watched.{failed_of};
 ghost use Rattle.report.specs.Ends.{status_of};
-ghost use Rattle.confine.specs.Opening.{IsStatusOf, Serves};
+ghost use Rattle.confine.specs.Opening.{IsStatusOf, Serves, written};
 ghost use Rattle.confine.specs.Requests.{IsWithinLimits};
 ghost use Rattle.confine.specs.declared.request.Request.TheVariants.{Check, Verify, Run, Close, Why};
 
+mod files;
 mod help;
 mod request;
 
 use clap::error::ErrorKind;
+use files::Files;
 use report::{
-    End, OnAccept, OnClose, Open, check_on, close_on, run_on, start_on, verify_on, why_on,
+    End, OnAccept, OnClose, Open, Watched, check, close, open_result, run, start, verify, why,
 };
 use request::{Request, read_request};
 use std::alloc::Global;
@@ -27,7 +30,9 @@ fn main(rt: HostRuntime) -> ExitCode {
     let opener = |path: &str| fs::open(&rt, path);
     let words = words(&rt);
     let asked = asked(rt.alloc(), &words);
-    ExitCode::from(answer(&rt, asked, opener, io::writer(&rt)))
+    let mut out = Watched::new(io::writer(&rt));
+    let (status, _files) = answer(&rt, asked, opener, &mut out);
+    ExitCode::from(status)
 }
 
 /// Why nothing is asked for.
@@ -62,39 +67,52 @@ fn asked<'a>(alloc: Global, words: &'a io::Result<Vec<String>>) -> Result<Reques
 }
 
 /// Does what is asked for, on files that `opener` opens by their names, and writes the answer to `out`;
-/// gives the exit status.
-fn answer<R, F, O, W>(rt: &R, asked: Result<Request<'_>, Unasked>, opener: O, out: W) -> u8
+/// gives the exit status, and the files back.
+fn answer<R, F, O, W>(
+    rt: &R,
+    asked: Result<Request<'_>, Unasked>,
+    opener: O,
+    out: &mut Watched<W>,
+) -> (u8, Option<Files<F>>)
 where
     R: Eprint + AllocGlobal + Threads + Sync,
     F: Read + Drop,
     O: Fn(&str) -> io::Result<F> + Drop,
-    W: Write + Drop,
+    W: Write,
     requires opener { O.IsAlwaysCallable opener }
     requires asked { IfOk asked IsWithinLimits }
-    ensures served { IfOk asked.entry (λ request.
-        IsStatusOf (Serves (FnReturnsAt O.Fn opener) F.remaining W.contents request out) result) }
-    ensures unasked { OnErr asked.entry (result ≡ 2) }
-    ensures exit { result ≤ 2 }
+    requires out { failed_of out.old ≡ false }
+    ensures served { IfOk asked.entry (λ request. IsSomeAnd result.1 (λ files. IsStatusOf
+        (Serves (FnReturnsAt O.Fn opener) F.remaining (written W.contents out.old out.new) request files) result.0)) }
+    ensures unasked { OnErr asked.entry ((result.0 ≡ 2) × (result.1 ≡ None) × (out.new ≡ out.old)) }
+    ensures exit { result.0 ≤ 2 }
 {
     match asked {
-        Ok(request) => tell(rt, serve(rt, request, opener, out)),
-        Err(Unasked::NoMemory) => tell(rt, End::NoMemory),
-        Err(Unasked::NotText) => misuse(rt, "confine: an argument isn't UTF-8\n"),
-        Err(Unasked::Misused(error)) => misuse(rt, error),
+        Ok(request) => {
+            let (end, files) = serve(rt, request, opener, out);
+            (tell(rt, end), Some(files))
+        }
+        Err(unasked) => (refuse(rt, unasked), None),
     }
 }
 
-/// Does what was asked for, on the files that it names.
-fn serve<R, F, O, W>(rt: &R, request: Request<'_>, opener: O, out: W) -> End
+/// Does what was asked for, on the files that it names; gives them back.
+fn serve<R, F, O, W>(
+    rt: &R,
+    request: Request<'_>,
+    opener: O,
+    out: &mut Watched<W>,
+) -> (End, Files<F>)
 where
     R: AllocGlobal + Threads + Sync,
     F: Read + Drop,
     O: Fn(&str) -> io::Result<F> + Drop,
-    W: Write + Drop,
+    W: Write,
     requires opener { O.IsAlwaysCallable opener }
     requires workers { IsWithinLimits request }
-    ensures served { Serves (FnReturnsAt O.Fn opener) F.remaining W.contents request.entry out result }
-    ensures exit { status_of result ≤ 2 }
+    requires out { failed_of out.old ≡ false }
+    ensures served { Serves (FnReturnsAt O.Fn opener) F.remaining (written W.contents out.old out.new) request.entry result.1 result.0 }
+    ensures exit { status_of result.0 ≤ 2 }
 {
     match request {
         Request::Check {
@@ -135,31 +153,33 @@ fn serve_check<R, F, O, W>(
     workers: usize,
     on_accept: OnAccept,
     opener: O,
-    out: W,
-) -> End
+    out: &mut Watched<W>,
+) -> (End, Files<F>)
 where
     R: AllocGlobal + Threads + Sync,
     F: Read + Drop,
     O: Fn(&str) -> io::Result<F> + Drop,
-    W: Write + Drop,
+    W: Write,
     requires opener { O.IsAlwaysCallable opener }
     requires workers { (1 ≤ workers) × (workers ≤ 16) }
-    ensures served { Serves (FnReturnsAt O.Fn opener) F.remaining W.contents (Check table.entry policy.entry workers on_accept) out result }
-    ensures exit { status_of result ≤ 2 }
+    requires out { failed_of out.old ≡ false }
+    ensures served { Serves (FnReturnsAt O.Fn opener) F.remaining (written W.contents out.old out.new)
+        (Check table.entry policy.entry workers on_accept) result.1 result.0 }
+    ensures exit { status_of result.0 ≤ 2 }
 {
-    let table = opener(table);
-    let policy = opener(policy);
-    check_on(
+    let mut table = open_result(opener(table));
+    let mut policy = open_result(opener(policy));
+    let end = check(
         rt,
         rt.alloc(),
-        table,
-        policy,
+        &mut table,
+        &mut policy,
         on_accept,
         workers,
         &Open,
         out,
-    )
-    .0
+    );
+    (end, Files::Two(table, policy))
 }
 
 /// Verifies the certificate of this name with the table and the policy of these names.
@@ -169,38 +189,58 @@ fn serve_verify<R, F, O, W>(
     policy: &str,
     certificate: &str,
     opener: O,
-    out: W,
-) -> End
+    out: &mut Watched<W>,
+) -> (End, Files<F>)
 where
     R: AllocGlobal + Threads + Sync,
     F: Read + Drop,
     O: Fn(&str) -> io::Result<F> + Drop,
-    W: Write + Drop,
-    requires { O.IsAlwaysCallable opener }
-    ensures served { Serves (FnReturnsAt O.Fn opener) F.remaining W.contents (Verify table.entry policy.entry certificate.entry) out result }
-    ensures exit { status_of result ≤ 2 }
+    W: Write,
+    requires opener { O.IsAlwaysCallable opener }
+    requires out { failed_of out.old ≡ false }
+    ensures served { Serves (FnReturnsAt O.Fn opener) F.remaining (written W.contents out.old out.new)
+        (Verify table.entry policy.entry certificate.entry) result.1 result.0 }
+    ensures exit { status_of result.0 ≤ 2 }
 {
-    let table = opener(table);
-    let policy = opener(policy);
-    let certificate = opener(certificate);
-    verify_on(rt, rt.alloc(), table, policy, certificate, out).0
+    let mut table = open_result(opener(table));
+    let mut policy = open_result(opener(policy));
+    let mut certificate = open_result(opener(certificate));
+    let end = verify(
+        rt,
+        rt.alloc(),
+        &mut table,
+        &mut policy,
+        &mut certificate,
+        out,
+    );
+    (end, Files::Three(table, policy, certificate))
 }
 
 /// Runs the script of this name on the table and the policy of these names.
-fn serve_run<R, F, O, W>(rt: &R, table: &str, policy: &str, script: &str, opener: O, out: W) -> End
+fn serve_run<R, F, O, W>(
+    rt: &R,
+    table: &str,
+    policy: &str,
+    script: &str,
+    opener: O,
+    out: &mut Watched<W>,
+) -> (End, Files<F>)
 where
     R: AllocGlobal + Threads + Sync,
     F: Read + Drop,
     O: Fn(&str) -> io::Result<F> + Drop,
-    W: Write + Drop,
-    requires { O.IsAlwaysCallable opener }
-    ensures served { Serves (FnReturnsAt O.Fn opener) F.remaining W.contents (Run table.entry policy.entry script.entry) out result }
-    ensures exit { status_of result ≤ 2 }
+    W: Write,
+    requires opener { O.IsAlwaysCallable opener }
+    requires out { failed_of out.old ≡ false }
+    ensures served { Serves (FnReturnsAt O.Fn opener) F.remaining (written W.contents out.old out.new)
+        (Run table.entry policy.entry script.entry) result.1 result.0 }
+    ensures exit { status_of result.0 ≤ 2 }
 {
-    let table = opener(table);
-    let policy = opener(policy);
-    let script = opener(script);
-    run_on(rt, rt.alloc(), table, policy, script, out).0
+    let mut table = open_result(opener(table));
+    let mut policy = open_result(opener(policy));
+    let mut script = open_result(opener(script));
+    let end = run(rt, rt.alloc(), &mut table, &mut policy, &mut script, out);
+    (end, Files::Three(table, policy, script))
 }
 
 /// Closes the policy of this name over the table of this name, or makes one for the table alone.
@@ -210,24 +250,30 @@ fn serve_close<R, F, O, W>(
     policy: Option<&str>,
     on_close: OnClose,
     opener: O,
-    out: W,
-) -> End
+    out: &mut Watched<W>,
+) -> (End, Files<F>)
 where
     R: AllocGlobal,
     F: Read + Drop,
     O: Fn(&str) -> io::Result<F> + Drop,
-    W: Write + Drop,
-    requires { O.IsAlwaysCallable opener }
-    ensures served { Serves (FnReturnsAt O.Fn opener) F.remaining W.contents (Close table.entry policy.entry on_close) out result }
-    ensures exit { status_of result ≤ 2 }
+    W: Write,
+    requires opener { O.IsAlwaysCallable opener }
+    requires out { failed_of out.old ≡ false }
+    ensures served { Serves (FnReturnsAt O.Fn opener) F.remaining (written W.contents out.old out.new)
+        (Close table.entry policy.entry on_close) result.1 result.0 }
+    ensures exit { status_of result.0 ≤ 2 }
 {
-    let table = opener(table);
+    let mut table = open_result(opener(table));
     match policy {
         Some(policy) => {
-            let policy = opener(policy);
-            close_on(rt.alloc(), table, policy, on_close, out).0
+            let mut policy = open_result(opener(policy));
+            let end = close(rt.alloc(), &mut table, &mut policy, on_close, out);
+            (end, Files::Two(table, policy))
         }
-        None => start_on(rt.alloc(), table, on_close, out).0,
+        None => {
+            let end = start(rt.alloc(), &mut table, on_close, out);
+            (end, Files::One(table))
+        }
     }
 }
 
@@ -239,20 +285,23 @@ fn serve_why<R, F, O, W>(
     actor: &str,
     object: &str,
     opener: O,
-    out: W,
-) -> End
+    out: &mut Watched<W>,
+) -> (End, Files<F>)
 where
     R: AllocGlobal,
     F: Read + Drop,
     O: Fn(&str) -> io::Result<F> + Drop,
-    W: Write + Drop,
-    requires { O.IsAlwaysCallable opener }
-    ensures served { Serves (FnReturnsAt O.Fn opener) F.remaining W.contents (Why table.entry policy.entry actor.entry object.entry) out result }
-    ensures exit { status_of result ≤ 2 }
+    W: Write,
+    requires opener { O.IsAlwaysCallable opener }
+    requires out { failed_of out.old ≡ false }
+    ensures served { Serves (FnReturnsAt O.Fn opener) F.remaining (written W.contents out.old out.new)
+        (Why table.entry policy.entry actor.entry object.entry) result.1 result.0 }
+    ensures exit { status_of result.0 ≤ 2 }
 {
-    let table = opener(table);
-    let policy = opener(policy);
-    why_on(rt.alloc(), table, policy, actor, object, out).0
+    let mut table = open_result(opener(table));
+    let mut policy = open_result(opener(policy));
+    let end = why(rt.alloc(), &mut table, &mut policy, actor, object, out);
+    (end, Files::Two(table, policy))
 }
 
 /// Says on standard error why there is no answer, where there is none; gives the exit status. That
@@ -264,6 +313,17 @@ fn tell<R: Eprint>(rt: &R, end: End) -> u8
         let _ = rt.eprintln(message);
     }
     end.status()
+}
+
+/// Says on standard error why nothing was done; gives the exit status.
+fn refuse<R: Eprint>(rt: &R, unasked: Unasked) -> u8
+    ensures { result ≡ 2 }
+{
+    match unasked {
+        Unasked::NoMemory => tell(rt, End::NoMemory),
+        Unasked::NotText => misuse(rt, "confine: an argument isn't UTF-8\n"),
+        Unasked::Misused(error) => misuse(rt, error),
+    }
 }
 
 /// Says on standard error how the program is used; gives the exit status.

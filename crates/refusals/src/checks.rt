@@ -2,7 +2,7 @@
 use crate::bell::{CERTIFICATE, POLICY, TABLE};
 use crate::engine::{DENIAL, EMPTY_POLICY, has_ended};
 use crate::memory::{prepared, spend};
-use report::{OnAccept, Open, check_on, verify_on};
+use report::{OnAccept, Open, Watched, check, verify};
 use std::process::Abort;
 use std::test::Fail;
 use std::thread::Threads;
@@ -24,17 +24,20 @@ fn answers_check<R: Abort + AllocGlobal + Threads + Sync>(
 ) -> Result<(), Fail> {
     spend(rt.alloc(), count)?;
     let page = prepared(Vec::with_capacity(rt.alloc(), answer.len()))?;
-    let (end, written) = check_on(
+    let mut table = Watched::new(TABLE.as_bytes());
+    let mut policy = Watched::new(policy.as_bytes());
+    let mut out = Watched::new(page);
+    let end = check(
         rt,
         rt.alloc(),
-        Ok(TABLE.as_bytes()),
-        Ok(policy.as_bytes()),
+        &mut table,
+        &mut policy,
         on_accept,
         1,
         &Open,
-        page,
+        &mut out,
     );
-    has_ended(rt, end, status, &written, answer)
+    has_ended(rt, end, status, &out.into_inner(), answer)
 }
 
 fn reports<R: Abort + AllocGlobal + Threads + Sync>(rt: &R, count: u64) -> Result<(), Fail> {
@@ -188,15 +191,19 @@ fn engine_check_denial_after_59(rt: HostRuntime) -> Result<(), Fail> {
 fn verifies<R: Abort + AllocGlobal + Threads + Sync>(rt: &R, count: u64) -> Result<(), Fail> {
     spend(rt.alloc(), count)?;
     let page = prepared(Vec::with_capacity(rt.alloc(), VERIFIED.len()))?;
-    let (end, written) = verify_on(
+    let mut table = Watched::new(TABLE.as_bytes());
+    let mut policy = Watched::new(POLICY.as_bytes());
+    let mut certificate = Watched::new(CERTIFICATE.as_bytes());
+    let mut out = Watched::new(page);
+    let end = verify(
         rt,
         rt.alloc(),
-        Ok(TABLE.as_bytes()),
-        Ok(POLICY.as_bytes()),
-        Ok(CERTIFICATE.as_bytes()),
-        page,
+        &mut table,
+        &mut policy,
+        &mut certificate,
+        &mut out,
     );
-    has_ended(rt, end, 0, &written, VERIFIED)
+    has_ended(rt, end, 0, &out.into_inner(), VERIFIED)
 }
 
 #[test]

@@ -3,8 +3,8 @@ use crate::bell::{POLICY, TABLE, edges};
 use crate::edges::has_edges;
 use crate::engine::{EMPTY_POLICY, has_ended};
 use crate::memory::{NO_MEMORY, answered, lend, prepared, spend};
-use policy::{Policy, close};
-use report::{OnClose, close_on, start_on, why_on};
+use policy::Policy;
+use report::{OnClose, Watched, close, start, why};
 use std::process::Abort;
 use std::test::Fail;
 
@@ -13,7 +13,7 @@ fn closes<R: Abort + AllocGlobal>(rt: &R, count: u64) -> Result<(), Fail> {
     spend(rt.alloc(), count)?;
     let edges = edges()?;
     let empty = Policy::new(rt.alloc());
-    let closed = answered(rt, close(rt.alloc(), &empty, &edges), NO_MEMORY);
+    let closed = answered(rt, policy::close(rt.alloc(), &empty, &edges), NO_MEMORY);
     lend(closed, |closed| has_edges(rt, closed, &edges))
 }
 
@@ -26,8 +26,10 @@ fn close_after_100(rt: HostRuntime) -> Result<(), Fail> {
 fn starts<R: Abort + AllocGlobal>(rt: &R, count: u64) -> Result<(), Fail> {
     spend(rt.alloc(), count)?;
     let page = prepared(Vec::with_capacity(rt.alloc(), POLICY.len()))?;
-    let (end, written) = start_on(rt.alloc(), Ok(TABLE.as_bytes()), OnClose::Policy, page);
-    has_ended(rt, end, 0, &written, POLICY)
+    let mut table = Watched::new(TABLE.as_bytes());
+    let mut out = Watched::new(page);
+    let end = start(rt.alloc(), &mut table, OnClose::Policy, &mut out);
+    has_ended(rt, end, 0, &out.into_inner(), POLICY)
 }
 
 #[test]
@@ -84,10 +86,17 @@ edge a runs a
 fn tells_missing<R: Abort + AllocGlobal>(rt: &R, count: u64) -> Result<(), Fail> {
     spend(rt.alloc(), count)?;
     let page = prepared(Vec::with_capacity(rt.alloc(), LINES.len()))?;
-    let (table, policy) = (TABLE.as_bytes(), EMPTY_POLICY.as_bytes());
-    let missing = OnClose::Missing;
-    let (end, written) = close_on(rt.alloc(), Ok(table), Ok(policy), missing, page);
-    has_ended(rt, end, 1, &written, LINES)
+    let mut table = Watched::new(TABLE.as_bytes());
+    let mut policy = Watched::new(EMPTY_POLICY.as_bytes());
+    let mut out = Watched::new(page);
+    let end = close(
+        rt.alloc(),
+        &mut table,
+        &mut policy,
+        OnClose::Missing,
+        &mut out,
+    );
+    has_ended(rt, end, 1, &out.into_inner(), LINES)
 }
 
 #[test]
@@ -134,9 +143,11 @@ fn engine_missing_after_64(rt: HostRuntime) -> Result<(), Fail> {
 fn tells_why<R: Abort + AllocGlobal>(rt: &R, count: u64) -> Result<(), Fail> {
     spend(rt.alloc(), count)?;
     let page = prepared(Vec::with_capacity(rt.alloc(), 5))?;
-    let (table, policy) = (TABLE.as_bytes(), POLICY.as_bytes());
-    let (end, written) = why_on(rt.alloc(), Ok(table), Ok(policy), "a", "a", page);
-    has_ended(rt, end, 0, &written, "full\n")
+    let mut table = Watched::new(TABLE.as_bytes());
+    let mut policy = Watched::new(POLICY.as_bytes());
+    let mut out = Watched::new(page);
+    let end = why(rt.alloc(), &mut table, &mut policy, "a", "a", &mut out);
+    has_ended(rt, end, 0, &out.into_inner(), "full\n")
 }
 
 #[test]

@@ -1,7 +1,7 @@
 //! The engine of `run`, for a log, for a denial and for a fault.
 use crate::bell::{LOG, POLICY, SCRIPT, TABLE};
 use crate::memory::{are, prepared, refused, spend};
-use report::{End, run_on};
+use report::{End, Watched, run};
 use std::process::Abort;
 use std::test::Fail;
 use std::thread::Threads;
@@ -28,15 +28,19 @@ fn answers<R: Abort + AllocGlobal + Threads + Sync>(
 ) -> Result<(), Fail> {
     spend(rt.alloc(), count)?;
     let page = prepared(Vec::with_capacity(rt.alloc(), answer.len()))?;
-    let (end, written) = run_on(
+    let mut table = Watched::new(table.as_bytes());
+    let mut policy = Watched::new(policy.as_bytes());
+    let mut script = Watched::new(SCRIPT.as_bytes());
+    let mut out = Watched::new(page);
+    let end = run(
         rt,
         rt.alloc(),
-        Ok(table.as_bytes()),
-        Ok(policy.as_bytes()),
-        Ok(SCRIPT.as_bytes()),
-        page,
+        &mut table,
+        &mut policy,
+        &mut script,
+        &mut out,
     );
-    has_ended(rt, end, status, &written, answer)
+    has_ended(rt, end, status, &out.into_inner(), answer)
 }
 
 /// An engine that is refused memory has written nothing.

@@ -1,16 +1,10 @@
 -- What closing a policy over a table answers: the least policy with the policy's edges to which the table keeps (confine's own; the
 -- policies that are closed are the well-formed ones of 'seL4 Enforces Integrity', section 3).
-use Rattle.std.specs.Prelude.{◌≡◌, ◌↔◌, ℕ, true, not, List, [], ◌∷◌, ◌++◌, filter, codes, Option, Some, Ok, Result}
-use Rattle.std.specs.Borrow.{Bor}
-use Rattle.std.specs.declared.io.Error.{Error}
+use Rattle.std.specs.Prelude.{◌≡◌, ◌↔◌, ℕ, true, false, not, List, [], ◌∷◌, ◌++◌, filter, codes, Some, Ok}
 use Rattle.base.specs.declared.edge.Edge.{Edge}
 use Rattle.base.specs.declared.kind.Kind.{Kind}
 use Rattle.captext.specs.Policies.{read_policy_of}
 use Rattle.captext.specs.PolicyText.{IsPolicyOf, edge_lines, policy_text}
-use Rattle.devices.specs.Watched.{device_of, failed_of, is_flushed_of, watched}
-use Rattle.devices.specs.declared.opened.Unopened.{Unopened}
-use Rattle.devices.specs.declared.watched.Watched.{Watched}
-use Rattle.either.specs.declared.Either.{Either}
 use Rattle.machine.specs.Authority.{HasAuthority}
 use Rattle.machine.specs.Boot.{IsBoot}
 use Rattle.machine.specs.Layout.{Layout}
@@ -18,8 +12,8 @@ use Rattle.machine.specs.Machine.{Machine}
 use Rattle.policy.specs.Closing.{IsLeastClosed}
 use Rattle.policy.specs.Policy.{allows}
 use Rattle.report.specs.Answers.{no_file, no_label, read_nothing}
-use Rattle.report.specs.Commands.{Input, IsCarriedOut, Output, output}
-use Rattle.report.specs.Opening.{IsCarriedOutOn, opened_input}
+use Rattle.report.specs.Commands.{Input, IsCarriedOut, Output}
+use Rattle.report.specs.declared.closing.Known.{Known}
 use Rattle.report.specs.declared.closing.OnClose.{OnClose}
 use Rattle.report.specs.declared.closing.OnClose.TheVariants as on_close
 use Rattle.report.specs.declared.end.End.{End}
@@ -66,21 +60,9 @@ abbrev pub IsClosedOver : {T P O : Type 0} → OnClose → Input T → Input P �
 IsClosedOver written table policy out end =
     IsCarriedOut file.Policy read_nothing no_label (λ t edges none. Closes written t edges) table policy no_file out end
 
--- a policy was closed over a table on what opening the files gave
-abbrev pub IsClosedOverOn :
-    {F W : Type 0} → OnClose → (F → Option (List ℕ)) → (W → Option (List ℕ)) → Result F Error → Result F Error → W → End → W → Type 0
-IsClosedOverOn written remaining contents table policy out end back =
-    IsCarriedOutOn file.Policy read_nothing no_label (λ t edges none. Closes written t edges) remaining contents table policy no_file out end back
-
--- a policy was made for a table alone, on what opening its file gave: one without an edge was closed over it
-pub record IsStartedOn
-    {F W : Type 0} (written : OnClose) (remaining : F → Option (List ℕ)) (contents : W → Option (List ℕ)) (table : Result F Error)
-    (out : W) (end : End) (back : W) : Type 0 where
-  pub table_left : Watched (Either F Unopened)
-  pub policy : Input (Watched (Bor (List ℕ)))
-  pub out_left : Watched W
+-- a policy was made for a table alone: one without an edge, whose source can't fail, was closed over it
+pub record IsStarted {T O : Type 0} (written : OnClose) (table : Input T) (out : Output O) (end : End) : Type 0 where
+  pub policy : Input Known
   pub bytes : policy.bytes ≡ Some (codes "confine-policy 1\nend\n")
-  pub given_back : back ≡ device_of out_left
-  pub carried_out :
-      IsClosedOver written (opened_input remaining table table_left) policy
-      (output (λ o. contents (device_of o)) failed_of is_flushed_of (watched out) out_left) end
+  pub is_sound : policy.failed ≡ false
+  pub carried_out : IsClosedOver written table policy out end

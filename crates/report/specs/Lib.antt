@@ -5,6 +5,5 @@ pub mod Relations
 pub mod Files
 pub mod Commands
 pub mod Answers
-pub mod Opening
 pub mod Closings
 pub mod Questions

@@ -1,7 +1,6 @@
 -- What is told of a label's authority on another (the authority is that of 'seL4 Enforces Integrity', section 4, restated; telling why
 -- it is there is confine's own).
-use Rattle.std.specs.Prelude.{◌≡◌, ℕ, List, ◌++◌, codes, Option, Some, None, Result}
-use Rattle.std.specs.declared.io.Error.{Error}
+use Rattle.std.specs.Prelude.{◌≡◌, ℕ, List, ◌++◌, codes, Option, Some, None}
 use Rattle.base.specs.declared.edge.Edge.{Edge}
 use Rattle.captext.specs.PolicyText.{edge_lines}
 use Rattle.machine.specs.Layout.{Layout}
@@ -11,7 +10,6 @@ use Rattle.policy.specs.declared.why.Why.{Why}
 use Rattle.policy.specs.declared.why.Why.TheVariants as why
 use Rattle.report.specs.Answers.{no_file, read_nothing}
 use Rattle.report.specs.Commands.{Input, IsCarriedOut, Output}
-use Rattle.report.specs.Opening.{IsCarriedOutOn}
 use Rattle.report.specs.declared.end.Asked.{Asked}
 use Rattle.report.specs.declared.end.Asked.TheVariants as asked
 use Rattle.report.specs.declared.end.End.{End}
@@ -55,10 +53,3 @@ pub record Tells (actor object : List ℕ) (t : Layout) (edges : List Edge) (tex
 abbrev pub IsTold : {T P O : Type 0} → List ℕ → List ℕ → Input T → Input P → Output O → End → Type 0
 IsTold actor object table policy out end =
     IsCarriedOut file.Policy read_nothing (λ t. unlabelled t actor object) (λ t edges none. Tells actor object t edges) table policy no_file out end
-
--- the same on what opening the files gave
-abbrev pub IsToldOn :
-    {F W : Type 0} → List ℕ → List ℕ → (F → Option (List ℕ)) → (W → Option (List ℕ)) → Result F Error → Result F Error → W → End → W → Type 0
-IsToldOn actor object remaining contents table policy out end back =
-    IsCarriedOutOn file.Policy read_nothing (λ t. unlabelled t actor object) (λ t edges none. Tells actor object t edges) remaining contents table
-    policy no_file out end back

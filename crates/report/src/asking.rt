@@ -7,14 +7,13 @@ ghost use Rattle.report.specs.declared.end.File.TheVariants as file;
 ghost use Rattle.words.specs.Reading.{Reads};
 
 use crate::command::{Answer, Command, NoMemory};
-use crate::engine::{carry_out, carry_out_on};
+use crate::engine::carry_out;
 use crate::load::{Loaded, NoFile};
 use crate::{Asked, End, File, Sink, Source};
 use base::{Edge, Refusal};
 use captext::{Fault, write_edges};
 use policy::Why;
 use std::alloc::Global;
-use std::io::{self, Read, Write};
 use table::Table;
 
 /// Which authority a label has on another by a policy, and why.
@@ -41,24 +40,6 @@ where
 {
     let question = Question { actor, object };
     carry_out(&question, alloc, table, policy, &mut NoFile, out)
-}
-
-/// The same on what opening the two files gave. Gives the end, and the writer back.
-pub fn why_on<F, W>(
-    alloc: Global,
-    table: io::Result<F>,
-    policy: io::Result<F>,
-    actor: &str,
-    object: &str,
-    out: W,
-) -> (End, W)
-where
-    F: Read + Drop,
-    W: Write + Drop,
-    ensures { questions.IsToldOn actor.now object.now F.remaining W.contents table policy out result.0 result.1 }
-{
-    let question = Question { actor, object };
-    carry_out_on(&question, alloc, table, policy, &mut NoFile, out)
 }
 
 /// The command `why`, which has no third file.

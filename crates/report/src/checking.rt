@@ -3,11 +3,10 @@ ghost use Rattle.checker.specs.Check.{IsCheck};
 ghost use Rattle.certificate.specs.Right.{right_certificate};
 ghost use Rattle.report.specs.Answers as answers;
 ghost use Rattle.report.specs.Commands.{input, output};
-ghost use Rattle.report.specs.Opening.{IsCheckedOn};
 ghost use Rattle.report.specs.declared.end.File.TheVariants as file;
 
 use crate::command::{Answer, Command, NoMemory, denial_text};
-use crate::engine::{carry_out, carry_out_on};
+use crate::engine::carry_out;
 use crate::load::{Loaded, NoFile};
 use crate::reports::check_report;
 use crate::{Asked, End, File, Sink, Source};
@@ -15,7 +14,6 @@ use captext::Fault;
 use checker::{Certificate, Gate, Verdict};
 use policy::Policy;
 use std::alloc::Global;
-use std::io::{self, Read, Write};
 use std::thread::Threads;
 use table::Table;
 
@@ -65,37 +63,6 @@ where
         judge: &judge,
     };
     carry_out(&command, alloc, table, policy, &mut NoFile, out)
-}
-
-/// The same on what opening the two files gave. Gives the end, and the writer back.
-pub fn check_on<R, G, F, W>(
-    rt: &R,
-    alloc: Global,
-    table: io::Result<F>,
-    policy: io::Result<F>,
-    on_accept: OnAccept,
-    workers: usize,
-    gate: &G,
-    out: W,
-) -> (End, W)
-where
-    R: Threads + Sync,
-    G: Gate + Sync,
-    F: Read + Drop,
-    W: Write + Drop,
-    requires { (1 ≤ workers) × (workers ≤ 16) }
-    ensures { IsCheckedOn on_accept F.remaining W.contents table policy out result.0 result.1 }
-{
-    let judge = |loaded: &Loaded<()>| -> Result<Answer, NoMemory>
-        ensures right { IfOk result (λ answer.
-            answers.Checks on_accept loaded.now.table loaded.now.policy answer.text.items answer.status) }
-        ensures exit { IfOk result (λ answer. answer.status ≤ 2) }
-    { judged(rt, alloc, loaded, on_accept, workers, gate) };
-    let command = Checking {
-        on_accept,
-        judge: &judge,
-    };
-    carry_out_on(&command, alloc, table, policy, &mut NoFile, out)
 }
 
 /// The command `check`, which has no third file.

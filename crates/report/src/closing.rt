@@ -6,17 +6,16 @@ ghost use Rattle.report.specs.Commands.{input, output};
 ghost use Rattle.report.specs.declared.end.File.TheVariants as file;
 
 use crate::command::{Answer, Command, NoMemory};
-use crate::engine::{carry_out, carry_out_on};
+use crate::engine::carry_out;
 use crate::load::{Loaded, NoFile};
-use crate::{Asked, End, File, Sink, Source, Watched};
+use crate::{Asked, End, File, ReadError, Sink, Source};
 use base::{Edge, Refusal};
 use captext::{Fault, write_edges, write_policy};
-use devices::open_result;
 use kernel::each_table_has_one_boot_state;
 use labels::{authority, boot_authority_joins_labels_of_its_table};
 use policy::Policy;
 use std::alloc::Global;
-use std::io::{self, Read, Write};
+use std::io::Read;
 use table::Table;
 use verdict::a_verdict_is_on_the_boot_state;
 
@@ -61,45 +60,39 @@ where
     )
 }
 
-/// The same on what opening the two files gave. Gives the end, and the writer back.
-pub fn close_on<F, W>(
-    alloc: Global,
-    table: io::Result<F>,
-    policy: io::Result<F>,
-    on_close: OnClose,
-    out: W,
-) -> (End, W)
-where
-    F: Read + Drop,
-    W: Write + Drop,
-    ensures { closings.IsClosedOverOn on_close F.remaining W.contents table policy out result.0 result.1 }
-{
-    carry_out_on(
-        &Closing { on_close },
-        alloc,
-        table,
-        policy,
-        &mut NoFile,
-        out,
-    )
-}
-
 // The text of a policy without an edge, whatever the labels are.
 const NO_EDGES: &[u8] = b"confine-policy 1\nend\n";
 
-/// Makes a policy for a table alone, as closing one without an edge does, on what opening the table's
-/// file gave. Gives the end, and the writer back.
-pub fn start_on<F, W>(alloc: Global, table: io::Result<F>, on_close: OnClose, out: W) -> (End, W)
+/// Makes a policy for a table alone, as closing one without an edge does.
+pub fn start<T, O>(alloc: Global, table: &mut T, on_close: OnClose, out: &mut O) -> End
 where
-    F: Read + Drop,
-    W: Write + Drop,
-    ensures { closings.IsStartedOn on_close F.remaining W.contents table out result.0 result.1 }
+    T: Source,
+    O: Sink,
+    requires table { T.failed table.old ≡ false }
+    requires out { O.failed out.old ≡ false }
+    ensures { closings.IsStarted on_close (input T.remaining T.failed table.old table.new)
+        (output O.contents O.failed O.is_flushed out.old out.new) result }
 {
-    let mut table = open_result(table);
-    let mut policy = Watched::new(NO_EDGES);
-    let mut out = Watched::new(out);
-    let end = close(alloc, &mut table, &mut policy, on_close, &mut out);
-    (end, out.into_inner())
+    let mut policy = Known { bytes: NO_EDGES };
+    close(alloc, table, &mut policy, on_close, out)
+}
+
+/// Bytes that are known beforehand: no device can fail.
+#[derive(Drop)]
+struct Known<'a> {
+    bytes: &'a [u8],
+}
+
+impl Source for Known<'_> {
+    ghost use Rattle.std.specs.Prelude.{Some, false};
+
+    ghost remaining = { λ known. Some known.bytes.now };
+
+    ghost failed = { λ _. false };
+
+    fn read(&mut self, buf: &mut [u8]) -> Result<usize, ReadError> {
+        Ok(self.bytes.read(buf)?)
+    }
 }
 
 /// The command `close`, which has no third file.

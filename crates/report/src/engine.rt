@@ -4,15 +4,12 @@ ghost use Rattle.devices.specs.Devices.{AppendsBeginning};
 ghost use Rattle.report.specs.Commands.{IsAnswer, IsCarriedOut, IsUnlabelled, input, output};
 ghost use Rattle.report.specs.Ends.{IfCannotWrite, IfNoLabel, IfStatus, IfUnwritten, is_unwritable, status_of, unread_file};
 ghost use Rattle.report.specs.Files.{Contents, Gives, IfUnlabelled, unread_by, unread_of};
-ghost use Rattle.report.specs.Opening.{IsCarriedOutOn};
 
 use crate::command::{Answer, Command};
 use crate::load::{Loaded, Stop, load};
 use crate::reports::fault_report;
-use crate::{Asked, End, File, Sink, Source, Watched};
-use devices::open_result;
+use crate::{Asked, End, File, Sink, Source};
 use std::alloc::Global;
-use std::io::{self, Read, Write};
 
 /// Why there is no answer.
 #[derive(Clone, Copy)]
@@ -48,32 +45,6 @@ where
 {
     let loaded = load::<C, T, P, S>(alloc, table, policy, third);
     write(out, answer(command, alloc, &loaded))
-}
-
-/// The same on what opening the table and the policy gave. Gives the end, and the writer back.
-pub(crate) fn carry_out_on<C, F, S, W>(
-    command: &C,
-    alloc: Global,
-    table: io::Result<F>,
-    policy: io::Result<F>,
-    third: &mut S,
-    out: W,
-) -> (End, W)
-where
-    C: Command,
-    F: Read + Drop,
-    S: Source,
-    W: Write + Drop,
-    requires command { C.may_judge command.now }
-    requires third { S.failed third.old ≡ false }
-    ensures { IsCarriedOutOn C.third_file C.read_of (C.lacks command.now) (C.judges command.now) F.remaining W.contents table policy
-        (input S.remaining S.failed third.old third.new) out result.0 result.1 }
-{
-    let mut table = open_result(table);
-    let mut policy = open_result(policy);
-    let mut out = Watched::new(out);
-    let end = carry_out(command, alloc, &mut table, &mut policy, third, &mut out);
-    (end, out.into_inner())
 }
 
 /// The answer to what was loaded, or to why it wasn't.

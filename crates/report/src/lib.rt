@@ -15,11 +15,11 @@ mod reports;
 mod running;
 mod verifying;
 
-pub use asking::{why, why_on};
-pub use checking::{OnAccept, check, check_on};
-pub use closing::{OnClose, close, close_on, start_on};
+pub use asking::why;
+pub use checking::{OnAccept, check};
+pub use closing::{OnClose, close, start};
 pub use deal::{Gate, Open};
-pub use devices::{ReadError, Sink, Source, Unopened, Watched, WriteError};
+pub use devices::{ReadError, Sink, Source, Unopened, Watched, WriteError, open_result};
 pub use end::{Asked, End, File};
-pub use running::{run, run_on};
-pub use verifying::{verify, verify_on};
+pub use running::run;
+pub use verifying::verify;

@@ -4,22 +4,19 @@ ghost use Rattle.machine.specs.declared.call.Event.{Event};
 ghost use Rattle.std.specs.Thread.{IsSync};
 ghost use Rattle.report.specs.Answers as answers;
 ghost use Rattle.report.specs.Commands.{input, output};
-ghost use Rattle.report.specs.Opening.{IsRunOn};
 ghost use Rattle.report.specs.declared.end.File.TheVariants as file;
 
 use crate::command::{Answer, Command, NoMemory, denial_text};
-use crate::engine::{carry_out, carry_out_on};
+use crate::engine::carry_out;
 use crate::load::Loaded;
 use crate::{Asked, End, File, Sink, Source};
 use base::Refusal;
 use captext::Fault;
 use deal::Open;
-use devices::open_result;
 use evtext::{read_script, write_run};
 use kernel::boot;
 use machine::Event;
 use std::alloc::Global;
-use std::io::{self, Read, Write};
 use std::thread::Threads;
 use table::Table;
 use verdict::judge;
@@ -51,25 +48,6 @@ where
         (output O.contents O.failed O.is_flushed out.old out.new) result }
 {
     carry_out(&Running { rt }, alloc, table, policy, script, out)
-}
-
-/// The same on what opening the three files gave. Gives the end, and the writer back.
-pub fn run_on<R, F, W>(
-    rt: &R,
-    alloc: Global,
-    table: io::Result<F>,
-    policy: io::Result<F>,
-    script: io::Result<F>,
-    out: W,
-) -> (End, W)
-where
-    R: Threads + Sync,
-    F: Read + Drop,
-    W: Write + Drop,
-    ensures { IsRunOn F.remaining W.contents table policy script out result.0 result.1 }
-{
-    let mut script = open_result(script);
-    carry_out_on(&Running { rt }, alloc, table, policy, &mut script, out)
 }
 
 /// The command `run`.

@@ -4,19 +4,16 @@ ghost use Rattle.certificate.specs.declared.line.Line.{Line};
 ghost use Rattle.std.specs.Thread.{IsSync};
 ghost use Rattle.report.specs.Answers as answers;
 ghost use Rattle.report.specs.Commands.{input, output};
-ghost use Rattle.report.specs.Opening.{IsVerifiedOn};
 ghost use Rattle.report.specs.declared.end.File.TheVariants as file;
 
 use crate::command::{Answer, Command, NoMemory, denial_text};
-use crate::engine::{carry_out, carry_out_on};
+use crate::engine::carry_out;
 use crate::load::Loaded;
 use crate::reports::accept_report;
 use crate::{Asked, End, File, Sink, Source};
 use captext::Fault;
 use certificate::{Certificate, NotAccepted};
-use devices::open_result;
 use std::alloc::Global;
-use std::io::{self, Read, Write};
 use std::thread::Threads;
 use table::Table;
 
@@ -47,32 +44,6 @@ where
         (output O.contents O.failed O.is_flushed out.old out.new) result }
 {
     carry_out(&Verifying { rt }, alloc, table, policy, certificate, out)
-}
-
-/// The same on what opening the three files gave. Gives the end, and the writer back.
-pub fn verify_on<R, F, W>(
-    rt: &R,
-    alloc: Global,
-    table: io::Result<F>,
-    policy: io::Result<F>,
-    certificate: io::Result<F>,
-    out: W,
-) -> (End, W)
-where
-    R: Threads + Sync,
-    F: Read + Drop,
-    W: Write + Drop,
-    ensures { IsVerifiedOn F.remaining W.contents table policy certificate out result.0 result.1 }
-{
-    let mut certificate = open_result(certificate);
-    carry_out_on(
-        &Verifying { rt },
-        alloc,
-        table,
-        policy,
-        &mut certificate,
-        out,
-    )
 }
 
 /// The command `verify`.
