@@ -2,8 +2,7 @@
 use Rattle.std.proofs.Common.{◌≡◌, ℕ, ◌<◌, Bool, true, false, inl, inr, refl, sym, ◌∙◌}
 use Rattle.base.specs.declared.kind.Kind.{Kind}
 use Rattle.base.specs.declared.kind.Kind.TheVariants.{Space, Control, Receive, Grant, Call, Reply, Context, Derive, Runs, Holds}
-use Rattle.policy.specs.Broken.{ComesToDerive, ComesToHold, granted, derived, server, caller}
-use Rattle.policy.specs.Closed.{IsClosed, MayBeGranted}
+use Rattle.policy.specs.Closed.{ComesToDerive, ComesToHold, IsClosed, MayBeGranted, granted, derived, server, caller}
 use Rattle.policy.specs.Closing.{IsWithin}
 use Rattle.policy.specs.Settling.{Shares, of_its_domain, of_their_domain, by_grant, IsGiven, shared, controlled, IsAskedFor, gives, derives, comes, runs, holds}
 use Rattle.policy.specs.Domain.{EdgeTest, IsInDomain}
@@ -28,19 +27,19 @@ module _ (one other : EdgeTest) (within : IsWithin one other) (closed : IsClosed
       closed.subjects_agree from giver (in_domain from giver domain) kind of_use to ∙ within giver kind to has
   has_given from kind to (shared giver (by_grant h) of_use has) =
       closed.grant_shares giver from (may giver from h) kind of_use to (within giver kind to has)
-  has_given from kind to (controlled (inl space) e) = rw space (closed.control_gives_all.space from to (within from Control to e))
-  has_given from kind to (controlled (inr of_use) e) = closed.control_gives_all.kinds from to (within from Control to e) kind of_use.0 of_use.1
+  has_given from kind to (controlled given e) = closed.control_gives_all from kind to (within from Control to e) given
 
   has_derived : (from to : ℕ) → ComesToDerive one from to → other from Derive to ≡ true
   has_derived from to (granted giver taker h of_parent of_child) =
-      closed.derive_by_grant.granted giver taker from to (may giver taker h) (in_domain giver from of_parent) (in_domain taker to of_child)
+      closed.derive_by_grant from to (granted giver taker (may giver taker h) (in_domain giver from of_parent) (in_domain taker to of_child))
   has_derived from to (derived middle first second) =
-      closed.derive_by_grant.derived from middle to (within from Derive middle first) (within middle Derive to second)
+      closed.derive_by_grant from to (derived middle (within from Derive middle first) (within middle Derive to second))
 
   has_held : (reply thread : ℕ) → ComesToHold one reply thread → other reply Holds thread ≡ true
-  has_held reply thread (server e) = closed.reply_holds.server thread reply (within thread Reply reply e)
+  has_held reply thread (server e) = closed.reply_holds reply thread (server (within thread Reply reply e))
   has_held reply thread (caller b endpoint e calls receives) =
-      closed.reply_holds.caller b reply thread endpoint (within b Reply reply e) (within thread Call endpoint calls) (within b Receive endpoint receives)
+      closed.reply_holds reply thread
+      (caller b endpoint (within b Reply reply e) (within thread Call endpoint calls) (within b Receive endpoint receives))
 
   pub has_asked : (from : ℕ) (kind : Kind) (to : ℕ) → IsAskedFor one from kind to → other from kind to ≡ true
   has_asked from kind to (gives h) = has_given from kind to h
@@ -61,21 +60,12 @@ closed_if_settled test settled = record {
   subjects_agree = λ a b domain kind of_use to.
       alike (test a kind to) (test b kind to) (λ has. settled b kind to (gives (shared a (of_its_domain domain) of_use has)))
       (λ has. settled a kind to (gives (shared b (of_their_domain domain) of_use has)));
-  control_gives_all = record {
-    space = λ a b e. settled a Space b (gives (controlled (inl refl) e));
-    kinds = λ a b e kind of_use other. settled a kind b (gives (controlled (inr (of_use, other)) e));
-  };
+  control_gives_all = λ a kind b e given. settled a kind b (gives (controlled given e));
   grant_shares = λ a b h kind of_use to has. settled b kind to (gives (shared a (by_grant h) of_use has));
   derive_in_domain = λ a x y parent child. settled x Derive y (derives refl a parent child);
-  derive_by_grant = record {
-    granted = λ a b x y h parent child. settled x Derive y (comes refl (granted a b h parent child));
-    derived = λ x y z first second. settled x Derive z (comes refl (derived y first second));
-  };
+  derive_by_grant = λ x y h. settled x Derive y (comes refl h);
   context_runs = λ a s e. settled a Runs s (runs refl e);
-  reply_holds = record {
-    server = λ b r e. settled r Holds b (holds refl (server e));
-    caller = λ b r c endpoint e calls receives. settled r Holds c (holds refl (caller b endpoint e calls receives));
-  };
+  reply_holds = λ reply thread h. settled reply Holds thread (holds refl h);
 }
 
 -- both ends of what is asked for are ends of edges

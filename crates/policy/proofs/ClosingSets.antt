@@ -8,7 +8,8 @@ use Rattle.base.specs.declared.kind.Kind.TheVariants.{Control, Receive, Grant, C
 use Rattle.base.specs.declared.labels.Labels.{Labels}
 use Rattle.base.specs.Kinds.{kind_number, is_structural}
 use Rattle.base.specs.Labels.{is_in}
-use Rattle.policy.specs.Broken.{IsGivenByControl, DomainLacks, DeriveLacks, ReplyLacks}
+use Rattle.policy.specs.Broken.{DomainLacks, DeriveLacks, ReplyLacks}
+use Rattle.policy.specs.Closed.{IsGivenByControl}
 use Rattle.policy.specs.Settling.{Shares, of_its_domain, of_their_domain, by_grant, IsGiven, shared, controlled, IsAskedFor, gives, derives, comes, runs, holds, IsMissing, IsSettled}
 use Rattle.policy.specs.Domain.{EdgeTest, IsInDomain}
 use Rattle.policy.proofs.KindNumbers.{all_kinds, number_stands, same_kind}

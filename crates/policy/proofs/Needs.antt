@@ -3,7 +3,7 @@ use Rattle.std.proofs.Common.{◌≡◌, ◌≢◌, ℕ, ◌==◌, inl, inr, tru
 use mathlib.Core.Bool.{false≢true}
 use Rattle.base.specs.declared.kind.Kind.{Kind}
 use Rattle.base.specs.declared.kind.Kind.TheVariants.{Control, Reset, Receive, Grant, Reply, Context, Space, Derive}
-use Rattle.policy.specs.Closed.{ControlGivesAll, GrantShares, DeriveInDomain, DeriveByGrant, ContextRuns, ReplyHolds, IsClosed}
+use Rattle.policy.specs.Closed.{ControlGivesAll, GrantShares, DeriveInDomain, DeriveByGrant, ContextRuns, ReplyHolds, IsClosed, granted, derived, server, caller}
 use Rattle.policy.specs.Domain.{EdgeTest, IsInDomain, SubjectsAgree}
 use Rattle.policy.proofs.Cells.{not_both}
 use Rattle.policy.specs.Needed.{Rule, subjects_agree, control_gives_all, grant_shares, derive_in_domain, derive_by_grant, context_runs, reply_holds, Obeys, BreaksOnly}
@@ -25,11 +25,7 @@ no_domain_agrees : (test : EdgeTest) → Lacks test Space → Lacks test Control
 no_domain_agrees test space control a b domain kind of_use to = absurd (outside test space control a b domain)
 
 no_control : (test : EdgeTest) → Lacks test Control → ControlGivesAll test
-no_control test lacks =
-    record {
-      space = λ a b e. absurd (not_both e (lacks a b));
-      kinds = λ a b e kind of_use other. absurd (not_both e (lacks a b));
-    }
+no_control test lacks a kind b e given = absurd (not_both e (lacks a b))
 
 no_grant : (test : EdgeTest) → Lacks test Grant → GrantShares test
 no_grant test lacks a b may kind of_use to e = absurd (not_both may.grants (lacks a may.endpoint))
@@ -41,17 +37,18 @@ all_derive : (test : EdgeTest) → HasAll test Derive → DeriveInDomain test
 all_derive test all a x y one other = all x y
 
 all_derive_by_grant : (test : EdgeTest) → HasAll test Derive → DeriveByGrant test
-all_derive_by_grant test all = record { granted = λ a b x y may one other. all x y; derived = λ x y z one other. all x z }
+all_derive_by_grant test all x y comes = all x y
+
+no_derive : (test : EdgeTest) → Lacks test Grant → Lacks test Derive → DeriveByGrant test
+no_derive test grant derive x y (granted a b may one other) = absurd (not_both may.grants (grant a may.endpoint))
+no_derive test grant derive x y (derived middle one other) = absurd (not_both one (derive x middle))
 
 no_context : (test : EdgeTest) → Lacks test Context → ContextRuns test
 no_context test lacks a s e = absurd (not_both e (lacks a s))
 
 no_reply : (test : EdgeTest) → Lacks test Reply → ReplyHolds test
-no_reply test lacks =
-    record {
-      server = λ b r e. absurd (not_both e (lacks b r));
-      caller = λ b r c endpoint e calls receives. absurd (not_both e (lacks b r));
-    }
+no_reply test lacks reply thread (server e) = absurd (not_both e (lacks thread reply))
+no_reply test lacks reply thread (caller b endpoint e calls receives) = absurd (not_both e (lacks b reply))
 
 -- the policies
 
@@ -92,7 +89,7 @@ breaks_control =
     record {
       test = weak_control;
       others = others;
-      broken = λ gives. false≢true (gives.kinds 0 0 refl Reset refl (λ e. cc));
+      broken = λ gives. false≢true (gives 0 Reset 0 refl (inr (refl, λ e. cc)));
     } where
       others : (other : Rule) → other ≢ control_gives_all → Obeys weak_control other
       others subjects_agree differ = weak_agrees
@@ -110,6 +107,10 @@ unshared a Receive to = true
 unshared a Reset to = a == 0
 unshared a _ to = false
 
+nothing_comes : DeriveByGrant unshared
+nothing_comes x y (granted a b may one other) = absurd (outside unshared (λ c d. refl) (λ c d. refl) a x one)
+nothing_comes x y (derived middle one other) = absurd (false≢true one)
+
 breaks_grant : BreaksOnly grant_shares
 breaks_grant =
     record {
@@ -122,11 +123,7 @@ breaks_grant =
       others control_gives_all differ = no_control unshared (λ a b. refl)
       others grant_shares differ = absurd (differ refl)
       others derive_in_domain differ = no_domain_derives unshared (λ a b. refl) (λ a b. refl)
-      others derive_by_grant differ =
-          record {
-            granted = λ a b x y may one other. absurd (outside unshared (λ c d. refl) (λ c d. refl) a x one);
-            derived = λ x y z one other. absurd (false≢true one);
-          }
+      others derive_by_grant differ = nothing_comes
       others context_runs differ = no_context unshared (λ a b. refl)
       others reply_holds differ = no_reply unshared (λ a b. refl)
 
@@ -147,11 +144,7 @@ breaks_derive =
       others control_gives_all differ = no_control underived (λ a b. refl)
       others grant_shares differ = no_grant underived (λ a b. refl)
       others derive_in_domain differ = absurd (differ refl)
-      others derive_by_grant differ =
-          record {
-            granted = λ a b x y may one other. absurd (false≢true may.grants);
-            derived = λ x y z one other. absurd (false≢true one);
-          }
+      others derive_by_grant differ = no_derive underived (λ a b. refl) (λ a b. refl)
       others context_runs differ = no_context underived (λ a b. refl)
       others reply_holds differ = no_reply underived (λ a b. refl)
 
@@ -162,7 +155,7 @@ no_chain a _ to = false
 
 breaks_derive_by_grant : BreaksOnly derive_by_grant
 breaks_derive_by_grant =
-    record { test = no_chain; others = others; broken = λ derives. false≢true (derives.derived 0 1 2 refl refl) } where
+    record { test = no_chain; others = others; broken = λ derives. false≢true (derives 0 2 (derived 1 refl refl)) } where
       others : (other : Rule) → other ≢ derive_by_grant → Obeys no_chain other
       others subjects_agree differ = no_domain_agrees no_chain (λ a b. refl) (λ a b. refl)
       others control_gives_all differ = no_control no_chain (λ a b. refl)
@@ -184,11 +177,7 @@ breaks_context = record { test = unrunnable; others = others; broken = λ runs. 
   others control_gives_all differ = no_control unrunnable (λ a b. refl)
   others grant_shares differ = no_grant unrunnable (λ a b. refl)
   others derive_in_domain differ = no_domain_derives unrunnable (λ a b. refl) (λ a b. refl)
-  others derive_by_grant differ =
-      record {
-        granted = λ a b x y may one other. absurd (false≢true may.grants);
-        derived = λ x y z one other. absurd (false≢true one);
-      }
+  others derive_by_grant differ = no_derive unrunnable (λ a b. refl) (λ a b. refl)
   others context_runs differ = absurd (differ refl)
   others reply_holds differ = no_reply unrunnable (λ a b. refl)
 
@@ -198,17 +187,13 @@ unheld a Reply to = true
 unheld a _ to = false
 
 breaks_reply : BreaksOnly reply_holds
-breaks_reply = record { test = unheld; others = others; broken = λ holds. false≢true (holds.server 0 0 refl) } where
+breaks_reply = record { test = unheld; others = others; broken = λ holds. false≢true (holds 0 0 (server refl)) } where
   others : (other : Rule) → other ≢ reply_holds → Obeys unheld other
   others subjects_agree differ = no_domain_agrees unheld (λ a b. refl) (λ a b. refl)
   others control_gives_all differ = no_control unheld (λ a b. refl)
   others grant_shares differ = no_grant unheld (λ a b. refl)
   others derive_in_domain differ = no_domain_derives unheld (λ a b. refl) (λ a b. refl)
-  others derive_by_grant differ =
-      record {
-        granted = λ a b x y may one other. absurd (false≢true may.grants);
-        derived = λ x y z one other. absurd (false≢true one);
-      }
+  others derive_by_grant differ = no_derive unheld (λ a b. refl) (λ a b. refl)
   others context_runs differ = no_context unheld (λ a b. refl)
   others reply_holds differ = absurd (differ refl)
 
@@ -237,10 +222,10 @@ pub full_closed : IsClosed (λ from kind to. true)
 full_closed =
     record {
       subjects_agree = λ a b domain kind of_use to. refl;
-      control_gives_all = record { space = λ a b e. refl; kinds = λ a b e kind of_use other. refl };
+      control_gives_all = λ a kind b e given. refl;
       grant_shares = λ a b may kind of_use to e. refl;
       derive_in_domain = λ a x y one other. refl;
-      derive_by_grant = record { granted = λ a b x y may one other. refl; derived = λ x y z one other. refl };
+      derive_by_grant = λ x y comes. refl;
       context_runs = λ a s e. refl;
-      reply_holds = record { server = λ b r e. refl; caller = λ b r c endpoint e calls receives. refl };
+      reply_holds = λ reply thread comes. refl;
     }

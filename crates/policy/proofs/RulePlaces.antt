@@ -7,7 +7,8 @@ use Rattle.policy.specs.declared.broken.Broken.{Broken}
 use Rattle.policy.specs.declared.broken.Broken.TheVariants as broken
 use Rattle.policy.specs.declared.broken.Rule.{Rule}
 use Rattle.policy.specs.declared.broken.Rule.TheVariants as rule
-use Rattle.policy.specs.Broken.{IsBrokenAt, broken_place, ComesToDerive, ComesToHold, granted, derived, server, caller}
+use Rattle.policy.specs.Broken.{IsBrokenAt, broken_place}
+use Rattle.policy.specs.Closed.{ComesToDerive, ComesToHold, granted, derived, server, caller}
 use Rattle.policy.specs.Domain.{EdgeTest, IsInDomain}
 use Rattle.policy.specs.Places.{Begins, FindsLeast, IsUnder}
 use Rattle.policy.specs.Search.{FindsBroken}

@@ -9,7 +9,8 @@ use Rattle.base.specs.declared.kind.Kind.TheVariants.{Call, Derive, Grant, Recei
 use Rattle.base.specs.declared.labels.Labels.{Labels}
 use Rattle.base.specs.Labels.{is_in}
 use Rattle.policy.specs.Closed.{MayBeGranted}
-use Rattle.policy.specs.Broken.{DomainLacks, DeriveLacks, ReplyLacks, ComesToDerive, ComesToHold, granted, derived, server, caller}
+use Rattle.policy.specs.Broken.{DomainLacks, DeriveLacks, ReplyLacks}
+use Rattle.policy.specs.Closed.{ComesToDerive, ComesToHold, granted, derived, server, caller}
 use Rattle.policy.specs.Domain.{EdgeTest, IsInDomain}
 use Rattle.policy.specs.Steps.{IsSource, IsTarget}
 use Rattle.policy.proofs.Stepping.{IsRow, only_kind, source_by, target_by}

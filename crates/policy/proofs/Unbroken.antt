@@ -4,7 +4,7 @@ use mathlib.Core.Bool.{false≢true}
 use Rattle.base.specs.declared.kind.Kind.TheVariants.{Space, Derive, Runs, Holds}
 use Rattle.policy.specs.declared.broken.Broken.{Broken}
 use Rattle.policy.specs.declared.broken.Broken.TheVariants as broken
-use Rattle.policy.specs.Broken.{IsBrokenAt, ComesToDerive, ComesToHold, granted, derived, server, caller}
+use Rattle.policy.specs.Broken.{IsBrokenAt}
 use Rattle.policy.specs.Closed.{IsClosed}
 use Rattle.policy.specs.Domain.{EdgeTest}
 use Rattle.policy.proofs.Cells.{not_both}
@@ -13,27 +13,14 @@ abbrev IsUnbroken : EdgeTest → Type 0
 IsUnbroken test = (b : Broken) → ¬ IsBrokenAt test b
 
 module _ (test : EdgeTest) (closed : IsClosed test) where
-  derives : (parent child : ℕ) → ComesToDerive test parent child → test parent Derive child ≡ true
-  derives parent child (granted giver taker may of_parent of_child) = closed.derive_by_grant.granted giver taker parent child may of_parent of_child
-  derives parent child (derived middle one other) = closed.derive_by_grant.derived parent middle child one other
-
-  holds : (reply thread : ℕ) → ComesToHold test reply thread → test reply Holds thread ≡ true
-  holds reply thread (server e) = closed.reply_holds.server thread reply e
-  holds reply thread (caller b endpoint e calls receives) = closed.reply_holds.caller b reply thread endpoint e calls receives
-
   pub unbroken : IsUnbroken test
   unbroken (broken.SubjectsDisagree a b kind to) h = h.differ (closed.subjects_agree a b h.domain kind h.of_use to)
-  unbroken (broken.ControlLacks a kind b) h = not_both has h.missing where
-    has : test a kind b ≡ true
-    has = elim h.given [
-      | inl space ↦ rw space (closed.control_gives_all.space a b h.controls)
-      | inr of_use ↦ closed.control_gives_all.kinds a b h.controls kind of_use.0 of_use.1
-    ]
+  unbroken (broken.ControlLacks a kind b) h = not_both (closed.control_gives_all a kind b h.controls h.given) h.missing
   unbroken (broken.GrantLacks a b kind to) h = not_both (closed.grant_shares a b h.granted kind h.of_use to h.has) h.missing
   unbroken (broken.DomainLacks x y) h = not_both (closed.derive_in_domain h.subject x y h.of_parent h.of_child) h.missing
-  unbroken (broken.DeriveLacks x y) h = not_both (derives x y h.comes) h.missing
+  unbroken (broken.DeriveLacks x y) h = not_both (closed.derive_by_grant x y h.comes) h.missing
   unbroken (broken.ContextLacks a s) h = not_both (closed.context_runs a s h.binds) h.missing
-  unbroken (broken.ReplyLacks r c) h = not_both (holds r c h.comes) h.missing
+  unbroken (broken.ReplyLacks r c) h = not_both (closed.reply_holds r c h.comes) h.missing
 
 -- what isn't missing is there, and what doesn't differ is the same
 
@@ -51,26 +38,14 @@ pub closed_if : (test : EdgeTest) → IsUnbroken test → IsClosed test
 closed_if test none = record {
   subjects_agree = λ a b domain kind of_use to.
       alike (test a kind to) (test b kind to) (λ differ. none (broken.SubjectsDisagree a b kind to) (record { domain = domain; of_use = of_use; differ = differ }));
-  control_gives_all = record {
-    space = λ a b e.
-        present (test a Space b) (λ missing. none (broken.ControlLacks a Space b) (record { controls = e; given = inl refl; missing = missing }));
-    kinds = λ a b e kind of_use other.
-        present (test a kind b) (λ missing. none (broken.ControlLacks a kind b) (record { controls = e; given = inr (of_use, other); missing = missing }));
-  };
+  control_gives_all = λ a kind b e given.
+      present (test a kind b) (λ missing. none (broken.ControlLacks a kind b) (record { controls = e; given = given; missing = missing }));
   grant_shares = λ a b may kind of_use to e.
       present (test b kind to) (λ missing. none (broken.GrantLacks a b kind to) (record { granted = may; of_use = of_use; has = e; missing = missing }));
   derive_in_domain = λ a x y one other.
       present (test x Derive y) (λ missing. none (broken.DomainLacks x y) (record { subject = a; of_parent = one; of_child = other; missing = missing }));
-  derive_by_grant = record {
-    granted = λ a b x y may one other.
-        present (test x Derive y) (λ missing. none (broken.DeriveLacks x y) (record { comes = granted a b may one other; missing = missing }));
-    derived = λ x y z one other.
-        present (test x Derive z) (λ missing. none (broken.DeriveLacks x z) (record { comes = derived y one other; missing = missing }));
-  };
+  derive_by_grant = λ x y comes.
+      present (test x Derive y) (λ missing. none (broken.DeriveLacks x y) (record { comes = comes; missing = missing }));
   context_runs = λ a s e. present (test a Runs s) (λ missing. none (broken.ContextLacks a s) (record { binds = e; missing = missing }));
-  reply_holds = record {
-    server = λ b r e. present (test r Holds b) (λ missing. none (broken.ReplyLacks r b) (record { comes = server e; missing = missing }));
-    caller = λ b r c endpoint e calls receives.
-        present (test r Holds c) (λ missing. none (broken.ReplyLacks r c) (record { comes = caller b endpoint e calls receives; missing = missing }));
-  };
+  reply_holds = λ r c comes. present (test r Holds c) (λ missing. none (broken.ReplyLacks r c) (record { comes = comes; missing = missing }));
 }

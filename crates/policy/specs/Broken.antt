@@ -1,4 +1,4 @@
--- Where the rules of closed policies are broken, and in which order these places come (compare 'seL4 Enforces Integrity', section 3,
+-- Where the rules of closed policies (`Closed`) are broken: what a rule asks for is missing, and in which order these places come (compare 'seL4 Enforces Integrity', section 3,
 -- well-formed policies; the rules, their places and their order are confine's own).
 use Rattle.std.specs.Prelude.{◌≡◌, ◌≢◌, ℕ, ◌⊎◌, true, false, List, [], ◌∷◌, codes}
 use Rattle.base.specs.declared.kind.Kind.{Kind}
@@ -6,7 +6,7 @@ use Rattle.base.specs.declared.kind.Kind.TheVariants.{Control, Receive, Call, Re
 use Rattle.base.specs.Kinds.{kind_number, is_structural}
 use Rattle.policy.specs.declared.broken.Broken.{Broken}
 use Rattle.policy.specs.declared.broken.Broken.TheVariants as broken
-use Rattle.policy.specs.Closed.{MayBeGranted}
+use Rattle.policy.specs.Closed.{ComesToDerive, ComesToHold, IsGivenByControl, MayBeGranted}
 use Rattle.policy.specs.Domain.{EdgeTest, IsInDomain}
 
 -- the numbers of the rules
@@ -38,10 +38,6 @@ pub record SubjectsDisagree (test : EdgeTest) (subject other : ℕ) (kind : Kind
   pub of_use : is_structural kind ≡ false
   pub differ : test subject kind target ≢ test other kind target
 
--- the kinds that control gives: space, and every kind of use but to configure a core
-abbrev pub IsGivenByControl : Kind → Type 0
-IsGivenByControl kind = (kind ≡ Space) ⊎ ((is_structural kind ≡ false) × (kind ≢ SchedControl))
-
 -- P2: one label controls another, and lacks an edge to it that control gives
 pub record ControlLacks (test : EdgeTest) (subject : ℕ) (kind : Kind) (object : ℕ) : Type 0 where
   pub controls : test subject Control object ≡ true
@@ -62,12 +58,6 @@ pub record DomainLacks (test : EdgeTest) (parent child : ℕ) : Type 0 where
   pub of_child : IsInDomain test subject child
   pub missing : test parent Derive child ≡ false
 
--- capabilities may come to be derived, over a grant or in two steps
-pub data ComesToDerive (test : EdgeTest) (parent child : ℕ) : Type 0 where
-  granted : (giver taker : ℕ) → MayBeGranted test giver taker → IsInDomain test giver parent → IsInDomain test taker child
-      → ComesToDerive test parent child
-  derived : (middle : ℕ) → test parent Derive middle ≡ true → test middle Derive child ≡ true → ComesToDerive test parent child
-
 -- P5: capabilities may come to be derived, and the edge for it is missing
 pub record DeriveLacks (test : EdgeTest) (parent child : ℕ) : Type 0 where
   pub comes : ComesToDerive test parent child
@@ -77,12 +67,6 @@ pub record DeriveLacks (test : EdgeTest) (parent child : ℕ) : Type 0 where
 pub record ContextLacks (test : EdgeTest) (subject context : ℕ) : Type 0 where
   pub binds : test subject Context context ≡ true
   pub missing : test subject Runs context ≡ false
-
--- a reply may come to hold a thread: of a label that may use the reply, or of one that calls such a label
-pub data ComesToHold (test : EdgeTest) (reply thread : ℕ) : Type 0 where
-  server : test thread Reply reply ≡ true → ComesToHold test reply thread
-  caller : (server endpoint : ℕ) → test server Reply reply ≡ true → test thread Call endpoint ≡ true
-      → test server Receive endpoint ≡ true → ComesToHold test reply thread
 
 -- P7: a reply may come to hold a thread, and the edge for it is missing
 pub record ReplyLacks (test : EdgeTest) (reply thread : ℕ) : Type 0 where

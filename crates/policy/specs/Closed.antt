@@ -1,16 +1,18 @@
 -- Closed policies: what a policy has to have so that no run leads out of it
 -- (the well-formed policies of 'seL4 Enforces Integrity', section 3, restated for this profile).
-use Rattle.std.specs.Prelude.{◌≡◌, ◌≢◌, ℕ, true, false}
+use Rattle.std.specs.Prelude.{◌≡◌, ◌≢◌, ℕ, ◌⊎◌, true, false}
 use Rattle.base.specs.declared.kind.Kind.{Kind}
 use Rattle.base.specs.declared.kind.Kind.TheVariants.{Control, Receive, Grant, Call, Reply, Context, SchedControl, Space, Derive, Runs, Holds}
 use Rattle.base.specs.Kinds.{is_structural}
 use Rattle.policy.specs.Domain.{EdgeTest, IsInDomain, SubjectsAgree}
 
+-- the kinds that control gives: space, and every kind of use but to configure a core
+abbrev pub IsGivenByControl : Kind → Type 0
+IsGivenByControl kind = (kind ≡ Space) ⊎ ((is_structural kind ≡ false) × (kind ≢ SchedControl))
+
 -- P2: who controls a label has its space, and may do everything to it but configure its core
-pub record ControlGivesAll (test : EdgeTest) : Type 0 where
-  pub space : (a b : ℕ) → test a Control b ≡ true → test a Space b ≡ true
-  pub kinds : (a b : ℕ) → test a Control b ≡ true → (kind : Kind) → is_structural kind ≡ false → kind ≢ SchedControl
-      → test a kind b ≡ true
+abbrev pub ControlGivesAll : EdgeTest → Type 0
+ControlGivesAll test = (a : ℕ) (kind : Kind) (b : ℕ) → test a Control b ≡ true → IsGivenByControl kind → test a kind b ≡ true
 
 -- b may get capabilities from a, by a grant over some endpoint
 pub record MayBeGranted (test : EdgeTest) (a b : ℕ) : Type 0 where
@@ -28,20 +30,29 @@ GrantShares test =
 abbrev pub DeriveInDomain : EdgeTest → Type 0
 DeriveInDomain test = (a x y : ℕ) → IsInDomain test a x → IsInDomain test a y → test x Derive y ≡ true
 
--- P5: capabilities may be derived where they may be granted, and where what may be derived may be derived
-pub record DeriveByGrant (test : EdgeTest) : Type 0 where
-  pub granted : (a b x y : ℕ) → MayBeGranted test a b → IsInDomain test a x → IsInDomain test b y → test x Derive y ≡ true
-  pub derived : (x y z : ℕ) → test x Derive y ≡ true → test y Derive z ≡ true → test x Derive z ≡ true
+-- capabilities may come to be derived, over a grant or in two steps
+pub data ComesToDerive (test : EdgeTest) (parent child : ℕ) : Type 0 where
+  granted : (giver taker : ℕ) → MayBeGranted test giver taker → IsInDomain test giver parent → IsInDomain test taker child
+      → ComesToDerive test parent child
+  derived : (middle : ℕ) → test parent Derive middle ≡ true → test middle Derive child ≡ true → ComesToDerive test parent child
+
+-- P5: capabilities may be derived where they may come to be
+abbrev pub DeriveByGrant : EdgeTest → Type 0
+DeriveByGrant test = (x y : ℕ) → ComesToDerive test x y → test x Derive y ≡ true
 
 -- P6: who may bind a context may run on it
 abbrev pub ContextRuns : EdgeTest → Type 0
 ContextRuns test = (a s : ℕ) → test a Context s ≡ true → test a Runs s ≡ true
 
--- P7: a reply may hold the threads that use it, and those that call them
-pub record ReplyHolds (test : EdgeTest) : Type 0 where
-  pub server : (b r : ℕ) → test b Reply r ≡ true → test r Holds b ≡ true
-  pub caller : (b r c endpoint : ℕ) → test b Reply r ≡ true → test c Call endpoint ≡ true → test b Receive endpoint ≡ true
-      → test r Holds c ≡ true
+-- a reply may come to hold a thread: of a label that may use the reply, or of one that calls such a label
+pub data ComesToHold (test : EdgeTest) (reply thread : ℕ) : Type 0 where
+  server : test thread Reply reply ≡ true → ComesToHold test reply thread
+  caller : (server endpoint : ℕ) → test server Reply reply ≡ true → test thread Call endpoint ≡ true
+      → test server Receive endpoint ≡ true → ComesToHold test reply thread
+
+-- P7: a reply may hold the threads that it may come to hold
+abbrev pub ReplyHolds : EdgeTest → Type 0
+ReplyHolds test = (reply thread : ℕ) → ComesToHold test reply thread → test reply Holds thread ≡ true
 
 pub record IsClosed (test : EdgeTest) : Type 0 where
   pub subjects_agree : SubjectsAgree test

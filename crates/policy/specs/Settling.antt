@@ -8,7 +8,7 @@ use Rattle.base.specs.declared.label.TheConstants.Label as Label
 use Rattle.base.specs.declared.labels.Labels.{Labels}
 use Rattle.base.specs.Kinds.{is_structural}
 use Rattle.base.specs.Labels.{is_in}
-use Rattle.policy.specs.Broken.{IsGivenByControl, ComesToDerive, ComesToHold}
+use Rattle.policy.specs.Closed.{IsGivenByControl, ComesToDerive, ComesToHold}
 use Rattle.policy.specs.Closed.{IsClosed, MayBeGranted}
 use Rattle.policy.specs.Closing.{IsWithin}
 use Rattle.policy.specs.Domain.{EdgeTest, IsInDomain}

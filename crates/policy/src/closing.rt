@@ -3,7 +3,7 @@ ghost use Rattle.base.specs.declared.kind.Kind.{Kind};
 ghost use Rattle.base.specs.declared.kind.Kind.TheVariants.{Control};
 ghost use Rattle.base.specs.Labels.{is_in};
 ghost use Rattle.base.specs.Refusals.{out_of_memory};
-ghost use Rattle.policy.specs.Broken.{IsGivenByControl};
+ghost use Rattle.policy.specs.Closed.{IsGivenByControl};
 ghost use Rattle.policy.specs.Closed.{IsClosed};
 ghost use Rattle.policy.specs.Closing.{IsLeastClosed};
 ghost use Rattle.policy.specs.Settling.{Grows, IsGiven, IsMissing, IsSettled, Joins, Shares};

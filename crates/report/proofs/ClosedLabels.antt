@@ -6,10 +6,11 @@ use Rattle.std.proofs.lemmas.Bool.{or_cases}
 use Rattle.std.proofs.lemmas.Bool.Decides.{nat_tests}
 use Rattle.base.specs.declared.edge.Edge.{Edge}
 use Rattle.base.specs.declared.kind.Kind.{Kind}
+use Rattle.base.specs.declared.kind.Kind.TheVariants.{Derive, Holds}
 use Rattle.captext.specs.PolicyText.{IsEdgeOf}
 use Rattle.labels.proofs.EdgeLists.{allows-append}
 use Rattle.machine.specs.Layout.{Layout}
-use Rattle.policy.specs.Closed.{IsClosed}
+use Rattle.policy.specs.Closed.{ComesToDerive, ComesToHold, IsClosed, granted, derived, server, caller}
 use Rattle.policy.specs.Closing.{IsLeastClosed}
 use Rattle.policy.specs.Domain.{EdgeTest, IsInDomain}
 use Rattle.policy.specs.Policy.{allows}
@@ -45,27 +46,26 @@ module _ (n : ℕ) where
   unfolding among
   agree a b of kind to = one_below n a b to (in_domain a b of).0 (in_domain a b of).1
 
+  derives : (x y : ℕ) → ComesToDerive (among n) x y → among n x Derive y ≡ true
+  derives x y (granted a b may one two) = joins x _ y (in_domain a x one).1 (in_domain b y two).1
+  derives x y (derived middle one two) = joins x _ y (joined x _ middle one).0 (joined middle _ y two).1
+
+  holds : (reply thread : ℕ) → ComesToHold (among n) reply thread → among n reply Holds thread ≡ true
+  holds reply thread (server e) = joins reply _ thread (joined thread _ reply e).1 (joined thread _ reply e).0
+  holds reply thread (caller b endpoint e call receive) = joins reply _ thread (joined b _ reply e).1 (joined thread _ endpoint call).0
+
   -- it is closed
   all_closed : IsClosed (among n)
   all_closed =
       record {
         subjects_agree = λ a b of kind of_use to. agree a b of kind to;
-        control_gives_all = record {
-          space = λ a b e. joins a _ b (joined a _ b e).0 (joined a _ b e).1;
-          kinds = λ a b e kind of_use other. joins a kind b (joined a _ b e).0 (joined a _ b e).1;
-        };
+        control_gives_all = λ a kind b e given. joins a kind b (joined a _ b e).0 (joined a _ b e).1;
         grant_shares = λ a b granted kind of_use to e.
             joins b kind to (joined b _ granted.endpoint granted.receives).0 (joined a kind to e).1;
         derive_in_domain = λ a x y one two. joins x _ y (in_domain a x one).1 (in_domain a y two).1;
-        derive_by_grant = record {
-          granted = λ a b x y granted one two. joins x _ y (in_domain a x one).1 (in_domain b y two).1;
-          derived = λ x y z one two. joins x _ z (joined x _ y one).0 (joined y _ z two).1;
-        };
+        derive_by_grant = derives;
         context_runs = λ a s e. joins a _ s (joined a _ s e).0 (joined a _ s e).1;
-        reply_holds = record {
-          server = λ b r e. joins r _ b (joined b _ r e).1 (joined b _ r e).0;
-          caller = λ b r c endpoint e call receive. joins r _ c (joined b _ r e).1 (joined c _ endpoint call).0;
-        };
+        reply_holds = holds;
       }
 
 -- so a policy that is within each closed one with some edges joins labels that these join

@@ -5,6 +5,7 @@ use Rattle.std.proofs.lemmas.Bool.{false≢true, and_parts, and_from, lt-ltb, lt
 use Rattle.base.specs.declared.kind.Kind.{Kind}
 use Rattle.base.specs.declared.kind.Kind.TheVariants.{Control, Receive, Grant, Call, Reply, Context, Space, Derive, Runs, Holds}
 use Rattle.base.specs.Kinds.{is_structural}
+use Rattle.policy.specs.Closed.{ComesToHold, IsGivenByControl, server, caller}
 use Rattle.policy.specs.Domain.{EdgeTest, IsInDomain}
 use Rattle.policy.specs.Needed.{Rule, subjects_agree, control_gives_all, grant_shares, derive_in_domain, derive_by_grant, context_runs, reply_holds, Obeys}
 
@@ -67,17 +68,23 @@ nothing_lacks (suc (suc x)) y small = absurd (omega (arith, small))
 derives : (x y : ℕ) → x < 2 → y < 2 → has x Derive y ≡ true
 derives x y one other = of_labels x Derive y (omega (arith, one)) other (nothing_lacks x y one)
 
+controls : (a : ℕ) (k : Kind) (b : ℕ) → a < 3 → b < 2 → IsGivenByControl k → has a k b ≡ true
+controls a k b one other (inl space) = rw space (of_labels a Space b one other refl)
+controls a k b one other (inr given) =
+    let free = of_use a k b given.0 in of_labels a k b one (subst (λ n. b < n) (sym free.0) other) free.1
+
+holds : (reply thread : ℕ) → ComesToHold has reply thread → has reply Holds thread ≡ true
+holds reply thread (server e) =
+    let labels = labels_of thread Reply reply e in of_labels reply Holds thread (omega (arith, labels.1)) labels.0 refl
+holds reply thread (caller b endpoint e calls receives) =
+    let labels = labels_of b Reply reply e in
+    of_labels reply Holds thread (omega (arith, labels.1)) (labels_of thread Call endpoint calls).0 refl
+
 pub others : (other : Rule) → other ≢ derive_by_grant → Obeys has other
 others subjects_agree differ = λ a b domain k e to.
     let labels = in_domain a b domain in
     alike a b k to labels.0 (omega (arith, labels.1)) e
-others control_gives_all differ = record {
-  space = λ a b e. let labels = labels_of a Control b e in of_labels a Space b labels.0 labels.1 refl;
-  kinds = λ a b e k e_use other.
-      let labels = labels_of a Control b e in
-      let free = of_use a k b e_use in
-      of_labels a k b labels.0 (subst (λ n. b < n) (sym free.0) labels.1) free.1;
-}
+others control_gives_all differ = λ a k b e given. let labels = labels_of a Control b e in controls a k b labels.0 labels.1 given
 others grant_shares differ = λ a b may k e to there.
     let from = labels_of a Grant may.endpoint may.grants in
     let receiver = labels_of b Receive may.endpoint may.receives in
@@ -85,9 +92,4 @@ others grant_shares differ = λ a b may k e to there.
 others derive_in_domain differ = λ a x y one other. derives x y (in_domain a x one).1 (in_domain a y other).1
 others derive_by_grant differ = absurd (differ refl)
 others context_runs differ = λ a s e. let labels = labels_of a Context s e in of_labels a Runs s labels.0 labels.1 refl
-others reply_holds differ = record {
-  server = λ b r e. let labels = labels_of b Reply r e in of_labels r Holds b (omega (arith, labels.1)) labels.0 refl;
-  caller = λ b r c endpoint e calls receives.
-      let labels = labels_of b Reply r e in
-      of_labels r Holds c (omega (arith, labels.1)) (labels_of c Call endpoint calls).0 refl;
-}
+others reply_holds differ = holds

@@ -222,7 +222,7 @@ module _
   edges : (k : Kind) → gives (new_detail of) k ≡ true → allowed may.node.label k may.label ≡ true
   edges k given =
       sym (closed.subjects_agree a may.node.label (inr may.node.controls) k of_use may.label)
-      ∙ closed.control_gives_all.kinds a may.label may.controls k of_use not_control
+      ∙ closed.control_gives_all a k may.label may.controls (inr (of_use, not_control))
     where
       by_case : (structural : Bool) → is_structural k ≡ structural → is_structural k ≡ false
       by_case true is = absurd (false≢true (sym (gives_no_structure (new_detail of) k is) ∙ given))

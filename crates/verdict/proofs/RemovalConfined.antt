@@ -22,7 +22,7 @@ use Rattle.machine.specs.Removal.{removed, vanishes}
 use Rattle.machine.specs.WellFormed.{Descends, child, further, kind_of}
 use Rattle.machine.proofs.RemovalLooks.{next-removed}
 use Rattle.machine.proofs.RemovalStays.{cap_was, like_finalised, object_was, parent_was, untyped_was}
-use Rattle.policy.specs.Closed.{IsClosed}
+use Rattle.policy.specs.Closed.{IsClosed, derived}
 use Rattle.policy.specs.Domain.{EdgeTest}
 use Rattle.verdict.specs.Confined.{IsConfined}
 use Rattle.verdict.specs.Invariant.{IsSound}
@@ -114,8 +114,9 @@ module _ (t : Layout) (m : Machine) (chosen : SlotRef → Bool) where
         sound.confined from authority.Derive to (by_pair slot parent is source target)
     descends_derive closed (further {slot} {parent} {above} is d) from to source target =
         let mid = parent_label slot parent is in
-        closed.derive_by_grant.derived from mid.0 to (descends_derive closed d from mid.0 source mid.1)
-        (sound.confined mid.0 authority.Derive to (by_pair slot parent is mid.1 target))
+        closed.derive_by_grant from to
+        (derived mid.0 (descends_derive closed d from mid.0 source mid.1)
+        (sound.confined mid.0 authority.Derive to (by_pair slot parent is mid.1 target)))
 
     pub removed_confined : IsClosed allowed → IsConfined t allowed (removed m chosen)
     removed_confined closed from k to (by_cap slot held filled node given source target) =
@@ -126,8 +127,8 @@ module _ (t : Layout) (m : Machine) (chosen : SlotRef → Bool) where
         sound.confined from _ to
         (by_root slot held (cap_was m chosen slot held filled).1 (kind_was slot.holder _ thread) (label_was slot.holder from source)
         (label_was held.object to target))
-    removed_confined closed from k to (by_pair slot parent derived source target) =
-        descends_derive closed (parent_was m chosen sound.well_formed.slots.acyclic slot parent derived).1 from to
+    removed_confined closed from k to (by_pair slot parent is source target) =
+        descends_derive closed (parent_was m chosen sound.well_formed.slots.acyclic slot parent is).1 from to
         (label_was parent.holder from source) (label_was slot.holder to target)
     removed_confined closed from k to (by_link id end object at has source target) =
         let was = object_was m chosen id object at in

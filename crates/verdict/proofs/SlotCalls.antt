@@ -27,7 +27,7 @@ use Rattle.machine.proofs.LedSlots.{led_slot}
 use Rattle.machine.proofs.LookUps.{one_slot}
 use Rattle.machine.proofs.MovesFormed.{move_formed, pair_was}
 use Rattle.machine.proofs.SlotRows.{Derives, MoveDone}
-use Rattle.policy.specs.Closed.{IsClosed}
+use Rattle.policy.specs.Closed.{IsClosed, derived}
 use Rattle.policy.specs.Domain.{EdgeTest}
 use Rattle.verdict.specs.Invariant.{IsHeld, IsSound}
 use Rattle.verdict.proofs.Held.{bare_of, held_of}
@@ -138,9 +138,10 @@ module _
           same_Some start source_mine.label (sym begins ∙ ap (λ (s : SlotRef). label_of t m s.holder) (sym at) ∙ source_mine.labelled) in
           ap (λ l. allowed l authority.Derive mine.label) is ∙ between
       by_original false above =
-          closed.derive_by_grant.derived start source_mine.label mine.label
+          closed.derive_by_grant start mine.label
+          (derived source_mine.label
           (held_before.confined start authority.Derive source_mine.label
-          (by_pair done.source parent above begins source_mine.labelled)) between
+          (by_pair done.source parent above begins source_mine.labelled)) between)
 
       by_tie :
           (tie : Bool) → same_slot q done.target ≡ tie
@@ -216,8 +217,8 @@ module _
     -- the labels of two controlled CNodes are near
     near_controlled : (one other : ObjId) → (x : Controlled one) → (y : Controlled other) → IsNear allowed x.label y.label
     near_controlled one other x y = record {
-      down = λ start edge. closed.derive_by_grant.derived start x.label y.label edge (derives one other x y);
-      up = λ end edge. closed.derive_by_grant.derived y.label x.label end (derives other one y x) edge;
+      down = λ start edge. closed.derive_by_grant start y.label (derived x.label edge (derives one other x y));
+      up = λ end edge. closed.derive_by_grant y.label end (derived x.label (derives other one y x) edge);
     }
 
     -- a slot that is one of the two, and the other of them, have near labels

@@ -24,6 +24,7 @@ use Rattle.machine.specs.Capabilities.{gives}
 use Rattle.machine.specs.Layout.{initial_of, initial_cap, initial_parent, declared_label, bound_context, bound_thread}
 use Rattle.machine.specs.Machine.{Machine, object_of, parent_of}
 use Rattle.machine.specs.WellFormed.{kind_of}
+use Rattle.policy.specs.Closed.{DeriveByGrant, ReplyHolds, granted, derived, server, caller}
 use Rattle.policy.specs.Domain.{IsInDomain}
 use Rattle.policy.specs.Needed.{Rule, subjects_agree, control_gives_all, grant_shares, derive_in_domain, derive_by_grant, context_runs, reply_holds, Obeys}
 use Rattle.policy.specs.Policy.{allows, is_edge, IsPolicy}
@@ -81,20 +82,22 @@ in_domain : (a x : ℕ) → IsInDomain (allows edges) a x → x ≡ 1
 in_domain a x (inl e) = (space_edge a x e).1
 in_domain a x (inr e) = absurd (no_control a x e)
 
+comes : DeriveByGrant (allows edges)
+comes x y (granted a b may one other) = absurd (no_grant a may.endpoint may.grants)
+comes x y (derived middle one other) = derives x y (derive_edge x middle one).0 (derive_edge middle y other).1
+
+holds : ReplyHolds (allows edges)
+holds reply thread (server e) = absurd (no_reply thread reply e)
+holds reply thread (caller b endpoint e calls receives) = absurd (no_reply b reply e)
+
 others : (other : Rule) → other ≢ subjects_agree → Obeys (allows edges) other
 others subjects_agree differ = absurd (differ refl)
-others control_gives_all differ =
-    record { space = λ a b e. absurd (no_control a b e); kinds = λ a b e k of_use other. absurd (no_control a b e) }
+others control_gives_all differ = λ a k b e given. absurd (no_control a b e)
 others grant_shares differ = λ a b may k of_use to e. absurd (no_grant a may.endpoint may.grants)
 others derive_in_domain differ = λ a x y one other. derives x y (in_domain a x one) (in_domain a y other)
-others derive_by_grant differ =
-    record {
-      granted = λ a b x y may one other. absurd (no_grant a may.endpoint may.grants);
-      derived = λ x y z one other. derives x z (derive_edge x y one).0 (derive_edge y z other).1;
-    }
+others derive_by_grant differ = comes
 others context_runs differ = λ a s e. absurd (no_context a s e)
-others reply_holds differ =
-    record { server = λ b r e. absurd (no_reply b r e); caller = λ b r c endpoint e calls receives. absurd (no_reply b r e) }
+others reply_holds differ = holds
 
 -- it is a policy
 
@@ -244,7 +247,7 @@ module _ (m : Machine) (boot : IsBoot signalling m) where
       by_capability q held from k to (filled_slots q held (sym (boot.caps q) ∙ filled)) is_node given source target
   confined from k to (by_root q held filled is_thread source target) =
       by_space q held from to (filled_slots q held (sym (boot.caps q) ∙ filled)) is_thread source target
-  confined from k to (by_pair q parent derived source target) = absurd (no_pair q parent derived)
+  confined from k to (by_pair q parent is source target) = absurd (no_pair q parent is)
   confined from k to (by_link q end object at linked source target) = by_object q.0 object from k to end at linked source target
 
 pub unsafe_without_agreeing_subjects : UnsafeWithout subjects_agree

@@ -1,7 +1,8 @@
 ghost use Rattle.std.specs.Prelude.{◌≡◌, ◌≢◌, ◌↔◌, ◌∷◌, [], ℕ, true, false, IsTrue};
 ghost use Rattle.base.specs.Kinds.{is_structural};
 ghost use Rattle.base.specs.Labels.{is_in};
-ghost use Rattle.policy.specs.Broken.{IsGivenByControl, SubjectsDisagree, ControlLacks, GrantLacks, DomainLacks, DeriveLacks, ReplyLacks, p1, p2, p3, p4, p5, p6, p7};
+ghost use Rattle.policy.specs.Closed.{IsGivenByControl};
+ghost use Rattle.policy.specs.Broken.{SubjectsDisagree, ControlLacks, GrantLacks, DomainLacks, DeriveLacks, ReplyLacks, p1, p2, p3, p4, p5, p6, p7};
 ghost use Rattle.policy.specs.Policy.{allows};
 ghost use Rattle.policy.specs.Search.{FindsBroken};
 
