@@ -15,7 +15,8 @@ use Rattle.table.specs.Items.{BindingItem}
 use Rattle.table.specs.Rules.{IsDraft, kind_at}
 use Rattle.words.specs.declared.faults.Wrong.TheVariants as wrong
 use Rattle.words.specs.Reading.{bind, ended_at}
-use Rattle.words.proofs.WordLaws.{ended_then, name_then, name_again}
+use Rattle.words.proofs.Parts.{name_part, part_then}
+use Rattle.words.proofs.WordLaws.{ended_then}
 use Rattle.captext.specs.Tables.{thread_rises, is_thread_and_context, bind_line}
 use Rattle.captext.specs.TableText.{object_name}
 use Rattle.captext.proofs.LineLaws.{TakesItem, then_words, same_ok}
@@ -31,17 +32,17 @@ pub bind_line_takes : (t : Layout) (words : List (List ℕ)) (next : Layout) →
     → TakesItem t (codes "bind" ∷ words) next
 unfolding bind_line
 bind_line_takes t words next h =
-    let first = name_then _ words next h in
-    let second = name_then _ first.rest next first.goes_on in
+    let first = part_then name_part _ words next h in
+    let second = part_then name_part _ first.rest next first.goes_on in
     let ended = ended_then _ second.rest next second.goes_on in
-    let above = demand_then (thread_rises t (object_named t first.name)) wrong.Syntax _ next ended.1 in
-    let thread = value_then (object_named t first.name) wrong.UnknownName _ next above.1 in
-    let context = value_then (object_named t second.name) wrong.UnknownName _ next thread.2 in
+    let above = demand_then (thread_rises t (object_named t first.value)) wrong.Syntax _ next ended.1 in
+    let thread = value_then (object_named t first.value) wrong.UnknownName _ next above.1 in
+    let context = value_then (object_named t second.value) wrong.UnknownName _ next thread.2 in
     let once = demand_then (not (is_bound t context.0)) wrong.Double _ next context.2 in
     let kinds = demand_then (is_thread_and_context (kind_at t thread.0) (kind_at t context.0)) wrong.WrongKind _ next once.1 in
     let are = kinds_take (kind_at t thread.0) (kind_at t context.0) kinds.0 in
-    let one = object_takes t first.name thread.0 thread.1 in
-    let other = object_takes t second.name context.0 context.1 in
+    let one = object_takes t first.value thread.0 thread.1 in
+    let other = object_takes t second.value context.0 context.1 in
     let rising : is_above_bindings t thread.0 ≡ true = ap (thread_rises t) (sym thread.1) ∙ above.0 in (
       BindingItem (record { thread = thread.0; context = context.0 }),
       record {
@@ -70,9 +71,9 @@ bind_line_again t binding draft admits =
     let thread = has_name t binding.thread kind.Tcb draft admits.thread in
     let context = has_name t binding.context kind.Context draft admits.context in
     rw (
-      name_again (object_name t binding.thread) (object_name t binding.context ∷ [])
+      name_part.again (object_name t binding.thread) (object_name t binding.context ∷ [])
           (is_object_name t binding.thread draft thread),
-      name_again (object_name t binding.context) [] (is_object_name t binding.context draft context),
+      name_part.again (object_name t binding.context) [] (is_object_name t binding.context draft context),
       object_again t binding.thread draft thread,
       object_again t binding.context draft context,
       admits.rises,

@@ -2,7 +2,6 @@
 use Rattle.std.proofs.Common.{◌≡◌, ℕ, ◌^◌, ◌<◌, ◌&&◌, Bool, true, false, not, cond, List, [], ◌∷◌, ◌++◌, codes, option_map, Option, Some, None, Result, Ok, Err, refl, sym, ap, subst, ◌∙◌}
 use Rattle.std.proofs.lemmas.Bool.{and_parts, and_from, not-true, lt-ltb, ltb-true, false≢true}
 use Rattle.base.specs.declared.ids.ObjId.{ObjId}
-use Rattle.base.specs.declared.ids.SlotRef.{SlotRef}
 use Rattle.base.specs.declared.rights.Rights.{Rights}
 use Rattle.machine.specs.declared.cap.Detail.{Detail}
 use Rattle.machine.specs.declared.layout.Initial.{Initial}
@@ -19,53 +18,22 @@ use Rattle.table.specs.Items.{CapItem}
 use Rattle.table.specs.Rules.{kind_at}
 use Rattle.words.specs.declared.faults.Wrong.{Wrong}
 use Rattle.words.specs.declared.faults.Wrong.TheVariants as wrong
-use Rattle.words.specs.Name.{is_name}
-use Rattle.words.specs.Reading.{bind, word_at, ended_at, or_syntax}
-use Rattle.words.proofs.WordLaws.{bind_ok, ended_then, name_then}
+use Rattle.words.specs.Reading.{bind, ended_at, or_syntax}
+use Rattle.words.proofs.Parts.{name_part, part_then}
+use Rattle.words.proofs.WordLaws.{bind_ok, ended_then}
 use Rattle.captext.specs.declared.shapes.Place.{Place}
 use Rattle.captext.specs.declared.shapes.Place.TheVariants as place
 use Rattle.captext.specs.declared.shapes.Term.{Term}
 use Rattle.captext.specs.declared.shapes.Term.TheVariants as term
-use Rattle.captext.specs.Shapes.{slot_of, slot_at, term_of, terms_from, terms_at}
-use Rattle.captext.specs.Spelling.{option_words, slot_word, term_word, AreTerms, IsPlace, IsTerm}
+use Rattle.captext.specs.Shapes.{term_of, terms_from, terms_at}
+use Rattle.captext.specs.Spelling.{option_words, slot_word, term_word, AreTerms, IsTerm}
 use Rattle.captext.specs.Tables.{takes_caps, slot_in, rises, fits_holder, may_fill, is_claimed, is_plain, is_guard, detail_of, detail_for, capability, filled, cap_line}
-use Rattle.captext.specs.TableText.{object_name, place_in, slot_name, detail_words, cap_words}
+use Rattle.captext.specs.TableText.{object_name, place_in, slot_name, detail_words}
 use Rattle.captext.proofs.Admits.{admits_cap}
 use Rattle.captext.proofs.LineLaws.{TakesItem, then_words, spelled_then, same_ok, caps_take}
 use Rattle.captext.proofs.NameLaws.{object_takes}
-use Rattle.captext.proofs.SlotLaws.{slot_takes, slot_again, term_takes, term_again}
+use Rattle.captext.proofs.SlotLaws.{slot_part, term_takes, term_again}
 use Rattle.captext.proofs.StepLaws.{demand_then, value_then}
-
--- a slot was taken
-
-pub record ReadsSlot {Y : Type 0} (f : (List ℕ × Place) × List (List ℕ) → Result Y Wrong) (words : List (List ℕ))
-    (y : Y) : Type 0 where
-  pub name : List ℕ
-  pub at : Place
-  pub rest : List (List ℕ)
-  pub words_are : words ≡ slot_word name at ∷ rest
-  pub goes_on : f ((name, at), rest) ≡ Ok y
-
-pub slot_then : {Y : Type 0} (f : (List ℕ × Place) × List (List ℕ) → Result Y Wrong) (words : List (List ℕ)) (y : Y)
-    → bind (slot_at words) f ≡ Ok y → ReadsSlot f words y
-unfolding slot_at bind word_at or_syntax
-slot_then f [] y h = cc
-slot_then f (word ∷ rest) y h = by (slot_of word) refl h where
-  by : (slot : Option (List ℕ × Place)) → slot_of word ≡ slot → bind (bind (or_syntax slot) (λ slot. Ok (slot, rest))) f ≡ Ok y
-      → ReadsSlot f (word ∷ rest) y
-  by (Some (name, at)) is h = record {
-    name = name;
-    at = at;
-    rest = rest;
-    words_are = ap (λ w. w ∷ rest) (slot_takes word name at is).0;
-    goes_on = h;
-  }
-  by None is h = cc
-
-pub slot_at_again : (name : List ℕ) (at : Place) (rest : List (List ℕ)) → is_name name ≡ true → IsPlace at
-    → slot_at (slot_word name at ∷ rest) ≡ Ok ((name, at), rest)
-unfolding slot_at bind word_at or_syntax
-slot_at_again name at rest is place = ap (λ slot. bind (or_syntax slot) (λ slot. Ok (slot, rest))) (slot_again name at is place)
 
 -- at most two terms
 
@@ -170,44 +138,36 @@ pub slot_spelled : (t : Layout) (name : List ℕ) (id : ObjId) (at : Place) → 
     → fits_holder (kind_at t id) at ≡ true → slot_word name at ≡ slot_name t (slot_in id at)
 slot_spelled t name id at named fits = λ i. slot_word (named i) (sym (place_takes (kind_at t id) id at fits) i)
 
-words_are :
-    (t : Layout) (words rest more : List (List ℕ)) (first second : List ℕ) (slot : SlotRef) (target : ObjId) (detail : Detail)
-    → words ≡ first ∷ rest → first ≡ slot_name t slot → rest ≡ second ∷ more → second ≡ object_name t target
-    → more ≡ detail_words detail
-    → codes "cap" ∷ words ≡ cap_words t (record { slot = slot; cap = capability target detail })
-words_are t words rest more first second slot target detail is_first spelled is_second named ends =
-    ap (λ ws. codes "cap" ∷ ws)
-    (then_words (is_first ∙ ap (λ w. w ∷ rest) spelled) (then_words (is_second ∙ ap (λ w. w ∷ more) named) ends))
-
 pub cap_line_takes : (t : Layout) (words : List (List ℕ)) (next : Layout) → cap_line t words ≡ Ok next
     → TakesItem t (codes "cap" ∷ words) next
 unfolding cap_line filled
 cap_line_takes t words next h =
-    let slot = slot_then _ words next h in
-    let name = name_then _ slot.rest next slot.goes_on in
+    let slot = part_then slot_part _ words next h in
+    let name = part_then name_part _ slot.rest next slot.goes_on in
     let terms = bind_ok (terms_at name.rest) _ next name.goes_on in
     let are = terms_take name.rest terms.0 terms.1 in
-    let tests = demand_then (takes_caps t && rises (is_above_caps t) (object_named t slot.name) slot.at) wrong.Syntax _ next terms.2 in
+    let tests = demand_then (takes_caps t && rises (is_above_caps t) (object_named t slot.value.0) slot.value.1) wrong.Syntax _ next terms.2 in
     let parts = and_parts _ _ tests.0 in
-    let holder = value_then (object_named t slot.name) wrong.UnknownName _ next tests.1 in
-    let target = value_then (object_named t name.name) wrong.UnknownName _ next holder.2 in
-    let held = object_takes t slot.name holder.0 holder.1 in
-    let aimed = object_takes t name.name target.0 target.1 in
+    let holder = value_then (object_named t slot.value.0) wrong.UnknownName _ next tests.1 in
+    let target = value_then (object_named t name.value) wrong.UnknownName _ next holder.2 in
+    let held = object_takes t slot.value.0 holder.0 holder.1 in
+    let aimed = object_takes t name.value target.0 target.1 in
     let once = demand_then (not (is_claimed t target.0)) wrong.Double _ next target.2 in
-    let fills = demand_then (may_fill (kind_at t holder.0) slot.at (kind_at t target.0)) wrong.WrongKind _ next once.1 in
+    let fills = demand_then (may_fill (kind_at t holder.0) slot.value.1 (kind_at t target.0)) wrong.WrongKind _ next once.1 in
     let detail = bind_ok (detail_for t target.0 terms.0) _ next fills.1 in
-    let within = demand_then (declares_slot t (slot_in holder.0 slot.at)) wrong.Limit _ next detail.2 in
+    let within = demand_then (declares_slot t (slot_in holder.0 slot.value.1)) wrong.Limit _ next detail.2 in
     let told = target_takes t target.0 terms.0 detail.0 are.1 detail.1 in
-    let rising : is_above_caps t (slot_in holder.0 slot.at) ≡ true =
-    ap (λ found. rises (is_above_caps t) found slot.at) (sym holder.1) ∙ parts.1 in
-    let spelled = slot_spelled t slot.name holder.0 slot.at held.1 (and_parts _ _ fills.0).0 in (
-      CapItem (record { slot = slot_in holder.0 slot.at; cap = capability target.0 detail.0 }),
+    let rising : is_above_caps t (slot_in holder.0 slot.value.1) ≡ true =
+    ap (λ found. rises (is_above_caps t) found slot.value.1) (sym holder.1) ∙ parts.1 in
+    let spelled = slot_spelled t slot.value.0 holder.0 slot.value.1 held.1 (and_parts _ _ fills.0).0 in (
+      CapItem (record { slot = slot_in holder.0 slot.value.1; cap = capability target.0 detail.0 }),
       record {
         now = caps_take t parts.0;
-        admits = admits_cap t holder.0 slot.at target.0 detail.0
+        admits = admits_cap t holder.0 slot.value.1 target.0 detail.0
             rising within.0 fills.0 told.fitting told.kind_is (not-true _ once.0);
-        words_are = words_are t words slot.rest name.rest (slot_word slot.name slot.at) name.name
-            (slot_in holder.0 slot.at) target.0 detail.0 slot.words_are spelled name.words_are aimed.1 (are.0 ∙ told.words_are);
+        words_are = ap (λ ws. codes "cap" ∷ ws)
+            (then_words (slot.words_are ∙ ap (λ w. w ∷ slot.rest) spelled)
+            (then_words (name.words_are ∙ ap (λ w. w ∷ name.rest) aimed.1) (are.0 ∙ told.words_are)));
         grown = same_ok _ _ within.1;
       },
     )

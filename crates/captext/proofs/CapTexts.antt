@@ -1,5 +1,5 @@
 -- The line of a filled slot that the table takes next is read, and its words are plain.
-use Rattle.std.proofs.Common.{◌≡◌, ℕ, ◌+◌, ◌^◌, ◌<◌, ◌≤◌, Bool, true, false, cond, List, [], ◌∷◌, ◌++◌, length, codes, option_map, Option, Some, None, Ok, refl, sym, ap, subst, ◌∙◌, arith, lit<}
+use Rattle.std.proofs.Common.{◌≡◌, ℕ, ◌+◌, ◌^◌, ◌<◌, ◌≤◌, Bool, true, false, cond, List, [], ◌∷◌, ◌++◌, length, codes, option_map, Option, Some, None, Ok, refl, sym, ap, subst, ◌∙◌, arith}
 use Rattle.std.specs.List.{AllByRecursion}
 use Rattle.std.proofs.lemmas.Bool.{cond-true, and_parts, and_from, ltb-true, leb-true, false≢true}
 use Rattle.std.proofs.lemmas.Option.{slice_get_within, get_or_from_slice_get}
@@ -30,19 +30,21 @@ use Rattle.words.specs.Name.{is_name, name_at}
 use Rattle.words.specs.Reading.{bind}
 use Rattle.words.specs.Text.{IsPlainLine, IsPlainWord}
 use Rattle.words.proofs.TextLaws.{both}
-use Rattle.words.proofs.WordLaws.{plain_bytes, name_again, plain_decimal, plain_hexadecimal, plain_name}
+use Rattle.words.proofs.Parts.{name_part}
+use Rattle.words.proofs.WordLaws.{plain_bytes, plain_decimal, plain_hexadecimal, plain_name}
 use Rattle.captext.specs.declared.shapes.Place.{Place}
 use Rattle.captext.specs.declared.shapes.Place.TheVariants as place
 use Rattle.captext.specs.declared.shapes.Term.{Term}
 use Rattle.captext.specs.declared.shapes.Term.TheVariants as term
 use Rattle.captext.specs.Shapes.{slot_at, terms_at}
-use Rattle.captext.specs.Spelling.{option_words, place_word, slot_word, term_word, AreTerms, IsOptionTerm, IsPlace, IsTerm}
+use Rattle.captext.specs.Spelling.{option_words, term_word, AreTerms, IsOptionTerm, IsPlace, IsTerm}
 use Rattle.captext.specs.Tables.{takes_caps, slot_in, fits_holder, fits_place, may_fill, is_claimed, is_plain, detail_of, detail_for, capability, filled, cap_line}
 use Rattle.captext.specs.TableText.{object_name, place_in, slot_name, detail_words, cap_words}
 use Rattle.captext.proofs.Admits.{claims}
-use Rattle.captext.proofs.CapLines.{slot_at_again, one_again, two_again}
+use Rattle.captext.proofs.CapLines.{one_again, two_again}
 use Rattle.captext.proofs.LineLaws.{caps_again}
 use Rattle.captext.proofs.NameLaws.{object_again, is_object_name}
+use Rattle.captext.proofs.SlotLaws.{slot_part, IsSlotName}
 
 abbrev terms_of : Detail → Option Term × Option Term
 terms_of (d.CNode guard) = (Some (term.Decimal guard.size), Some (term.Hexadecimal guard.value))
@@ -120,15 +122,6 @@ place_again (o.Tcb _) slot blank within =
     (tt, ap (λ (index : ℕ). record { holder = slot.holder; index = index }) first, refl)
 place_again _ slot blank within = absurd (omega arith)
 
--- its word is plain
-
-plain_place : (at : Place) → IsPlace at → IsPlainWord (place_word at)
-plain_place (place.Index index) is = plain_decimal index is
-plain_place place.Root is = plain_bytes (codes "root") refl
-
-pub plain_slot : (name : List ℕ) (at : Place) → is_name name ≡ true → IsPlace at → IsPlainWord (slot_word name at)
-plain_slot name at is place = both (λ b. 32 < b) name _ (plain_name name is) (lit< tt, plain_place at place)
-
 -- the word of a slot that the table declares is read as that slot, which fits its holder
 pub record IsPlaced (t : Layout) (slot : SlotRef) : Type 0 where
   pub read :
@@ -160,9 +153,11 @@ placed t slot draft declares =
     let named : id.0 < length t.names = omega arith in
     let is_name = is_object_name t id draft named in
     let is_place = subst IsPlace (sym there) place.0 in
+    let name : List ℕ × Place = (object_name t id, place_in (kind_at t id) slot.index) in
+    let is : IsSlotName name = (is_name, is_place) in
     record {
-      read = λ rest. slot_at_again (object_name t id) (place_in (kind_at t id) slot.index) rest is_name is_place;
-      plain = plain_slot (object_name t id) (place_in (kind_at t id) slot.index) is_name is_place;
+      read = λ rest. slot_part.again name rest is;
+      plain = (slot_part.plain name is).0;
       named = is_name;
       indexed = is_place;
       found = object_again t id draft named;
@@ -256,7 +251,7 @@ cap_line_again t filled draft now admits =
     cap_line_is t (slot_name t filled.slot ∷ object_name t to ∷ detail_words detail) (object_name t to ∷ detail_words detail)
     (detail_words detail) (object_name t id) (object_name t to) at id to (terms_of detail) detail
     (p.place.read (object_name t to ∷ detail_words detail))
-    (name_again (object_name t to) (detail_words detail) (is_object_name t to draft p.target))
+    (name_part.again (object_name t to) (detail_words detail) (is_object_name t to draft p.target))
     (terms_again detail p.terms)
     (caps_again t now)
     p.place.found

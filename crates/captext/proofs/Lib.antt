@@ -6,6 +6,7 @@ pub mod NameLaws
 pub mod Written
 mod TableLines
 pub mod LineLaws
+mod ObjectParts
 mod ObjectLines
 pub mod CapLines
 pub mod CapTexts

@@ -22,10 +22,10 @@ use Rattle.table.specs.Rules.{IsLawful}
 use Rattle.words.specs.declared.faults.Wrong.TheVariants as wrong
 use Rattle.words.specs.Name.{is_name, name_at}
 use Rattle.words.specs.Parts.{by_word, in_turn, keyed, IsPart}
-use Rattle.words.specs.Reading.{bind, word_at, or_syntax}
+use Rattle.words.specs.Reading.{bind, word_at}
 use Rattle.words.specs.Text.{IsPlainLine}
 use Rattle.words.proofs.ListLaws.{IsListFormat, all_front, all_last, list_again, list_once, list_takes}
-use Rattle.words.proofs.Parts.{after_key, alone_again, alone_takes, both_parts, keyed_part, name_part}
+use Rattle.words.proofs.Parts.{after_key, alone_again, alone_takes, both_parts, keyed_part, name_part, word_part}
 use Rattle.words.proofs.TextLaws.{both}
 use Rattle.words.proofs.WordLaws.{plain_bytes, plain_name}
 use Rattle.captext.specs.Policies.{kind_at, named_edge_at, may_follow, follows, with_edge, labelled_edge, edge_line, read_policy_of}
@@ -40,22 +40,10 @@ kind_is_name Control = refl
 kind_is_name _ = refl
 
 kind_part : IsPart kind_at (λ kind. kind_name kind ∷ []) (λ kind. ⊤)
-unfolding kind_at bind word_at or_syntax
-kind_part = record {
-  takes = takes;
-  again = λ kind rest is. ap (λ found. bind (or_syntax found) (λ k. Ok (k, rest))) (kind_again kind);
-  plain = λ kind is. (plain_name (kind_name kind) (kind_is_name kind), tt);
-} where
-  takes : (words : List (List ℕ)) (taken : Kind × List (List ℕ)) → kind_at words ≡ Ok taken
-      → (words ≡ kind_name taken.0 ∷ taken.1) × ⊤
-  takes [] taken h = cc
-  takes (word ∷ rest) taken h = by_kind (kind_named word) refl h where
-    by_kind : (found : Option Kind) → kind_named word ≡ found → bind (or_syntax found) (λ kind. Ok (kind, rest)) ≡ Ok taken
-        → (word ∷ rest ≡ kind_name taken.0 ∷ taken.1) × ⊤
-    by_kind (Some kind) is h =
-        let same : (kind, rest) ≡ taken = cc in
-        (ap (λ w. w ∷ rest) (kind_is_named word kind is) ∙ ap (λ (t : Kind × List (List ℕ)). kind_name t.0 ∷ t.1) same, tt)
-    by_kind None is h = cc
+unfolding kind_at
+kind_part =
+    word_part kind_named kind_name (λ kind. ⊤) (λ word kind h. (kind_is_named word kind h, tt)) (λ kind is. kind_again kind)
+    (λ kind is. plain_name (kind_name kind) (kind_is_name kind))
 
 abbrev NamedEdge : Type 0
 NamedEdge = List ℕ × (Kind × List ℕ)

@@ -1,5 +1,5 @@
 -- A word is read as a slot or a term just where it is that slot's or that term's word.
-use Rattle.std.proofs.Common.{◌≡◌, ℕ, ◌+◌, ◌<◌, ◌==◌, ◌↔◌, zero, suc, Bool, true, false, not, cond, nat_lt, List, [], ◌∷◌, ◌++◌, length, get_or, take, drop, position, codes, Option, Some, None, option_map, refl, sym, ap, subst, ◌∙◌, arith, eqb-true, lt-ltb, add-one, drop-cons, length-append}
+use Rattle.std.proofs.Common.{◌≡◌, ℕ, ◌+◌, ◌<◌, ◌==◌, ◌^◌, ◌↔◌, zero, suc, Bool, true, false, not, cond, nat_lt, List, [], ◌∷◌, ◌++◌, length, get_or, take, drop, position, codes, Option, Some, None, option_map, refl, sym, ap, subst, ◌∙◌, arith, eqb-true, lt-ltb, add-one, drop-cons, length-append, lit<}
 use Rattle.std.specs.Prelude.{bytes_eq}
 use Rattle.std.specs.Bool.{Decides}
 use Rattle.std.specs.Char.{is_ascii_digit}
@@ -15,13 +15,18 @@ use Rattle.base.specs.declared.rights.Rights.{Rights}
 use Rattle.base.specs.Rights.{rights_word, rights_of_word}
 use Rattle.base.proofs.RightsWords.{rights_named, rights_again}
 use Rattle.words.specs.Name.{is_name, is_name_byte, name_of}
+use Rattle.words.specs.Parts.{IsPart}
+use Rattle.words.specs.Text.{IsPlainWord}
+use Rattle.words.proofs.Parts.{word_part}
+use Rattle.words.proofs.TextLaws.{both}
+use Rattle.words.proofs.WordLaws.{plain_bytes, plain_decimal, plain_name}
 use Rattle.words.specs.Number.{dec_of, hex_of, hexadecimal}
 use Rattle.words.proofs.Spellings.{decimal_iff, decimal_first, hexadecimal_iff, hexadecimal_first, hexadecimal_no_decimal, name_iff}
 use Rattle.captext.specs.declared.shapes.Place.{Place}
 use Rattle.captext.specs.declared.shapes.Place.TheVariants as place
 use Rattle.captext.specs.declared.shapes.Term.{Term}
 use Rattle.captext.specs.declared.shapes.Term.TheVariants as term
-use Rattle.captext.specs.Shapes.{place_of, slot_of, term_of}
+use Rattle.captext.specs.Shapes.{first_term, place_of, slot_at, slot_at_dot, slot_of, slot_with, term_of}
 use Rattle.captext.specs.Spelling.{place_word, slot_word, term_word, IsPlace, IsTerm}
 
 -- terms
@@ -57,54 +62,36 @@ no_rights word digit = by_found (rights_of_word word) refl where
       ap (λ w. is_ascii_digit (get_or w 0 0)) named.0 ∙ rights_first rights.0 named.1 in
       cc
 
--- which term a word is, by what it is as rights, in decimal and in hexadecimal
-of_hexadecimal : Option ℕ → Option Term
-of_hexadecimal None = None
-of_hexadecimal (Some n) = Some (term.Hexadecimal n)
-
-of_decimal : Option ℕ → Option ℕ → Option Term
-of_decimal hex None = of_hexadecimal hex
-of_decimal hex (Some n) = Some (term.Decimal n)
-
-of_forms : Option ℕ → Option ℕ → Option Rights → Option Term
-of_forms hex dec None = of_decimal hex dec
-of_forms hex dec (Some rights) = Some (term.Rights rights)
-
-term_is : (word : List ℕ) → term_of word ≡ of_forms (hex_of word) (dec_of word) (rights_of_word word)
-unfolding term_of of_forms of_decimal of_hexadecimal
-term_is word = refl
-
-forms_take : (word : List ℕ) (rights : Option Rights) (dec hex : Option ℕ) (term : Term)
-    → rights_of_word word ≡ rights → dec_of word ≡ dec → hex_of word ≡ hex → of_forms hex dec rights ≡ Some term
+first_takes : (word : List ℕ) (rights : Option Rights) (dec hex : Option ℕ) (term : Term)
+    → rights_of_word word ≡ rights → dec_of word ≡ dec → hex_of word ≡ hex → first_term rights dec hex ≡ Some term
     → (word ≡ term_word term) × IsTerm term
-unfolding of_forms of_decimal of_hexadecimal
-forms_take word (Some rights) dec hex t is_rights is_dec is_hex h =
+first_takes word (Some rights) dec hex t is_rights is_dec is_hex h =
     let same : term.Rights rights ≡ t = cc in
     subst (λ t. (word ≡ term_word t) × IsTerm t) same (rights_named word rights is_rights)
-forms_take word None (Some n) hex t is_rights is_dec is_hex h =
+first_takes word None (Some n) hex t is_rights is_dec is_hex h =
     let same : term.Decimal n ≡ t = cc in subst (λ t. (word ≡ term_word t) × IsTerm t) same ((decimal_iff word n).0 is_dec)
-forms_take word None None (Some n) t is_rights is_dec is_hex h =
+first_takes word None None (Some n) t is_rights is_dec is_hex h =
     let same : term.Hexadecimal n ≡ t = cc in
     subst (λ t. (word ≡ term_word t) × IsTerm t) same ((hexadecimal_iff word n).0 is_hex)
-forms_take word None None None t is_rights is_dec is_hex h = cc
+first_takes word None None None t is_rights is_dec is_hex h = cc
 
 -- a term that is read has that word
 pub term_takes : (word : List ℕ) (term : Term) → term_of word ≡ Some term → (word ≡ term_word term) × IsTerm term
-term_takes word t h = forms_take word (rights_of_word word) (dec_of word) (hex_of word) t refl refl refl (sym (term_is word) ∙ h)
+unfolding term_of
+term_takes word t h = first_takes word (rights_of_word word) (dec_of word) (hex_of word) t refl refl refl h
 
 -- a term's word is read as that term
 pub term_again : (term : Term) → IsTerm term → term_of (term_word term) ≡ Some term
-unfolding of_forms of_decimal of_hexadecimal
+unfolding term_of
 term_again (term.Rights rights) is =
-    term_is _ ∙ ap (λ r. of_forms (hex_of (rights_word rights)) (dec_of (rights_word rights)) r) (rights_again rights is)
+    ap (λ r. first_term r (dec_of (rights_word rights)) (hex_of (rights_word rights))) (rights_again rights is)
 term_again (term.Decimal n) is =
-    term_is _ ∙ ap (λ r. of_forms (hex_of (decimal n)) (dec_of (decimal n)) r) (no_rights (decimal n) (decimal_first n is))
-    ∙ ap (λ d. of_decimal (hex_of (decimal n)) d) ((decimal_iff (decimal n) n).1 (refl, is))
+    ap (λ r. first_term r (dec_of (decimal n)) (hex_of (decimal n))) (no_rights (decimal n) (decimal_first n is))
+    ∙ ap (λ d. first_term None d (hex_of (decimal n))) ((decimal_iff (decimal n) n).1 (refl, is))
 term_again (term.Hexadecimal n) is =
-    term_is _
-    ∙ ap (λ r. of_forms (hex_of (hexadecimal n)) (dec_of (hexadecimal n)) r) (no_rights (hexadecimal n) (hexadecimal_first n))
-    ∙ ap (λ d. of_decimal (hex_of (hexadecimal n)) d) (hexadecimal_no_decimal n)
-    ∙ ap (λ h. of_hexadecimal h) ((hexadecimal_iff (hexadecimal n) n).1 (refl, is))
+    ap (λ r. first_term r (dec_of (hexadecimal n)) (hex_of (hexadecimal n))) (no_rights (hexadecimal n) (hexadecimal_first n))
+    ∙ ap (λ d. first_term None d (hex_of (hexadecimal n))) (hexadecimal_no_decimal n)
+    ∙ ap (λ h. first_term None None h) ((hexadecimal_iff (hexadecimal n) n).1 (refl, is))
 
 pub term_iff : (word : List ℕ) (term : Term) → (term_of word ≡ Some term) ↔ ((word ≡ term_word term) × IsTerm term)
 term_iff word t = (term_takes word t, λ h. ap (λ w. term_of w) h.0 ∙ term_again t h.1)
@@ -130,34 +117,24 @@ place_takes word at h = by_test (bytes_eq word (codes "root")) (bytes_eq-Decides
   by_test true same h = let root : place.Root ≡ at = cc in subst (λ p. (word ≡ place_word p) × IsPlace p) root (same.0 refl, tt)
   by_test false other h = by_number (dec_of word) refl h
 
+-- no number begins like a word
+pub no_number : (n : ℕ) (word : List ℕ) → n < 2 ^ 64 → is_ascii_digit (get_or word 0 0) ≡ false → bytes_eq (decimal n) word ≡ false
+no_number n word small other = by (bytes_eq (decimal n) word) (bytes_eq-Decides (decimal n) word) where
+  by : (same : Bool) → Decides same (decimal n ≡ word) → same ≡ false
+  by false differ = refl
+  by true same =
+      let digit : is_ascii_digit (get_or word 0 0) ≡ true =
+      ap (λ w. is_ascii_digit (get_or w 0 0)) (sym (same.0 refl)) ∙ decimal_first n small in
+      cc
+
 place_again : (at : Place) → IsPlace at → place_of (place_word at) ≡ Some at
 unfolding place_of
 place_again place.Root is = refl
 place_again (place.Index index) is =
-    cond-false _ _ _ (no_root (bytes_eq (decimal index) (codes "root")) (bytes_eq-Decides (decimal index) (codes "root")))
+    cond-false _ _ _ (no_number index (codes "root") is refl)
     ∙ ap (λ n. option_map place.Index n) ((decimal_iff (decimal index) index).1 (refl, is))
-  where
-    no_root : (same : Bool) → Decides same (decimal index ≡ codes "root") → same ≡ false
-    no_root false other = refl
-    no_root true same =
-        let first = decimal_first index is in
-        let digit : is_ascii_digit 114 ≡ true = ap (λ w. is_ascii_digit (get_or w 0 0)) (sym (same.0 refl)) ∙ first in cc
 
 -- slots
-
--- a name and a place, where both are there
-both : Option (List ℕ) → Option Place → Option (List ℕ × Place)
-both None at = None
-both (Some name) None = None
-both (Some name) (Some at) = Some (name, at)
-
-at_dot : List ℕ → Option ℕ → Option (List ℕ × Place)
-at_dot word None = None
-at_dot word (Some i) = both (name_of (take i word)) (place_of (drop (i + 1) word))
-
-slot_is : (word : List ℕ) → slot_of word ≡ at_dot word (position (λ b. b == 46) word)
-unfolding slot_of at_dot both
-slot_is word = refl
 
 -- a word with a dot is what stands before it, the dot, and what stands after it
 dotted : (word : List ℕ) (i : ℕ) → position (λ b. b == 46) word ≡ Some i → word ≡ take i word ++ 46 ∷ drop (i + 1) word
@@ -195,8 +172,7 @@ abbrev IsSlot : List ℕ → List ℕ → Place → Type 0
 IsSlot word name at = (word ≡ slot_word name at) × (is_name name ≡ true) × IsPlace at
 
 parts_take : (before after : List ℕ) (name : Option (List ℕ)) (found : Option Place) (slot : List ℕ × Place)
-    → name_of before ≡ name → place_of after ≡ found → both name found ≡ Some slot → IsSlot (before ++ 46 ∷ after) slot.0 slot.1
-unfolding both
+    → name_of before ≡ name → place_of after ≡ found → slot_with name found ≡ Some slot → IsSlot (before ++ 46 ∷ after) slot.0 slot.1
 parts_take before after None found slot is_name is_place h = cc
 parts_take before after (Some name) None slot is_name is_place h = cc
 parts_take before after (Some name) (Some at) slot named placed h =
@@ -209,9 +185,9 @@ parts_take before after (Some name) (Some at) slot named placed h =
 -- a slot that is read has that word
 pub slot_takes : (word name : List ℕ) (at : Place) → slot_of word ≡ Some (name, at)
     → (word ≡ slot_word name at) × (is_name name ≡ true) × IsPlace at
-unfolding at_dot
-slot_takes word name at h = by_dot (position (λ b. b == 46) word) refl (sym (slot_is word) ∙ h) where
-  by_dot : (dot : Option ℕ) → position (λ b. b == 46) word ≡ dot → at_dot word dot ≡ Some (name, at) → IsSlot word name at
+unfolding slot_of
+slot_takes word name at h = by_dot (position (λ b. b == 46) word) refl h where
+  by_dot : (dot : Option ℕ) → position (λ b. b == 46) word ≡ dot → slot_at_dot word dot ≡ Some (name, at) → IsSlot word name at
   by_dot None is h = cc
   by_dot (Some i) is h =
       subst (λ w. IsSlot w name at) (sym (dotted word i is))
@@ -219,16 +195,16 @@ slot_takes word name at h = by_dot (position (λ b. b == 46) word) refl (sym (sl
 
 -- a slot's word is read as that slot
 pub slot_again : (name : List ℕ) (at : Place) → is_name name ≡ true → IsPlace at → slot_of (slot_word name at) ≡ Some (name, at)
-unfolding at_dot both
+unfolding slot_of
 slot_again name at is place =
     let word = slot_word name at in
     let before : take (length name) word ≡ name = take-append_seam name (46 ∷ place_word at) in
     let after : drop (length name + 1) word ≡ place_word at = drop-append-add name (46 ∷ place_word at) 1 in
-    slot_is word ∙ ap (λ dot. at_dot word dot) (dot_at name (place_word at) (none_dotted name (and_parts _ _ is).1))
-    ∙ ap (λ w. both (name_of w) (place_of (drop (length name + 1) word))) before
-    ∙ ap (λ w. both (name_of name) (place_of w)) after
-    ∙ ap (λ n. both n (place_of (place_word at))) ((name_iff name name).1 (refl, is))
-    ∙ ap (λ p. both (Some name) p) (place_again at place)
+    ap (λ dot. slot_at_dot word dot) (dot_at name (place_word at) (none_dotted name (and_parts _ _ is).1))
+    ∙ ap (λ w. slot_with (name_of w) (place_of (drop (length name + 1) word))) before
+    ∙ ap (λ w. slot_with (name_of name) (place_of w)) after
+    ∙ ap (λ n. slot_with n (place_of (place_word at))) ((name_iff name name).1 (refl, is))
+    ∙ ap (λ p. slot_with (Some name) p) (place_again at place)
 
 pub slot_iff : (word name : List ℕ) (at : Place)
     → (slot_of word ≡ Some (name, at)) ↔ ((word ≡ slot_word name at) × (is_name name ≡ true) × IsPlace at)
@@ -245,3 +221,23 @@ slot_once name other_name at other is place other_is other_place same =
     sym this ∙ ap (λ w. slot_of w) same ∙ that in
     let slots : ◌≡◌ {A = List ℕ × Place} (name, at) (other_name, other) = cc in
     (ap (λ (s : List ℕ × Place). s.0) slots, ap (λ (s : List ℕ × Place). s.1) slots)
+
+-- and they are plain
+
+plain_place : (at : Place) → IsPlace at → IsPlainWord (place_word at)
+plain_place (place.Index index) is = plain_decimal index is
+plain_place place.Root is = plain_bytes (codes "root") refl
+
+abbrev pub IsSlotName : List ℕ × Place → Type 0
+IsSlotName slot = (is_name slot.0 ≡ true) × IsPlace slot.1
+
+plain_slot : (slot : List ℕ × Place) → IsSlotName slot → IsPlainWord (slot_word slot.0 slot.1)
+plain_slot slot is = both (λ b. 32 < b) slot.0 _ (plain_name slot.0 is.0) (lit< tt, plain_place slot.1 is.1)
+
+-- so the next word is a slot
+pub slot_part : IsPart slot_at (λ slot. slot_word slot.0 slot.1 ∷ []) IsSlotName
+unfolding slot_at
+slot_part =
+    word_part slot_of (λ slot. slot_word slot.0 slot.1) IsSlotName
+    (λ word slot h. let is = slot_takes word slot.0 slot.1 h in (is.0, (is.1, is.2))) (λ slot is. slot_again slot.0 slot.1 is.0 is.1)
+    plain_slot

@@ -1,5 +1,5 @@
 -- What a table that was read says of its text, and that the text of each table is read back.
-use Rattle.std.proofs.Common.{◌≡◌, ◌↔◌, ℕ, ◌<◌, ◌≤◌, ◌^◌, Bool, true, false, not, cond, length, List, [], ◌∷◌, ◌++◌, map, codes, Option, Some, None, Result, Ok, Err, IfOk, refl, sym, ap, subst, ◌∙◌, arith, append_assoc}
+use Rattle.std.proofs.Common.{◌≡◌, ◌↔◌, ℕ, ◌<◌, Bool, true, false, not, cond, length, List, [], ◌∷◌, ◌++◌, map, codes, Option, Some, None, Result, Ok, Err, IfOk, refl, sym, ap, subst, ◌∙◌, append_assoc}
 use Rattle.std.specs.Bool.{⊤, Decides}
 use Rattle.std.specs.List.{AllByRecursion}
 use Rattle.std.specs.Str.{bytes_eq}
@@ -7,19 +7,13 @@ use Rattle.std.proofs.lemmas.List.{append-nil}
 use Rattle.std.proofs.lemmas.List.Quantifiers.{position-Some}
 use Rattle.std.proofs.lemmas.Slice.Eq.{bytes_eq-Decides}
 use Rattle.base.specs.declared.ids.SlotRef.{SlotRef}
-use Rattle.base.specs.declared.limits.TheConstants.{ADDRESS_END}
 use Rattle.machine.specs.declared.layout.Filled.{Filled}
-use Rattle.machine.specs.declared.object.Object.{Object}
-use Rattle.machine.specs.declared.object.Object.TheVariants as o
 use Rattle.machine.specs.declared.object.ObjectKind.{ObjectKind}
 use Rattle.machine.specs.declared.object.ObjectKind.TheVariants as kind
-use Rattle.machine.specs.declared.object.Share.{Share}
-use Rattle.machine.specs.declared.thread.RunState.{RunState}
-use Rattle.machine.specs.declared.thread.RunState.TheVariants as run
 use Rattle.machine.specs.Layout.{Layout, empty_layout, initial_of}
-use Rattle.machine.specs.Objects.{kind_of_object, end_of}
+use Rattle.machine.specs.Objects.{kind_of_object}
 use Rattle.table.specs.Items.{Item, LabelItem, ObjectItem, CapItem, PairItem, BindingItem, Admits, ComesNow, IsBuiltUp, none, more, with_item}
-use Rattle.table.specs.Rules.{IsAtRest, IsBlank, IsDraft, IsLawful, IsWithinLimits, kind_at}
+use Rattle.table.specs.Rules.{IsDraft, IsLawful, kind_at}
 use Rattle.table.specs.Tree.{is_kin, tree_fault, with_mark, with_originals}
 use Rattle.table.proofs.BuiltUp.{draft_from_built}
 use Rattle.words.specs.declared.faults.Fault.{Fault}
@@ -28,17 +22,18 @@ use Rattle.words.specs.Reading.{bind, last_line, word_at, or_syntax, steps, whol
 use Rattle.words.specs.Text.{text_of, IsPlainLine, IsPlainWord}
 use Rattle.words.proofs.TextLaws.{both}
 use Rattle.words.proofs.TextReading.{whole_text_takes, whole_text_again}
-use Rattle.words.proofs.WordLaws.{bind_ok, word_then, plain_bytes, plain_decimal, plain_hexadecimal, plain_name}
+use Rattle.words.proofs.WordLaws.{bind_ok, word_then, plain_bytes, plain_name}
 use Rattle.captext.specs.PolicyText.{label_name}
 use Rattle.captext.specs.Spelling.{object_kinds, object_kind_word}
 use Rattle.captext.specs.Tables.{object_line, object_kind_of, declaration, line_by, table_line, grown, grown_by, table_format, read_table_of}
-use Rattle.captext.specs.TableText.{table_header, start_word, share_words, content_words, object_name, cap_words, item_words, label_lines, object_lines, pair_lines, binding_lines, table_lines, table_text, IsLineOf}
+use Rattle.captext.specs.TableText.{table_header, content_words, object_name, cap_words, item_words, label_lines, object_lines, pair_lines, binding_lines, table_lines, table_text, IsLineOf}
 use Rattle.captext.proofs.BindLines.{bind_line_takes, bind_line_again, has_name}
 use Rattle.captext.proofs.CapLines.{cap_line_takes}
 use Rattle.captext.proofs.CapTexts.{cap_line_again, cap_plain}
 use Rattle.captext.proofs.LineLaws.{TakesItem, spelled_then, found_word}
 use Rattle.captext.proofs.NameLaws.{is_label_name, is_object_name}
 use Rattle.captext.proofs.ObjectLines.{label_line_takes, label_line_again, object_line_takes, object_line_again}
+use Rattle.captext.proofs.ObjectParts.{plain_content}
 use Rattle.captext.proofs.PairLines.{child_line_takes, child_line_again, pair_plain}
 use Rattle.captext.proofs.TableLines.{item_more}
 
@@ -106,35 +101,6 @@ line_iff t words next draft = (line_takes t words next, again) where
       ap (table_line t) is.words_are ∙ line_again t item draft is.now is.admits ∙ ap (λ u. Ok u) is.grown
 
 -- the words of an item's line are plain, and it is not the last line
-
-plain_share : (share : Option Share) → IsWithinLimits share → AllByRecursion IsPlainWord (share_words share)
-plain_share None within = (plain_bytes (codes "-") refl, tt)
-plain_share (Some share) within =
-    let core : share.core < 2 ^ 64 = omega arith in
-    let budget : share.budget < 2 ^ 64 = omega arith in
-    let period : share.period < 2 ^ 64 = omega arith in
-    (plain_decimal share.core core, (plain_decimal share.budget budget, (plain_decimal share.period period, tt)))
-
-plain_start : (state : RunState) → IsAtRest state → IsPlainWord (start_word state)
-plain_start run.Ready rests = plain_bytes (codes "ready") refl
-plain_start run.Inactive rests = plain_bytes (codes "inactive") refl
-plain_start _ rests = absurd rests
-
-plain_content : (object : Object) → IsBlank object → end_of object ≤ ADDRESS_END
-    → AllByRecursion IsPlainWord (content_words object)
-plain_content (o.Untyped memory) blank end =
-    (plain_hexadecimal memory.base (omega arith), (plain_decimal memory.bits (omega arith), tt))
-plain_content (o.CNode node) blank end =
-    (plain_hexadecimal node.address (omega arith), (plain_decimal node.radix (omega arith), tt))
-plain_content (o.Tcb thread) blank end =
-    (plain_hexadecimal thread.address (omega arith), (plain_start thread.state blank.0, tt))
-plain_content (o.Endpoint endpoint) blank end = (plain_hexadecimal endpoint.address (omega arith), tt)
-plain_content (o.Notification notification) blank end = (plain_hexadecimal notification.address (omega arith), tt)
-plain_content (o.Reply answer) blank end = (plain_hexadecimal answer.address (omega arith), tt)
-plain_content (o.Context context) blank end =
-    (plain_hexadecimal context.address (omega arith), plain_share context.share blank.0)
-plain_content (o.Frame frame) blank end = (plain_hexadecimal frame.address (omega arith), tt)
-plain_content (o.Control control) blank end = (plain_decimal control.core (omega arith), tt)
 
 plain_kind : (kind : ObjectKind) → IsPlainWord (object_kind_word kind)
 plain_kind kind.Untyped = plain_bytes (codes "untyped") refl

@@ -16,17 +16,20 @@ use Rattle.captext.specs.declared.shapes.Term.TheVariants as term
 unfoldable pub place_of : List ℕ → Option Place
 place_of word = if bytes_eq word (codes "root") then Some place.Root else option_map place.Index (dec_of word)
 
+-- a name and a place, where both are there
+abbrev pub slot_with : Option (List ℕ) → Option Place → Option (List ℕ × Place)
+slot_with None _ = None
+slot_with (Some name) None = None
+slot_with (Some name) (Some at) = Some (name, at)
+
+-- the slot of a word whose first dot is there
+abbrev pub slot_at_dot : List ℕ → Option ℕ → Option (List ℕ × Place)
+slot_at_dot word None = None
+slot_at_dot word (Some i) = slot_with (name_of (take i word)) (place_of (drop (i + 1) word))
+
 -- a slot as it is spelled: its holder's name, a dot, and its place there
 unfoldable pub slot_of : List ℕ → Option (List ℕ × Place)
-slot_of word = at_dot (position (λ b. b == 46) word) where
-  with_name : Option (List ℕ) → Option Place → Option (List ℕ × Place)
-  with_name None _ = None
-  with_name (Some name) None = None
-  with_name (Some name) (Some at) = Some (name, at)
-
-  at_dot : Option ℕ → Option (List ℕ × Place)
-  at_dot None = None
-  at_dot (Some i) = with_name (name_of (take i word)) (place_of (drop (i + 1) word))
+slot_of word = slot_at_dot word (position (λ b. b == 46) word)
 
 -- the next word as a slot
 unfoldable pub slot_at : List (List ℕ) → Result ((List ℕ × Place) × List (List ℕ)) Wrong
@@ -35,20 +38,15 @@ slot_at words = do
   slot ← or_syntax (slot_of word.0)
   Ok (slot, word.1)
 
+-- the first of these that is there
+abbrev pub first_term : Option Rights → Option ℕ → Option ℕ → Option Term
+first_term (Some rights) decimal hexadecimal = Some (term.Rights rights)
+first_term None (Some n) hexadecimal = Some (term.Decimal n)
+first_term None None hexadecimal = option_map term.Hexadecimal hexadecimal
+
 -- rights, a decimal number or a hexadecimal number
 unfoldable pub term_of : List ℕ → Option Term
-term_of word = rights_or (rights_of_word word) where
-  hexadecimal_or_none : Option ℕ → Option Term
-  hexadecimal_or_none None = None
-  hexadecimal_or_none (Some n) = Some (term.Hexadecimal n)
-
-  decimal_or : Option ℕ → Option Term
-  decimal_or None = hexadecimal_or_none (hex_of word)
-  decimal_or (Some n) = Some (term.Decimal n)
-
-  rights_or : Option Rights → Option Term
-  rights_or None = decimal_or (dec_of word)
-  rights_or (Some rights) = Some (term.Rights rights)
+term_of word = first_term (rights_of_word word) (dec_of word) (hex_of word)
 
 -- one term, and one more if a word is left
 unfoldable pub terms_from : List ℕ → List (List ℕ) → Result (Option Term × Option Term) Wrong

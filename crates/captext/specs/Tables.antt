@@ -1,6 +1,6 @@
 -- The text of a capability table, line by line: each line adds one item to the table, or is faulty. Of the faults of one line the
 -- first in this order is told: form and order of lines, unknown name, double, wrong kind, limit, place in memory.
-use Rattle.std.specs.Prelude.{ℕ, ◌+◌, ◌^◌, ◌&&◌, not, Bool, true, false, nat_lt, nat_le, List, [], ◌∷◌, length, codes, option_map, Option, Some, None, is_some, Result, Ok, Err, if◌then◌else◌}
+use Rattle.std.specs.Prelude.{ℕ, ◌+◌, ◌^◌, ◌&&◌, not, Bool, true, false, nat_lt, nat_le, List, [], ◌∷◌, length, codes, Option, Some, None, is_some, Result, Ok, Err, if◌then◌else◌}
 use Rattle.std.specs.List.{find}
 use Rattle.std.specs.Str.{bytes_eq}
 use Rattle.base.specs.declared.core_number.TheConstants.CoreNo as CoreNo
@@ -31,7 +31,8 @@ use Rattle.words.specs.declared.faults.Fault.{Fault}
 use Rattle.words.specs.declared.faults.Wrong.{Wrong}
 use Rattle.words.specs.declared.faults.Wrong.TheVariants as wrong
 use Rattle.words.specs.Name.{name_at}
-use Rattle.words.specs.Number.{dec_of, hex_at, number_at}
+use Rattle.words.specs.Number.{hex_at, number_at}
+use Rattle.words.specs.Parts.{PartReader, in_turn, read_as}
 use Rattle.words.specs.Reading.{◌>>=◌, word_at, ended_at, or_syntax, read_format, Format, Whole}
 use Rattle.words.specs.Text.{words_of, lines_of}
 use Rattle.captext.specs.declared.shapes.Place.{Place}
@@ -100,110 +101,97 @@ declared t name label object = do
   _ ← demand (is_aligned object && is_free t object) wrong.Misplaced
   Ok (with_initial t name (record { label = label; object = object }))
 
--- an object within the limits of its kind, else none
-abbrev pub within : Bool → Object → Option Object
-within test object = if test then Some object else None
+-- the objects as they are at boot, by what their kind's words tell
 
--- HEX alone
-unfoldable pub address_at : List (List ℕ) → Result ℕ Wrong
-address_at words = do
-  address ← hex_at words
-  _ ← ended_at address.1
-  Ok address.0
+abbrev pub untyped_of : ℕ × ℕ → Object
+untyped_of told = o.Untyped (record { base = told.0; bits = told.1; watermark = told.0 })
 
--- HEX alone, as the object at that address
-unfoldable pub addressed : (ℕ → Object) → List (List ℕ) → Result (Option Object) Wrong
-addressed object words = do
-  address ← address_at words
-  Ok (Some (object address))
+abbrev pub cnode_of : ℕ × ℕ → Object
+cnode_of told = o.CNode (record { address = told.0; radix = told.1 })
 
--- HEX DEC, as the object at that address with that number, if the number is between these
-unfoldable pub sized : ℕ → ℕ → (ℕ → ℕ → Object) → List (List ℕ) → Result (Option Object) Wrong
-sized least most object words = do
-  address ← hex_at words
-  number ← number_at address.1
-  _ ← ended_at number.1
-  Ok (within (nat_le least number.0 && nat_le number.0 most) (object address.0 number.0))
+abbrev pub thread_of : ℕ × RunState → Object
+thread_of told = o.Tcb (record { address = told.0; state = told.1; inbox = inbox.Empty; context = None })
+
+abbrev pub endpoint_of : ℕ → Object
+endpoint_of address = o.Endpoint (record { address = address })
+
+abbrev pub notification_of : ℕ → Object
+notification_of address = o.Notification (record { address = address; pending = None })
+
+abbrev pub reply_of : ℕ → Object
+reply_of address = o.Reply (record { address = address; state = reply.Free })
+
+abbrev pub context_of : ℕ × Option Share → Object
+context_of told = o.Context (record { address = told.0; share = told.1; thread = None })
+
+abbrev pub frame_of : ℕ → Object
+frame_of address = o.Frame (record { address = address })
+
+abbrev pub control_of : ℕ → Object
+control_of core = o.Control (record { core = core })
 
 -- the run state that a table may give a thread
 unfoldable pub start_of : List ℕ → Option RunState
 start_of word = find (λ state. bytes_eq word (start_word state)) (run.Ready ∷ run.Inactive ∷ [])
 
--- HEX START
-unfoldable pub thread_at : List (List ℕ) → Result (Option Object) Wrong
-thread_at words = do
-  address ← hex_at words
-  word ← word_at address.1
+-- the next word as such a state
+unfoldable pub start_at : PartReader RunState
+start_at words = do
+  word ← word_at words
   start ← or_syntax (start_of word.0)
-  _ ← ended_at word.1
-  Ok (Some (o.Tcb (record { address = address.0; state = start; inbox = inbox.Empty; context = None })))
+  Ok (start, word.1)
 
--- a share within the limits, else none
-abbrev pub limited_share : ℕ → ℕ → ℕ → Option Share
-limited_share core budget period =
-    if nat_lt core CoreNo.COUNT && ((nat_le 1 budget && nat_le budget period) && nat_le period MAX_PERIOD)
-    then Some (record { core = core; budget = budget; period = period })
-    else None
+-- the share of a core, a budget and a period
+abbrev pub share_of : ℕ × (ℕ × ℕ) → Option Share
+share_of told = Some (record { core = told.0; budget = told.1.0; period = told.1.1 })
 
--- a context that no thread is bound to
-abbrev pub unbound : ℕ → Option Share → Object
-unbound address share = o.Context (record { address = address; share = share; thread = None })
+-- CORE BUDGET PERIOD, or `-` for no share
+unfoldable pub share_at : PartReader (Option Share)
+share_at words = do
+  first ← word_at words
+  if bytes_eq first.0 (codes "-") then Ok (None, first.1) else read_as share_of (in_turn number_at (in_turn number_at number_at)) words
 
--- `-`, of a context without a share
-unfoldable pub unshared : ℕ → List (List ℕ) → Result (Option Object) Wrong
-unshared address words = do
-  _ ← ended_at words
-  Ok (Some (unbound address None))
+-- a kind's own words as an object, whatever the limits of the kind
+abbrev pub content_at : ObjectKind → PartReader Object
+content_at kind.Untyped = read_as untyped_of (in_turn hex_at number_at)
+content_at kind.CNode = read_as cnode_of (in_turn hex_at number_at)
+content_at kind.Tcb = read_as thread_of (in_turn hex_at start_at)
+content_at kind.Endpoint = read_as endpoint_of hex_at
+content_at kind.Notification = read_as notification_of hex_at
+content_at kind.Reply = read_as reply_of hex_at
+content_at kind.Context = read_as context_of (in_turn hex_at share_at)
+content_at kind.Frame = read_as frame_of hex_at
+content_at kind.Control = read_as control_of number_at
 
--- CORE BUDGET PERIOD, of which the first word was taken
-unfoldable pub share_at : List ℕ → List (List ℕ) → Result (Option Share) Wrong
-share_at first words = do
-  core ← or_syntax (dec_of first)
-  budget ← number_at words
-  period ← number_at budget.1
-  _ ← ended_at period.1
-  Ok (limited_share core budget.0 period.0)
+-- a share within the limits
+abbrev pub is_share : ℕ → ℕ → ℕ → Bool
+is_share core budget period = nat_lt core CoreNo.COUNT && ((nat_le 1 budget && nat_le budget period) && nat_le period MAX_PERIOD)
 
--- the share of a context
-unfoldable pub shared : ℕ → List ℕ → List (List ℕ) → Result (Option Object) Wrong
-shared address first words = do
-  told ← share_at first words
-  Ok (option_map (λ share. unbound address (Some share)) told)
+abbrev pub is_limited_share : Option Share → Bool
+is_limited_share None = true
+is_limited_share (Some share) = is_share share.core share.budget share.period
 
--- HEX and a share of a core, or `-`
-unfoldable pub context_at : List (List ℕ) → Result (Option Object) Wrong
-context_at words = do
-  address ← hex_at words
-  first ← word_at address.1
-  if bytes_eq first.0 (codes "-") then unshared address.0 first.1 else shared address.0 first.0 first.1
+-- an object within the limits of its kind
+abbrev pub is_limited : Object → Bool
+is_limited (o.Untyped memory) = nat_le 4 memory.bits && nat_le memory.bits 47
+is_limited (o.CNode node) = nat_le 1 node.radix && nat_le node.radix MAX_RADIX
+is_limited (o.Context context) = is_limited_share context.share
+is_limited (o.Control control) = nat_lt control.core CoreNo.COUNT
+is_limited _ = true
 
--- DEC, as the control of that core
-unfoldable pub control_at : List (List ℕ) → Result (Option Object) Wrong
-control_at words = do
-  core ← number_at words
-  _ ← ended_at core.1
-  Ok (within (nat_lt core.0 CoreNo.COUNT) (o.Control (record { core = core.0 })))
-
--- the object at boot that a kind's own words tell, if it is within the limits of the kind
-abbrev pub object_at : ObjectKind → List (List ℕ) → Result (Option Object) Wrong
-object_at kind.Untyped = sized 4 47 (λ base bits. o.Untyped (record { base = base; bits = bits; watermark = base }))
-object_at kind.CNode = sized 1 MAX_RADIX (λ address radix. o.CNode (record { address = address; radix = radix }))
-object_at kind.Tcb = thread_at
-object_at kind.Endpoint = addressed (λ address. o.Endpoint (record { address = address }))
-object_at kind.Notification = addressed (λ address. o.Notification (record { address = address; pending = None }))
-object_at kind.Reply = addressed (λ address. o.Reply (record { address = address; state = reply.Free }))
-object_at kind.Context = context_at
-object_at kind.Frame = addressed (λ address. o.Frame (record { address = address }))
-object_at kind.Control = control_at
+-- the object, if it is within the limits of its kind
+abbrev pub limited : Object → Option Object
+limited object = if is_limited object then Some object else None
 
 -- KIND NAME LABEL and the kind's own words; a control of a core past the limit doubles none
 unfoldable pub object_line : ObjectKind → Layout → List (List ℕ) → Result Layout Wrong
 object_line kind t words = do
   name ← name_at words
   label ← name_at name.1
-  told ← object_at kind label.1
+  told ← read_as limited (content_at kind) label.1
+  _ ← ended_at told.1
   number ← heading t name.0 label.0
-  object ← value_or wrong.Limit told
+  object ← value_or wrong.Limit told.0
   _ ← demand (not (repeats_control t object)) wrong.Double
   declared t name.0 number object
 

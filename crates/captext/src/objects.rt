@@ -1,10 +1,11 @@
-ghost use Rattle.std.specs.Prelude.{◌≡◌, ◌<◌, true, false, length, is_some, IfOk, OnErr, OnOk};
+ghost use Rattle.std.specs.Prelude.{◌≡◌, ◌<◌, true, false, length, is_some, None, if◌then◌else◌, IfOk, OnErr, OnOk};
 ghost use Rattle.captext.specs.Tables as text;
 ghost use Rattle.table.specs.Building.{repeats_control};
 ghost use Rattle.table.specs.Names.{object_named};
 ghost use Rattle.words.specs.Name.{is_name};
 ghost use Rattle.table.specs.Rules.{IsBlank};
-ghost use Rattle.words.specs.Reading.{GivesOrStops};
+ghost use Rattle.words.specs.Parts.{read_as};
+ghost use Rattle.words.specs.Reading.{Gives, GivesOrStops};
 
 use base::{CoreNo, Label, MAX_PERIOD};
 use machine::{
@@ -134,6 +135,7 @@ pub fn object_line(
         Ok(object) => object,
         Err(wrong) => return Err(LineError::Text(wrong)),
     };
+    words.end()?;
     let label = heading(draft, name, label)?;
     let Some(object) = object else {
         return Err(LineError::Text(Wrong::Limit));
@@ -145,31 +147,31 @@ pub fn object_line(
 }
 
 /// The object at boot that its kind's own words tell, if it is within the limits of the kind.
-#[tactic(auto, unfolding(crate::specs::Tables::addressed, words::specs::Reading::bind))]
+#[tactic(auto, unfolding(words::specs::Parts::read_as, words::specs::Reading::bind))]
 fn object(kind: ObjectKind, words: &mut Words<'_>) -> Result<Option<Object>, Wrong>
-    ensures { result ≡ text.object_at kind words.old }
+    ensures { Gives (λ object. (object, words.new)) result (read_as text.limited (text.content_at kind) words.old) }
 {
     match kind {
         ObjectKind::Untyped => untyped(words),
         ObjectKind::CNode => cnode(words),
         ObjectKind::Tcb => thread(words),
         ObjectKind::Endpoint => {
-            let address = address(words)?;
+            let address = words.hex()?;
             Ok(Some(Object::Endpoint(Endpoint { address })))
         }
         ObjectKind::Notification => {
-            let address = address(words)?;
+            let address = words.hex()?;
             let pending = None;
             Ok(Some(Object::Notification(Notification { address, pending })))
         }
         ObjectKind::Reply => {
-            let address = address(words)?;
+            let address = words.hex()?;
             let state = ReplyState::Free;
             Ok(Some(Object::Reply(Reply { address, state })))
         }
         ObjectKind::Context => context(words),
         ObjectKind::Frame => {
-            let address = address(words)?;
+            let address = words.hex()?;
             Ok(Some(Object::Frame(Frame { address })))
         }
         ObjectKind::Control => control(words),
@@ -177,13 +179,12 @@ fn object(kind: ObjectKind, words: &mut Words<'_>) -> Result<Option<Object>, Wro
 }
 
 /// `HEX DEC`.
-#[tactic(auto, unfolding(crate::specs::Tables::sized, words::specs::Reading::bind))]
+#[tactic(auto, unfolding(words::specs::Parts::in_turn, words::specs::Parts::read_as, words::specs::Reading::bind))]
 fn untyped(words: &mut Words<'_>) -> Result<Option<Object>, Wrong>
-    ensures { result ≡ text.object_at ObjectKind.Untyped words.old }
+    ensures { Gives (λ object. (object, words.new)) result (read_as text.limited (text.content_at ObjectKind.Untyped) words.old) }
 {
     let base = words.hex()?;
     let bits = words.number()?;
-    words.end()?;
     if 4 <= bits && bits <= 47 {
         Ok(Some(Object::Untyped(Untyped {
             base,
@@ -196,13 +197,12 @@ fn untyped(words: &mut Words<'_>) -> Result<Option<Object>, Wrong>
 }
 
 /// `HEX DEC`.
-#[tactic(auto, unfolding(crate::specs::Tables::sized, words::specs::Reading::bind))]
+#[tactic(auto, unfolding(words::specs::Parts::in_turn, words::specs::Parts::read_as, words::specs::Reading::bind))]
 fn cnode(words: &mut Words<'_>) -> Result<Option<Object>, Wrong>
-    ensures { result ≡ text.object_at ObjectKind.CNode words.old }
+    ensures { Gives (λ object. (object, words.new)) result (read_as text.limited (text.content_at ObjectKind.CNode) words.old) }
 {
     let address = words.hex()?;
     let radix = words.number()?;
-    words.end()?;
     match Radix::new(radix) {
         Some(radix) => Ok(Some(Object::CNode(CNode { address, radix }))),
         None => Ok(None),
@@ -224,14 +224,13 @@ fn start_of(word: &[u8]) -> Option<RunState>
 }
 
 /// `HEX ready` or `HEX inactive`.
-#[tactic(auto, unfolding(crate::specs::Tables::thread_at, words::specs::Reading::or_syntax, words::specs::Reading::bind))]
+#[tactic(auto, unfolding(crate::specs::Tables::start_at, words::specs::Parts::in_turn, words::specs::Parts::read_as, words::specs::Reading::or_syntax, words::specs::Reading::bind))]
 fn thread(words: &mut Words<'_>) -> Result<Option<Object>, Wrong>
-    ensures { result ≡ text.object_at ObjectKind.Tcb words.old }
+    ensures { Gives (λ object. (object, words.new)) result (read_as text.limited (text.content_at ObjectKind.Tcb) words.old) }
 {
     let address = words.hex()?;
     let word = words.word()?;
     let state = start_of(word).ok_or(Wrong::Syntax)?;
-    words.end()?;
     Ok(Some(Object::Tcb(Tcb {
         address,
         state,
@@ -240,19 +239,9 @@ fn thread(words: &mut Words<'_>) -> Result<Option<Object>, Wrong>
     })))
 }
 
-/// `HEX` alone.
-#[tactic(auto, unfolding(crate::specs::Tables::address_at, words::specs::Reading::bind))]
-fn address(words: &mut Words<'_>) -> Result<u64, Wrong>
-    ensures { result ≡ text.address_at words.old }
-{
-    let address = words.hex()?;
-    words.end()?;
-    Ok(address)
-}
-
 /// A share of a core, if it is within the limits.
 fn limited_share(core: u64, budget: u64, period: u64) -> Option<Share>
-    ensures { result ≡ text.limited_share core budget period }
+    ensures { result ≡ if text.is_share core budget period then text.share_of (core, (budget, period)) else None }
 {
     let core = CoreNo::new(core)?;
     if 1 <= budget && budget <= period && period <= MAX_PERIOD {
@@ -266,49 +255,41 @@ fn limited_share(core: u64, budget: u64, period: u64) -> Option<Share>
     }
 }
 
-/// `CORE BUDGET PERIOD`, of which the first word was taken.
-#[tactic(auto, unfolding(crate::specs::Tables::share_at, words::specs::Reading::or_syntax, words::specs::Reading::bind))]
-fn share(first: &[u8], words: &mut Words<'_>) -> Result<Option<Share>, Wrong>
-    ensures { result ≡ text.share_at first.now words.old }
-{
-    let core = decimal_of(first).ok_or(Wrong::Syntax)?;
-    let budget = words.number()?;
-    let period = words.number()?;
-    words.end()?;
-    Ok(limited_share(core, budget, period))
-}
-
 /// `HEX -` or `HEX CORE BUDGET PERIOD`.
-#[tactic(auto, unfolding(crate::specs::Tables::context_at, crate::specs::Tables::unshared, crate::specs::Tables::shared, words::specs::Reading::bind))]
+#[tactic(auto, unfolding(crate::specs::Tables::share_at, words::specs::Number::number_at, words::specs::Parts::in_turn, words::specs::Parts::read_as, words::specs::Reading::or_syntax, words::specs::Reading::word_at, words::specs::Reading::bind))]
 fn context(words: &mut Words<'_>) -> Result<Option<Object>, Wrong>
-    ensures { result ≡ text.object_at ObjectKind.Context words.old }
+    ensures { Gives (λ object. (object, words.new)) result (read_as text.limited (text.content_at ObjectKind.Context) words.old) }
 {
     let address = words.hex()?;
     let first = words.word()?;
-    let share = if first == b"-".as_slice() {
-        words.end()?;
-        None
-    } else {
-        match share(first, words)? {
-            Some(share) => Some(share),
-            None => return Ok(None),
-        }
-    };
     let thread = None;
-    Ok(Some(Object::Context(Context {
-        address,
-        share,
-        thread,
-    })))
+    if first == b"-".as_slice() {
+        let share = None;
+        return Ok(Some(Object::Context(Context {
+            address,
+            share,
+            thread,
+        })));
+    }
+    let core = decimal_of(first).ok_or(Wrong::Syntax)?;
+    let budget = words.number()?;
+    let period = words.number()?;
+    match limited_share(core, budget, period) {
+        Some(share) => Ok(Some(Object::Context(Context {
+            address,
+            share: Some(share),
+            thread,
+        }))),
+        None => Ok(None),
+    }
 }
 
 /// `DEC`, the core.
-#[tactic(auto, unfolding(crate::specs::Tables::control_at, words::specs::Reading::bind))]
+#[tactic(auto, unfolding(words::specs::Parts::read_as, words::specs::Reading::bind))]
 fn control(words: &mut Words<'_>) -> Result<Option<Object>, Wrong>
-    ensures { result ≡ text.object_at ObjectKind.Control words.old }
+    ensures { Gives (λ object. (object, words.new)) result (read_as text.limited (text.content_at ObjectKind.Control) words.old) }
 {
     let core = words.number()?;
-    words.end()?;
     match CoreNo::new(core) {
         Some(core) => Ok(Some(Object::Control(Control { core }))),
         None => Ok(None),

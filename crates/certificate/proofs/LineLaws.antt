@@ -14,23 +14,23 @@ use Rattle.table.specs.Rules.{kind_at, IsDraft}
 use Rattle.words.specs.declared.faults.Wrong.TheVariants as wrong
 use Rattle.words.specs.Name.{is_name, name_at}
 use Rattle.words.specs.Parts.{by_word, in_turn, keyed, IsPart}
-use Rattle.words.specs.Reading.{bind, word_at, or_syntax, IsNotLast}
+use Rattle.words.specs.Reading.{bind, word_at, IsNotLast}
 use Rattle.words.specs.Text.{IsPlainLine, IsPlainWord}
 use Rattle.words.proofs.Parts.{after_word, alone_again, alone_takes, both_parts, keyed_part, name_part, read_as_again}
 use Rattle.words.proofs.WordLaws.{bind_ok, plain_bytes}
 use Rattle.captext.specs.declared.shapes.Place.{Place}
 use Rattle.captext.specs.declared.shapes.Place.TheVariants as place
 use Rattle.captext.specs.PolicyText.{label_name}
-use Rattle.captext.specs.Shapes.{slot_at, slot_of}
-use Rattle.captext.specs.Spelling.{slot_word, IsPlace}
+use Rattle.captext.specs.Shapes.{slot_at}
+use Rattle.captext.specs.Spelling.{slot_word}
 use Rattle.captext.specs.TableText.{object_name, place_in, slot_name}
 use Rattle.captext.specs.Tables.{fits_holder, is_thread_and_context, slot_in}
 use Rattle.captext.proofs.BindLines.{has_name, kinds_take}
-use Rattle.captext.proofs.CapLines.{slot_at_again, slot_spelled}
-use Rattle.captext.proofs.CapTexts.{placed, plain_slot}
-use Rattle.captext.proofs.LineLaws.{same_ok, spelled_then}
+use Rattle.captext.proofs.CapLines.{slot_spelled}
+use Rattle.captext.proofs.CapTexts.{placed}
+use Rattle.captext.proofs.LineLaws.{same_ok}
 use Rattle.captext.proofs.NameLaws.{label_again, label_takes, object_again, object_takes, is_label_name, is_object_name}
-use Rattle.captext.proofs.SlotLaws.{slot_takes}
+use Rattle.captext.proofs.SlotLaws.{slot_part, IsSlotName}
 use Rattle.captext.proofs.StepLaws.{demand_then, value_then}
 use Rattle.certificate.specs.declared.line.Line.{Line}
 use Rattle.certificate.specs.declared.line.Line.TheVariants as line
@@ -40,26 +40,6 @@ use Rattle.certificate.specs.Reading.{cap_at, space_at, derive_at, runs_at, name
 use Rattle.certificate.proofs.KindWords.{kinds_part}
 
 -- the words of a line
-
-abbrev IsSlotName : NamedSlot → Type 0
-IsSlotName slot = (is_name slot.0 ≡ true) × IsPlace slot.1
-
-slot_part : IsPart slot_at (λ slot. slot_word slot.0 slot.1 ∷ []) IsSlotName
-unfolding slot_at bind word_at or_syntax
-slot_part = record {
-  takes = takes;
-  again = λ slot rest is. slot_at_again slot.0 slot.1 rest is.0 is.1;
-  plain = λ slot is. (plain_slot slot.0 slot.1 is.0 is.1, tt);
-} where
-  takes : (words : List (List ℕ)) (taken : NamedSlot × List (List ℕ)) → slot_at words ≡ Ok taken
-      → (words ≡ slot_word taken.0.0 taken.0.1 ∷ taken.1) × IsSlotName taken.0
-  takes [] taken h = cc
-  takes (word ∷ rest) taken h =
-      let read = spelled_then (slot_of word) _ taken h in
-      let is = slot_takes word read.0.0 read.0.1 read.1 in
-      let same : (read.0, rest) ≡ taken = same_ok _ _ read.2 in
-      subst (λ (t : NamedSlot × List (List ℕ)). (word ∷ rest ≡ slot_word t.0.0 t.0.1 ∷ t.1) × IsSlotName t.0) same
-      (ap (λ w. w ∷ rest) is.0, (is.1, is.2))
 
 named_words : NamedLine → List (List ℕ)
 named_words (NamedCap n) = codes "cap" ∷ slot_word n.0.0 n.0.1 ∷ n.1.0 ∷ kinds_word n.1.1.0 ∷ n.1.1.1 ∷ []

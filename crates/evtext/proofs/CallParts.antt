@@ -1,5 +1,5 @@
 -- The operands of copies, mints and moves: what was read is what they spell, and each spelling is read back.
-use Rattle.std.proofs.Common.{◌≡◌, ℕ, ◌<◌, Bool, true, false, cond, List, [], ◌∷◌, ◌++◌, Option, Some, None, Ok, codes, refl, ap, subst, ◌∙◌}
+use Rattle.std.proofs.Common.{◌≡◌, ℕ, ◌<◌, Bool, true, false, cond, List, [], ◌∷◌, ◌++◌, Ok, codes, refl}
 use Rattle.std.specs.List.{AllByRecursion}
 use Rattle.base.proofs.RightsWords.{rights_again, rights_named}
 use Rattle.base.specs.declared.rights.Rights.{Rights}
@@ -8,11 +8,11 @@ use Rattle.machine.specs.declared.call.CapData.{CapData}
 use Rattle.machine.specs.declared.call.CapData.TheVariants.{Badge, Guard}
 use Rattle.machine.specs.Spelling.{data_words, slot_address_words}
 use Rattle.words.specs.Parts.{by_word, in_turn, keyed, IsPart}
-use Rattle.words.specs.Reading.{bind, or_syntax, word_at}
+use Rattle.words.specs.Reading.{bind, word_at}
 use Rattle.words.specs.Text.{IsPlainWord}
-use Rattle.words.proofs.Parts.{after_word, both_parts, keyed_part, number_part, part_as, read_as_again}
+use Rattle.words.proofs.Parts.{after_word, both_parts, keyed_part, number_part, part_as, read_as_again, word_part}
 use Rattle.words.proofs.TextLaws.{both}
-use Rattle.words.proofs.WordLaws.{bind_ok, plain_bytes, plain_decimal, word_then}
+use Rattle.words.proofs.WordLaws.{plain_bytes, plain_decimal}
 use Rattle.evtext.specs.Event.{data_at, guard_of, rights_at, slot_address_at, slot_address_of, IsData, IsSlotAddress}
 
 -- a slot is three numbers
@@ -42,28 +42,10 @@ plain_rights rights =
     letter : (right : ℕ) (word : List ℕ) → IsPlainWord word → IsPlainWord (letter_of rights right word)
     letter right word plain = plain_cond _ word [] plain tt
 
--- a value that is no fault of form is there
-syntax_ok : {X : Type 0} (found : Option X) (x : X) → or_syntax found ≡ Ok x → found ≡ Some x
-unfolding or_syntax
-syntax_ok None x h = absurd (cc h)
-syntax_ok (Some found) x h = let same : found ≡ x = cc in ap (λ v. Some v) same
-
 -- a set of the four rights is a word
 pub rights_part : IsPart rights_at (λ rights. rights_word rights ∷ []) IsRights
-unfolding rights_at bind word_at or_syntax
-rights_part = record { takes = takes; again = again; plain = λ rights is. (plain_rights rights, tt) } where
-  takes : (words : List (List ℕ)) (taken : Rights × List (List ℕ)) → rights_at words ≡ Ok taken
-      → (words ≡ rights_word taken.0 ∷ taken.1) × IsRights taken.0
-  takes words taken h =
-      let read = word_then _ words taken h in
-      let set = bind_ok (or_syntax (rights_of_word read.word)) _ taken read.goes_on in
-      let named = rights_named read.word set.0 (syntax_ok (rights_of_word read.word) set.0 set.1) in
-      let same : (set.0, read.rest) ≡ taken = cc in
-      subst (λ t. (words ≡ rights_word t.0 ∷ t.1) × IsRights t.0) same
-      (read.words_are ∙ ap (λ w. w ∷ read.rest) named.0, named.1)
-
-  again : (rights : Rights) (rest : List (List ℕ)) → IsRights rights → rights_at (rights_word rights ∷ rest) ≡ Ok (rights, rest)
-  again rights rest is = ap (λ o. bind (or_syntax o) (λ r. Ok (r, rest))) (rights_again rights is)
+unfolding rights_at
+rights_part = word_part rights_of_word rights_word IsRights rights_named rights_again (λ rights is. plain_rights rights)
 
 -- what a mint gives is a badge or a guard, each after its word
 

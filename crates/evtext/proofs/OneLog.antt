@@ -13,9 +13,9 @@ use Rattle.words.specs.declared.faults.Wrong.{Wrong}
 use Rattle.words.specs.Number.{number_at}
 use Rattle.words.specs.Text.{IsPlainLine, IsPlainWord}
 use Rattle.words.proofs.ListLaws.{one_list}
-use Rattle.words.proofs.Parts.{part_once}
+use Rattle.words.proofs.Parts.{number_part, part_once}
 use Rattle.words.proofs.TextLaws.{both}
-use Rattle.words.proofs.WordLaws.{number_again, plain_bytes, plain_decimal}
+use Rattle.words.proofs.WordLaws.{plain_bytes, plain_decimal}
 use Rattle.evtext.specs.Event.{HasNumbers}
 use Rattle.evtext.specs.Log.{log_header, log_text, IsEntry, IsOutcome}
 use Rattle.evtext.specs.Script.{script_header, script_text}
@@ -33,7 +33,7 @@ number_of word = value_of (number_at (word ∷ []))
 
 number_back : (n : ℕ) → n < 2 ^ 64 → number_of (decimal n) ≡ n
 unfolding value_of
-number_back n small = ap (λ r. value_of r) (number_again n [] small)
+number_back n small = ap (λ r. value_of r) (number_part.again n [] small)
 
 -- the outcome that words spell, where they spell one
 outcome_of : List (List ℕ) → Outcome

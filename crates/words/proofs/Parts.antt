@@ -1,5 +1,5 @@
 -- Parts of a line are put together: numbers and names, one part after another, a part as another type's value, a choice by a word.
-use Rattle.std.proofs.Common.{◌≡◌, ℕ, ◌<◌, ◌^◌, Bool, true, false, cond, List, [], ◌∷◌, ◌++◌, Result, Ok, Err, refl, sym, ap, subst, ◌∙◌, append_assoc}
+use Rattle.std.proofs.Common.{◌≡◌, ℕ, ◌<◌, ◌^◌, Bool, true, false, cond, List, [], ◌∷◌, ◌++◌, Option, Some, None, Result, Ok, refl, sym, ap, subst, ◌∙◌, append_assoc}
 use Rattle.std.specs.Bool.{Decides}
 use Rattle.std.specs.Fmt.{decimal}
 use Rattle.std.specs.List.{AllByRecursion}
@@ -7,37 +7,74 @@ use Rattle.std.specs.Str.{bytes_eq}
 use Rattle.std.proofs.lemmas.List.{append-nil}
 use Rattle.std.proofs.lemmas.Slice.Eq.{bytes_eq-Decides}
 use Rattle.words.specs.declared.faults.Wrong.{Wrong}
-use Rattle.words.specs.Name.{is_name, name_at}
-use Rattle.words.specs.Number.{number_at}
+use Rattle.words.specs.Name.{is_name, name_at, name_of}
+use Rattle.words.specs.Number.{dec_of, hex_at, hex_of, hexadecimal, number_at}
 use Rattle.words.specs.Parts.{PartReader, in_turn, read_as, by_word, keyed, IsPart}
-use Rattle.words.specs.Reading.{bind, ended_at}
+use Rattle.words.specs.Reading.{bind, ended_at, or_syntax, word_at}
 use Rattle.words.specs.Text.{IsPlainWord}
 use Rattle.words.proofs.TextLaws.{both}
-use Rattle.words.proofs.WordLaws.{bind_ok, ended_then, number_then, number_again, name_then, name_again, plain_decimal, plain_name, word_then}
+use Rattle.words.proofs.Decimals.{dec_again, dec_takes}
+use Rattle.words.proofs.Hexadecimals.{hex_again, hex_takes}
+use Rattle.words.proofs.Spellings.{name_iff}
+use Rattle.words.proofs.WordLaws.{bind_ok, ended_then, plain_decimal, plain_hexadecimal, plain_name, word_then}
 
--- reading gives what was read
-bind_itself : {E X : Type 0} (r : Result X E) → bind r (λ x. Ok x) ≡ r
-unfolding bind
-bind_itself (Ok x) = refl
-bind_itself (Err e) = refl
+-- the next word as a value: what is read of a word has to be what the word spells
+pub word_part : {X : Type 0} (of : List ℕ → Option X) (spell : X → List ℕ) (Is : X → Type 0)
+    → ((word : List ℕ) (x : X) → of word ≡ Some x → (word ≡ spell x) × Is x) → ((x : X) → Is x → of (spell x) ≡ Some x)
+    → ((x : X) → Is x → IsPlainWord (spell x))
+    → IsPart (λ words. bind (word_at words) (λ word. bind (or_syntax (of word.0)) (λ x. Ok (x, word.1)))) (λ x. spell x ∷ []) Is
+unfolding bind word_at or_syntax
+word_part {X} of spell Is takes_word again_word plain_word =
+    record {
+      takes = takes;
+      again = λ x rest is. ap (λ found. bind (or_syntax found) (λ y. Ok (y, rest))) (again_word x is);
+      plain = λ x is. (plain_word x is, tt);
+    }
+  where
+    found : (word : List ℕ) (rest : List (List ℕ)) (taken : X × List (List ℕ)) (o : Option X) → of word ≡ o
+        → bind (or_syntax o) (λ x. Ok (x, rest)) ≡ Ok taken → (word ∷ rest ≡ spell taken.0 ∷ taken.1) × Is taken.0
+    found word rest taken None is h = absurd (cc h)
+    found word rest taken (Some x) is h =
+        let same : (x, rest) ≡ taken = cc in
+        let spelled = takes_word word x is in
+        subst (λ t. (word ∷ rest ≡ spell t.0 ∷ t.1) × Is t.0) same (ap (λ w. w ∷ rest) spelled.0, spelled.1)
+
+    takes : (words : List (List ℕ)) (taken : X × List (List ℕ))
+        → bind (word_at words) (λ word. bind (or_syntax (of word.0)) (λ x. Ok (x, word.1))) ≡ Ok taken
+        → (words ≡ spell taken.0 ∷ taken.1) × Is taken.0
+    takes [] taken h = absurd (cc h)
+    takes (word ∷ rest) taken h = found word rest taken (of word) refl h
 
 pub number_part : IsPart number_at (λ n. decimal n ∷ []) (λ n. n < 2 ^ 64)
-number_part = record { takes = takes; again = number_again; plain = λ n small. (plain_decimal n small, tt) } where
-  takes : (words : List (List ℕ)) (taken : ℕ × List (List ℕ)) → number_at words ≡ Ok taken
-      → (words ≡ decimal taken.0 ∷ taken.1) × (taken.0 < 2 ^ 64)
-  takes words taken h =
-      let read = number_then (λ x. Ok x) words taken (bind_itself (number_at words) ∙ h) in
-      let same : (read.number, read.rest) ≡ taken = cc in
-      subst (λ t. (words ≡ decimal t.0 ∷ t.1) × (t.0 < 2 ^ 64)) same (read.words_are, read.small)
+unfolding number_at
+number_part = word_part dec_of decimal (λ n. n < 2 ^ 64) dec_takes dec_again plain_decimal
+
+pub hex_part : IsPart hex_at (λ n. hexadecimal n ∷ []) (λ n. n < 2 ^ 64)
+unfolding hex_at
+hex_part = word_part hex_of hexadecimal (λ n. n < 2 ^ 64) hex_takes hex_again plain_hexadecimal
 
 pub name_part : IsPart name_at (λ name. name ∷ []) (λ name. is_name name ≡ true)
-name_part = record { takes = takes; again = name_again; plain = λ name is. (plain_name name is, tt) } where
-  takes : (words : List (List ℕ)) (taken : List ℕ × List (List ℕ)) → name_at words ≡ Ok taken
-      → (words ≡ taken.0 ∷ taken.1) × (is_name taken.0 ≡ true)
-  takes words taken h =
-      let read = name_then (λ x. Ok x) words taken (bind_itself (name_at words) ∙ h) in
-      let same : (read.name, read.rest) ≡ taken = cc in
-      subst (λ t. (words ≡ t.0 ∷ t.1) × (is_name t.0 ≡ true)) same (read.words_are, read.is)
+unfolding name_at
+name_part =
+    word_part name_of (λ name. name) (λ name. is_name name ≡ true) (λ word name h. (name_iff word name).0 h)
+    (λ name is. (name_iff name name).1 (refl, is)) plain_name
+
+-- a part was taken, and reading went on with the words after it
+pub record ReadsPart {X Y : Type 0} (spell : X → List (List ℕ)) (Is : X → Type 0) (f : X × List (List ℕ) → Result Y Wrong)
+    (words : List (List ℕ)) (y : Y) : Type 0 where
+  pub value : X
+  pub rest : List (List ℕ)
+  pub words_are : words ≡ spell value ++ rest
+  pub is : Is value
+  pub goes_on : f (value, rest) ≡ Ok y
+
+pub part_then : {X Y : Type 0} {read : PartReader X} {spell : X → List (List ℕ)} {Is : X → Type 0} → IsPart read spell Is
+    → (f : X × List (List ℕ) → Result Y Wrong) (words : List (List ℕ)) (y : Y) → bind (read words) f ≡ Ok y
+    → ReadsPart spell Is f words y
+part_then {read} part f words y h =
+    let a = bind_ok (read words) f y h in
+    let taken = part.takes words a.0 a.1 in
+    record { value = a.0.0; rest = a.0.1; words_are = taken.0; is = taken.1; goes_on = a.2 }
 
 -- one part after another
 pub both_parts : {X Y : Type 0} {one : PartReader X} {other : PartReader Y} {spell : X → List (List ℕ)} {spell_other : Y → List (List ℕ)}
@@ -72,21 +109,25 @@ both_parts {X} {Y} {one} {other} {spell} {spell_other} {Is} {IsOther} first seco
         ∙ ap (λ r. bind r (λ b. Ok ((p.0, b.0), b.1))) (second.again p.1 rest is.1)
 
 -- a part as another type's value
+pub takes_as : {X Y : Type 0} {read : PartReader X} {spell : X → List (List ℕ)} {Is : X → Type 0} → IsPart read spell Is → (f : X → Y)
+    (spell_as : Y → List (List ℕ)) (IsAs : Y → Type 0) → ((x : X) → spell_as (f x) ≡ spell x) → ((x : X) → Is x → IsAs (f x))
+    → (words : List (List ℕ)) (taken : Y × List (List ℕ)) → read_as f read words ≡ Ok taken
+    → (words ≡ spell_as taken.0 ++ taken.1) × IsAs taken.0
+unfolding read_as
+takes_as {read} part f spell_as IsAs same_words is words taken h =
+    let a = bind_ok (read words) _ taken h in
+    let of_part = part.takes words a.0 a.1 in
+    let same : (f a.0.0, a.0.1) ≡ taken = cc in
+    subst (λ t. (words ≡ spell_as t.0 ++ t.1) × IsAs t.0) same
+    (of_part.0 ∙ ap (λ ws. ws ++ a.0.1) (sym (same_words a.0.0)), is a.0.0 of_part.1)
+
+-- and back
 pub part_as : {X Y : Type 0} {read : PartReader X} {spell : X → List (List ℕ)} {Is : X → Type 0} → IsPart read spell Is → (f : X → Y)
     (spell_as : Y → List (List ℕ)) (IsAs : Y → Type 0) → ((x : X) → spell_as (f x) ≡ spell x) → ((x : X) → Is x → IsAs (f x))
     → ((y : Y) → IsAs y → (x : X) × (f x ≡ y) × Is x) → IsPart (read_as f read) spell_as IsAs
 unfolding read_as bind
 part_as {X} {Y} {read} {spell} {Is} part f spell_as IsAs same_words is of =
-    record { takes = takes; again = again; plain = plain } where
-      takes : (words : List (List ℕ)) (taken : Y × List (List ℕ)) → read_as f read words ≡ Ok taken
-          → (words ≡ spell_as taken.0 ++ taken.1) × IsAs taken.0
-      takes words taken h =
-          let a = bind_ok (read words) _ taken h in
-          let of_part = part.takes words a.0 a.1 in
-          let same : (f a.0.0, a.0.1) ≡ taken = cc in
-          subst (λ t. (words ≡ spell_as t.0 ++ t.1) × IsAs t.0) same
-          (of_part.0 ∙ ap (λ ws. ws ++ a.0.1) (sym (same_words a.0.0)), is a.0.0 of_part.1)
-
+    record { takes = takes_as part f spell_as IsAs same_words is; again = again; plain = plain } where
       again : (y : Y) (rest : List (List ℕ)) → IsAs y → read_as f read (spell_as y ++ rest) ≡ Ok (y, rest)
       again y rest is_as =
           let x = of y is_as in
@@ -183,7 +224,6 @@ pub alone_takes : {X Y : Type 0} {read : PartReader X} {spell : X → List (List
     → (next : X → Result Y Wrong) (words : List (List ℕ)) (y : Y) → bind (read words) (λ x. bind (ended_at x.1) (λ _. next x.0)) ≡ Ok y
     → (x : X) × (words ≡ spell x) × Is x × (next x ≡ Ok y)
 alone_takes {X} {Y} {read} {spell} {Is} part next words y h =
-    let a = bind_ok (read words) _ y h in
-    let ended = ended_then (λ _. next a.0.0) a.0.1 y a.2 in
-    let taken = part.takes words a.0 a.1 in
-    (a.0.0, taken.0 ∙ ap (λ rest. spell a.0.0 ++ rest) ended.0 ∙ append-nil (spell a.0.0), taken.1, ended.1)
+    let a = part_then part _ words y h in
+    let ended = ended_then (λ _. next a.value) a.rest y a.goes_on in
+    (a.value, a.words_are ∙ ap (λ rest. spell a.value ++ rest) ended.0 ∙ append-nil (spell a.value), a.is, ended.1)
