@@ -1,7 +1,6 @@
 -- What copying, minting and moving a capability need of the slots that the call names, and what these calls keep.
 use Rattle.std.proofs.Common.{◌≡◌, ◌≢◌, Bool, true, false, refl, sym, ap, subst, ◌∙◌}
 use Rattle.std.specs.Prelude.{Option, Some, None, Ok, IsTrue, IsSome, option_map, if◌then◌else◌}
-use Rattle.std.proofs.lemmas.Bool.{lt-ltb}
 use Rattle.base.specs.declared.ids.ObjId.{ObjId}
 use Rattle.base.specs.declared.ids.SlotRef.{SlotRef}
 use Rattle.base.specs.declared.rights.Rights.{Rights}
@@ -10,11 +9,13 @@ use Rattle.machine.specs.declared.call.CapData.{CapData}
 use Rattle.machine.specs.declared.call.Made.TheVariants.{Done}
 use Rattle.machine.specs.declared.cap.Cap.{Cap}
 use Rattle.machine.specs.declared.cap.Detail.{Detail}
+use Rattle.machine.specs.declared.object.Object.{Object}
 use Rattle.machine.specs.declared.object.Object.TheVariants as o
 use Rattle.machine.specs.declared.slot_address.Ends.{Ends}
 use Rattle.machine.specs.declared.slot_address.SlotAddress.{SlotAddress}
+use Rattle.machine.specs.Capabilities.{kind_of_detail}
 use Rattle.machine.specs.Machine.{Machine, cap_of, has_slot, object_of, parent_of, same_slot, with_cap}
-use Rattle.machine.specs.Objects.{slot_count}
+use Rattle.machine.specs.Objects.{kind_of_object}
 use Rattle.machine.specs.Step.Copy.{copy_of, copyable, masked}
 use Rattle.machine.specs.Step.Mint.{mint_of, minted}
 use Rattle.machine.specs.Step.Move.{move_of}
@@ -23,14 +24,10 @@ use Rattle.machine.specs.Tree.{IsAlone, exchange, parent_of_copy, with_copy, wit
 use Rattle.machine.specs.WellFormed.{IsWellFormed}
 use Rattle.machine.proofs.Exchange.{exchange_twice, parent_of-with_exchanged, slot_itself}
 use Rattle.machine.proofs.FillsFormed.{derives_formed}
-use Rattle.machine.proofs.LedSlots.{InNode, led_slot}
+use Rattle.machine.proofs.LedSlots.{led_slot, node_slot}
 use Rattle.machine.proofs.LookUps.{cap_of-with_cap, parent_of-with_cap}
 use Rattle.machine.proofs.MovesFormed.{move_formed}
 use Rattle.machine.proofs.SlotRows.{copy_done, empty_alone, ends_found, mint_done, move_done}
-
--- a slot of a CNode is there
-node_slot : (m : Machine) (slot : SlotRef) → InNode m slot → IsTrue (has_slot m slot)
-node_slot m slot within = rw within.1 (lt-ltb slot.index (slot_count (o.CNode within.0)) within.2)
 
 -- the slot that a call names as its target is there
 pub target_there :
@@ -50,6 +47,14 @@ pub source_filled :
     (m : Machine) (caller : ObjId) (to from : SlotAddress) (ends : Ends) → ends_of m caller to from ≡ Ok ends
     → cap_of m ends.source ≡ Some ends.held
 source_filled m caller to from ends e = (ends_found m caller to from ends e).filled
+
+-- the object of a capability is there
+pub object_there :
+    (m : Machine) (slot : SlotRef) (held : Cap) → IsWellFormed m → cap_of m slot ≡ Some held → IsSome (object_of m held.object)
+object_there m slot held formed filled = by_object (object_of m held.object) (formed.slots.object slot held filled) where
+  by_object : (o : Option Object) → option_map kind_of_object o ≡ Some (kind_of_detail held.detail) → IsSome o
+  by_object None of_kind = cc
+  by_object (Some object) of_kind = refl
 
 -- a slot that is filled holds something
 pub filled_now : (m : Machine) (slot : SlotRef) (held : Cap) → IsSome (cap_of (with_cap m slot held) slot)

@@ -10,5 +10,6 @@ mod word;
 
 pub use chain::lookup_follows_a_chain;
 pub use find::find_cap;
+pub use level::Level;
 pub use target::{lookup_target, resolve_target};
-pub use walk::{lookup, resolve};
+pub use walk::{level_at, lookup, resolve};

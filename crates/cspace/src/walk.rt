@@ -18,7 +18,7 @@ use objects::State;
 
 /// The CNode whose capability the slot holds.
 #[tactic(auto, unfolding(machine::specs::Lookup::level_at))]
-pub(crate) fn level_at(state: &State, slot: SlotRef) -> Option<Level>
+pub fn level_at(state: &State, slot: SlotRef) -> Option<Level>
     ensures { option_map level_shown result ≡ level_at state.now slot }
 {
     let cap = state.cap(slot)?;

@@ -1,6 +1,6 @@
 -- The boot state of a table with one object, one capability or one pair more, and which slots a boot state has.
 use Rattle.std.proofs.Common.{◌≡◌, ◌≢◌, ℕ, zero, suc, ◌+◌, ◌<◌, Bool, true, false, cond, List, [], ◌∷◌, ◌++◌, length, get_or, replicate, take, refl, sym, ap, ◌∙◌, arith}
-use Rattle.std.specs.Prelude.{Option, Some, None, option_map, slice_get, IsTrue}
+use Rattle.std.specs.Prelude.{Option, Some, None, is_some, IsSome, option_map, slice_get, IsTrue}
 use Rattle.std.specs.List.{find, AllPairs}
 use Rattle.std.specs.Option.{option_or}
 use Rattle.std.specs.Cmp.{tied_itself}
@@ -20,7 +20,7 @@ use Rattle.machine.specs.declared.object.Object.{Object}
 use Rattle.machine.specs.Boot.{IsBoot, bound, booted}
 use Rattle.machine.proofs.Bound.{slot_count-bound}
 use Rattle.machine.specs.Layout.{Layout, initial_of, initial_cap, initial_parent, bound_context, bound_thread}
-use Rattle.machine.specs.Machine.{Machine, same_id, slot_cmp, same_slot, empty_machine, object_of, has_slot, with_new, with_cap, with_parent}
+use Rattle.machine.specs.Machine.{Machine, same_id, slot_cmp, same_slot, empty_machine, object_of, cap_of, has_slot, with_new, with_cap, with_parent}
 use Rattle.machine.proofs.LookUps.{id_total, one_id, one_slot, slot_total}
 use Rattle.machine.proofs.LookUps.{object_of-empty, queue_of-empty, words_of-empty, cap_of-empty, parent_of-empty}
 use Rattle.machine.proofs.LookUps.{object_of-with_new, queue_of-with_new, words_of-with_new, cap_of-with_new, parent_of-with_new}
@@ -162,6 +162,18 @@ below_next key xs i d rise within k lower =
     let below : k < i = omega (arith, length-take-le i xs (omega arith)) in
     rw (get_or-take i xs k d below) (rise k i d below within)
 
+-- the slots of those that aren't put there yet are empty
+pub boot-vacant :
+    (t : Layout) (m : Machine) (i : ℕ) (d : Filled) → AllPairs (λ one other. slot_cmp one.slot other.slot ≡ Less) t.caps
+    → i < length t.caps → IsBoot (record t { caps = take i t.caps; pairs = [] }) m → cap_of m (get_or t.caps i d).slot ≡ None
+unfolding initial_cap
+boot-vacant t m i d rise within boot =
+    let slot : SlotRef = (get_or t.caps i d).slot in
+    boot.caps slot
+    ∙ ap (option_map (λ (f : Filled). f.cap))
+    (find-missing (λ (f : Filled). same_slot f.slot slot) (take i t.caps) d
+    (λ k lower. ap is_eq (below_next (λ (f : Filled). f.slot) t.caps i d rise within k lower)))
+
 -- one slot more is filled
 pub boot-filled :
     (t : Layout) (m : Machine) (i : ℕ) (d : Filled) → AllPairs (λ one other. slot_cmp one.slot other.slot ≡ Less) t.caps
@@ -206,7 +218,15 @@ boot-derived t m i d rise within boot =
       next = boot.next;
     })
 
--- the boot state has the slots that the table declares
+-- the boot state has the objects that the table declares
+pub boot-object_there :
+    (t : Layout) (m : Machine) (id : ObjId) (initial : Initial) → IsBoot t m → slice_get t.objects id.0 ≡ Some initial
+    → IsSome (object_of m id)
+unfolding initial_of
+boot-object_there t m id initial boot declared =
+    ap is_some (boot.objects id ∙ ap (option_map (λ initial. bound t id initial.object)) declared)
+
+-- and its slots
 pub boot-has_slot : (t : Layout) (m : Machine) (slot : SlotRef) → IsBoot t m → HasSlot t.objects slot → IsTrue (has_slot m slot)
 unfolding initial_of
 boot-has_slot t m slot boot has =

@@ -1,5 +1,5 @@
 -- A tabulated map has the function's values.
-use Rattle.std.proofs.Common.{◌≡◌, Bool, true, false, cond, List, [], ◌∷◌, refl, sym, ap, subst, ◌∙◌}
+use Rattle.std.proofs.Common.{◌≡◌, ℕ, ◌+◌, ◌≤◌, Bool, true, false, cond, List, [], ◌∷◌, length, arith, refl, sym, ap, subst, ◌∙◌}
 use Rattle.std.specs.Prelude.{Option, Some, None, IsSome, ◌||◌}
 use Rattle.std.specs.declared.cmp.Ordering.{Ordering}
 use Rattle.std.specs.Ordering.{eq_by_cmp, is_eq}
@@ -66,3 +66,17 @@ module _ {K : Type 0} {R : K → K → Ordering} (total : IsTotalOrder R) (apart
     pub get-tabulate :
         (keys : List K) (q : K) → (IsSome (value q) → list_any (eq_by_cmp R q) keys ≡ true) → map.get (table keys) q ≡ value q
     get-tabulate keys q listed = got_where q keys ∙ by_value q (list_any (eq_by_cmp R q) keys) (value q) listed
+
+    -- and has no more keys than the list
+    pub len-tabulate : (keys : List K) → map.len (table keys) ≤ length keys
+    len-tabulate [] = let none : map.len (table []) ≡ 0 = map.len-empty R X in omega (arith, none)
+    len-tabulate (key ∷ keys) = with_key (value key) (len-tabulate keys) where
+      with_key : (o : Option X) → map.len (table keys) ≤ length keys → map.len (put_some (table keys) key o) ≤ length (key ∷ keys)
+      with_key None few = omega (arith, few)
+      with_key (Some x) few =
+          let more = map.len-insert total (table keys) key x in
+          by_tie (map.contains_key (table keys) key) (map.len (table keys)) (map.len (map.insert (table keys) key x)) more few
+        where
+          by_tie : (listed : Bool) (was now : ℕ) → now ≡ cond listed was (was + 1) → was ≤ length keys → now ≤ length (key ∷ keys)
+          by_tie true was now is few = omega (arith, is, few)
+          by_tie false was now is few = omega (arith, is, few)

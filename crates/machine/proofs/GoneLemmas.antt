@@ -26,7 +26,7 @@ unfolding cap_of
 cap_listed m slot filling there = sym (contains_key-keys m.caps slot) ∙ ap is_some there
 
 module _ (m : Machine) (test : SlotRef → Cap → Bool) where
-  some_cap-from :
+  pub some_cap-from :
       (slot : SlotRef) (filling : Cap) → cap_of m slot ≡ Some filling → test slot filling ≡ true → some_cap m test ≡ true
   unfolding some_cap
   some_cap-from slot filling there passes =
@@ -35,7 +35,7 @@ module _ (m : Machine) (test : SlotRef → Cap → Bool) where
       (ap (is_filled_with (test slot)) there ∙ passes))
       (cap_listed m slot filling there)
 
-  some_cap-found :
+  pub some_cap-found :
       some_cap m test ≡ true → (slot : SlotRef) × (filling : Cap) × (cap_of m slot ≡ Some filling) × (test slot filling ≡ true)
   unfolding some_cap
   some_cap-found e =

@@ -1,7 +1,8 @@
 -- A lookup ends at a slot of a CNode.
 use Rattle.std.proofs.Common.{◌≡◌, ℕ, zero, suc, ◌+◌, ◌*◌, ◌^◌, ◌<◌, Bool, true, false, List, [], ◌∷◌, length, refl, sym, ap, subst}
 use Rattle.std.proofs.Common.{◌∙◌, arith}
-use Rattle.std.specs.Prelude.{Option, Some, None, Result, Ok, Err}
+use Rattle.std.specs.Prelude.{Option, Some, None, Result, Ok, Err, IsTrue}
+use Rattle.std.proofs.lemmas.Bool.{lt-ltb}
 use Rattle.std.proofs.Math.Nat.{pow-succ'}
 use Rattle.base.specs.declared.ids.ObjId.{ObjId}
 use Rattle.base.specs.declared.ids.SlotRef.{SlotRef}
@@ -17,7 +18,7 @@ use Rattle.machine.specs.declared.object.Object.TheVariants as o
 use Rattle.machine.specs.declared.slot_address.SlotAddress.{SlotAddress}
 use Rattle.machine.specs.Bits.{after, number_from, number, split}
 use Rattle.machine.specs.Lookup.{Level, hop, level_at, level_of_cap, level_through, onward, walk}
-use Rattle.machine.specs.Machine.{Machine, cap_of, object_of}
+use Rattle.machine.specs.Machine.{Machine, cap_of, has_slot, object_of}
 use Rattle.machine.specs.Objects.{slot_count}
 use Rattle.machine.proofs.SlotRows.{LeadsTo}
 
@@ -28,6 +29,10 @@ IsNode m level = (node : CNode) × (object_of m level.node ≡ Some (o.CNode nod
 -- a slot is one of a CNode's
 abbrev pub InNode : Machine → SlotRef → Type 0
 InNode m slot = (node : CNode) × (object_of m slot.holder ≡ Some (o.CNode node)) × (slot.index < slot_count (o.CNode node))
+
+-- it is there
+pub node_slot : (m : Machine) (slot : SlotRef) → InNode m slot → IsTrue (has_slot m slot)
+node_slot m slot within = rw within.1 (lt-ltb slot.index (slot_count (o.CNode within.0)) within.2)
 
 node_through :
     (m : Machine) (id : ObjId) (guard : Guard) (level : Level) (object : Option Object) → object_of m id ≡ object

@@ -46,3 +46,5 @@ pub mod RemovalStays
 pub mod RemovalSlots
 pub mod RemovalNumbers
 pub mod RemovalLinks
+pub mod FiniteSums
+pub mod CapCounts

@@ -271,7 +271,7 @@ is_parent q slot (pair ∷ pairs) e = by_tie (same_slot q pair.0) e (is_parent q
       (ap (λ (s : SlotRef). same_slot s slot) is ∙ slot_itself slot)
   by_tie false same later = or_right _ _ (later same)
 
-childless : (m : Machine) (slot q : SlotRef) → has_child m slot ≡ false → parent_of m q ≢ Some slot
+pub childless : (m : Machine) (slot q : SlotRef) → has_child m slot ≡ false → parent_of m q ≢ Some slot
 unfolding has_child parent_of
 childless m slot q leaf e =
     let some : has_child m slot ≡ true = is_parent q slot (entries m.parents) (sym (get-entries m.parents q) ∙ e) in
@@ -283,7 +283,7 @@ no_descent m slot leaf (child {slot = q} e) = childless m slot q leaf e
 no_descent m slot leaf (further e rest) = no_descent m slot leaf rest
 
 -- slots of a window that are empty, one by one
-each_vacant :
+pub each_vacant :
     (m : Machine) (node : ObjId) (offset count : ℕ) (u : Unit {0}) → all_vacant m (window node offset count) ≡ Ok u
     → (index : ℕ) → offset ≤ index → index < offset + count → cap_of m (record { holder = node; index = index }) ≡ None
 each_vacant m node offset zero u e index low high = absurd (omega (arith, low, high))

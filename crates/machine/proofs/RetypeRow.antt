@@ -67,7 +67,7 @@ is_memory : (object : Option Object) (memory : Untyped) → memory_in object ≡
 is_memory (Some (o.Untyped other)) memory e = ap (λ u. Some (o.Untyped u)) (same_ok e)
 is_memory _ memory e = cc
 
-untyped_found :
+pub untyped_found :
     (m : Machine) (caller : ObjId) (address : ℕ) (source : Source) → find_untyped m caller address ≡ Ok source
     → FindsUntyped m caller address source
 unfolding find_untyped
@@ -88,7 +88,7 @@ is_taker : (at : Option Level) (level : Level) → taker at ≡ Ok level → at 
 is_taker None level e = cc
 is_taker (Some other) level e = ap (λ l. Some l) (same_ok e)
 
-taker_found :
+pub taker_found :
     (m : Machine) (caller : ObjId) (address : ℕ) (node : Level) → find_taker m caller address ≡ Ok node
     → FindsTaker m caller address node
 unfolding find_taker
@@ -109,12 +109,12 @@ is_between least most bits u e = by_ties (nat_lt bits least) (nat_lt most bits) 
   by_ties false true is at = let none : between least most bits ≡ Err cause.RangeError = rw (is, at) refl in cc
   by_ties false false is at = (ltb-false bits least is, ltb-false most bits at)
 
-is_sized : (of : MemoryKind) (bits : ℕ) (u : Unit {0}) → sized of bits ≡ Ok u → IsSized of bits
+pub is_sized : (of : MemoryKind) (bits : ℕ) (u : Unit {0}) → sized of bits ≡ Ok u → IsSized of bits
 is_sized kind.Untyped bits u e = is_between 4 47 bits u e
 is_sized kind.CNode bits u e = is_between 1 MAX_RADIX bits u e
 is_sized _ bits u e = tt
 
-is_in_node : (radix offset count : ℕ) (u : Unit {0}) → in_node radix offset count ≡ Ok u → offset + count ≤ 2 ^ radix
+pub is_in_node : (radix offset count : ℕ) (u : Unit {0}) → in_node radix offset count ≡ Ok u → offset + count ≤ 2 ^ radix
 is_in_node radix offset count u e = by_tie (nat_le (offset + count) (2 ^ radix)) refl where
   by_tie : (fits : Bool) → nat_le (offset + count) (2 ^ radix) ≡ fits → offset + count ≤ 2 ^ radix
   by_tie true is = leb-true (offset + count) (2 ^ radix) is

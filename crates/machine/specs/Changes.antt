@@ -1,6 +1,6 @@
--- Changes of a machine that leave it as it is where the object isn't there or is of another kind: to a notification's word, a
--- thread and a scheduling context, and to who waits (seL4 manual, "Notifications", "Threads and Execution" and "Scheduling
--- Contexts").
+-- Changes of a machine that leave it as it is where the object isn't there or is of another kind: to untyped memory's watermark, a
+-- notification's word, a thread and a scheduling context, and to who waits (seL4 manual, "Untyped Memory", "Notifications",
+-- "Threads and Execution" and "Scheduling Contexts").
 use Rattle.std.specs.Prelude.{ℕ, List, [], ◌∷◌, ◌++◌, Option, Some, None, option_and_then, slice_get}
 use Rattle.base.specs.declared.ids.ObjId.{ObjId}
 use Rattle.machine.specs.declared.object.Object.{Object}
@@ -8,6 +8,13 @@ use Rattle.machine.specs.declared.object.Object.TheVariants as o
 use Rattle.machine.specs.declared.object.Context.{Context}
 use Rattle.machine.specs.declared.thread.Tcb.{Tcb}
 use Rattle.machine.specs.Machine.{Machine, object_of, queue_of, with_object, with_queue}
+
+-- the watermark of untyped memory
+unfoldable pub with_watermark : Machine → ObjId → ℕ → Machine
+with_watermark m id mark = by_content (object_of m id) where
+  by_content : Option Object → Machine
+  by_content (Some (o.Untyped memory)) = with_object m id (o.Untyped (record memory { watermark = mark }))
+  by_content _ = m
 
 -- the word of a notification
 unfoldable pub with_pending : Machine → ObjId → Option ℕ → Machine

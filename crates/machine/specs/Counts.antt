@@ -1,7 +1,9 @@
--- How much a machine has at one time: objects, slots and threads (confine's own).
-use Rattle.std.specs.Prelude.{ℕ, List, map, length, sum}
+-- How much a machine has at one time: objects, slots and threads, and capabilities for one object (confine's own).
+use Rattle.std.specs.Prelude.{ℕ, List, map, length, sum, count_by}
 use Rattle.std.specs.FinMap.{entries}
+use Rattle.base.specs.declared.ids.ObjId.{ObjId}
 use Rattle.machine.specs.declared.object.Object.{Object}
+use Rattle.machine.specs.Gone.{is_for}
 use Rattle.machine.specs.Machine.{Machine}
 use Rattle.machine.specs.Objects.{slot_count, thread_count}
 
@@ -17,3 +19,7 @@ slots_in m = sum (map slot_count (present m))
 
 unfoldable pub threads_in : Machine → ℕ
 threads_in m = sum (map thread_count (present m))
+
+-- how many filled slots hold a capability for an object
+unfoldable pub caps_to : Machine → ObjId → ℕ
+caps_to m id = count_by (λ filled. is_for id filled.0 filled.1) (entries m.caps)

@@ -1,6 +1,6 @@
 ghost use Rattle.std.specs.Prelude.{◌≡◌, ◌≤◌, ◌^◌};
 ghost use Rattle.base.specs.declared.limits.TheConstants.{MAX_RADIX};
-ghost use Rattle.machine.specs.Objects.{address_of, kind_of_object, slot_count, word_count};
+ghost use Rattle.machine.specs.Objects.{address_of, kind_of_object, slot_count, thread_count, word_count};
 
 use crate::{Radix, Tcb};
 use base::{CoreNo, ObjId};
@@ -169,6 +169,17 @@ impl Object {
     {
         match self {
             Object::CNode(node) => node.radix.slots(),
+            Object::Tcb(_) => 1,
+            _ => 0,
+        }
+    }
+
+    /// How many threads the object is: a TCB one, and others none.
+    pub fn thread_count(&self) -> u64
+        ensures count { result ≡ thread_count self.now }
+        ensures most { result ≤ 1 }
+    {
+        match self {
             Object::Tcb(_) => 1,
             _ => 0,
         }

@@ -1,10 +1,12 @@
-ghost use Rattle.std.specs.Prelude.{◌≡◌, Bool, true, false, List, Contains, Some, None, Ok, if◌then◌else◌};
+ghost use Rattle.std.specs.Prelude.{◌≡◌, ◌≢◌, ◌≤◌, ◌↔◌, Bool, true, false, List, Contains, Some, None, Ok, if◌then◌else◌};
 ghost use Rattle.std.specs.Bool.{Decides};
 ghost use Rattle.base.specs.declared.ids.ObjId.{ObjId as Id};
 ghost use Rattle.base.specs.declared.ids.SlotRef.{SlotRef as Slot};
 ghost use Rattle.machine.specs.Below.{is_below};
+ghost use Rattle.machine.specs.Counts.{caps_to};
 ghost use Rattle.machine.specs.Gone.{IsGone, IsLeastSet, LosesAll, gone_of};
 ghost use Rattle.machine.specs.declared.call.Made.{Made as Comes};
+ghost use Rattle.machine.specs.declared.cap.Cap.{Cap as Held};
 ghost use Rattle.machine.specs.declared.object.Context.{Context as Bound};
 ghost use Rattle.machine.specs.declared.object.Object.{Object as Thing};
 ghost use Rattle.machine.specs.declared.object.Object.TheVariants as o;
@@ -29,6 +31,7 @@ ghost use Rattle.machine.specs.Machine.{
   object_of,
   parent_of,
   queue_of,
+  same_slot,
   words_of,
 };
 ghost use Rattle.machine.specs.Orphans.{Nearest};
@@ -70,6 +73,19 @@ pub fn what_goes_is_the_least_closed_set()
     ensures least { (m : Machine) (chosen : Slot → Bool) → IsLeastSet m chosen (gone_of m chosen) }
     ensures reasons { (m : Machine) (chosen : Slot → Bool) (slot : Slot) → Decides (gone_of m chosen slot) (IsGone m chosen slot) }
     ensures vanishing { (m : Machine) (chosen : Slot → Bool) (id : Id) → Decides (vanishes m chosen id) (LosesAll m (gone_of m chosen) id) }
+{}
+
+/// A law: what the number of capabilities for an object tells. It is 0 exactly where no slot holds one,
+/// and 1 exactly where a slot that holds one holds all; and an object vanishes in a removal exactly if
+/// there are some before it and none after.
+pub fn counts_tell_the_last_capability()
+    ensures none { (m : Machine) (id : Id)
+        → (caps_to m id ≡ 0) ↔ ((slot : Slot) (held : Held) → cap_of m slot ≡ Some held → held.object ≢ id) }
+    ensures last { (m : Machine) (slot : Slot) (held : Held)
+        → cap_of m slot ≡ Some held
+        → (caps_to m held.object ≡ 1) ↔ LosesAll m (λ q. same_slot q slot) held.object }
+    ensures vanishing { (m : Machine) (chosen : Slot → Bool) (id : Id)
+        → Decides (vanishes m chosen id) ((1 ≤ caps_to m id) × (caps_to (removed m chosen) id ≡ 0)) }
 {}
 
 /// A law: where slots go, each slot that stays has for its parent its nearest ancestor that stays, if

@@ -16,7 +16,7 @@ use Rattle.objects.specs.declared.entry.Entry.{Entry}
 use Rattle.objects.specs.declared.links.Ends.{Ends}
 use Rattle.objects.specs.declared.links.Standing.{Standing}
 use Rattle.objects.specs.declared.slots.Slot.{Slot}
-use Rattle.objects.specs.Entries.{slot_at, set_slot_in, replace_in, empty_slot, new_entry}
+use Rattle.objects.specs.Entries.{slot_at, set_caps_in, set_slot_in, replace_in, empty_slot, new_entry}
 use Rattle.objects.specs.Family.{cap_in, parent_in}
 use Rattle.objects.specs.Links.{ends_of, standing_of, queue_in, AreQueued}
 use Rattle.objects.specs.Queues.{walk, AreQueues}
@@ -218,6 +218,24 @@ module _ (numbers : ℕ) (m : Machine) (old new : ObjId → Option Entry) (tells
             λ q.
             seen.object_of-with_object m id object q ∙ ap (cond (same_id q id) (Some object)) (tells.objects q)
             ∙ sym (part_set old new id change changed (λ e. e.object) e is q);
+        queues = λ q. tells.queues q ∙ sym (queue_kept old new (part_kept old new id change changed links (λ e. refl)) numbers q);
+        words = λ q. tells.words q ∙ sym (part_kept old new id change changed (λ e. e.words) (λ e. refl) q);
+        caps =
+            λ q.
+            tells.caps q
+            ∙ ap cap_in (sym (reading_kept old new id change changed (λ e. slice_get e.slots q.index) (λ e. refl) q.holder));
+        parents =
+            λ q.
+            tells.parents q
+            ∙ ap parent_in (sym (reading_kept old new id change changed (λ e. slice_get e.slots q.index) (λ e. refl) q.holder));
+      }
+
+  -- a change of how many capabilities are counted
+  pub tells-caps : (id : ObjId) (caps : ℕ) → IsChanged old new id (set_caps_in caps) → Tells numbers m new
+  tells-caps id caps changed =
+      let change : Entry → Entry = set_caps_in caps in
+      record {
+        objects = λ q. tells.objects q ∙ sym (part_kept old new id change changed (λ e. e.object) (λ e. refl) q);
         queues = λ q. tells.queues q ∙ sym (queue_kept old new (part_kept old new id change changed links (λ e. refl)) numbers q);
         words = λ q. tells.words q ∙ sym (part_kept old new id change changed (λ e. e.words) (λ e. refl) q);
         caps =

@@ -21,7 +21,8 @@ use Rattle.objects.specs.declared.links.Standing.{Standing}
 use Rattle.objects.specs.declared.slots.Slot.{Slot}
 use Rattle.objects.specs.declared.state.State.TheInside.{Inside}
 use Rattle.machine.specs.Changes.{first_waiting, with_waiting, without_first}
-use Rattle.objects.specs.Entries.{Entries, entry_of, slot_at, with_entry, replace_in}
+use Rattle.objects.specs.Counts.{one_more}
+use Rattle.objects.specs.Entries.{Entries, caps_in, entry_of, slot_at, with_entry, replace_in, set_caps_in}
 use Rattle.std.specs.FinMap as finite
 use Rattle.objects.specs.Entries.{empty_slot, new_entry, with_more}
 use Rattle.objects.specs.Family.{cap_in, links_of, AreKin}
@@ -34,7 +35,7 @@ use Rattle.objects.proofs.Families.{no_family, same_family}
 use Rattle.machine.proofs.FiniteLemmas.{by_key, same_from_tie, cond_here, cond_elsewhere}
 use Rattle.objects.proofs.EntryLemmas.{some-none, entry_of-with_entry}
 use Rattle.objects.proofs.StateLemmas.{Tells, present_kept, tells-machine_of, next-machine_of, same_from_tells, object_at}
-use Rattle.objects.proofs.ChangeLemmas.{added_read, reading_kept, slots_kept, tells-replace, tells-queue, tells-same, tells-new}
+use Rattle.objects.proofs.ChangeLemmas.{added_read, reading_kept, slots_kept, tells-caps, tells-replace, tells-queue, tells-same, tells-new}
 use Rattle.objects.proofs.ChangeLemmas.{changed_here, changed_other, part_kept, links, rest, links_kept}
 use Rattle.objects.proofs.QueueLemmas.{cases_id, walk_none, walk_first, more_numbers, longer_walk}
 use Rattle.objects.proofs.LinkLemmas.{Requeues, stands_nowhere, pushed_requeues, pushed_queue, popped_requeues}
@@ -112,6 +113,15 @@ IsConsistent-requeued s consistent entries id requeues =
         same_Some (rest e) (rest entry) (ap (option_map rest) (sym was) ∙ sym (requeues.same q) ∙ ap (option_map rest) is) in
         subst (λ r. (length r.1 ≡ slot_count r.0) × HasRadix r.0) same (consistent.sized q e was)
 
+-- how many capabilities an entry counts is no part of the machine
+pub caps_give : (s : Inside) (id : ObjId) (caps : ℕ) → machine_of (with_changed s id (set_caps_in caps)) ≡ machine_of s
+caps_give s id caps =
+    let s' : Inside = with_changed s id (set_caps_in caps) in
+    same_from_tells _ _ _ (entry_of s'.store) (tells-machine_of s')
+    (tells-caps s.next (machine_of s) (entry_of s.store) (entry_of s'.store) (tells-machine_of s) id caps
+    (entry_of-with_entry s.store id (set_caps_in caps)))
+    (next-machine_of s' ∙ sym (next-machine_of s))
+
 -- a slot that the machine has is one of an entry
 pub found_slot :
     (s : Inside) → IsConsistent s → (slot : SlotRef) → IsTrue (has_slot (machine_of s) slot)
@@ -163,7 +173,7 @@ next-empty : empty_machine.next ≡ 0
 unfolding empty_machine
 next-empty = refl
 
-none_of : (s : Inside) → s.store ≡ finite.empty → (q : ObjId) → entry_of s.store q ≡ None
+pub none_of : (s : Inside) → s.store ≡ finite.empty → (q : ObjId) → entry_of s.store q ≡ None
 none_of s none q = ap (λ (m : Entries). finite.get m q) none ∙ finite.get-empty id_cmp q
 
 pub empty_gives : (s : Inside) → s.store ≡ finite.empty → s.next ≡ 0 → machine_of s ≡ empty_machine
@@ -212,7 +222,7 @@ IsConsistent-empty s none next =
 
 -- a new object
 
-vacant_number : (s : Inside) → IsConsistent s → entry_of s.store (record { 0 = s.next }) ≡ None
+pub vacant_number : (s : Inside) → IsConsistent s → entry_of s.store (record { 0 = s.next }) ≡ None
 vacant_number s consistent = by_entry (entry_of s.store (record { 0 = s.next })) refl where
   by_entry : (o : Option Entry) → entry_of s.store (record { 0 = s.next }) ≡ o → o ≡ None
   by_entry None is = refl
@@ -243,6 +253,13 @@ module _ (old new : ObjId → Option Entry) (numbers : ℕ) (id : ObjId) (object
             ap (λ k. standing_of (new k)) same ∙ ap standing_of added_here ∙ ap standing_of (sym vacant)
             ∙ ap (λ k. standing_of (old k)) (sym same)
         | inr apart ↦ ap standing_of (added_other q apart)
+      ]
+
+  pub caps_same : (q : ObjId) → caps_in (new q) ≡ caps_in (old q)
+  caps_same q =
+      elim (cases_id q id) [
+        | inl same ↦ ap (λ k. caps_in (new k)) same ∙ ap caps_in added_here ∙ ap caps_in (sym vacant) ∙ ap (λ k. caps_in (old k)) (sym same)
+        | inr apart ↦ ap caps_in (added_other q apart)
       ]
 
   standing_as_before : ◌≡◌ {A = ObjId → Standing} (λ q. standing_of (new q)) (λ q. standing_of (old q))
@@ -280,7 +297,11 @@ next-with_new m object = refl
 -- the state with a new object
 abbrev pub with_added : Inside → Object → Inside
 with_added s object =
-    record { store = finite.insert s.store (record { 0 = s.next }) (new_entry object); next = s.next + 1 }
+    record {
+      store = finite.insert s.store (record { 0 = s.next }) (new_entry object);
+      next = s.next + 1;
+      counts = one_more s.counts object;
+    }
 
 module _ (s : Inside) (consistent : IsConsistent s) (object : Object) where
   abbrev id : ObjId
@@ -333,14 +354,18 @@ module _ (s : Inside) (consistent : IsConsistent s) (object : Object) where
 
 -- objects are added one after another
 
-abbrev with_all_added : Inside → List Object → Inside
+abbrev pub with_all_added : Inside → List Object → Inside
 with_all_added s [] = s
 with_all_added s (object ∷ objects) = with_all_added (with_added s object) objects
 
 -- all of them are the next entries
-with_all_is :
+pub with_all_is :
     (s : Inside) (objects : List Object) (next : ℕ) → next ≡ s.next + length objects
-    → record { store = with_more s.store s.next (map new_entry objects); next = next } ≡ with_all_added s objects
+    → record {
+      store = with_more s.store s.next (map new_entry objects);
+      next = next;
+      counts = fold one_more s.counts objects;
+    } ≡ with_all_added s objects
 with_all_is s [] next same = ap (λ n. record s { next = n }) (let ends : next ≡ s.next = omega (arith, same) in ends)
 with_all_is s (object ∷ objects) next same =
     with_all_is (with_added s object) objects next (omega (arith, same))
@@ -358,8 +383,13 @@ all_added s consistent (object ∷ objects) room radices =
 
 module _ (s : Inside) (consistent : IsConsistent s) (objects : List Object) (room : s.next + length objects ≤ 2 ^ 48)
     (radices : AllByRecursion HasRadix objects) where
-  abbrev after : Inside
-  after = record { store = with_more s.store s.next (map new_entry objects); next = s.next + length objects }
+  abbrev pub after : Inside
+  after =
+      record {
+        store = with_more s.store s.next (map new_entry objects);
+        next = s.next + length objects;
+        counts = fold one_more s.counts objects;
+      }
 
   pub IsConsistent-all_added : IsConsistent after
   IsConsistent-all_added =
@@ -388,6 +418,9 @@ found_entry s id some = by_entry (entry_of s.store id) refl where
   by_entry : (o : Option Entry) → entry_of s.store id ≡ o → (e : Entry) × (entry_of s.store id ≡ Some e)
   by_entry None is = absurd (some-none (object_of (machine_of s) id) some ((tells-machine_of s).objects id ∙ ap object_at is))
   by_entry (Some e) is = (e, is)
+
+pub found_there : (s : Inside) (id : ObjId) → IsSome (object_of (machine_of s) id) → IsSome (entry_of s.store id)
+found_there s id some = ap is_some (found_entry s id some).1
 
 pub IsConsistent-replace :
     (s : Inside) → IsConsistent s → (id : ObjId) (object : Object) → HasRadix object
@@ -464,11 +497,7 @@ module _ (s : Inside) (consistent : IsConsistent s) (id : ObjId) where
 
   module _ (thread : ObjId) (present : IsSome (object_of (machine_of s) thread)) (free : WaitsNowhere (machine_of s) thread) where
     thread_there : IsSome (entry thread)
-    thread_there = by_entry (entry thread) refl where
-      by_entry : (o : Option Entry) → entry thread ≡ o → IsSome (entry thread)
-      by_entry None is =
-          absurd (some-none (object_of (machine_of s) thread) present ((tells-machine_of s).objects thread ∙ ap object_at is))
-      by_entry (Some e) is = ap is_some is
+    thread_there = found_there s thread present
 
     thread_known : thread.0 < s.next
     thread_known = consistent.fresh thread thread_there

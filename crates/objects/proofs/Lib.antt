@@ -1,5 +1,9 @@
+pub mod CapBounds
+pub mod CapsKept
 pub mod ChangeLemmas
 pub mod ConsistentLemmas
+pub mod CountLemmas
+pub mod CountedStates
 pub mod Detaching
 pub mod EditLemmas
 pub mod EntryLemmas

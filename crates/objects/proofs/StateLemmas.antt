@@ -1,6 +1,6 @@
 -- How a state's entries and the machine that contracts see go together: what the machine answers, and what each change makes of
 -- it.
-use Rattle.std.proofs.Common.{◌≡◌, ℕ, zero, suc, ◌+◌, ◌<◌, ◌≤◌, List, [], ◌∷◌, Bool, true, false, length, map, refl, sym}
+use Rattle.std.proofs.Common.{◌≡◌, ℕ, zero, suc, ◌+◌, ◌<◌, ◌≤◌, List, [], ◌∷◌, Bool, true, length, map, refl, sym}
 use Rattle.std.proofs.Common.{ap, subst, ◌∙◌, arith, inl, inr}
 use Rattle.std.specs.Prelude.{Option, Some, None, is_some, IsSome, option_map, option_and_then, slice_get, ◌||◌}
 use Rattle.std.specs.List.{list_any, flat_map, range_with_len}

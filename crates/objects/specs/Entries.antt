@@ -1,5 +1,5 @@
 -- The entry of each object, what it says, and what the entries are after a change to one.
-use Rattle.std.specs.Prelude.{ℕ, ◌+◌, List, [], ◌∷◌, Option, None, option_map, option_and_then, slice_get, replicate}
+use Rattle.std.specs.Prelude.{ℕ, ◌+◌, List, [], ◌∷◌, Option, Some, None, option_map, option_and_then, slice_get, replicate}
 use Rattle.std.specs.FinMap as map
 use Rattle.std.specs.FinMap.{FinMap}
 use Rattle.base.specs.declared.ids.ObjId.{ObjId}
@@ -40,11 +40,14 @@ set_ends_in ends entry = record entry { ends = ends }
 abbrev pub set_standing_in : Standing → Entry → Entry
 set_standing_in standing entry = record entry { standing = standing }
 
+abbrev pub set_caps_in : ℕ → Entry → Entry
+set_caps_in caps entry = record entry { caps = caps }
+
 -- a slot that holds nothing and is in no pair of the derivation tree
 abbrev pub empty_slot : Slot
 empty_slot = record { cap = None; links = record { parent = None; first = None; next = None; previous = None } }
 
--- the entry of a new object: its slots are empty, nobody waits at it, and its words are zero
+-- the entry of a new object: its slots are empty, nobody waits at it, its words are zero, and it has no capabilities
 abbrev pub new_entry : Object → Entry
 new_entry object =
     record {
@@ -53,12 +56,18 @@ new_entry object =
       ends = record { first = None; last = None };
       standing = record { at = None; previous = None; next = None };
       words = replicate (word_count object) 0;
+      caps = 0;
     }
 
 -- the entries with more, under one number after another
 abbrev pub with_more : Entries → ℕ → List Entry → Entries
 with_more entries number [] = entries
 with_more entries number (entry ∷ more) = with_more (map.insert entries (record { 0 = number }) entry) (number + 1) more
+
+-- how many capabilities an entry says that there are for its object; for one that is absent there is none
+abbrev pub caps_in : Option Entry → ℕ
+caps_in None = 0
+caps_in (Some entry) = entry.caps
 
 -- a slot, if it is there
 abbrev pub slot_at : (ObjId → Option Entry) → SlotRef → Option Slot

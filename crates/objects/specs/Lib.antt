@@ -1,3 +1,4 @@
+pub mod Counts
 pub mod Edits
 pub mod Entries
 pub mod Family

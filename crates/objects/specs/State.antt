@@ -5,11 +5,13 @@ use Rattle.std.specs.FinMap as finite
 use Rattle.base.specs.declared.ids.ObjId.{ObjId}
 use Rattle.base.specs.declared.ids.SlotRef.{SlotRef}
 use Rattle.base.specs.declared.limits.TheConstants.{OBJECT_NUMBERS}
+use Rattle.machine.specs.Counts.{caps_to}
 use Rattle.machine.specs.Machine.{Machine}
 use Rattle.machine.specs.Objects.{slot_count}
 use Rattle.objects.specs.declared.entry.Entry.{Entry}
 use Rattle.objects.specs.declared.state.State.TheInside.{Inside}
-use Rattle.objects.specs.Entries.{entry_of, slot_at}
+use Rattle.objects.specs.Counts.{counts_in, AreOfNumbers}
+use Rattle.objects.specs.Entries.{caps_in, entry_of, slot_at}
 use Rattle.objects.specs.Family.{cap_in, parent_in, AreKin}
 use Rattle.machine.specs.Finite.{tabulate}
 use Rattle.objects.specs.Links.{queue_in, AreQueued}
@@ -49,3 +51,18 @@ pub record IsConsistent (s : Inside) : Type 0 where
   pub sized : (id : ObjId) (entry : Entry) → entry_of s.store id ≡ Some entry → IsSized entry
   pub queued : AreQueued (entry_of s.store) s.next
   pub kin : AreKin (entry_of s.store)
+
+-- the counts are those of the objects that there are
+pub record IsCounted (s : Inside) : Type 0 where
+  pub exact : s.counts ≡ counts_in (machine_of s)
+  pub few : AreOfNumbers s.counts s.next
+
+-- each entry says how many slots hold a capability for its object, and none holds one for an object that is absent
+abbrev pub IsTallied : Inside → Type 0
+IsTallied s = (id : ObjId) → caps_in (entry_of s.store id) ≡ caps_to (machine_of s) id
+
+-- what is true of each state
+pub record IsSound (s : Inside) : Type 0 where
+  pub consistent : IsConsistent s
+  pub counted : IsCounted s
+  pub tallied : IsTallied s

@@ -19,6 +19,8 @@ pub struct Entry {
     /// Where it waits, if it is a thread that does.
     pub standing: Standing,
     pub words: Words,
+    /// How many slots hold a capability for it.
+    pub caps: u64,
 }
 
 // The entry of a new object.
@@ -31,6 +33,7 @@ fn new_entry(alloc: Global, object: Object) -> Result<Entry, AllocError>
         ends: Ends::NOBODY,
         standing: Standing::NOWHERE,
         words: Words::zeros(alloc, object.word_count())?,
+        caps: 0,
     })
 }
 

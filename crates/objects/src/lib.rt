@@ -5,6 +5,7 @@
 //! changes.
 #![tactic(auto)]
 
+mod counts;
 mod entry;
 mod links;
 mod places;

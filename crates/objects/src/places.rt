@@ -1,6 +1,6 @@
 //! Where the entry of an object is kept: a hash map from numbers to places, and the entries at these.
 ghost use Rattle.std.specs.Prelude.{◌≡◌, ◌+◌, ℕ, option_copied, OnOk};
-ghost use Rattle.objects.specs.Entries.{set_slot_in, replace_in, set_ends_in, set_standing_in};
+ghost use Rattle.objects.specs.Entries.{set_slot_in, replace_in, set_ends_in, set_standing_in, set_caps_in};
 ghost use Rattle.objects.specs.Places.{places_in, placed, with_placed, AddsEntry, SameEntries, HasRoom};
 
 use crate::entry::Entry;
@@ -69,6 +69,17 @@ pub fn set_standing(
     if let Some(place) = places.get(&thread.0) {
         if let Some(entry) = entries.get_mut(*place) {
             entry.standing = standing;
+        }
+    }
+}
+
+/// Says how many capabilities there are for the object, if it is present.
+pub fn set_caps(places: &HashMap<u64, usize>, entries: &mut Slab<Entry>, id: ObjId, caps: u64)
+    ensures { entries.new ≡ with_placed (places_in places.now) entries.old id (set_caps_in caps) }
+{
+    if let Some(place) = places.get(&id.0) {
+        if let Some(entry) = entries.get_mut(*place) {
+            entry.caps = caps;
         }
     }
 }

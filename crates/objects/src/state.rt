@@ -1,7 +1,8 @@
+use crate::counts::Counts;
 use crate::entry::cnode_takes_bits;
 use crate::store::Store;
 use base::{ObjId, SlotRef};
-use machine::{Cap, Context, Notification, Object, Tcb};
+use machine::{Cap, Context, Notification, Object, Tcb, Untyped};
 use std::alloc::{AllocError, Global};
 use std::marker::Model;
 
@@ -12,6 +13,7 @@ use std::marker::Model;
 pub struct State {
     store: Store,
     next: u64,
+    counts: Counts,
 }
 
 impl Model for State {
@@ -25,29 +27,32 @@ impl Model for State {
 
     ghost coded = { machine_code id.the_row.coded slot.the_row.coded object.the_row.coded capability.the_row.coded };
 
-    ghost use Rattle.objects.specs.State.{machine_of, IsConsistent};
+    ghost use Rattle.objects.specs.State.{machine_of, IsSound};
 
     ghost view = { machine_of };
 
-    ghost invariant = { IsConsistent };
+    ghost invariant = { IsSound };
 }
 
 impl State {
     ghost use Rattle.base.specs.declared.ids.ObjId.{ObjId as Id};
     ghost use Rattle.base.specs.declared.ids.SlotRef.{SlotRef as Slot};
     ghost use Rattle.base.specs.declared.limits.TheConstants.{MAX_RADIX, OBJECT_NUMBERS};
+    ghost use Rattle.machine.specs.declared.cap.Cap.{Cap};
     ghost use Rattle.machine.specs.declared.object.CNode.{CNode};
     ghost use Rattle.machine.specs.declared.object.Object.TheVariants as o;
-    ghost use Rattle.std.specs.Prelude.{◌≡◌, ◌≢◌, ◌+◌, ◌<◌, ◌≤◌, length, IsTrue, IfOk, OnErr, OnOk, option_copied};
+    ghost use Rattle.std.specs.Prelude.{◌≡◌, ◌≢◌, ◌+◌, ◌*◌, ◌^◌, ◌<◌, ◌≤◌, length, IsTrue, IfOk, OnErr, OnOk, option_copied};
     ghost use Rattle.std.specs.Prelude.{Some, None, IsSome, IfSome, IfNone};
     ghost use Rattle.std.specs.List.{fold};
     ghost use Rattle.machine.specs.Machine.{empty_machine, object_of, cap_of, parent_of, has_slot, with_new, with_cap};
     ghost use Rattle.machine.specs.Machine.{with_parent, with_object, without_cap, without_parent};
     ghost use Rattle.machine.specs.Tree.{IsAlone, IsRanked};
     ghost use Rattle.machine.specs.WellFormed.{Descends};
-    ghost use Rattle.machine.specs.Objects.{slot_count};
+    ghost use Rattle.machine.specs.Counts.{objects_in, slots_in, threads_in, caps_to};
+    ghost use Rattle.machine.specs.Objects.{slot_count, thread_count};
     ghost use Rattle.objects.specs.Waiting.{WaitsNowhere};
     ghost use Rattle.machine.specs.Changes.{first_waiting, with_pending, with_tcb, with_context, with_waiting, without_first};
+    ghost use Rattle.machine.specs.Changes.{with_watermark};
 
     /// A state with no objects, which takes its memory from the allocator.
     pub fn new(alloc: Global) -> State
@@ -56,6 +61,7 @@ impl State {
         State {
             store: Store::new(alloc),
             next: 0,
+            counts: Counts::NONE,
         }
     }
 
@@ -65,6 +71,46 @@ impl State {
         ensures bounded { result ≤ OBJECT_NUMBERS }
     {
         self.next
+    }
+
+    /// How many objects there are.
+    pub fn object_count(&self) -> u64
+        ensures value { result ≡ objects_in self.now }
+        ensures bounded { result ≤ OBJECT_NUMBERS }
+    {
+        self.counts.objects
+    }
+
+    /// How many slots the objects have together, filled or not.
+    pub fn slot_count(&self) -> u64
+        ensures value { result ≡ slots_in self.now }
+        ensures bounded { result ≤ OBJECT_NUMBERS * 2 ^ MAX_RADIX }
+    {
+        self.counts.slots
+    }
+
+    /// How many of the objects are threads.
+    pub fn thread_count(&self) -> u64
+        ensures value { result ≡ threads_in self.now }
+        ensures bounded { result ≤ OBJECT_NUMBERS }
+    {
+        self.counts.threads
+    }
+
+    /// How many slots hold a capability for the object; none if it isn't there.
+    pub fn cap_count(&self, id: ObjId) -> u64
+        ensures value { result ≡ caps_to self.now id }
+        ensures bounded { result ≤ OBJECT_NUMBERS * 2 ^ MAX_RADIX }
+    {
+        self.store.caps(id)
+    }
+
+    /// Each capability is for an object that is there.
+    pub fn caps_are_for_objects(&self)
+        ensures { (slot : Slot) (held : Cap) → cap_of self.now slot ≡ Some held → IsSome (object_of self.now held.object) }
+    {
+        // Reading a field makes known what the type keeps.
+        let _ = &self.next;
     }
 
     /// Each CNode takes 1 to 12 bits of an address to select a slot.
@@ -140,15 +186,20 @@ impl State {
     {
         self.store.add_all(self.next, objects)?;
         self.next += objects.len() as u64;
+        self.counts = self.counts.with_all(objects);
         Ok(())
     }
 
-    /// Puts a capability into a slot, in place of what is there.
+    /// Puts a capability into an empty slot.
     pub fn put_cap(&mut self, slot: SlotRef, cap: Cap)
-        requires { IsTrue (has_slot self.old slot) }
+        requires there { IsTrue (has_slot self.old slot) }
+        requires vacant { cap_of self.old slot ≡ None }
+        requires object { IsSome (object_of self.old cap.object) }
         ensures { self.new ≡ with_cap self.old slot cap }
     {
+        let count = self.cap_count(cap.object);
         self.store.set_cap(slot, Some(cap));
+        self.store.set_caps(cap.object, count + 1);
     }
 
     /// Empties the slot, which is in no pair of the derivation tree.
@@ -156,7 +207,11 @@ impl State {
         requires alone { IsAlone self.old slot }
         ensures { self.new ≡ without_cap self.old slot }
     {
-        self.store.set_cap(slot, None);
+        if let Some(cap) = self.cap(slot) {
+            let count = self.cap_count(cap.object);
+            self.store.set_cap(slot, None);
+            self.store.set_caps(cap.object, count - 1);
+        }
     }
 
     /// A child of the slot in the derivation tree, if it has one.
@@ -198,14 +253,29 @@ impl State {
         let _ = &self.next;
     }
 
-    // Sets the object's content, which has as many slots as before.
+    // Sets the object's content, which has as many slots as before, and is a thread if it was one.
     fn replace(&mut self, id: ObjId, object: Object)
         requires present { IsSome (object_of self.old id) }
         requires same_slots { IfSome (object_of self.old id) (λ old. slot_count object ≡ slot_count old) }
+        requires same_threads { IfSome (object_of self.old id) (λ old. thread_count object ≡ thread_count old) }
         ensures { self.new ≡ with_object self.old id object }
     {
         cnode_takes_bits(&object);
         self.store.replace(id, object);
+    }
+
+    /// Sets the watermark of the untyped memory. Does nothing where there is none of that number.
+    #[tactic(auto, unfolding(machine::specs::Changes::with_watermark))]
+    pub fn set_watermark(&mut self, id: ObjId, watermark: u64)
+        ensures { self.new ≡ with_watermark self.old id watermark }
+    {
+        if let Some(&Object::Untyped(memory)) = self.object(id) {
+            let changed = Untyped {
+                watermark,
+                ..memory
+            };
+            self.replace(id, Object::Untyped(changed));
+        }
     }
 
     /// Sets the word of the notification. Does nothing where there is none of that number.

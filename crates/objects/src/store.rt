@@ -45,7 +45,7 @@ impl Model for Store {
 impl Store {
     ghost use Rattle.std.specs.FinMap as finite;
     ghost use Rattle.objects.specs.Entries.{entry_of, slot_at, with_entry, set_slot_in, replace_in};
-    ghost use Rattle.objects.specs.Entries.{new_entry, with_more, set_ends_in, set_standing_in};
+    ghost use Rattle.objects.specs.Entries.{new_entry, with_more, set_ends_in, set_standing_in, set_caps_in, caps_in};
     ghost use Rattle.objects.specs.Family.{cap_in, parent_in, links_at, with_slot, with_links, attached, leaving, detached};
     ghost use Rattle.objects.specs.Links.{standing_of, with_standing, pushed, popped};
     ghost use Rattle.objects.specs.Radices.{HasRadix};
@@ -121,6 +121,16 @@ impl Store {
         ensures { result ≡ option_map (λ entry. entry.ends) (entry_of self.now id) }
     {
         Some(self.entry(id)?.ends)
+    }
+
+    /// How many capabilities there are for the object.
+    pub fn caps(&self, id: ObjId) -> u64
+        ensures { result ≡ caps_in (entry_of self.now id) }
+    {
+        match self.entry(id) {
+            Some(entry) => entry.caps,
+            None => 0,
+        }
     }
 
     /// Who waits first at the object.
@@ -248,6 +258,13 @@ impl Store {
         ensures { self.new ≡ with_entry self.old id (replace_in object) }
     {
         places::replace(&self.places, &mut self.entries, id, object);
+    }
+
+    /// Says how many capabilities there are for the object, if it is present.
+    pub fn set_caps(&mut self, id: ObjId, caps: u64)
+        ensures { self.new ≡ with_entry self.old id (set_caps_in caps) }
+    {
+        places::set_caps(&self.places, &mut self.entries, id, caps);
     }
 
     fn set_ends(&mut self, id: ObjId, ends: Ends)

@@ -31,6 +31,8 @@ fn fill<R: Abort + AllocGlobal>(rt: &R, state: &mut State) -> Result<(), Fail> {
         index: 0,
     };
     assert!(rt; state.has_slot(slot));
+    assert!(rt; state.cap(slot).is_none());
+    assert!(rt; state.object(ROOT).is_some());
     let guard = Guard { size: 58, value: 0 };
     let cap = Cap {
         object: ROOT,

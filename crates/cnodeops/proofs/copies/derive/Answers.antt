@@ -1,7 +1,12 @@
 -- The filled target is in no pair of the tree, and the parent of the copy is filled.
 use Rattle.std.proofs.Common.{sym, ◌∙◌}
-use Rattle.cnodeops.proofs.CopyLemmas.{filled_alone, filled_now, parent_apart, parent_still}
+use Rattle.cnodeops.proofs.CopyLemmas.{filled_alone, filled_now, object_there, parent_apart, parent_still}
 use Rattle.cnodeops.proofs.copies.derive.Goals as goal
+
+pub put_cap-requires-clause-object : goal.put_cap-requires-clause-object
+put_cap-requires-clause-object c =
+    rw c.copied.ensures
+    (object_there c.args.state.now c.args.ends.source c.args.ends.held c.requires.well_formed c.requires.filled)
 
 pub insert_child-requires-clause-below : goal.insert_child-requires-clause-below
 insert_child-requires-clause-below c = rw c.put_cap.ensures (filled_now c.args.state.now c.args.ends.target c.copied.result)

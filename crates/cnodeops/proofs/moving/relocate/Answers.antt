@@ -1,6 +1,10 @@
 -- The filled target is in no pair of the tree, and the source is in none once the two have changed places.
-use Rattle.cnodeops.proofs.CopyLemmas.{exchanged_alone, filled_alone, filled_now, filled_still}
+use Rattle.cnodeops.proofs.CopyLemmas.{exchanged_alone, filled_alone, filled_now, filled_still, object_there}
 use Rattle.cnodeops.proofs.moving.relocate.Goals as goal
+
+pub put_cap-requires-clause-object : goal.put_cap-requires-clause-object
+put_cap-requires-clause-object c =
+    object_there c.args.state.now c.args.ends.source c.args.ends.held c.requires.well_formed c.requires.filled
 
 pub move_node-requires-clause-source : goal.move_node-requires-clause-source
 move_node-requires-clause-source c =

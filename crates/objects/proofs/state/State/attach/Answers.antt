@@ -1,14 +1,24 @@
+use Rattle.std.proofs.Common.{refl}
 use Rattle.objects.proofs.TreeState.{attach_gives, IsConsistent-attached}
+use Rattle.objects.proofs.CountLemmas.{counts-with_parent}
+use Rattle.machine.proofs.CapCounts.{caps_to-with_parent}
+use Rattle.objects.proofs.CapsKept.{caps-attached}
+use Rattle.objects.proofs.CountedStates.{sound_after}
 use Rattle.objects.proofs.state.State.attach.Goals as goal
 
 pub invariant_of-self : goal.invariant_of-self
 invariant_of-self c =
     rw c.attach.ensures
-    (IsConsistent-attached c.self.inside c.self.invariant c.args.slot c.args.parent (rw c.self.view_is c.requires.below)
+    (sound_after c.self.inside _ c.self.invariant
+    (IsConsistent-attached c.self.inside c.self.invariant.consistent c.args.slot c.args.parent (rw c.self.view_is c.requires.below)
+    (rw c.self.view_is c.requires.above) (rw c.self.view_is c.requires.root) (rw c.self.view_is c.requires.ranked)) refl refl
+    (caps-attached c.self.inside.store c.args.slot c.args.parent) _
+    (attach_gives c.self.inside c.self.invariant.consistent c.args.slot c.args.parent (rw c.self.view_is c.requires.below)
     (rw c.self.view_is c.requires.above) (rw c.self.view_is c.requires.root) (rw c.self.view_is c.requires.ranked))
+    (counts-with_parent _ c.args.slot c.args.parent) (caps_to-with_parent _ c.args.slot c.args.parent))
 
 pub returns : goal.returns
 returns c =
     rw (c.attach.ensures, ← c.self.view_is)
-    (attach_gives c.self.inside c.self.invariant c.args.slot c.args.parent (rw c.self.view_is c.requires.below)
+    (attach_gives c.self.inside c.self.invariant.consistent c.args.slot c.args.parent (rw c.self.view_is c.requires.below)
     (rw c.self.view_is c.requires.above) (rw c.self.view_is c.requires.root) (rw c.self.view_is c.requires.ranked))

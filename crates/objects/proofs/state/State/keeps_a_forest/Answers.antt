@@ -2,13 +2,13 @@ use Rattle.objects.proofs.TreeState.{pair_below, pair_above, is_ranked, is_acycl
 use Rattle.objects.proofs.state.State.keeps_a_forest.Goals as goal
 
 pub returns-clause-below : goal.returns-clause-below
-returns-clause-below c = rw (← c.self.view_is) (pair_below c.self.inside c.self.invariant)
+returns-clause-below c = rw (← c.self.view_is) (pair_below c.self.inside c.self.invariant.consistent)
 
 pub returns-clause-above : goal.returns-clause-above
-returns-clause-above c = rw (← c.self.view_is) (pair_above c.self.inside c.self.invariant)
+returns-clause-above c = rw (← c.self.view_is) (pair_above c.self.inside c.self.invariant.consistent)
 
 pub returns-clause-ranked : goal.returns-clause-ranked
-returns-clause-ranked c = rw (← c.self.view_is) (is_ranked c.self.inside c.self.invariant)
+returns-clause-ranked c = rw (← c.self.view_is) (is_ranked c.self.inside c.self.invariant.consistent)
 
 pub returns-clause-acyclic : goal.returns-clause-acyclic
-returns-clause-acyclic c = rw (← c.self.view_is) (is_acyclic c.self.inside c.self.invariant)
+returns-clause-acyclic c = rw (← c.self.view_is) (is_acyclic c.self.inside c.self.invariant.consistent)

@@ -1,9 +1,10 @@
 use Rattle.std.proofs.Common.{refl}
-use Rattle.objects.proofs.ConsistentLemmas.{IsConsistent-empty, empty_gives}
+use Rattle.objects.proofs.ConsistentLemmas.{empty_gives}
+use Rattle.objects.proofs.CountedStates.{sound_empty}
 use Rattle.objects.proofs.state.State.new.Goals as goal
 
 pub invariant_of-result : goal.invariant_of-result
-invariant_of-result c = IsConsistent-empty (record { store = c.new.result; next = 0 }) c.new.ensures refl
+invariant_of-result c = sound_empty _ c.new.ensures refl refl
 
 pub returns : goal.returns
-returns c = empty_gives (record { store = c.new.result; next = 0 }) c.new.ensures refl
+returns c = empty_gives _ c.new.ensures refl

@@ -1,14 +1,24 @@
+use Rattle.std.proofs.Common.{refl}
 use Rattle.objects.proofs.ConsistentLemmas.{IsConsistent-pushed, push_gives}
+use Rattle.objects.proofs.CountLemmas.{counts-with_waiting}
+use Rattle.machine.proofs.CapCounts.{caps_to-with_waiting}
+use Rattle.objects.proofs.CapsKept.{caps-pushed}
+use Rattle.objects.proofs.CountedStates.{sound_after}
 use Rattle.objects.proofs.state.State.push_waiting.Goals as goal
 
 pub invariant_of-self : goal.invariant_of-self
 invariant_of-self c =
     rw c.push.ensures
-    (IsConsistent-pushed c.self.inside c.self.invariant c.args.id c.args.thread (rw c.self.view_is c.requires.present)
+    (sound_after c.self.inside _ c.self.invariant
+    (IsConsistent-pushed c.self.inside c.self.invariant.consistent c.args.id c.args.thread (rw c.self.view_is c.requires.present)
+    (rw c.self.view_is c.requires.free)) refl refl
+    (caps-pushed c.self.inside.store c.args.id c.args.thread _) _
+    (push_gives c.self.inside c.self.invariant.consistent c.args.id c.args.thread (rw c.self.view_is c.requires.present)
     (rw c.self.view_is c.requires.free))
+    (counts-with_waiting _ c.args.id c.args.thread) (caps_to-with_waiting _ c.args.id c.args.thread))
 
 pub returns : goal.returns
 returns c =
     rw (c.push.ensures, ← c.self.view_is)
-    (push_gives c.self.inside c.self.invariant c.args.id c.args.thread (rw c.self.view_is c.requires.present)
+    (push_gives c.self.inside c.self.invariant.consistent c.args.id c.args.thread (rw c.self.view_is c.requires.present)
     (rw c.self.view_is c.requires.free))

@@ -1,0 +1,226 @@
+-- A state's counts, and those of its entries, stay exact under each change.
+use Rattle.std.proofs.Common.{◌≡◌, ◌≢◌, ℕ, ◌+◌, ◌-◌, ◌≤◌, ◌^◌, List, [], ◌∷◌, length, refl, sym, ap, subst, ◌∙◌, arith}
+use Rattle.std.specs.Prelude.{None, Some, IfSome, IsSome, IsTrue, Option}
+use Rattle.std.specs.FinMap as finite
+use Rattle.std.specs.List.{AllByRecursion}
+use Rattle.std.proofs.lemmas.Bool.{false≢true}
+use Rattle.base.specs.declared.ids.ObjId.{ObjId}
+use Rattle.base.specs.declared.ids.SlotRef.{SlotRef}
+use Rattle.machine.specs.declared.cap.Cap.{Cap}
+use Rattle.machine.specs.declared.object.Object.{Object}
+use Rattle.machine.specs.Counts.{caps_to}
+use Rattle.machine.specs.Machine.{Machine, cap_of, has_slot, object_of, with_cap, with_object, without_cap}
+use Rattle.machine.specs.Objects.{slot_count, thread_count}
+use Rattle.machine.specs.Tree.{IsAlone}
+use Rattle.machine.proofs.CapCounts.{caps_to-empty, caps_to-with_cap, caps_to-with_new, caps_to-with_object, caps_to-without_cap}
+use Rattle.machine.proofs.CapCounts.{none_for_others, one_for_its_own}
+use Rattle.machine.proofs.FiniteLemmas.{by_key}
+use Rattle.machine.proofs.LookUps.{id_total, id_apart}
+use Rattle.objects.specs.declared.slots.Slot.{Slot}
+use Rattle.objects.specs.declared.state.State.TheInside.{Inside}
+use Rattle.objects.specs.Counts.{counts_in, one_more, AreOfNumbers}
+use Rattle.objects.specs.Entries.{caps_in, entry_of, new_entry, replace_in, set_caps_in}
+use Rattle.objects.specs.Family.{with_slot}
+use Rattle.objects.specs.Radices.{HasRadix}
+use Rattle.objects.specs.State.{machine_of, IsConsistent, IsCounted, IsSound, IsTallied}
+use Rattle.objects.proofs.CapBounds.{held_there}
+use Rattle.objects.proofs.CapsKept.{CapsKept, caps-set, caps-with_entry, caps-with_slot}
+use Rattle.objects.proofs.ChangeLemmas.{bulk}
+use Rattle.objects.proofs.ConsistentLemmas.{after, added_gives, caps_give, caps_same, empty_gives, found_there, none_of, replace_gives}
+use Rattle.objects.proofs.ConsistentLemmas.{vacant_number, with_added, with_all_added, with_all_is, with_changed, IsConsistent-added}
+use Rattle.objects.proofs.ConsistentLemmas.{IsConsistent-all_added, IsConsistent-changed, IsConsistent-empty, IsConsistent-replace}
+use Rattle.objects.proofs.CountLemmas.{counts-empty, counts-with_cap, counts-with_new, counts-with_object, counts-without_cap}
+use Rattle.objects.proofs.CountLemmas.{few_slots, few_threads}
+use Rattle.objects.proofs.SlotLemmas.{changes_slot}
+use Rattle.objects.proofs.StateLemmas.{next-machine_of, object_at, present_kept, tells-machine_of}
+use Rattle.objects.proofs.TreeState.{put_cap_gives, take_cap_gives, IsConsistent-put_cap, IsConsistent-take_cap}
+
+-- a change after which the machine has as much as before
+
+counted_after :
+    (s t : Inside) → IsCounted s → t.counts ≡ s.counts → t.next ≡ s.next → (m : Machine) → machine_of t ≡ m
+    → counts_in m ≡ counts_in (machine_of s) → IsCounted t
+counted_after s t counted counts next m gives same =
+    record {
+      exact = counts ∙ counted.exact ∙ sym same ∙ ap counts_in (sym gives);
+      few = subst (λ n. AreOfNumbers t.counts n) (sym next) (subst (λ c. AreOfNumbers c s.next) (sym counts) counted.few);
+    }
+
+-- and each object its capabilities
+pub sound_after :
+    (s t : Inside) → IsSound s → IsConsistent t → t.counts ≡ s.counts → t.next ≡ s.next → CapsKept s.store t.store → (m : Machine)
+    → machine_of t ≡ m → counts_in m ≡ counts_in (machine_of s) → ((id : ObjId) → caps_to m id ≡ caps_to (machine_of s) id)
+    → IsSound t
+sound_after s t sound consistent counts next kept m gives same caps =
+    record {
+      consistent = consistent;
+      counted = counted_after s t sound.counted counts next m gives same;
+      tallied = λ id. kept id ∙ sound.tallied id ∙ sym (caps id) ∙ ap (λ n. caps_to n id) (sym gives);
+    }
+
+-- a capability comes or goes
+
+module _ (s : Inside) (slot : SlotRef) (held : Cap) (filling : Option Cap) (caps : ℕ) where
+  abbrev set : Slot → Slot
+  set old = record old { cap = filling }
+
+  abbrev slots_set : Inside
+  slots_set = record s { store = with_slot s.store slot set }
+
+  abbrev pub cap_set : Inside
+  cap_set = with_changed slots_set held.object (set_caps_in caps)
+
+  cap_set_sound :
+      IsSound s → IsConsistent slots_set → (m : Machine) → machine_of slots_set ≡ m → counts_in m ≡ counts_in (machine_of s)
+      → IsSome (entry_of s.store held.object) → caps ≡ caps_to m held.object
+      → ((id : ObjId) → id ≢ held.object → caps_to m id ≡ caps_to (machine_of s) id) → IsSound cap_set
+  cap_set_sound sound consistent m gives same there here others =
+      record {
+        consistent =
+            IsConsistent-changed slots_set consistent held.object (set_caps_in caps) (λ e is sized. sized) (λ e. refl) (λ e. refl);
+        counted = counted_after s cap_set sound.counted refl refl m machine_now same;
+        tallied =
+            λ id.
+            caps-set (with_slot s.store slot set) held.object caps still_there id
+            ∙ sym
+            (by_key id_total id_apart id held.object (caps_to m id) caps _
+            (λ same. ap (caps_to m) same ∙ sym here)
+            (λ apart. others id apart ∙ sym (sound.tallied id) ∙ sym (caps-with_slot s.store slot set id)))
+            ∙ ap (λ n. caps_to n id) (sym machine_now);
+      }
+    where
+      machine_now : machine_of cap_set ≡ m
+      machine_now = caps_give slots_set held.object caps ∙ gives
+
+      still_there : IsSome (entry_of (with_slot s.store slot set) held.object)
+      still_there = present_kept bulk _ _ ((changes_slot s.store slot set).alone.same held.object) there
+
+pub cap_set_gives :
+    (s : Inside) (slot : SlotRef) (held : Cap) (filling : Option Cap) (caps : ℕ) (m : Machine)
+    → machine_of (record s { store = with_slot s.store slot (λ old. record old { cap = filling }) }) ≡ m
+    → machine_of (cap_set s slot held filling caps) ≡ m
+cap_set_gives s slot held filling caps m gives = caps_give _ held.object caps ∙ gives
+
+pub sound_put :
+    (s : Inside) → IsSound s → (slot : SlotRef) (held : Cap) (caps : ℕ) → IsTrue (has_slot (machine_of s) slot)
+    → cap_of (machine_of s) slot ≡ None → IsSome (object_of (machine_of s) held.object)
+    → caps ≡ caps_to (machine_of s) held.object + 1 → IsSound (cap_set s slot held (Some held) caps)
+sound_put s sound slot held caps has vacant there count =
+    let m : Machine = machine_of s in
+    let more = caps_to-with_cap m slot held vacant in
+    cap_set_sound s slot held (Some held) caps sound (IsConsistent-put_cap s sound.consistent slot held) (with_cap m slot held)
+    (put_cap_gives s sound.consistent slot held has) (counts-with_cap m slot held) (found_there s held.object there)
+    (let now = more held.object in let one = one_for_its_own held in omega (arith, now, one, count))
+    (λ id apart. let now = more id in let none = none_for_others id held (λ same. apart (sym same)) in omega (arith, now, none))
+
+pub sound_take :
+    (s : Inside) → IsSound s → (slot : SlotRef) (held : Cap) (caps : ℕ) → IsAlone (machine_of s) slot
+    → cap_of (machine_of s) slot ≡ Some held → caps ≡ caps_to (machine_of s) held.object - 1
+    → IsSound (cap_set s slot held None caps)
+sound_take s sound slot held caps alone filled count =
+    let m : Machine = machine_of s in
+    let less = caps_to-without_cap m slot held filled in
+    cap_set_sound s slot held None caps sound (IsConsistent-take_cap s sound.consistent slot alone) (without_cap m slot)
+    (take_cap_gives s sound.consistent slot) (counts-without_cap m slot) (held_there s sound slot held filled)
+    (let now = less held.object in let one = one_for_its_own held in omega (arith, now, one, count))
+    (λ id apart. let now = less id in let none = none_for_others id held (λ same. apart (sym same)) in omega (arith, now, none))
+
+-- no objects
+pub sound_empty :
+    (s : Inside) → s.store ≡ finite.empty → s.next ≡ 0 → s.counts ≡ record { objects = 0; slots = 0; threads = 0 } → IsSound s
+sound_empty s none next counts =
+    record {
+      consistent = IsConsistent-empty s none next;
+      counted =
+          record {
+            exact = counts ∙ sym counts-empty ∙ ap counts_in (sym (empty_gives s none next));
+            few = rw counts (record { objects = omega arith; slots = omega arith; threads = omega arith });
+          };
+      tallied =
+          λ id.
+          ap caps_in (none_of s none id) ∙ sym (caps_to-empty id)
+          ∙ ap (λ m. caps_to m id) (sym (empty_gives s none next));
+    }
+
+-- a new object
+
+unnumbered : (s : Inside) → IsConsistent s → object_of (machine_of s) (record { 0 = (machine_of s).next }) ≡ None
+unnumbered s consistent =
+    ap (λ n. object_of (machine_of s) (record { 0 = n })) (next-machine_of s)
+    ∙ (tells-machine_of s).objects (record { 0 = s.next }) ∙ ap object_at (vacant_number s consistent)
+
+IsCounted-added :
+    (s : Inside) → IsConsistent s → IsCounted s → (object : Object) → HasRadix object → IsCounted (with_added s object)
+IsCounted-added s consistent counted object radix =
+    let slots = few_slots object radix in
+    let threads = few_threads object in
+    let few = counted.few in
+    record {
+      exact =
+          ap (λ c. one_more c object) counted.exact
+          ∙ sym (counts-with_new (machine_of s) object (unnumbered s consistent))
+          ∙ ap counts_in (sym (added_gives s consistent object));
+      few =
+          record {
+            objects = omega (arith, few.objects);
+            slots = omega (arith, few.slots, slots);
+            threads = omega (arith, few.threads, threads);
+          };
+    }
+
+all_counted :
+    (s : Inside) → IsConsistent s → IsCounted s → (objects : List Object) → s.next + length objects ≤ 2 ^ 48
+    → AllByRecursion HasRadix objects → IsCounted (with_all_added s objects)
+all_counted s consistent counted [] room radices = counted
+all_counted s consistent counted (object ∷ objects) room radices =
+    all_counted (with_added s object) (IsConsistent-added s consistent object (omega arith) radices.0)
+    (IsCounted-added s consistent counted object radices.0) objects (omega arith) radices.1
+
+IsTallied-added : (s : Inside) → IsConsistent s → IsTallied s → (object : Object) → IsTallied (with_added s object)
+IsTallied-added s consistent tallied object id =
+    let number : ObjId = record { 0 = s.next } in
+    caps_same (entry_of s.store) (entry_of (with_added s object).store) s.next number object (vacant_number s consistent)
+    (finite.get-insert id_total s.store number (new_entry object)) id
+    ∙ tallied id ∙ sym (caps_to-with_new (machine_of s) object id)
+    ∙ ap (λ m. caps_to m id) (sym (added_gives s consistent object))
+
+all_tallied :
+    (s : Inside) → IsConsistent s → IsTallied s → (objects : List Object) → s.next + length objects ≤ 2 ^ 48
+    → AllByRecursion HasRadix objects → IsTallied (with_all_added s objects)
+all_tallied s consistent tallied [] room radices = tallied
+all_tallied s consistent tallied (object ∷ objects) room radices =
+    all_tallied (with_added s object) (IsConsistent-added s consistent object (omega arith) radices.0)
+    (IsTallied-added s consistent tallied object) objects (omega arith) radices.1
+
+pub sound_all_added :
+    (s : Inside) (sound : IsSound s) (objects : List Object) (room : s.next + length objects ≤ 2 ^ 48)
+    (radices : AllByRecursion HasRadix objects) → IsSound (after s sound.consistent objects room radices)
+sound_all_added s sound objects room radices =
+    record {
+      consistent = IsConsistent-all_added s sound.consistent objects room radices;
+      counted =
+          subst IsCounted (sym (with_all_is s objects _ refl))
+          (all_counted s sound.consistent sound.counted objects room radices);
+      tallied =
+          subst IsTallied (sym (with_all_is s objects _ refl))
+          (all_tallied s sound.consistent sound.tallied objects room radices);
+    }
+
+-- an object is another, with as many slots and threads
+pub sound_replace :
+    (s : Inside) → IsSound s → (id : ObjId) (object : Object) → HasRadix object → IsSome (object_of (machine_of s) id)
+    → IfSome (object_of (machine_of s) id) (λ old. slot_count object ≡ slot_count old)
+    → IfSome (object_of (machine_of s) id) (λ old. thread_count object ≡ thread_count old)
+    → IsSound (with_changed s id (replace_in object))
+sound_replace s sound id object radix some slots threads =
+    sound_after s (with_changed s id (replace_in object)) sound
+    (IsConsistent-replace s sound.consistent id object radix slots) refl refl
+    (caps-with_entry s.store id (replace_in object) (λ e. refl)) _ (replace_gives s sound.consistent id object some)
+    (by_object (object_of (machine_of s) id) refl some slots threads) (caps_to-with_object (machine_of s) id object)
+  where
+    by_object :
+        (o : Option Object) → object_of (machine_of s) id ≡ o → IsSome o → IfSome o (λ old. slot_count object ≡ slot_count old)
+        → IfSome o (λ old. thread_count object ≡ thread_count old)
+        → counts_in (with_object (machine_of s) id object) ≡ counts_in (machine_of s)
+    by_object None is some slots threads = absurd (false≢true some)
+    by_object (Some old) is some slots threads = counts-with_object (machine_of s) id old object is slots threads

@@ -1,0 +1,27 @@
+-- How much a state counts: objects, slots and threads.
+use Rattle.std.specs.Prelude.{ℕ, ◌+◌, ◌*◌, ◌^◌, ◌≤◌}
+use Rattle.base.specs.declared.limits.TheConstants.{MAX_RADIX}
+use Rattle.machine.specs.declared.object.Object.{Object}
+use Rattle.machine.specs.Counts.{objects_in, slots_in, threads_in}
+use Rattle.machine.specs.Machine.{Machine}
+use Rattle.machine.specs.Objects.{slot_count, thread_count}
+use Rattle.objects.specs.declared.counts.Counts.{Counts}
+
+-- the counts with one more object
+abbrev pub one_more : Counts → Object → Counts
+one_more counts object =
+    record {
+      objects = counts.objects + 1;
+      slots = counts.slots + slot_count object;
+      threads = counts.threads + thread_count object;
+    }
+
+-- how much a machine has
+abbrev pub counts_in : Machine → Counts
+counts_in m = record { objects = objects_in m; slots = slots_in m; threads = threads_in m }
+
+-- no more than objects with these numbers can have
+pub record AreOfNumbers (counts : Counts) (numbers : ℕ) : Type 0 where
+  pub objects : counts.objects ≤ numbers
+  pub slots : counts.slots ≤ numbers * 2 ^ MAX_RADIX
+  pub threads : counts.threads ≤ numbers

@@ -1,0 +1,38 @@
+ghost use Rattle.std.specs.Prelude.{◌≡◌, ◌+◌, ◌*◌, ◌<◌, ◌^◌, length};
+ghost use Rattle.std.specs.List.{fold};
+ghost use Rattle.base.specs.declared.limits.TheConstants.{MAX_RADIX};
+ghost use Rattle.objects.specs.Counts.{one_more};
+
+use machine::Object;
+
+/// How many objects there are, and how many slots and threads they come to.
+#[derive(Clone, Copy)]
+pub struct Counts {
+    pub objects: u64,
+    pub slots: u64,
+    pub threads: u64,
+}
+
+impl Counts {
+    pub const NONE: Counts = Counts {
+        objects: 0,
+        slots: 0,
+        threads: 0,
+    };
+
+    /// The counts with more objects.
+    pub fn with_all(self, objects: &[Object]) -> Counts
+        requires objects { self.objects + length objects.now < 2 ^ 64 }
+        requires slots { self.slots + length objects.now * 2 ^ MAX_RADIX < 2 ^ 64 }
+        requires threads { self.threads + length objects.now < 2 ^ 64 }
+        ensures { result ≡ fold one_more self objects.now }
+    {
+        let mut counts = self;
+        for object in objects {
+            counts.objects += 1;
+            counts.slots += object.slot_count();
+            counts.threads += object.thread_count();
+        }
+        counts
+    }
+}

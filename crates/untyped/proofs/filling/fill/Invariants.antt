@@ -1,0 +1,21 @@
+use Rattle.std.proofs.Common.{◌≡◌, ◌+◌, ◌<◌, ◌≤◌, IsSome, IsTrue, ℕ}
+use Rattle.std.specs.Prelude.{None}
+use Rattle.machine.specs.Machine.{cap_of, has_slot, object_of}
+use Rattle.machine.specs.Step.Retype.{window}
+use Rattle.untyped.specs.Batch.{with_caps}
+use Rattle.untyped.specs.Windows.{slots_of}
+use Rattle.untyped.proofs.filling.fill.Given as goal
+
+-- those that are left are filled after these, and are still free, and their objects are there
+abbrev pub invariant-loop-index : goal.invariant-loop-index
+invariant-loop-index l =
+    (l.number + l.fn.window.offset ≡ l.fn.first + l.index)
+    × ((left : ℕ) → l.index + left ≡ l.fn.window.offset + l.fn.window.count
+    → with_caps l.state l.number l.kind (window l.fn.window.node l.index left) l.parent
+    ≡ with_caps l.fn.state l.fn.first l.kind (slots_of l.fn.window) l.parent)
+    × ((index : ℕ) → l.index ≤ index → index < l.fn.window.offset + l.fn.window.count
+    → IsTrue (has_slot l.state (record { holder = l.fn.window.node; index = index }))
+    × (cap_of l.state (record { holder = l.fn.window.node; index = index }) ≡ None))
+    × IsSome (cap_of l.state l.parent)
+    × ((number : ℕ) → l.number ≤ number → number < l.fn.first + l.fn.window.count
+    → IsSome (object_of l.state (record { 0 = number })))

@@ -1,0 +1,4 @@
+pub mod Batch
+pub mod Making
+pub mod Shown
+pub mod Windows

@@ -1,0 +1,45 @@
+-- What a retype is about to make, once its conditions are met, and the machine after it.
+use Rattle.std.specs.Prelude.{◌≡◌, ℕ, ◌+◌, ◌<◌, ◌≤◌, ◌^◌, Option, Some, None, Result, Ok, Err, IsSome}
+use Rattle.base.specs.declared.limits.TheConstants.{ADDRESS_END, MAX_MADE, OBJECT_NUMBERS}
+use Rattle.base.specs.declared.refusal.Cause.{Cause}
+use Rattle.base.specs.declared.refusal.Refusal.{Refusal}
+use Rattle.base.specs.Refusals.{refusal_of}
+use Rattle.machine.specs.declared.call.Answer.TheVariants.{Count}
+use Rattle.machine.specs.declared.call.Made.{Made}
+use Rattle.machine.specs.declared.call.Made.TheVariants.{Done}
+use Rattle.machine.specs.declared.object.Object.TheVariants as o
+use Rattle.machine.specs.Machine.{Machine, cap_of, object_of}
+use Rattle.machine.specs.Memory.{with_all_made}
+use Rattle.machine.specs.Step.Retype.{sized}
+use Rattle.untyped.specs.declared.making.Making.{Making}
+use Rattle.untyped.specs.Shown.{source_shown}
+use Rattle.untyped.specs.Windows.{IsFree, slots_of}
+
+-- the machine with the objects and their capabilities
+abbrev pub with_making : Machine → Making → Machine
+with_making m making = with_all_made m (source_shown making.source) making.kind making.bits (slots_of making.window)
+
+-- the memory is there, but for its watermark, with a capability, and the slots are free; sizes and numbers are within their limits
+pub record CanBeMade (m : Machine) (making : Making) : Type 0 where
+  pub sized : sized making.kind making.bits ≡ Ok tt
+  pub some : 0 < making.window.count
+  pub few : making.window.count ≤ MAX_MADE
+  pub numbers : m.next + making.window.count ≤ OBJECT_NUMBERS
+  pub was : ℕ
+  pub there : object_of m making.source.id ≡ Some (o.Untyped (record making.source.memory { watermark = was }))
+  pub below : making.source.id.0 < m.next
+  pub mark : making.source.memory.watermark ≤ ADDRESS_END
+  pub held : IsSome (cap_of m making.source.slot)
+  pub node : making.window.node.0 < m.next
+  pub ends : making.window.offset + making.window.count < 2 ^ 64
+  pub free : IsFree m making.window
+
+-- what a call comes to that found what it is about to make, or a cause to refuse
+abbrev pub planned : Machine → Result Making Cause → Result (Made × Machine) Cause
+planned m (Ok making) = Ok (Done (Count making.window.count), with_making m making)
+planned m (Err cause) = Err cause
+
+-- the refusal of a call, where it isn't made
+abbrev pub refusal_in : Result (Made × Machine) Cause → Option Refusal
+refusal_in (Ok made) = None
+refusal_in (Err cause) = Some (refusal_of cause)

@@ -1,0 +1,21 @@
+-- What this crate's values stand for in the definition of a retype.
+use Rattle.std.specs.Prelude.{Result, Ok, Err}
+use Rattle.base.specs.declared.refusal.Cause.{Cause}
+use Rattle.cspace.specs.declared.level.Level.{Level as Node}
+use Rattle.cspace.specs.Strings.{level_shown}
+use Rattle.machine.specs.Lookup.{Level}
+use Rattle.machine.specs.Memory.{Source}
+use Rattle.untyped.specs.declared.finding.Source.{Source as Found}
+
+abbrev pub source_shown : Found → Source
+source_shown source = record { slot = source.slot; id = source.id; memory = source.memory }
+
+-- what a look-up of untyped memory comes to
+abbrev pub found_shown : Result Found Cause → Result Source Cause
+found_shown (Ok source) = Ok (source_shown source)
+found_shown (Err cause) = Err cause
+
+-- what a look-up of a CNode comes to
+abbrev pub taker_shown : Result Node Cause → Result Level Cause
+taker_shown (Ok level) = Ok (level_shown level)
+taker_shown (Err cause) = Err cause

@@ -1,0 +1,73 @@
+ghost use Rattle.std.specs.Prelude.{◌≡◌, ◌+◌, ◌<◌, ◌≤◌, ◌^◌, IfOk};
+ghost use Rattle.base.specs.declared.limits.TheConstants.{MAX_RADIX};
+ghost use Rattle.machine.specs.Step.Retype.{a_few, all_vacant, between, in_node, sized, window};
+
+use base::{Cause, MAX_MADE, MAX_RADIX, ObjId, SlotRef};
+use machine::{MemoryKind, Radix};
+use objects::State;
+
+/// Refuses a number that doesn't lie from one to another.
+fn between(least: u64, most: u64, bits: u64) -> Result<(), Cause>
+    ensures { result ≡ between least most bits }
+{
+    if bits < least {
+        Err(Cause::InvalidArgument)
+    } else if most < bits {
+        Err(Cause::RangeError)
+    } else {
+        Ok(())
+    }
+}
+
+/// Refuses a size that objects of the kind can't have.
+pub fn sized(kind: MemoryKind, bits: u64) -> Result<(), Cause>
+    ensures { result ≡ sized kind bits }
+{
+    match kind {
+        MemoryKind::Untyped => between(4, 47, bits),
+        MemoryKind::CNode => between(1, u64::from(MAX_RADIX), bits),
+        _ => Ok(()),
+    }
+}
+
+/// Refuses to make none, or more than a call may make.
+pub fn a_few(count: u64) -> Result<(), Cause>
+    ensures { result ≡ a_few count }
+{
+    if 1 <= count && count <= MAX_MADE {
+        Ok(())
+    } else {
+        Err(Cause::RangeError)
+    }
+}
+
+/// Refuses a window that a CNode of the radix doesn't have whole.
+pub fn in_node(radix: Radix, offset: u64, count: u64) -> Result<(), Cause>
+    ensures value { result ≡ in_node radix offset count }
+    ensures within { IfOk result (λ fits. offset + count ≤ 2 ^ MAX_RADIX) }
+{
+    let slots = radix.slots();
+    // The sum of the two may be past every number.
+    if offset <= slots && count <= slots - offset {
+        Ok(())
+    } else {
+        Err(Cause::RangeError)
+    }
+}
+
+/// Refuses where a slot of the window is filled.
+pub fn all_vacant(state: &State, node: ObjId, offset: u64, count: u64) -> Result<(), Cause>
+    requires { offset + count < 2 ^ 64 }
+    ensures { result ≡ all_vacant state.now (window node offset count) }
+{
+    for index in offset..offset + count {
+        let slot = SlotRef {
+            holder: node,
+            index,
+        };
+        if let Some(_) = state.cap(slot) {
+            return Err(Cause::DeleteFirst);
+        }
+    }
+    Ok(())
+}

@@ -1,0 +1,53 @@
+ghost use Rattle.std.specs.Prelude.{◌≡◌, ◌+◌, ◌<◌, ◌≤◌, ◌^◌, IsSome, IsTrue, None};
+ghost use Rattle.base.specs.declared.limits.TheConstants.{OBJECT_NUMBERS};
+ghost use Rattle.machine.specs.Machine.{cap_of, has_slot, object_of, with_cap, with_parent};
+ghost use Rattle.untyped.specs.Batch.{with_caps};
+ghost use Rattle.untyped.specs.Windows.{AreThere, IsFree, slots_of};
+
+use crate::making::new_cap;
+use base::{ObjId, SlotRef};
+use derivation::insert_child;
+use machine::{Cap, MemoryKind};
+use objects::State;
+
+/// Slots of a CNode, one after another.
+#[derive(Clone, Copy)]
+pub struct Window {
+    pub node: ObjId,
+    pub offset: u64,
+    pub count: u64,
+}
+
+/// Fills an empty slot with a capability that is a child of that in another.
+fn fill_below(state: &mut State, slot: SlotRef, cap: Cap, parent: SlotRef)
+    requires there { IsTrue (has_slot state.old slot) }
+    requires vacant { cap_of state.old slot ≡ None }
+    requires object { IsSome (object_of state.old cap.object) }
+    requires above { IsSome (cap_of state.old parent) }
+    ensures { state.new ≡ with_parent (with_cap state.old slot cap) slot parent }
+{
+    state.keeps_a_forest();
+    state.put_cap(slot, cap);
+    insert_child(state, slot, parent);
+}
+
+/// Fills the slots of a window with the capabilities of new objects, which have numbers from `first`
+/// on, as children of that in another slot.
+pub fn fill(state: &mut State, window: Window, first: u64, kind: MemoryKind, parent: SlotRef)
+    requires ends { window.offset + window.count < 2 ^ 64 }
+    requires numbers { first + window.count ≤ OBJECT_NUMBERS }
+    requires free { IsFree state.old window }
+    requires made { AreThere state.old first window.count }
+    requires above { IsSome (cap_of state.old parent) }
+    ensures { state.new ≡ with_caps state.old first kind (slots_of window) parent }
+{
+    let mut number = first;
+    for index in window.offset..window.offset + window.count {
+        let slot = SlotRef {
+            holder: window.node,
+            index,
+        };
+        fill_below(state, slot, new_cap(number, kind), parent);
+        number += 1;
+    }
+}

@@ -1,0 +1,63 @@
+ghost use Rattle.std.specs.Prelude.{◌≡◌};
+ghost use Rattle.machine.specs.Step.Retype.{find_taker, find_untyped, memory_in, of_untyped};
+ghost use Rattle.untyped.specs.Shown.{found_shown, taker_shown};
+
+use base::{Cause, LookupFailure, ObjId, SlotRef};
+use cspace::{Level, find_cap, level_at, resolve};
+use machine::{Detail, Object, Untyped};
+use objects::State;
+
+/// Untyped memory that objects are made from, with the slot of its capability.
+#[derive(Clone, Copy)]
+pub struct Source {
+    pub slot: SlotRef,
+    pub id: ObjId,
+    pub memory: Untyped,
+}
+
+/// Refuses what is no untyped memory's capability.
+fn of_untyped(detail: &Detail) -> Result<(), Cause>
+    ensures { result ≡ of_untyped detail.now }
+{
+    match detail {
+        Detail::Untyped => Ok(()),
+        _ => Err(Cause::InvalidCapability),
+    }
+}
+
+/// The object as untyped memory.
+fn memory_in(object: Option<Object>) -> Result<Untyped, Cause>
+    ensures { result ≡ memory_in object }
+{
+    match object {
+        Some(Object::Untyped(memory)) => Ok(memory),
+        _ => Err(Cause::InvalidCapability),
+    }
+}
+
+/// The untyped memory that a caller names.
+#[tactic(auto, unfolding(machine::specs::Step::Retype::find_untyped))]
+pub fn find_untyped(state: &State, caller: ObjId, address: u64) -> Result<Source, Cause>
+    ensures { found_shown result ≡ find_untyped state.now caller address }
+{
+    let (slot, cap) = find_cap(state, caller, address)?;
+    of_untyped(&cap.detail)?;
+    let memory = memory_in(state.object(cap.object).copied())?;
+    Ok(Source {
+        slot,
+        id: cap.object,
+        memory,
+    })
+}
+
+/// The CNode that a caller names to take the capabilities of new objects.
+#[tactic(auto, unfolding(machine::specs::Step::Retype::find_taker))]
+pub fn find_taker(state: &State, caller: ObjId, address: u64) -> Result<Level, Cause>
+    ensures { taker_shown result ≡ find_taker state.now caller address }
+{
+    let (slot, _) = resolve(state, caller, address)?;
+    match level_at(state, slot) {
+        Some(level) => Ok(level),
+        None => Err(Cause::FailedLookup(LookupFailure::MissingCapability)),
+    }
+}
