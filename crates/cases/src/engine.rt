@@ -1,5 +1,5 @@
 //! The commands of the program, over texts in memory.
-use report::{OnAccept, OnClose, Open, Watched, check, close, run, verify, why};
+use report::{OnAccept, OnClose, Open, Silence, Watched, check, close, run, verify, why};
 use std::alloc::Global;
 use std::thread::Threads;
 
@@ -66,25 +66,56 @@ pub fn answer_to<R: Threads + Sync>(
     let mut certificate = Watched::new(given.certificate);
     let mut out = Watched::new(Vec::new(alloc));
     let end = match command {
-        Command::Run => run(rt, alloc, &mut table, &mut policy, &mut script, &mut out),
+        Command::Run => run(
+            rt,
+            alloc,
+            &mut table,
+            &mut policy,
+            &mut script,
+            &mut Silence,
+            &mut out,
+        ),
         Command::Verify => verify(
             rt,
             alloc,
             &mut table,
             &mut policy,
             &mut certificate,
+            &mut Silence,
             &mut out,
         ),
         Command::Close => {
             let wanted = OnClose::Policy;
-            close(alloc, &mut table, &mut policy, wanted, &mut out)
+            close(
+                alloc,
+                &mut table,
+                &mut policy,
+                wanted,
+                &mut Silence,
+                &mut out,
+            )
         }
         Command::Missing => {
             let wanted = OnClose::Missing;
-            close(alloc, &mut table, &mut policy, wanted, &mut out)
+            close(
+                alloc,
+                &mut table,
+                &mut policy,
+                wanted,
+                &mut Silence,
+                &mut out,
+            )
         }
         Command::Why(actor, object) => {
-            why(alloc, &mut table, &mut policy, actor, object, &mut out)
+            why(
+                alloc,
+                &mut table,
+                &mut policy,
+                actor,
+                object,
+                &mut Silence,
+                &mut out,
+            )
         }
         Command::Check => {
             let wanted = OnAccept::Report;
@@ -96,6 +127,7 @@ pub fn answer_to<R: Threads + Sync>(
                 wanted,
                 1,
                 &Open,
+                &mut Silence,
                 &mut out,
             )
         }
@@ -109,6 +141,7 @@ pub fn answer_to<R: Threads + Sync>(
                 wanted,
                 1,
                 &Open,
+                &mut Silence,
                 &mut out,
             )
         }

@@ -84,6 +84,11 @@ number of an object:
 SLOT is three numbers: the address of a CNode, an index, and how many of its low bits
 are looked up from there, 1 to 64. All numbers are decimal.";
 
+pub const VERSION: &str = "0.1.0";
+
+pub const EXPLAIN: &str =
+    "Tells in sentences, on standard error, what is denied or faulty, and a way out";
+
 pub const WORKERS: &str = "Threads that look over the slots side by side, 1 to 16";
 
 pub const CERT: &str = "Writes the certificate of an accepted table in place of the report";

@@ -9,16 +9,19 @@ ghost use Rattle.confine.specs.Opening.{IsStatusOf, Serves, written};
 ghost use Rattle.confine.specs.Requests.{IsWithinLimits};
 ghost use Rattle.confine.specs.declared.request.Request.TheVariants.{Check, Verify, Run, Close, Why};
 
+mod explaining;
 mod files;
 mod help;
 mod request;
 
 use clap::error::ErrorKind;
+use explaining::{Explainer, tell_closing};
 use files::Files;
 use report::{
-    End, OnAccept, OnClose, Open, Watched, check, close, open_result, run, start, verify, why,
+    End, Listener, OnAccept, OnClose, Open, Watched, check, close, open_result, run, start, verify,
+    why,
 };
-use request::{Request, read_request};
+use request::{Invocation, Request, read_request};
 use std::alloc::Global;
 use std::env::Env;
 use std::io::{Read, Write};
@@ -51,13 +54,13 @@ fn words<R: Env + AllocGlobal>(rt: &R) -> io::Result<Vec<String>> {
 }
 
 /// What the words of the command line ask for.
-fn asked<'a>(alloc: Global, words: &'a io::Result<Vec<String>>) -> Result<Request<'a>, Unasked>
-    ensures limits { IfOk result IsWithinLimits }
+fn asked<'a>(alloc: Global, words: &'a io::Result<Vec<String>>) -> Result<Invocation<'a>, Unasked>
+    ensures limits { IfOk result (λ invocation. IsWithinLimits invocation.request) }
     ensures unread { OnErr words.now (IsErr result) }
 {
     match words {
         Ok(words) => match read_request(alloc, words) {
-            Ok(request) => Ok(request),
+            Ok(invocation) => Ok(invocation),
             Err(error) if error.kind() == ErrorKind::OutOfMemory => Err(Unasked::NoMemory),
             Err(error) => Err(Unasked::Misused(error)),
         },
@@ -70,7 +73,7 @@ fn asked<'a>(alloc: Global, words: &'a io::Result<Vec<String>>) -> Result<Reques
 /// gives the exit status, and the files back.
 fn answer<R, F, O, W>(
     rt: &R,
-    asked: Result<Request<'_>, Unasked>,
+    asked: Result<Invocation<'_>, Unasked>,
     opener: O,
     out: &mut Watched<W>,
 ) -> (u8, Option<Files<F>>)
@@ -80,33 +83,41 @@ where
     O: Fn(&str) -> io::Result<F> + Drop,
     W: Write,
     requires opener { O.IsAlwaysCallable opener }
-    requires asked { IfOk asked IsWithinLimits }
+    requires asked { IfOk asked (λ invocation. IsWithinLimits invocation.request) }
     requires out { failed_of out.old ≡ false }
-    ensures served { IfOk asked.entry (λ request. IsSomeAnd result.1 (λ files. IsStatusOf
-        (Serves (FnReturnsAt O.Fn opener) F.remaining (written W.contents out.old out.new) request files) result.0)) }
+    ensures served { IfOk asked.entry (λ invocation. IsSomeAnd result.1 (λ files. IsStatusOf
+        (Serves (FnReturnsAt O.Fn opener) F.remaining (written W.contents out.old out.new) invocation.request files) result.0)) }
     ensures unasked { OnErr asked.entry ((result.0 ≡ 2) × (result.1 ≡ None) × (out.new ≡ out.old)) }
     ensures exit { result.0 ≤ 2 }
 {
     match asked {
-        Ok(request) => {
-            let (end, files) = serve(rt, request, opener, out);
-            (tell(rt, end), Some(files))
+        Ok(invocation) => {
+            let mut explainer = Explainer::new(rt, invocation);
+            let (end, files) = serve(rt, invocation.request, opener, &mut explainer, out);
+            let status = tell(rt, end);
+            explainer.hear_end(end);
+            if let Some((table, policy)) = explainer.closed() {
+                tell_closing(rt, table, policy);
+            }
+            (status, Some(files))
         }
         Err(unasked) => (refuse(rt, unasked), None),
     }
 }
 
 /// Does what was asked for, on the files that it names; gives them back.
-fn serve<R, F, O, W>(
+fn serve<R, F, O, L, W>(
     rt: &R,
     request: Request<'_>,
     opener: O,
+    listener: &mut L,
     out: &mut Watched<W>,
 ) -> (End, Files<F>)
 where
     R: AllocGlobal + Threads + Sync,
     F: Read + Drop,
     O: Fn(&str) -> io::Result<F> + Drop,
+    L: Listener,
     W: Write,
     requires opener { O.IsAlwaysCallable opener }
     requires workers { IsWithinLimits request }
@@ -120,45 +131,47 @@ where
             policy,
             workers,
             on_accept,
-        } => serve_check(rt, table, policy, workers, on_accept, opener, out),
+        } => serve_check(rt, table, policy, workers, on_accept, opener, listener, out),
         Request::Verify {
             table,
             policy,
             certificate,
-        } => serve_verify(rt, table, policy, certificate, opener, out),
+        } => serve_verify(rt, table, policy, certificate, opener, listener, out),
         Request::Run {
             table,
             policy,
             script,
-        } => serve_run(rt, table, policy, script, opener, out),
+        } => serve_run(rt, table, policy, script, opener, listener, out),
         Request::Close {
             table,
             policy,
             on_close,
-        } => serve_close(rt, table, policy, on_close, opener, out),
+        } => serve_close(rt, table, policy, on_close, opener, listener, out),
         Request::Why {
             table,
             policy,
             actor,
             object,
-        } => serve_why(rt, table, policy, actor, object, opener, out),
+        } => serve_why(rt, table, policy, actor, object, opener, listener, out),
     }
 }
 
 /// Checks the table and the policy of these names.
-fn serve_check<R, F, O, W>(
+fn serve_check<R, F, O, L, W>(
     rt: &R,
     table: &str,
     policy: &str,
     workers: usize,
     on_accept: OnAccept,
     opener: O,
+    listener: &mut L,
     out: &mut Watched<W>,
 ) -> (End, Files<F>)
 where
     R: AllocGlobal + Threads + Sync,
     F: Read + Drop,
     O: Fn(&str) -> io::Result<F> + Drop,
+    L: Listener,
     W: Write,
     requires opener { O.IsAlwaysCallable opener }
     requires workers { (1 ≤ workers) × (workers ≤ 16) }
@@ -177,24 +190,27 @@ where
         on_accept,
         workers,
         &Open,
+        listener,
         out,
     );
     (end, Files::Two(table, policy))
 }
 
 /// Verifies the certificate of this name with the table and the policy of these names.
-fn serve_verify<R, F, O, W>(
+fn serve_verify<R, F, O, L, W>(
     rt: &R,
     table: &str,
     policy: &str,
     certificate: &str,
     opener: O,
+    listener: &mut L,
     out: &mut Watched<W>,
 ) -> (End, Files<F>)
 where
     R: AllocGlobal + Threads + Sync,
     F: Read + Drop,
     O: Fn(&str) -> io::Result<F> + Drop,
+    L: Listener,
     W: Write,
     requires opener { O.IsAlwaysCallable opener }
     requires out { failed_of out.old ≡ false }
@@ -211,24 +227,27 @@ where
         &mut table,
         &mut policy,
         &mut certificate,
+        listener,
         out,
     );
     (end, Files::Three(table, policy, certificate))
 }
 
 /// Runs the script of this name on the table and the policy of these names.
-fn serve_run<R, F, O, W>(
+fn serve_run<R, F, O, L, W>(
     rt: &R,
     table: &str,
     policy: &str,
     script: &str,
     opener: O,
+    listener: &mut L,
     out: &mut Watched<W>,
 ) -> (End, Files<F>)
 where
     R: AllocGlobal + Threads + Sync,
     F: Read + Drop,
     O: Fn(&str) -> io::Result<F> + Drop,
+    L: Listener,
     W: Write,
     requires opener { O.IsAlwaysCallable opener }
     requires out { failed_of out.old ≡ false }
@@ -239,23 +258,33 @@ where
     let mut table = open_result(opener(table));
     let mut policy = open_result(opener(policy));
     let mut script = open_result(opener(script));
-    let end = run(rt, rt.alloc(), &mut table, &mut policy, &mut script, out);
+    let end = run(
+        rt,
+        rt.alloc(),
+        &mut table,
+        &mut policy,
+        &mut script,
+        listener,
+        out,
+    );
     (end, Files::Three(table, policy, script))
 }
 
 /// Closes the policy of this name over the table of this name, or makes one for the table alone.
-fn serve_close<R, F, O, W>(
+fn serve_close<R, F, O, L, W>(
     rt: &R,
     table: &str,
     policy: Option<&str>,
     on_close: OnClose,
     opener: O,
+    listener: &mut L,
     out: &mut Watched<W>,
 ) -> (End, Files<F>)
 where
     R: AllocGlobal,
     F: Read + Drop,
     O: Fn(&str) -> io::Result<F> + Drop,
+    L: Listener,
     W: Write,
     requires opener { O.IsAlwaysCallable opener }
     requires out { failed_of out.old ≡ false }
@@ -267,30 +296,32 @@ where
     match policy {
         Some(policy) => {
             let mut policy = open_result(opener(policy));
-            let end = close(rt.alloc(), &mut table, &mut policy, on_close, out);
+            let end = close(rt.alloc(), &mut table, &mut policy, on_close, listener, out);
             (end, Files::Two(table, policy))
         }
         None => {
-            let end = start(rt.alloc(), &mut table, on_close, out);
+            let end = start(rt.alloc(), &mut table, on_close, listener, out);
             (end, Files::One(table))
         }
     }
 }
 
 /// Tells which authority a label has on another by the policy of this name, and why.
-fn serve_why<R, F, O, W>(
+fn serve_why<R, F, O, L, W>(
     rt: &R,
     table: &str,
     policy: &str,
     actor: &str,
     object: &str,
     opener: O,
+    listener: &mut L,
     out: &mut Watched<W>,
 ) -> (End, Files<F>)
 where
     R: AllocGlobal,
     F: Read + Drop,
     O: Fn(&str) -> io::Result<F> + Drop,
+    L: Listener,
     W: Write,
     requires opener { O.IsAlwaysCallable opener }
     requires out { failed_of out.old ≡ false }
@@ -300,7 +331,15 @@ where
 {
     let mut table = open_result(opener(table));
     let mut policy = open_result(opener(policy));
-    let end = why(rt.alloc(), &mut table, &mut policy, actor, object, out);
+    let end = why(
+        rt.alloc(),
+        &mut table,
+        &mut policy,
+        actor,
+        object,
+        listener,
+        out,
+    );
     (end, Files::Two(table, policy))
 }
 

@@ -4,10 +4,18 @@ ghost use Rattle.confine.specs.Requests.{IsWithinLimits};
 use crate::help;
 use clap::error::ErrorKind;
 use clap::{Arg, ArgAction, ArgMatches, Command, Error};
-use report::{OnAccept, OnClose};
+use report::{File, OnAccept, OnClose};
 use std::alloc::{AllocError, Global};
 
-/// What a command line asks for, with the names of the files.
+/// What a command line asks for.
+#[derive(Clone, Copy)]
+pub struct Invocation<'a> {
+    pub request: Request<'a>,
+    /// Whether a person is told on standard error what is found.
+    pub explains: bool,
+}
+
+/// What a command is to do, with the names of the files.
 #[derive(Clone, Copy)]
 pub enum Request<'a> {
     /// Checks a table against a policy, by 1 to 16 workers.
@@ -44,28 +52,68 @@ pub enum Request<'a> {
     },
 }
 
+impl<'a> Request<'a> {
+    /// The name of one of its files; none, which is an empty name, of a file that it doesn't have.
+    pub fn name_of(&self, file: File) -> &'a str {
+        match (file, *self) {
+            (
+                File::Table,
+                Request::Check { table, .. }
+                | Request::Verify { table, .. }
+                | Request::Run { table, .. }
+                | Request::Close { table, .. }
+                | Request::Why { table, .. },
+            ) => table,
+            (
+                File::Policy,
+                Request::Check { policy, .. }
+                | Request::Verify { policy, .. }
+                | Request::Run { policy, .. }
+                | Request::Close {
+                    policy: Some(policy),
+                    ..
+                }
+                | Request::Why { policy, .. },
+            ) => policy,
+            (File::Certificate, Request::Verify { certificate, .. }) => certificate,
+            (File::Script, Request::Run { script, .. }) => script,
+            _ => "",
+        }
+    }
+}
+
 // The numbers of workers, as they are written.
 const COUNTS: [&str; 16] = [
     "1", "2", "3", "4", "5", "6", "7", "8", "9", "10", "11", "12", "13", "14", "15", "16",
 ];
 
 /// Reads the command line; an `Err` is for its user, and so is a request for help.
-pub fn read_request<'a>(alloc: Global, words: &'a [String]) -> Result<Request<'a>, Error>
-    ensures { IfOk result IsWithinLimits }
+pub fn read_request<'a>(alloc: Global, words: &'a [String]) -> Result<Invocation<'a>, Error>
+    ensures { IfOk result (λ invocation. IsWithinLimits invocation.request) }
 {
     let mut command = command(alloc)?;
     let matches = command.try_get_matches_from_mut(words)?;
-    match request_of(&matches) {
-        Some(request) => Ok(request),
+    match invocation_of(&matches) {
+        Some(invocation) => Ok(invocation),
         None => Err(command.error(ErrorKind::MissingSubcommand, "a command is missing")?),
     }
 }
 
-// What the subcommand asks for.
-fn request_of<'a>(matches: &ArgMatches<'a>) -> Option<Request<'a>>
-    ensures { IfSome result IsWithinLimits }
+// What the subcommand asks for, and how.
+fn invocation_of<'a>(matches: &ArgMatches<'a>) -> Option<Invocation<'a>>
+    ensures { IfSome result (λ invocation. IsWithinLimits invocation.request) }
 {
     let (name, found) = matches.subcommand()?;
+    Some(Invocation {
+        request: request_of(name, found)?,
+        explains: found.get_flag("explain"),
+    })
+}
+
+// What the subcommand of this name asks for.
+fn request_of<'a>(name: &str, found: &ArgMatches<'a>) -> Option<Request<'a>>
+    ensures { IfSome result IsWithinLimits }
+{
     let table = found.get_str("table")?;
     let policy = found.get_str("policy");
     match name {
@@ -119,6 +167,7 @@ fn workers_of(found: &ArgMatches<'_>) -> Option<usize>
 fn command<'a>(alloc: Global) -> Result<Command<'a>, AllocError> {
     Command::new(alloc, "confine")
         .bin_name("confine")?
+        .version(help::VERSION)
         .about(help::ABOUT)
         .after_help(help::EXAMPLE)
         .subcommand_required(true)
@@ -165,6 +214,7 @@ fn close_command<'a>(alloc: Global) -> Result<Command<'a>, AllocError> {
     Command::new(alloc, "close")
         .about(help::ABOUT_CLOSE)
         .after_help(help::EXAMPLE_CLOSE)
+        .arg(explain(alloc))?
         .arg(word(alloc, "table", "TABLE", help::TABLE))?
         .arg(word(alloc, "policy", "POLICY", help::POLICY_TO_CLOSE).required(false))?
         .arg(missing)
@@ -188,8 +238,17 @@ fn on_system<'a>(
     Command::new(alloc, name)
         .about(about)
         .after_help(example)
+        .arg(explain(alloc))?
         .arg(word(alloc, "table", "TABLE", help::TABLE))?
         .arg(word(alloc, "policy", "POLICY", help::POLICY))
+}
+
+// Whether a person is told more.
+fn explain<'a>(alloc: Global) -> Arg<'a> {
+    Arg::new(alloc, "explain")
+        .long("explain")
+        .help(help::EXPLAIN)
+        .action(ArgAction::SetTrue)
 }
 
 // An argument that is a word, such as the name of a file.

@@ -2,7 +2,7 @@
 use crate::bell::{CERTIFICATE, POLICY, TABLE};
 use crate::engine::{DENIAL, EMPTY_POLICY, has_ended};
 use crate::memory::{prepared, spend};
-use report::{OnAccept, Open, Watched, check, verify};
+use report::{OnAccept, Open, Silence, Watched, check, verify};
 use std::process::Abort;
 use std::test::Fail;
 use std::thread::Threads;
@@ -35,6 +35,7 @@ fn answers_check<R: Abort + AllocGlobal + Threads + Sync>(
         on_accept,
         1,
         &Open,
+        &mut Silence,
         &mut out,
     );
     has_ended(rt, end, status, &out.into_inner(), answer)
@@ -201,6 +202,7 @@ fn verifies<R: Abort + AllocGlobal + Threads + Sync>(rt: &R, count: u64) -> Resu
         &mut table,
         &mut policy,
         &mut certificate,
+        &mut Silence,
         &mut out,
     );
     has_ended(rt, end, 0, &out.into_inner(), VERIFIED)

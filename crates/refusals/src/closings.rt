@@ -4,7 +4,7 @@ use crate::edges::has_edges;
 use crate::engine::{EMPTY_POLICY, has_ended};
 use crate::memory::{NO_MEMORY, answered, lend, prepared, spend};
 use policy::Policy;
-use report::{OnClose, Watched, close, start, why};
+use report::{OnClose, Silence, Watched, close, start, why};
 use std::process::Abort;
 use std::test::Fail;
 
@@ -28,7 +28,13 @@ fn starts<R: Abort + AllocGlobal>(rt: &R, count: u64) -> Result<(), Fail> {
     let page = prepared(Vec::with_capacity(rt.alloc(), POLICY.len()))?;
     let mut table = Watched::new(TABLE.as_bytes());
     let mut out = Watched::new(page);
-    let end = start(rt.alloc(), &mut table, OnClose::Policy, &mut out);
+    let end = start(
+        rt.alloc(),
+        &mut table,
+        OnClose::Policy,
+        &mut Silence,
+        &mut out,
+    );
     has_ended(rt, end, 0, &out.into_inner(), POLICY)
 }
 
@@ -94,6 +100,7 @@ fn tells_missing<R: Abort + AllocGlobal>(rt: &R, count: u64) -> Result<(), Fail>
         &mut table,
         &mut policy,
         OnClose::Missing,
+        &mut Silence,
         &mut out,
     );
     has_ended(rt, end, 1, &out.into_inner(), LINES)
@@ -146,7 +153,15 @@ fn tells_why<R: Abort + AllocGlobal>(rt: &R, count: u64) -> Result<(), Fail> {
     let mut table = Watched::new(TABLE.as_bytes());
     let mut policy = Watched::new(POLICY.as_bytes());
     let mut out = Watched::new(page);
-    let end = why(rt.alloc(), &mut table, &mut policy, "a", "a", &mut out);
+    let end = why(
+        rt.alloc(),
+        &mut table,
+        &mut policy,
+        "a",
+        "a",
+        &mut Silence,
+        &mut out,
+    );
     has_ended(rt, end, 0, &out.into_inner(), "full\n")
 }
 

@@ -1,7 +1,7 @@
 //! The engine of `run`, for a log, for a denial and for a fault.
 use crate::bell::{LOG, POLICY, SCRIPT, TABLE};
 use crate::memory::{are, prepared, refused, spend};
-use report::{End, Watched, run};
+use report::{End, Silence, Watched, run};
 use std::process::Abort;
 use std::test::Fail;
 use std::thread::Threads;
@@ -38,6 +38,7 @@ fn answers<R: Abort + AllocGlobal + Threads + Sync>(
         &mut table,
         &mut policy,
         &mut script,
+        &mut Silence,
         &mut out,
     );
     has_ended(rt, end, status, &out.into_inner(), answer)

@@ -28,6 +28,8 @@ mod memory;
 #[cfg(test)]
 mod readers;
 #[cfg(test)]
+mod retypes;
+#[cfg(test)]
 mod states;
 #[cfg(test)]
 mod tables;

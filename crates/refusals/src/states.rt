@@ -66,7 +66,8 @@ fn runs_on<R: Abort + AllocGlobal>(rt: &R, state: &mut State) -> Result<(), Fail
     has_run(rt, answer, state, &outcomes)
 }
 
-fn booted<R: Abort + AllocGlobal>(rt: &R, table: &Table) -> Result<State, Fail>
+/// The boot state of a table.
+pub fn booted<R: Abort + AllocGlobal>(rt: &R, table: &Table) -> Result<State, Fail>
     ensures { IfOk result IsWellFormed }
 {
     prepared(boot(rt.alloc(), table))

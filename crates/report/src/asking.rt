@@ -9,7 +9,7 @@ ghost use Rattle.words.specs.Reading.{Reads};
 use crate::command::{Answer, Command, NoMemory};
 use crate::engine::carry_out;
 use crate::load::{Loaded, NoFile};
-use crate::{Asked, End, File, Sink, Source};
+use crate::{Asked, End, File, Listener, Sink, Source};
 use base::{Edge, Refusal};
 use captext::{Fault, write_edges};
 use policy::Why;
@@ -20,17 +20,19 @@ use table::Table;
 ///
 /// Writes `full` with status 0, or `cut` or `none` with status 1, each in a line of its own, and then the
 /// edges of one reason, as the policy has them; or the report of the first fault, with status 2.
-pub fn why<T, P, O>(
+pub fn why<T, P, L, O>(
     alloc: Global,
     table: &mut T,
     policy: &mut P,
     actor: &str,
     object: &str,
+    listener: &mut L,
     out: &mut O,
 ) -> End
 where
     T: Source,
     P: Source,
+    L: Listener,
     O: Sink,
     requires table { T.failed table.old ≡ false }
     requires policy { P.failed policy.old ≡ false }
@@ -39,7 +41,7 @@ where
         (input P.remaining P.failed policy.old policy.new) (output O.contents O.failed O.is_flushed out.old out.new) result }
 {
     let question = Question { actor, object };
-    carry_out(&question, alloc, table, policy, &mut NoFile, out)
+    carry_out(&question, alloc, table, policy, &mut NoFile, listener, out)
 }
 
 /// The command `why`, which has no third file.
@@ -115,14 +117,17 @@ fn why_answer(alloc: Global, table: &Table, why: &Why) -> Result<Answer, Refusal
         Why::Full(edges) => Ok(Answer {
             text: headed(alloc, "full\n", table, edges)?,
             status: 0,
+            denial: None,
         }),
         Why::Cut(edges) => Ok(Answer {
             text: headed(alloc, "cut\n", table, edges)?,
             status: 1,
+            denial: None,
         }),
         Why::Nothing => Ok(Answer {
             text: headed(alloc, "none\n", table, &[])?,
             status: 1,
+            denial: None,
         }),
     }
 }

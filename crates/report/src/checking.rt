@@ -9,7 +9,7 @@ use crate::command::{Answer, Command, NoMemory, denial_text};
 use crate::engine::carry_out;
 use crate::load::{Loaded, NoFile};
 use crate::reports::check_report;
-use crate::{Asked, End, File, Sink, Source};
+use crate::{Asked, End, File, Listener, Sink, Source};
 use captext::Fault;
 use checker::{Certificate, Gate, Verdict};
 use policy::Policy;
@@ -30,7 +30,7 @@ pub enum OnAccept {
 ///
 /// Writes the report or the certificate where they are accepted, with status 0; or the report of the
 /// denial, with status 1; or the report of the first fault, with status 2.
-pub fn check<R, G, T, P, O>(
+pub fn check<R, G, T, P, L, O>(
     rt: &R,
     alloc: Global,
     table: &mut T,
@@ -38,6 +38,7 @@ pub fn check<R, G, T, P, O>(
     on_accept: OnAccept,
     workers: usize,
     gate: &G,
+    listener: &mut L,
     out: &mut O,
 ) -> End
 where
@@ -45,6 +46,7 @@ where
     G: Gate + Sync,
     T: Source,
     P: Source,
+    L: Listener,
     O: Sink,
     requires table { T.failed table.old ≡ false }
     requires policy { P.failed policy.old ≡ false }
@@ -62,7 +64,7 @@ where
         on_accept,
         judge: &judge,
     };
-    carry_out(&command, alloc, table, policy, &mut NoFile, out)
+    carry_out(&command, alloc, table, policy, &mut NoFile, listener, out)
 }
 
 /// The command `check`, which has no third file.
@@ -147,10 +149,12 @@ fn told(
         Verdict::Accept(_, certificate) => Ok(Answer {
             text: accepted_text(alloc, table, policy, on_accept, certificate)?,
             status: 0,
+            denial: None,
         }),
         Verdict::Deny(denial) => Ok(Answer {
             text: denial_text(alloc, table, denial)?,
             status: 1,
+            denial: Some(*denial),
         }),
     }
 }

@@ -8,7 +8,7 @@ ghost use Rattle.report.specs.declared.end.File.TheVariants as file;
 use crate::command::{Answer, Command, NoMemory};
 use crate::engine::carry_out;
 use crate::load::{Loaded, NoFile};
-use crate::{Asked, End, File, ReadError, Sink, Source};
+use crate::{Asked, End, File, Listener, ReadError, Sink, Source};
 use base::{Edge, Refusal};
 use captext::{Fault, write_edges, write_policy};
 use kernel::each_table_has_one_boot_state;
@@ -33,16 +33,18 @@ pub enum OnClose {
 /// table keeps.
 ///
 /// Writes what is asked for; or the report of the first fault, with status 2.
-pub fn close<T, P, O>(
+pub fn close<T, P, L, O>(
     alloc: Global,
     table: &mut T,
     policy: &mut P,
     on_close: OnClose,
+    listener: &mut L,
     out: &mut O,
 ) -> End
 where
     T: Source,
     P: Source,
+    L: Listener,
     O: Sink,
     requires table { T.failed table.old ≡ false }
     requires policy { P.failed policy.old ≡ false }
@@ -56,6 +58,7 @@ where
         table,
         policy,
         &mut NoFile,
+        listener,
         out,
     )
 }
@@ -64,9 +67,16 @@ where
 const NO_EDGES: &[u8] = b"confine-policy 1\nend\n";
 
 /// Makes a policy for a table alone, as closing one without an edge does.
-pub fn start<T, O>(alloc: Global, table: &mut T, on_close: OnClose, out: &mut O) -> End
+pub fn start<T, L, O>(
+    alloc: Global,
+    table: &mut T,
+    on_close: OnClose,
+    listener: &mut L,
+    out: &mut O,
+) -> End
 where
     T: Source,
+    L: Listener,
     O: Sink,
     requires table { T.failed table.old ≡ false }
     requires out { O.failed out.old ≡ false }
@@ -74,7 +84,7 @@ where
         (output O.contents O.failed O.is_flushed out.old out.new) result }
 {
     let mut policy = Known { bytes: NO_EDGES };
-    close(alloc, table, &mut policy, on_close, out)
+    close(alloc, table, &mut policy, on_close, listener, out)
 }
 
 /// Bytes that are known beforehand: no device can fail.
@@ -160,6 +170,7 @@ fn closed(
         OnClose::Policy => Ok(Answer {
             text: write_policy(alloc, &closed, table)?,
             status: 0,
+            denial: None,
         }),
         OnClose::Missing => missing_answer(alloc, table, policy, &closed),
     }
@@ -179,6 +190,7 @@ fn missing_answer(
     Ok(Answer {
         text: write_edges(alloc, &missing, table)?,
         status: if missing.is_empty() { 0 } else { 1 },
+        denial: None,
     })
 }
 

@@ -19,11 +19,12 @@ use std::alloc::{AllocError, Global};
 use table::Table;
 use verdict::Denial;
 
-/// What is to be written, and the exit status.
+/// What is to be written, the exit status, and why the system is denied, if it is.
 #[derive(Drop)]
 pub(crate) struct Answer {
     pub text: Vec<u8>,
     pub status: u8,
+    pub denial: Option<Denial>,
 }
 
 /// Memory was refused.

@@ -8,7 +8,7 @@ ghost use Rattle.report.specs.Files.{Contents, Gives, IfUnlabelled, unread_by, u
 use crate::command::{Answer, Command};
 use crate::load::{Loaded, Stop, load};
 use crate::reports::fault_report;
-use crate::{Asked, End, File, Sink, Source};
+use crate::{Asked, End, File, Listener, Sink, Source};
 use std::alloc::Global;
 
 /// Why there is no answer.
@@ -20,12 +20,13 @@ pub(crate) enum Unanswered {
 }
 
 /// Carries a command out on its files, and writes its answer.
-pub(crate) fn carry_out<C, T, P, S, O>(
+pub(crate) fn carry_out<C, T, P, S, L, O>(
     command: &C,
     alloc: Global,
     table: &mut T,
     policy: &mut P,
     third: &mut S,
+    listener: &mut L,
     out: &mut O,
 ) -> End
 where
@@ -33,6 +34,7 @@ where
     T: Source,
     P: Source,
     S: Source,
+    L: Listener,
     O: Sink,
     requires command { C.may_judge command.now }
     requires table { T.failed table.old ≡ false }
@@ -43,8 +45,21 @@ where
         (input P.remaining P.failed policy.old policy.new) (input S.remaining S.failed third.old third.new)
         (output O.contents O.failed O.is_flushed out.old out.new) result }
 {
-    let loaded = load::<C, T, P, S>(alloc, table, policy, third);
-    write(out, answer(command, alloc, &loaded))
+    let loaded = load::<C, T, P, S, L>(alloc, table, policy, third, listener);
+    let answer = answer(command, alloc, &loaded);
+    announce(listener, &loaded, &answer);
+    write(out, answer)
+}
+
+/// Has the listener hear of an answer to what was loaded, if there is one.
+fn announce<X: Drop, L: Listener>(
+    listener: &mut L,
+    loaded: &Result<Loaded<X>, Stop>,
+    answer: &Result<Answer, Unanswered>,
+) {
+    if let (Ok(loaded), Ok(answer)) = (loaded, answer) {
+        listener.hear_answer(&loaded.table, &loaded.policy, answer.denial.as_ref());
+    }
 }
 
 /// The answer to what was loaded, or to why it wasn't.
@@ -69,7 +84,11 @@ fn answer<C: Command>(
             *file,
             fault.line,
         ) {
-            Ok(text) => Ok(Answer { text, status: 2 }),
+            Ok(text) => Ok(Answer {
+                text,
+                status: 2,
+                denial: None,
+            }),
             Err(_) => Err(Unanswered::NoMemory),
         },
         Err(Stop::CannotRead(file)) => Err(Unanswered::CannotRead(*file)),

@@ -6,7 +6,7 @@ ghost use Rattle.report.specs.Files.{Gives, IsDeviceStop, IsStopOf, LoadsAs, con
 ghost use Rattle.words.specs.Fault.{no_memory};
 
 use crate::command::Command;
-use crate::{File, ReadError, Source};
+use crate::{File, Listener, ReadError, Source};
 use captext::{Fault, read_policy, read_table};
 use policy::Policy;
 use std::alloc::Global;
@@ -58,20 +58,25 @@ fn read_file<S: Source>(alloc: Global, file: File, source: &mut S) -> Result<Vec
     }
 }
 
-/// A text's fault, or the want of memory that stands in its place.
-fn stopped(file: File, fault: Fault) -> Stop
+/// A text's fault, of which the listener hears, or the want of memory that stands in its place.
+fn stopped<L: Listener>(file: File, text: &[u8], fault: Fault, listener: &mut L) -> Stop
     ensures memory { fault ≡ no_memory → result ≡ Stop.NoMemory }
     ensures faulty { fault ≢ no_memory → result ≡ Stop.Faulty file fault }
 {
     if fault == Fault::MEMORY {
         Stop::NoMemory
     } else {
+        listener.hear_fault(file, text, fault);
         Stop::Faulty(file, fault)
     }
 }
 
 /// The table; the bytes are let go.
-fn load_table<S: Source>(alloc: Global, source: &mut S) -> Result<Table, Stop>
+fn load_table<S: Source, L: Listener>(
+    alloc: Global,
+    source: &mut S,
+    listener: &mut L,
+) -> Result<Table, Stop>
     requires { S.failed source.old ≡ false }
     ensures loaded { IfSome (S.remaining source.old) (λ bytes.
         LoadsAs (λ t. t) result (read_table_of bytes)) }
@@ -81,12 +86,17 @@ fn load_table<S: Source>(alloc: Global, source: &mut S) -> Result<Table, Stop>
     let bytes = read_file(alloc, File::Table, source)?;
     match read_table(alloc, &bytes) {
         Ok(table) => Ok(table),
-        Err(fault) => Err(stopped(File::Table, fault)),
+        Err(fault) => Err(stopped(File::Table, &bytes, fault, listener)),
     }
 }
 
 /// The policy, with the labels of the table; the bytes are let go.
-fn load_policy<S: Source>(alloc: Global, table: &Table, source: &mut S) -> Result<Policy, Stop>
+fn load_policy<S: Source, L: Listener>(
+    alloc: Global,
+    table: &Table,
+    source: &mut S,
+    listener: &mut L,
+) -> Result<Policy, Stop>
     requires { S.failed source.old ≡ false }
     ensures loaded { IfSome (S.remaining source.old) (λ bytes.
         LoadsAs (λ p. p) result (read_policy_of table.now bytes)) }
@@ -96,15 +106,16 @@ fn load_policy<S: Source>(alloc: Global, table: &Table, source: &mut S) -> Resul
     let bytes = read_file(alloc, File::Policy, source)?;
     match read_policy(alloc, &bytes, table) {
         Ok(policy) => Ok(policy),
-        Err(fault) => Err(stopped(File::Policy, fault)),
+        Err(fault) => Err(stopped(File::Policy, &bytes, fault, listener)),
     }
 }
 
 /// What the third file holds; its bytes are let go.
-fn load_third<C: Command, S: Source>(
+fn load_third<C: Command, S: Source, L: Listener>(
     alloc: Global,
     table: &Table,
     source: &mut S,
+    listener: &mut L,
 ) -> Result<C::Third, Stop>
     requires { S.failed source.old ≡ false }
     ensures loaded { IfSome (S.remaining source.old) (λ bytes.
@@ -115,16 +126,17 @@ fn load_third<C: Command, S: Source>(
     let bytes = read_file(alloc, C::third_file(), source)?;
     match C::read_third(alloc, table, &bytes) {
         Ok(third) => Ok(third),
-        Err(fault) => Err(stopped(C::third_file(), fault)),
+        Err(fault) => Err(stopped(C::third_file(), &bytes, fault, listener)),
     }
 }
 
 /// Loads the files one after another, up to the first that stops it.
-pub(crate) fn load<C: Command, T: Source, P: Source, S: Source>(
+pub(crate) fn load<C: Command, T: Source, P: Source, S: Source, L: Listener>(
     alloc: Global,
     table: &mut T,
     policy: &mut P,
     third: &mut S,
+    listener: &mut L,
 ) -> Result<Loaded<C::Third>, Stop>
     requires table { T.failed table.old ≡ false }
     requires policy { P.failed policy.old ≡ false }
@@ -135,9 +147,9 @@ pub(crate) fn load<C: Command, T: Source, P: Source, S: Source>(
         ⊎ HasPolicy (input T.remaining T.failed table.old table.new) (input P.remaining P.failed policy.old policy.new) }
     ensures unread { unread_of result ≡ first_failed C.third_file (T.failed table.new) (P.failed policy.new) (S.failed third.new) }
 {
-    let table = load_table(alloc, table)?;
-    let policy = load_policy(alloc, &table, policy)?;
-    let third = load_third::<C, S>(alloc, &table, third)?;
+    let table = load_table(alloc, table, listener)?;
+    let policy = load_policy(alloc, &table, policy, listener)?;
+    let third = load_third::<C, S, L>(alloc, &table, third, listener)?;
     Ok(Loaded {
         table,
         policy,

@@ -9,7 +9,7 @@ ghost use Rattle.report.specs.declared.end.File.TheVariants as file;
 use crate::command::{Answer, Command, NoMemory, denial_text};
 use crate::engine::carry_out;
 use crate::load::Loaded;
-use crate::{Asked, End, File, Sink, Source};
+use crate::{Asked, End, File, Listener, Sink, Source};
 use base::Refusal;
 use captext::Fault;
 use deal::Open;
@@ -25,12 +25,13 @@ use verdict::judge;
 ///
 /// Writes the log of the run, with status 0; or the report of the denial, with status 1; or the
 /// report of the first fault, with status 2.
-pub fn run<R, T, P, S, O>(
+pub fn run<R, T, P, S, L, O>(
     rt: &R,
     alloc: Global,
     table: &mut T,
     policy: &mut P,
     script: &mut S,
+    listener: &mut L,
     out: &mut O,
 ) -> End
 where
@@ -38,6 +39,7 @@ where
     T: Source,
     P: Source,
     S: Source,
+    L: Listener,
     O: Sink,
     requires table { T.failed table.old ≡ false }
     requires policy { P.failed policy.old ≡ false }
@@ -47,7 +49,7 @@ where
         (input P.remaining P.failed policy.old policy.new) (input S.remaining S.failed script.old script.new)
         (output O.contents O.failed O.is_flushed out.old out.new) result }
 {
-    carry_out(&Running { rt }, alloc, table, policy, script, out)
+    carry_out(&Running { rt }, alloc, table, policy, script, listener, out)
 }
 
 /// The command `run`.
@@ -90,10 +92,12 @@ impl<R: Threads + Sync> Command for Running<'_, R> {
             Ok(_) => Ok(Answer {
                 text: log_of_run(alloc, &loaded.table, &loaded.third)?,
                 status: 0,
+                denial: None,
             }),
             Err(denial) => Ok(Answer {
                 text: denial_text(alloc, &loaded.table, &denial)?,
                 status: 1,
+                denial: Some(denial),
             }),
         }
     }

@@ -10,7 +10,7 @@ use crate::command::{Answer, Command, NoMemory, denial_text};
 use crate::engine::carry_out;
 use crate::load::Loaded;
 use crate::reports::accept_report;
-use crate::{Asked, End, File, Sink, Source};
+use crate::{Asked, End, File, Listener, Sink, Source};
 use captext::Fault;
 use certificate::{Certificate, NotAccepted};
 use std::alloc::Global;
@@ -21,12 +21,13 @@ use table::Table;
 ///
 /// Writes the report that they are accepted and the certificate is the table's, with status 0; or the
 /// report of the denial, with status 1; or the report of the first fault, with status 2.
-pub fn verify<R, T, P, S, O>(
+pub fn verify<R, T, P, S, L, O>(
     rt: &R,
     alloc: Global,
     table: &mut T,
     policy: &mut P,
     certificate: &mut S,
+    listener: &mut L,
     out: &mut O,
 ) -> End
 where
@@ -34,6 +35,7 @@ where
     T: Source,
     P: Source,
     S: Source,
+    L: Listener,
     O: Sink,
     requires table { T.failed table.old ≡ false }
     requires policy { P.failed policy.old ≡ false }
@@ -43,7 +45,15 @@ where
         (input P.remaining P.failed policy.old policy.new) (input S.remaining S.failed certificate.old certificate.new)
         (output O.contents O.failed O.is_flushed out.old out.new) result }
 {
-    carry_out(&Verifying { rt }, alloc, table, policy, certificate, out)
+    carry_out(
+        &Verifying { rt },
+        alloc,
+        table,
+        policy,
+        certificate,
+        listener,
+        out,
+    )
 }
 
 /// The command `verify`.
@@ -86,10 +96,12 @@ impl<R: Threads + Sync> Command for Verifying<'_, R> {
             Ok(_) => Ok(Answer {
                 text: accept_report(alloc)?,
                 status: 0,
+                denial: None,
             }),
             Err(NotAccepted::Denied(denial)) => Ok(Answer {
                 text: denial_text(alloc, &loaded.table, &denial)?,
                 status: 1,
+                denial: Some(denial),
             }),
             Err(NotAccepted::NoMemory) => Err(NoMemory),
         }

@@ -3,7 +3,7 @@ use base::Refusal;
 use captext::{read_policy, read_table};
 use checker::{CheckError, Gate, Open};
 use policy::Policy;
-use report::{End, OnAccept, Watched};
+use report::{End, OnAccept, Silence, Watched};
 use std::process::Abort;
 use std::sync::atomic::{AtomicU64, Ordering};
 use std::test::Fail;
@@ -102,6 +102,7 @@ fn gate_check(rt: HostRuntime) {
         OnAccept::Certificate,
         3,
         &meeting,
+        &mut Silence,
         &mut out,
     );
     assert_eq!(rt; meeting.arrived.load(Ordering::SeqCst), 2);

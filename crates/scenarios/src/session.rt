@@ -2,7 +2,7 @@
 ghost use Rattle.std.specs.Prelude.{◌≡◌, false};
 
 use crate::failing::{Given, Page};
-use report::{End, File, OnClose, Sink, Source, Watched, close, run, why};
+use report::{End, File, OnClose, Silence, Sink, Source, Watched, close, run, why};
 use std::alloc::AllocGlobal;
 use std::test::Fail;
 use std::thread::Threads;
@@ -97,9 +97,16 @@ where
     requires out { O.failed out.old ≡ false }
 {
     match command {
-        Command::Run => run(rt, rt.alloc(), table, policy, script, out),
-        Command::Close => close(rt.alloc(), table, policy, OnClose::Policy, out),
-        Command::Why => why(rt.alloc(), table, policy, "a", "b", out),
+        Command::Run => run(rt, rt.alloc(), table, policy, script, &mut Silence, out),
+        Command::Close => close(
+            rt.alloc(),
+            table,
+            policy,
+            OnClose::Policy,
+            &mut Silence,
+            out,
+        ),
+        Command::Why => why(rt.alloc(), table, policy, "a", "b", &mut Silence, out),
     }
 }
 

@@ -1,0 +1,104 @@
+use crate::request::{Invocation, Request};
+use captext::{read_table, write_table};
+use explain::{Text, explain_closing, explain_denial, explain_fault};
+use policy::Policy;
+use report::{End, Fault, File, Listener};
+use std::alloc::{AllocError, Global};
+use std::thread::Threads;
+use table::Table;
+use verdict::Denial;
+
+/// Tells a person on standard error what a command finds, if that was asked for. That standard error can't
+/// be written to, or that memory is refused to a sentence, changes nothing.
+#[derive(Drop)]
+pub struct Explainer<'a, R> {
+    rt: &'a R,
+    invocation: Invocation<'a>,
+    /// Copies of a table and of the policy that was to be closed over it.
+    closed: Option<(Table, Policy)>,
+}
+
+impl<'a, R: AllocGlobal + Eprint> Explainer<'a, R> {
+    pub fn new(rt: &'a R, invocation: Invocation<'a>) -> Explainer<'a, R> {
+        Explainer {
+            rt,
+            invocation,
+            closed: None,
+        }
+    }
+
+    /// A table, and the policy that was to be closed over it, if that is to be explained.
+    pub fn closed(&self) -> Option<&(Table, Policy)> {
+        self.closed.as_ref()
+    }
+
+    /// Tells which file couldn't be read, if one couldn't.
+    pub fn hear_end(&self, end: End) {
+        if let (true, End::CannotRead(file)) = (self.invocation.explains, end) {
+            let name = self.invocation.request.name_of(file);
+            self.tell(format!(in self.rt.alloc();
+                "`{name}` is to be the {file}: is it there, and may it be read?"
+            ));
+        }
+    }
+
+    fn tell(&self, sentence: Result<String, AllocError>) {
+        if let Ok(sentence) = sentence {
+            let _ = self.rt.eprintln(sentence);
+        }
+    }
+}
+
+impl<R: AllocGlobal + Eprint> Listener for Explainer<'_, R> {
+    fn hear_fault(&mut self, file: File, text: &[u8], fault: Fault) {
+        if self.invocation.explains {
+            let name = self.invocation.request.name_of(file);
+            self.tell(explain_fault(self.rt.alloc(), text_of(file), name, text, fault));
+        }
+    }
+
+    fn hear_answer(&mut self, table: &Table, policy: &Policy, denial: Option<&Denial>) {
+        if !self.invocation.explains {
+            return;
+        }
+        match (denial, self.invocation.request) {
+            (Some(denial), _) => self.tell(explain_denial(self.rt.alloc(), table, denial)),
+            (None, Request::Close { .. }) => self.closed = copies(self.rt.alloc(), table, policy),
+            (None, _) => {}
+        }
+    }
+}
+
+/// Tells what asks for each edge that a policy lacks.
+pub fn tell_closing<R: AllocGlobal + Eprint + Threads + Sync>(
+    rt: &R,
+    table: &Table,
+    policy: &Policy,
+) {
+    if let Ok(lines) = explain_closing(rt, rt.alloc(), table, policy) {
+        let _ = rt.eprint(lines);
+    }
+}
+
+/// Copies of a table and a policy, if memory isn't refused.
+fn copies(alloc: Global, table: &Table, policy: &Policy) -> Option<(Table, Policy)> {
+    let mut copy = Policy::new(alloc);
+    for edge in policy.edges(alloc).ok()?.iter() {
+        copy.add(*edge).ok()?;
+    }
+    let text = write_table(alloc, table).ok()?;
+    match read_table(alloc, &text) {
+        Ok(table) => Some((table, copy)),
+        Err(_) => None,
+    }
+}
+
+/// The kind of text that a file holds.
+fn text_of(file: File) -> Text {
+    match file {
+        File::Table => Text::Table,
+        File::Policy => Text::Policy,
+        File::Certificate => Text::Certificate,
+        File::Script => Text::Script,
+    }
+}

@@ -1,0 +1,89 @@
+ghost use Rattle.std.specs.Prelude.{◌≡◌, false, Some};
+ghost use Rattle.base.specs.declared.edge.Edge.{Edge as EdgeOf};
+ghost use Rattle.explain.specs.Asked.{edge_asked, edge_by_rule, joined};
+ghost use Rattle.machine.specs.Layout.{Layout};
+ghost use Rattle.policy.specs.Domain.{EdgeTest};
+ghost use Rattle.verdict.specs.Verdict.{IsLeastBroken};
+ghost use Rattle.verdict.specs.declared.denial.Denial.{Denial as DenialOf};
+
+use base::{Edge, Kind, Label};
+use labels::declared_label;
+use policy::Broken;
+use table::Table;
+use verdict::Denial;
+
+/// The edge that a denial asks for, if one edge would mend it.
+///
+/// P1 doesn't tell which of two labels lacks the edge, and no edge mends a certificate.
+pub fn asked_edge(table: &Table, denial: &Denial) -> Option<Edge>
+    ensures { result ≡ edge_asked table.now denial.now }
+{
+    match *denial {
+        Denial::Policy(broken) => edge_by_rule(broken),
+        Denial::Capability { slot, kind, label } => {
+            joined(declared_label(table, slot.holder), kind, Some(label))
+        }
+        Denial::Root { slot, label } => joined(
+            declared_label(table, slot.holder),
+            Kind::Space,
+            Some(label),
+        ),
+        Denial::Pair { child, parent } => joined(
+            declared_label(table, parent.holder),
+            Kind::Derive,
+            declared_label(table, child.holder),
+        ),
+        Denial::Binding { thread, context } => joined(
+            declared_label(table, thread),
+            Kind::Runs,
+            declared_label(table, context),
+        ),
+        Denial::Certificate { .. } => None,
+    }
+}
+
+// The edge that a rule of closed policies asks for.
+fn edge_by_rule(broken: Broken) -> Option<Edge>
+    ensures { result ≡ edge_by_rule broken }
+{
+    let (from, kind, to) = match broken {
+        Broken::SubjectsDisagree { .. } => return None,
+        Broken::ControlLacks {
+            subject,
+            kind,
+            object,
+        } => (subject, kind, object),
+        Broken::GrantLacks {
+            taker,
+            kind,
+            target,
+            ..
+        } => (taker, kind, target),
+        Broken::DomainLacks { parent, child } | Broken::DeriveLacks { parent, child } => {
+            (parent, Kind::Derive, child)
+        }
+        Broken::ContextLacks { subject, context } => (subject, Kind::Runs, context),
+        Broken::ReplyLacks { reply, thread } => (reply, Kind::Holds, thread),
+    };
+    Some(Edge { from, kind, to })
+}
+
+// The edge between two labels, where there are both.
+fn joined(from: Option<Label>, kind: Kind, to: Option<Label>) -> Option<Edge>
+    ensures { result ≡ joined from kind to }
+{
+    Some(Edge {
+        from: from?,
+        kind,
+        to: to?,
+    })
+}
+
+/// A law about denials, with nothing to run: the edge that the verdict's denial asks for is one that
+/// the policy lacks.
+pub fn an_asked_edge_is_missing()
+    ensures { (t : Layout) (allowed : EdgeTest) (denied : DenialOf) (edge : EdgeOf)
+        → IsLeastBroken t allowed denied
+        → edge_asked t denied ≡ Some edge
+        → allowed edge.from edge.kind edge.to ≡ false }
+{}

@@ -1,0 +1,92 @@
+use crate::asked::asked_edge;
+use crate::denials::explain_edge;
+use base::{Edge, Refusal};
+use deal::Open;
+use policy::{Broken, Policy};
+use std::alloc::{AllocError, Global};
+use std::thread::Threads;
+use table::Table;
+use verdict::{Denial, judge};
+
+/// As many edges as there may be: from each label, of each kind, to each label.
+const MOST_EDGES: usize = 64 * 17 * 64;
+
+/// A line for each edge that a policy lacks: the rule and the place that ask for it, and the edge, as
+/// `A1 space.0: edge app await bell`.
+///
+/// Each is what the verdict asks for first, where the edges of the lines before are there. So each line costs a verdict.
+pub fn explain_closing<R: Threads + Sync>(
+    rt: &R,
+    alloc: Global,
+    table: &Table,
+    policy: &Policy,
+) -> Result<String, Refusal> {
+    let mut closed = Policy::new(alloc);
+    for edge in policy.edges(alloc)?.iter() {
+        closed.add(*edge)?;
+    }
+    let mut lines = String::new(alloc);
+    for _ in 0..MOST_EDGES {
+        match first_line(rt, alloc, table, &closed)? {
+            Some((edge, line)) => {
+                closed.add(edge)?;
+                lines.push_str(&line)?;
+                lines.push('\n')?;
+            }
+            None => break,
+        }
+    }
+    Ok(lines)
+}
+
+/// The edge that the verdict asks for first, and the line for it, if the policy lacks one.
+fn first_line<R: Threads + Sync>(
+    rt: &R,
+    alloc: Global,
+    table: &Table,
+    policy: &Policy,
+) -> Result<Option<(Edge, String)>, Refusal> {
+    match judge(rt, alloc, table, policy, 1, &Open)? {
+        Ok(_) => Ok(None),
+        Err(denial) => Ok(line_of(alloc, table, policy, &denial)?),
+    }
+}
+
+/// The edge that a denial asks for, and the line for it, if one edge would mend it.
+fn line_of(
+    alloc: Global,
+    table: &Table,
+    policy: &Policy,
+    denial: &Denial,
+) -> Result<Option<(Edge, String)>, AllocError> {
+    match mending_edge(table, policy, denial) {
+        Some(edge) => Ok(Some((edge, explain_edge(alloc, table, denial, edge)?))),
+        None => Ok(None),
+    }
+}
+
+/// The edge that a policy lacks where it is denied so: of the two for which P1 asks, the one that isn't there.
+fn mending_edge(table: &Table, policy: &Policy, denial: &Denial) -> Option<Edge> {
+    match *denial {
+        Denial::Policy(
+            Broken::SubjectsDisagree {
+                subject,
+                other,
+                kind,
+                target,
+            },
+        ) => {
+            let edge_from = |from| Edge {
+                from,
+                kind,
+                to: target,
+            };
+            if policy.has(edge_from(subject)) {
+                Some(edge_from(other))
+            } else {
+                Some(edge_from(subject))
+            }
+        }
+        _ => asked_edge(table, denial),
+    }
+}

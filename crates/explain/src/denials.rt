@@ -1,0 +1,78 @@
+use crate::asked::asked_edge;
+use crate::sentences::{EdgeLine, OtherWay, PlaceNames, Reason};
+use base::Edge;
+use policy::Broken;
+use std::alloc::{AllocError, Global};
+use table::Table;
+use verdict::Denial;
+
+/// Which edges a denial asks for.
+#[derive(Clone, Copy)]
+enum Asked {
+    Edge(Edge),
+    /// The one of the two that the policy lacks.
+    OneOf(Edge, Edge),
+    Nothing,
+}
+
+fn asked_of(table: &Table, denial: &Denial) -> Asked {
+    if let Denial::Policy(
+        Broken::SubjectsDisagree {
+            subject,
+            other,
+            kind,
+            target,
+        },
+    ) = *denial
+    {
+        let edge_from = |from| Edge {
+            from,
+            kind,
+            to: target,
+        };
+        return Asked::OneOf(edge_from(subject), edge_from(other));
+    }
+    match asked_edge(table, denial) {
+        Some(edge) => Asked::Edge(edge),
+        None => Asked::Nothing,
+    }
+}
+
+/// Why a table and a policy are denied, in a sentence, and what may be done.
+///
+/// P1 asks for one of two edges, and the sentence names both.
+pub fn explain_denial(alloc: Global, table: &Table, denial: &Denial) -> Result<String, AllocError> {
+    let rule = denial.rule();
+    let reason = Reason { table, denial };
+    let other = OtherWay { table, denial };
+    match asked_of(table, denial) {
+        Asked::Edge(edge) => {
+            let line = EdgeLine { table, edge };
+            format!(in alloc;
+                "denied by {rule}: {reason}, and the policy has no such edge: add `{line}`, or {other}"
+            )
+        }
+        Asked::OneOf(one, two) => {
+            let one = EdgeLine { table, edge: one };
+            let two = EdgeLine { table, edge: two };
+            format!(in alloc;
+                "denied by {rule}: {reason}: add the missing one of `{one}` and `{two}`, or {other}"
+            )
+        }
+        Asked::Nothing => format!(in alloc; "denied by {rule}: {reason}: {other}"),
+    }
+}
+
+/// The line for an edge that closing adds: the rule and the place that ask for it, and the edge, as
+/// `A1 space.0: edge app await bell`.
+pub(crate) fn explain_edge(
+    alloc: Global,
+    table: &Table,
+    denial: &Denial,
+    edge: Edge,
+) -> Result<String, AllocError> {
+    let rule = denial.rule();
+    let place = PlaceNames { table, denial };
+    let line = EdgeLine { table, edge };
+    format!(in alloc; "{rule} {place}: {line}")
+}
