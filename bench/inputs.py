@@ -168,6 +168,58 @@ def all_done(events):
     return text("confine-log 1", [f"{event} = done" for event in events])
 
 
+# Objects made of untyped memory: endpoints, whose capabilities fill fifteen CNodes of 2^12 slots each. The thread's CNode has
+# 2^9: the capabilities of the memory that is made first, those of these CNodes, its own and that of all the memory.
+NODES, NODE_RADIX = 15, 12
+NODE_SLOTS = 2**NODE_RADIX
+ROOT_RADIX = 9
+FIRST_NODE, ROOT, MEMORY = 495, 510, 511
+ROOT_GUARD = 64 - ROOT_RADIX
+MEMORY_BITS = 24
+# A call makes at most so many objects.
+MOST_MADE = 16
+THREAD = NODES + 1
+
+
+def memory_table():
+    """A thread with untyped memory, and with CNodes that are empty."""
+    lines = ["label a", f"cnode c a 0x10000 {ROOT_RADIX}"]
+    lines.extend(f"cnode n{i} a {0x1000000 + i * 0x20000:#x} {NODE_RADIX}" for i in range(NODES))
+    lines.extend(["tcb t a 0x4000 ready", "context x a 0x5000 0 10 10"])
+    lines.append(f"untyped u a {1 << (MEMORY_BITS + 4):#x} {MEMORY_BITS}")
+    lines.extend(f"cap c.{FIRST_NODE + i} n{i} 0 0x0" for i in range(NODES))
+    lines.extend([f"cap c.{ROOT} c {ROOT_GUARD} 0x0", f"cap c.{MEMORY} u", f"cap t.root c {ROOT_GUARD} 0x0", "bind t x"])
+    return text("confine-table 1", lines)
+
+
+def made_endpoints(objects, at_once, leaves):
+    """The events by which so many endpoints are made, so many at once, of pieces of memory in turn.
+
+    The pieces are named by their slots in the thread's CNode.
+    """
+    events = []
+    for k in range(0, objects, at_once):
+        count = min(at_once, objects - k)
+        leaf = leaves[k // at_once % len(leaves)]
+        node, offset = divmod(k, NODE_SLOTS)
+        events.append(f"0 {THREAD} retype {leaf} endpoint 0 {FIRST_NODE + node} {offset} {count}")
+    return events
+
+
+def made_memory():
+    """The events that make sixteen pieces of all the memory, and sixteen of each of these; the slots of these last."""
+    events = [f"0 {THREAD} retype {MEMORY} untyped {MEMORY_BITS - 4} {ROOT} 0 {MOST_MADE}"]
+    for i in range(MOST_MADE):
+        first = MOST_MADE * (i + 1)
+        events.append(f"0 {THREAD} retype {i} untyped {MEMORY_BITS - 8} {ROOT} {first} {MOST_MADE}")
+    return events, range(MOST_MADE, MOST_MADE * (MOST_MADE + 1))
+
+
+def all_made(events):
+    """The log in which each retype is done."""
+    return text("confine-log 1", [f"{event} = done count {event.rsplit(' ', 1)[1]}" for event in events])
+
+
 # The full tables: all nine kinds of object, nearly all slots filled, and a derivation tree. With 448 groups there are
 # 4,096 objects, 58,000 filled slots of 58,240, and 20,000 pairs. A CNode of them has 2^7 slots.
 FULL_RADIX = 7

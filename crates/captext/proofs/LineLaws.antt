@@ -1,10 +1,6 @@
 -- What the steps of a table's line say where it was read: the words it has, the tests it passed, and the item it adds.
 use Rattle.std.proofs.Common.{◌≡◌, ℕ, Bool, true, false, cond, List, [], ◌∷◌, Option, Some, None, Result, Ok, refl, ap, subst, ◌∙◌}
-use Rattle.std.specs.Bool.{Decides}
-use Rattle.std.specs.List.{find, AllByRecursion}
-use Rattle.std.specs.Str.{bytes_eq}
 use Rattle.std.proofs.lemmas.Bool.{and_parts, and_from}
-use Rattle.std.proofs.lemmas.Slice.Eq.{bytes_eq-Decides}
 use Rattle.machine.specs.Layout.{Layout}
 use Rattle.table.specs.Items.{Item, BeforeBindings, BeforePairs, BeforeCaps, BeforeObjects}
 use Rattle.words.specs.declared.faults.Wrong.{Wrong}
@@ -26,19 +22,6 @@ pub spelled_then : {V Y : Type 0} (o : Option V) (f : V → Result Y Wrong) (y :
 unfolding bind or_syntax
 spelled_then (Some v) f y h = (v, refl, h)
 spelled_then None f y h = cc
-
--- a word that was found among the words of values is the word of the one that was found
-pub found_word : {X : Type 0} (spell : X → List ℕ) (P : X → Type 0) (word : List ℕ) (xs : List X) (x : X) → AllByRecursion P xs
-    → find (λ y. bytes_eq word (spell y)) xs ≡ Some x → (word ≡ spell x) × P x
-found_word spell P word [] x all h = cc
-found_word spell P word (first ∷ xs) x all h =
-    by (bytes_eq word (spell first)) (bytes_eq-Decides word (spell first)) (found_word spell P word xs x all.1) h
-  where
-    by : (same : Bool) → Decides same (word ≡ spell first)
-        → (find (λ y. bytes_eq word (spell y)) xs ≡ Some x → (word ≡ spell x) × P x)
-        → cond same (Some first) (find (λ y. bytes_eq word (spell y)) xs) ≡ Some x → (word ≡ spell x) × P x
-    by true same later h = let is : first ≡ x = cc in subst (λ y. (word ≡ spell y) × P y) is (same.0 refl, all.0)
-    by false same later h = later h
 
 pub same_ok : {X : Type 0} (x y : X) → ◌≡◌ {A = Result X Wrong} (Ok x) (Ok y) → x ≡ y
 same_ok x y h = cc

@@ -5,6 +5,7 @@ use Rattle.std.proofs.lemmas.List.{append-nil}
 use Rattle.base.specs.declared.label.TheConstants.Label as Label
 use Rattle.machine.specs.declared.layout.Initial.{Initial}
 use Rattle.machine.specs.declared.object.ObjectKind.{ObjectKind}
+use Rattle.machine.specs.KindWords.{object_kind_word}
 use Rattle.machine.specs.Layout.{Layout}
 use Rattle.machine.specs.Objects.{kind_of_object}
 use Rattle.table.specs.Building.{AdmitsObject, is_free, repeats_control, with_label, with_initial}
@@ -18,7 +19,6 @@ use Rattle.words.specs.Reading.{bind, ended_at}
 use Rattle.words.proofs.Parts.{name_part, part_then}
 use Rattle.words.proofs.WordLaws.{bind_ok, ended_then}
 use Rattle.captext.specs.PolicyText.{label_name}
-use Rattle.captext.specs.Spelling.{object_kind_word}
 use Rattle.captext.specs.Tables.{takes_objects, takes_labels, label_line, heading, is_within, declared, limited, content_at, object_line}
 use Rattle.captext.specs.TableText.{content_words}
 use Rattle.captext.proofs.LineLaws.{TakesItem, then_words, same_ok, objects_take, labels_take, objects_again, labels_again}

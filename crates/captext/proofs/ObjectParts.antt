@@ -18,6 +18,7 @@ use Rattle.machine.specs.declared.object.ReplyState.TheVariants as reply
 use Rattle.machine.specs.declared.thread.RunState.{RunState}
 use Rattle.machine.specs.declared.thread.RunState.TheVariants as run
 use Rattle.machine.specs.Objects.{kind_of_object, end_of}
+use Rattle.machine.proofs.KindWords.{found_word}
 use Rattle.table.specs.Rules.{IsAtRest, IsBlank, IsWithinLimits}
 use Rattle.words.specs.Number.{number_at}
 use Rattle.words.specs.Parts.{in_turn, read_as, IsPart}
@@ -27,7 +28,7 @@ use Rattle.words.proofs.Parts.{both_parts, hex_part, number_part, read_as_again,
 use Rattle.words.proofs.WordLaws.{bind_ok, plain_bytes}
 use Rattle.captext.specs.Tables.{start_of, start_at, share_of, share_at, is_limited_share, is_limited, limited, content_at, untyped_of, cnode_of, thread_of, endpoint_of, notification_of, reply_of, context_of, frame_of, control_of}
 use Rattle.captext.specs.TableText.{start_word, share_words, content_words}
-use Rattle.captext.proofs.LineLaws.{found_word, same_ok}
+use Rattle.captext.proofs.LineLaws.{same_ok}
 use Rattle.captext.proofs.SlotLaws.{no_number}
 
 abbrev IsNumber : ℕ → Type 0

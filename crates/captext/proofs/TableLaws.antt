@@ -10,8 +10,10 @@ use Rattle.base.specs.declared.ids.SlotRef.{SlotRef}
 use Rattle.machine.specs.declared.layout.Filled.{Filled}
 use Rattle.machine.specs.declared.object.ObjectKind.{ObjectKind}
 use Rattle.machine.specs.declared.object.ObjectKind.TheVariants as kind
+use Rattle.machine.specs.KindWords.{object_kind_of, object_kind_word}
 use Rattle.machine.specs.Layout.{Layout, empty_layout, initial_of}
 use Rattle.machine.specs.Objects.{kind_of_object}
+use Rattle.machine.proofs.KindWords.{kind_takes}
 use Rattle.table.specs.Items.{Item, LabelItem, ObjectItem, CapItem, PairItem, BindingItem, Admits, ComesNow, IsBuiltUp, none, more, with_item}
 use Rattle.table.specs.Rules.{IsDraft, IsLawful, kind_at}
 use Rattle.table.specs.Tree.{is_kin, tree_fault, with_mark, with_originals}
@@ -24,13 +26,12 @@ use Rattle.words.proofs.TextLaws.{both}
 use Rattle.words.proofs.TextReading.{whole_text_takes, whole_text_again}
 use Rattle.words.proofs.WordLaws.{bind_ok, word_then, plain_bytes, plain_name}
 use Rattle.captext.specs.PolicyText.{label_name}
-use Rattle.captext.specs.Spelling.{object_kinds, object_kind_word}
-use Rattle.captext.specs.Tables.{object_line, object_kind_of, declaration, line_by, table_line, grown, grown_by, table_format, read_table_of}
+use Rattle.captext.specs.Tables.{object_line, declaration, line_by, table_line, grown, grown_by, table_format, read_table_of}
 use Rattle.captext.specs.TableText.{table_header, content_words, object_name, cap_words, item_words, label_lines, object_lines, pair_lines, binding_lines, table_lines, table_text, IsLineOf}
 use Rattle.captext.proofs.BindLines.{bind_line_takes, bind_line_again, has_name}
 use Rattle.captext.proofs.CapLines.{cap_line_takes}
 use Rattle.captext.proofs.CapTexts.{cap_line_again, cap_plain}
-use Rattle.captext.proofs.LineLaws.{TakesItem, spelled_then, found_word}
+use Rattle.captext.proofs.LineLaws.{TakesItem, spelled_then}
 use Rattle.captext.proofs.NameLaws.{is_label_name, is_object_name}
 use Rattle.captext.proofs.ObjectLines.{label_line_takes, label_line_again, object_line_takes, object_line_again}
 use Rattle.captext.proofs.ObjectParts.{plain_content}
@@ -47,13 +48,6 @@ chosen t next keyword key words here other h this that = by (bytes_eq keyword ke
   by : (same : Bool) → Decides same (keyword ≡ key) → cond same here other ≡ Ok next → TakesItem t (keyword ∷ words) next
   by true same h = subst (λ k. TakesItem t (k ∷ words) next) (sym (same.0 refl)) (this h)
   by false same h = that h
-
--- a word that names a kind begins the lines of its objects
-kind_takes : (word : List ℕ) (kind : ObjectKind) → object_kind_of word ≡ Some kind → word ≡ object_kind_word kind
-unfolding object_kind_of
-kind_takes word kind h =
-    (found_word object_kind_word (λ (kind : ObjectKind). ⊤) word object_kinds kind
-    (tt, (tt, (tt, (tt, (tt, (tt, (tt, (tt, (tt, tt))))))))) h).0
 
 line_by_takes : (t next : Layout) (keyword : List ℕ) (words : List (List ℕ)) → line_by keyword t words ≡ Ok next
     → TakesItem t (keyword ∷ words) next

@@ -1,32 +1,13 @@
--- How the parts of a table's lines are spelled: kinds of object, slots, as `NAME.DEC` or `NAME.root`, and terms, as rights or
+-- How the parts of a table's lines are spelled: slots, as `NAME.DEC` or `NAME.root`, and terms, as rights or
 -- numbers (confine's own).
 use Rattle.std.specs.Prelude.{⊤, ℕ, ◌<◌, ◌^◌, List, [], ◌∷◌, ◌++◌, codes, Option, Some, None}
 use Rattle.std.specs.Fmt.{decimal}
 use Rattle.base.specs.Rights.{rights_word, IsRights}
-use Rattle.machine.specs.declared.object.ObjectKind.{ObjectKind}
-use Rattle.machine.specs.declared.object.ObjectKind.TheVariants as kind
 use Rattle.words.specs.Number.{hexadecimal}
 use Rattle.captext.specs.declared.shapes.Place.{Place}
 use Rattle.captext.specs.declared.shapes.Place.TheVariants as place
 use Rattle.captext.specs.declared.shapes.Term.{Term}
 use Rattle.captext.specs.declared.shapes.Term.TheVariants as term
-
--- the word that begins the line of an object of a kind
-abbrev pub object_kind_word : ObjectKind → List ℕ
-object_kind_word kind.Untyped = codes "untyped"
-object_kind_word kind.CNode = codes "cnode"
-object_kind_word kind.Tcb = codes "tcb"
-object_kind_word kind.Endpoint = codes "endpoint"
-object_kind_word kind.Notification = codes "notification"
-object_kind_word kind.Reply = codes "reply"
-object_kind_word kind.Context = codes "context"
-object_kind_word kind.Frame = codes "frame"
-object_kind_word kind.Control = codes "control"
-
-abbrev pub object_kinds : List ObjectKind
-object_kinds =
-    kind.Untyped ∷ kind.CNode ∷ kind.Tcb ∷ kind.Endpoint ∷ kind.Notification ∷ kind.Reply ∷ kind.Context ∷ kind.Frame
-    ∷ kind.Control ∷ []
 
 -- a place within a holder
 abbrev pub place_word : Place → List ℕ

@@ -19,6 +19,7 @@ use Rattle.machine.specs.declared.object.ObjectKind.TheVariants as kind
 use Rattle.machine.specs.declared.object.Share.{Share}
 use Rattle.machine.specs.declared.thread.RunState.{RunState}
 use Rattle.machine.specs.declared.thread.RunState.TheVariants as run
+use Rattle.machine.specs.KindWords.{object_kind_word}
 use Rattle.machine.specs.Layout.{Layout}
 use Rattle.machine.specs.Objects.{kind_of_object}
 use Rattle.table.specs.Items.{Item, LabelItem, ObjectItem, CapItem, PairItem, BindingItem, Admits, ComesNow, with_item}
@@ -29,7 +30,7 @@ use Rattle.words.specs.Text.{words_of, text_of}
 use Rattle.captext.specs.declared.shapes.Place.{Place}
 use Rattle.captext.specs.declared.shapes.Place.TheVariants as place
 use Rattle.captext.specs.PolicyText.{label_name}
-use Rattle.captext.specs.Spelling.{object_kind_word, slot_word}
+use Rattle.captext.specs.Spelling.{slot_word}
 
 abbrev pub table_header : List (List ℕ)
 table_header = words_of (codes "confine-table 1")

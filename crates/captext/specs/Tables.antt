@@ -20,6 +20,7 @@ use Rattle.machine.specs.declared.object.Share.{Share}
 use Rattle.machine.specs.declared.thread.Inbox.TheVariants as inbox
 use Rattle.machine.specs.declared.thread.RunState.{RunState}
 use Rattle.machine.specs.declared.thread.RunState.TheVariants as run
+use Rattle.machine.specs.KindWords.{object_kind_of}
 use Rattle.machine.specs.Layout.{Layout, empty_layout, initial_of}
 use Rattle.machine.specs.Objects.{end_of}
 use Rattle.table.specs.Building.{declares_slot, has_cap_to, has_room, repeats_control, is_free, is_above_caps, is_above_pairs, is_above_bindings, is_bound, with_label, with_initial, with_filled, with_pair, with_binding}
@@ -40,7 +41,6 @@ use Rattle.captext.specs.declared.shapes.Place.TheVariants as place
 use Rattle.captext.specs.declared.shapes.Term.{Term}
 use Rattle.captext.specs.declared.shapes.Term.TheVariants as term
 use Rattle.captext.specs.Shapes.{slot_at, terms_at}
-use Rattle.captext.specs.Spelling.{object_kinds, object_kind_word}
 use Rattle.captext.specs.TableText.{start_word}
 use Rattle.base.specs.declared.rights.Rights.{Rights}
 
@@ -194,10 +194,6 @@ object_line kind t words = do
   object ← value_or wrong.Limit told.0
   _ ← demand (not (repeats_control t object)) wrong.Double
   declared t name.0 number object
-
--- the kind of object that a word names
-unfoldable pub object_kind_of : List ℕ → Option ObjectKind
-object_kind_of word = find (λ kind. bytes_eq word (object_kind_word kind)) object_kinds
 
 -- the slot at a place of a holder
 abbrev pub slot_in : ObjId → Place → SlotRef

@@ -295,31 +295,3 @@ fn control(words: &mut Words<'_>) -> Result<Option<Object>, Wrong>
         None => Ok(None),
     }
 }
-
-/// The kind of object that a word names.
-#[tactic(auto, unfolding(crate::specs::Tables::object_kind_of))]
-pub fn object_kind_of(word: &[u8]) -> Option<ObjectKind>
-    ensures { result ≡ text.object_kind_of word.now }
-{
-    if word == b"untyped".as_slice() {
-        Some(ObjectKind::Untyped)
-    } else if word == b"cnode".as_slice() {
-        Some(ObjectKind::CNode)
-    } else if word == b"tcb".as_slice() {
-        Some(ObjectKind::Tcb)
-    } else if word == b"endpoint".as_slice() {
-        Some(ObjectKind::Endpoint)
-    } else if word == b"notification".as_slice() {
-        Some(ObjectKind::Notification)
-    } else if word == b"reply".as_slice() {
-        Some(ObjectKind::Reply)
-    } else if word == b"context".as_slice() {
-        Some(ObjectKind::Context)
-    } else if word == b"frame".as_slice() {
-        Some(ObjectKind::Frame)
-    } else if word == b"control".as_slice() {
-        Some(ObjectKind::Control)
-    } else {
-        None
-    }
-}

@@ -12,7 +12,8 @@ ghost use Rattle.words.specs.Reading.{GivesOrStops, Reads};
 ghost use Rattle.words.specs.Text.{lines_of};
 
 use crate::caps::{bind_line, cap_line, child_line};
-use crate::objects::{label_line, object_kind_of, object_line};
+use crate::objects::{label_line, object_line};
+use machine::ObjectKind;
 use std::alloc::Global;
 use table::{Draft, Table, lawful_tables_are_built_up};
 use words::{Fault, LineError, Lines, Words, Wrong};
@@ -33,7 +34,7 @@ fn table_line(draft: &mut Draft, words: &mut Words<'_>) -> Result<(), LineError>
     } else if keyword == b"bind".as_slice() {
         bind_line(draft, words)
     } else {
-        let kind = object_kind_of(keyword).ok_or(Wrong::Syntax)?;
+        let kind = ObjectKind::from_name(keyword).ok_or(Wrong::Syntax)?;
         object_line(draft, kind, words)
     }
 }

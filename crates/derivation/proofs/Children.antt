@@ -8,10 +8,10 @@ use Rattle.machine.specs.Machine.{Machine, parent_of, same_slot, with_parent, wi
 use Rattle.machine.proofs.Exchange.{slot_itself}
 use Rattle.machine.proofs.LookUps.{one_slot, parent_of-with_parent}
 use Rattle.derivation.specs.Moving.{handed_over, in_place}
-use Rattle.derivation.proofs.Counts.{fewer_pass}
+use Rattle.objects.proofs.Passing.{fewer_pass}
 use Rattle.derivation.proofs.Moves.{in_place-from, parent_of-handed_over}
 use Rattle.derivation.proofs.Pairs.{apart_slots, parent_of-without_parent, taken_from_parent}
-use Rattle.derivation.proofs.Ways.{among_keys}
+use Rattle.objects.proofs.Ways.{among_keys}
 
 -- whether a slot is that parent
 abbrev is_parent : SlotRef → Option SlotRef → Bool

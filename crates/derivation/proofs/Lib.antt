@@ -1,7 +1,5 @@
-pub mod Counts
 pub mod Pairs
 pub mod Ranks
-pub mod Ways
 pub mod Moves
 pub mod Children
 pub mod Climbs

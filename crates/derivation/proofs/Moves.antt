@@ -52,7 +52,7 @@ pub handed_over-step :
 unfolding handed_over with_parent without_parent object_of queue_of words_of cap_of
 handed_over-step m from to child is =
     same_machine (handed_over (with_parent (without_parent m child) child to) from to) (handed_over m from to) (λ q. refl) (λ q. refl)
-    (λ q. refl) (λ q. refl) same refl where
+    (λ q. refl) (λ q. refl) same refl refl where
       by_tie :
           (q : SlotRef) (tie : Bool) → same_slot q child ≡ tie
           → option_map (in_place from to) (cond tie (Some to) (cond tie None (parent_of m q)))
@@ -79,7 +79,7 @@ pub handed_over-none :
 unfolding handed_over object_of queue_of words_of cap_of
 handed_over-none m from to leaf =
     same_machine (handed_over m from to) m (λ q. refl) (λ q. refl) (λ q. refl) (λ q. refl)
-    (λ q. parent_of-handed_over m from to q ∙ as_was (parent_of m q) (leaf q)) refl where
+    (λ q. parent_of-handed_over m from to q ∙ as_was (parent_of m q) (leaf q)) refl refl where
       as_was : (parent : Option SlotRef) → parent ≢ Some from → option_map (in_place from to) parent ≡ parent
       as_was None differs = refl
       as_was (Some parent) differs =
@@ -146,10 +146,10 @@ module _ (m : Machine) (from to : SlotRef) (alone : IsAlone m to) where
   unfolding handed_over with_exchanged with_parent without_parent object_of queue_of words_of cap_of
   same_rest None pairs =
       same_machine (handed_over (without_parent m from) from to) (with_exchanged m from to) (λ q. refl) (λ q. refl) (λ q. refl)
-      (λ q. refl) pairs refl
+      (λ q. refl) pairs refl refl
   same_rest (Some parent) pairs =
       same_machine (handed_over (with_parent (without_parent m from) to parent) from to) (with_exchanged m from to) (λ q. refl)
-      (λ q. refl) (λ q. refl) (λ q. refl) pairs refl
+      (λ q. refl) (λ q. refl) (λ q. refl) pairs refl refl
 
   -- with its parent and its children a place is taken over whole
   pub taken_over : handed_over (lifted m from to) from to ≡ with_exchanged m from to

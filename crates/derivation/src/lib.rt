@@ -7,4 +7,4 @@ mod removing;
 mod tree;
 
 pub use removing::remove_node;
-pub use tree::{descends, insert_child, move_node};
+pub use tree::{descends, insert_child, move_node, next_descendant};

@@ -1,8 +1,9 @@
 -- The words of calls and of events: what was read is what they spell, and each spelling is read back.
-use Rattle.std.proofs.Common.{◌≡◌, ℕ, List, ◌++◌, codes, Ok, refl}
+use Rattle.std.proofs.Common.{◌≡◌, ℕ, ◌<◌, ◌^◌, List, ◌++◌, codes, Ok, refl}
+use Rattle.std.specs.Bool.{⊤}
 use Rattle.std.specs.List.{AllByRecursion}
 use Rattle.machine.specs.declared.call.Call.{Call}
-use Rattle.machine.specs.declared.call.Call.TheVariants.{Signal, Poll, Wait, Copy, Mint, Move}
+use Rattle.machine.specs.declared.call.Call.TheVariants.{Signal, Poll, Wait, Copy, Mint, Move, Retype}
 use Rattle.machine.specs.declared.call.Event.{Event}
 use Rattle.machine.specs.Spelling.{call_words, event_words}
 use Rattle.words.specs.Parts.{by_word, keyed, IsPart}
@@ -10,13 +11,19 @@ use Rattle.words.specs.Reading.{bind, word_at}
 use Rattle.words.specs.Text.{IsPlainLine, IsPlainWord}
 use Rattle.words.proofs.Parts.{after_word, both_parts, keyed_part, number_part, part_as, read_as_again}
 use Rattle.words.proofs.WordLaws.{plain_bytes, plain_decimal}
-use Rattle.evtext.specs.Event.{call_at, copy_at, copy_call, event_at, event_of, mint_at, mint_call, move_at, move_call, HasNumbers, HasWords}
-use Rattle.evtext.proofs.CallParts.{copy_operands, mint_operands, move_operands}
+use Rattle.evtext.specs.Event.{call_at, copy_at, copy_call, event_at, event_of, mint_at, mint_call, move_at, move_call, retype_at, retype_call, HasNumbers, HasWords}
+use Rattle.evtext.proofs.CallParts.{copy_operands, mint_operands, move_operands, retype_operands}
+
+-- the numbers of a retype, part by part
+retype_fits : {untyped bits to offset count : ℕ}
+    → (untyped < 2 ^ 64) × (bits < 2 ^ 64) × (to < 2 ^ 64) × (offset < 2 ^ 64) × (count < 2 ^ 64)
+    → (untyped < 2 ^ 64) × (⊤ × ((bits < 2 ^ 64) × ((to < 2 ^ 64) × ((offset < 2 ^ 64) × (count < 2 ^ 64)))))
+retype_fits fits = (fits.0, (tt, (fits.1, (fits.2, (fits.3, fits.4)))))
 
 -- a call is its name and its operands
 
 call_again : (call : Call) (rest : List (List ℕ)) → HasWords call → call_at (call_words call ++ rest) ≡ Ok (call, rest)
-unfolding call_at copy_at mint_at move_at keyed by_word bind word_at
+unfolding call_at copy_at mint_at move_at retype_at keyed by_word bind word_at
 call_again (Signal address) rest fits = read_as_again number_part Signal address rest fits
 call_again (Poll address) rest fits = read_as_again number_part Poll address rest fits
 call_again (Wait address) rest fits = read_as_again number_part Wait address rest fits
@@ -25,6 +32,8 @@ call_again (Copy to from rights) rest fits =
 call_again (Mint to from rights given) rest fits =
     read_as_again mint_operands mint_call (to, (from, (rights, given))) rest (fits.0, (fits.1, (fits.2, fits.3)))
 call_again (Move to from) rest fits = read_as_again move_operands move_call (to, from) rest fits
+call_again (Retype untyped kind bits to offset count) rest fits =
+    read_as_again retype_operands retype_call (untyped, (kind, (bits, (to, (offset, count))))) rest (retype_fits fits)
 
 plain_call : (call : Call) → HasWords call → AllByRecursion IsPlainWord (call_words call)
 plain_call (Signal address) fits = (plain_bytes (codes "signal") refl, (plain_decimal address fits, tt))
@@ -35,9 +44,13 @@ plain_call (Copy to from rights) fits =
 plain_call (Mint to from rights given) fits =
     (plain_bytes (codes "mint") refl, mint_operands.plain (to, (from, (rights, given))) (fits.0, (fits.1, (fits.2, fits.3))))
 plain_call (Move to from) fits = (plain_bytes (codes "move") refl, move_operands.plain (to, from) fits)
+plain_call (Retype untyped kind bits to offset count) fits = (
+  plain_bytes (codes "retype") refl,
+  retype_operands.plain (untyped, (kind, (bits, (to, (offset, count))))) (retype_fits fits),
+)
 
 call_part : IsPart call_at call_words HasWords
-unfolding call_at copy_at mint_at move_at
+unfolding call_at copy_at mint_at move_at retype_at
 call_part = keyed_part call_words HasWords _ (
   after_word number_part (codes "signal") Signal call_words HasWords (λ n. refl) (λ n small. small),
   (
@@ -49,7 +62,14 @@ call_part = keyed_part call_words HasWords _ (
         (
           after_word mint_operands (codes "mint") mint_call call_words HasWords (λ parts. refl)
               (λ parts is. (is.0, is.1.0, is.1.1.0, is.1.1.1)),
-          (after_word move_operands (codes "move") move_call call_words HasWords (λ parts. refl) (λ parts is. is), tt),
+          (
+            after_word move_operands (codes "move") move_call call_words HasWords (λ parts. refl) (λ parts is. is),
+            (
+              after_word retype_operands (codes "retype") retype_call call_words HasWords (λ parts. refl)
+                  (λ parts is. (is.0, is.1.1.0, is.1.1.1.0, is.1.1.1.1.0, is.1.1.1.1.1)),
+              tt,
+            ),
+          ),
         ),
       ),
     ),

@@ -5,11 +5,13 @@ use Rattle.base.specs.declared.limits.TheConstants.{MAX_EVENTS}
 use Rattle.base.specs.declared.rights.Rights.{Rights}
 use Rattle.base.specs.Rights.{rights_of_word, IsRights}
 use Rattle.machine.specs.declared.call.Call.{Call}
-use Rattle.machine.specs.declared.call.Call.TheVariants.{Signal, Poll, Wait, Copy, Mint, Move}
+use Rattle.machine.specs.declared.call.Call.TheVariants.{Signal, Poll, Wait, Copy, Mint, Move, Retype}
 use Rattle.machine.specs.declared.call.CapData.{CapData}
 use Rattle.machine.specs.declared.call.CapData.TheVariants.{Badge, Guard}
 use Rattle.machine.specs.declared.call.Event.{Event}
+use Rattle.machine.specs.declared.object.MemoryKind.{MemoryKind}
 use Rattle.machine.specs.declared.slot_address.SlotAddress.{SlotAddress}
+use Rattle.machine.specs.KindWords.{memory_kind_of}
 use Rattle.words.specs.declared.faults.Wrong.{Wrong}
 use Rattle.words.specs.declared.faults.Wrong.TheVariants.{Limit}
 use Rattle.words.specs.Number.{number_at}
@@ -63,6 +65,23 @@ move_call parts = Move parts.0 parts.1
 unfoldable pub move_at : PartReader Call
 move_at = read_as move_call (in_turn slot_address_at slot_address_at)
 
+-- the next word as a kind of object that is made of memory
+unfoldable pub memory_kind_at : PartReader MemoryKind
+memory_kind_at words = do
+  word ← word_at words
+  kind ← or_syntax (memory_kind_of word.0)
+  Ok (kind, word.1)
+
+-- the retype of untyped memory, a kind, bits, a CNode, an offset and a count
+abbrev pub retype_call : ℕ × (MemoryKind × (ℕ × (ℕ × (ℕ × ℕ)))) → Call
+retype_call parts = Retype parts.0 parts.1.0 parts.1.1.0 parts.1.1.1.0 parts.1.1.1.1.0 parts.1.1.1.1.1
+
+-- the next words as the operands of a retype
+unfoldable pub retype_at : PartReader Call
+retype_at =
+    read_as retype_call
+    (in_turn number_at (in_turn memory_kind_at (in_turn number_at (in_turn number_at (in_turn number_at number_at)))))
+
 -- the next words as a call: its name, then its operands
 unfoldable pub call_at : PartReader Call
 call_at = keyed (
@@ -72,6 +91,7 @@ call_at = keyed (
     ∷ (codes "copy", copy_at)
     ∷ (codes "mint", mint_at)
     ∷ (codes "move", move_at)
+    ∷ (codes "retype", retype_at)
     ∷ [])
 
 -- the event of a core, a thread and a call
@@ -103,6 +123,8 @@ HasWords (Wait address) = address < 2 ^ 64
 HasWords (Copy to from rights) = IsSlotAddress to × IsSlotAddress from × IsRights rights
 HasWords (Mint to from rights given) = IsSlotAddress to × IsSlotAddress from × IsRights rights × IsData given
 HasWords (Move to from) = IsSlotAddress to × IsSlotAddress from
+HasWords (Retype untyped kind bits to offset count) =
+    (untyped < 2 ^ 64) × (bits < 2 ^ 64) × (to < 2 ^ 64) × (offset < 2 ^ 64) × (count < 2 ^ 64)
 
 -- an event that a line can have: of a core that there can be, with numbers of 64 bits and sets of the four rights
 abbrev pub IsSpellable : Event → Type 0

@@ -1,10 +1,10 @@
 ghost use Rattle.std.specs.Prelude.{◌≡◌};
 ghost use Rattle.words.specs.Reading.{Gives};
-ghost use Rattle.evtext.specs.Event.{call_at, copy_at, data_at, event_at, mint_at, move_at};
-ghost use Rattle.evtext.specs.Event.{rights_at, slot_address_at, within_limits};
+ghost use Rattle.evtext.specs.Event.{call_at, copy_at, data_at, event_at, memory_kind_at, mint_at, move_at};
+ghost use Rattle.evtext.specs.Event.{retype_at, rights_at, slot_address_at, within_limits};
 
 use base::{CoreNo, MAX_EVENTS, ObjId, Rights};
-use machine::{Call, CapData, Event, SlotAddress};
+use machine::{Call, CapData, Event, MemoryKind, SlotAddress};
 use words::{Words, Wrong};
 
 /// An event as a line has it. Its core's number may be too large.
@@ -71,6 +71,8 @@ fn next_call(words: &mut Words<'_>) -> Result<Call, Wrong>
         next_mint(words)
     } else if name == b"move".as_slice() {
         next_move(words)
+    } else if name == b"retype".as_slice() {
+        next_retype(words)
     } else {
         Err(Wrong::Syntax)
     }
@@ -114,6 +116,27 @@ fn next_move(words: &mut Words<'_>) -> Result<Call, Wrong>
     Ok(Call::Move { to, from })
 }
 
+/// The next words as the operands of a retype.
+#[tactic(auto, unfolding(crate::specs::Event::retype_at, words::specs::Parts::in_turn, words::specs::Parts::read_as, words::specs::Reading::bind))]
+fn next_retype(words: &mut Words<'_>) -> Result<Call, Wrong>
+    ensures { Gives (λ call. (call, words.new)) result (retype_at words.old) }
+{
+    let untyped = words.number()?;
+    let kind = next_memory_kind(words)?;
+    let bits = words.number()?;
+    let to = words.number()?;
+    let offset = words.number()?;
+    let count = words.number()?;
+    Ok(Call::Retype {
+        untyped,
+        kind,
+        bits,
+        to,
+        offset,
+        count,
+    })
+}
+
 /// The next words as a slot: root, index and depth.
 #[tactic(auto, unfolding(crate::specs::Event::slot_address_at, words::specs::Parts::in_turn, words::specs::Parts::read_as, words::specs::Reading::bind))]
 fn next_slot_address(words: &mut Words<'_>) -> Result<SlotAddress, Wrong>
@@ -123,6 +146,15 @@ fn next_slot_address(words: &mut Words<'_>) -> Result<SlotAddress, Wrong>
     let index = words.number()?;
     let depth = words.number()?;
     Ok(SlotAddress { root, index, depth })
+}
+
+/// The next word as a kind of object that is made of memory.
+#[tactic(auto, unfolding(crate::specs::Event::memory_kind_at, words::specs::Reading::or_syntax, words::specs::Reading::bind))]
+fn next_memory_kind(words: &mut Words<'_>) -> Result<MemoryKind, Wrong>
+    ensures { Gives (λ kind. (kind, words.new)) result (memory_kind_at words.old) }
+{
+    let word = words.word()?;
+    MemoryKind::from_name(word).ok_or(Wrong::Syntax)
 }
 
 /// The next word as a set of rights.

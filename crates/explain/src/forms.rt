@@ -28,11 +28,12 @@ pub(crate) enum Form {
     Copy,
     Mint,
     Move,
+    Retype,
 }
 
 impl Form {
     /// All forms, those of a text in the order in which its lines may come.
-    pub(crate) const ALL: [Form; 24] = [
+    pub(crate) const ALL: [Form; 25] = [
         Form::Label,
         Form::Untyped,
         Form::CNode,
@@ -57,6 +58,7 @@ impl Form {
         Form::Copy,
         Form::Mint,
         Form::Move,
+        Form::Retype,
     ];
 
     /// The text that has such lines.
@@ -67,9 +69,13 @@ impl Form {
             | Form::CertifiedSpace
             | Form::CertifiedDerive
             | Form::CertifiedRuns => Text::Certificate,
-            Form::Signal | Form::Poll | Form::Wait | Form::Copy | Form::Mint | Form::Move => {
-                Text::Script
-            }
+            Form::Signal
+            | Form::Poll
+            | Form::Wait
+            | Form::Copy
+            | Form::Mint
+            | Form::Move
+            | Form::Retype => Text::Script,
             _ => Text::Table,
         }
     }
@@ -100,6 +106,7 @@ impl Form {
             Form::Copy => "copy",
             Form::Mint => "mint",
             Form::Move => "move",
+            Form::Retype => "retype",
         }
     }
 
@@ -132,6 +139,7 @@ impl Form {
                 "`DEC DEC mint DEC DEC DEC DEC DEC DEC RIGHTS` and `badge DEC` or `guard DEC DEC`"
             }
             Form::Move => "`DEC DEC move DEC DEC DEC DEC DEC DEC`",
+            Form::Retype => "`DEC DEC retype DEC KIND DEC DEC DEC DEC`",
         }
     }
 
@@ -167,6 +175,7 @@ impl Form {
             Form::Edge =>
                 ", after the edges above: by first label, then kind, then second label, all by number",
             Form::CertifiedCap => ", its KINDS rising by number with commas between them",
+            Form::Retype => ", its KIND one of objects but `control`",
             _ => match self.section() {
                 1 => ", below the labels and above the `cap` lines",
                 _ => "",

@@ -75,6 +75,7 @@ boot-nothing t = record {
   caps = cap_of-empty;
   parents = parent_of-empty;
   next = refl;
+  going = refl;
 }
 
 booted-last : (t : Layout) (initial : Initial) (id : ObjId) → id.0 ≡ length t.objects → (q : ObjId)
@@ -117,6 +118,7 @@ boot-object t m initial boot =
       caps = λ q. cap_of-with_new m object q ∙ boot.caps q;
       parents = λ q. parent_of-with_new m object q ∙ boot.parents q;
       next = ap (λ n. n + 1) boot.next ∙ sym (length_push t.objects initial);
+      going = boot.going;
     }
 
 -- a list with one element more has it under its slot, which is above the slots of the others
@@ -194,6 +196,7 @@ boot-filled t m i d rise within boot =
           (below_next (λ (f : Filled). f.slot) t.caps i d rise within) q;
       parents = λ q. parent_of-with_cap m slot held q ∙ boot.parents q;
       next = boot.next;
+      going = boot.going;
     })
 
 -- one child more has its parent
@@ -216,6 +219,7 @@ boot-derived t m i d rise within boot =
           ∙ find-last (λ (p : Pair). p.child) (λ p. p.parent) (take i t.pairs) pair d
           (below_next (λ (p : Pair). p.child) t.pairs i d rise within) q;
       next = boot.next;
+      going = boot.going;
     })
 
 -- the boot state has the objects that the table declares

@@ -1,3 +1,4 @@
 pub mod RunLemmas
 pub mod BootLemmas
 pub mod BootPairs
+pub mod Makings

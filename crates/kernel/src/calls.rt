@@ -1,8 +1,9 @@
 ghost use Rattle.std.specs.Prelude.{◌≡◌};
-ghost use Rattle.machine.specs.Makes.{Makes};
+ghost use Rattle.machine.specs.Makes.{MakesOrLacks};
 ghost use Rattle.machine.specs.Outcomes.{IsRefused};
-ghost use Rattle.machine.specs.Step.{Step, made_by};
+ghost use Rattle.machine.specs.Step.{Step, made_by, takes_memory};
 ghost use Rattle.machine.specs.WellFormed.{IsWellFormed};
+ghost use Rattle.kernel.specs.Refusals.{lasting_refusal};
 
 use crate::admit::admit;
 use crate::poll::poll;
@@ -12,12 +13,13 @@ use base::{Cause, Refusal};
 use cnodeops::{copy, mint, move_cap};
 use machine::{Call, Event, Made, Outcome, steps_keep_machines_well_formed};
 use objects::State;
+use untyped::retype;
 
 /// Makes the call of an event, once its thread is admitted.
 #[tactic(auto, unfolding(machine::specs::Step::made_by))]
 fn make(state: &mut State, event: Event) -> Result<Made, Cause>
     requires { IsWellFormed state.old }
-    ensures { Makes state.old state.new result (made_by state.old event) }
+    ensures { MakesOrLacks (takes_memory event.call) state.old state.new result (made_by state.old event) }
 {
     admit(state, event.core, event.thread)?;
     match event.call {
@@ -32,11 +34,21 @@ fn make(state: &mut State, event: Event) -> Result<Made, Cause>
             given,
         } => mint(state, event.thread, to, from, rights, given),
         Call::Move { to, from } => move_cap(state, event.thread, to, from),
+        Call::Retype {
+            untyped,
+            kind,
+            bits,
+            to,
+            offset,
+            count,
+        } => retype(state, event.thread, untyped, kind, bits, to, offset, count),
     }
 }
 
 /// One kernel call, whole: what it answers, and the state after it. A refused call leaves the state
-/// as it was. No memory is taken.
+/// as it was.
+///
+/// No call but a retype takes memory, and is refused 40 where there is none.
 pub fn step(state: &mut State, event: Event) -> Outcome
     requires { IsWellFormed state.old }
     ensures stepped { Step state.old event result state.new }
@@ -48,5 +60,38 @@ pub fn step(state: &mut State, event: Event) -> Outcome
     match make(state, event) {
         Ok(made) => Outcome::from(made),
         Err(cause) => Outcome::Refused(Refusal::from(cause)),
+    }
+}
+
+/// Why a retype is refused, however much memory there is; none where [`step`] could make it, and none
+/// for any other call.
+#[tactic(auto, unfolding(machine::specs::Step::made_by))]
+pub fn retype_refusal(state: &State, event: Event) -> Option<Refusal>
+    requires { IsWellFormed state.now }
+    ensures { result ≡ lasting_refusal state.now event }
+{
+    let Call::Retype {
+        untyped,
+        kind,
+        bits,
+        to,
+        offset,
+        count,
+    } = event.call
+    else {
+        return None;
+    };
+    match admit(state, event.core, event.thread) {
+        Ok(_) => untyped::retype_refusal(
+            state,
+            event.thread,
+            untyped,
+            kind,
+            bits,
+            to,
+            offset,
+            count,
+        ),
+        Err(cause) => Some(Refusal::from(cause)),
     }
 }

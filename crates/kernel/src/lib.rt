@@ -14,5 +14,5 @@ mod wait;
 
 pub use boot_laws::each_table_has_one_boot_state;
 pub use boot_state::boot;
-pub use calls::step;
+pub use calls::{retype_refusal, step};
 pub use runs::run;

@@ -14,7 +14,8 @@ use objects::State;
 /// # Errors
 ///
 /// 40, where the list of outcomes can't grow by as many as there are events: then no step was made.
-/// A list with room for them is never refused.
+/// A list with room for them is never refused: a retype that is refused memory is an outcome, and the
+/// run goes on.
 pub fn run(state: &mut State, events: &[Event], outcomes: &mut Vec<Outcome>) -> Result<(), Refusal>
     requires { IsWellFormed state.old }
     ensures ran { OnOk result ((made : List Ended)

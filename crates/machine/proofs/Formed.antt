@@ -28,6 +28,7 @@ use Rattle.machine.proofs.LookUps.{object_of-with_object, object_of-with_queue, 
 use Rattle.machine.proofs.Outlines.{Steady, object_steady, queue_steady, steady_steady, slots_kept, parts_kept, numbers_kept}
 use Rattle.machine.proofs.PollRow.{PollDone}
 use Rattle.machine.proofs.Queues.{first_in}
+use Rattle.machine.proofs.RetypeFormed.{retype_formed}
 use Rattle.machine.proofs.SignalRow.{SignalDone, Wakes, marked, roused}
 use Rattle.machine.proofs.ThreadLinks.{NamesNoReply, links_moved}
 use Rattle.machine.proofs.WaitRow.{Blocks, WaitDone, awaiting}
@@ -171,6 +172,8 @@ call_formed m caller (call.Wait address) next formed is = wait_formed m caller a
 call_formed m caller (call.Copy to from rights) next formed is = derives_formed m caller to from next formed
 call_formed m caller (call.Mint to from rights gift) next formed is = derives_formed m caller to from next formed
 call_formed m caller (call.Move to from) next formed is = move_formed m caller to from next formed
+call_formed m caller (call.Retype untyped of bits to offset count) next formed is =
+    retype_formed m caller untyped of bits to offset count next formed
 
 pub step_formed :
     (m : Machine) (event : Event) (outcome : Outcome) (next : Machine) → IsWellFormed m → Step m event outcome next

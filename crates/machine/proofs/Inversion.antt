@@ -15,6 +15,7 @@ use Rattle.machine.specs.WellFormed.{IsWellFormed}
 use Rattle.machine.proofs.Admission.{IsCaller, admits}
 use Rattle.machine.proofs.Conditions.{both_done}
 use Rattle.machine.proofs.PollRow.{PollDone, poll_done}
+use Rattle.machine.proofs.RetypeRow.{RetypeDone, retype_done}
 use Rattle.machine.proofs.SignalRow.{SignalDone, signal_done}
 use Rattle.machine.proofs.SlotRows.{Derives, MoveDone, copy_done, mint_done, move_done}
 use Rattle.machine.proofs.WaitRow.{WaitDone, wait_done}
@@ -27,6 +28,7 @@ CallDone m caller (call.Wait address) next = WaitDone m caller address next
 CallDone m caller (call.Copy to from rights) next = Derives m caller to from next
 CallDone m caller (call.Mint to from rights given) next = Derives m caller to from next
 CallDone m caller (call.Move to from) next = MoveDone m caller to from next
+CallDone m caller (call.Retype untyped kind bits to offset count) next = RetypeDone m caller untyped kind bits to offset count next
 
 call_done :
     (m : Machine) (caller : ObjId) (which : Call) (made : Made) (next : Machine) → IsWellFormed m → IsCaller m caller
@@ -38,6 +40,8 @@ call_done m caller (call.Copy to from rights) made next formed is = copy_done m 
 call_done m caller (call.Mint to from rights gift) made next formed is =
     mint_done m caller to from rights gift made next formed
 call_done m caller (call.Move to from) made next formed is = move_done m caller to from made next
+call_done m caller (call.Retype untyped kind bits to offset count) made next formed is =
+    retype_done m caller untyped kind bits to offset count made next
 
 -- an event was made: by a caller, whose call was done
 pub record EventDone (m : Machine) (event : Event) (next : Machine) : Type 0 where

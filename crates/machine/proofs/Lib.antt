@@ -1,5 +1,6 @@
 pub mod LookUps
 pub mod Ids
+pub mod KindWords
 pub mod Bound
 pub mod Queues
 pub mod Conditions
@@ -18,6 +19,7 @@ pub mod SlotRows
 pub mod LedSlots
 pub mod FilledSlots
 pub mod ObjectMade
+pub mod ObjectGone
 pub mod Likeness
 pub mod MadeFormed
 pub mod RetypeRow

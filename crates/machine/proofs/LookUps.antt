@@ -207,9 +207,10 @@ one_slot a b tie = slot_apart a b ((Equal-is (slot_cmp a b)).0 tie)
 pub same_machine :
     (m n : Machine) → ((q : ObjId) → object_of m q ≡ object_of n q) → ((q : ObjId) → queue_of m q ≡ queue_of n q)
     → ((q : ObjId) → words_of m q ≡ words_of n q)
-    → ((q : SlotRef) → cap_of m q ≡ cap_of n q) → ((q : SlotRef) → parent_of m q ≡ parent_of n q) → m.next ≡ n.next → m ≡ n
+    → ((q : SlotRef) → cap_of m q ≡ cap_of n q) → ((q : SlotRef) → parent_of m q ≡ parent_of n q) → m.next ≡ n.next → m.going ≡ n.going
+    → m ≡ n
 unfolding object_of queue_of words_of cap_of parent_of
-same_machine m n objects queues words caps parents next =
+same_machine m n objects queues words caps parents next going =
     λ i.
     record {
       objects = same_map id_total id_apart m.objects n.objects objects i;
@@ -218,4 +219,5 @@ same_machine m n objects queues words caps parents next =
       caps = same_map slot_total slot_apart m.caps n.caps caps i;
       parents = same_map slot_total slot_apart m.parents n.parents parents i;
       next = next i;
+      going = going i;
     }

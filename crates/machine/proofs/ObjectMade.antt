@@ -41,6 +41,7 @@ pub record MakesObject (m : Machine) (source : Source) (mark : ℕ) (object : Ob
       ≡ (if same_slot q slot then Some (record { object = following m; detail = detail; original = true }) else cap_of m q)
   pub parents : (q : SlotRef) → parent_of next q ≡ (if same_slot q slot then Some source.slot else parent_of m q)
   pub number : next.next ≡ m.next + 1
+  pub going : next.going ≡ m.going
 
 pub made_makes :
     (m : Machine) (source : Source) (kind : MemoryKind) (bits : ℕ) (slot : SlotRef)
@@ -59,4 +60,5 @@ made_makes m source kind bits slot =
       caps = λ q. get-insert slot_total m.caps slot (new_cap m.next kind) q;
       parents = λ q. get-insert slot_total m.parents slot source.slot q;
       number = refl;
+      going = refl;
     }

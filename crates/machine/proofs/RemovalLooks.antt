@@ -6,7 +6,7 @@ use Rattle.std.proofs.lemmas.Bool.{false≢true}
 use Rattle.base.specs.declared.ids.ObjId.{ObjId}
 use Rattle.base.specs.declared.ids.SlotRef.{SlotRef}
 use Rattle.machine.specs.Finalising.{finalised, staying_in}
-use Rattle.machine.specs.Machine.{Machine, object_of, queue_of, words_of, cap_of, parent_of}
+use Rattle.machine.specs.Machine.{Machine, nothing_going, object_of, queue_of, words_of, cap_of, parent_of}
 use Rattle.machine.specs.Orphans.{Nearest, without_nodes}
 use Rattle.machine.specs.Gone.{gone_of}
 use Rattle.machine.specs.Removal.{object_after, queue_after, words_after, cap_after, parent_after, without_slots, vanishes, removed}
@@ -83,6 +83,10 @@ module _ (m : Machine) (chosen : SlotRef → Bool) where
   pub parent_of-removed : (slot : SlotRef) → parent_of (removed m chosen) slot ≡ parent_after m (gone_of m chosen) slot
   unfolding removed
   parent_of-removed = parent_of-without m (gone_of m chosen) (vanishes m chosen)
+
+  pub going-removed : (removed m chosen).going ≡ nothing_going
+  unfolding removed without_slots
+  going-removed = refl
 
   pub next-removed : (removed m chosen).next ≡ m.next
   unfolding removed without_slots

@@ -23,7 +23,7 @@ all_else : (m next : Machine) → SameObjects m next → with_slots m next ≡ n
 unfolding object_of queue_of words_of cap_of parent_of
 all_else m next same =
     same_machine (with_slots m next) next (λ q. sym (same.objects q)) (λ q. sym (same.queues q)) (λ q. sym (same.words q))
-    (λ q. refl) (λ q. refl) (sym same.number)
+    (λ q. refl) (λ q. refl) (sym same.number) (sym same.going)
 
 parts_beside : (m other : Machine) → PartsFit m → PartsFit (with_slots m other)
 unfolding object_of queue_of words_of

@@ -13,6 +13,7 @@ pub record SameObjects (m next : Machine) : Type 0 where
   pub queues : (id : ObjId) → queue_of next id ≡ queue_of m id
   pub words : (id : ObjId) → words_of next id ≡ words_of m id
   pub number : next.next ≡ m.next
+  pub going : next.going ≡ m.going
 
 -- an empty slot gets a capability with a parent, or with none
 pub record Fills (m : Machine) (slot : SlotRef) (held : Cap) (parent : Option SlotRef) (next : Machine) : Type 0 where

@@ -166,7 +166,7 @@ under_fills :
 unfolding object_of queue_of words_of with_cap with_parent
 under_fills m slot held None alone =
     record {
-      objects = record { objects = λ id. refl; queues = λ id. refl; words = λ id. refl; number = refl };
+      objects = record { objects = λ id. refl; queues = λ id. refl; words = λ id. refl; number = refl; going = refl };
       caps = cap_of-with_cap m slot held;
       parents = λ q. parent_of-with_cap m slot held q ∙ by_tie q (same_slot q slot) refl;
     }
@@ -177,7 +177,7 @@ under_fills m slot held None alone =
     by_tie q false is = refl
 under_fills m slot held (Some parent) alone =
     record {
-      objects = record { objects = λ id. refl; queues = λ id. refl; words = λ id. refl; number = refl };
+      objects = record { objects = λ id. refl; queues = λ id. refl; words = λ id. refl; number = refl; going = refl };
       caps = λ q. cap_of-with_parent (with_cap m slot held) slot parent q ∙ cap_of-with_cap m slot held q;
       parents =
           λ q.
@@ -250,7 +250,7 @@ moved_moves :
 unfolding object_of queue_of words_of cap_of parent_of with_cap without_cap with_exchanged with_moved
 moved_moves m source target held empty full =
     record {
-      objects = record { objects = λ id. refl; queues = λ id. refl; words = λ id. refl; number = refl };
+      objects = record { objects = λ id. refl; queues = λ id. refl; words = λ id. refl; number = refl; going = refl };
       caps =
           λ q.
           get-remove slot_total (with_cap m target held).caps source q

@@ -1,13 +1,14 @@
 -- Changes of a machine that leave it as it is where the object isn't there or is of another kind: to untyped memory's watermark, a
--- notification's word, a thread and a scheduling context, and to who waits (seL4 manual, "Untyped Memory", "Notifications",
--- "Threads and Execution" and "Scheduling Contexts").
-use Rattle.std.specs.Prelude.{ℕ, List, [], ◌∷◌, ◌++◌, Option, Some, None, option_and_then, slice_get}
+-- notification's word, a thread and a scheduling context, and to who waits; and an object goes (seL4 manual, "Untyped Memory",
+-- "Notifications", "Threads and Execution" and "Scheduling Contexts").
+use Rattle.std.specs.Prelude.{ℕ, List, [], ◌∷◌, ◌++◌, filter, not, Option, Some, None, option_and_then, slice_get}
+use Rattle.std.specs.FinMap as map
 use Rattle.base.specs.declared.ids.ObjId.{ObjId}
 use Rattle.machine.specs.declared.object.Object.{Object}
 use Rattle.machine.specs.declared.object.Object.TheVariants as o
 use Rattle.machine.specs.declared.object.Context.{Context}
 use Rattle.machine.specs.declared.thread.Tcb.{Tcb}
-use Rattle.machine.specs.Machine.{Machine, object_of, queue_of, with_object, with_queue}
+use Rattle.machine.specs.Machine.{Machine, object_of, queue_of, same_id, with_object, with_queue}
 
 -- the watermark of untyped memory
 unfoldable pub with_watermark : Machine → ObjId → ℕ → Machine
@@ -54,3 +55,19 @@ without_first m id = by_queue (queue_of m id) where
   by_queue : Option (List ObjId) → Machine
   by_queue (Some (_ ∷ threads)) = with_queue m id threads
   by_queue _ = m
+
+-- a thread that waits at an object leaves, and the others stay in their order
+unfoldable pub without_waiting : Machine → ObjId → ObjId → Machine
+without_waiting m id thread = by_queue (queue_of m id) where
+  by_queue : Option (List ObjId) → Machine
+  by_queue (Some threads) = with_queue m id (filter (λ other. not (same_id other thread)) threads)
+  by_queue None = m
+
+-- an object goes, with its queue and its words; its number isn't used again
+unfoldable pub without_object : Machine → ObjId → Machine
+without_object m id =
+    record m {
+      objects = map.remove m.objects id;
+      queues = map.remove m.queues id;
+      words = map.remove m.words id;
+    }

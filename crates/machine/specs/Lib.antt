@@ -1,4 +1,5 @@
 pub mod Objects
+pub mod KindWords
 pub mod Capabilities
 pub mod Machine
 pub mod Layout

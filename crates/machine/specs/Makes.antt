@@ -1,6 +1,6 @@
 -- How the code of a call meets the call's definition: it comes to what the definition says and leaves the machine that it says, or
 -- refuses with its cause and leaves the machine as it was.
-use Rattle.std.specs.Prelude.{◌≡◌, ◌⊎◌, Result, Ok, Err, IsOk}
+use Rattle.std.specs.Prelude.{◌≡◌, ◌⊎◌, Bool, Result, Ok, Err, IsOk}
 use Rattle.base.specs.declared.refusal.Cause.{Cause}
 use Rattle.base.specs.declared.refusal.Cause.TheVariants.{OutOfMemory}
 use Rattle.machine.specs.declared.call.Made.{Made}
@@ -15,3 +15,8 @@ Makes old new (Err cause) defined = (defined ≡ Err cause) × (new ≡ old)
 abbrev pub MakesWithMemory : Machine → Machine → Result Made Cause → Result (Made × Machine) Cause → Type 0
 MakesWithMemory old new result defined =
     Makes old new result defined ⊎ (IsOk defined × (result ≡ Err OutOfMemory) × (new ≡ old))
+
+-- the same of a call that may be one that takes memory
+abbrev pub MakesOrLacks : Bool → Machine → Machine → Result Made Cause → Result (Made × Machine) Cause → Type 0
+MakesOrLacks Bool.true old new result defined = MakesWithMemory old new result defined
+MakesOrLacks Bool.false old new result defined = Makes old new result defined

@@ -15,6 +15,7 @@ use Rattle.machine.specs.declared.call.Outcome.{Outcome}
 use Rattle.machine.specs.declared.call.Outcome.TheVariants as outcome
 use Rattle.machine.specs.declared.slot_address.SlotAddress.{SlotAddress}
 use Rattle.machine.specs.declared.thread.Message.{Message}
+use Rattle.machine.specs.KindWords.{memory_kind_word}
 
 -- a slot as a call names it: root, index and depth
 abbrev pub slot_address_words : SlotAddress → List (List ℕ)
@@ -35,6 +36,15 @@ call_words (call.Copy to from rights) =
 call_words (call.Mint to from rights gift) =
     codes "mint" ∷ (slot_address_words to ++ (slot_address_words from ++ rights_word rights ∷ data_words gift))
 call_words (call.Move to from) = codes "move" ∷ (slot_address_words to ++ slot_address_words from)
+call_words (call.Retype untyped kind bits to offset count) =
+    codes "retype"
+    ∷ decimal untyped
+    ∷ memory_kind_word kind
+    ∷ decimal bits
+    ∷ decimal to
+    ∷ decimal offset
+    ∷ decimal count
+    ∷ []
 
 -- an event: core, thread, call
 abbrev pub event_words : Event → List (List ℕ)

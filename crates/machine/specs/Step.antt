@@ -37,6 +37,7 @@ use Rattle.machine.specs.Step.Wait.{wait_of}
 use Rattle.machine.specs.Step.Copy.{copy_of}
 use Rattle.machine.specs.Step.Mint.{mint_of}
 use Rattle.machine.specs.Step.Move.{move_of}
+use Rattle.machine.specs.Step.Retype.{retype_of}
 
 -- the core, budget and period of a context, if it is one and configured
 abbrev pub share_in : Option Object → Option Share
@@ -78,6 +79,7 @@ call_of m caller (call.Wait address) = wait_of m caller address
 call_of m caller (call.Copy to from rights) = copy_of m caller to from rights
 call_of m caller (call.Mint to from rights given) = mint_of m caller to from rights given
 call_of m caller (call.Move to from) = move_of m caller to from
+call_of m caller (call.Retype untyped kind bits to offset count) = retype_of m caller untyped kind bits to offset count
 
 -- what an event comes to: its thread is admitted, and then makes its call
 unfoldable pub made_by : Machine → Event → Result (Made × Machine) Cause
@@ -102,6 +104,7 @@ takes_memory (call.Wait _) = Bool.false
 takes_memory (call.Copy _ _ _) = Bool.false
 takes_memory (call.Mint _ _ _ _) = Bool.false
 takes_memory (call.Move _ _) = Bool.false
+takes_memory (call.Retype _ _ _ _ _ _) = Bool.true
 
 -- the event could be made, but takes memory that isn't there
 pub record LacksMemory (m : Machine) (event : Event) (outcome : Outcome) (next : Machine) : Type 0 where

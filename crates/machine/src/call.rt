@@ -1,7 +1,7 @@
 ghost use Rattle.std.specs.Prelude.{◌≡◌};
 ghost use Rattle.machine.specs.Outcomes.{outcome_of};
 
-use crate::{Message, SlotAddress};
+use crate::{MemoryKind, Message, SlotAddress};
 use base::{CoreNo, ObjId, Refusal, Rights};
 
 /// What a mint gives to the copy (seL4 manual, seL4_CNode_Mint: "badge or guard").
@@ -45,6 +45,19 @@ pub enum Call {
     Move {
         to: SlotAddress,
         from: SlotAddress,
+    },
+    /// Makes objects of a kind of the untyped memory at the address, and puts their capabilities into
+    /// empty slots, one after another, of the CNode at another (seL4 manual, seL4_Untyped_Retype).
+    Retype {
+        untyped: u64,
+        kind: MemoryKind,
+        /// The size of untyped memory, the radix of a CNode; other kinds have no use for it.
+        bits: u64,
+        /// The address of the CNode.
+        to: u64,
+        /// The index of the first slot.
+        offset: u64,
+        count: u64,
     },
 }
 

@@ -7,6 +7,7 @@
 mod authority_laws;
 mod call;
 mod cap;
+mod kind_names;
 mod layout;
 mod object;
 mod radix;

@@ -43,6 +43,14 @@ impl fmt::Display for Call {
                 given,
             } => write!(f, "mint {to} {from} {rights} {given}"),
             Call::Move { to, from } => write!(f, "move {to} {from}"),
+            Call::Retype {
+                untyped,
+                kind,
+                bits,
+                to,
+                offset,
+                count,
+            } => write!(f, "retype {untyped} {kind} {bits} {to} {offset} {count}"),
         }
     }
 }

@@ -15,7 +15,7 @@ use Rattle.objects.specs.declared.links.TreeLinks.{TreeLinks}
 use Rattle.objects.specs.declared.slots.Slot.{Slot}
 use Rattle.objects.specs.Entries.{Entries, caps_in, entry_of, slot_at, with_entry, set_caps_in, set_ends_in, set_slot_in, set_standing_in}
 use Rattle.objects.specs.Family.{attached, changed_slot, detached, head_of, leaving, leaving_from, links_at, with_links, with_slot}
-use Rattle.objects.specs.Links.{left, popped, pushed, relinked, standing_of, with_standing}
+use Rattle.objects.specs.Links.{end_after, left, popped, pushed, quitted, relinked, standing_of, with_standing}
 use Rattle.objects.proofs.EntryLemmas.{entry_of-with_entry}
 
 -- each entry counts what it counted
@@ -111,6 +111,19 @@ caps-left entries id ends (Some first) q =
 pub caps-popped : (entries : Entries) (id : ObjId) (ends : Option Ends) → CapsKept entries (popped entries id ends)
 caps-popped entries id None q = refl
 caps-popped entries id (Some ends) q = caps-left entries id ends ends.first q
+
+pub caps-quitted : (entries : Entries) (id thread : ObjId) (ends : Option Ends) → CapsKept entries (quitted entries id thread ends)
+caps-quitted entries id thread None q = refl
+caps-quitted entries id thread (Some ends) q =
+    let standing : Standing = standing_of (entry_of entries thread) in
+    let one : Entries = with_standing entries standing.previous (λ s. record s { next = standing.next }) in
+    caps-relinked one standing.next (λ s. record s { previous = standing.previous }) thread
+    (record { at = None; previous = None; next = None }) id
+    (record {
+      first = end_after standing.previous standing.next ends.first;
+      last = end_after standing.next standing.previous ends.last;
+    }) q
+    ∙ caps-with_standing entries standing.previous (λ s. record s { next = standing.next }) q
 
 -- the count of one object, which is there, is set
 pub caps-set :

@@ -2,7 +2,7 @@
 use Rattle.std.proofs.Common.{◌≡◌, ℕ, ◌+◌, ◌<◌, ◌^◌, ◌≤◌, ◌≢◌, List, [], ◌∷◌, ◌++◌, Bool, true, false, cond, length, refl, sym, ap}
 use Rattle.std.proofs.Common.{map, subst, ◌∙◌, arith, inl, inr}
 use Rattle.std.specs.Prelude.{Option, Some, None, is_some, IsSome, IfSome, option_map}
-use Rattle.std.specs.Prelude.{option_and_then, slice_get, IsTrue}
+use Rattle.std.specs.Prelude.{Contains, filter, not, option_and_then, slice_get, IsTrue}
 use Rattle.std.specs.List.{fold, AllByRecursion}
 use Rattle.std.proofs.lemmas.Bool.{false≢true, ltb-true}
 use Rattle.std.proofs.lemmas.Option.{same_Some}
@@ -11,7 +11,7 @@ use Rattle.base.specs.declared.ids.ObjId.{ObjId}
 use Rattle.base.specs.declared.ids.SlotRef.{SlotRef}
 use Rattle.machine.specs.declared.object.Object.{Object}
 use Rattle.machine.specs.Objects.{slot_count}
-use Rattle.machine.specs.Machine.{Machine, id_cmp, same_id, object_of, has_slot, with_object}
+use Rattle.machine.specs.Machine.{Machine, nothing_going, id_cmp, same_id, object_of, has_slot, with_object}
 use Rattle.machine.proofs.LookUps.{id_total, id_apart}
 use Rattle.machine.specs.Machine.{with_queue, with_new, empty_machine, queue_of}
 use Rattle.machine.proofs.LookUps.{object_of-empty, queue_of-empty}
@@ -20,26 +20,27 @@ use Rattle.objects.specs.declared.entry.Entry.{Entry}
 use Rattle.objects.specs.declared.links.Standing.{Standing}
 use Rattle.objects.specs.declared.slots.Slot.{Slot}
 use Rattle.objects.specs.declared.state.State.TheInside.{Inside}
-use Rattle.machine.specs.Changes.{first_waiting, with_waiting, without_first}
+use Rattle.machine.specs.Changes.{first_waiting, with_waiting, without_first, without_waiting}
 use Rattle.objects.specs.Counts.{one_more}
 use Rattle.objects.specs.Entries.{Entries, caps_in, entry_of, slot_at, with_entry, replace_in, set_caps_in}
 use Rattle.std.specs.FinMap as finite
 use Rattle.objects.specs.Entries.{empty_slot, new_entry, with_more}
 use Rattle.objects.specs.Family.{cap_in, links_of, AreKin}
-use Rattle.objects.specs.Links.{ends_of, standing_of, queue_in, AreQueued, pushed, left, popped}
+use Rattle.objects.specs.Links.{ends_of, standing_of, queue_in, AreQueued, pushed, left, popped, quitted}
 use Rattle.objects.specs.Queues.{walk, AreQueues}
 use Rattle.objects.specs.Radices.{HasRadix}
 use Rattle.objects.specs.State.{machine_of, IsSized, IsConsistent}
-use Rattle.objects.specs.Waiting.{WaitsNowhere}
+use Rattle.objects.specs.Waiting.{WaitsNowhere, WaitsThere}
 use Rattle.objects.proofs.Families.{no_family, same_family}
 use Rattle.machine.proofs.FiniteLemmas.{by_key, same_from_tie, cond_here, cond_elsewhere}
 use Rattle.objects.proofs.EntryLemmas.{some-none, entry_of-with_entry}
-use Rattle.objects.proofs.StateLemmas.{Tells, present_kept, tells-machine_of, next-machine_of, same_from_tells, object_at}
+use Rattle.objects.proofs.StateLemmas.{Tells, present_kept, tells-machine_of, going-machine_of, next-machine_of, same_from_tells, object_at}
 use Rattle.objects.proofs.ChangeLemmas.{added_read, reading_kept, slots_kept, tells-caps, tells-replace, tells-queue, tells-same, tells-new}
 use Rattle.objects.proofs.ChangeLemmas.{changed_here, changed_other, part_kept, links, rest, links_kept}
 use Rattle.objects.proofs.QueueLemmas.{cases_id, walk_none, walk_first, more_numbers, longer_walk}
 use Rattle.objects.proofs.LinkLemmas.{Requeues, stands_nowhere, pushed_requeues, pushed_queue, popped_requeues}
-use Rattle.objects.proofs.LinkLemmas.{popped_queue}
+use Rattle.objects.proofs.LinkLemmas.{popped_queue, quitted_requeues, quitted_queue}
+use Rattle.objects.proofs.Quitting.{on_walk_waits}
 
 -- the derivation tree, where slots are as they were
 same_slots :
@@ -120,7 +121,7 @@ caps_give s id caps =
     same_from_tells _ _ _ (entry_of s'.store) (tells-machine_of s')
     (tells-caps s.next (machine_of s) (entry_of s.store) (entry_of s'.store) (tells-machine_of s) id caps
     (entry_of-with_entry s.store id (set_caps_in caps)))
-    (next-machine_of s' ∙ sym (next-machine_of s))
+    (next-machine_of s' ∙ sym (next-machine_of s)) (going-machine_of s' ∙ sym (going-machine_of s))
 
 -- a slot that the machine has is one of an entry
 pub found_slot :
@@ -173,6 +174,10 @@ next-empty : empty_machine.next ≡ 0
 unfolding empty_machine
 next-empty = refl
 
+going-empty : empty_machine.going ≡ nothing_going
+unfolding empty_machine
+going-empty = refl
+
 pub none_of : (s : Inside) → s.store ≡ finite.empty → (q : ObjId) → entry_of s.store q ≡ None
 none_of s none q = ap (λ (m : Entries). finite.get m q) none ∙ finite.get-empty id_cmp q
 
@@ -181,7 +186,7 @@ empty_gives s none next =
     same_from_tells _ _ _ (entry_of s.store) (tells-machine_of s)
     (subst (λ n. Tells n empty_machine (entry_of s.store)) (sym next)
     (tells-same 0 empty_machine (λ _. None) (entry_of s.store) tells-empty (none_of s none)))
-    (next-machine_of s ∙ next ∙ sym next-empty)
+    (next-machine_of s ∙ next ∙ sym next-empty) (going-machine_of s ∙ sym going-empty)
 
 -- where there are no entries, nobody waits
 no_queues : AreQueued (λ _. None) 0
@@ -294,6 +299,10 @@ next-with_new : (m : Machine) (object : Object) → (with_new m object).next ≡
 unfolding with_new
 next-with_new m object = refl
 
+going-with_new : (m : Machine) (object : Object) → (with_new m object).going ≡ m.going
+unfolding with_new
+going-with_new m object = refl
+
 -- the state with a new object
 abbrev pub with_added : Inside → Object → Inside
 with_added s object =
@@ -351,6 +360,7 @@ module _ (s : Inside) (consistent : IsConsistent s) (object : Object) where
       (rw (next-machine_of s) vacant)
       (rw (next-machine_of s) (new_queues (entry_of s.store) with_it s.next id object vacant added consistent.queued)))
       (next-machine_of (with_added s object) ∙ sym (next-with_new (machine_of s) object ∙ ap (λ n. n + 1) (next-machine_of s)))
+      (going-machine_of (with_added s object) ∙ sym (going-with_new (machine_of s) object ∙ going-machine_of s))
 
 -- objects are added one after another
 
@@ -436,6 +446,10 @@ next-with_object : (m : Machine) (id : ObjId) (object : Object) → (with_object
 unfolding with_object
 next-with_object m id object = refl
 
+going-with_object : (m : Machine) (id : ObjId) (object : Object) → (with_object m id object).going ≡ m.going
+unfolding with_object
+going-with_object m id object = refl
+
 pub replace_gives :
     (s : Inside) → IsConsistent s → (id : ObjId) (object : Object) → IsSome (object_of (machine_of s) id)
     → machine_of (with_changed s id (replace_in object)) ≡ with_object (machine_of s) id object
@@ -446,12 +460,17 @@ replace_gives s consistent id object some =
     (tells-replace s.next (machine_of s) (entry_of s.store) (entry_of s'.store) (tells-machine_of s) id object
     (entry_of-with_entry s.store id (replace_in object)) found.0 found.1)
     (next-machine_of s' ∙ sym (next-with_object (machine_of s) id object ∙ next-machine_of s))
+    (going-machine_of s' ∙ sym (going-with_object (machine_of s) id object ∙ going-machine_of s))
 
 -- a thread comes to wait, or leaves
 
 next-with_queue : (m : Machine) (id : ObjId) (threads : List ObjId) → (with_queue m id threads).next ≡ m.next
 unfolding with_queue
 next-with_queue m id threads = refl
+
+going-with_queue : (m : Machine) (id : ObjId) (threads : List ObjId) → (with_queue m id threads).going ≡ m.going
+unfolding with_queue
+going-with_queue m id threads = refl
 
 module _ (s : Inside) (consistent : IsConsistent s) (id : ObjId) where
   abbrev entry : ObjId → Option Entry
@@ -468,6 +487,7 @@ module _ (s : Inside) (consistent : IsConsistent s) (id : ObjId) where
       (tells-queue s.next (machine_of s) entry (entry_of entries) (tells-machine_of s) id queue requeues.same here
       requeues.others)
       (next-machine_of s' ∙ sym (next-with_queue (machine_of s) id queue ∙ next-machine_of s))
+      (going-machine_of s' ∙ sym (going-with_queue (machine_of s) id queue ∙ going-machine_of s))
 
   waiting_none : (m : Machine) (thread : ObjId) → queue_of m id ≡ None → with_waiting m id thread ≡ m
   unfolding with_waiting
@@ -579,3 +599,47 @@ module _ (s : Inside) (consistent : IsConsistent s) (id : ObjId) where
         ≡ without_first (machine_of s) id
     by_entry None is = sym (first_none (machine_of s) ((tells-machine_of s).queues id ∙ ap (queue_in s.next entry) is))
     by_entry (Some e) is = by_first e is e.ends.first refl
+
+  waiting_less :
+      (m : Machine) (thread : ObjId) (threads : List ObjId) → queue_of m id ≡ Some threads
+      → without_waiting m id thread ≡ with_queue m id (filter (λ other. not (same_id other thread)) threads)
+  unfolding without_waiting
+  waiting_less m thread threads e = rw e
+
+  -- a thread that waits there
+
+  module _ (thread : ObjId) (waits : WaitsThere (machine_of s) id thread) where
+    waits_here : (e : Entry) → entry id ≡ Some e → (standing_of (entry thread)).at ≡ Some id
+    waits_here e is =
+        let listed : Some (walk (λ t. standing_of (entry t)) s.next e.ends.first) ≡ Some waits.0 =
+        sym ((tells-machine_of s).queues id ∙ ap (queue_in s.next entry) is) ∙ waits.1 in
+        on_walk_waits (λ q. ends_of (entry q)) (λ t. standing_of (entry t)) s.next consistent.queued id s.next e.ends.first
+        (λ a first. (consistent.queued.first_is id a (ap (λ o. (ends_of o).first) is ∙ first)).0) thread
+        (subst (λ threads. Contains threads thread) (sym (same_Some _ _ listed)) waits.2)
+
+    pub IsConsistent-quitted :
+        IsConsistent (record s { store = quitted s.store id thread (option_map (λ e. e.ends) (entry id)) })
+    IsConsistent-quitted = by_entry (entry id) refl where
+      by_entry :
+          (o : Option Entry) → entry id ≡ o
+          → IsConsistent (record s { store = quitted s.store id thread (option_map (λ e. e.ends) o) })
+      by_entry None is = consistent
+      by_entry (Some e) is =
+          IsConsistent-requeued s consistent (quitted s.store id thread (Some e.ends)) id
+          (quitted_requeues s.store s.next id thread consistent.queued e is (waits_here e is))
+
+    pub quit_gives :
+        machine_of (record s { store = quitted s.store id thread (option_map (λ e. e.ends) (entry id)) })
+        ≡ without_waiting (machine_of s) id thread
+    quit_gives = by_entry (entry id) refl where
+      by_entry :
+          (o : Option Entry) → entry id ≡ o
+          → machine_of (record s { store = quitted s.store id thread (option_map (λ e. e.ends) o) })
+          ≡ without_waiting (machine_of s) id thread
+      by_entry None is =
+          let none : None ≡ Some waits.0 = sym ((tells-machine_of s).queues id ∙ ap (queue_in s.next entry) is) ∙ waits.1 in cc
+      by_entry (Some e) is =
+          queue_gives (quitted s.store id thread (Some e.ends)) _
+          (quitted_requeues s.store s.next id thread consistent.queued e is (waits_here e is))
+          (quitted_queue s.store s.next id thread consistent.queued e is (waits_here e is))
+          ∙ sym (waiting_less (machine_of s) thread _ ((tells-machine_of s).queues id ∙ ap (queue_in s.next entry) is))

@@ -10,15 +10,15 @@ use Rattle.base.specs.declared.ids.SlotRef.{SlotRef}
 use Rattle.machine.specs.declared.cap.Cap.{Cap}
 use Rattle.machine.specs.declared.object.Object.{Object}
 use Rattle.machine.specs.declared.object.Object.TheVariants as o
-use Rattle.machine.specs.Changes.{with_waiting, without_first}
+use Rattle.machine.specs.Changes.{with_waiting, without_first, without_object, without_waiting}
 use Rattle.machine.specs.Counts.{present, objects_in, slots_in, threads_in}
 use Rattle.machine.specs.Machine.{Machine, empty_machine, id_cmp, object_of, queue_of, with_cap, with_new, with_object}
 use Rattle.machine.specs.Machine.{with_parent, with_queue, without_cap, without_parent}
 use Rattle.machine.specs.Objects.{slot_count, thread_count}
-use Rattle.machine.proofs.FiniteSums.{sum_of, sum-empty, sum-insert, sum-set}
+use Rattle.machine.proofs.FiniteSums.{sum_of, sum-empty, sum-insert, sum-remove, sum-set}
 use Rattle.machine.proofs.LookUps.{id_total, id_apart}
 use Rattle.objects.specs.declared.counts.Counts.{Counts}
-use Rattle.objects.specs.Counts.{counts_in, one_more}
+use Rattle.objects.specs.Counts.{counts_in, one_less, one_more}
 use Rattle.objects.specs.Radices.{HasRadix}
 
 -- what is counted is a sum over the objects
@@ -76,6 +76,23 @@ counts-with_new m object none =
         → sum_of count (finite.insert m.objects (record { 0 = m.next }) object) ≡ sum_of count m.objects + count object
     inserted count = sum-insert id_total id_apart count m.objects (record { 0 = m.next }) object none
 
+pub counts-without_object :
+    (m : Machine) (id : ObjId) (object : Object) → object_of m id ≡ Some object
+    → counts_in m ≡ one_more (counts_in (without_object m id)) object
+unfolding without_object object_of
+counts-without_object m id object is =
+    same_counts _ _
+    (objects-sum m ∙ parts (λ _. 1) ∙ ap (λ n. n + 1) (sym (objects-sum (without_object m id))))
+    (slots-sum m ∙ parts slot_count ∙ ap (λ n. n + slot_count object) (sym (slots-sum (without_object m id))))
+    (threads-sum m ∙ parts thread_count ∙ ap (λ n. n + thread_count object) (sym (threads-sum (without_object m id))))
+  where
+    parts :
+        (count : Object → ℕ) → sum_of count m.objects ≡ sum_of count (finite.remove m.objects id) + count object
+    parts count = sum-remove id_total id_apart count m.objects id object is
+
+pub less_one_more : (counts : Counts) (object : Object) → one_less (one_more counts object) object ≡ counts
+less_one_more counts object = same_counts _ _ (omega arith) (omega arith) (omega arith)
+
 pub counts-with_object :
     (m : Machine) (id : ObjId) (old object : Object) → object_of m id ≡ Some old → slot_count object ≡ slot_count old
     → thread_count object ≡ thread_count old → counts_in (with_object m id object) ≡ counts_in m
@@ -125,6 +142,13 @@ counts-without_first m id = by_queue (queue_of m id) refl where
   by_queue None is = rw is refl
   by_queue (Some []) is = rw is refl
   by_queue (Some (thread ∷ threads)) is = rw is (counts-with_queue m id threads)
+
+pub counts-without_waiting : (m : Machine) (id thread : ObjId) → counts_in (without_waiting m id thread) ≡ counts_in m
+unfolding without_waiting
+counts-without_waiting m id thread = by_queue (queue_of m id) refl where
+  by_queue : (o : Option (List ObjId)) → queue_of m id ≡ o → counts_in (without_waiting m id thread) ≡ counts_in m
+  by_queue None is = rw is refl
+  by_queue (Some threads) is = rw is (counts-with_queue m id _)
 
 -- one object has no more slots than a CNode can have, and is one thread at most
 

@@ -10,9 +10,14 @@ pub mod EntryLemmas
 pub mod Families
 pub mod Forests
 pub mod LinkLemmas
+pub mod Passing
 pub mod PlaceLemmas
 pub mod QueueLemmas
+pub mod Quitting
 pub mod RankLemmas
+pub mod Removed
 pub mod SlotLemmas
 pub mod StateLemmas
 pub mod TreeState
+pub mod Walking
+pub mod Ways

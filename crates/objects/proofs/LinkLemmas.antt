@@ -1,6 +1,6 @@
 -- What the entries tell of their links after a thread has come to wait or has left.
 use Rattle.std.proofs.Common.{◌≡◌, ◌≢◌, ℕ, ◌<◌, List, [], ◌∷◌, ◌++◌, refl, sym, ap, subst, ◌∙◌, arith, inl, inr}
-use Rattle.std.specs.Prelude.{Option, Some, None, is_some, IsSome, option_map, Contains}
+use Rattle.std.specs.Prelude.{Option, Some, None, is_some, IsSome, option_map, Contains, filter, not}
 use Rattle.std.specs.Option.{option_or, option_and}
 use Rattle.std.proofs.lemmas.Bool.{false≢true}
 use Rattle.base.specs.declared.ids.ObjId.{ObjId}
@@ -8,13 +8,15 @@ use Rattle.objects.specs.declared.entry.Entry.{Entry}
 use Rattle.objects.specs.declared.links.Ends.{Ends}
 use Rattle.objects.specs.declared.links.Standing.{Standing}
 use Rattle.objects.specs.Entries.{Entries, entry_of, with_entry, set_ends_in, set_standing_in}
-use Rattle.objects.specs.Links.{ends_of, standing_of, queue_in, AreQueued, with_standing, relinked, pushed, left}
+use Rattle.objects.specs.Links.{ends_of, standing_of, queue_in, AreQueued, with_standing, relinked, pushed, left, end_after, quitting}
 use Rattle.objects.specs.Queues.{walk}
 use Rattle.objects.proofs.EntryLemmas.{entry_of-with_entry}
 use Rattle.objects.proofs.StateLemmas.{present_kept}
 use Rattle.objects.proofs.ChangeLemmas.{changed_here, changed_other, rest}
 use Rattle.objects.proofs.QueueLemmas.{Joins, Leaves, cases_id, walk_none, reaches, joined_queues, joined_here, joined_elsewhere}
 use Rattle.objects.proofs.QueueLemmas.{left_queues, left_here, left_elsewhere}
+use Rattle.objects.proofs.Quitting.{Quits, quit_queues, quit_here, quit_elsewhere}
+use Rattle.machine.specs.Machine.{same_id}
 
 abbrev pub SameRest : (ObjId → Option Entry) → (ObjId → Option Entry) → Type 0
 SameRest old new = (q : ObjId) → option_map rest (new q) ≡ option_map rest (old q)
@@ -321,3 +323,107 @@ module _ (entries : Entries) (numbers : ℕ) (id thread : ObjId)
               ∙ ap Some (left_here _ _ _ _ numbers queued id thread leaves first_is popped_requeues.queued),
           queue_there numbers rest_after (rest_after id) (still_there old rest_after pops.same id some),
         )
+
+  -- any of those that wait leaves
+
+  module _ (waits : (standing_old thread).at ≡ Some id) where
+    abbrev stands : Standing
+    stands = standing_old thread
+
+    abbrev nowhere : Standing
+    nowhere = record { at = None; previous = None; next = None }
+
+    abbrev ends_left : Ends
+    ends_left =
+        record {
+          first = end_after stands.previous stands.next e.ends.first;
+          last = end_after stands.next stands.previous e.ends.last;
+        }
+
+    abbrev forward : Standing → Standing
+    forward s = record s { next = stands.next }
+
+    abbrev backward : Standing → Standing
+    backward s = record s { previous = stands.previous }
+
+    abbrev between : Entries
+    between = with_standing entries stands.previous forward
+
+    abbrev without : ObjId → Option Entry
+    without = entry_of (quitting entries id thread stands e.ends)
+
+    abbrev standing_between : ObjId → Standing
+    standing_between q = standing_of (entry_of between q)
+
+    precedes : (q : ObjId) → stands.previous ≡ Some q → (standing_old q).next ≡ Some thread
+    precedes q before = queued.back q thread before
+
+    first_step : SetsStanding old (entry_of between) stands.previous forward
+    first_step =
+        sets_standing entries stands.previous forward
+        (λ q before. standing_there old q id (sym (queued.beside q thread (precedes q before)) ∙ waits))
+
+    there_between : (q : ObjId) → IsSome (old q) → IsSome (entry_of between q)
+    there_between q there = still_there old (entry_of between) first_step.same q there
+
+    steps : Relinks (entry_of between) without stands.next backward thread nowhere id ends_left
+    steps =
+        relinks between stands.next backward thread nowhere id ends_left
+        (λ q behind. there_between q (standing_there old q id (queued.beside thread q behind ∙ waits)))
+        (there_between thread (standing_there old thread id waits)) (there_between id (ap is_some is))
+
+    all_kept : SameRest old without
+    all_kept q = steps.same q ∙ first_step.same q
+
+    differs_before : (q : ObjId) → stands.previous ≡ Some q → q ≢ thread
+    differs_before q before same =
+        let later : queued.rank q < queued.rank thread = queued.later q thread (precedes q before) in
+        let one : queued.rank q ≡ queued.rank thread = ap queued.rank same in omega arith
+
+    differs_behind : (q : ObjId) → stands.next ≡ Some q → q ≢ thread
+    differs_behind q behind same =
+        let later : queued.rank thread < queued.rank q = queued.later thread q behind in
+        let one : queued.rank q ≡ queued.rank thread = ap queued.rank same in omega arith
+
+    one_neighbour : (q : ObjId) → stands.previous ≡ Some q → stands.next ≢ Some q
+    one_neighbour q before behind =
+        let early : queued.rank q < queued.rank thread = queued.later q thread (precedes q before) in
+        let late : queued.rank thread < queued.rank q = queued.later thread q behind in omega arith
+
+    quits : Quits ends_old (λ q. ends_of (without q)) standing_old (λ q. standing_of (without q)) id thread
+    quits =
+        record {
+          ends_here =
+              steps.ends_here
+              ∙ ap (λ o. record {
+                first = end_after stands.previous stands.next (ends_of o).first;
+                last = end_after stands.next stands.previous (ends_of o).last;
+              }) (sym is);
+          ends_other = λ q differs. steps.ends_other q differs ∙ first_step.ends q;
+          gone = steps.here;
+          before = λ q before. steps.other q (differs_before q before) (one_neighbour q before) ∙ first_step.here q before;
+          behind =
+              λ q behind.
+              steps.beside q (differs_behind q behind) behind
+              ∙ ap backward (first_step.other q (λ before. one_neighbour q before behind));
+          kept = λ q differs far other. steps.other q differs other ∙ first_step.other q far;
+        }
+
+    pub quitted_requeues : Requeues old without numbers id
+    quitted_requeues =
+        record {
+          queued = quit_queues _ _ _ _ numbers queued id thread quits waits;
+          same = all_kept;
+          others =
+              λ q differs.
+              same_queue numbers old without all_kept q (quit_elsewhere _ _ _ _ numbers queued id thread quits waits q differs);
+        }
+
+    pub quitted_queue :
+        queue_in numbers without (without id)
+        ≡ Some (filter (λ other. not (same_id other thread)) (walk standing_old numbers e.ends.first))
+    quitted_queue =
+        queue_there numbers without (without id) (still_there old without all_kept id (ap is_some is))
+        ∙ ap Some
+        (quit_here _ _ _ _ numbers queued id thread quits waits
+        ∙ ap (λ o. filter (λ other. not (same_id other thread)) (walk standing_old numbers (ends_of o).first)) is)

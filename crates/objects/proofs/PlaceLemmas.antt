@@ -20,7 +20,7 @@ use Rattle.machine.proofs.LookUps.{id_total, id_apart}
 use Rattle.objects.specs.declared.entry.Entry.{Entry}
 use Rattle.objects.specs.declared.store.Store.TheInside.{Inside}
 use Rattle.objects.specs.Entries.{Entries, entry_of, with_entry}
-use Rattle.objects.specs.Places.{places_in, placed, entries_by_number, IsPlaced, changed_at, changed, with_placed, AddsEntry, SameEntries}
+use Rattle.objects.specs.Places.{places_in, placed, entries_by_number, IsPlaced, changed_at, changed, with_placed, AddsEntry, RemovesEntry, SameEntries}
 use Rattle.objects.proofs.EntryLemmas.{some-none, entry_of-with_entry}
 use Rattle.machine.proofs.FiniteLemmas.{by_key, get-tabulate}
 
@@ -271,3 +271,50 @@ module _ (s t : Inside) (is : IsPlaced s) (number : ℕ) (entry : Entry)
       ∙ placed-added (places_in s.places) (places_in t.places) s.entries t.entries (record { 0 = number }) entry is.held adds q
       ∙ ap (cond (same_id q (record { 0 = number })) (Some entry)) (sym (by_number s q))
       ∙ sym (finite.get-insert id_total (entries_by_number s) (record { 0 = number }) entry q))
+
+-- an entry is removed
+
+module _ (s t : Inside) (is : IsPlaced s) (id : ObjId)
+    (removes : RemovesEntry (places_in s.places) (places_in t.places) s.entries t.entries id.0) where
+  another : (a place : ℕ) → places_in t.places a ≡ Some place → a ≢ id.0
+  another a place here same = let none : places_in t.places a ≡ None = ap (places_in t.places) same ∙ removes.gone in cc
+
+  placed_before : (a place : ℕ) → places_in t.places a ≡ Some place → places_in s.places a ≡ Some place
+  placed_before a place here = sym (removes.stays a (another a place here)) ∙ here
+
+  entry_stays :
+      (a place : ℕ) → a ≢ id.0 → places_in s.places a ≡ Some place → slab.get t.entries place ≡ slab.get s.entries place
+  entry_stays a place differs here = removes.kept place (λ there. differs (is.apart a id.0 place here there))
+
+  pub IsPlaced-removed : IsPlaced t
+  IsPlaced-removed =
+      record {
+        apart = λ a b place here there. is.apart a b place (placed_before a place here) (placed_before b place there);
+        held =
+            λ a place here.
+            let was = placed_before a place here in
+            ap is_some (entry_stays a place (another a place here) was) ∙ is.held a place was;
+      }
+
+  placed-removed :
+      (q : ObjId)
+      → placed (places_in t.places) t.entries q ≡ cond (same_id q id) None (placed (places_in s.places) s.entries q)
+  placed-removed q =
+      by_key id_total id_apart q id _ _ _
+      (λ same. ap (placed (places_in t.places) t.entries) same ∙ ap (option_and_then (slab.get t.entries)) removes.gone)
+      (λ apart.
+      let differs : q.0 ≢ id.0 = λ same. apart (ap (λ n. record { 0 = n }) same) in
+      ap (option_and_then (slab.get t.entries)) (removes.stays q.0 differs) ∙ by_place differs (places_in s.places q.0) refl)
+    where
+      by_place :
+          q.0 ≢ id.0 → (o : Option ℕ) → places_in s.places q.0 ≡ o
+          → option_and_then (slab.get t.entries) o ≡ option_and_then (slab.get s.entries) o
+      by_place differs None here = refl
+      by_place differs (Some place) here = entry_stays q.0 place differs here
+
+  pub removed_by_number : entries_by_number t ≡ finite.remove (entries_by_number s) id
+  removed_by_number =
+      same_entries _ _
+      (λ q.
+      by_number t q ∙ placed-removed q ∙ ap (cond (same_id q id) None) (sym (by_number s q))
+      ∙ sym (finite.get-remove id_total (entries_by_number s) id q))

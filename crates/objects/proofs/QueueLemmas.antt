@@ -18,7 +18,7 @@ cases_id a b =
       | inr differs ↦ inr (λ same. differs (ap (λ id. id.0) same))
     ]
 
-cases_some : (o : Option ObjId) (a : ObjId) → (o ≡ Some a) ⊎ (o ≢ Some a)
+pub cases_some : (o : Option ObjId) (a : ObjId) → (o ≡ Some a) ⊎ (o ≢ Some a)
 cases_some None a = inr (λ same. cc)
 cases_some (Some b) a =
     elim (cases_id b a) [ inl same ↦ inl (ap Some same) | inr differs ↦ inr (λ same. differs cc) ]

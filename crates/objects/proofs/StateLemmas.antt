@@ -10,7 +10,7 @@ use Rattle.std.specs.FinMap as finite
 use Rattle.base.specs.declared.ids.ObjId.{ObjId}
 use Rattle.base.specs.declared.ids.SlotRef.{SlotRef}
 use Rattle.machine.specs.declared.object.Object.{Object}
-use Rattle.machine.specs.Machine.{Machine, same_id, same_slot, object_of, queue_of}
+use Rattle.machine.specs.Machine.{Machine, nothing_going, same_id, same_slot, object_of, queue_of}
 use Rattle.machine.proofs.LookUps.{id_total, id_apart, slot_total, slot_apart}
 use Rattle.machine.specs.Machine.{words_of, cap_of, parent_of}
 use Rattle.machine.proofs.LookUps.{same_machine}
@@ -41,10 +41,10 @@ pub record Tells (numbers : ℕ) (m : Machine) (entry : ObjId → Option Entry) 
 -- machines of which the same entries tell are one
 pub same_from_tells :
     (numbers : ℕ) (m n : Machine) (entry : ObjId → Option Entry) → Tells numbers m entry → Tells numbers n entry
-    → m.next ≡ n.next → m ≡ n
-same_from_tells numbers m n entry a b next =
+    → m.next ≡ n.next → m.going ≡ n.going → m ≡ n
+same_from_tells numbers m n entry a b next going =
     same_machine m n (λ q. a.objects q ∙ sym (b.objects q)) (λ q. a.queues q ∙ sym (b.queues q))
-    (λ q. a.words q ∙ sym (b.words q)) (λ q. a.caps q ∙ sym (b.caps q)) (λ q. a.parents q ∙ sym (b.parents q)) next
+    (λ q. a.words q ∙ sym (b.words q)) (λ q. a.caps q ∙ sym (b.caps q)) (λ q. a.parents q ∙ sym (b.parents q)) next going
 
 -- each slot with an entry is listed
 
@@ -156,6 +156,10 @@ unfolding machine_of
 tells-machine_of s =
     tells-machine_from (entry_of s.store) (finite.keys s.store) s.next
     (listed s.store)
+
+pub going-machine_of : (s : Inside) → (machine_of s).going ≡ nothing_going
+unfolding machine_of
+going-machine_of s = refl
 
 pub next-machine_of : (s : Inside) → (machine_of s).next ≡ s.next
 unfolding machine_of

@@ -29,7 +29,7 @@ use Rattle.machine.proofs.FiniteLemmas.{by_key, cond_here}
 use Rattle.machine.proofs.TreeRanks.{ranked_acyclic}
 use Rattle.objects.proofs.Forests.{childless}
 use Rattle.objects.proofs.SlotLemmas.{SlotsAlone, ChangesSlot, changes_slot, cases_slot, filled_there, within_there}
-use Rattle.objects.proofs.StateLemmas.{present_kept, tells-machine_of, next-machine_of, same_from_tells}
+use Rattle.objects.proofs.StateLemmas.{present_kept, tells-machine_of, going-machine_of, next-machine_of, same_from_tells}
 
 abbrev with_entries : Inside → Entries → Inside
 with_entries s entries = record s { store = entries }
@@ -72,6 +72,7 @@ slots_give s entries next alone objects caps parents =
     (tells-slots s.next (machine_of s) (entry_of s.store) (entry_of entries) (tells-machine_of s) next objects
     alone.same caps parents)
     (next-machine_of s' ∙ sym (objects.number ∙ next-machine_of s))
+    (going-machine_of s' ∙ sym (objects.going ∙ going-machine_of s))
 
 -- the parent by links
 parent_linked : (o : Option Slot) → parent_in o ≡ (links_of o).parent
@@ -85,7 +86,7 @@ module _ (s : Inside) (consistent : IsConsistent s) where
   cap_is : (q : SlotRef) → cap_of (machine_of s) q ≡ cap_in (slot_at entry q)
   cap_is = (tells-machine_of s).caps
 
-  parent_is : (q : SlotRef) → parent_of (machine_of s) q ≡ (links_at entry q).parent
+  pub parent_is : (q : SlotRef) → parent_of (machine_of s) q ≡ (links_at entry q).parent
   parent_is q = (tells-machine_of s).parents q ∙ parent_linked (slot_at entry q)
 
   -- a capability comes or goes
@@ -154,7 +155,7 @@ module _ (s : Inside) (consistent : IsConsistent s) where
 
   put_same : (slot : SlotRef) (held : Cap) → SameObjects (machine_of s) (with_cap (machine_of s) slot held)
   unfolding object_of queue_of words_of with_cap
-  put_same slot held = record { objects = λ q. refl; queues = λ q. refl; words = λ q. refl; number = refl }
+  put_same slot held = record { objects = λ q. refl; queues = λ q. refl; words = λ q. refl; number = refl; going = refl }
 
   put_parents : (slot : SlotRef) (held : Cap) (q : SlotRef) → parent_of (with_cap (machine_of s) slot held) q ≡ parent_of (machine_of s) q
   unfolding parent_of with_cap
@@ -189,7 +190,7 @@ module _ (s : Inside) (consistent : IsConsistent s) where
 
   take_same : (slot : SlotRef) → SameObjects (machine_of s) (without_cap (machine_of s) slot)
   unfolding object_of queue_of words_of without_cap
-  take_same slot = record { objects = λ q. refl; queues = λ q. refl; words = λ q. refl; number = refl }
+  take_same slot = record { objects = λ q. refl; queues = λ q. refl; words = λ q. refl; number = refl; going = refl }
 
   take_parents : (slot q : SlotRef) → parent_of (without_cap (machine_of s) slot) q ≡ parent_of (machine_of s) q
   unfolding parent_of without_cap
@@ -299,7 +300,7 @@ module _ (s : Inside) (consistent : IsConsistent s) where
 
     attach_same : SameObjects (machine_of s) (with_parent (machine_of s) slot parent)
     unfolding object_of queue_of words_of with_parent
-    attach_same = record { objects = λ q. refl; queues = λ q. refl; words = λ q. refl; number = refl }
+    attach_same = record { objects = λ q. refl; queues = λ q. refl; words = λ q. refl; number = refl; going = refl }
 
     pub attach_gives : machine_of (with_entries s under) ≡ with_parent (machine_of s) slot parent
     attach_gives =
@@ -318,7 +319,7 @@ module _ (s : Inside) (consistent : IsConsistent s) where
 
     detach_same : SameObjects (machine_of s) (without_parent (machine_of s) slot)
     unfolding object_of queue_of words_of without_parent
-    detach_same = record { objects = λ q. refl; queues = λ q. refl; words = λ q. refl; number = refl }
+    detach_same = record { objects = λ q. refl; queues = λ q. refl; words = λ q. refl; number = refl; going = refl }
 
     detach_caps : (q : SlotRef) → cap_of (without_parent (machine_of s) slot) q ≡ cap_of (machine_of s) q
     unfolding cap_of without_parent
@@ -375,5 +376,5 @@ module _ (s : Inside) (consistent : IsConsistent s) where
           (λ q.
           by_key slot_total slot_apart q slot _ _ _ (λ same. ap (parent_of (machine_of s)) same ∙ parent_is slot ∙ is) (λ apart. refl)
           ∙ sym (detach_parents q))
-          (sym detach_same.number)
+          (sym detach_same.number) (sym detach_same.going)
       by_parent (Some parent) is = child_gives parent (parent_is slot ∙ is)

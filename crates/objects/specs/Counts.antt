@@ -1,5 +1,5 @@
 -- How much a state counts: objects, slots and threads.
-use Rattle.std.specs.Prelude.{ℕ, ◌+◌, ◌*◌, ◌^◌, ◌≤◌}
+use Rattle.std.specs.Prelude.{ℕ, ◌+◌, ◌-◌, ◌*◌, ◌^◌, ◌≤◌}
 use Rattle.base.specs.declared.limits.TheConstants.{MAX_RADIX}
 use Rattle.machine.specs.declared.object.Object.{Object}
 use Rattle.machine.specs.Counts.{objects_in, slots_in, threads_in}
@@ -14,6 +14,15 @@ one_more counts object =
       objects = counts.objects + 1;
       slots = counts.slots + slot_count object;
       threads = counts.threads + thread_count object;
+    }
+
+-- the counts with one object less
+abbrev pub one_less : Counts → Object → Counts
+one_less counts object =
+    record {
+      objects = counts.objects - 1;
+      slots = counts.slots - slot_count object;
+      threads = counts.threads - thread_count object;
     }
 
 -- how much a machine has

@@ -9,3 +9,4 @@ pub mod Queues
 pub mod Radices
 pub mod State
 pub mod Waiting
+pub mod Walks

@@ -59,3 +59,22 @@ left entries id ends (Some first) =
 abbrev pub popped : Entries → ObjId → Option Ends → Entries
 popped entries id None = entries
 popped entries id (Some ends) = left entries id ends ends.first
+
+-- an end of a queue that a thread has left, by its neighbour towards that end, the other one, and what the end was
+abbrev pub end_after : Option ObjId → Option ObjId → Option ObjId → Option ObjId
+end_after None other end = other
+end_after (Some neighbour) other end = end
+
+-- a thread that stands so, between any two, leaves a queue that has these ends
+abbrev pub quitting : Entries → ObjId → ObjId → Standing → Ends → Entries
+quitting entries id thread standing ends =
+    relinked (with_standing entries standing.previous (λ s. record s { next = standing.next })) standing.next
+    (λ s. record s { previous = standing.previous }) thread (record { at = None; previous = None; next = None }) id
+    (record {
+      first = end_after standing.previous standing.next ends.first;
+      last = end_after standing.next standing.previous ends.last;
+    })
+
+abbrev pub quitted : Entries → ObjId → ObjId → Option Ends → Entries
+quitted entries id thread None = entries
+quitted entries id thread (Some ends) = quitting entries id thread (standing_of (entry_of entries thread)) ends

@@ -50,6 +50,12 @@ pub record AddsEntry (places places' : ℕ → Option ℕ) (entries entries' : S
   pub stays : (other : ℕ) → other ≢ number → places' other ≡ places other
   pub added : slab.Updates entries entries' place (Some entry)
 
+-- the number has no place; every other number has the place that it had, and each place but the number's its entry
+pub record RemovesEntry (places places' : ℕ → Option ℕ) (entries entries' : Slab Entry) (number : ℕ) : Type 0 where
+  pub gone : places' number ≡ None
+  pub stays : (other : ℕ) → other ≢ number → places' other ≡ places other
+  pub kept : (place : ℕ) → places number ≢ Some place → slab.get entries' place ≡ slab.get entries place
+
 -- each number has the place that it had, and each place its entry
 pub record SameEntries (places places' : ℕ → Option ℕ) (entries entries' : Slab Entry) : Type 0 where
   pub placed : (number : ℕ) → places' number ≡ places number

@@ -6,7 +6,7 @@ use Rattle.base.specs.declared.ids.ObjId.{ObjId}
 use Rattle.base.specs.declared.ids.SlotRef.{SlotRef}
 use Rattle.base.specs.declared.limits.TheConstants.{OBJECT_NUMBERS}
 use Rattle.machine.specs.Counts.{caps_to}
-use Rattle.machine.specs.Machine.{Machine}
+use Rattle.machine.specs.Machine.{Going, Machine, nothing_going}
 use Rattle.machine.specs.Objects.{slot_count}
 use Rattle.objects.specs.declared.entry.Entry.{Entry}
 use Rattle.objects.specs.declared.state.State.TheInside.{Inside}
@@ -33,6 +33,7 @@ machine_from entry ids next =
       caps = tabulate (λ slot. cap_in (slot_at entry slot)) slots;
       parents = tabulate (λ slot. parent_in (slot_at entry slot)) slots;
       next = next;
+      going = nothing_going;
     }
 
 -- the state as a machine

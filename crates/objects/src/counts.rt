@@ -1,7 +1,8 @@
-ghost use Rattle.std.specs.Prelude.{◌≡◌, ◌+◌, ◌*◌, ◌<◌, ◌^◌, length};
+ghost use Rattle.std.specs.Prelude.{◌≡◌, ◌+◌, ◌*◌, ◌<◌, ◌≤◌, ◌^◌, length};
 ghost use Rattle.std.specs.List.{fold};
 ghost use Rattle.base.specs.declared.limits.TheConstants.{MAX_RADIX};
-ghost use Rattle.objects.specs.Counts.{one_more};
+ghost use Rattle.machine.specs.Objects.{slot_count, thread_count};
+ghost use Rattle.objects.specs.Counts.{one_more, one_less};
 
 use machine::Object;
 
@@ -34,5 +35,19 @@ impl Counts {
             counts.threads += object.thread_count();
         }
         counts
+    }
+
+    /// The counts without one of the objects that they count.
+    pub fn without(self, object: &Object) -> Counts
+        requires objects { 1 ≤ self.objects }
+        requires slots { slot_count object.now ≤ self.slots }
+        requires threads { thread_count object.now ≤ self.threads }
+        ensures { result ≡ one_less self object.now }
+    {
+        Counts {
+            objects: self.objects - 1,
+            slots: self.slots - object.slot_count(),
+            threads: self.threads - object.thread_count(),
+        }
     }
 }

@@ -1,7 +1,7 @@
 //! Where the entry of an object is kept: a hash map from numbers to places, and the entries at these.
 ghost use Rattle.std.specs.Prelude.{◌≡◌, ◌+◌, ℕ, option_copied, OnOk};
 ghost use Rattle.objects.specs.Entries.{set_slot_in, replace_in, set_ends_in, set_standing_in, set_caps_in};
-ghost use Rattle.objects.specs.Places.{places_in, placed, with_placed, AddsEntry, SameEntries, HasRoom};
+ghost use Rattle.objects.specs.Places.{places_in, placed, with_placed, AddsEntry, RemovesEntry, SameEntries, HasRoom};
 
 use crate::entry::Entry;
 use crate::links::{Ends, Standing};
@@ -113,4 +113,13 @@ pub fn add_reserved(
     let place = entries.insert_reserved(entry);
     let inserted: Result<_, _> = places.insert(number, place);
     inserted.unwrap();
+}
+
+/// Removes the entry of the number, if it is in use.
+pub fn remove(places: &mut HashMap<u64, usize>, entries: &mut Slab<Entry>, number: u64)
+    ensures { RemovesEntry (places_in places.old) (places_in places.new) entries.old entries.new number }
+{
+    if let Some(place) = places.remove(&number) {
+        entries.try_remove(place);
+    }
 }

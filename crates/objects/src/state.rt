@@ -50,9 +50,10 @@ impl State {
     ghost use Rattle.machine.specs.WellFormed.{Descends};
     ghost use Rattle.machine.specs.Counts.{objects_in, slots_in, threads_in, caps_to};
     ghost use Rattle.machine.specs.Objects.{slot_count, thread_count};
-    ghost use Rattle.objects.specs.Waiting.{WaitsNowhere};
+    ghost use Rattle.objects.specs.Waiting.{WaitsNowhere, WaitsThere};
+    ghost use Rattle.objects.specs.Walks.{IsBehind};
     ghost use Rattle.machine.specs.Changes.{first_waiting, with_pending, with_tcb, with_context, with_waiting, without_first};
-    ghost use Rattle.machine.specs.Changes.{with_watermark};
+    ghost use Rattle.machine.specs.Changes.{with_watermark, without_object, without_waiting};
 
     /// A state with no objects, which takes its memory from the allocator.
     pub fn new(alloc: Global) -> State
@@ -190,6 +191,21 @@ impl State {
         Ok(())
     }
 
+    /// Removes the object, for which there is no capability. Its slots are empty, nobody waits at it,
+    /// and it waits nowhere. Its number isn't used again. Does nothing where there is no such object.
+    pub fn remove_object(&mut self, id: ObjId)
+        requires unheld { caps_to self.old id ≡ 0 }
+        requires hollow { (slot : Slot) → slot.holder ≡ id → cap_of self.old slot ≡ None }
+        requires deserted { first_waiting self.old id ≡ None }
+        requires free { WaitsNowhere self.old id }
+        ensures { self.new ≡ without_object self.old id }
+    {
+        if let Some(&object) = self.object(id) {
+            self.store.remove(id);
+            self.counts = self.counts.without(&object);
+        }
+    }
+
     /// Puts a capability into an empty slot.
     pub fn put_cap(&mut self, slot: SlotRef, cap: Cap)
         requires there { IsTrue (has_slot self.old slot) }
@@ -220,6 +236,30 @@ impl State {
         ensures none { IfNone result ((child : Slot) → parent_of self.now child ≢ Some slot) }
     {
         self.store.first_child(slot)
+    }
+
+    /// The slot that comes behind `last` in a walk through all that descends from `above`; the first
+    /// of the walk where no `last` is named. The walk comes to each slot once, before what descends
+    /// from it.
+    ///
+    /// It takes time in the length of the way up, but a whole walk takes time in the number of slots.
+    pub fn next_descendant(&self, above: SlotRef, last: Option<SlotRef>) -> Option<SlotRef>
+        requires { IfSome last (λ last. Descends self.now last above) }
+        ensures { IsBehind self.now above last result }
+    {
+        let from = last.unwrap_or(above);
+        if let Some(child) = self.store.first_child(from) {
+            return Some(child);
+        }
+        let mut at = from;
+        while at != above {
+            let links = self.store.links(at);
+            if let Some(sibling) = links.next {
+                return Some(sibling);
+            }
+            at = links.parent?;
+        }
+        None
     }
 
     /// Makes the capability in `slot`, which has no parent, a child of that in `parent` in the
@@ -328,5 +368,15 @@ impl State {
         ensures rest { self.new ≡ without_first self.old id }
     {
         self.store.pop(id)
+    }
+
+    /// Takes a thread out of those that wait at the object. The others stay in their order.
+    ///
+    /// It takes the same time however many wait.
+    pub fn take_waiting(&mut self, id: ObjId, thread: ObjId)
+        requires { WaitsThere self.old id thread }
+        ensures { self.new ≡ without_waiting self.old id thread }
+    {
+        self.store.take_out(id, thread);
     }
 }

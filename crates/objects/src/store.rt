@@ -1,6 +1,7 @@
 //! The entries of the objects, found by number.
 ghost use Rattle.std.specs.Prelude.{◌≡◌, None, Some, option_copied, option_map, option_and_then, OnOk, OnErr};
 ghost use Rattle.objects.specs.Family.{head_of};
+ghost use Rattle.objects.specs.Links.{end_after};
 
 use crate::entry::{Entry, new_entries};
 use crate::links::{Ends, Standing, TreeLinks};
@@ -47,7 +48,7 @@ impl Store {
     ghost use Rattle.objects.specs.Entries.{entry_of, slot_at, with_entry, set_slot_in, replace_in};
     ghost use Rattle.objects.specs.Entries.{new_entry, with_more, set_ends_in, set_standing_in, set_caps_in, caps_in};
     ghost use Rattle.objects.specs.Family.{cap_in, parent_in, links_at, with_slot, with_links, attached, leaving, detached};
-    ghost use Rattle.objects.specs.Links.{standing_of, with_standing, pushed, popped};
+    ghost use Rattle.objects.specs.Links.{standing_of, with_standing, pushed, popped, quitted};
     ghost use Rattle.objects.specs.Radices.{HasRadix};
     ghost use Rattle.base.specs.declared.limits.TheConstants.{OBJECT_NUMBERS};
     ghost use Rattle.std.specs.Prelude.{◌+◌, ◌≤◌, length, map};
@@ -106,8 +107,8 @@ impl Store {
         self.links(at).first
     }
 
-    // The links of the slot; one that is absent has none.
-    fn links(&self, at: SlotRef) -> TreeLinks
+    /// The links of the slot; one that is absent has none.
+    pub fn links(&self, at: SlotRef) -> TreeLinks
         ensures { result ≡ links_at (entry_of self.now) at }
     {
         match self.slot(at) {
@@ -345,6 +346,32 @@ impl Store {
         Some(first)
     }
 
+    /// Takes a thread out of the object's queue, if the object is present. Its neighbours come
+    /// together.
+    pub fn take_out(&mut self, id: ObjId, thread: ObjId)
+        ensures { self.new
+            ≡ quitted self.old id thread (option_map (λ entry. entry.ends) (entry_of self.old id)) }
+    {
+        if let Some(ends) = self.ends(id) {
+            let standing = self.standing(thread);
+            let rest = Ends {
+                first: remaining_end(standing.previous, standing.next, ends.first),
+                last: remaining_end(standing.next, standing.previous, ends.last),
+            };
+            self.set_next(standing.previous, standing.next);
+            self.set_previous(standing.next, standing.previous);
+            self.set_standing(thread, Standing::NOWHERE);
+            self.set_ends(id, rest);
+        }
+    }
+
+    /// Removes the object's entry, if it is present.
+    pub fn remove(&mut self, id: ObjId)
+        ensures { self.new ≡ finite.remove self.old id }
+    {
+        places::remove(&mut self.places, &mut self.entries, id.0);
+    }
+
     /// Adds the entries of new objects under one number after another, from a first on that none in
     /// use reaches.
     pub fn add_all(&mut self, first: u64, objects: &[Object]) -> Result<(), AllocError>
@@ -371,5 +398,20 @@ fn heads(links: TreeLinks) -> Option<SlotRef>
     match links.previous {
         None => links.parent,
         Some(_) => None,
+    }
+}
+
+// An end of a queue that a thread has left, by its neighbour towards that end, the other one, and
+// what the end was.
+fn remaining_end(
+    neighbour: Option<ObjId>,
+    other: Option<ObjId>,
+    end: Option<ObjId>,
+) -> Option<ObjId>
+    ensures { result ≡ end_after neighbour other end }
+{
+    match neighbour {
+        None => other,
+        Some(_) => end,
     }
 }

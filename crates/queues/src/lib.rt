@@ -3,8 +3,8 @@
 
 ghost use Rattle.std.specs.Prelude.{◌≡◌, None, IsSome};
 ghost use Rattle.machine.specs.Machine.{object_of};
-ghost use Rattle.machine.specs.Changes.{first_waiting, with_waiting, without_first};
-ghost use Rattle.objects.specs.Waiting.{WaitsNowhere};
+ghost use Rattle.machine.specs.Changes.{first_waiting, with_waiting, without_first, without_waiting};
+ghost use Rattle.objects.specs.Waiting.{WaitsNowhere, WaitsThere};
 
 use base::ObjId;
 use objects::State;
@@ -27,6 +27,14 @@ pub fn pop_first(state: &mut State, id: ObjId) -> Option<ObjId>
     ensures kept { result ≡ None → state.new ≡ state.old }
 {
     state.pop_waiting(id)
+}
+
+/// Takes a thread out of the queue that it waits in. The others stay in their order.
+pub fn take_out(state: &mut State, id: ObjId, thread: ObjId)
+    requires { WaitsThere state.old id thread }
+    ensures { state.new ≡ without_waiting state.old id thread }
+{
+    state.take_waiting(id, thread);
 }
 
 #[cfg(test)]

@@ -83,7 +83,7 @@ fn label() -> Result<Label, Fail> {
     Ok(Label::new(0).ok_or("label")?)
 }
 
-fn core() -> Result<CoreNo, Fail> {
+pub fn core() -> Result<CoreNo, Fail> {
     Ok(CoreNo::new(0).ok_or("core")?)
 }
 

@@ -1,16 +1,17 @@
-//! `untyped::retype` and `untyped::retype_refusal`.
+//! `kernel::step` and `kernel::retype_refusal` of an event that makes objects.
 ghost use Rattle.machine.specs.WellFormed.{IsWellFormed};
 
-use crate::memory::{answered, lend, prepared, spend};
+use crate::bell::core;
+use crate::memory::{NO_MEMORY, lend, prepared, refused, spend};
 use crate::states::booted;
-use base::{Cause, ObjId, Refusal, SlotRef};
+use base::{ObjId, Refusal, SlotRef};
 use captext::read_table;
-use machine::{Answer, Made, MemoryKind, Object};
+use kernel::{retype_refusal, step};
+use machine::{Answer, Call, Event, MemoryKind, Object, Outcome};
 use objects::State;
 use std::process::Abort;
 use std::test::Fail;
 use table::Table;
-use untyped::{retype, retype_refusal};
 
 /// A thread with untyped memory, and with a capability for its CNode in the CNode itself.
 const TABLE: &str = "\
@@ -61,19 +62,20 @@ fn standing(state: &State, offset: u64) -> (u64, Option<u64>, bool) {
     )
 }
 
-/// Makes one object of a kind, whose capability comes into a slot of the CNode.
-fn makes(rt: &impl Abort, state: &mut State, kind: MemoryKind, offset: u64) -> Result<(), Fail>
-    requires { IsWellFormed state.old }
-    ensures { IsWellFormed state.new }
-{
-    let before = standing(state, offset);
-    let made = retype(state, THREAD, 0, kind, 0, 1, offset, 1);
-    if made.is_err() {
-        assert_eq!(rt; standing(state, offset), before);
-    }
-    let made = answered(rt, made, Cause::OutOfMemory)?;
-    assert_eq!(rt; made, Made::Done(Answer::Count(1)));
-    Ok(())
+/// The thread makes so many objects of a kind, whose capabilities come into slots of the CNode from one on.
+fn event(kind: MemoryKind, offset: u64, count: u64) -> Result<Event, Fail> {
+    Ok(Event {
+        core: core()?,
+        thread: THREAD,
+        call: Call::Retype {
+            untyped: 0,
+            kind,
+            bits: 0,
+            to: 1,
+            offset,
+            count,
+        },
+    })
 }
 
 /// Asserts that so many objects of a kind are refused.
@@ -87,7 +89,7 @@ fn refuses(
 ) -> Result<(), Fail>
     requires { IsWellFormed state.now }
 {
-    let refusal = retype_refusal(state, THREAD, 0, kind, 0, 1, offset, count);
+    let refusal = retype_refusal(state, event(kind, offset, count)?);
     assert_eq!(rt; refusal, Some(Refusal { code, detail: 0 }));
     Ok(())
 }
@@ -106,36 +108,67 @@ fn is_made(
     Ok(())
 }
 
-fn retypes_on(rt: &impl Abort, state: &mut State) -> Result<(), Fail>
+/// What an event that makes an object of a kind comes to.
+fn making(state: &mut State, kind: MemoryKind, offset: u64) -> Result<Outcome, Fail>
+    requires { IsWellFormed state.old }
+    ensures { IsWellFormed state.new }
+{
+    let event = event(kind, offset, 1)?;
+    Ok(step(state, event))
+}
+
+/// Makes an object. Where memory is refused, nothing changes, and the same event is done when it comes again.
+fn steps(rt: &impl Abort, state: &mut State, kind: MemoryKind, offset: u64) -> Result<(), Fail>
+    requires { IsWellFormed state.old }
+    ensures { IsWellFormed state.new }
+{
+    const MADE: Outcome = Outcome::Done(Answer::Count(1));
+    let before = standing(state, offset);
+    let outcome = making(state, kind, offset)?;
+    if outcome == MADE {
+        return Ok(());
+    }
+    assert_eq!(rt; outcome, Outcome::Refused(NO_MEMORY));
+    assert_eq!(rt; standing(state, offset), before);
+    let again = making(state, kind, offset)?;
+    assert_eq!(rt; again, MADE);
+    Err(refused())
+}
+
+fn steps_on(rt: &impl Abort, state: &mut State) -> Result<(), Fail>
     requires { IsWellFormed state.old }
 {
-    makes(rt, state, MemoryKind::Endpoint, 3)?;
+    steps(rt, state, MemoryKind::Endpoint, 3)?;
     refuses(rt, state, MemoryKind::Endpoint, 2, 2, 8)?;
     refuses(rt, state, MemoryKind::Frame, 2, 1, 10)?;
-    makes(rt, state, MemoryKind::Tcb, 2)?;
+    steps(rt, state, MemoryKind::Tcb, 2)?;
     is_made(rt, state, ObjId(4), 0x1000, 3)?;
     is_made(rt, state, ObjId(5), 0x1400, 2)?;
     assert_eq!(rt; watermark(state), Some(0x1800));
     Ok(())
 }
 
-fn retypes_after_boot<R: Abort + AllocGlobal>(rt: &R, table: &Table) -> Result<(), Fail> {
+fn steps_after_boot<R: Abort + AllocGlobal>(rt: &R, table: &Table) -> Result<(), Fail> {
     let mut state = booted(rt, table)?;
-    retypes_on(rt, &mut state)
+    steps_on(rt, &mut state)
 }
 
-fn retypes<R: Abort + AllocGlobal>(rt: &R, count: u64) -> Result<(), Fail> {
+/// The table, after so many allocations.
+fn table<R: AllocGlobal>(rt: &R, count: u64) -> Result<Table, Fail> {
     spend(rt.alloc(), count)?;
-    let table = prepared(read_table(rt.alloc(), TABLE.as_bytes()));
-    lend(table, |table| retypes_after_boot(rt, table))
+    prepared(read_table(rt.alloc(), TABLE.as_bytes()))
+}
+
+fn steps_of_events<R: Abort + AllocGlobal>(rt: &R, count: u64) -> Result<(), Fail> {
+    lend(table(rt, count), |table| steps_after_boot(rt, table))
 }
 
 #[test]
-fn retype_after_70(rt: HostRuntime) -> Result<(), Fail> {
-    retypes(&rt, 70)
+fn step_after_70(rt: HostRuntime) -> Result<(), Fail> {
+    steps_of_events(&rt, 70)
 }
 
 #[test]
-fn retype_after_65(rt: HostRuntime) -> Result<(), Fail> {
-    retypes(&rt, 65)
+fn step_after_65(rt: HostRuntime) -> Result<(), Fail> {
+    steps_of_events(&rt, 65)
 }

@@ -141,7 +141,7 @@ module _ (t : Layout) (m : Machine) (lawful : IsLawful t) (boot : IsBoot t m) wh
         sym (ap (λ object. keeps_in object k end) (boot.objects id) ∙ boot_keeps t lawful id k end (initial_of t id) refl) i;
   }
 
-  exceeds_same : (allowed : EdgeTest) (place : Excess) → Exceeds (of_table t) allowed place ↔ Exceeds (of_machine t m) allowed place
+  pub exceeds_same : (allowed : EdgeTest) (place : Excess) → Exceeds (of_table t) allowed place ↔ Exceeds (of_machine t m) allowed place
   exceeds_same allowed place = (
     subst (λ (s : Sources). Exceeds s allowed place) boot_sources,
     subst (λ (s : Sources). Exceeds s allowed place) (sym boot_sources),

@@ -1,24 +1,19 @@
 -- A system whose policy lacks one derive edge: a thread of label 0 with a CNode of its label, which holds a capability for itself and one
 -- for a CNode of label 1 that was derived from one in a CNode of label 2. The thread copies that capability into the CNode that it is for.
-use Rattle.std.proofs.Common.{◌≡◌, ◌≢◌, ℕ, inl, true, false, [], ◌∷◌, Some, None, refl, arith, lit<, lit≤}
+use Rattle.std.proofs.Common.{◌≡◌, ℕ, inl, true, false, [], ◌∷◌, Some, None, refl, lit<, lit≤}
 use Rattle.std.specs.Prelude.{codes}
 use Rattle.std.specs.List.{All}
-use Rattle.std.specs.Ordering.{is_lt}
 use Rattle.std.proofs.lemmas.List.Elements.{All-from_recursion}
 use Rattle.std.proofs.lemmas.List.Sums.{AllPass-from_list_all}
 use Rattle.machine.specs.declared.cap.Cap.{Cap}
 use Rattle.machine.specs.declared.cap.Detail.TheVariants as d
-use Rattle.machine.specs.declared.layout.Filled.{Filled}
-use Rattle.machine.specs.declared.layout.Initial.{Initial}
 use Rattle.machine.specs.declared.object.Object.{Object}
 use Rattle.machine.specs.declared.object.Object.TheVariants as o
-use Rattle.machine.specs.declared.object.ObjectKind.TheVariants as kind
-use Rattle.machine.specs.Capabilities.{kind_of_detail}
 use Rattle.machine.specs.Layout.{Layout, initial_of, initial_cap, initial_parent}
-use Rattle.machine.specs.Machine.{slot_cmp}
-use Rattle.table.specs.Rules.{IsLawful, IsObjectOf, IsCapOf, IsBindingOf, IsSlotPair, is_control_of, kind_at}
+use Rattle.table.specs.Rules.{IsLawful, IsObjectOf, IsCapOf, IsBindingOf, IsSlotPair}
 use Rattle.table.specs.Tree.{IsPairOf, is_original, source_of}
-use Rattle.verdict.proofs.SmallSystem.{id, slot, labelled, filled, thread, pairs_test, pairs_pass, less, names_differ, all_apart}
+use Rattle.verdict.proofs.SmallSystem.{id, slot, labelled, filled, thread}
+use Rattle.verdict.proofs.TestTables.{lawful_by_tests, names_differ, pairs_test, tests}
 
 abbrev pub cnode : ℕ → Object
 cnode address = o.CNode (record { address = address; radix = 1 })
@@ -47,20 +42,6 @@ gap = record {
   pairs = record { parent = slot 2 0; child = slot 0 1 } ∷ [];
   bindings = record { thread = id 3; context = id 4 } ∷ [];
 }
-
-abbrev NoControl : Initial → Type 0
-NoControl initial = (core : ℕ) → is_control_of initial.object core ≡ false
-
-abbrev IsNoUntyped : Filled → Type 0
-IsNoUntyped line = kind_of_detail line.cap.detail ≢ kind.Untyped
-
-no_control : All NoControl gap.objects
-unfolding gap
-no_control = All-from_recursion NoControl gap.objects ((λ _. refl), ((λ _. refl), ((λ _. refl), ((λ _. refl), ((λ _. refl), tt)))))
-
-no_untyped : All IsNoUntyped gap.caps
-unfolding gap
-no_untyped = All-from_recursion IsNoUntyped gap.caps ((λ e. cc), ((λ e. cc), ((λ e. cc), ((λ e. cc), tt))))
 
 caps_fit : All (IsCapOf gap.objects) gap.caps
 unfolding gap
@@ -103,64 +84,37 @@ caps_fit = All-from_recursion (IsCapOf gap.objects) gap.caps (
 )
 
 pub gap_lawful : IsLawful gap
-unfolding gap initial_of initial_cap initial_parent kind_at pairs_test is_original source_of
-gap_lawful = record {
-  draft = record {
-    labels = record {
-      few = lit≤ tt;
-      spelled = search (AllPass-from_list_all);
-      differ = names_differ gap.labels refl;
-    };
-    objects = record {
-      spelled = search (AllPass-from_list_all);
-      differ = names_differ gap.names refl;
-      named = refl;
-      few = lit≤ tt;
-      few_slots = lit≤ tt;
-      few_threads = lit≤ tt;
-      each =
-          All-from_recursion (IsObjectOf 3) gap.objects (
+unfolding gap initial_of initial_cap initial_parent pairs_test tests is_original source_of
+gap_lawful = lawful_by_tests gap refl (record {
+  labels = record { few = lit≤ tt; spelled = search (AllPass-from_list_all); differ = names_differ gap.labels refl };
+  names = record { few = lit≤ tt; spelled = search (AllPass-from_list_all); differ = names_differ gap.names refl };
+  objects =
+      All-from_recursion (IsObjectOf 3) gap.objects (
+        record { label = lit< tt; blank = (lit< tt, lit≤ tt); aligned = refl; end = lit≤ tt },
+        (
+          record { label = lit< tt; blank = (lit< tt, lit≤ tt); aligned = refl; end = lit≤ tt },
+          (
             record { label = lit< tt; blank = (lit< tt, lit≤ tt); aligned = refl; end = lit≤ tt },
             (
-              record { label = lit< tt; blank = (lit< tt, lit≤ tt); aligned = refl; end = lit≤ tt },
+              record { label = lit< tt; blank = (tt, refl, refl); aligned = refl; end = lit≤ tt },
               (
-                record { label = lit< tt; blank = (lit< tt, lit≤ tt); aligned = refl; end = lit≤ tt },
-                (
-                  record { label = lit< tt; blank = (tt, refl, refl); aligned = refl; end = lit≤ tt },
-                  (
-                    record { label = lit< tt; blank = ((lit≤ tt, lit≤ tt, lit≤ tt, lit< tt), refl); aligned = refl; end = lit≤ tt },
-                    tt,
-                  ),
-                ),
+                record { label = lit< tt; blank = ((lit≤ tt, lit≤ tt, lit≤ tt, lit< tt), refl); aligned = refl; end = lit≤ tt },
+                tt,
               ),
             ),
-          );
-      apart = all_apart gap.objects refl;
-      controls_differ = λ i j d below within core is. no_control j d within core;
-    };
-    caps = record {
-      each = caps_fit;
-      rise = λ i j d below within.
-          less _ (pairs_pass (λ a b. is_lt (slot_cmp a.slot b.slot)) gap.caps refl i j d below within);
-      untypeds_once = λ i j d below within untyped. absurd (no_untyped j d within untyped);
-    };
-    pairs = record {
-      each =
-          All-from_recursion (IsSlotPair gap.objects) gap.pairs (
-            record {
-              parent = record { holder = labelled 2 (cnode 0x1080); held = refl; within = lit< tt };
-              child = record { holder = labelled 0 (cnode 0x1000); held = refl; within = lit< tt };
-            },
-            tt,
-          );
-      rise = λ i j d below within. absurd (omega arith);
-    };
-    bindings = record {
-      each = All-from_recursion (IsBindingOf gap.objects) gap.bindings (record { thread = refl; context = refl }, tt);
-      rise = λ i j d below within. absurd (omega arith);
-      contexts_differ = λ i j d below within. absurd (omega arith);
-    };
-  };
+          ),
+        ),
+      );
+  caps = caps_fit;
+  pairs =
+      All-from_recursion (IsSlotPair gap.objects) gap.pairs (
+        record {
+          parent = record { holder = labelled 2 (cnode 0x1080); held = refl; within = lit< tt };
+          child = record { holder = labelled 0 (cnode 0x1000); held = refl; within = lit< tt };
+        },
+        tt,
+      );
+  bindings = All-from_recursion (IsBindingOf gap.objects) gap.bindings (record { thread = refl; context = refl }, tt);
   marked =
       All-from_recursion (λ filled. filled.cap.original ≡ is_original gap filled.slot filled.cap.detail) gap.caps
       (refl, (refl, (refl, (refl, tt))));
@@ -179,4 +133,4 @@ gap_lawful = record {
         },
         tt,
       );
-}
+})

@@ -1,7 +1,6 @@
 -- The system whose policy lacks one derive edge isn't safe: its thread copies a derived capability into another label's CNode, and what
 -- it was derived from then derives there.
-use Rattle.std.proofs.Common.{◌≡◌, ℕ, [], ◌∷◌, Some, None, Ok, refl, sym, subst, ◌∙◌}
-use Rattle.std.proofs.lemmas.Bool.{false≢true}
+use Rattle.std.proofs.Common.{◌≡◌, ℕ, Some, None, Ok, refl, ◌∙◌}
 use Rattle.base.specs.declared.ids.ObjId.{ObjId}
 use Rattle.base.specs.declared.kind.Kind.TheVariants.{Derive}
 use Rattle.machine.specs.declared.call.Answer.TheVariants.{Nothing}
@@ -19,24 +18,20 @@ use Rattle.machine.specs.Layout.{initial_of, initial_cap, initial_parent, declar
 use Rattle.machine.specs.Lookup.{level_at, lookup_of, walk, hop}
 use Rattle.machine.specs.Machine.{Machine, object_of, cap_of, parent_of, with_cap, with_parent}
 use Rattle.machine.specs.Step.{admitted, made_by, step_of}
-use Rattle.machine.specs.Step.Step.{ends}
 use Rattle.machine.specs.Step.Copy.{copy_of}
 use Rattle.machine.specs.Step.Find.{find_cap}
 use Rattle.machine.specs.Step.Target.{ends_of, lookup_target_of, source_of, target_of}
 use Rattle.machine.specs.Tree.{with_copy}
 use Rattle.machine.proofs.LookUps.{parent_of-with_parent}
-use Rattle.policy.specs.Needed.{Obeys, derive_by_grant}
+use Rattle.policy.specs.Needed.{derive_by_grant}
 use Rattle.table.proofs.AtBoot.{boot_label}
-use Rattle.table.proofs.BootState.{boot_state, boot_state_is}
-use Rattle.verdict.specs.Confined.{IsConfined}
 use Rattle.verdict.specs.Counterexamples.{UnsafeWithout}
-use Rattle.verdict.specs.Safe.{IsReached, IsSafe}
 use Rattle.verdict.proofs.GapConfined.{gap_confined}
 use Rattle.verdict.proofs.GapPolicy.{has, others, within}
 use Rattle.verdict.proofs.GapSystem.{gap, gap_lawful, cnode, node_cap, derived_cap}
 use Rattle.verdict.proofs.ObjectLabels.{same_label}
-use Rattle.verdict.proofs.TestPolicies.{allows_policy, is_policy, policy_of}
 use Rattle.verdict.proofs.SmallSystem.{id, slot, thread}
+use Rattle.verdict.proofs.UnsafeBy.{unsafe_without}
 
 -- the slot of the other CNode, and the slot of the thread's own that holds that CNode's capability
 abbrev to : SlotAddress
@@ -126,30 +121,22 @@ module _ (m : Machine) (boot : IsBoot gap m) where
   unfolding gap initial_of declared_label
   outside = by_pair (slot 1 0) (slot 2 0) derived (label_after 2 2 refl) (label_after 1 1 refl)
 
-not_safe : ¬ IsSafe gap has
-unfolding has
-not_safe safe =
-    let m = boot_state gap in
-    let boot = boot_state_is gap in
-    let reached : IsReached gap (after_copy m boot) =
-    record {
-      boot = m;
-      booted = boot;
-      events = copying ∷ [];
-      outcomes = outcome.Done Nothing ∷ [];
-      run = (after_copy m boot, ends (made m boot), refl);
-    } in
-    false≢true (safe.confined (after_copy m boot) reached 2 Derive 1 (outside m boot))
-
 pub unsafe_without_derivation : UnsafeWithout derive_by_grant
-unsafe_without_derivation =
-    let allowed = allows_policy has within in
-    record {
-      t = gap;
-      edges = policy_of has;
-      lawful = gap_lawful;
-      policy = is_policy has within;
-      others = λ other differ. subst (λ test. Obeys test other) (sym allowed) (others other differ);
-      confined = λ m boot. subst (λ test. IsConfined gap test m) (sym allowed) (gap_confined m boot);
-      unsafe = λ safe. not_safe (subst (IsSafe gap) allowed safe);
-    }
+unfolding has
+unsafe_without_derivation = unsafe_without derive_by_grant gap has (record {
+  lawful = gap_lawful;
+  labels = within;
+  others = others;
+  confined = gap_confined;
+  leads = λ m boot. record {
+    event = copying;
+    outcome = outcome.Done Nothing;
+    next = after_copy m boot;
+    step = made m boot;
+    from = 2;
+    kind = Derive;
+    to = 1;
+    has = outside m boot;
+    missing = refl;
+  };
+})

@@ -244,7 +244,7 @@ module _
 
   same_objects : SameObjects m2 m3
   unfolding object_of queue_of words_of with_cap with_parent
-  same_objects = record { objects = λ q. refl; queues = λ q. refl; words = λ q. refl; number = refl }
+  same_objects = record { objects = λ q. refl; queues = λ q. refl; words = λ q. refl; number = refl; going = refl }
 
   caps :
       (q : SlotRef) (cap : Cap) → cap_of m3 q ≡ Some cap

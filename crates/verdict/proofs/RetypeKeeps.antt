@@ -49,6 +49,7 @@ makes_is m next source of bits slot makes =
     same_machine next (with_made m source of bits slot) (λ q. makes.objects q ∙ sym (row.objects q))
     (λ q. makes.queues q ∙ sym (row.queues q)) (λ q. makes.words q ∙ sym (row.words q)) (λ q. makes.caps q ∙ sym (row.caps q))
     (λ q. makes.parents q ∙ sym (row.parents q)) (makes.number ∙ sym row.number)
+    (makes.going ∙ sym row.going)
 
 -- slots of one object
 AreOf : ObjId → List SlotRef → Type 0

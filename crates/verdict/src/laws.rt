@@ -28,7 +28,7 @@ ghost use Rattle.policy.specs.Cut.{IsBase, IsCut, IsHolding, IsNear, is_link};
 ghost use Rattle.policy.specs.Closed.{IsClosed};
 ghost use Rattle.policy.specs.Domain.{EdgeTest};
 ghost use Rattle.policy.specs.Full.{IsFull};
-ghost use Rattle.policy.specs.Needed.{derive_by_grant, subjects_agree};
+ghost use Rattle.policy.specs.Needed.{control_gives_all, derive_by_grant, subjects_agree};
 ghost use Rattle.policy.specs.Policy.{allows};
 ghost use Rattle.table.specs.Rules.{IsLawful};
 ghost use Rattle.verdict.specs.declared.denial.Denial.{Denial};
@@ -153,6 +153,13 @@ pub fn a_budget_needs_authority()
 /// isn't safe.
 pub fn safety_needs_agreeing_subjects()
     ensures { UnsafeWithout subjects_agree }
+{}
+
+/// A law: safety needs that control gives all (the rule P2). There is a system that breaks no other rule
+/// and whose boot state is confined, and a thread of it makes an endpoint of untyped memory that its label
+/// controls, so that it can reset what it has no edge for.
+pub fn safety_needs_control_to_give_all()
+    ensures { UnsafeWithout control_gives_all }
 {}
 
 /// A law: P5 is needed, as far as it says that derive is transitive. There is a system that breaks no

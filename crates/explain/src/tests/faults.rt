@@ -267,7 +267,7 @@ const CERTIFICATES: [Row; 8] = [
 ];
 
 /// Texts of scripts.
-const SCRIPTS: [Row; 3] = [
+const SCRIPTS: [Row; 4] = [
     Row {
         text: "confine-script 1\n0 main signal 0\n",
         fault: Fault {
@@ -282,7 +282,15 @@ const SCRIPTS: [Row; 3] = [
             number: 50,
             line: 2,
         },
-        told: "f:2: `0 1 fetch 0`: expected `DEC DEC signal DEC`, `DEC DEC poll DEC`, `DEC DEC wait DEC`, `DEC DEC copy DEC DEC DEC DEC DEC DEC RIGHTS`, `DEC DEC mint DEC DEC DEC DEC DEC DEC RIGHTS` and `badge DEC` or `guard DEC DEC`, `DEC DEC move DEC DEC DEC DEC DEC DEC`, or `end`",
+        told: "f:2: `0 1 fetch 0`: expected `DEC DEC signal DEC`, `DEC DEC poll DEC`, `DEC DEC wait DEC`, `DEC DEC copy DEC DEC DEC DEC DEC DEC RIGHTS`, `DEC DEC mint DEC DEC DEC DEC DEC DEC RIGHTS` and `badge DEC` or `guard DEC DEC`, `DEC DEC move DEC DEC DEC DEC DEC DEC`, `DEC DEC retype DEC KIND DEC DEC DEC DEC`, or `end`",
+    },
+    Row {
+        text: "confine-script 1\n0 1 retype 0 control 0 0 0 1\n",
+        fault: Fault {
+            number: 50,
+            line: 2,
+        },
+        told: "f:2: `0 1 retype 0 control 0 0 0 1`: expected `DEC DEC retype DEC KIND DEC DEC DEC DEC`, its KIND one of objects but `control`",
     },
     Row {
         text: "confine-script 1\n16 1 wait 0\n",

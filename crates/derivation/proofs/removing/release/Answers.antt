@@ -6,7 +6,7 @@ use Rattle.machine.specs.Machine.{Machine, parent_of}
 use Rattle.derivation.specs.Removing.{parent_past}
 use Rattle.derivation.proofs.Children.{children_among, one_taken}
 use Rattle.derivation.proofs.Removals.{had_parent, leaf_past, released_step, rest_without}
-use Rattle.derivation.proofs.Ways.{among_keys}
+use Rattle.objects.proofs.Ways.{among_keys}
 use Rattle.derivation.proofs.removing.release.Goals as goal
 
 pub loop-child-smaller : goal.loop-child-smaller

@@ -1,7 +1,7 @@
 -- The slot descends from the other where the one that was come to does.
 use Rattle.std.specs.Prelude.{◌↔◌}
 use Rattle.machine.specs.WellFormed.{Descends}
-use Rattle.derivation.proofs.Ways.{steps_up}
+use Rattle.objects.proofs.Ways.{steps_up}
 use Rattle.derivation.proofs.tree.descends.Given as goal
 
 abbrev pub invariant-loop-parent : goal.invariant-loop-parent

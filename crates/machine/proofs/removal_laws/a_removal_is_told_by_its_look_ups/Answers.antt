@@ -1,4 +1,4 @@
-use Rattle.machine.proofs.RemovalLooks.{object_of-removed, queue_of-removed, words_of-removed, cap_of-removed, parent_of-removed, next-removed}
+use Rattle.machine.proofs.RemovalLooks.{object_of-removed, queue_of-removed, words_of-removed, cap_of-removed, parent_of-removed, going-removed, next-removed}
 use Rattle.machine.proofs.removal_laws.a_removal_is_told_by_its_look_ups.Goals as goal
 
 pub returns-clause-objects : goal.returns-clause-objects
@@ -18,3 +18,6 @@ returns-clause-parents c = parent_of-removed
 
 pub returns-clause-next : goal.returns-clause-next
 returns-clause-next c = next-removed
+
+pub returns-clause-going : goal.returns-clause-going
+returns-clause-going c = going-removed

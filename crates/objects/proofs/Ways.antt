@@ -10,7 +10,7 @@ use Rattle.base.specs.declared.ids.SlotRef.{SlotRef}
 use Rattle.machine.specs.Machine.{Machine, parent_of, same_slot}
 use Rattle.machine.specs.Tree.{IsRanked}
 use Rattle.machine.proofs.LookUps.{one_slot}
-use Rattle.derivation.proofs.Counts.{fewer_pass}
+use Rattle.objects.proofs.Passing.{fewer_pass}
 
 -- a step up, if there is a parent, and what comes after it
 abbrev steps : (SlotRef → ℕ) → Option SlotRef → ℕ

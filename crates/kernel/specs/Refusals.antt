@@ -1,0 +1,14 @@
+-- What a call that takes memory is refused whatever the memory (confine's own).
+use Rattle.std.specs.Prelude.{Bool, Option, None}
+use Rattle.base.specs.declared.refusal.Refusal.{Refusal}
+use Rattle.machine.specs.declared.call.Event.{Event}
+use Rattle.machine.specs.Machine.{Machine}
+use Rattle.machine.specs.Step.{made_by, takes_memory}
+use Rattle.untyped.specs.Making.{refusal_in}
+
+-- of a call that takes no memory nothing is said
+abbrev pub lasting_refusal : Machine → Event → Option Refusal
+lasting_refusal m event = by (takes_memory event.call) where
+  by : Bool → Option Refusal
+  by Bool.true = refusal_in (made_by m event)
+  by Bool.false = None

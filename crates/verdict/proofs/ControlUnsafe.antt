@@ -1,0 +1,179 @@
+-- The system whose policy gives nothing by control isn't safe: its thread makes an endpoint of untyped memory of another label, whose
+-- capability resets the endpoint.
+use Rattle.std.proofs.Common.{◌≡◌, ℕ, zero, suc, ◌<◌, Bool, true, false, List, [], ◌∷◌, Some, None, Ok, option_map, refl, sym, ap, ◌∙◌, if◌then◌else◌, arith, lit<}
+use Rattle.std.specs.FinMap as map
+use Rattle.base.specs.declared.ids.ObjId.{ObjId}
+use Rattle.base.specs.declared.kind.Kind.TheVariants.{Reset}
+use Rattle.machine.specs.declared.call.Answer.TheVariants.{Count}
+use Rattle.machine.specs.declared.call.Call.TheVariants.{Retype}
+use Rattle.machine.specs.declared.call.Event.{Event}
+use Rattle.machine.specs.declared.call.Made.TheVariants.{Done}
+use Rattle.machine.specs.declared.call.Outcome.TheVariants as outcome
+use Rattle.machine.specs.declared.object.MemoryKind.TheVariants as kind
+use Rattle.machine.specs.declared.object.Object.{Object}
+use Rattle.machine.specs.declared.object.Object.TheVariants as o
+use Rattle.machine.specs.Authority.{HasAuthority, label_at, label_of}
+use Rattle.machine.specs.Authority.HasAuthority.{by_cap}
+use Rattle.machine.specs.Boot.{IsBoot, booted}
+use Rattle.machine.specs.Bits.{bits}
+use Rattle.machine.specs.Counts.{objects_in, slots_in, threads_in}
+use Rattle.machine.specs.Layout.{initial_of, initial_cap, declared_label, bound_context, bound_thread}
+use Rattle.machine.specs.Lookup.{level_at, lookup_of, walk, hop}
+use Rattle.machine.specs.Machine.{Machine, id_cmp, same_id, object_of, cap_of}
+use Rattle.machine.specs.Memory.{Source, begun, has_child, new_cap, new_detail, new_object, with_made}
+use Rattle.machine.specs.Objects.{kind_of_object}
+use Rattle.machine.specs.Step.{admitted, made_by, step_of}
+use Rattle.machine.specs.Step.Find.{find_cap}
+use Rattle.machine.specs.Step.Retype.{find_taker, find_untyped, retype_of, within_limits}
+use Rattle.machine.proofs.LookUps.{id_apart, id_total}
+use Rattle.machine.proofs.ObjectMade.{MakesObject, made_makes}
+use Rattle.policy.specs.Needed.{control_gives_all}
+use Rattle.verdict.specs.Counterexamples.{UnsafeWithout}
+use Rattle.verdict.proofs.ControlPolicy.{has, others, within}
+use Rattle.verdict.proofs.ControlSystem.{making, making_confined, making_lawful, memory, memory_cap, own, own_cap}
+use Rattle.verdict.proofs.SmallSystem.{id, slot, thread, context}
+use Rattle.verdict.proofs.UnsafeBy.{unsafe_without}
+
+unfoldable pub retyping : Event
+retyping = record { core = 0; thread = id 1; call = Retype 0 kind.Endpoint 0 1 2 1 }
+
+abbrev source : Source
+source = record { slot = slot 0 0; id = id 3; memory = memory }
+
+abbrev objects : List (ObjId × Object)
+objects =
+    (id 0, own) ∷ (id 1, thread (Some (id 2))) ∷ (id 2, context (Some (id 1))) ∷ (id 3, o.Untyped memory) ∷ []
+
+same_either : {X : Type 0} (b : Bool) (x : X) → (if b then x else x) ≡ x
+same_either true x = refl
+same_either false x = refl
+
+-- other numbers
+beyond : (n k : ℕ) → k < 4 → same_id (id (suc (suc (suc (suc n))))) (id k) ≡ false
+beyond n k small = grind arith
+
+module _ (m : Machine) (boot : IsBoot making m) where
+  object_at : (n : ℕ) → booted making (id n) ≡ map.find id_cmp (id n) objects
+  unfolding making initial_of bound_context bound_thread
+  object_at zero = refl
+  object_at (suc zero) = refl
+  object_at (suc (suc zero)) = refl
+  object_at (suc (suc (suc zero))) = refl
+  object_at (suc (suc (suc (suc n)))) = rw (beyond n 0 (lit< tt), beyond n 1 (lit< tt), beyond n 2 (lit< tt), beyond n 3 (lit< tt)) refl
+
+  all_objects : map.entries m.objects ≡ objects
+  unfolding object_of
+  all_objects =
+      ap map.entries
+      (map.same_map id_total id_apart m.objects (map.from_sorted objects)
+      (λ q. boot.objects q ∙ object_at q.0 ∙ sym (map.get-from_sorted id_cmp objects q tt)))
+      ∙ map.entries-from_sorted id_cmp objects tt
+
+  caller : object_of m (id 1) ≡ Some (thread (Some (id 2)))
+  caller = boot.objects (id 1) ∙ object_at 1
+
+  node : object_of m (id 0) ≡ Some own
+  node = boot.objects (id 0) ∙ object_at 0
+
+  runs_on : object_of m (id 2) ≡ Some (context (Some (id 1)))
+  runs_on = boot.objects (id 2) ∙ object_at 2
+
+  untyped : object_of m (id 3) ≡ Some (o.Untyped memory)
+  untyped = boot.objects (id 3) ∙ object_at 3
+
+  root : cap_of m (slot 1 0) ≡ Some own_cap
+  unfolding making initial_cap
+  root = boot.caps (slot 1 0)
+
+  held : cap_of m (slot 0 0) ≡ Some memory_cap
+  unfolding making initial_cap
+  held = boot.caps (slot 0 0)
+
+  held_own : cap_of m (slot 0 1) ≡ Some own_cap
+  unfolding making initial_cap
+  held_own = boot.caps (slot 0 1)
+
+  empty : cap_of m (slot 0 2) ≡ None
+  unfolding making initial_cap
+  empty = boot.caps (slot 0 2)
+
+  number : m.next ≡ 4
+  unfolding making
+  number = boot.next
+
+  pub after_retype : Machine
+  after_retype = with_made m source kind.Endpoint 0 (slot 0 2)
+
+  finds : find_untyped m (id 1) 0 ≡ Ok source
+  unfolding find_untyped find_cap lookup_of level_at walk hop
+  finds = rw (caller, root, node, held, untyped) refl
+
+  takes : find_taker m (id 1) 1 ≡ Ok (record { node = id 0; guard = bits 62 0; radix = 2 })
+  unfolding find_taker lookup_of level_at walk hop
+  takes = rw (caller, root, node, held_own, node) refl
+
+  begins : begun m source ≡ source
+  begins = same_either (has_child m (slot 0 0)) source
+
+  fits : within_limits m (new_object kind.Endpoint 0 0) 1 ≡ Ok tt
+  unfolding objects_in slots_in threads_in
+  fits = rw (all_objects, number) refl
+
+  retypes : retype_of m (id 1) 0 kind.Endpoint 0 1 2 1 ≡ Ok (Done (Count 1), after_retype)
+  unfolding retype_of after_retype
+  retypes = rw (finds, takes, empty, begins, fits) refl
+
+  admits : admitted m 0 (id 1) ≡ Ok (record { core = 0; budget = 10; period = 10 })
+  unfolding admitted
+  admits = rw (caller, runs_on) refl
+
+  made : step_of m retyping ≡ (outcome.Done (Count 1), after_retype)
+  unfolding retyping step_of made_by
+  made = rw (admits, retypes) refl
+
+  makes : MakesObject m source 0x8010 (o.Endpoint (record { address = 0x8000 })) (new_detail kind.Endpoint) (slot 0 2) after_retype
+  unfolding after_retype
+  makes = made_makes m source kind.Endpoint 0 (slot 0 2)
+
+  node_after : object_of after_retype (id 0) ≡ Some own
+  unfolding object_of
+  node_after = makes.objects (id 0) ∙ rw number node
+
+  new_after : object_of after_retype (id 4) ≡ Some (o.Endpoint (record { address = 0x8000 }))
+  new_after = makes.objects (id 4) ∙ rw number refl
+
+  cap_after : cap_of after_retype (slot 0 2) ≡ Some (new_cap 4 kind.Endpoint)
+  cap_after = makes.caps (slot 0 2) ∙ rw number refl
+
+  node_label : label_of making after_retype (id 0) ≡ Some 0
+  unfolding making initial_of declared_label label_of
+  node_label = rw node_after refl
+
+  -- what is made has the label of the memory
+  new_label : label_of making after_retype (id 4) ≡ Some 1
+  unfolding making label_at label_of
+  new_label = rw new_after refl
+
+  outside : HasAuthority making after_retype 0 Reset 1
+  outside =
+      by_cap (slot 0 2) (new_cap 4 kind.Endpoint) cap_after (ap (option_map kind_of_object) node_after) refl node_label new_label
+
+pub unsafe_without_control : UnsafeWithout control_gives_all
+unfolding has
+unsafe_without_control = unsafe_without control_gives_all making has (record {
+  lawful = making_lawful;
+  labels = within;
+  others = others;
+  confined = making_confined;
+  leads = λ m boot. record {
+    event = retyping;
+    outcome = outcome.Done (Count 1);
+    next = after_retype m boot;
+    step = made m boot;
+    from = 0;
+    kind = Reset;
+    to = 1;
+    has = outside m boot;
+    missing = refl;
+  };
+})

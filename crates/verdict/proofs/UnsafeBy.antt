@@ -1,0 +1,66 @@
+-- How a system is shown to need a rule: one step leads from its boot state to authority outside its policy.
+use Rattle.std.proofs.Common.{◌≡◌, ◌≢◌, ℕ, false, [], ◌∷◌, refl, sym, subst, ◌∙◌}
+use Rattle.std.proofs.lemmas.Bool.{false≢true}
+use Rattle.base.specs.declared.kind.Kind.{Kind}
+use Rattle.machine.specs.declared.call.Event.{Event}
+use Rattle.machine.specs.declared.call.Outcome.{Outcome}
+use Rattle.machine.specs.Authority.{HasAuthority}
+use Rattle.machine.specs.Boot.{IsBoot}
+use Rattle.machine.specs.Layout.{Layout}
+use Rattle.machine.specs.Machine.{Machine}
+use Rattle.machine.specs.Step.{step_of}
+use Rattle.machine.specs.Step.Step.{ends}
+use Rattle.policy.specs.Domain.{EdgeTest}
+use Rattle.policy.specs.Needed.{Rule, Obeys}
+use Rattle.table.specs.Rules.{IsLawful}
+use Rattle.table.proofs.BootState.{boot_state, boot_state_is}
+use Rattle.verdict.specs.Confined.{IsConfined}
+use Rattle.verdict.specs.Counterexamples.{UnsafeWithout}
+use Rattle.verdict.specs.Safe.{IsReached, IsSafe}
+use Rattle.verdict.proofs.TestPolicies.{IsWithin, allows_policy, is_policy, policy_of}
+
+-- a step that leads outside
+pub record LeadsOutside (t : Layout) (allowed : EdgeTest) (m : Machine) : Type 0 where
+  pub event : Event
+  pub outcome : Outcome
+  pub next : Machine
+  pub step : step_of m event ≡ (outcome, next)
+  pub from : ℕ
+  pub kind : Kind
+  pub to : ℕ
+  pub has : HasAuthority t next from kind to
+  pub missing : allowed from kind to ≡ false
+
+-- a system that such a step shows to need the rule
+pub record Needs (rule : Rule) (t : Layout) (allowed : EdgeTest) : Type 0 where
+  pub lawful : IsLawful t
+  pub labels : IsWithin allowed
+  pub others : (other : Rule) → other ≢ rule → Obeys allowed other
+  pub confined : (m : Machine) → IsBoot t m → IsConfined t allowed m
+  pub leads : (m : Machine) → IsBoot t m → LeadsOutside t allowed m
+
+not_safe : (t : Layout) (allowed : EdgeTest) → ((m : Machine) → IsBoot t m → LeadsOutside t allowed m) → ¬ IsSafe t allowed
+not_safe t allowed leads safe =
+    let out = leads (boot_state t) (boot_state_is t) in
+    let reached : IsReached t out.next =
+    record {
+      boot = boot_state t;
+      booted = boot_state_is t;
+      events = out.event ∷ [];
+      outcomes = out.outcome ∷ [];
+      run = (out.next, ends out.step, refl);
+    } in
+    false≢true (sym out.missing ∙ safe.confined out.next reached out.from out.kind out.to out.has)
+
+pub unsafe_without : (rule : Rule) (t : Layout) (allowed : EdgeTest) → Needs rule t allowed → UnsafeWithout rule
+unsafe_without rule t allowed needs =
+    let same = allows_policy allowed needs.labels in
+    record {
+      t = t;
+      edges = policy_of allowed;
+      lawful = needs.lawful;
+      policy = is_policy allowed needs.labels;
+      others = λ other differ. subst (λ test. Obeys test other) (sym same) (needs.others other differ);
+      confined = λ m boot. subst (λ test. IsConfined t test m) (sym same) (needs.confined m boot);
+      unsafe = λ safe. not_safe t allowed needs.leads (subst (IsSafe t) same safe);
+    }
