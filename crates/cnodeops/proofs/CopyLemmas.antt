@@ -20,9 +20,9 @@ use Rattle.machine.specs.Step.Copy.{copy_of, copyable, masked}
 use Rattle.machine.specs.Step.Mint.{mint_of, minted}
 use Rattle.machine.specs.Step.Move.{move_of}
 use Rattle.machine.specs.Step.Target.{ends_of}
-use Rattle.machine.specs.Tree.{IsAlone, exchange, parent_of_copy, with_copy, with_exchanged, with_moved}
+use Rattle.machine.specs.Tree.{IsAlone, parent_of_copy, with_copy, with_moved}
 use Rattle.machine.specs.WellFormed.{IsWellFormed}
-use Rattle.machine.proofs.Exchange.{exchange_twice, parent_of-with_exchanged, slot_itself}
+use Rattle.machine.proofs.Exchange.{slot_itself}
 use Rattle.machine.proofs.FillsFormed.{derives_formed}
 use Rattle.machine.proofs.LedSlots.{led_slot, node_slot}
 use Rattle.machine.proofs.LookUps.{cap_of-with_cap, parent_of-with_cap}
@@ -121,32 +121,6 @@ filled_alone m slot held formed empty =
         let was = formed.slots.parent_filled child slot (sym same ∙ e) in
         let none : None ≡ Some was.0 = sym empty ∙ was.1 in
         cc
-
--- the first of two slots that change places comes to where the second was
-exchange_first : (a b : SlotRef) → exchange a b a ≡ b
-exchange_first a b = rw (slot_itself a) refl
-
--- a slot is in no pair when it has changed places with one that was in none
-pub exchanged_alone : (m : Machine) (a b : SlotRef) → IsAlone m b → IsAlone (with_exchanged m a b) a
-exchanged_alone m a b alone =
-    record {
-      root =
-          parent_of-with_exchanged m a b a
-          ∙ ap (λ (q : SlotRef). option_map (exchange a b) (parent_of m q)) (exchange_first a b)
-          ∙ ap (option_map (exchange a b)) alone.root;
-      leaf = λ child e. by_parent child (parent_of m (exchange a b child)) refl (sym (parent_of-with_exchanged m a b child) ∙ e);
-    }
-  where
-    by_parent :
-        (child : SlotRef) (parent : Option SlotRef) → parent_of m (exchange a b child) ≡ parent
-        → option_map (exchange a b) (parent_of m (exchange a b child)) ≢ Some a
-    by_parent child None is e =
-        let none : None ≡ Some a = sym (ap (option_map (exchange a b)) is) ∙ e in cc
-    by_parent child (Some parent) is e =
-        let some : Some (exchange a b parent) ≡ Some a = sym (ap (option_map (exchange a b)) is) ∙ e in
-        let to : exchange a b parent ≡ a = cc in
-        let at : parent ≡ b = sym (exchange_twice a b parent) ∙ ap (exchange a b) to ∙ exchange_first a b in
-        alone.leaf (exchange a b child) (is ∙ ap (λ (q : SlotRef). Some q) at)
 
 -- a copy keeps machines well formed
 pub copied_formed :

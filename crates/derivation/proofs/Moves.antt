@@ -1,14 +1,17 @@
 -- A place that is taken over in two steps is exchanged.
 use Rattle.std.proofs.Common.{◌≡◌, ◌≢◌, Bool, true, false, List, [], ◌∷◌, refl, sym, ap, ◌∙◌, cond}
-use Rattle.std.specs.Prelude.{Option, Some, None, map, option_map, if◌then◌else◌}
+use Rattle.std.specs.Prelude.{Option, Some, None, IsSome, IsTrue, map, option_map, if◌then◌else◌}
+use Rattle.std.proofs.lemmas.Bool.{false≢true}
 use Rattle.std.specs.FinMap.{entries, get-entries, get-from_entries}
 use Rattle.std.specs.FinMap.Entries.{find}
+use Rattle.base.specs.declared.ids.ObjId.{ObjId}
 use Rattle.base.specs.declared.ids.SlotRef.{SlotRef}
+use Rattle.machine.specs.declared.cap.Cap.{Cap}
 use Rattle.machine.specs.Machine.{Machine, object_of, queue_of, words_of, cap_of, parent_of, same_slot, slot_cmp}
-use Rattle.machine.specs.Machine.{with_parent, without_parent}
+use Rattle.machine.specs.Machine.{has_slot, with_parent, without_parent}
 use Rattle.machine.specs.Tree.{IsAlone, exchange, under, with_exchanged}
 use Rattle.machine.proofs.Exchange.{parent_of-with_exchanged, slot_itself}
-use Rattle.machine.proofs.LookUps.{cap_of-with_parent, one_slot, parent_of-with_parent, same_machine, slot_total}
+use Rattle.machine.proofs.LookUps.{object_of-with_parent, one_slot, parent_of-with_parent, same_machine, slot_total}
 use Rattle.derivation.specs.Moving.{handed_over, in_place, lifted}
 use Rattle.derivation.proofs.Pairs.{apart_slots, parent_of-without_parent}
 
@@ -180,14 +183,30 @@ unfolding lifted
 lifted-none m from to is = ap (under (without_parent m from) to) is
 
 -- changes of pairs leave the capabilities
-pub cap_of-without_parent : (m : Machine) (slot q : SlotRef) → cap_of (without_parent m slot) q ≡ cap_of m q
-unfolding cap_of without_parent
-cap_of-without_parent m slot q = refl
+-- slots are there as before
 
-pub cap_of-lifted : (m : Machine) (from to q : SlotRef) → cap_of (lifted m from to) q ≡ cap_of m q
+object_of-without_parent : (m : Machine) (slot : SlotRef) (q : ObjId) → object_of (without_parent m slot) q ≡ object_of m q
+unfolding object_of without_parent
+object_of-without_parent m slot q = refl
+
+pub slot_without_parent : (m : Machine) (slot q : SlotRef) → IsTrue (has_slot m q) → IsTrue (has_slot (without_parent m slot) q)
+slot_without_parent m slot q there = rw (object_of-without_parent m slot q.holder) there
+
+pub slot_with_parent : (m : Machine) (slot parent q : SlotRef) → IsTrue (has_slot m q) → IsTrue (has_slot (with_parent m slot parent) q)
+slot_with_parent m slot parent q there = rw (object_of-with_parent m slot parent q.holder) there
+
+pub slot_lifted : (m : Machine) (from to q : SlotRef) → IsTrue (has_slot m q) → IsTrue (has_slot (lifted m from to) q)
 unfolding lifted
-cap_of-lifted m from to q = by_parent (parent_of m from) where
-  by_parent : (parent : Option SlotRef) → cap_of (under (without_parent m from) to parent) q ≡ cap_of m q
-  by_parent None = cap_of-without_parent m from q
-  by_parent (Some parent) =
-      cap_of-with_parent (without_parent m from) to parent q ∙ cap_of-without_parent m from q
+slot_lifted m from to q there = by_parent (parent_of m from) where
+  by_parent : (parent : Option SlotRef) → IsTrue (has_slot (under (without_parent m from) to parent) q)
+  by_parent None = slot_without_parent m from q there
+  by_parent (Some parent) = slot_with_parent (without_parent m from) to parent q (slot_without_parent m from q there)
+
+-- and so is one that is filled
+pub slot_filled :
+    (m : Machine) (slot : SlotRef) → ((q : SlotRef) (held : Cap) → cap_of m q ≡ Some held → IsTrue (has_slot m q))
+    → IsSome (cap_of m slot) → IsTrue (has_slot m slot)
+slot_filled m slot in_slots filled = by_cap (cap_of m slot) refl filled where
+  by_cap : (o : Option Cap) → cap_of m slot ≡ o → IsSome o → IsTrue (has_slot m slot)
+  by_cap None is some = absurd (false≢true some)
+  by_cap (Some held) is some = in_slots slot held is

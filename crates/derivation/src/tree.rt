@@ -1,6 +1,6 @@
 ghost use Rattle.std.specs.Prelude.{Some, ◌≡◌, ◌≢◌, ◌↔◌, IfSome, IsTrue, IsSome};
 ghost use Rattle.base.specs.declared.ids.SlotRef.{SlotRef as Slot};
-ghost use Rattle.machine.specs.Machine.{cap_of, parent_of, with_parent};
+ghost use Rattle.machine.specs.Machine.{cap_of, has_slot, parent_of, with_parent};
 ghost use Rattle.machine.specs.Tree.{IsAlone, with_exchanged};
 ghost use Rattle.machine.specs.WellFormed.{Descends};
 ghost use Rattle.objects.specs.Walks.{IsBehind};
@@ -19,6 +19,7 @@ pub fn insert_child(state: &mut State, slot: SlotRef, parent: SlotRef)
     ensures { state.new ≡ with_parent state.old slot parent }
 {
     state.keeps_a_forest();
+    state.caps_are_in_slots();
     state.attach(slot, parent);
 }
 
@@ -30,13 +31,14 @@ pub fn move_node(state: &mut State, from: SlotRef, to: SlotRef)
     requires alone { IsAlone state.old to }
     ensures { state.new ≡ with_exchanged state.old from to }
 {
+    state.caps_are_in_slots();
     lift(state, from, to);
     hand_over(state, from, to);
 }
 
 // Takes `from` away from its parent, if it has one, and makes `to` the parent's child in its place.
 fn lift(state: &mut State, from: SlotRef, to: SlotRef)
-    requires target { IsSome (cap_of state.old to) }
+    requires target { IsTrue (has_slot state.old to) }
     requires alone { IsAlone state.old to }
     ensures value { state.new ≡ lifted state.old from to }
     ensures place { StandsNoLower state.new to from }
@@ -51,7 +53,7 @@ fn lift(state: &mut State, from: SlotRef, to: SlotRef)
 
 // Makes the children of `from` those of `to`.
 pub(crate) fn hand_over(state: &mut State, from: SlotRef, to: SlotRef)
-    requires target { IsSome (cap_of state.old to) }
+    requires target { IsTrue (has_slot state.old to) }
     requires apart { (child : Slot) → parent_of state.old child ≡ Some from → from ≢ to }
     requires place { StandsNoLower state.old to from }
     ensures { state.new ≡ handed_over state.old from to }

@@ -1,14 +1,16 @@
 -- The next pair of a table, whose earlier pairs are a state's derivation tree, may come to the tree.
 use Rattle.std.proofs.Common.{◌≡◌, ℕ, zero, suc, ◌+◌, ◌<◌, Bool, true, false, cond, List, [], ◌∷◌, length, get_or, take, refl, sym, ap, ◌∙◌}
-use Rattle.std.specs.Prelude.{Option, Some, None, IsSome, option_map, AllPairs}
+use Rattle.std.specs.Prelude.{Option, Some, None, IsSome, IsTrue, option_map, AllPairs}
 use Rattle.std.specs.List.{find}
+use Rattle.std.proofs.lemmas.Bool.{false≢true}
 use Rattle.std.specs.Ordering.{is_eq}
 use Rattle.std.specs.declared.cmp.Ordering.TheVariants.{Less}
 use Rattle.base.specs.declared.ids.SlotRef.{SlotRef}
+use Rattle.machine.specs.declared.cap.Cap.{Cap}
 use Rattle.machine.specs.declared.layout.Pair.{Pair}
 use Rattle.machine.specs.Boot.{IsBoot}
 use Rattle.machine.specs.Layout.{Layout, initial_cap, initial_parent}
-use Rattle.machine.specs.Machine.{Machine, cap_of, parent_of, slot_cmp, same_slot, with_parent}
+use Rattle.machine.specs.Machine.{Machine, cap_of, has_slot, parent_of, slot_cmp, same_slot, with_parent}
 use Rattle.table.specs.Tree.{IsPairOf}
 use Rattle.kernel.proofs.BootLemmas.{below_next, boot-derived, find-missing}
 
@@ -22,6 +24,15 @@ find-first p (suc n) (y ∷ xs) x is = by_test (find-first p n xs x) (p y) is wh
       → cond test (Some y) (find p xs) ≡ Some x
   by_test rest true first = first
   by_test rest false later = rest later
+
+-- a slot that is filled is there
+pub filled_slot :
+    (m : Machine) → ((slot : SlotRef) (held : Cap) → cap_of m slot ≡ Some held → IsTrue (has_slot m slot)) → (slot : SlotRef)
+    → IsSome (cap_of m slot) → IsTrue (has_slot m slot)
+filled_slot m there slot filled = by_cap (cap_of m slot) refl filled where
+  by_cap : (filling : Option Cap) → cap_of m slot ≡ filling → IsSome filling → IsTrue (has_slot m slot)
+  by_cap None is some = absurd (false≢true some)
+  by_cap (Some held) is some = there slot held is
 
 module _ (t : Layout) (m : Machine) (i : ℕ) (d : Pair) where
   abbrev next : Pair

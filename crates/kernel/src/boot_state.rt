@@ -62,6 +62,7 @@ fn derive(state: &mut State, table: &Table)
     boot_states_are_well_formed();
     let pairs = table.pairs();
     for pair in pairs {
+        state.caps_are_in_slots();
         state.attach(pair.child, pair.parent);
     }
 }

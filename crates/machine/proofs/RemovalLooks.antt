@@ -1,12 +1,12 @@
 -- What each look-up of a machine answers after a removal.
 use Rattle.std.proofs.Common.{◌≡◌, Bool, true, false, cond, List, refl, sym, ap, ◌∙◌}
-use Rattle.std.specs.Prelude.{Option, Some, None, ℕ, filter, is_some, option_map}
+use Rattle.std.specs.Prelude.{Option, Some, None, ℕ, [], filter, is_some, option_map}
 use Rattle.std.specs.FinMap.{keys, values, contains_key-keys}
 use Rattle.std.proofs.lemmas.Bool.{false≢true}
 use Rattle.base.specs.declared.ids.ObjId.{ObjId}
 use Rattle.base.specs.declared.ids.SlotRef.{SlotRef}
 use Rattle.machine.specs.Finalising.{finalised, staying_in}
-use Rattle.machine.specs.Machine.{Machine, nothing_going, object_of, queue_of, words_of, cap_of, parent_of}
+use Rattle.machine.specs.Machine.{Machine, object_of, queue_of, words_of, cap_of, parent_of}
 use Rattle.machine.specs.Orphans.{Nearest, without_nodes}
 use Rattle.machine.specs.Gone.{gone_of}
 use Rattle.machine.specs.Removal.{object_after, queue_after, words_after, cap_after, parent_after, without_slots, vanishes, removed}
@@ -84,7 +84,7 @@ module _ (m : Machine) (chosen : SlotRef → Bool) where
   unfolding removed
   parent_of-removed = parent_of-without m (gone_of m chosen) (vanishes m chosen)
 
-  pub going-removed : (removed m chosen).going ≡ nothing_going
+  pub going-removed : (removed m chosen).going ≡ []
   unfolding removed without_slots
   going-removed = refl
 

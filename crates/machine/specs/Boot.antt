@@ -15,7 +15,7 @@ use Rattle.machine.specs.declared.thread.Inbox.TheVariants as inbox
 use Rattle.machine.specs.declared.thread.RunState.TheVariants as run
 use Rattle.machine.specs.declared.thread.Tcb.{Tcb}
 use Rattle.machine.specs.Layout.{Layout, initial_of, initial_cap, initial_parent, bound_context, bound_thread}
-use Rattle.machine.specs.Machine.{Machine, nothing_going, object_of, queue_of, words_of, cap_of, parent_of}
+use Rattle.machine.specs.Machine.{Machine, object_of, queue_of, words_of, cap_of, parent_of}
 use Rattle.machine.specs.Objects.{word_count}
 
 -- an object with the links that the table's bindings give it
@@ -37,7 +37,7 @@ pub record IsBoot (t : Layout) (m : Machine) : Type 0 where
   pub caps : (slot : SlotRef) → cap_of m slot ≡ initial_cap t slot
   pub parents : (slot : SlotRef) → parent_of m slot ≡ initial_parent t slot
   pub next : m.next ≡ length t.objects
-  pub going : m.going ≡ nothing_going
+  pub going : m.going ≡ []
 
 -- what the boot rule says of the machine that a table boots to
 pub record IsFresh (t : Layout) (m : Machine) : Type 0 where

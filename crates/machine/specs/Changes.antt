@@ -1,12 +1,13 @@
 -- Changes of a machine that leave it as it is where the object isn't there or is of another kind: to untyped memory's watermark, a
--- notification's word, a thread and a scheduling context, and to who waits; and an object goes (seL4 manual, "Untyped Memory",
--- "Notifications", "Threads and Execution" and "Scheduling Contexts").
+-- notification's word, a thread, a reply and a scheduling context, and to who waits; an object goes, and what is going is noted (seL4
+-- manual, "Untyped Memory", "Notifications", "Threads and Execution", "Endpoints" and "Scheduling Contexts").
 use Rattle.std.specs.Prelude.{ℕ, List, [], ◌∷◌, ◌++◌, filter, not, Option, Some, None, option_and_then, slice_get}
 use Rattle.std.specs.FinMap as map
 use Rattle.base.specs.declared.ids.ObjId.{ObjId}
 use Rattle.machine.specs.declared.object.Object.{Object}
 use Rattle.machine.specs.declared.object.Object.TheVariants as o
 use Rattle.machine.specs.declared.object.Context.{Context}
+use Rattle.machine.specs.declared.object.Reply.{Reply}
 use Rattle.machine.specs.declared.thread.Tcb.{Tcb}
 use Rattle.machine.specs.Machine.{Machine, object_of, queue_of, same_id, with_object, with_queue}
 
@@ -29,6 +30,13 @@ unfoldable pub with_tcb : Machine → ObjId → Tcb → Machine
 with_tcb m id thread = by_content (object_of m id) where
   by_content : Option Object → Machine
   by_content (Some (o.Tcb _)) = with_object m id (o.Tcb thread)
+  by_content _ = m
+
+-- a reply
+unfoldable pub with_reply : Machine → ObjId → Reply → Machine
+with_reply m id holding = by_content (object_of m id) where
+  by_content : Option Object → Machine
+  by_content (Some (o.Reply _)) = with_object m id (o.Reply holding)
   by_content _ = m
 
 -- a scheduling context
@@ -71,3 +79,11 @@ without_object m id =
       queues = map.remove m.queues id;
       words = map.remove m.words id;
     }
+
+-- one more object is found to be going
+unfoldable pub with_going : Machine → ObjId → Machine
+with_going m id = record m { going = m.going ++ id ∷ [] }
+
+-- none is
+unfoldable pub with_none_going : Machine → Machine
+with_none_going m = record m { going = [] }

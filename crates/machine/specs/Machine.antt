@@ -26,14 +26,6 @@ same_id = eq_by_cmp id_cmp
 abbrev pub same_slot : SlotRef → SlotRef → Bool
 same_slot = eq_by_cmp slot_cmp
 
--- what a removal that is under way has found so far, in this order: slots that go, and objects that lose their last capability
-pub record Going : Type 0 where
-  pub slots : List SlotRef
-  pub objects : List ObjId
-
-abbrev pub nothing_going : Going
-nothing_going = record { slots = []; objects = [] }
-
 -- each present object has a queue, of the threads that wait at it, the first first, and its words, if it is a frame
 pub record Machine : Type 0 where
   pub objects : FinMap id_cmp Object
@@ -43,8 +35,8 @@ pub record Machine : Type 0 where
   -- from a child to its parent
   pub parents : FinMap slot_cmp SlotRef
   pub next : ℕ
-  -- nothing, but while capabilities are removed
-  pub going : Going
+  -- the objects that have lost their last capability in a removal that is under way, as they were found; none at other times
+  pub going : List ObjId
 
 -- a machine is stored as the tuple of its parts
 abbrev pub machine_code : Coded ObjId → Coded SlotRef → Coded Object → Coded Cap → Coded Machine
@@ -53,13 +45,13 @@ machine_code id slot object cap =
     (FinMap id_cmp Object
     × (FinMap id_cmp (List ObjId)
     × (FinMap id_cmp (List ℕ)
-    × (FinMap slot_cmp Cap × (FinMap slot_cmp SlotRef × (ℕ × (List SlotRef × List ObjId)))))))
+    × (FinMap slot_cmp Cap × (FinMap slot_cmp SlotRef × (ℕ × List ObjId))))))
     (coded× (map.code id object)
     (coded× (map.code id (coded_list id))
     (coded× (map.code id (coded_list coded_ℕ))
     (coded× (map.code slot cap)
-    (coded× (map.code slot slot) (coded× coded_ℕ (coded× (coded_list slot) (coded_list id))))))))
-    (λ m. (m.objects, (m.queues, (m.words, (m.caps, (m.parents, (m.next, (m.going.slots, m.going.objects))))))))
+    (coded× (map.code slot slot) (coded× coded_ℕ (coded_list id)))))))
+    (λ m. (m.objects, (m.queues, (m.words, (m.caps, (m.parents, (m.next, m.going)))))))
     (λ p.
     record {
       objects = p.0;
@@ -68,7 +60,7 @@ machine_code id slot object cap =
       caps = p.1.1.1.0;
       parents = p.1.1.1.1.0;
       next = p.1.1.1.1.1.0;
-      going = record { slots = p.1.1.1.1.1.1.0; objects = p.1.1.1.1.1.1.1 };
+      going = p.1.1.1.1.1.1;
     })
     (λ _. refl)
 
@@ -82,7 +74,7 @@ empty_machine =
       caps = map.empty;
       parents = map.empty;
       next = 0;
-      going = nothing_going;
+      going = [];
     }
 
 -- the look-ups

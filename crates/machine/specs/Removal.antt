@@ -1,6 +1,6 @@
 -- Removal of capabilities: those that go with them, the objects that lose their last, what becomes of the rest, and the derivation
 -- tree (seL4 manual, "Deletion, Revocation, and Recycling").
-use Rattle.std.specs.Prelude.{Bool, ℕ, List, filter, Option, Some, None, option_map, if◌then◌else◌}
+use Rattle.std.specs.Prelude.{Bool, ℕ, List, [], filter, Option, Some, None, option_map, if◌then◌else◌}
 use Rattle.std.specs.FinMap.{keys, values}
 use Rattle.base.specs.declared.ids.ObjId.{ObjId}
 use Rattle.base.specs.declared.ids.SlotRef.{SlotRef}
@@ -9,7 +9,7 @@ use Rattle.machine.specs.declared.object.Object.{Object}
 use Rattle.machine.specs.Finalising.{finalised, staying_in}
 use Rattle.machine.specs.Finite.{tabulate}
 use Rattle.machine.specs.Gone.{gone_of, loses_all}
-use Rattle.machine.specs.Machine.{Machine, nothing_going, object_of, queue_of, words_of, cap_of, parent_of}
+use Rattle.machine.specs.Machine.{Machine, object_of, queue_of, words_of, cap_of, parent_of}
 use Rattle.machine.specs.Orphans.{without_nodes}
 
 -- what each look-up answers where some slots go and some objects vanish
@@ -39,7 +39,7 @@ without_slots m gone vanished =
       caps = tabulate (cap_after m gone) (keys m.caps);
       parents = tabulate (parent_after m gone) (keys m.parents);
       next = m.next;
-      going = nothing_going;
+      going = [];
     }
 
 -- whether an object loses its last capability where the chosen slots are removed

@@ -1,4 +1,4 @@
-ghost use Rattle.std.specs.Prelude.{◌≡◌, ◌≢◌, ◌≤◌, ◌↔◌, Bool, true, false, List, Contains, Some, None, Ok, if◌then◌else◌};
+ghost use Rattle.std.specs.Prelude.{◌≡◌, ◌≢◌, ◌≤◌, ◌↔◌, Bool, true, false, List, [], Contains, Some, None, Ok, if◌then◌else◌};
 ghost use Rattle.std.specs.Bool.{Decides};
 ghost use Rattle.base.specs.declared.ids.ObjId.{ObjId as Id};
 ghost use Rattle.base.specs.declared.ids.SlotRef.{SlotRef as Slot};
@@ -28,7 +28,6 @@ ghost use Rattle.machine.specs.Finalising.{
 ghost use Rattle.machine.specs.Machine.{
   Machine,
   cap_of,
-  nothing_going,
   object_of,
   parent_of,
   queue_of,
@@ -110,7 +109,7 @@ pub fn a_removal_is_told_by_its_look_ups()
     ensures caps { (m : Machine) (chosen : Slot → Bool) (slot : Slot) → cap_of (removed m chosen) slot ≡ cap_after m (gone_of m chosen) slot }
     ensures parents { (m : Machine) (chosen : Slot → Bool) (slot : Slot) → parent_of (removed m chosen) slot ≡ parent_after m (gone_of m chosen) slot }
     ensures next { (m : Machine) (chosen : Slot → Bool) → (removed m chosen).next ≡ m.next }
-    ensures going { (m : Machine) (chosen : Slot → Bool) → (removed m chosen).going ≡ nothing_going }
+    ensures going { (m : Machine) (chosen : Slot → Bool) → (removed m chosen).going ≡ [] }
 {}
 
 /// A law: what objects that vanish do to those that stay, kind by kind. A CNode, untyped memory, a

@@ -11,7 +11,7 @@ use Rattle.base.specs.declared.ids.ObjId.{ObjId}
 use Rattle.base.specs.declared.ids.SlotRef.{SlotRef}
 use Rattle.machine.specs.declared.object.Object.{Object}
 use Rattle.machine.specs.Objects.{slot_count}
-use Rattle.machine.specs.Machine.{Machine, nothing_going, id_cmp, same_id, object_of, has_slot, with_object}
+use Rattle.machine.specs.Machine.{Machine, id_cmp, same_id, object_of, has_slot, with_object}
 use Rattle.machine.proofs.LookUps.{id_total, id_apart}
 use Rattle.machine.specs.Machine.{with_queue, with_new, empty_machine, queue_of}
 use Rattle.machine.proofs.LookUps.{object_of-empty, queue_of-empty}
@@ -31,7 +31,7 @@ use Rattle.objects.specs.Queues.{walk, AreQueues}
 use Rattle.objects.specs.Radices.{HasRadix}
 use Rattle.objects.specs.State.{machine_of, IsSized, IsConsistent}
 use Rattle.objects.specs.Waiting.{WaitsNowhere, WaitsThere}
-use Rattle.objects.proofs.Families.{no_family, same_family}
+use Rattle.objects.proofs.Families.{no_kin, same_kin}
 use Rattle.machine.proofs.FiniteLemmas.{by_key, same_from_tie, cond_here, cond_elsewhere}
 use Rattle.objects.proofs.EntryLemmas.{some-none, entry_of-with_entry}
 use Rattle.objects.proofs.StateLemmas.{Tells, present_kept, tells-machine_of, going-machine_of, next-machine_of, same_from_tells, object_at}
@@ -45,7 +45,7 @@ use Rattle.objects.proofs.Quitting.{on_walk_waits}
 -- the derivation tree, where slots are as they were
 same_slots :
     (old new : ObjId → Option Entry) → ((q : SlotRef) → slot_at new q ≡ slot_at old q) → AreKin old → AreKin new
-same_slots old new same = same_family _ _ _ _ (λ q. ap links_of (same q)) (λ q. ap cap_in (same q))
+same_slots old new same = same_kin old new (λ q. ap links_of (same q))
 
 -- the state with the entry of one object changed
 abbrev pub with_changed : Inside → ObjId → (Entry → Entry) → Inside
@@ -174,19 +174,19 @@ next-empty : empty_machine.next ≡ 0
 unfolding empty_machine
 next-empty = refl
 
-going-empty : empty_machine.going ≡ nothing_going
+going-empty : empty_machine.going ≡ []
 unfolding empty_machine
 going-empty = refl
 
 pub none_of : (s : Inside) → s.store ≡ finite.empty → (q : ObjId) → entry_of s.store q ≡ None
 none_of s none q = ap (λ (m : Entries). finite.get m q) none ∙ finite.get-empty id_cmp q
 
-pub empty_gives : (s : Inside) → s.store ≡ finite.empty → s.next ≡ 0 → machine_of s ≡ empty_machine
-empty_gives s none next =
+pub empty_gives : (s : Inside) → s.store ≡ finite.empty → s.next ≡ 0 → s.going.items ≡ [] → machine_of s ≡ empty_machine
+empty_gives s none next going =
     same_from_tells _ _ _ (entry_of s.store) (tells-machine_of s)
     (subst (λ n. Tells n empty_machine (entry_of s.store)) (sym next)
     (tells-same 0 empty_machine (λ _. None) (entry_of s.store) tells-empty (none_of s none)))
-    (next-machine_of s ∙ next ∙ sym next-empty) (going-machine_of s ∙ sym going-empty)
+    (next-machine_of s ∙ next ∙ sym next-empty) (going-machine_of s ∙ going ∙ sym going-empty)
 
 -- where there are no entries, nobody waits
 no_queues : AreQueued (λ _. None) 0
@@ -222,7 +222,7 @@ IsConsistent-empty s none next =
       bounded = omega arith;
       sized = λ id entry is. (let absent = none_of s none id in cc);
       queued = empty_queued s none next;
-      kin = no_family _ _ (λ q. ap (λ o. links_of (option_and_then (λ e. slice_get e.slots q.index) o)) (none_of s none q.holder));
+      kin = no_kin _ (λ q. ap (λ o. links_of (option_and_then (λ e. slice_get e.slots q.index) o)) (none_of s none q.holder));
     }
 
 -- a new object
@@ -310,6 +310,7 @@ with_added s object =
       store = finite.insert s.store (record { 0 = s.next }) (new_entry object);
       next = s.next + 1;
       counts = one_more s.counts object;
+      going = s.going;
     }
 
 module _ (s : Inside) (consistent : IsConsistent s) (object : Object) where
@@ -349,7 +350,7 @@ module _ (s : Inside) (consistent : IsConsistent s) (object : Object) where
         bounded = omega arith;
         sized = λ q entry is. sized_after radix q entry (same_id q id) (sym (added q) ∙ is);
         queued = new_queued (entry_of s.store) with_it s.next id object vacant added consistent.queued;
-        kin = same_family _ _ _ _ (read_before links_of refl) (read_before cap_in refl) consistent.kin;
+        kin = same_kin _ _ (read_before links_of refl) consistent.kin;
       }
 
   pub added_gives : machine_of (with_added s object) ≡ with_new (machine_of s) object
@@ -375,6 +376,7 @@ pub with_all_is :
       store = with_more s.store s.next (map new_entry objects);
       next = next;
       counts = fold one_more s.counts objects;
+      going = s.going;
     } ≡ with_all_added s objects
 with_all_is s [] next same = ap (λ n. record s { next = n }) (let ends : next ≡ s.next = omega (arith, same) in ends)
 with_all_is s (object ∷ objects) next same =
@@ -399,6 +401,7 @@ module _ (s : Inside) (consistent : IsConsistent s) (objects : List Object) (roo
         store = with_more s.store s.next (map new_entry objects);
         next = s.next + length objects;
         counts = fold one_more s.counts objects;
+        going = s.going;
       }
 
   pub IsConsistent-all_added : IsConsistent after

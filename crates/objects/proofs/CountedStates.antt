@@ -1,21 +1,22 @@
 -- A state's counts, and those of its entries, stay exact under each change.
 use Rattle.std.proofs.Common.{◌≡◌, ◌≢◌, ℕ, ◌+◌, ◌-◌, ◌≤◌, ◌^◌, List, [], ◌∷◌, length, refl, sym, ap, subst, ◌∙◌, arith}
-use Rattle.std.specs.Prelude.{None, Some, IfSome, IsSome, IsTrue, Option}
+use Rattle.std.specs.Prelude.{None, Some, IfSome, IsSome, IsTrue, Option, vec_capacity}
 use Rattle.std.specs.FinMap as finite
-use Rattle.std.specs.List.{AllByRecursion}
+use Rattle.std.specs.Global.{Vec}
+use Rattle.std.specs.List.{AllByRecursion, fold}
 use Rattle.std.proofs.lemmas.Bool.{false≢true}
 use Rattle.base.specs.declared.ids.ObjId.{ObjId}
 use Rattle.base.specs.declared.ids.SlotRef.{SlotRef}
 use Rattle.machine.specs.declared.cap.Cap.{Cap}
 use Rattle.machine.specs.declared.object.Object.{Object}
-use Rattle.machine.specs.Counts.{caps_to}
+use Rattle.machine.specs.Counts.{caps_to, objects_in, slots_in, threads_in}
 use Rattle.machine.specs.Machine.{Machine, cap_of, has_slot, object_of, with_cap, with_object, without_cap}
 use Rattle.machine.specs.Objects.{slot_count, thread_count}
-use Rattle.machine.specs.Tree.{IsAlone}
 use Rattle.machine.proofs.CapCounts.{caps_to-empty, caps_to-with_cap, caps_to-with_new, caps_to-with_object, caps_to-without_cap}
 use Rattle.machine.proofs.CapCounts.{none_for_others, one_for_its_own}
 use Rattle.machine.proofs.FiniteLemmas.{by_key}
 use Rattle.machine.proofs.LookUps.{id_total, id_apart}
+use Rattle.objects.specs.declared.counts.Counts.{Counts}
 use Rattle.objects.specs.declared.slots.Slot.{Slot}
 use Rattle.objects.specs.declared.state.State.TheInside.{Inside}
 use Rattle.objects.specs.Counts.{counts_in, one_more, AreOfNumbers}
@@ -33,7 +34,7 @@ use Rattle.objects.proofs.CountLemmas.{counts-empty, counts-with_cap, counts-wit
 use Rattle.objects.proofs.CountLemmas.{few_slots, few_threads}
 use Rattle.objects.proofs.SlotLemmas.{changes_slot}
 use Rattle.objects.proofs.StateLemmas.{next-machine_of, object_at, present_kept, tells-machine_of}
-use Rattle.objects.proofs.TreeState.{put_cap_gives, take_cap_gives, IsConsistent-put_cap, IsConsistent-take_cap}
+use Rattle.objects.proofs.TreeState.{put_cap_gives, take_cap_gives, IsConsistent-cap_set}
 
 -- a change after which the machine has as much as before
 
@@ -48,14 +49,15 @@ counted_after s t counted counts next m gives same =
 
 -- and each object its capabilities
 pub sound_after :
-    (s t : Inside) → IsSound s → IsConsistent t → t.counts ≡ s.counts → t.next ≡ s.next → CapsKept s.store t.store → (m : Machine)
-    → machine_of t ≡ m → counts_in m ≡ counts_in (machine_of s) → ((id : ObjId) → caps_to m id ≡ caps_to (machine_of s) id)
+    (s t : Inside) → IsSound s → IsConsistent t → t.counts ≡ s.counts → t.next ≡ s.next → t.going ≡ s.going → CapsKept s.store t.store
+    → (m : Machine) → machine_of t ≡ m → counts_in m ≡ counts_in (machine_of s) → ((id : ObjId) → caps_to m id ≡ caps_to (machine_of s) id)
     → IsSound t
-sound_after s t sound consistent counts next kept m gives same caps =
+sound_after s t sound consistent counts next going kept m gives same caps =
     record {
       consistent = consistent;
       counted = counted_after s t sound.counted counts next m gives same;
       tallied = λ id. kept id ∙ sound.tallied id ∙ sym (caps id) ∙ ap (λ n. caps_to n id) (sym gives);
+      roomy = rw (counts, going) sound.roomy;
     }
 
 -- a capability comes or goes
@@ -87,6 +89,7 @@ module _ (s : Inside) (slot : SlotRef) (held : Cap) (filling : Option Cap) (caps
             (λ same. ap (caps_to m) same ∙ sym here)
             (λ apart. others id apart ∙ sym (sound.tallied id) ∙ sym (caps-with_slot s.store slot set id)))
             ∙ ap (λ n. caps_to n id) (sym machine_now);
+        roomy = sound.roomy;
       }
     where
       machine_now : machine_of cap_set ≡ m
@@ -108,38 +111,39 @@ pub sound_put :
 sound_put s sound slot held caps has vacant there count =
     let m : Machine = machine_of s in
     let more = caps_to-with_cap m slot held vacant in
-    cap_set_sound s slot held (Some held) caps sound (IsConsistent-put_cap s sound.consistent slot held) (with_cap m slot held)
+    cap_set_sound s slot held (Some held) caps sound (IsConsistent-cap_set s sound.consistent slot (Some held)) (with_cap m slot held)
     (put_cap_gives s sound.consistent slot held has) (counts-with_cap m slot held) (found_there s held.object there)
     (let now = more held.object in let one = one_for_its_own held in omega (arith, now, one, count))
     (λ id apart. let now = more id in let none = none_for_others id held (λ same. apart (sym same)) in omega (arith, now, none))
 
 pub sound_take :
-    (s : Inside) → IsSound s → (slot : SlotRef) (held : Cap) (caps : ℕ) → IsAlone (machine_of s) slot
-    → cap_of (machine_of s) slot ≡ Some held → caps ≡ caps_to (machine_of s) held.object - 1
+    (s : Inside) → IsSound s → (slot : SlotRef) (held : Cap) (caps : ℕ) → cap_of (machine_of s) slot ≡ Some held → caps ≡ caps_to (machine_of s) held.object - 1
     → IsSound (cap_set s slot held None caps)
-sound_take s sound slot held caps alone filled count =
+sound_take s sound slot held caps filled count =
     let m : Machine = machine_of s in
     let less = caps_to-without_cap m slot held filled in
-    cap_set_sound s slot held None caps sound (IsConsistent-take_cap s sound.consistent slot alone) (without_cap m slot)
+    cap_set_sound s slot held None caps sound (IsConsistent-cap_set s sound.consistent slot None) (without_cap m slot)
     (take_cap_gives s sound.consistent slot) (counts-without_cap m slot) (held_there s sound slot held filled)
     (let now = less held.object in let one = one_for_its_own held in omega (arith, now, one, count))
     (λ id apart. let now = less id in let none = none_for_others id held (λ same. apart (sym same)) in omega (arith, now, none))
 
 -- no objects
 pub sound_empty :
-    (s : Inside) → s.store ≡ finite.empty → s.next ≡ 0 → s.counts ≡ record { objects = 0; slots = 0; threads = 0 } → IsSound s
-sound_empty s none next counts =
+    (s : Inside) → s.store ≡ finite.empty → s.next ≡ 0 → s.counts ≡ record { objects = 0; slots = 0; threads = 0 }
+    → s.going.items ≡ [] → IsSound s
+sound_empty s none next counts going =
     record {
       consistent = IsConsistent-empty s none next;
       counted =
           record {
-            exact = counts ∙ sym counts-empty ∙ ap counts_in (sym (empty_gives s none next));
+            exact = counts ∙ sym counts-empty ∙ ap counts_in (sym (empty_gives s none next going));
             few = rw counts (record { objects = omega arith; slots = omega arith; threads = omega arith });
           };
       tallied =
           λ id.
           ap caps_in (none_of s none id) ∙ sym (caps_to-empty id)
-          ∙ ap (λ m. caps_to m id) (sym (empty_gives s none next));
+          ∙ ap (λ m. caps_to m id) (sym (empty_gives s none next going));
+      roomy = rw counts (omega arith);
     }
 
 -- a new object
@@ -194,8 +198,9 @@ all_tallied s consistent tallied (object ∷ objects) room radices =
 
 pub sound_all_added :
     (s : Inside) (sound : IsSound s) (objects : List Object) (room : s.next + length objects ≤ 2 ^ 48)
-    (radices : AllByRecursion HasRadix objects) → IsSound (after s sound.consistent objects room radices)
-sound_all_added s sound objects room radices =
+    (radices : AllByRecursion HasRadix objects) → s.counts.objects + length objects ≤ vec_capacity s.going
+    → IsSound (after s sound.consistent objects room radices)
+sound_all_added s sound objects room radices roomy =
     record {
       consistent = IsConsistent-all_added s sound.consistent objects room radices;
       counted =
@@ -204,7 +209,12 @@ sound_all_added s sound objects room radices =
       tallied =
           subst IsTallied (sym (with_all_is s objects _ refl))
           (all_tallied s sound.consistent sound.tallied objects room radices);
+      roomy = let more = counted_more s.counts objects in omega (arith, more, roomy);
     }
+  where
+    counted_more : (counts : Counts) (objects : List Object) → (fold one_more counts objects).objects ≡ counts.objects + length objects
+    counted_more counts [] = omega arith
+    counted_more counts (object ∷ objects) = let more = counted_more (one_more counts object) objects in omega (arith, more)
 
 -- an object is another, with as many slots and threads
 pub sound_replace :
@@ -215,7 +225,7 @@ pub sound_replace :
 sound_replace s sound id object radix some slots threads =
     sound_after s (with_changed s id (replace_in object)) sound
     (IsConsistent-replace s sound.consistent id object radix slots) refl refl
-    (caps-with_entry s.store id (replace_in object) (λ e. refl)) _ (replace_gives s sound.consistent id object some)
+    refl (caps-with_entry s.store id (replace_in object) (λ e. refl)) _ (replace_gives s sound.consistent id object some)
     (by_object (object_of (machine_of s) id) refl some slots threads) (caps_to-with_object (machine_of s) id object)
   where
     by_object :
@@ -224,3 +234,42 @@ sound_replace s sound id object radix some slots threads =
         → counts_in (with_object (machine_of s) id object) ≡ counts_in (machine_of s)
     by_object None is some slots threads = absurd (false≢true some)
     by_object (Some old) is some slots threads = counts-with_object (machine_of s) id old object is slots threads
+
+-- those that are going are others
+
+module _ (s : Inside) (going : Vec ObjId) where
+  abbrev pub with_found : Inside
+  with_found = record s { going = going }
+
+  found_caps : (id : ObjId) → caps_to (machine_of with_found) id ≡ caps_to (machine_of s) id
+  unfolding machine_of caps_to
+  found_caps id = refl
+
+  found_counts : counts_in (machine_of with_found) ≡ counts_in (machine_of s)
+  unfolding machine_of objects_in slots_in threads_in
+  found_counts = refl
+
+  -- there is room for no fewer
+  pub sound_room : IsSound s → vec_capacity s.going ≤ vec_capacity going → IsSound with_found
+  sound_room sound grown =
+      record {
+        consistent = consistent_found sound.consistent;
+        counted = counted_after s with_found sound.counted refl refl (machine_of with_found) refl found_counts;
+        tallied = λ id. sound.tallied id ∙ sym (found_caps id);
+        roomy = let room = sound.roomy in omega (arith, room, grown);
+      }
+    where
+      consistent_found : IsConsistent s → IsConsistent with_found
+      consistent_found c =
+          record { fresh = c.fresh; bounded = c.bounded; sized = c.sized; queued = c.queued; kin = c.kin }
+
+  pub sound_going : IsSound s → vec_capacity going ≡ vec_capacity s.going → IsSound with_found
+  sound_going sound same = sound_room sound (let room = sound.roomy in omega (arith, same))
+
+  pub going_gives : (ids : List ObjId) → going.items ≡ ids → machine_of with_found ≡ record (machine_of s) { going = ids }
+  unfolding machine_of
+  going_gives ids same = ap (λ found. record (machine_of s) { going = found }) same
+
+  pub room_gives : going.items ≡ s.going.items → machine_of with_found ≡ machine_of s
+  unfolding machine_of
+  room_gives same = ap (λ found. record (machine_of s) { going = found }) same

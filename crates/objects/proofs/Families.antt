@@ -1,47 +1,40 @@
--- The links of slots stay those of a forest that joins filled slots, where a slot comes under a parent, and where it leaves its own.
+-- The links of slots stay those of a forest, where a slot comes under a parent, and where it leaves its own.
 use Rattle.std.proofs.Common.{◌≡◌, ◌≢◌, ℕ, ◌<◌, ◌⊎◌, inl, inr, refl, sym, ap, subst, ◌∙◌, arith}
 use Rattle.std.specs.Prelude.{Option, Some, None, IsSome}
+use Rattle.base.specs.declared.ids.ObjId.{ObjId}
 use Rattle.base.specs.declared.ids.SlotRef.{SlotRef}
 use Rattle.machine.specs.declared.cap.Cap.{Cap}
+use Rattle.objects.specs.declared.entry.Entry.{Entry}
 use Rattle.objects.specs.declared.links.TreeLinks.{TreeLinks}
 use Rattle.objects.specs.Entries.{Entries, entry_of, slot_at}
-use Rattle.objects.specs.Family.{cap_in, links_at, with_links, attached, head_of, leaving, by_links, IsFamily, AreKin}
-use Rattle.objects.specs.Forest.{Joins, Leaves}
+use Rattle.objects.specs.Family.{cap_in, links_at, with_links, attached, head_of, leaving, by_links, AreKin}
+use Rattle.objects.specs.Forest.{IsForest, Joins, Leaves}
 use Rattle.objects.proofs.Detaching.{left_forest}
-use Rattle.objects.proofs.Forests.{empty_forest, joined_forest}
-use Rattle.objects.proofs.SlotLemmas.{SetsLinks, SlotsAlone, alone_twice, cases_slot, filled_there, link_kept, linked_there, sets_links}
+use Rattle.objects.proofs.Forests.{empty_forest, first_of, joined_forest}
+use Rattle.objects.proofs.SlotLemmas.{SetsLinks, SlotsAlone, alone_twice, cases_slot, link_kept, linked_there, sets_links}
 
--- where links and fillings are as they were
-pub same_family :
-    (links links' : SlotRef → TreeLinks) (cap cap' : SlotRef → Option Cap) → ((q : SlotRef) → links' q ≡ links q)
-    → ((q : SlotRef) → cap' q ≡ cap q) → IsFamily links cap → IsFamily links' cap'
-same_family links links' cap cap' linked filled family =
-    subst (λ l. IsFamily l cap') (λ i q. sym (linked q) i) (subst (λ c. IsFamily links c) (λ i q. sym (filled q) i) family)
+-- where links are as they were
+pub same_kin : (old new : ObjId → Option Entry) → ((q : SlotRef) → links_at new q ≡ links_at old q) → AreKin old → AreKin new
+same_kin old new linked = subst (λ l. IsForest (by_links l)) (λ i q. sym (linked q) i)
 
 -- where no slot has links
-pub no_family :
-    (links : SlotRef → TreeLinks) (cap : SlotRef → Option Cap)
-    → ((q : SlotRef) → links q ≡ record { parent = None; first = None; next = None; previous = None }) → IsFamily links cap
-no_family links cap none =
-    record {
-      forest =
-          empty_forest (by_links links) (λ q. ap (λ l. l.parent) (none q)) (λ q. ap (λ l. l.first) (none q))
-          (λ q. ap (λ l. l.next) (none q)) (λ q. ap (λ l. l.previous) (none q));
-      below = λ c p is. let root = ap (λ (l : TreeLinks). l.parent) (none c) in cc;
-      above = λ c p is. let root = ap (λ (l : TreeLinks). l.parent) (none c) in cc;
-    }
+pub no_kin :
+    (entry : ObjId → Option Entry)
+    → ((q : SlotRef) → links_at entry q ≡ record { parent = None; first = None; next = None; previous = None }) → AreKin entry
+no_kin entry none =
+    empty_forest (by_links (links_at entry)) (λ q. ap (λ l. l.parent) (none q)) (λ q. ap (λ l. l.first) (none q))
+    (λ q. ap (λ l. l.next) (none q)) (λ q. ap (λ l. l.previous) (none q))
 
--- where capabilities have come or gone, but not those of pairs
-pub refilled_family :
-    (links : SlotRef → TreeLinks) (cap cap' : SlotRef → Option Cap) → IsFamily links cap
-    → ((c p : SlotRef) → (links c).parent ≡ Some p → IsSome (cap c) → IsSome (cap' c))
-    → ((c p : SlotRef) → (links c).parent ≡ Some p → IsSome (cap p) → IsSome (cap' p)) → IsFamily links cap'
-refilled_family links cap cap' family low high =
-    record {
-      forest = family.forest;
-      below = λ c p is. low c p is (family.below c p is);
-      above = λ c p is. high c p is (family.above c p is);
-    }
+-- pairs join slots that are there
+
+pub child_there :
+    (entry : ObjId → Option Entry) (c p : SlotRef) → (links_at entry c).parent ≡ Some p → IsSome (slot_at entry c)
+child_there entry c p is = linked_there (slot_at entry c) (λ l. l.parent) p refl is
+
+pub parent_there :
+    (entry : ObjId → Option Entry) → AreKin entry → (c p : SlotRef) → (links_at entry c).parent ≡ Some p → IsSome (slot_at entry p)
+parent_there entry kin c p is =
+    let head = first_of (by_links (links_at entry)) kin c p is in linked_there (slot_at entry p) (λ l. l.first) head.0 refl head.1
 
 module _ (entries : Entries) (kin : AreKin (entry_of entries)) where
   abbrev old : SlotRef → TreeLinks
@@ -55,17 +48,17 @@ module _ (entries : Entries) (kin : AreKin (entry_of entries)) where
 
   behind_differs : (a b : SlotRef) → (old b).previous ≡ Some a → a ≢ b
   behind_differs a b behind same =
-      let less : kin.forest.order a < kin.forest.order b = kin.forest.later a b behind in
-      let equal : kin.forest.order a ≡ kin.forest.order b = ap kin.forest.order same in omega arith
+      let less : kin.order a < kin.order b = kin.later a b behind in
+      let equal : kin.order a ≡ kin.order b = ap kin.order same in omega arith
 
   parent_differs : (c p : SlotRef) → (old c).parent ≡ Some p → p ≢ c
   parent_differs c p is same =
-      let less : kin.forest.depth p < kin.forest.depth c = kin.forest.deeper c p is in
-      let equal : kin.forest.depth p ≡ kin.forest.depth c = ap kin.forest.depth same in omega arith
+      let less : kin.depth p < kin.depth c = kin.deeper c p is in
+      let equal : kin.depth p ≡ kin.depth c = ap kin.depth same in omega arith
 
   -- a root comes under a parent
 
-  module _ (slot parent : SlotRef) (below : IsSome (held slot)) (above : IsSome (held parent))
+  module _ (slot parent : SlotRef) (below : there slot) (above : there parent)
       (root : (old slot).parent ≡ None) (differs : slot ≢ parent) where
     abbrev head : Option SlotRef
     head = (old parent).first
@@ -88,14 +81,14 @@ module _ (entries : Entries) (kin : AreKin (entry_of entries)) where
     first_step : SetsLinks entries entries1 head set_leader
     first_step =
         sets_links entries head set_leader
-        (λ q is. linked_there (slot_at (entry_of entries) q) (λ l. l.parent) parent refl (kin.forest.headed parent q is).0)
+        (λ q is. linked_there (slot_at (entry_of entries) q) (λ l. l.parent) parent refl (kin.headed parent q is).0)
 
     second_step : SetsLinks entries1 entries2 (Some slot) set_under
     second_step =
         sets_links entries1 (Some slot) set_under
         (λ q is.
         let one : slot ≡ q = cc in
-        first_step.there q (subst there one (filled_there (slot_at (entry_of entries) slot) below)))
+        first_step.there q (subst there one below))
 
     third_step : SetsLinks entries2 (attached entries slot parent) (Some parent) set_first
     third_step =
@@ -103,13 +96,13 @@ module _ (entries : Entries) (kin : AreKin (entry_of entries)) where
         (λ q is.
         let one : parent ≡ q = cc in
         second_step.there q
-        (first_step.there q (subst there one (filled_there (slot_at (entry_of entries) parent) above))))
+        (first_step.there q (subst there one above)))
 
     abbrev joined : SlotRef → TreeLinks
     joined = links_at (entry_of (attached entries slot parent))
 
     not_head : (q : SlotRef) → head ≡ Some q → q ≢ slot
-    not_head q is same = let under = (kin.forest.headed parent q is).0 in cc
+    not_head q is same = let under = (kin.headed parent q is).0 in cc
 
     one_of : (a b : SlotRef) → a ≢ b → Some a ≢ Some b
     one_of a b apart same = apart cc
@@ -157,7 +150,7 @@ module _ (entries : Entries) (kin : AreKin (entry_of entries)) where
               λ q other. kept3 (λ l. l.previous) (λ l. refl) q ∙ (elim (cases_slot q slot) [
                 | inl same ↦
                     subst (λ k. (links_at (entry_of entries2) k).previous ≡ (old k).previous) (sym same)
-                    (ap (λ l. l.previous) (second_step.here slot refl) ∙ sym (kin.forest.rooted slot root))
+                    (ap (λ l. l.previous) (second_step.here slot refl) ∙ sym (kin.rooted slot root))
                 | inr apart ↦
                     ap (λ l. l.previous) (second_step.other q (one_of slot q (λ same. apart (sym same))))
                     ∙ ap (λ l. l.previous) (first_step.other q other)
@@ -176,20 +169,7 @@ module _ (entries : Entries) (kin : AreKin (entry_of entries)) where
         (rank : SlotRef → ℕ) → ((c p : SlotRef) → (joined c).parent ≡ Some p → rank p < rank c)
         → AreKin (entry_of (attached entries slot parent))
     attached_kin rank ranked =
-        record {
-          forest = joined_forest cases_slot (by_links old) (by_links joined) slot parent kin.forest joins root rank ranked;
-          below = λ c p is. subst IsSome (sym (attached_caps c)) (by_slot c p is (cases_slot c slot)).0;
-          above = λ c p is. subst IsSome (sym (attached_caps p)) (by_slot c p is (cases_slot c slot)).1;
-        }
-      where
-        by_slot :
-            (c p : SlotRef) → (joined c).parent ≡ Some p → (c ≡ slot) ⊎ (c ≢ slot) → IsSome (held c) × IsSome (held p)
-        by_slot c p is (inl same) =
-            let one : parent ≡ p = let here = joins.parent_here in cc in
-            (subst (λ q. IsSome (held q)) (sym same) below, subst (λ q. IsSome (held q)) one above)
-        by_slot c p is (inr apart) =
-            let was : (old c).parent ≡ Some p = sym (joins.parent_other c apart) ∙ is in
-            (kin.below c p was, kin.above c p was)
+        joined_forest cases_slot (by_links old) (by_links joined) slot parent kin joins root rank ranked
 
   -- a slot leaves its parent
 
@@ -232,15 +212,14 @@ module _ (entries : Entries) (kin : AreKin (entry_of entries)) where
     step1 =
         sets_links entries headed drop_first
         (λ q is.
-        subst there (sym (headed_is q mine.previous is))
-        (filled_there (slot_at (entry_of entries) parent) (kin.above slot parent under)))
+        subst there (sym (headed_is q mine.previous is)) (parent_there (entry_of entries) kin slot parent under))
 
     step2 : SetsLinks rest1 rest2 mine.previous skip_next
     step2 =
         sets_links rest1 mine.previous skip_next
         (λ q is.
         step1.there q
-        (linked_there (slot_at (entry_of entries) q) (λ l. l.next) slot refl (kin.forest.back q slot is)))
+        (linked_there (slot_at (entry_of entries) q) (λ l. l.next) slot refl (kin.back q slot is)))
 
     step3 : SetsLinks rest2 rest3 mine.next skip_previous
     step3 =
@@ -248,7 +227,7 @@ module _ (entries : Entries) (kin : AreKin (entry_of entries)) where
         (λ q is.
         step2.there q
         (step1.there q
-        (linked_there (slot_at (entry_of entries) q) (λ l. l.previous) slot refl (kin.forest.onward slot q is))))
+        (linked_there (slot_at (entry_of entries) q) (λ l. l.previous) slot refl (kin.onward slot q is))))
 
     step4 : SetsLinks rest3 left (Some slot) unlink
     step4 =
@@ -257,7 +236,7 @@ module _ (entries : Entries) (kin : AreKin (entry_of entries)) where
         let one : slot ≡ q = cc in
         step3.there q
         (step2.there q
-        (step1.there q (subst there one (filled_there (slot_at (entry_of entries) slot) (kin.below slot parent under))))))
+        (step1.there q (subst there one (child_there (entry_of entries) slot parent under)))))
 
     abbrev apart_links : SlotRef → TreeLinks
     apart_links = links_at (entry_of left)
@@ -289,7 +268,7 @@ module _ (entries : Entries) (kin : AreKin (entry_of entries)) where
     previous_apart q is = behind_differs q slot is
 
     next_apart : (q : SlotRef) → mine.next ≡ Some q → q ≢ slot
-    next_apart q is same = behind_differs slot q (kin.forest.onward slot q is) (sym same)
+    next_apart q is same = behind_differs slot q (kin.onward slot q is) (sym same)
 
     first3 : (q : SlotRef) → (apart_links q).first ≡ (links_at (entry_of rest1) q).first
     first3 q = kept4 (λ l. l.first) (λ l. refl) q ∙ kept_both (λ l. l.first) (λ l. refl) q ∙ kept2 (λ l. l.first) (λ l. refl) q
@@ -338,17 +317,4 @@ module _ (entries : Entries) (kin : AreKin (entry_of entries)) where
         (alone_twice rest1 rest2 left step2.alone (alone_twice rest2 rest3 left step3.alone step4.alone))
 
     pub detached_kin : AreKin (entry_of left)
-    detached_kin =
-        record {
-          forest = left_forest cases_slot (by_links old) (by_links apart_links) slot parent kin.forest leaves under;
-          below = λ c p is. subst IsSome (sym (detached_caps c)) (kin.below c p (was c p is));
-          above = λ c p is. subst IsSome (sym (detached_caps p)) (kin.above c p (was c p is));
-        }
-      where
-        was : (c p : SlotRef) → (apart_links c).parent ≡ Some p → (old c).parent ≡ Some p
-        was c p is = elim (cases_slot c slot) [
-          | inl same ↦ absurd (root_now c p is same)
-          | inr apart ↦ sym (leaves.parent_other c apart) ∙ is
-        ] where
-          root_now : (c p : SlotRef) → (apart_links c).parent ≡ Some p → c ≡ slot → ⊥
-          root_now c p is same = let here = leaves.parent_here in cc
+    detached_kin = left_forest cases_slot (by_links old) (by_links apart_links) slot parent kin leaves under

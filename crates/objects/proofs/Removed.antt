@@ -8,6 +8,7 @@ use Rattle.machine.specs.declared.object.Object.{Object}
 use Rattle.machine.specs.Changes.{first_waiting, without_object}
 use Rattle.machine.specs.Counts.{caps_to}
 use Rattle.machine.specs.Machine.{Machine, same_id, object_of, cap_of}
+use Rattle.machine.specs.Tree.{IsAlone}
 use Rattle.machine.specs.Objects.{slot_count, thread_count}
 use Rattle.machine.proofs.FiniteLemmas.{by_key, cond_here, cond_elsewhere}
 use Rattle.machine.proofs.LookUps.{id_total, id_apart}
@@ -30,9 +31,10 @@ use Rattle.objects.specs.Waiting.{WaitsNowhere}
 use Rattle.objects.proofs.ConsistentLemmas.{first_waiting-machine_of}
 use Rattle.objects.proofs.CountLemmas.{counts-without_object, less_one_more}
 use Rattle.objects.proofs.EntryLemmas.{some-none}
-use Rattle.objects.proofs.Families.{same_family}
+use Rattle.objects.proofs.Families.{same_kin}
 use Rattle.objects.proofs.LinkLemmas.{stands_nowhere}
 use Rattle.objects.proofs.QueueLemmas.{cases_id}
+use Rattle.objects.proofs.TreeState.{parent_is}
 use Rattle.objects.proofs.StateLemmas.{Tells, tells-machine_of, going-machine_of, next-machine_of, same_from_tells, object_at, words_at}
 
 -- the state without an object
@@ -51,6 +53,7 @@ first_end (Some e) = refl
 
 module _ (s : Inside) (sound : IsSound s) (id : ObjId) (unheld : caps_to (machine_of s) id ≡ 0)
     (hollow : (slot : SlotRef) → slot.holder ≡ id → cap_of (machine_of s) slot ≡ None)
+    (alone : (slot : SlotRef) → slot.holder ≡ id → IsAlone (machine_of s) slot)
     (deserted : first_waiting (machine_of s) id ≡ None) (free : WaitsNowhere (machine_of s) id) where
   abbrev m : Machine
   m = machine_of s
@@ -133,31 +136,28 @@ module _ (s : Inside) (sound : IsSound s) (id : ObjId) (unheld : caps_to (machin
     links = links_at old q
 
     no_parent : links.parent ≡ None
-    no_parent = by_parent links.parent refl where
-      by_parent : (o : Option SlotRef) → links.parent ≡ o → o ≡ None
-      by_parent None is = refl
-      by_parent (Some p) is = absurd (some-none _ (consistent.kin.below q p is) (capless q its_own))
+    no_parent = sym (parent_is s consistent q) ∙ (alone q its_own).root
 
     no_child : links.first ≡ None
     no_child = by_first links.first refl where
       by_first : (o : Option SlotRef) → links.first ≡ o → o ≡ None
       by_first None is = refl
       by_first (Some c) is =
-          absurd (some-none _ (consistent.kin.above c q (consistent.kin.forest.headed q c is).0) (capless q its_own))
+          absurd ((alone q its_own).leaf c (parent_is s consistent c ∙ (consistent.kin.headed q c is).0))
 
     no_follower : links.next ≡ None
     no_follower = by_next links.next refl where
       by_parent : (b : SlotRef) → (links_at old b).previous ≡ Some q → (o : Option SlotRef) → (links_at old b).parent ≡ o → ⊥
-      by_parent b behind None is = let none = consistent.kin.forest.rooted b is in cc
-      by_parent b behind (Some p) is = let some = consistent.kin.forest.beside q b p behind is in let none = no_parent in cc
+      by_parent b behind None is = let none = consistent.kin.rooted b is in cc
+      by_parent b behind (Some p) is = let some = consistent.kin.beside q b p behind is in let none = no_parent in cc
 
       by_next : (o : Option SlotRef) → links.next ≡ o → o ≡ None
       by_next None is = refl
-      by_next (Some b) is = absurd (by_parent b (consistent.kin.forest.onward q b is) (links_at old b).parent refl)
+      by_next (Some b) is = absurd (by_parent b (consistent.kin.onward q b is) (links_at old b).parent refl)
 
     linkless : links ≡ record { parent = None; first = None; next = None; previous = None }
     linkless =
-        let leader = consistent.kin.forest.rooted q no_parent in
+        let leader = consistent.kin.rooted q no_parent in
         λ i. record { parent = no_parent i; first = no_child i; next = no_follower i; previous = leader i }
 
   -- what reads of each of its slots as it does of an absent one
@@ -172,7 +172,7 @@ module _ (s : Inside) (sound : IsSound s) (id : ObjId) (unheld : caps_to (machin
       ]
 
   kin_after : AreKin new
-  kin_after = same_family _ _ _ _ (slots_same links_of linkless) (slots_same cap_in capless) consistent.kin
+  kin_after = same_kin _ _ (slots_same links_of linkless) consistent.kin
 
   -- the machine is without it
 
@@ -250,7 +250,13 @@ module _ (s : Inside) (sound : IsSound s) (id : ObjId) (unheld : caps_to (machin
         ∙ ap (λ n. caps_to n q) (sym removed_gives)
 
     pub sound_removed : object_of m id ≡ Some object → IsSound after
-    sound_removed is = record { consistent = consistent_after; counted = counted_after is; tallied = tallied_after }
+    sound_removed is =
+        record {
+          consistent = consistent_after;
+          counted = counted_after is;
+          tallied = tallied_after;
+          roomy = let room = sound.roomy in omega (arith, room);
+        }
 
 -- an object that is there is counted
 pub counts_it :

@@ -43,6 +43,11 @@ within_there [] index within = absurd (omega arith)
 within_there (slot ∷ slots) zero within = refl
 within_there (slot ∷ slots) (suc index) within = within_there slots index (omega arith)
 
+pub there_within : (slots : List Slot) (index : ℕ) → IsSome (slice_get slots index) → index < length slots
+there_within [] index some = absurd (false≢true some)
+there_within (slot ∷ slots) zero some = omega arith
+there_within (slot ∷ slots) (suc index) some = let less = there_within slots index some in omega (arith, less)
+
 -- nothing but slots has changed, and there are as many as before
 pub record SlotsAlone (old new : Entries) : Type 0 where
   pub same : (q : ObjId) → option_map bulk (entry_of new q) ≡ option_map bulk (entry_of old q)

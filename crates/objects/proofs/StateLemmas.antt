@@ -10,7 +10,7 @@ use Rattle.std.specs.FinMap as finite
 use Rattle.base.specs.declared.ids.ObjId.{ObjId}
 use Rattle.base.specs.declared.ids.SlotRef.{SlotRef}
 use Rattle.machine.specs.declared.object.Object.{Object}
-use Rattle.machine.specs.Machine.{Machine, nothing_going, same_id, same_slot, object_of, queue_of}
+use Rattle.machine.specs.Machine.{Machine, same_id, same_slot, object_of, queue_of}
 use Rattle.machine.proofs.LookUps.{id_total, id_apart, slot_total, slot_apart}
 use Rattle.machine.specs.Machine.{words_of, cap_of, parent_of}
 use Rattle.machine.proofs.LookUps.{same_machine}
@@ -123,10 +123,10 @@ pub present_kept :
 present_kept part old new same some = sym (is_some-option_map part new) ∙ ap is_some same ∙ is_some-option_map part old ∙ some
 
 tells-machine_from :
-    (entry : ObjId → Option Entry) (ids : List ObjId) (next : ℕ)
-    → ((q : ObjId) → IsSome (entry q) → list_any (same_id q) ids ≡ true) → Tells next (machine_from entry ids next) entry
+    (entry : ObjId → Option Entry) (ids : List ObjId) (next : ℕ) (going : List ObjId)
+    → ((q : ObjId) → IsSome (entry q) → list_any (same_id q) ids ≡ true) → Tells next (machine_from entry ids next going) entry
 unfolding object_of queue_of words_of cap_of parent_of
-tells-machine_from entry ids next all =
+tells-machine_from entry ids next going all =
     let slots : List SlotRef = flat_map (λ id. slots_of id (entry id)) ids in
     record {
       objects =
@@ -154,10 +154,10 @@ tells-machine_from entry ids next all =
 pub tells-machine_of : (s : Inside) → Tells s.next (machine_of s) (entry_of s.store)
 unfolding machine_of
 tells-machine_of s =
-    tells-machine_from (entry_of s.store) (finite.keys s.store) s.next
+    tells-machine_from (entry_of s.store) (finite.keys s.store) s.next s.going.items
     (listed s.store)
 
-pub going-machine_of : (s : Inside) → (machine_of s).going ≡ nothing_going
+pub going-machine_of : (s : Inside) → (machine_of s).going ≡ s.going.items
 unfolding machine_of
 going-machine_of s = refl
 

@@ -1,9 +1,9 @@
 -- What is true of each state stays true where a slot is filled or emptied, comes under a parent or leaves its own, and what contracts see
 -- of the state after it.
-use Rattle.std.proofs.Common.{◌≡◌, ◌≢◌, ◌<◌, cond, inl, inr, refl, sym, ap, subst, ◌∙◌, arith}
+use Rattle.std.proofs.Common.{◌≡◌, ◌≢◌, ◌<◌, cond, length, inl, inr, refl, sym, ap, subst, ◌∙◌, arith}
 use Rattle.std.specs.Prelude.{Option, Some, None, IsSome, IfSome, IfNone, option_map, option_and_then, slice_get, IsTrue}
 use Rattle.std.specs.FinMap as map
-use Rattle.std.proofs.lemmas.Bool.{false≢true}
+use Rattle.std.proofs.lemmas.Bool.{false≢true, lt-ltb}
 use Rattle.std.proofs.lemmas.Option.{same_Some}
 use Rattle.base.specs.declared.ids.ObjId.{ObjId}
 use Rattle.base.specs.declared.ids.SlotRef.{SlotRef}
@@ -11,7 +11,7 @@ use Rattle.machine.specs.declared.cap.Cap.{Cap}
 use Rattle.machine.specs.Machine.{Machine, object_of, queue_of, words_of, cap_of, parent_of, has_slot, same_slot}
 use Rattle.machine.specs.Machine.{with_cap, with_parent, without_cap, without_parent}
 use Rattle.machine.specs.Objects.{slot_count}
-use Rattle.machine.specs.Tree.{IsAlone, IsRanked}
+use Rattle.machine.specs.Tree.{IsRanked}
 use Rattle.machine.specs.WellFormed.{Descends}
 use Rattle.machine.proofs.LookUps.{cap_of-with_cap, cap_of-with_parent, parent_of-with_parent, same_machine, slot_total, slot_apart}
 use Rattle.machine.proofs.SlotChanges.{SameObjects}
@@ -24,12 +24,13 @@ use Rattle.objects.specs.Radices.{HasRadix}
 use Rattle.objects.specs.State.{machine_of, IsSized, IsConsistent}
 use Rattle.objects.proofs.ChangeLemmas.{bulk, links_kept, part_read, tells-slots}
 use Rattle.objects.proofs.ConsistentLemmas.{found_slot}
-use Rattle.objects.proofs.Families.{attached_alone, attached_caps, attached_kin, detached_alone, detached_caps, detached_kin, joins, leaves, refilled_family, same_family}
+use Rattle.objects.proofs.Families.{attached_alone, attached_caps, attached_kin, child_there, detached_alone, detached_caps, detached_kin, joins, leaves}
+use Rattle.objects.proofs.Families.{parent_there, same_kin}
 use Rattle.machine.proofs.FiniteLemmas.{by_key, cond_here}
 use Rattle.machine.proofs.TreeRanks.{ranked_acyclic}
 use Rattle.objects.proofs.Forests.{childless}
-use Rattle.objects.proofs.SlotLemmas.{SlotsAlone, ChangesSlot, changes_slot, cases_slot, filled_there, within_there}
-use Rattle.objects.proofs.StateLemmas.{present_kept, tells-machine_of, going-machine_of, next-machine_of, same_from_tells}
+use Rattle.objects.proofs.SlotLemmas.{SlotsAlone, ChangesSlot, changes_slot, cases_slot, filled_there, there_within, within_there}
+use Rattle.objects.proofs.StateLemmas.{object_at, present_kept, tells-machine_of, going-machine_of, next-machine_of, same_from_tells}
 
 abbrev with_entries : Inside → Entries → Inside
 with_entries s entries = record s { store = entries }
@@ -89,6 +90,29 @@ module _ (s : Inside) (consistent : IsConsistent s) where
   pub parent_is : (q : SlotRef) → parent_of (machine_of s) q ≡ (links_at entry q).parent
   parent_is q = (tells-machine_of s).parents q ∙ parent_linked (slot_at entry q)
 
+  -- the machine has the slots that entries have
+
+  slot_there : (slot : SlotRef) → IsTrue (has_slot (machine_of s) slot) → IsSome (slot_at entry slot)
+  slot_there slot has =
+      let found = found_slot s consistent slot has in
+      subst (λ o. IsSome (option_and_then (λ e. slice_get e.slots slot.index) o)) (sym found.1)
+      (within_there (found.0).slots slot.index found.2)
+
+  there_slot : (slot : SlotRef) → IsSome (slot_at entry slot) → IsTrue (has_slot (machine_of s) slot)
+  there_slot slot some = by_entry (entry slot.holder) refl some where
+    by_entry :
+        (o : Option Entry) → entry slot.holder ≡ o → IsSome (option_and_then (λ e. slice_get e.slots slot.index) o)
+        → IsTrue (has_slot (machine_of s) slot)
+    by_entry None is some = absurd (false≢true some)
+    by_entry (Some e) is some =
+        let within : slot.index < length e.slots = there_within e.slots slot.index some in
+        let sized : length e.slots ≡ slot_count e.object = (consistent.sized slot.holder e is).0 in
+        rw ((tells-machine_of s).objects slot.holder ∙ ap object_at is) (lt-ltb slot.index (slot_count e.object) (omega arith))
+
+  pub filled_slots : (slot : SlotRef) (held : Cap) → cap_of (machine_of s) slot ≡ Some held → IsTrue (has_slot (machine_of s) slot)
+  filled_slots slot held filled =
+      there_slot slot (filled_there (slot_at entry slot) (subst IsSome (cap_is slot) (rw filled refl)))
+
   -- a capability comes or goes
 
   module _ (at : SlotRef) (filling : Option Cap) where
@@ -130,28 +154,9 @@ module _ (s : Inside) (consistent : IsConsistent s) where
         slots_give s entries next changes.alone objects caps
         (λ q. parents q ∙ (tells-machine_of s).parents q ∙ sym (kept_parents q))
 
-    set_kin :
-        ((c p : SlotRef) → parent_of (machine_of s) c ≡ Some p → c ≡ at → IsSome filling)
-        → ((c p : SlotRef) → parent_of (machine_of s) c ≡ Some p → p ≡ at → IsSome filling)
-        → IsConsistent (with_entries s entries)
-    set_kin low high =
-        IsConsistent-slots s consistent entries changes.alone
-        (same_family _ _ _ _ kept_links (λ q. refl)
-        (refilled_family (links_at entry) (λ q. cap_in (slot_at entry q)) (λ q. cap_in (slot_at (entry_of entries) q)) consistent.kin
-        (λ c p is. by_slot c (λ same. low c p (parent_is c ∙ is) same))
-        (λ c p is. by_slot p (λ same. high c p (parent_is c ∙ is) same))))
-      where
-        by_slot :
-            (q : SlotRef) → (q ≡ at → IsSome filling) → IsSome (cap_in (slot_at entry q))
-            → IsSome (cap_in (slot_at (entry_of entries) q))
-        by_slot q fills some =
-            elim (cases_slot q at) [
-              | inl same ↦
-                  subst (λ k. IsSome (cap_in (slot_at (entry_of entries) k))) (sym same)
-                  (subst IsSome (sym (ap cap_in changes.here ∙ set_cap (slot_at entry at) (filled_there (slot_at entry at)
-                  (subst (λ k. IsSome (cap_in (slot_at entry k))) same some)))) (fills same))
-              | inr apart ↦ subst (λ o. IsSome (cap_in o)) (sym (changes.other q apart)) some
-            ]
+    pub IsConsistent-cap_set : IsConsistent (with_entries s entries)
+    IsConsistent-cap_set =
+        IsConsistent-slots s consistent entries changes.alone (same_kin _ _ kept_links consistent.kin)
 
   put_same : (slot : SlotRef) (held : Cap) → SameObjects (machine_of s) (with_cap (machine_of s) slot held)
   unfolding object_of queue_of words_of with_cap
@@ -160,11 +165,6 @@ module _ (s : Inside) (consistent : IsConsistent s) where
   put_parents : (slot : SlotRef) (held : Cap) (q : SlotRef) → parent_of (with_cap (machine_of s) slot held) q ≡ parent_of (machine_of s) q
   unfolding parent_of with_cap
   put_parents slot held q = refl
-
-  pub IsConsistent-put_cap :
-      (slot : SlotRef) (held : Cap)
-      → IsConsistent (with_entries s (with_slot s.store slot (λ old. record old { cap = Some held })))
-  IsConsistent-put_cap slot held = set_kin slot (Some held) (λ c p is same. refl) (λ c p is same. refl)
 
   pub put_cap_gives :
       (slot : SlotRef) (held : Cap) → IsTrue (has_slot (machine_of s) slot)
@@ -181,12 +181,6 @@ module _ (s : Inside) (consistent : IsConsistent s) where
       ∙ ap cap_in (changes slot (Some held)).here ∙ set_cap slot (Some held) (slot_at entry slot) (slot_there slot has))
       (λ apart. ap cap_in ((changes slot (Some held)).other q apart) ∙ sym (cap_is q))))
       (put_parents slot held)
-    where
-      slot_there : (slot : SlotRef) → IsTrue (has_slot (machine_of s) slot) → IsSome (slot_at entry slot)
-      slot_there slot has =
-          let found = found_slot s consistent slot has in
-          subst (λ o. IsSome (option_and_then (λ e. slice_get e.slots slot.index) o)) (sym found.1)
-          (within_there (found.0).slots slot.index found.2)
 
   take_same : (slot : SlotRef) → SameObjects (machine_of s) (without_cap (machine_of s) slot)
   unfolding object_of queue_of words_of without_cap
@@ -199,14 +193,6 @@ module _ (s : Inside) (consistent : IsConsistent s) where
   take_caps : (slot q : SlotRef) → cap_of (without_cap (machine_of s) slot) q ≡ cond (same_slot q slot) None (cap_of (machine_of s) q)
   unfolding cap_of without_cap
   take_caps slot q = map.get-remove slot_total (machine_of s).caps slot q
-
-  pub IsConsistent-take_cap :
-      (slot : SlotRef) → IsAlone (machine_of s) slot
-      → IsConsistent (with_entries s (with_slot s.store slot (λ old. record old { cap = None })))
-  IsConsistent-take_cap slot alone =
-      set_kin slot None
-      (λ c p is same. let none : parent_of (machine_of s) c ≡ None = ap (parent_of (machine_of s)) same ∙ alone.root in cc)
-      (λ c p is same. absurd (alone.leaf c (is ∙ ap Some same)))
 
   pub take_cap_gives :
       (slot : SlotRef)
@@ -230,14 +216,14 @@ module _ (s : Inside) (consistent : IsConsistent s) where
 
   -- what the tree keeps
 
-  pub pair_below : (c p : SlotRef) → parent_of (machine_of s) c ≡ Some p → IsSome (cap_of (machine_of s) c)
-  pair_below c p is = subst IsSome (sym (cap_is c)) (consistent.kin.below c p (sym (parent_is c) ∙ is))
+  pub pair_below : (c p : SlotRef) → parent_of (machine_of s) c ≡ Some p → IsTrue (has_slot (machine_of s) c)
+  pair_below c p is = there_slot c (child_there entry c p (sym (parent_is c) ∙ is))
 
-  pub pair_above : (c p : SlotRef) → parent_of (machine_of s) c ≡ Some p → IsSome (cap_of (machine_of s) p)
-  pair_above c p is = subst IsSome (sym (cap_is p)) (consistent.kin.above c p (sym (parent_is c) ∙ is))
+  pub pair_above : (c p : SlotRef) → parent_of (machine_of s) c ≡ Some p → IsTrue (has_slot (machine_of s) p)
+  pair_above c p is = there_slot p (parent_there entry consistent.kin c p (sym (parent_is c) ∙ is))
 
   pub is_ranked : IsRanked (machine_of s)
-  is_ranked = (consistent.kin.forest.depth, λ c p is. consistent.kin.forest.deeper c p (sym (parent_is c) ∙ is))
+  is_ranked = (consistent.kin.depth, λ c p is. consistent.kin.deeper c p (sym (parent_is c) ∙ is))
 
   pub is_acyclic : (slot : SlotRef) → ¬ (Descends (machine_of s) slot slot)
   is_acyclic = ranked_acyclic (machine_of s) is_ranked
@@ -248,7 +234,7 @@ module _ (s : Inside) (consistent : IsConsistent s) where
     by_first :
         (o : Option SlotRef) → (links_at entry slot).first ≡ o → IfSome o (λ child. parent_of (machine_of s) child ≡ Some slot)
     by_first None is = tt
-    by_first (Some child) is = parent_is child ∙ (consistent.kin.forest.headed slot child is).0
+    by_first (Some child) is = parent_is child ∙ (consistent.kin.headed slot child is).0
 
   pub child_missing :
       (slot : SlotRef) → IfNone (links_at entry slot).first ((child : SlotRef) → parent_of (machine_of s) child ≢ Some slot)
@@ -257,18 +243,18 @@ module _ (s : Inside) (consistent : IsConsistent s) where
         (o : Option SlotRef) → (links_at entry slot).first ≡ o
         → IfNone o ((child : SlotRef) → parent_of (machine_of s) child ≢ Some slot)
     by_first None is =
-        λ child above. childless (by_links (links_at entry)) consistent.kin.forest slot is child (sym (parent_is child) ∙ above)
+        λ child above. childless (by_links (links_at entry)) consistent.kin slot is child (sym (parent_is child) ∙ above)
     by_first (Some child) is = tt
 
   -- a slot comes under a parent
 
-  module _ (slot parent : SlotRef) (below : IsSome (cap_of (machine_of s) slot)) (above : IsSome (cap_of (machine_of s) parent))
+  module _ (slot parent : SlotRef) (below : IsTrue (has_slot (machine_of s) slot)) (above : IsTrue (has_slot (machine_of s) parent))
       (root : parent_of (machine_of s) slot ≡ None) (ranked : IsRanked (with_parent (machine_of s) slot parent)) where
-    low : IsSome (cap_in (slot_at entry slot))
-    low = subst IsSome (cap_is slot) below
+    low : IsSome (slot_at entry slot)
+    low = slot_there slot below
 
-    high : IsSome (cap_in (slot_at entry parent))
-    high = subst IsSome (cap_is parent) above
+    high : IsSome (slot_at entry parent)
+    high = slot_there parent above
 
     rootless : (links_at entry slot).parent ≡ None
     rootless = sym (parent_is slot) ∙ root

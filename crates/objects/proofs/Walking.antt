@@ -466,7 +466,7 @@ pub step_leads :
     → Steps (by_links (links_at (entry_of s.store))) above from next → IsBehind (machine_of s) above last next
 step_leads s consistent above last below from is next steps =
     let links : Links SlotRef = by_links (links_at (entry_of s.store)) in
-    step_behind (machine_of s) links consistent.kin.forest (parent_is s consistent) above last below next
+    step_behind (machine_of s) links consistent.kin (parent_is s consistent) above last below next
     (subst (λ k. Steps links above k next) is steps)
 
 -- tests of slots

@@ -1,6 +1,6 @@
 -- The derivation tree in the slots of entries: when the links that slots have are those of a forest, and what the entries are after a
 -- slot has come under a parent or has left its own (confine's own).
-use Rattle.std.specs.Prelude.{◌≡◌, Option, Some, None, IsSome, option_and_then}
+use Rattle.std.specs.Prelude.{Option, Some, None, option_and_then}
 use Rattle.base.specs.declared.ids.ObjId.{ObjId}
 use Rattle.base.specs.declared.ids.SlotRef.{SlotRef}
 use Rattle.machine.specs.declared.cap.Cap.{Cap}
@@ -35,14 +35,9 @@ by_links links =
       previous = λ q. (links q).previous;
     }
 
--- the links are those of a forest, whose pairs join filled slots
-pub record IsFamily (links : SlotRef → TreeLinks) (cap : SlotRef → Option Cap) : Type 0 where
-  pub forest : IsForest (by_links links)
-  pub below : (c p : SlotRef) → (links c).parent ≡ Some p → IsSome (cap c)
-  pub above : (c p : SlotRef) → (links c).parent ≡ Some p → IsSome (cap p)
-
+-- the links that slots have are those of a forest
 abbrev pub AreKin : (ObjId → Option Entry) → Type 0
-AreKin entry = IsFamily (links_at entry) (λ q. cap_in (slot_at entry q))
+AreKin entry = IsForest (by_links (links_at entry))
 
 -- the entries with a slot changed, if it is there
 abbrev pub changed_slot : Entries → SlotRef → (Slot → Slot) → Option Slot → Entries

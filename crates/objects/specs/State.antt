@@ -1,12 +1,12 @@
 -- What contracts see of a `State`, and what is true of each.
-use Rattle.std.specs.Prelude.{◌≡◌, ℕ, ◌<◌, ◌≤◌, List, [], map, length, Option, Some, None, IsSome, option_map}
+use Rattle.std.specs.Prelude.{◌≡◌, ℕ, ◌<◌, ◌≤◌, List, [], map, length, vec_capacity, Option, Some, None, IsSome, option_map}
 use Rattle.std.specs.List.{flat_map, range_with_len}
 use Rattle.std.specs.FinMap as finite
 use Rattle.base.specs.declared.ids.ObjId.{ObjId}
 use Rattle.base.specs.declared.ids.SlotRef.{SlotRef}
 use Rattle.base.specs.declared.limits.TheConstants.{OBJECT_NUMBERS}
 use Rattle.machine.specs.Counts.{caps_to}
-use Rattle.machine.specs.Machine.{Going, Machine, nothing_going}
+use Rattle.machine.specs.Machine.{Machine}
 use Rattle.machine.specs.Objects.{slot_count}
 use Rattle.objects.specs.declared.entry.Entry.{Entry}
 use Rattle.objects.specs.declared.state.State.TheInside.{Inside}
@@ -23,8 +23,8 @@ slots_of id None = []
 slots_of id (Some entry) = map (λ index. record { holder = id; index = index }) (range_with_len 0 (length entry.slots))
 
 -- a machine by the entry of each object, of which this is a list
-abbrev pub machine_from : (ObjId → Option Entry) → List ObjId → ℕ → Machine
-machine_from entry ids next =
+abbrev pub machine_from : (ObjId → Option Entry) → List ObjId → ℕ → List ObjId → Machine
+machine_from entry ids next going =
     let slots : List SlotRef = flat_map (λ id. slots_of id (entry id)) ids in
     record {
       objects = tabulate (λ id. option_map (λ e. e.object) (entry id)) ids;
@@ -33,12 +33,12 @@ machine_from entry ids next =
       caps = tabulate (λ slot. cap_in (slot_at entry slot)) slots;
       parents = tabulate (λ slot. parent_in (slot_at entry slot)) slots;
       next = next;
-      going = nothing_going;
+      going = going;
     }
 
 -- the state as a machine
 unfoldable pub machine_of : Inside → Machine
-machine_of s = machine_from (entry_of s.store) (finite.keys s.store) s.next
+machine_of s = machine_from (entry_of s.store) (finite.keys s.store) s.next s.going.items
 
 -- an entry has as many slots as its object should, and a CNode has a radix
 abbrev pub IsSized : Entry → Type 0
@@ -62,8 +62,13 @@ pub record IsCounted (s : Inside) : Type 0 where
 abbrev pub IsTallied : Inside → Type 0
 IsTallied s = (id : ObjId) → caps_in (entry_of s.store id) ≡ caps_to (machine_of s) id
 
+-- there is room for all objects where those that are going are kept
+abbrev pub IsRoomy : Inside → Type 0
+IsRoomy s = s.counts.objects ≤ vec_capacity s.going
+
 -- what is true of each state
 pub record IsSound (s : Inside) : Type 0 where
   pub consistent : IsConsistent s
   pub counted : IsCounted s
   pub tallied : IsTallied s
+  pub roomy : IsRoomy s

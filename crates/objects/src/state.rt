@@ -1,8 +1,10 @@
+ghost use Rattle.std.specs.Prelude.{◌≡◌, slice_get};
+
 use crate::counts::Counts;
 use crate::entry::cnode_takes_bits;
 use crate::store::Store;
 use base::{ObjId, SlotRef};
-use machine::{Cap, Context, Notification, Object, Tcb, Untyped};
+use machine::{Cap, Context, Notification, Object, Reply, Tcb, Untyped};
 use std::alloc::{AllocError, Global};
 use std::marker::Model;
 
@@ -14,6 +16,9 @@ pub struct State {
     store: Store,
     next: u64,
     counts: Counts,
+    /// The objects that have lost their last capability in a removal that is under way. There is room
+    /// for all objects.
+    going: Vec<ObjId>,
 }
 
 impl Model for State {
@@ -42,7 +47,7 @@ impl State {
     ghost use Rattle.machine.specs.declared.object.CNode.{CNode};
     ghost use Rattle.machine.specs.declared.object.Object.TheVariants as o;
     ghost use Rattle.std.specs.Prelude.{◌≡◌, ◌≢◌, ◌+◌, ◌*◌, ◌^◌, ◌<◌, ◌≤◌, length, IsTrue, IfOk, OnErr, OnOk, option_copied};
-    ghost use Rattle.std.specs.Prelude.{Some, None, IsSome, IfSome, IfNone};
+    ghost use Rattle.std.specs.Prelude.{Some, None, IsSome, IfSome, IfNone, slice_get};
     ghost use Rattle.std.specs.List.{fold};
     ghost use Rattle.machine.specs.Machine.{empty_machine, object_of, cap_of, parent_of, has_slot, with_new, with_cap};
     ghost use Rattle.machine.specs.Machine.{with_parent, with_object, without_cap, without_parent};
@@ -52,8 +57,8 @@ impl State {
     ghost use Rattle.machine.specs.Objects.{slot_count, thread_count};
     ghost use Rattle.objects.specs.Waiting.{WaitsNowhere, WaitsThere};
     ghost use Rattle.objects.specs.Walks.{IsBehind};
-    ghost use Rattle.machine.specs.Changes.{first_waiting, with_pending, with_tcb, with_context, with_waiting, without_first};
-    ghost use Rattle.machine.specs.Changes.{with_watermark, without_object, without_waiting};
+    ghost use Rattle.machine.specs.Changes.{first_waiting, with_pending, with_tcb, with_reply, with_context, with_waiting, without_first};
+    ghost use Rattle.machine.specs.Changes.{with_going, with_none_going, with_watermark, without_object, without_waiting};
 
     /// A state with no objects, which takes its memory from the allocator.
     pub fn new(alloc: Global) -> State
@@ -63,6 +68,7 @@ impl State {
             store: Store::new(alloc),
             next: 0,
             counts: Counts::NONE,
+            going: Vec::new(alloc),
         }
     }
 
@@ -109,6 +115,14 @@ impl State {
     /// Each capability is for an object that is there.
     pub fn caps_are_for_objects(&self)
         ensures { (slot : Slot) (held : Cap) → cap_of self.now slot ≡ Some held → IsSome (object_of self.now held.object) }
+    {
+        // Reading a field makes known what the type keeps.
+        let _ = &self.next;
+    }
+
+    /// Each capability is in a slot that is there.
+    pub fn caps_are_in_slots(&self)
+        ensures { (slot : Slot) (held : Cap) → cap_of self.now slot ≡ Some held → IsTrue (has_slot self.now slot) }
     {
         // Reading a field makes known what the type keeps.
         let _ = &self.next;
@@ -185,17 +199,21 @@ impl State {
         ensures ok { OnOk result (self.new ≡ fold with_new self.old objects.now) }
         ensures err { OnErr result (self.new ≡ self.old) }
     {
+        let total = self.counts.objects as usize + objects.len();
+        self.going.reserve(total)?;
         self.store.add_all(self.next, objects)?;
         self.next += objects.len() as u64;
         self.counts = self.counts.with_all(objects);
         Ok(())
     }
 
-    /// Removes the object, for which there is no capability. Its slots are empty, nobody waits at it,
-    /// and it waits nowhere. Its number isn't used again. Does nothing where there is no such object.
+    /// Removes the object, for which there is no capability. Its slots are empty and in no pair of the
+    /// derivation tree, nobody waits at it, and it waits nowhere. Its number isn't used again. Does
+    /// nothing where there is no such object.
     pub fn remove_object(&mut self, id: ObjId)
         requires unheld { caps_to self.old id ≡ 0 }
         requires hollow { (slot : Slot) → slot.holder ≡ id → cap_of self.old slot ≡ None }
+        requires alone { (slot : Slot) → slot.holder ≡ id → IsAlone self.old slot }
         requires deserted { first_waiting self.old id ≡ None }
         requires free { WaitsNowhere self.old id }
         ensures { self.new ≡ without_object self.old id }
@@ -218,9 +236,8 @@ impl State {
         self.store.set_caps(cap.object, count + 1);
     }
 
-    /// Empties the slot, which is in no pair of the derivation tree.
+    /// Empties the slot. It keeps its place in the derivation tree.
     pub fn take_cap(&mut self, slot: SlotRef)
-        requires alone { IsAlone self.old slot }
         ensures { self.new ≡ without_cap self.old slot }
     {
         if let Some(cap) = self.cap(slot) {
@@ -228,6 +245,36 @@ impl State {
             self.store.set_cap(slot, None);
             self.store.set_caps(cap.object, count - 1);
         }
+    }
+
+    /// The object at an index among those that have lost their last capability in a removal that is
+    /// under way, if there are as many.
+    pub fn going(&self, index: u64) -> Option<ObjId>
+        ensures { result ≡ slice_get self.now.going index }
+    {
+        at_index(&self.going, index)
+    }
+
+    /// How many those are.
+    pub fn going_count(&self) -> u64
+        ensures { result ≡ length self.now.going }
+    {
+        self.going.len() as u64
+    }
+
+    /// Notes that the object has lost its last capability in a removal that is under way.
+    pub fn add_going(&mut self, id: ObjId)
+        requires room { length self.old.going < objects_in self.old }
+        ensures { self.new ≡ with_going self.old id }
+    {
+        self.going.push_reserved(id);
+    }
+
+    /// Forgets which objects have lost their last capability.
+    pub fn clear_going(&mut self)
+        ensures { self.new ≡ with_none_going self.old }
+    {
+        self.going.clear();
     }
 
     /// A child of the slot in the derivation tree, if it has one.
@@ -262,12 +309,12 @@ impl State {
         None
     }
 
-    /// Makes the capability in `slot`, which has no parent, a child of that in `parent` in the
-    /// derivation tree (seL4 manual, "Capability Derivation Tree"). The slot keeps its children, so
-    /// the parent may not descend from it.
+    /// Makes `slot`, which has no parent, a child of `parent` in the derivation tree (seL4 manual,
+    /// "Capability Derivation Tree"). The slot keeps its children, so the parent may not descend from
+    /// it. Either may be empty, as slots are whose capabilities a removal has taken.
     pub fn attach(&mut self, slot: SlotRef, parent: SlotRef)
-        requires below { IsSome (cap_of self.old slot) }
-        requires above { IsSome (cap_of self.old parent) }
+        requires below { IsTrue (has_slot self.old slot) }
+        requires above { IsTrue (has_slot self.old parent) }
         requires root { parent_of self.old slot ≡ None }
         requires ranked { IsRanked (with_parent self.old slot parent) }
         ensures { self.new ≡ with_parent self.old slot parent }
@@ -282,10 +329,10 @@ impl State {
         self.store.detach(slot);
     }
 
-    /// Pairs of the derivation tree join filled slots, and no slot descends from itself.
+    /// Pairs of the derivation tree join slots that are there, and no slot descends from itself.
     pub fn keeps_a_forest(&self)
-        ensures below { (slot parent : Slot) → parent_of self.now slot ≡ Some parent → IsSome (cap_of self.now slot) }
-        ensures above { (slot parent : Slot) → parent_of self.now slot ≡ Some parent → IsSome (cap_of self.now parent) }
+        ensures below { (slot parent : Slot) → parent_of self.now slot ≡ Some parent → IsTrue (has_slot self.now slot) }
+        ensures above { (slot parent : Slot) → parent_of self.now slot ≡ Some parent → IsTrue (has_slot self.now parent) }
         ensures ranked { IsRanked self.now }
         ensures acyclic { (slot : Slot) → ¬ Descends self.now slot slot }
     {
@@ -342,6 +389,16 @@ impl State {
         }
     }
 
+    /// Sets the reply. Does nothing where there is none of that number.
+    #[tactic(auto, unfolding(machine::specs::Changes::with_reply))]
+    pub fn set_reply(&mut self, id: ObjId, reply: Reply)
+        ensures { self.new ≡ with_reply self.old id reply }
+    {
+        if let Some(Object::Reply(_)) = self.object(id) {
+            self.replace(id, Object::Reply(reply));
+        }
+    }
+
     /// Sets the scheduling context. Does nothing where there is none of that number.
     #[tactic(auto, unfolding(machine::specs::Changes::with_context))]
     pub fn set_context(&mut self, id: ObjId, context: Context)
@@ -379,4 +436,11 @@ impl State {
     {
         self.store.take_out(id, thread);
     }
+}
+
+// The object at an index, if there are as many.
+fn at_index(objects: &[ObjId], index: u64) -> Option<ObjId>
+    ensures { result ≡ slice_get objects.now index }
+{
+    objects.get(index as usize).copied()
 }

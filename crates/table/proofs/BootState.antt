@@ -12,7 +12,7 @@ use Rattle.machine.specs.declared.layout.Pair.{Pair}
 use Rattle.machine.specs.declared.object.Object.{Object}
 use Rattle.machine.specs.Boot.{IsBoot, bound, booted}
 use Rattle.machine.specs.Layout.{Layout, initial_of, initial_cap, initial_parent}
-use Rattle.machine.specs.Machine.{Machine, nothing_going, id_cmp, slot_cmp, same_id, same_slot, object_of, queue_of, words_of, cap_of, parent_of}
+use Rattle.machine.specs.Machine.{Machine, id_cmp, slot_cmp, same_id, same_slot, object_of, queue_of, words_of, cap_of, parent_of}
 use Rattle.machine.specs.Objects.{word_count}
 use Rattle.machine.proofs.Ids.{itself}
 use Rattle.machine.proofs.LookUps.{id_total, same_machine, slot_total}
@@ -103,7 +103,7 @@ module _ (t : Layout) where
     caps = by_slots (λ (filled : Filled). filled.slot) (λ filled. filled.cap) t.caps;
     parents = by_slots (λ (pair : Pair). pair.child) (λ pair. pair.parent) t.pairs;
     next = length t.objects;
-    going = nothing_going;
+    going = [];
   }
 
   pub boot_state_is : IsBoot t boot_state

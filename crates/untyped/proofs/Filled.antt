@@ -1,6 +1,7 @@
 -- Empty slots that are filled one after another.
-use Rattle.std.proofs.Common.{◌≡◌, ◌≢◌, Bool, true, false, refl, sym, subst, ◌∙◌, cond}
+use Rattle.std.proofs.Common.{◌≡◌, ◌≢◌, Bool, true, false, refl, sym, ap, subst, ◌∙◌, cond}
 use Rattle.std.proofs.lemmas.Bool.{false≢true}
+use Rattle.std.proofs.lemmas.Option.{same_Some}
 use Rattle.std.specs.Prelude.{Option, Some, None, IsSome, IsTrue}
 use Rattle.base.specs.declared.ids.ObjId.{ObjId}
 use Rattle.base.specs.declared.ids.SlotRef.{SlotRef}
@@ -9,26 +10,16 @@ use Rattle.machine.specs.Machine.{Machine, cap_of, has_slot, object_of, parent_o
 use Rattle.machine.specs.Tree.{IsAlone}
 use Rattle.machine.proofs.Exchange.{slot_itself}
 use Rattle.machine.proofs.LookUps.{cap_of-with_cap, cap_of-with_parent, object_of-with_cap, object_of-with_parent, one_slot}
-use Rattle.machine.proofs.LookUps.{parent_of-with_cap}
+use Rattle.machine.proofs.FiniteLemmas.{cond_elsewhere}
+use Rattle.machine.proofs.LookUps.{parent_of-with_cap, parent_of-with_parent, slot_apart, slot_total}
 
--- an empty slot is in no pair of a tree that joins filled slots, and in none when it is filled
-pub filled_lone :
-    (m : Machine) (slot : SlotRef) (held : Cap)
-    → ((q parent : SlotRef) → parent_of m q ≡ Some parent → IsSome (cap_of m q))
-    → ((q parent : SlotRef) → parent_of m q ≡ Some parent → IsSome (cap_of m parent))
-    → cap_of m slot ≡ None → IsAlone (with_cap m slot held) slot
-filled_lone m slot held below above empty =
+-- a slot that is in no pair of the tree is in none when it is filled
+pub filled_alone : (m : Machine) (slot : SlotRef) (held : Cap) → IsAlone m slot → IsAlone (with_cap m slot held) slot
+filled_alone m slot held alone =
     record {
-      root = parent_of-with_cap m slot held slot ∙ by_parent (parent_of m slot) refl;
-      leaf = λ child e. hollow (above child slot (sym (parent_of-with_cap m slot held child) ∙ e));
+      root = parent_of-with_cap m slot held slot ∙ alone.root;
+      leaf = λ child is. alone.leaf child (sym (parent_of-with_cap m slot held child) ∙ is);
     }
-  where
-    hollow : ¬ (IsSome (cap_of m slot))
-    hollow full = absurd (false≢true (subst (λ (c : Option Cap). IsSome c) empty full))
-
-    by_parent : (parent : Option SlotRef) → parent_of m slot ≡ parent → parent_of m slot ≡ None
-    by_parent None is = is
-    by_parent (Some parent) is = absurd (hollow (below slot parent is))
 
 pub filled_here : (m : Machine) (slot : SlotRef) (held : Cap) → IsSome (cap_of (with_cap m slot held) slot)
 filled_here m slot held = rw (cap_of-with_cap m slot held slot, slot_itself slot) refl
@@ -66,3 +57,22 @@ module _ (m : Machine) (slot parent : SlotRef) (held : Cap) where
       by_tie : (tie : Bool) → same_slot q slot ≡ tie → cond tie (Some held) (cap_of m q) ≡ None
       by_tie true is = absurd (apart (one_slot q slot is))
       by_tie false is = empty
+
+  -- an empty slot stays in no pair: it is neither the one that is filled nor its parent, which is filled
+  pub alone_stays : IsSome (cap_of m parent) → (q : SlotRef) → q ≢ slot → cap_of m q ≡ None → IsAlone m q → IsAlone filled q
+  alone_stays above q apart empty alone =
+      record {
+        root = paired q ∙ cond_elsewhere slot_total slot_apart q slot _ _ apart ∙ alone.root;
+        leaf = λ child is. by_tie child (same_slot child slot) (sym (paired child) ∙ is);
+      }
+    where
+      paired : (k : SlotRef) → parent_of filled k ≡ cond (same_slot k slot) (Some parent) (parent_of m k)
+      paired k =
+          parent_of-with_parent (with_cap m slot held) slot parent k
+          ∙ ap (cond (same_slot k slot) (Some parent)) (parent_of-with_cap m slot held k)
+
+      by_tie : (child : SlotRef) (tie : Bool) → cond tie (Some parent) (parent_of m child) ≡ Some q → ⊥
+      by_tie child false is = alone.leaf child is
+      by_tie child true is =
+          let none : cap_of m parent ≡ None = ap (cap_of m) (same_Some parent q is) ∙ empty in
+          false≢true (subst (λ (c : Option Cap). IsSome c) none above)

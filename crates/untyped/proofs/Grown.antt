@@ -11,11 +11,12 @@ use Rattle.machine.specs.declared.object.Object.{Object}
 use Rattle.machine.specs.declared.object.Object.TheVariants as o
 use Rattle.machine.specs.declared.object.Untyped.{Untyped}
 use Rattle.machine.specs.Changes.{with_watermark}
-use Rattle.machine.specs.Machine.{Machine, cap_of, object_of, same_id, with_cap, with_new, with_object, with_parent}
+use Rattle.machine.specs.Machine.{Machine, cap_of, object_of, parent_of, same_id, with_cap, with_new, with_object, with_parent}
 use Rattle.machine.specs.Memory.{Source, all_taken, new_cap, new_size, taken, with_all_made}
 use Rattle.machine.specs.Step.Retype.{window}
+use Rattle.machine.specs.Tree.{IsAlone}
 use Rattle.machine.proofs.GoneLemmas.{id_itself}
-use Rattle.machine.proofs.LookUps.{cap_of-with_new, object_of-with_cap, object_of-with_new, object_of-with_parent, one_id}
+use Rattle.machine.proofs.LookUps.{cap_of-with_new, object_of-with_cap, object_of-with_new, object_of-with_parent, one_id, parent_of-with_new}
 use Rattle.untyped.specs.Batch.{new_objects, with_batch, with_caps}
 use Rattle.untyped.specs.Making.{CanBeMade, with_making}
 use Rattle.untyped.specs.Shown.{source_shown}
@@ -50,12 +51,24 @@ pub cap_past_news : (m : Machine) (objects : List Object) (q : SlotRef) → cap_
 cap_past_news m [] q = refl
 cap_past_news m (object ∷ objects) q = cap_past_news (with_new m object) objects q ∙ cap_of-with_new m object q
 
+parent_past_news : (m : Machine) (objects : List Object) (q : SlotRef) → parent_of (fold with_new m objects) q ≡ parent_of m q
+parent_past_news m [] q = refl
+parent_past_news m (object ∷ objects) q = parent_past_news (with_new m object) objects q ∙ parent_of-with_new m object q
+
+alone_past_news : (m : Machine) (objects : List Object) (q : SlotRef) → IsAlone m q → IsAlone (fold with_new m objects) q
+alone_past_news m objects q alone =
+    record {
+      root = parent_past_news m objects q ∙ alone.root;
+      leaf = λ child is. alone.leaf child (sym (parent_past_news m objects child) ∙ is);
+    }
+
 pub free_past_news :
     (m : Machine) (objects : List Object) (at : Window) → at.node.0 < m.next → IsFree m at → IsFree (fold with_new m objects) at
 free_past_news m objects at below free index low high =
     let was = free index low high in (
       rw (object_past_news m objects at.node below) was.0,
       cap_past_news m objects (record { holder = at.node; index = index }) ∙ was.1,
+      alone_past_news m objects (record { holder = at.node; index = index }) was.2,
     )
 
 -- the new ones are there

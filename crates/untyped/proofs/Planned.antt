@@ -1,7 +1,8 @@
 -- What a retype found and checked can be made.
 use Rattle.std.proofs.Common.{◌≡◌, ℕ, ◌+◌, ◌*◌, ◌<◌, ◌≤◌, ◌^◌, Bool, true, false, refl, sym, ap, subst, ◌∙◌, arith, leb-true}
-use Rattle.std.specs.Prelude.{Option, Some, Ok, Err, IsSome, nat_le}
+use Rattle.std.specs.Prelude.{Option, Some, None, Ok, Err, IsSome, nat_le}
 use Rattle.base.specs.declared.ids.ObjId.{ObjId}
+use Rattle.base.specs.declared.ids.SlotRef.{SlotRef}
 use Rattle.base.specs.declared.limits.TheConstants.{ADDRESS_END, MAX_MADE, MAX_PRESENT, MAX_RADIX, MAX_SLOTS, MAX_THREADS, OBJECT_NUMBERS}
 use Rattle.base.specs.declared.refusal.Cause.TheVariants.{RangeError, TooMany}
 use Rattle.machine.specs.declared.cap.Cap.{Cap}
@@ -13,10 +14,12 @@ use Rattle.machine.specs.Machine.{Machine, cap_of, object_of}
 use Rattle.machine.specs.Memory.{Source, begun, has_child, new_object}
 use Rattle.machine.specs.Objects.{end_of, slot_count, thread_count}
 use Rattle.machine.specs.Step.Retype.{a_few, all_vacant, find_taker, find_untyped, in_node, sized, window, within_limits}
+use Rattle.machine.specs.Tree.{IsAlone}
 use Rattle.machine.specs.WellFormed.{IsWellFormed}
 use Rattle.machine.proofs.LedSlots.{IsNode, node_at, node_slot}
 use Rattle.machine.proofs.RetypeFormed.{each_vacant}
 use Rattle.machine.proofs.RetypeRow.{FindsUntyped, is_in_node, taker_found, untyped_found}
+use Rattle.machine.proofs.SlotRows.{empty_alone}
 use Rattle.untyped.specs.Making.{CanBeMade}
 use Rattle.untyped.specs.Shown.{source_shown}
 use Rattle.untyped.specs.declared.making.Making.{Making}
@@ -87,6 +90,16 @@ numbers_left m object count e =
     by_ties true true true false at_a at_b at_c at_d =
         let none : within_limits m object count ≡ Err TooMany = rw (at_a, at_b, at_c, at_d) refl in cc
 
+-- an empty slot is in no pair of the tree
+vacant_alone : (m : Machine) (slot : SlotRef) → IsWellFormed m → cap_of m slot ≡ None → IsAlone m slot
+vacant_alone m slot formed empty =
+    record {
+      root = empty_alone m slot formed empty;
+      leaf = λ child is.
+          let full = formed.slots.parent_filled child slot is in
+          let none : None ≡ Some full.0 = sym empty ∙ full.1 in cc;
+    }
+
 pub can_be_made :
     (m : Machine) (caller : ObjId) (untyped to : ℕ) (found : Source) (level : Level) (making : Making) → IsWellFormed m
     → find_untyped m caller untyped ≡ Ok found → sized making.kind making.bits ≡ Ok tt → a_few making.window.count ≡ Ok tt
@@ -113,6 +126,8 @@ can_be_made m caller untyped to found level making formed finds size few takes n
         node_slot m (record { holder = making.window.node; index = index })
             (slots.0, slots_there, omega (arith, high, slots_hold)),
         each_vacant m making.window.node making.window.offset making.window.count tt vacant index low high,
+        vacant_alone m (record { holder = making.window.node; index = index }) formed
+            (each_vacant m making.window.node making.window.offset making.window.count tt vacant index low high),
       );
     }
   where

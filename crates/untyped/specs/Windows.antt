@@ -3,6 +3,7 @@ use Rattle.std.specs.Prelude.{◌≡◌, ℕ, ◌+◌, ◌<◌, ◌≤◌, List,
 use Rattle.base.specs.declared.ids.SlotRef.{SlotRef}
 use Rattle.machine.specs.Machine.{Machine, cap_of, has_slot, object_of}
 use Rattle.machine.specs.Step.Retype.{window}
+use Rattle.machine.specs.Tree.{IsAlone}
 use Rattle.untyped.specs.declared.filling.Window.{Window}
 
 abbrev pub slots_of : Window → List SlotRef
@@ -12,8 +13,9 @@ slots_of at = window at.node at.offset at.count
 abbrev pub AreThere : Machine → ℕ → ℕ → Type 0
 AreThere m first count = (number : ℕ) → first ≤ number → number < first + count → IsSome (object_of m (record { 0 = number }))
 
--- each slot of the window is there, and empty
+-- each slot of the window is there, empty, and in no pair of the derivation tree
 abbrev pub IsFree : Machine → Window → Type 0
 IsFree m at =
     (index : ℕ) → at.offset ≤ index → index < at.offset + at.count
     → IsTrue (has_slot m (record { holder = at.node; index = index })) × (cap_of m (record { holder = at.node; index = index }) ≡ None)
+    × IsAlone m (record { holder = at.node; index = index })

@@ -1,6 +1,7 @@
 ghost use Rattle.std.specs.Prelude.{◌≡◌, ◌+◌, ◌<◌, ◌≤◌, ◌^◌, IsSome, IsTrue, None};
 ghost use Rattle.base.specs.declared.limits.TheConstants.{OBJECT_NUMBERS};
 ghost use Rattle.machine.specs.Machine.{cap_of, has_slot, object_of, with_cap, with_parent};
+ghost use Rattle.machine.specs.Tree.{IsAlone};
 ghost use Rattle.untyped.specs.Batch.{with_caps};
 ghost use Rattle.untyped.specs.Windows.{AreThere, IsFree, slots_of};
 
@@ -18,15 +19,15 @@ pub struct Window {
     pub count: u64,
 }
 
-/// Fills an empty slot with a capability that is a child of that in another.
+/// Fills an empty slot that is in no pair of the tree with a capability that is a child of that in another.
 fn fill_below(state: &mut State, slot: SlotRef, cap: Cap, parent: SlotRef)
     requires there { IsTrue (has_slot state.old slot) }
     requires vacant { cap_of state.old slot ≡ None }
+    requires alone { IsAlone state.old slot }
     requires object { IsSome (object_of state.old cap.object) }
     requires above { IsSome (cap_of state.old parent) }
     ensures { state.new ≡ with_parent (with_cap state.old slot cap) slot parent }
 {
-    state.keeps_a_forest();
     state.put_cap(slot, cap);
     insert_child(state, slot, parent);
 }

@@ -1,5 +1,5 @@
--- The filled target is in no pair of the tree, and the source is in none once the two have changed places.
-use Rattle.cnodeops.proofs.CopyLemmas.{exchanged_alone, filled_alone, filled_now, filled_still, object_there}
+-- The filled target is in no pair of the tree.
+use Rattle.cnodeops.proofs.CopyLemmas.{filled_alone, filled_now, filled_still, object_there}
 use Rattle.cnodeops.proofs.moving.relocate.Goals as goal
 
 pub put_cap-requires-clause-object : goal.put_cap-requires-clause-object
@@ -19,12 +19,3 @@ pub move_node-requires-clause-alone : goal.move_node-requires-clause-alone
 move_node-requires-clause-alone c =
     rw c.put_cap.ensures
     (filled_alone c.args.state.now c.args.ends.target c.args.ends.held c.requires.well_formed c.requires.vacant)
-
-pub take_cap-requires : goal.take_cap-requires
-take_cap-requires c =
-    let ends = c.args.ends in
-    rw (c.move_node.ensures, c.put_cap.ensures)
-    (record {
-      alone = exchanged_alone _ ends.source ends.target
-          (filled_alone c.args.state.now ends.target ends.held c.requires.well_formed c.requires.vacant);
-    })

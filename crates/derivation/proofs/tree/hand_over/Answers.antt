@@ -1,23 +1,24 @@
 -- Each child that is left comes from the one parent to the other, which is no lower.
 use Rattle.std.proofs.Common.{◌<◌, sym, ap, ◌∙◌, subst}
 use Rattle.std.specs.FinMap.{keys}
-use Rattle.machine.specs.Machine.{with_parent}
+use Rattle.machine.specs.Machine.{with_parent, without_parent}
 use Rattle.machine.specs.Tree.{IsRanked}
-use Rattle.machine.proofs.LookUps.{cap_of-with_parent}
 use Rattle.derivation.specs.Moving.{StandsNoLower, handed_over}
 use Rattle.derivation.proofs.Children.{among_first, children_among, one_less, still_apart}
-use Rattle.derivation.proofs.Moves.{cap_of-without_parent, handed_over-none, handed_over-step}
+use Rattle.derivation.proofs.Moves.{handed_over-none, handed_over-step, slot_with_parent, slot_without_parent}
 use Rattle.derivation.proofs.Pairs.{taken_from_parent}
 use Rattle.derivation.proofs.Ranks.{handed_no_lower}
 use Rattle.derivation.proofs.tree.hand_over.Goals as goal
 
 pub attach-requires-clause-below : goal.attach-requires-clause-below
 attach-requires-clause-below c =
-    rw (c.detach.ensures, cap_of-without_parent)
-    (c.keeps_a_forest.ensures.below c.in-Some.child c.args.from c.in-Some.ensures.some)
+    rw c.detach.ensures
+    (slot_without_parent c.loop-child.state c.in-Some.child c.in-Some.child
+    (c.keeps_a_forest.ensures.below c.in-Some.child c.args.from c.in-Some.ensures.some))
 
 pub attach-requires-clause-above : goal.attach-requires-clause-above
-attach-requires-clause-above c = rw (c.detach.ensures, cap_of-without_parent) c.loop-child.invariant.target
+attach-requires-clause-above c =
+    rw c.detach.ensures (slot_without_parent c.loop-child.state c.in-Some.child c.args.to c.loop-child.invariant.target)
 
 pub attach-requires-clause-root : goal.attach-requires-clause-root
 attach-requires-clause-root c = rw c.detach.ensures (taken_from_parent c.loop-child.state c.in-Some.child)
@@ -47,7 +48,10 @@ pub loop-child-preserved : goal.loop-child-preserved
 loop-child-preserved c =
     let now = c.attach.ensures ∙ ap (λ m. with_parent m c.in-Some.child c.args.to) c.detach.ensures in
     record {
-      target = rw (now, cap_of-with_parent, cap_of-without_parent) c.loop-child.invariant.target;
+      target =
+          rw now
+          (slot_with_parent (without_parent c.loop-child.state c.in-Some.child) c.in-Some.child c.args.to c.args.to
+          (slot_without_parent c.loop-child.state c.in-Some.child c.args.to c.loop-child.invariant.target));
       same =
           ap (λ m. handed_over m c.args.from c.args.to) now
           ∙ handed_over-step c.loop-child.state c.args.from c.args.to c.in-Some.child c.in-Some.ensures.some

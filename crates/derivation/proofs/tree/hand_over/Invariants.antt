@@ -1,15 +1,15 @@
 -- Once all are handed over, the tree is as if all had been at first. Each turn leaves one less.
 use Rattle.std.proofs.Common.{◌≡◌}
-use Rattle.std.specs.Prelude.{IsSome}
+use Rattle.std.specs.Prelude.{IsTrue}
 use Rattle.std.specs.FinMap.{keys}
-use Rattle.machine.specs.Machine.{cap_of}
+use Rattle.machine.specs.Machine.{has_slot}
 use Rattle.derivation.specs.Moving.{StandsNoLower, handed_over}
 use Rattle.derivation.proofs.Children.{children_among}
 use Rattle.derivation.proofs.tree.hand_over.Given as goal
 
 abbrev pub invariant-loop-child : goal.invariant-loop-child
 invariant-loop-child l = record {
-  target : IsSome (cap_of l.state l.to);
+  target : IsTrue (has_slot l.state l.to);
   same : handed_over l.state l.from l.to ≡ handed_over l.fn.state l.from l.to;
   place : StandsNoLower l.state l.to l.from;
 }

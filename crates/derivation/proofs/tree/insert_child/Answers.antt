@@ -1,5 +1,12 @@
+use Rattle.derivation.proofs.Moves.{slot_filled}
 use Rattle.derivation.proofs.Ranks.{ranked_insert}
 use Rattle.derivation.proofs.tree.insert_child.Goals as goal
+
+pub attach-requires-clause-below : goal.attach-requires-clause-below
+attach-requires-clause-below c = slot_filled c.args.state.now c.args.slot c.caps_are_in_slots.ensures c.requires.below
+
+pub attach-requires-clause-above : goal.attach-requires-clause-above
+attach-requires-clause-above c = slot_filled c.args.state.now c.args.parent c.caps_are_in_slots.ensures c.requires.above
 
 pub attach-requires-clause-ranked : goal.attach-requires-clause-ranked
 attach-requires-clause-ranked c =

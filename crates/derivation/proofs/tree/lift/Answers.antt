@@ -4,17 +4,19 @@ use Rattle.machine.specs.Machine.{with_parent}
 use Rattle.machine.specs.Tree.{IsRanked}
 use Rattle.derivation.specs.Moving.{StandsNoLower}
 use Rattle.derivation.proofs.Pairs.{root_without_parent}
-use Rattle.derivation.proofs.Moves.{cap_of-without_parent, lifted-none, lifted-some}
+use Rattle.derivation.proofs.Moves.{lifted-none, lifted-some, slot_without_parent}
 use Rattle.derivation.proofs.Ranks.{lifted_root, lifted_under}
 use Rattle.derivation.proofs.tree.lift.Goals as goal
 
 pub attach-requires-clause-below : goal.attach-requires-clause-below
-attach-requires-clause-below c = rw (c.detach.ensures, cap_of-without_parent) c.requires.target
+attach-requires-clause-below c =
+    rw c.detach.ensures (slot_without_parent c.args.state.now c.args.from c.args.to c.requires.target)
 
 pub attach-requires-clause-above : goal.attach-requires-clause-above
 attach-requires-clause-above c =
-    rw (c.detach.ensures, cap_of-without_parent)
-    (c.keeps_a_forest.ensures.above c.args.from c.in-Some.parent (sym c.in-Some.ensures))
+    rw c.detach.ensures
+    (slot_without_parent c.args.state.now c.args.from c.in-Some.parent
+    (c.keeps_a_forest.ensures.above c.args.from c.in-Some.parent (sym c.in-Some.ensures)))
 
 pub attach-requires-clause-root : goal.attach-requires-clause-root
 attach-requires-clause-root c =

@@ -2,11 +2,16 @@
 use Rattle.std.proofs.Common.{sym, ap, ◌∙◌}
 use Rattle.machine.specs.Machine.{parent_of}
 use Rattle.derivation.specs.Moving.{handed_over}
-use Rattle.derivation.proofs.Moves.{apart_lifted, cap_of-lifted, taken_over}
+use Rattle.derivation.proofs.Moves.{apart_lifted, slot_filled, slot_lifted, taken_over}
 use Rattle.derivation.proofs.tree.move_node.Goals as goal
 
+pub lift-requires-clause-target : goal.lift-requires-clause-target
+lift-requires-clause-target c = slot_filled c.args.state.now c.args.to c.caps_are_in_slots.ensures c.requires.target
+
 pub hand_over-requires-clause-target : goal.hand_over-requires-clause-target
-hand_over-requires-clause-target c = rw (c.lift.ensures.value, cap_of-lifted) c.requires.target
+hand_over-requires-clause-target c =
+    rw c.lift.ensures.value
+    (slot_lifted c.args.state.now c.args.from c.args.to c.args.to (slot_filled c.args.state.now c.args.to c.caps_are_in_slots.ensures c.requires.target))
 
 pub hand_over-requires-clause-apart : goal.hand_over-requires-clause-apart
 hand_over-requires-clause-apart c = λ child is.

@@ -1,21 +1,23 @@
 -- The slots of the next pair are filled, its child is in no pair so far, and one more has its parent.
 use Rattle.kernel.proofs.BootLemmas.{boot-derived}
-use Rattle.kernel.proofs.BootPairs.{next_above, next_below, next_ranked, next_root}
+use Rattle.kernel.proofs.BootPairs.{filled_slot, next_above, next_below, next_ranked, next_root}
 use Rattle.kernel.proofs.boot_state.derive.Goals as goal
 
 pub attach-requires-clause-below : goal.attach-requires-clause-below
 attach-requires-clause-below c =
     let pairs = c.pairs-pairs.ensures in
-    rw pairs.pairs
+    filled_slot c.loop-pair.state c.caps_are_in_slots.ensures _
+    (rw pairs.pairs
     (next_below c.args.table.now c.loop-pair.state c.loop-pair.pair-index _ c.loop-pair.invariant
-    (pairs.lawful.tree c.loop-pair.pair-index _ (rw (← pairs.pairs) c.loop-pair-test.true)))
+    (pairs.lawful.tree c.loop-pair.pair-index _ (rw (← pairs.pairs) c.loop-pair-test.true))))
 
 pub attach-requires-clause-above : goal.attach-requires-clause-above
 attach-requires-clause-above c =
     let pairs = c.pairs-pairs.ensures in
-    rw pairs.pairs
+    filled_slot c.loop-pair.state c.caps_are_in_slots.ensures _
+    (rw pairs.pairs
     (next_above c.args.table.now c.loop-pair.state c.loop-pair.pair-index _ c.loop-pair.invariant
-    (pairs.lawful.tree c.loop-pair.pair-index _ (rw (← pairs.pairs) c.loop-pair-test.true)))
+    (pairs.lawful.tree c.loop-pair.pair-index _ (rw (← pairs.pairs) c.loop-pair-test.true))))
 
 pub attach-requires-clause-root : goal.attach-requires-clause-root
 attach-requires-clause-root c =

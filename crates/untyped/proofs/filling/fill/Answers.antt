@@ -1,7 +1,7 @@
 -- Each slot is filled in its turn, and the later ones stay free.
 use Rattle.std.proofs.Common.{◌≡◌, ◌≢◌, zero, suc, ap, arith}
 use Rattle.base.specs.declared.ids.SlotRef.{SlotRef}
-use Rattle.untyped.proofs.Filled.{filling_stays, object_stays, other_stays, slot_stays}
+use Rattle.untyped.proofs.Filled.{alone_stays, filling_stays, object_stays, other_stays, slot_stays}
 use Rattle.untyped.proofs.filling.fill.Goals as goal
 
 pub fill_below-requires-clause-there : goal.fill_below-requires-clause-there
@@ -15,6 +15,12 @@ fill_below-requires-clause-vacant c =
     let within = c.loop-index-test.true in
     let end = c.loop-index.auto.index-end in
     (c.loop-index.invariant.2 c.loop-index.index (omega arith) (omega (arith, within, end))).1
+
+pub fill_below-requires-clause-alone : goal.fill_below-requires-clause-alone
+fill_below-requires-clause-alone c =
+    let within = c.loop-index-test.true in
+    let end = c.loop-index.auto.index-end in
+    (c.loop-index.invariant.2 c.loop-index.index (omega arith) (omega (arith, within, end))).2
 
 pub fill_below-requires-clause-object : goal.fill_below-requires-clause-object
 fill_below-requires-clause-object c =
@@ -43,6 +49,7 @@ loop-index-preserved c =
           rw c.fill_below.ensures (
             slot_stays c.loop-index.state slot a.parent c.new_cap.result q was.0,
             other_stays c.loop-index.state slot a.parent c.new_cap.result q apart was.1,
+            alone_stays c.loop-index.state slot a.parent c.new_cap.result inv.3 q apart was.1 was.2,
           ),
       rw c.fill_below.ensures (filling_stays c.loop-index.state slot a.parent c.new_cap.result a.parent inv.3),
       λ number low high.

@@ -2,6 +2,7 @@ use Rattle.std.proofs.Common.{◌≡◌, ◌+◌, ◌<◌, ◌≤◌, IsSome, Is
 use Rattle.std.specs.Prelude.{None}
 use Rattle.machine.specs.Machine.{cap_of, has_slot, object_of}
 use Rattle.machine.specs.Step.Retype.{window}
+use Rattle.machine.specs.Tree.{IsAlone}
 use Rattle.untyped.specs.Batch.{with_caps}
 use Rattle.untyped.specs.Windows.{slots_of}
 use Rattle.untyped.proofs.filling.fill.Given as goal
@@ -15,7 +16,8 @@ invariant-loop-index l =
     ≡ with_caps l.fn.state l.fn.first l.kind (slots_of l.fn.window) l.parent)
     × ((index : ℕ) → l.index ≤ index → index < l.fn.window.offset + l.fn.window.count
     → IsTrue (has_slot l.state (record { holder = l.fn.window.node; index = index }))
-    × (cap_of l.state (record { holder = l.fn.window.node; index = index }) ≡ None))
+    × (cap_of l.state (record { holder = l.fn.window.node; index = index }) ≡ None)
+    × IsAlone l.state (record { holder = l.fn.window.node; index = index }))
     × IsSome (cap_of l.state l.parent)
     × ((number : ℕ) → l.number ≤ number → number < l.fn.first + l.fn.window.count
     → IsSome (object_of l.state (record { 0 = number })))

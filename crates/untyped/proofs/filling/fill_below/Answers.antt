@@ -1,5 +1,5 @@
 -- The filled slot is in no pair of the tree.
-use Rattle.untyped.proofs.Filled.{filled_here, filled_lone, filled_there}
+use Rattle.untyped.proofs.Filled.{filled_alone, filled_here, filled_there}
 use Rattle.untyped.proofs.filling.fill_below.Goals as goal
 
 pub insert_child-requires-clause-below : goal.insert_child-requires-clause-below
@@ -12,5 +12,4 @@ insert_child-requires-clause-above c =
 pub insert_child-requires-clause-alone : goal.insert_child-requires-clause-alone
 insert_child-requires-clause-alone c =
     rw c.put_cap.ensures
-    (filled_lone c.args.state.now c.args.slot c.args.cap c.keeps_a_forest.ensures.below c.keeps_a_forest.ensures.above
-    c.requires.vacant)
+    (filled_alone c.args.state.now c.args.slot c.args.cap c.requires.alone)

@@ -1,32 +1,53 @@
-use Rattle.std.proofs.Common.{◌≤◌, ◌+◌, ◌^◌, length, refl}
+-- Room is made for those that may be going, then the objects are added at once.
+use Rattle.std.proofs.Common.{◌≡◌, ◌≤◌, ◌+◌, ◌^◌, length, ap, ◌∙◌, arith}
 use Rattle.std.proofs.lemmas.Result.{err_from_is_err_and}
+use Rattle.std.specs.Prelude.{vec_capacity}
+use Rattle.std.specs.List.{fold}
+use Rattle.machine.specs.Machine.{with_new}
 use Rattle.objects.proofs.StateLemmas.{next-machine_of}
 use Rattle.objects.proofs.ConsistentLemmas.{all_added_gives}
-use Rattle.objects.proofs.CountedStates.{sound_all_added}
+use Rattle.objects.proofs.CountedStates.{room_gives, sound_all_added, sound_room}
 use Rattle.objects.proofs.state.State.add_objects.Goals as goal
+
+pub invariant_of-self : goal.invariant_of-self
+invariant_of-self c = sound_room c.self.inside c.reserve.new.self c.self.invariant c.in_err-reserve.ensures.capacity
+
+pub returns-in_err-reserve-clause-err : goal.returns-in_err-reserve-clause-err
+returns-in_err-reserve-clause-err c =
+    let p = err_from_is_err_and c.from_residual.result c.from_residual.ensures.1 in
+    rw (p.1, ← c.self.view_is) (room_gives c.self.inside c.reserve.new.self c.in_err-reserve.ensures.items)
 
 pub add_all-requires : goal.add_all-requires
 add_all-requires c = rw (← next-machine_of c.self.inside, c.self.view_is) c.requires
 
-pub invariant_of-self : goal.invariant_of-self
-invariant_of-self c = rw c.in_err-add_all.ensures.err c.self.invariant
+pub invariant_of-self-in_err-add_all : goal.invariant_of-self-in_err-add_all
+invariant_of-self-in_err-add_all c =
+    rw c.in_err-add_all.ensures.err
+    (sound_room c.self.inside c.reserve.new.self c.self.invariant c.in_ok-reserve.ensures.capacity)
 
 pub returns-in_err-add_all-clause-err : goal.returns-in_err-add_all-clause-err
 returns-in_err-add_all-clause-err c =
-    let p = err_from_is_err_and c.from_residual.result c.from_residual.ensures.1 in
-    rw (p.1, ← c.self.view_is, c.in_err-add_all.ensures.err) refl
+    let p = err_from_is_err_and c.from_residual-in_err-add_all.result c.from_residual-in_err-add_all.ensures.1 in
+    rw (p.1, ← c.self.view_is, c.in_err-add_all.ensures.err)
+    (room_gives c.self.inside c.reserve.new.self c.in_ok-reserve.ensures.items)
 
 pub invariant_of-self-2 : goal.invariant_of-self-2
 invariant_of-self-2 c =
-    let room : c.self.inside.next + length c.args.objects.now ≤ 2 ^ 48 =
-    rw (← next-machine_of c.self.inside, c.self.view_is) c.requires in
-    rw c.in_ok-add_all.ensures.ok
-    (rw c.with_all-self-inside.ensures
-    (sound_all_added c.self.inside c.self.invariant c.args.objects.now room c.in_ok-add_all.ensures.radices))
+    let s = c.self.inside in
+    let room : s.next + length c.args.objects.now ≤ 2 ^ 48 = rw (← next-machine_of s, c.self.view_is) c.requires in
+    let left = c.in_ok-reserve.ensures.ok in
+    let roomy : s.counts.objects + length c.args.objects.now ≤ vec_capacity c.reserve.new.self = omega (arith, left) in
+    rw (c.in_ok-add_all.ensures.ok, c.with_all-self-inside.ensures)
+    (sound_all_added (record s { going = c.reserve.new.self })
+    (sound_room s c.reserve.new.self c.self.invariant c.in_ok-reserve.ensures.capacity) c.args.objects.now room
+    c.in_ok-add_all.ensures.radices roomy)
 
 pub returns-clause-ok : goal.returns-clause-ok
 returns-clause-ok c =
-    let room : c.self.inside.next + length c.args.objects.now ≤ 2 ^ 48 =
-    rw (← next-machine_of c.self.inside, c.self.view_is) c.requires in
+    let s = c.self.inside in
+    let room : s.next + length c.args.objects.now ≤ 2 ^ 48 = rw (← next-machine_of s, c.self.view_is) c.requires in
     rw (c.in_ok-add_all.ensures.ok, c.with_all-self-inside.ensures, ← c.self.view_is)
-    (all_added_gives c.self.inside c.self.invariant.consistent c.args.objects.now room c.in_ok-add_all.ensures.radices)
+    (all_added_gives (record s { going = c.reserve.new.self })
+    (sound_room s c.reserve.new.self c.self.invariant c.in_ok-reserve.ensures.capacity).consistent c.args.objects.now room
+    c.in_ok-add_all.ensures.radices
+    ∙ ap (λ m. fold with_new m c.args.objects.now) (room_gives s c.reserve.new.self c.in_ok-reserve.ensures.items))

@@ -11,7 +11,7 @@ invariant_of-self c =
     rw c.attach.ensures
     (sound_after c.self.inside _ c.self.invariant
     (IsConsistent-attached c.self.inside c.self.invariant.consistent c.args.slot c.args.parent (rw c.self.view_is c.requires.below)
-    (rw c.self.view_is c.requires.above) (rw c.self.view_is c.requires.root) (rw c.self.view_is c.requires.ranked)) refl refl
+    (rw c.self.view_is c.requires.above) (rw c.self.view_is c.requires.root) (rw c.self.view_is c.requires.ranked)) refl refl refl
     (caps-attached c.self.inside.store c.args.slot c.args.parent) _
     (attach_gives c.self.inside c.self.invariant.consistent c.args.slot c.args.parent (rw c.self.view_is c.requires.below)
     (rw c.self.view_is c.requires.above) (rw c.self.view_is c.requires.root) (rw c.self.view_is c.requires.ranked))

@@ -8,7 +8,7 @@ use Rattle.objects.proofs.state.State.detach.Goals as goal
 
 pub invariant_of-self : goal.invariant_of-self
 invariant_of-self c = rw c.detach.ensures
-    (sound_after c.self.inside _ c.self.invariant (IsConsistent-detached c.self.inside c.self.invariant.consistent c.args.slot) refl refl
+    (sound_after c.self.inside _ c.self.invariant (IsConsistent-detached c.self.inside c.self.invariant.consistent c.args.slot) refl refl refl
     (caps-detached c.self.inside.store c.args.slot) _
     (detach_gives c.self.inside c.self.invariant.consistent c.args.slot) (counts-without_parent _ c.args.slot)
     (caps_to-without_parent _ c.args.slot))

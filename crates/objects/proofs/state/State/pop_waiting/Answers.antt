@@ -8,7 +8,7 @@ use Rattle.objects.proofs.state.State.pop_waiting.Goals as goal
 
 pub invariant_of-self : goal.invariant_of-self
 invariant_of-self c = rw c.pop.ensures.rest
-    (sound_after c.self.inside _ c.self.invariant (IsConsistent-popped c.self.inside c.self.invariant.consistent c.args.id) refl refl
+    (sound_after c.self.inside _ c.self.invariant (IsConsistent-popped c.self.inside c.self.invariant.consistent c.args.id) refl refl refl
     (caps-popped c.self.inside.store c.args.id _) _
     (pop_gives c.self.inside c.self.invariant.consistent c.args.id) (counts-without_first _ c.args.id)
     (caps_to-without_first _ c.args.id))

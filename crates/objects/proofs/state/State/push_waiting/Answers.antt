@@ -11,7 +11,7 @@ invariant_of-self c =
     rw c.push.ensures
     (sound_after c.self.inside _ c.self.invariant
     (IsConsistent-pushed c.self.inside c.self.invariant.consistent c.args.id c.args.thread (rw c.self.view_is c.requires.present)
-    (rw c.self.view_is c.requires.free)) refl refl
+    (rw c.self.view_is c.requires.free)) refl refl refl
     (caps-pushed c.self.inside.store c.args.id c.args.thread _) _
     (push_gives c.self.inside c.self.invariant.consistent c.args.id c.args.thread (rw c.self.view_is c.requires.present)
     (rw c.self.view_is c.requires.free))

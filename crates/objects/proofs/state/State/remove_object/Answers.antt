@@ -21,14 +21,14 @@ pub invariant_of-self : goal.invariant_of-self
 invariant_of-self c =
     rw (c.remove.ensures, c.without-self-inside.ensures)
     (sound_removed c.self.inside c.self.invariant c.args.id (rw c.self.view_is c.requires.unheld)
-    (rw c.self.view_is c.requires.hollow) (rw c.self.view_is c.requires.deserted) (rw c.self.view_is c.requires.free)
+    (rw c.self.view_is c.requires.hollow) (rw c.self.view_is c.requires.alone) (rw c.self.view_is c.requires.deserted) (rw c.self.view_is c.requires.free)
     c.in-Some.field-0.now (rw c.self.view_is (sym c.object.ensures ∙ ap option_copied c.in-Some.is)))
 
 pub returns-in-Some : goal.returns-in-Some
 returns-in-Some c =
     rw (c.remove.ensures, c.without-self-inside.ensures, ← c.self.view_is)
     (removed_gives c.self.inside c.self.invariant c.args.id (rw c.self.view_is c.requires.unheld)
-    (rw c.self.view_is c.requires.hollow) (rw c.self.view_is c.requires.deserted) (rw c.self.view_is c.requires.free)
+    (rw c.self.view_is c.requires.hollow) (rw c.self.view_is c.requires.alone) (rw c.self.view_is c.requires.deserted) (rw c.self.view_is c.requires.free)
     c.in-Some.field-0.now)
 
 pub returns-in_default : goal.returns-in_default

@@ -13,7 +13,7 @@ overflow_sub-count c =
 pub invariant_of-self : goal.invariant_of-self
 invariant_of-self c =
     rw (c.set_caps.ensures, c.set_cap.ensures)
-    (sound_take c.self.inside c.self.invariant c.args.slot c.in-Some.cap _ (rw c.self.view_is c.requires.alone)
+    (sound_take c.self.inside c.self.invariant c.args.slot c.in-Some.cap _
     (rw c.self.view_is (sym c.cap.ensures ∙ c.in-Some.is))
     (rw (c.cap_count-count.ensures.value, ← c.self.view_is) refl))
 

@@ -10,7 +10,7 @@ pub invariant_of-self : goal.invariant_of-self
 invariant_of-self c =
     rw c.take_out.ensures
     (sound_after c.self.inside _ c.self.invariant
-    (IsConsistent-quitted c.self.inside c.self.invariant.consistent c.args.id c.args.thread (rw c.self.view_is c.requires)) refl refl
+    (IsConsistent-quitted c.self.inside c.self.invariant.consistent c.args.id c.args.thread (rw c.self.view_is c.requires)) refl refl refl
     (caps-quitted c.self.inside.store c.args.id c.args.thread _) _
     (quit_gives c.self.inside c.self.invariant.consistent c.args.id c.args.thread (rw c.self.view_is c.requires))
     (counts-without_waiting _ c.args.id c.args.thread) (caps_to-without_waiting _ c.args.id c.args.thread))
