@@ -17,8 +17,12 @@ fn of_cnode(detail: &Detail) -> Result<(), Cause>
 }
 
 /// The slot that a caller names as the target.
+///
+/// # Errors
+///
+/// Those of the look-up, and that what is named as the root is no CNode's capability.
 #[tactic(auto, unfolding(machine::specs::Step::Target::target_of))]
-fn target(state: &State, caller: ObjId, address: SlotAddress) -> Result<SlotRef, Cause>
+pub fn target(state: &State, caller: ObjId, address: SlotAddress) -> Result<SlotRef, Cause>
     ensures { result ≡ target_of state.now caller address }
 {
     let (slot, cap) = find_cap(state, caller, address.root)?;

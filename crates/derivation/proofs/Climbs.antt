@@ -1,5 +1,5 @@
 -- What a slot descends from, by its parent, and when two slots are one.
-use Rattle.std.proofs.Common.{◌≡◌, ◌≢◌, ℕ, true, false, ◌&&◌, eqb, ◌⊎◌, inl, inr, ap, subst, arith}
+use Rattle.std.proofs.Common.{◌≡◌, ◌≢◌, ℕ, false, ◌&&◌, eqb, ◌⊎◌, inl, inr, ap, subst, arith}
 use Rattle.std.proofs.lemmas.Bool.Decides.{nat_tests}
 use Rattle.std.specs.Prelude.{Some}
 use Rattle.base.specs.declared.ids.SlotRef.{SlotRef}

@@ -4,3 +4,11 @@ pub mod Moves
 pub mod Children
 pub mod Climbs
 pub mod Removals
+pub mod Ancestors
+pub mod OwnSlots
+pub mod Raises
+pub mod Hangs
+pub mod Leavings
+pub mod GoingSlots
+pub mod Thinnings
+pub mod TreeAfter

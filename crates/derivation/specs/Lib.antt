@@ -1,2 +1,5 @@
 pub mod Moving
+pub mod OwnSlots
+pub mod Raising
 pub mod Removing
+pub mod Thinning

@@ -1,9 +1,9 @@
 -- A slot leaves the derivation tree, and its children come to its own parent (seL4 manual, "Capability Derivation Tree"; where the
 -- children go is confine's own).
-use Rattle.std.specs.Prelude.{◌≡◌, Option, option_and_then}
+use Rattle.std.specs.Prelude.{◌≡◌, Bool, true, false, Option, None, option_and_then}
 use Rattle.base.specs.declared.ids.SlotRef.{SlotRef}
 use Rattle.machine.specs.Machine.{Machine, parent_of}
-use Rattle.machine.specs.Orphans.{past, without_node}
+use Rattle.machine.specs.Orphans.{Nearest, past, without_node}
 
 -- the parents of a tree in which one slot has given its children up
 abbrev pub parent_past : Machine → SlotRef → Option SlotRef → SlotRef → Option SlotRef
@@ -17,3 +17,9 @@ parent_without m slot = without_node (parent_of m) slot
 pub record HasParents (old new : Machine) (parent : SlotRef → Option SlotRef) : Type 0 where
   pub rest : new ≡ record old { parents = new.parents }
   pub parents : (q : SlotRef) → parent_of new q ≡ parent q
+
+-- only pairs have changed: some slots have left the tree, and each other has for its parent its first ancestor that isn't one of them
+pub record HaveLeft (old new : Machine) (these : SlotRef → Bool) : Type 0 where
+  pub rest : new ≡ record old { parents = new.parents }
+  pub out : (q : SlotRef) → these q ≡ true → parent_of new q ≡ None
+  pub up : (q : SlotRef) → these q ≡ false → Nearest (parent_of old) these (parent_of old q) (parent_of new q)

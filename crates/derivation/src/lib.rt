@@ -3,8 +3,12 @@
 //! Each call takes no memory, and is told as a change of the pairs of child and parent.
 #![tactic(auto)]
 
+mod leaving;
+mod raising;
 mod removing;
+mod slots;
 mod tree;
 
+pub use leaving::leave_tree;
 pub use removing::remove_node;
 pub use tree::{descends, insert_child, move_node, next_descendant};

@@ -1,10 +1,12 @@
 ghost use Rattle.std.specs.Prelude.{◌≡◌, Some, None};
 ghost use Rattle.base.specs.declared.ids.SlotRef.{SlotRef as Slot};
-ghost use Rattle.machine.specs.Machine.{parent_of};
-ghost use Rattle.derivation.specs.Removing.{HasParents, parent_past, parent_without};
+ghost use Rattle.machine.specs.Machine.{parent_of, same_slot};
+ghost use Rattle.derivation.specs.OwnSlots.{is_slot_of};
+ghost use Rattle.derivation.specs.Removing.{HasParents, HaveLeft, parent_past, parent_without};
 
+use crate::slots::slot_count;
 use crate::tree::hand_over;
-use base::SlotRef;
+use base::{ObjId, SlotRef};
 use objects::State;
 
 /// Takes a slot out of the tree. Its children come under its parent; where it has none, they have
@@ -36,4 +38,22 @@ fn release(state: &mut State, slot: SlotRef)
     while let Some(child) = state.first_child(slot) {
         state.detach(child);
     }
+}
+
+/// Takes each slot of the object out of the tree, as [`remove_node`] does. It takes time in the number
+/// of its slots, and of the children that each has when its turn comes.
+pub(crate) fn remove_slots_of(state: &mut State, id: ObjId)
+    ensures { HaveLeft state.old state.new (is_slot_of state.old id) }
+{
+    for index in 0..slot_count(state, id) {
+        take_out(state, SlotRef { holder: id, index });
+    }
+}
+
+// Takes a slot out of the tree, as `remove_node` does.
+fn take_out(state: &mut State, slot: SlotRef)
+    ensures { HaveLeft state.old state.new (λ q. same_slot q slot) }
+{
+    state.keeps_a_forest();
+    remove_node(state, slot);
 }

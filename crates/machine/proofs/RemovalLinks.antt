@@ -32,7 +32,7 @@ neither : (a b : Bool) → (a || b) ≡ false → (a ≡ false) × (b ≡ false)
 neither true b e = absurd (false≢true (sym e))
 neither false b e = (refl, e)
 
-in_whole : {A : Type 0} (p : A → Bool) (xs : List A) (x : A) → Contains (filter p xs) x → Contains xs x
+pub in_whole : {A : Type 0} (p : A → Bool) (xs : List A) (x : A) → Contains (filter p xs) x → Contains xs x
 in_whole p xs x there = All-contains (Contains xs) (filter p xs) x (All-filter p (Contains xs) xs (All-contains_itself xs)) there
 
 all_kept : {A : Type 0} (p : A → Bool) (xs : List A) → All (λ y. p y ≡ true → Contains (filter p xs) y) xs
@@ -47,7 +47,7 @@ all_kept {A} p (x ∷ xs) =
       on true y there = Contains-append_right (x ∷ []) (filter p xs) y there
       on false y there = there
 
-into_part : {A : Type 0} (p : A → Bool) (xs : List A) (x : A) → Contains xs x → p x ≡ true → Contains (filter p xs) x
+pub into_part : {A : Type 0} (p : A → Bool) (xs : List A) (x : A) → Contains xs x → p x ≡ true → Contains (filter p xs) x
 into_part p xs x there = All-contains (λ y. p y ≡ true → Contains (filter p xs) y) xs x (all_kept p xs) there
 
 module _ (m : Machine) (chosen : SlotRef → Bool) (formed : IsWellFormed m) where

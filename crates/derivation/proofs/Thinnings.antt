@@ -1,0 +1,163 @@
+-- A derivation tree that slots are leaving stays so by each step of a removal, and once they are alone it is what the removal makes.
+use Rattle.std.proofs.Common.{◌≡◌, ◌≢◌, Bool, true, false, ◌⊎◌, inl, inr, refl, sym, ap, subst, ◌∙◌}
+use Rattle.std.specs.Prelude.{Option, Some, None, filter, if◌then◌else◌}
+use Rattle.std.specs.FinMap.{values}
+use Rattle.std.specs.Option.{is_none}
+use Rattle.std.proofs.lemmas.Bool.{false≢true}
+use Rattle.base.specs.declared.ids.SlotRef.{SlotRef}
+use Rattle.machine.specs.declared.cap.Cap.{Cap}
+use Rattle.machine.specs.Machine.{Machine, cap_of, parent_of, same_slot, without_parent}
+use Rattle.machine.specs.Orphans.{Nearest, climbs, no_ancestor, survives, without_nodes}
+use Rattle.machine.specs.Removal.{cap_after, parent_after}
+use Rattle.machine.specs.Tree.{IsAlone}
+use Rattle.machine.specs.WellFormed.{Descends, child, further}
+use Rattle.machine.proofs.LookUps.{one_slot}
+use Rattle.machine.proofs.OrphanLemmas.{climbed, nearest_stays}
+use Rattle.machine.proofs.RemovalStays.{further_on}
+use Rattle.derivation.specs.Raising.{AreRaised, is_empty}
+use Rattle.derivation.specs.Removing.{HasParents, HaveLeft, parent_without}
+use Rattle.derivation.specs.Thinning.{IsThinned}
+use Rattle.derivation.proofs.Ancestors.{only_nearest, parents_kept, same_ways}
+use Rattle.derivation.proofs.Leavings.{leaf_left, node_left}
+
+-- at first nothing has left
+pub thinned_at_first : (m : Machine) (gone : SlotRef → Bool) → IsThinned m gone m
+thinned_at_first m gone = record { nearest = λ slot to stays way. way; joins = λ slot parent at. child at }
+
+module _ (m : Machine) (gone : SlotRef → Bool) (now : Machine) (thin : IsThinned m gone now) where
+  -- who descends now did so at first
+  pub descends_at_first : {low high : SlotRef} → Descends now low high → Descends m low high
+  descends_at_first (child {slot} {parent} at) = thin.joins slot parent at
+  descends_at_first (further {slot} {parent} at rest) = further_on m (thin.joins slot parent at) (descends_at_first rest)
+
+  -- so no slot descends from itself
+  pub acyclic_now : ((slot : SlotRef) → ¬ (Descends m slot slot)) → (slot : SlotRef) → ¬ (Descends now slot slot)
+  acyclic_now acyclic slot below = acyclic slot (descends_at_first below)
+
+  -- where each slot has the parent that it had
+  pub thinned_alike : (next : Machine) → ((q : SlotRef) → parent_of next q ≡ parent_of now q) → IsThinned m gone next
+  thinned_alike next same =
+      record {
+        nearest =
+            λ slot to stays way.
+            parents_kept gone (parent_of now) (parent_of next) (λ q. inl (same q)) slot to (thin.nearest slot to stays way);
+        joins = λ slot parent at. thin.joins slot parent (sym (same slot) ∙ at);
+      }
+
+  -- where some leave that go
+  module _ (next : Machine) (these : SlotRef → Bool) (left : HaveLeft now next these)
+      (going : (q : SlotRef) → these q ≡ true → gone q ≡ true) where
+    staying : (slot : SlotRef) (b : Bool) → these slot ≡ b → gone slot ≡ false → b ≡ false
+    staying slot true is stays = absurd (false≢true (sym stays ∙ going slot is))
+    staying slot false is stays = refl
+
+    way_where_left :
+        {from to past : Option SlotRef} → Nearest (parent_of now) gone from to → Nearest (parent_of now) these from past
+        → Nearest (parent_of next) gone past to
+    way_where_left no_ancestor no_ancestor = no_ancestor
+    way_where_left (survives is) (survives stays) = survives is
+    way_where_left (survives {slot} is) (climbs leaves rest) = absurd (false≢true (sym is ∙ going slot leaves))
+    way_where_left (climbs {slot} is rest) (survives stays) = climbs is (way_where_left rest (left.up slot stays))
+    way_where_left (climbs is rest) (climbs leaves more) = way_where_left rest more
+
+    joins_where_left : (slot parent : SlotRef) (b : Bool) → these slot ≡ b → parent_of next slot ≡ Some parent → Descends m slot parent
+    joins_where_left slot parent true is at = let impossible : Some parent ≡ None = sym at ∙ left.out slot is in cc
+    joins_where_left slot parent false is at =
+        descends_at_first
+        (climbed now these slot
+        (subst (λ (to : Option SlotRef). Nearest (parent_of now) these (parent_of now slot) to) at (left.up slot is)) refl)
+
+    pub thinned_where_left : IsThinned m gone next
+    thinned_where_left =
+        record {
+          nearest =
+              λ slot to stays way.
+              way_where_left (thin.nearest slot to stays way) (left.up slot (staying slot (these slot) refl stays));
+          joins = λ slot parent at. joins_where_left slot parent (these slot) refl at;
+        }
+
+  -- one that goes leaves
+  going_itself : (slot : SlotRef) → gone slot ≡ true → (q : SlotRef) → same_slot q slot ≡ true → gone q ≡ true
+  going_itself slot goes q same = ap gone (one_slot q slot same) ∙ goes
+
+  pub thinned_by_node :
+      ((slot : SlotRef) → ¬ (Descends m slot slot)) → (next : Machine) (slot : SlotRef) → gone slot ≡ true
+      → HasParents now next (parent_without now slot) → IsThinned m gone next
+  thinned_by_node acyclic next slot goes has =
+      thinned_where_left next (λ q. same_slot q slot)
+      (node_left now next slot (λ at. acyclic slot (thin.joins slot slot at)) has) (going_itself slot goes)
+
+  pub thinned_by_leaf :
+      (slot : SlotRef) → gone slot ≡ true → ((low : SlotRef) → parent_of now low ≢ Some slot)
+      → IsThinned m gone (without_parent now slot)
+  thinned_by_leaf slot goes leaf =
+      thinned_where_left (without_parent now slot) (λ q. same_slot q slot) (leaf_left now slot leaf) (going_itself slot goes)
+
+  -- where the slots that go have been emptied, of filled ones alone
+  module _ (filled : (slot parent : SlotRef) → parent_of m slot ≡ Some parent → (held : Cap) × (cap_of m parent ≡ Some held))
+      (emptied : (q : SlotRef) → cap_of now q ≡ cap_after m gone q) where
+    parent_at_first : {low slot : SlotRef} → Descends m low slot → (q : SlotRef) × (parent_of m q ≡ Some slot)
+    parent_at_first (child {slot} at) = (slot, at)
+    parent_at_first (further at rest) = parent_at_first rest
+
+    none_held : (slot : SlotRef) (b : Bool) (held : Cap) → cap_of m slot ≡ Some held → is_none (if b then None else cap_of m slot) ≡ b
+    none_held slot true held is = refl
+    none_held slot false held is = ap is_none is
+
+    -- a parent is empty if it goes
+    pub empty_goes : (low slot : SlotRef) → parent_of now low ≡ Some slot → is_empty now slot ≡ gone slot
+    empty_goes low slot at =
+        let over = parent_at_first (thin.joins low slot at) in
+        let had = filled over.0 slot over.1 in
+        ap is_none (emptied slot) ∙ none_held slot (gone slot) had.0 had.1
+
+    -- so the first filled one is the first that stays
+    pub filled_stays :
+        (low : SlotRef) (to : Option SlotRef) → Nearest (parent_of now) (is_empty now) (parent_of now low) to
+        → Nearest (parent_of now) gone (parent_of now low) to
+    filled_stays low to way = same_ways (parent_of now) (is_empty now) gone empty_goes low way refl
+
+    module _ (next : Machine) (raised : SlotRef → Type 0) (up : AreRaised now next raised) where
+      each_up : (q : SlotRef) → (parent_of next q ≡ parent_of now q) ⊎ Nearest (parent_of now) gone (parent_of now q) (parent_of next q)
+      each_up q =
+          elim (up.others q) [ inl same ↦ inl same | inr is ↦ inr (filled_stays q (parent_of next q) (up.up q is)) ]
+
+      joins_where_raised : (slot parent : SlotRef) → parent_of next slot ≡ Some parent → Descends m slot parent
+      joins_where_raised slot parent at =
+          elim (each_up slot) [
+            | inl same ↦ thin.joins slot parent (sym same ∙ at)
+            | inr way ↦
+                descends_at_first
+                (climbed now gone slot (subst (λ (to : Option SlotRef). Nearest (parent_of now) gone (parent_of now slot) to) at way)
+                refl)
+          ]
+
+      -- where some of them come below their first filled ancestor
+      pub thinned_where_raised : IsThinned m gone next
+      thinned_where_raised =
+          record {
+            nearest =
+                λ slot to stays way.
+                parents_kept gone (parent_of now) (parent_of next) each_up slot to (thin.nearest slot to stays way);
+            joins = joins_where_raised;
+          }
+
+  -- once all that go are alone, each slot has the parent that the removal gives it
+  module _ (acyclic : (slot : SlotRef) → ¬ (Descends m slot slot)) (alone : (slot : SlotRef) → gone slot ≡ true → IsAlone now slot) where
+    parent_survives : (slot : SlotRef) (to : Option SlotRef) → parent_of now slot ≡ to → Nearest (parent_of now) gone to to
+    parent_survives slot None at = no_ancestor
+    parent_survives slot (Some parent) at = survives (by_gone (gone parent) refl) where
+      by_gone : (b : Bool) → gone parent ≡ b → b ≡ false
+      by_gone true goes = absurd ((alone parent goes).leaf slot at)
+      by_gone false goes = refl
+
+    pub thinned_out : (slot : SlotRef) → parent_of now slot ≡ parent_after m gone slot
+    thinned_out slot = by_gone (gone slot) refl where
+      by_gone :
+          (b : Bool) → gone slot ≡ b
+          → parent_of now slot ≡ (if b then None else without_nodes (parent_of m) (filter gone (values m.parents)) slot)
+      by_gone true goes = (alone slot goes).root
+      by_gone false stays =
+          only_nearest (parent_survives slot (parent_of now slot) refl)
+          (thin.nearest slot (without_nodes (parent_of m) (filter gone (values m.parents)) slot) stays
+          (nearest_stays m acyclic gone slot stays))

@@ -1,0 +1,14 @@
+-- Raising what is left is raising all.
+use Rattle.std.proofs.Common.{◌≡◌, drop}
+use Rattle.machine.specs.Machine.{Machine}
+use Rattle.derivation.specs.OwnSlots.{is_going_slot, is_slot_among}
+use Rattle.derivation.specs.Raising.{AreRaisedFrom}
+use Rattle.derivation.proofs.leaving.raise_going.Given as goal
+
+abbrev pub invariant-loop-index : goal.invariant-loop-index
+invariant-loop-index l = record {
+  rest : l.state ≡ record l.fn.state { parents = l.state.parents };
+  all :
+      (last : Machine) → AreRaisedFrom l.state last (is_slot_among l.fn.state (drop l.index l.fn.state.going))
+      → AreRaisedFrom l.fn.state last (is_going_slot l.fn.state);
+}

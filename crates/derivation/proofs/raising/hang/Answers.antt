@@ -1,0 +1,47 @@
+-- What a slot descends from is above it, so it may come below that.
+use Rattle.std.proofs.Common.{sym, ap, subst, ◌∙◌}
+use Rattle.std.specs.Prelude.{Option, Some, None}
+use Rattle.base.specs.declared.ids.SlotRef.{SlotRef}
+use Rattle.machine.specs.Machine.{with_parent}
+use Rattle.machine.specs.Tree.{IsRanked}
+use Rattle.derivation.specs.Raising.{parent_hung}
+use Rattle.derivation.specs.Removing.{HasParents}
+use Rattle.derivation.proofs.Hangs.{below_named, high_end, hung_below, hung_root, low_end, ranked_hung}
+use Rattle.derivation.proofs.Moves.{slot_without_parent}
+use Rattle.derivation.proofs.Pairs.{taken_from_parent}
+use Rattle.derivation.proofs.raising.hang.Goals as goal
+
+pub attach-requires-clause-below : goal.attach-requires-clause-below
+attach-requires-clause-below c =
+    let up = low_end c.args.state.now (below_named c.args.state.now c.args.slot c.requires c.in-Some.is) in
+    rw c.detach.ensures
+    (slot_without_parent c.args.state.now c.args.slot c.args.slot (c.keeps_a_forest.ensures.below c.args.slot up.0 up.1))
+
+pub attach-requires-clause-above : goal.attach-requires-clause-above
+attach-requires-clause-above c =
+    let low = high_end c.args.state.now (below_named c.args.state.now c.args.slot c.requires c.in-Some.is) in
+    rw c.detach.ensures
+    (slot_without_parent c.args.state.now c.args.slot c.in-Some.heir (c.keeps_a_forest.ensures.above low.0 c.in-Some.heir low.1))
+
+pub attach-requires-clause-root : goal.attach-requires-clause-root
+attach-requires-clause-root c = rw c.detach.ensures (taken_from_parent c.args.state.now c.args.slot)
+
+pub attach-requires-clause-ranked : goal.attach-requires-clause-ranked
+attach-requires-clause-ranked c =
+    subst (λ m. IsRanked (with_parent m c.args.slot c.in-Some.heir)) (sym c.detach.ensures)
+    (ranked_hung c.args.state.now c.keeps_a_forest.ensures.ranked c.args.slot c.in-Some.heir (below_named c.args.state.now c.args.slot c.requires c.in-Some.is))
+
+pub returns-in-Some : goal.returns-in-Some
+returns-in-Some c =
+    subst (λ (above : Option SlotRef). HasParents c.args.state.now c.attach.new.self (parent_hung c.args.state.now c.args.slot above))
+    (sym c.in-Some.is)
+    (subst (λ m. HasParents c.args.state.now m (parent_hung c.args.state.now c.args.slot (Some c.in-Some.heir)))
+    (sym (c.attach.ensures ∙ ap (λ m. with_parent m c.args.slot c.in-Some.heir) c.detach.ensures))
+    (hung_below c.args.state.now c.args.slot c.in-Some.heir))
+
+pub returns-in_default : goal.returns-in_default
+returns-in_default c =
+    subst (λ (above : Option SlotRef). HasParents c.args.state.now c.detach.new.self (parent_hung c.args.state.now c.args.slot above))
+    (sym c.in_default.is)
+    (subst (λ m. HasParents c.args.state.now m (parent_hung c.args.state.now c.args.slot None)) (sym c.detach.ensures)
+    (hung_root c.args.state.now c.args.slot))

@@ -1,0 +1,22 @@
+-- Raising what is left is raising all. What has been hung is below the slot that was come to.
+use Rattle.std.proofs.Common.{◌≡◌, ◌⊎◌}
+use Rattle.std.specs.Prelude.{Some}
+use Rattle.base.specs.declared.ids.SlotRef.{SlotRef}
+use Rattle.machine.specs.Machine.{Machine, parent_of, same_slot}
+use Rattle.machine.specs.Orphans.{Nearest}
+use Rattle.machine.specs.WellFormed.{Descends}
+use Rattle.objects.proofs.Ways.{steps_up}
+use Rattle.derivation.specs.Raising.{AreRaisedFrom, is_empty}
+use Rattle.derivation.proofs.raising.hang_way.Given as goal
+
+abbrev pub invariant-loop-heir : goal.invariant-loop-heir
+invariant-loop-heir l = record {
+  all :
+      (last : Machine) → AreRaisedFrom l.state last (λ q. same_slot q l.at)
+      → AreRaisedFrom l.fn.state last (λ q. same_slot q l.fn.slot);
+  way : Nearest (parent_of l.state) (is_empty l.state) (Some l.at) l.heir;
+  below : (q : SlotRef) → (parent_of l.state q ≡ parent_of l.fn.state q) ⊎ Descends l.fn.state q l.at;
+}
+
+abbrev pub decreases-loop-heir : goal.decreases-loop-heir
+decreases-loop-heir l = steps_up l.fn.state l.at

@@ -1,0 +1,9 @@
+-- A slot isn't its own parent, so its children come to another.
+use Rattle.machine.specs.WellFormed.{child}
+use Rattle.derivation.proofs.Leavings.{node_left}
+use Rattle.derivation.proofs.removing.take_out.Goals as goal
+
+pub returns : goal.returns
+returns c =
+    node_left c.args.state.now c.remove_node.new.state c.args.slot
+    (λ at. c.keeps_a_forest.ensures.acyclic c.args.slot (child at)) c.remove_node.ensures

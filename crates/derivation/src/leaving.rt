@@ -1,0 +1,46 @@
+ghost use Rattle.std.specs.Prelude.{◌≡◌, Some};
+ghost use Rattle.base.specs.declared.ids.SlotRef.{SlotRef as Slot};
+ghost use Rattle.machine.specs.Machine.{parent_of};
+ghost use Rattle.derivation.specs.OwnSlots.{is_going_slot};
+ghost use Rattle.derivation.specs.Raising.{AreRaisedFrom, is_empty};
+ghost use Rattle.derivation.specs.Removing.{HaveLeft};
+
+use crate::raising::raise_slots_of;
+use crate::removing::remove_slots_of;
+use objects::State;
+
+/// Takes each slot of the objects that are going out of the tree. Of the slots that have children, these
+/// are empty and no others. It takes time in the number of these slots and of their children.
+pub fn leave_tree(state: &mut State)
+    requires { (slot parent : Slot) → parent_of state.old slot ≡ Some parent
+        → is_empty state.old parent ≡ is_going_slot state.old parent }
+    ensures { HaveLeft state.old state.new (is_going_slot state.old) }
+{
+    // Each that is raised first hands its children on once, to one that stays.
+    raise_going(state);
+    remove_going(state);
+}
+
+// Raises each slot of the objects that are going.
+fn raise_going(state: &mut State)
+    ensures { AreRaisedFrom state.old state.new (is_going_slot state.old) }
+{
+    for index in 0..state.going_count() {
+        let Some(id) = state.going(index) else {
+            return;
+        };
+        raise_slots_of(state, id);
+    }
+}
+
+// Takes each slot of the objects that are going out of the tree.
+fn remove_going(state: &mut State)
+    ensures { HaveLeft state.old state.new (is_going_slot state.old) }
+{
+    for index in 0..state.going_count() {
+        let Some(id) = state.going(index) else {
+            return;
+        };
+        remove_slots_of(state, id);
+    }
+}

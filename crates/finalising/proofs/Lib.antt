@@ -1,0 +1,13 @@
+pub mod Agreement
+pub mod Filters
+pub mod Leaving
+pub mod Linked
+pub mod LinksStep
+pub mod Part
+pub mod PartSteps
+pub mod Passes
+pub mod Releases
+pub mod ReplyStep
+pub mod Tests
+pub mod Waiters
+pub mod WaitersStep

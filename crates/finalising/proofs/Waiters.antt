@@ -1,0 +1,90 @@
+-- Where the first that waits is aborted, the others are left to be.
+use Rattle.std.proofs.Common.{◌≡◌, ◌≢◌, ◌<◌, not, cond, List, [], ◌∷◌, length, refl, sym, ap, ◌∙◌, arith}
+use Rattle.std.specs.Prelude.{Option, Some, None, AllPairs, option_map}
+use Rattle.std.proofs.lemmas.Option.{same_Some}
+use Rattle.std.specs.List.{fold}
+use Rattle.base.specs.declared.ids.ObjId.{ObjId}
+use Rattle.machine.specs.declared.thread.Tcb.{Tcb}
+use Rattle.machine.specs.Changes.{first_waiting}
+use Rattle.machine.specs.Finalising.{aborted}
+use Rattle.machine.specs.Machine.{Machine, queue_of}
+use Rattle.machine.specs.WellFormed.{IsThread, LinksAgree}
+use Rattle.machine.proofs.Ids.{itself}
+use Rattle.machine.proofs.Queues.{first_in, once_first}
+use Rattle.finalising.specs.Finalised.{members, with_waiters_aborted}
+use Rattle.finalising.specs.Releasing.{with_aborted}
+use Rattle.finalising.proofs.Agreement.{links_aborted}
+use Rattle.finalising.proofs.Leaving.{aborted_is, released_queues, without, without_absent}
+use Rattle.finalising.proofs.Linked.{links_of}
+
+-- the first leaves a queue that has it once
+first_leaves :
+    (first : ObjId) (others : List ObjId) → AllPairs (λ a b. a ≢ b) (first ∷ others) → without first (first ∷ others) ≡ others
+first_leaves first others once =
+    ap (λ b. cond (not b) (first ∷ without first others) (without first others)) (itself first)
+    ∙ without_absent first others (λ within. once_first first others once first within refl)
+
+-- who waits first
+pub queue_by_first :
+    (m : Machine) (id first : ObjId) → first_waiting m id ≡ Some first
+    → (others : List ObjId) × (queue_of m id ≡ Some (first ∷ others))
+unfolding first_waiting
+queue_by_first m id first e = by_queue (queue_of m id) refl where
+  by_queue :
+      (queue : Option (List ObjId)) → queue_of m id ≡ queue
+      → (others : List ObjId) × (queue_of m id ≡ Some (first ∷ others))
+  by_queue None is = let some = rw is at e in cc
+  by_queue (Some []) is = let some = rw is at e in cc
+  by_queue (Some (one ∷ others)) is =
+      let some = rw is at e in
+      let same : one ≡ first = same_Some one first some in
+      (others, is ∙ ap (λ (x : ObjId). Some (x ∷ others)) same)
+
+pub record FirstAborted (m : Machine) (id first : ObjId) : Type 0 where
+  pub agreed : LinksAgree (with_aborted m first)
+  pub same : with_waiters_aborted (with_aborted m first) id ≡ with_waiters_aborted m id
+  pub fewer : length (members (queue_of (with_aborted m first) id)) < length (members (queue_of m id))
+
+module _ (m : Machine) (links : LinksAgree m) (id : ObjId) where
+  module _ (first : ObjId) (e : first_waiting m id ≡ Some first) where
+    others : List ObjId
+    others = (queue_by_first m id first e).0
+
+    queue : queue_of m id ≡ Some (first ∷ others)
+    unfolding others
+    queue = (queue_by_first m id first e).1
+
+    thread : (tcb : Tcb) × IsThread m first tcb
+    thread = let w = links.queued id (first ∷ others) first queue (first_in first others) in (w.0, w.2)
+
+    rest : queue_of (with_aborted m first) id ≡ Some others
+    rest =
+        ap (λ (n : Machine). queue_of n id) (aborted_is m first thread.0 thread.1)
+        ∙ (released_queues m first thread.0 (aborted thread.0) thread.1 (links_of m links first thread.0 thread.1) id
+        ∙ ap (option_map (without first)) queue
+        ∙ ap (λ x. Some x) (first_leaves first others (links.once id (first ∷ others) queue)))
+
+    same_result : with_waiters_aborted (with_aborted m first) id ≡ with_waiters_aborted m id
+    unfolding with_waiters_aborted
+    same_result =
+        ap (λ (q : Option (List ObjId)). fold with_aborted (with_aborted m first) (members q)) rest
+        ∙ sym (ap (λ (q : Option (List ObjId)). fold with_aborted m (members q)) queue)
+
+    less : length (members (queue_of (with_aborted m first) id)) < length (members (queue_of m id))
+    less =
+        let now : length (members (queue_of (with_aborted m first) id)) ≡ length others =
+        ap (λ (q : Option (List ObjId)). length (members q)) rest in
+        let was : length (members (queue_of m id)) ≡ length (first ∷ others) =
+        ap (λ (q : Option (List ObjId)). length (members q)) queue in
+        omega arith
+
+    pub first_aborted : FirstAborted m id first
+    first_aborted = record { agreed = links_aborted m links first thread.0 thread.1; same = same_result; fewer = less }
+
+  pub none_left : first_waiting m id ≡ None → with_waiters_aborted m id ≡ m
+  unfolding first_waiting with_waiters_aborted
+  none_left nobody = by_queue (queue_of m id) refl where
+    by_queue : (queue : Option (List ObjId)) → queue_of m id ≡ queue → with_waiters_aborted m id ≡ m
+    by_queue None is = rw is refl
+    by_queue (Some []) is = rw is refl
+    by_queue (Some (first ∷ rest)) is = let some = rw is at nobody in cc

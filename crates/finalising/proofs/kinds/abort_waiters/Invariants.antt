@@ -1,0 +1,16 @@
+-- Links stay agreed, and who still waits is left to be aborted.
+use Rattle.std.specs.Prelude.{◌≡◌, length}
+use Rattle.machine.specs.Machine.{queue_of}
+use Rattle.machine.specs.WellFormed.{LinksAgree}
+use Rattle.finalising.specs.Finalised.{members, with_waiters_aborted}
+use Rattle.finalising.proofs.kinds.abort_waiters.Given as goal
+
+abbrev pub invariant-loop-thread : goal.invariant-loop-thread
+invariant-loop-thread l =
+    record {
+      agreed : LinksAgree l.state;
+      same : with_waiters_aborted l.state l.id ≡ with_waiters_aborted l.fn.state l.id;
+    }
+
+abbrev pub decreases-loop-thread : goal.decreases-loop-thread
+decreases-loop-thread l = length (members (queue_of l.state l.id))

@@ -1,0 +1,47 @@
+-- Changes by which an object that goes loses its links, by its kind: who a reply holds is halted, who waits at an endpoint or a
+-- notification is aborted, and contexts and threads are unbound (seL4 manual, "Deletion, Revocation, and Recycling").
+use Rattle.std.specs.Prelude.{List, [], Option, Some, None}
+use Rattle.std.specs.List.{fold}
+use Rattle.base.specs.declared.ids.ObjId.{ObjId}
+use Rattle.machine.specs.declared.object.Object.{Object}
+use Rattle.machine.specs.declared.object.Object.TheVariants as o
+use Rattle.machine.specs.declared.object.ReplyState.{ReplyState}
+use Rattle.machine.specs.declared.object.ReplyState.TheVariants as reply
+use Rattle.machine.specs.Machine.{Machine, object_of, queue_of}
+use Rattle.finalising.specs.Releasing.{with_aborted, with_halted, with_unbound}
+
+-- the thread that a reply holds is halted
+unfoldable pub with_holder_halted : Machine → ObjId → Machine
+with_holder_halted m id = by_content (object_of m id) where
+  by_state : ReplyState → Machine
+  by_state (reply.Waiting thread) = with_halted m thread
+  by_state (reply.Called thread) = with_halted m thread
+  by_state reply.Free = m
+
+  by_content : Option Object → Machine
+  by_content (Some (o.Reply holding)) = by_state holding.state
+  by_content _ = m
+
+-- the threads of a queue, if there is one
+abbrev pub members : Option (List ObjId) → List ObjId
+members None = []
+members (Some threads) = threads
+
+-- each thread that waits at an object is aborted, the first first
+unfoldable pub with_waiters_aborted : Machine → ObjId → Machine
+with_waiters_aborted m id = fold with_aborted m (members (queue_of m id))
+
+-- the thread of a context, if it has one, is unbound
+abbrev pub with_link_cut : Machine → Option ObjId → Machine
+with_link_cut m None = m
+with_link_cut m (Some thread) = with_unbound m thread
+
+-- what an object that is no reply is linked to is so no more
+unfoldable pub with_links_cut : Machine → ObjId → Machine
+with_links_cut m id = by_content (object_of m id) where
+  by_content : Option Object → Machine
+  by_content (Some (o.Tcb _)) = with_unbound (with_halted m id) id
+  by_content (Some (o.Endpoint _)) = with_waiters_aborted m id
+  by_content (Some (o.Notification _)) = with_waiters_aborted m id
+  by_content (Some (o.Context context)) = with_link_cut m context.thread
+  by_content _ = m

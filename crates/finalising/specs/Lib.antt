@@ -1,0 +1,4 @@
+pub mod Finalised
+pub mod Pass
+pub mod Reached
+pub mod Releasing

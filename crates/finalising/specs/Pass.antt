@@ -1,0 +1,19 @@
+-- What a machine is where some of its objects go and nothing is linked to them any more: who stays is finalised, and who goes is in no
+-- queue, has no one in its own, and can be removed (seL4 manual, "Deletion, Revocation, and Recycling").
+use Rattle.std.specs.Prelude.{◌≡◌, Bool, true, false, None, option_map}
+use Rattle.base.specs.declared.ids.ObjId.{ObjId}
+use Rattle.machine.specs.Changes.{first_waiting}
+use Rattle.machine.specs.Finalising.{finalised, staying_in}
+use Rattle.machine.specs.Machine.{Machine, object_of, queue_of}
+use Rattle.machine.specs.Objects.{slot_count}
+use Rattle.objects.specs.Waiting.{WaitsNowhere}
+use Rattle.finalising.specs.Reached.{SameRest}
+
+pub record IsFinalised (old : Machine) (goes : ObjId → Bool) (now : Machine) : Type 0 where
+  pub objects : (id : ObjId) → goes id ≡ false → object_of now id ≡ option_map (finalised old goes) (object_of old id)
+  pub queues : (id : ObjId) → goes id ≡ false → queue_of now id ≡ option_map (staying_in old goes) (queue_of old id)
+  -- an object that goes is still there, with its slots
+  pub slots : (id : ObjId) → option_map slot_count (object_of now id) ≡ option_map slot_count (object_of old id)
+  pub deserted : (id : ObjId) → goes id ≡ true → first_waiting now id ≡ None
+  pub waits_nowhere : (id : ObjId) → goes id ≡ true → WaitsNowhere now id
+  pub rest : SameRest old now

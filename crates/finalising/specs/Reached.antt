@@ -1,0 +1,79 @@
+-- What a machine is where some of its threads were halted, some aborted and some unbound from their scheduling contexts, in whatever
+-- order: read off the machine as it was, object by object and queue by queue (seL4 manual, "Threads and Execution", "Endpoints",
+-- "Notifications" and "Scheduling Contexts").
+use Rattle.std.specs.Prelude.{◌≡◌, Bool, false, not, ◌||◌, List, filter, None, option_map, if◌then◌else◌}
+use Rattle.base.specs.declared.ids.ObjId.{ObjId}
+use Rattle.machine.specs.declared.object.Object.{Object}
+use Rattle.machine.specs.declared.object.Object.TheVariants as o
+use Rattle.machine.specs.declared.object.ReplyState.{ReplyState}
+use Rattle.machine.specs.declared.object.ReplyState.TheVariants as reply
+use Rattle.machine.specs.declared.thread.Inbox.TheVariants as inbox
+use Rattle.machine.specs.declared.thread.RunState.{RunState}
+use Rattle.machine.specs.declared.thread.RunState.TheVariants as state
+use Rattle.machine.specs.declared.thread.Tcb.{Tcb}
+use Rattle.machine.specs.Finalising.{link_after}
+use Rattle.machine.specs.Machine.{Machine, object_of, queue_of, same_id}
+
+-- which threads were halted, aborted and unbound
+pub record Reach : Type 0 where
+  pub halts : ObjId → Bool
+  pub aborts : ObjId → Bool
+  pub unbinds : ObjId → Bool
+
+abbrev pub nobody : Reach
+nobody = record { halts = λ _. false; aborts = λ _. false; unbinds = λ _. false }
+
+-- one more thread
+abbrev pub and_halted : Reach → ObjId → Reach
+and_halted reach thread = record reach { halts = λ id. same_id id thread || reach.halts id }
+
+abbrev pub and_aborted : Reach → ObjId → Reach
+and_aborted reach thread = record reach { aborts = λ id. same_id id thread || reach.aborts id }
+
+abbrev pub and_unbound : Reach → ObjId → Reach
+and_unbound reach thread = record reach { unbinds = λ id. same_id id thread || reach.unbinds id }
+
+-- whether a thread left its queue and its reply
+abbrev pub has_left : Reach → ObjId → Bool
+has_left reach thread = reach.halts thread || reach.aborts thread
+
+-- a thread's parts, by whether it was halted, aborted and unbound; one that was aborted may be halted later
+abbrev pub state_by : Bool → Bool → RunState → RunState
+state_by halts aborts run = if halts then state.Inactive else if aborts then state.Ready else run
+
+abbrev pub tcb_by : Bool → Bool → Bool → Tcb → Tcb
+tcb_by halts aborts unbinds tcb =
+    record tcb {
+      state = state_by halts aborts tcb.state;
+      inbox = if aborts then inbox.Aborted else tcb.inbox;
+      context = if unbinds then None else tcb.context;
+    }
+
+-- a reply is free where the thread that it held left
+abbrev pub reply_by : (ObjId → Bool) → ReplyState → ReplyState
+reply_by left (reply.Waiting thread) = if left thread then reply.Free else reply.Waiting thread
+reply_by left (reply.Called thread) = if left thread then reply.Free else reply.Called thread
+reply_by left reply.Free = reply.Free
+
+abbrev pub object_by : Reach → ObjId → Object → Object
+object_by reach id (o.Tcb tcb) = o.Tcb (tcb_by (reach.halts id) (reach.aborts id) (reach.unbinds id) tcb)
+object_by reach id (o.Reply holding) = o.Reply (record holding { state = reply_by (has_left reach) holding.state })
+object_by reach id (o.Context context) = o.Context (record context { thread = link_after reach.unbinds context.thread })
+object_by reach id object = object
+
+-- those of a queue who left no queue
+abbrev pub queue_by : Reach → List ObjId → List ObjId
+queue_by reach threads = filter (λ thread. not (has_left reach thread)) threads
+
+-- words, capabilities, the derivation tree, the next number and what is going are the same
+pub record SameRest (old now : Machine) : Type 0 where
+  pub words : now.words ≡ old.words
+  pub caps : now.caps ≡ old.caps
+  pub parents : now.parents ≡ old.parents
+  pub next : now.next ≡ old.next
+  pub going : now.going ≡ old.going
+
+pub record IsReached (old : Machine) (reach : Reach) (now : Machine) : Type 0 where
+  pub objects : (id : ObjId) → object_of now id ≡ option_map (object_by reach id) (object_of old id)
+  pub queues : (id : ObjId) → queue_of now id ≡ option_map (queue_by reach) (queue_of old id)
+  pub rest : SameRest old now

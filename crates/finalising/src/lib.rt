@@ -1,0 +1,10 @@
+//! What becomes of threads and links where objects go: blocked threads are released, and threads and
+//! scheduling contexts are unbound.
+#![tactic(auto)]
+
+mod kinds;
+mod pass;
+mod release;
+
+pub use pass::finalise;
+pub use release::{abort, free, halt, unbind};

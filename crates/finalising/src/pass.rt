@@ -1,0 +1,27 @@
+ghost use Rattle.std.specs.Prelude.{◌≡◌};
+ghost use Rattle.std.specs.List.{list_any};
+ghost use Rattle.machine.specs.Machine.{same_id};
+ghost use Rattle.machine.specs.WellFormed.{LinksAgree};
+ghost use Rattle.finalising.specs.Pass.{IsFinalised};
+
+use crate::kinds::{cut_links, halt_holder};
+use objects::State;
+
+/// Releases who waits for an object that is going, and cuts all links to such objects. Who is reached
+/// by a reply is halted first, so that it isn't aborted.
+pub fn finalise(state: &mut State)
+    requires { LinksAgree state.old }
+    ensures { IsFinalised state.old (λ id. list_any (same_id id) state.old.going) state.new }
+{
+    let count = state.going_count();
+    for place in 0..count {
+        if let Some(id) = state.going(place) {
+            halt_holder(state, id);
+        }
+    }
+    for index in 0..count {
+        if let Some(id) = state.going(index) {
+            cut_links(state, id);
+        }
+    }
+}

@@ -1,0 +1,45 @@
+-- What the look-ups answer after a slot is emptied: it is empty, and the other slots, the objects and the tree are as they were.
+use Rattle.std.proofs.Common.{◌≡◌, Bool, true, false, cond, refl, sym, ap, ◌∙◌}
+use Rattle.std.specs.Prelude.{Option, Some, None, ◌==◌}
+use Rattle.base.specs.declared.ids.ObjId.{ObjId}
+use Rattle.base.specs.declared.ids.SlotRef.{SlotRef}
+use Rattle.machine.specs.declared.cap.Cap.{Cap}
+use Rattle.machine.specs.Changes.{with_going}
+use Rattle.machine.specs.Counts.{caps_to}
+use Rattle.machine.specs.Machine.{Machine, same_slot, cap_of, without_cap}
+use Rattle.machine.proofs.CapCounts.{without_nothing}
+use Rattle.removal.specs.UnderWay.{emptied}
+use Rattle.removal.proofs.Emptying.{cap_of-with_going, cap_of-without_cap}
+
+module _ (m : Machine) (slot : SlotRef) where
+  pub cap_of-emptied : (q : SlotRef) → cap_of (emptied m slot) q ≡ cond (same_slot q slot) None (cap_of m q)
+  unfolding emptied
+  cap_of-emptied q = by_cap (cap_of m slot) refl where
+    by_count :
+        (id : ObjId) (b : Bool)
+        → cap_of (cond b (with_going (without_cap m slot) id) (without_cap m slot)) q ≡ cond (same_slot q slot) None (cap_of m q)
+    by_count id true = cap_of-with_going (without_cap m slot) id q ∙ cap_of-without_cap m slot q
+    by_count id false = cap_of-without_cap m slot q
+
+    by_cap : (found : Option Cap) → cap_of m slot ≡ found → cap_of (emptied m slot) q ≡ cond (same_slot q slot) None (cap_of m q)
+    by_cap None is = rw is (ap (λ (n : Machine). cap_of n q) (sym (without_nothing m slot is)) ∙ cap_of-without_cap m slot q)
+    by_cap (Some held) is = rw is (by_count held.object (caps_to (without_cap m slot) held.object == 0))
+
+  pub rest-emptied : emptied m slot ≡ record m { caps = (emptied m slot).caps; going = (emptied m slot).going }
+  unfolding emptied with_going without_cap
+  rest-emptied = by_cap (cap_of m slot) refl where
+    by_count :
+        (id : ObjId) (b : Bool)
+        → cond b (with_going (without_cap m slot) id) (without_cap m slot)
+        ≡ record m {
+          caps = (cond b (with_going (without_cap m slot) id) (without_cap m slot)).caps;
+          going = (cond b (with_going (without_cap m slot) id) (without_cap m slot)).going;
+        }
+    by_count id true = refl
+    by_count id false = refl
+
+    by_cap :
+        (found : Option Cap) → cap_of m slot ≡ found
+        → emptied m slot ≡ record m { caps = (emptied m slot).caps; going = (emptied m slot).going }
+    by_cap None is = rw is refl
+    by_cap (Some held) is = rw is (by_count held.object (caps_to (without_cap m slot) held.object == 0))

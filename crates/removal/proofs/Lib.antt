@@ -1,0 +1,13 @@
+pub mod Fitting
+pub mod Emptying
+pub mod EmptiedLooks
+pub mod Ending
+pub mod Going
+pub mod Turns
+pub mod Cascading
+pub mod Beside
+pub mod Chosen
+pub mod Clearing
+pub mod Dropped
+pub mod Swept
+pub mod Finds

@@ -1,0 +1,13 @@
+-- What descends from the slot is out of the tree and empty, or still descends from it. Each turn leaves one pair less.
+use Rattle.std.specs.Prelude.{is_some}
+use Rattle.std.specs.FinMap.{keys}
+use Rattle.std.specs.List.{count_by}
+use Rattle.machine.specs.Machine.{parent_of}
+use Rattle.removal.proofs.Clearing.{Clears}
+use Rattle.removal.proofs.choosing.empty_all_below.Given as goal
+
+abbrev pub invariant-loop-child : goal.invariant-loop-child
+invariant-loop-child l = Clears l.fn.state l.above l.state
+
+abbrev pub decreases-loop-child : goal.decreases-loop-child
+decreases-loop-child l = count_by (λ q. is_some (parent_of l.state q)) (keys l.fn.state.parents)

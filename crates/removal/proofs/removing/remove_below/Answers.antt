@@ -1,0 +1,17 @@
+use Rattle.machine.specs.Below.{is_below}
+use Rattle.removal.proofs.Finds.{below_found}
+use Rattle.removal.proofs.removing.remove_below.Goals as goal
+
+pub sweep-requires : goal.sweep-requires
+sweep-requires c =
+    let e = c.empty_all_below.ensures in (
+      c.args.state.now,
+      is_below c.args.state.now c.args.above,
+      below_found c.args.state.now c.args.above c.empty_all_below.new.state c.requires e.emptied e.going e.parents,
+    )
+
+pub returns : goal.returns
+returns c =
+    let e = c.empty_all_below.ensures in
+    c.sweep.ensures c.args.state.now (is_below c.args.state.now c.args.above)
+    (below_found c.args.state.now c.args.above c.empty_all_below.new.state c.requires e.emptied e.going e.parents)

@@ -1,0 +1,3 @@
+pub mod UnderWay
+pub mod Dropping
+pub mod Sweeping

@@ -1,0 +1,51 @@
+ghost use Rattle.std.specs.Prelude.{◌≡◌};
+ghost use Rattle.machine.specs.Makes.{Makes};
+ghost use Rattle.machine.specs.Step.Delete.{delete_of};
+ghost use Rattle.machine.specs.Step.Revoke.{revoke_of};
+ghost use Rattle.machine.specs.WellFormed.{IsWellFormed};
+
+use crate::removing::{remove, remove_below};
+use base::{Cause, ObjId};
+use cnodeops::target;
+use machine::{Answer, Made, SlotAddress, removals_keep_machines_well_formed};
+use objects::State;
+
+/// Removes the capability in the slot that the caller names, and all that can't stay without it (seL4
+/// manual, seL4_CNode_Delete): the slots of CNodes and threads that lose their last capability, and what
+/// these hold. An empty slot stays as it is.
+///
+/// It takes time in what goes and in what is linked to that, and no memory.
+#[tactic(auto, unfolding(machine::specs::Step::Delete::delete_of))]
+pub fn delete(state: &mut State, caller: ObjId, address: SlotAddress) -> Result<Made, Cause>
+    requires well_formed { IsWellFormed state.old }
+    ensures row { Makes state.old state.new result (delete_of state.old caller address) }
+    ensures well_formed { IsWellFormed state.new }
+{
+    // A law, so that the state stays well formed.
+    removals_keep_machines_well_formed();
+    let slot = target(state, caller, address)?;
+    if let Some(_) = state.cap(slot) {
+        remove(state, slot);
+    }
+    Ok(Made::Done(Answer::Nothing))
+}
+
+/// Removes all that descends from the capability in the slot that the caller names, and what can't stay
+/// without it (seL4 manual, seL4_CNode_Revoke). The capability itself stays, unless its slot is one of
+/// those that go.
+///
+/// It takes time in what goes and in what is linked to that, and no memory.
+#[tactic(auto, unfolding(machine::specs::Step::Revoke::revoke_of))]
+pub fn revoke(state: &mut State, caller: ObjId, address: SlotAddress) -> Result<Made, Cause>
+    requires well_formed { IsWellFormed state.old }
+    ensures row { Makes state.old state.new result (revoke_of state.old caller address) }
+    ensures well_formed { IsWellFormed state.new }
+{
+    // A law, so that the state stays well formed.
+    removals_keep_machines_well_formed();
+    let slot = target(state, caller, address)?;
+    if let Some(_) = state.cap(slot) {
+        remove_below(state, slot);
+    }
+    Ok(Made::Done(Answer::Nothing))
+}

@@ -1,0 +1,30 @@
+ghost use Rattle.std.specs.Prelude.{◌≡◌};
+ghost use Rattle.machine.specs.Below.{is_below};
+ghost use Rattle.machine.specs.Machine.{same_slot};
+ghost use Rattle.machine.specs.Removal.{removed};
+ghost use Rattle.machine.specs.WellFormed.{IsWellFormed};
+
+use crate::choosing::{empty_all_below, empty_all_with};
+use crate::sweeping::sweep;
+use base::SlotRef;
+use objects::State;
+
+/// Empties a slot, and removes all that can't stay without it (seL4 manual, "Deletion, Revocation, and
+/// Recycling"). It takes time in what goes and what is linked to that.
+pub fn remove(state: &mut State, slot: SlotRef)
+    requires { IsWellFormed state.old }
+    ensures { state.new ≡ removed state.old (same_slot slot) }
+{
+    empty_all_with(state, slot);
+    sweep(state);
+}
+
+/// Empties the slots that descend from one, and removes all that can't stay without them. It takes time
+/// in what goes and what is linked to that.
+pub(crate) fn remove_below(state: &mut State, above: SlotRef)
+    requires { IsWellFormed state.old }
+    ensures { state.new ≡ removed state.old (is_below state.old above) }
+{
+    empty_all_below(state, above);
+    sweep(state);
+}

@@ -1,0 +1,22 @@
+ghost use Rattle.std.specs.Prelude.{◌≡◌, Bool};
+ghost use Rattle.base.specs.declared.ids.SlotRef.{SlotRef as Slot};
+ghost use Rattle.machine.specs.Machine.{Machine};
+ghost use Rattle.machine.specs.Removal.{removed};
+ghost use Rattle.removal.specs.Sweeping.{IsFound};
+
+use crate::dropping::drop_going;
+use derivation::leave_tree;
+use finalising::finalise;
+use objects::State;
+
+/// Ends a removal whose slots are all empty: what still is in the derivation tree leaves it, who waited
+/// for what goes is released, and the objects that are going go.
+pub(crate) fn sweep(state: &mut State)
+    requires { (m : Machine) × (chosen : Slot → Bool) × IsFound m chosen state.old }
+    ensures { (m : Machine) (chosen : Slot → Bool) → IsFound m chosen state.old → state.new ≡ removed m chosen }
+{
+    state.keeps_a_forest();
+    leave_tree(state);
+    finalise(state);
+    drop_going(state);
+}
