@@ -3,7 +3,7 @@ use Rattle.std.proofs.Common.{◌≡◌, ℕ, ◌<◌, ◌^◌, List, ◌++◌, 
 use Rattle.std.specs.Bool.{⊤}
 use Rattle.std.specs.List.{AllByRecursion}
 use Rattle.machine.specs.declared.call.Call.{Call}
-use Rattle.machine.specs.declared.call.Call.TheVariants.{Signal, Poll, Wait, Copy, Mint, Move, Retype}
+use Rattle.machine.specs.declared.call.Call.TheVariants.{Signal, Poll, Wait, Copy, Mint, Move, Delete, Revoke, Retype}
 use Rattle.machine.specs.declared.call.Event.{Event}
 use Rattle.machine.specs.Spelling.{call_words, event_words}
 use Rattle.words.specs.Parts.{by_word, keyed, IsPart}
@@ -12,7 +12,7 @@ use Rattle.words.specs.Text.{IsPlainLine, IsPlainWord}
 use Rattle.words.proofs.Parts.{after_word, both_parts, keyed_part, number_part, part_as, read_as_again}
 use Rattle.words.proofs.WordLaws.{plain_bytes, plain_decimal}
 use Rattle.evtext.specs.Event.{call_at, copy_at, copy_call, event_at, event_of, mint_at, mint_call, move_at, move_call, retype_at, retype_call, HasNumbers, HasWords}
-use Rattle.evtext.proofs.CallParts.{copy_operands, mint_operands, move_operands, retype_operands}
+use Rattle.evtext.proofs.CallParts.{copy_operands, mint_operands, move_operands, retype_operands, slot_address_part}
 
 -- the numbers of a retype, part by part
 retype_fits : {untyped bits to offset count : ℕ}
@@ -32,6 +32,8 @@ call_again (Copy to from rights) rest fits =
 call_again (Mint to from rights given) rest fits =
     read_as_again mint_operands mint_call (to, (from, (rights, given))) rest (fits.0, (fits.1, (fits.2, fits.3)))
 call_again (Move to from) rest fits = read_as_again move_operands move_call (to, from) rest fits
+call_again (Delete slot) rest fits = read_as_again slot_address_part Delete slot rest fits
+call_again (Revoke slot) rest fits = read_as_again slot_address_part Revoke slot rest fits
 call_again (Retype untyped kind bits to offset count) rest fits =
     read_as_again retype_operands retype_call (untyped, (kind, (bits, (to, (offset, count))))) rest (retype_fits fits)
 
@@ -44,6 +46,8 @@ plain_call (Copy to from rights) fits =
 plain_call (Mint to from rights given) fits =
     (plain_bytes (codes "mint") refl, mint_operands.plain (to, (from, (rights, given))) (fits.0, (fits.1, (fits.2, fits.3))))
 plain_call (Move to from) fits = (plain_bytes (codes "move") refl, move_operands.plain (to, from) fits)
+plain_call (Delete slot) fits = (plain_bytes (codes "delete") refl, slot_address_part.plain slot fits)
+plain_call (Revoke slot) fits = (plain_bytes (codes "revoke") refl, slot_address_part.plain slot fits)
 plain_call (Retype untyped kind bits to offset count) fits = (
   plain_bytes (codes "retype") refl,
   retype_operands.plain (untyped, (kind, (bits, (to, (offset, count))))) (retype_fits fits),
@@ -65,9 +69,15 @@ call_part = keyed_part call_words HasWords _ (
           (
             after_word move_operands (codes "move") move_call call_words HasWords (λ parts. refl) (λ parts is. is),
             (
-              after_word retype_operands (codes "retype") retype_call call_words HasWords (λ parts. refl)
-                  (λ parts is. (is.0, is.1.1.0, is.1.1.1.0, is.1.1.1.1.0, is.1.1.1.1.1)),
-              tt,
+              after_word slot_address_part (codes "delete") Delete call_words HasWords (λ slot. refl) (λ slot is. is),
+              (
+                after_word slot_address_part (codes "revoke") Revoke call_words HasWords (λ slot. refl) (λ slot is. is),
+                (
+                  after_word retype_operands (codes "retype") retype_call call_words HasWords (λ parts. refl)
+                      (λ parts is. (is.0, is.1.1.0, is.1.1.1.0, is.1.1.1.1.0, is.1.1.1.1.1)),
+                  tt,
+                ),
+              ),
             ),
           ),
         ),

@@ -5,7 +5,7 @@ use Rattle.base.specs.declared.limits.TheConstants.{MAX_EVENTS}
 use Rattle.base.specs.declared.rights.Rights.{Rights}
 use Rattle.base.specs.Rights.{rights_of_word, IsRights}
 use Rattle.machine.specs.declared.call.Call.{Call}
-use Rattle.machine.specs.declared.call.Call.TheVariants.{Signal, Poll, Wait, Copy, Mint, Move, Retype}
+use Rattle.machine.specs.declared.call.Call.TheVariants.{Signal, Poll, Wait, Copy, Mint, Move, Delete, Revoke, Retype}
 use Rattle.machine.specs.declared.call.CapData.{CapData}
 use Rattle.machine.specs.declared.call.CapData.TheVariants.{Badge, Guard}
 use Rattle.machine.specs.declared.call.Event.{Event}
@@ -91,6 +91,8 @@ call_at = keyed (
     ∷ (codes "copy", copy_at)
     ∷ (codes "mint", mint_at)
     ∷ (codes "move", move_at)
+    ∷ (codes "delete", read_as Delete slot_address_at)
+    ∷ (codes "revoke", read_as Revoke slot_address_at)
     ∷ (codes "retype", retype_at)
     ∷ [])
 
@@ -123,6 +125,8 @@ HasWords (Wait address) = address < 2 ^ 64
 HasWords (Copy to from rights) = IsSlotAddress to × IsSlotAddress from × IsRights rights
 HasWords (Mint to from rights given) = IsSlotAddress to × IsSlotAddress from × IsRights rights × IsData given
 HasWords (Move to from) = IsSlotAddress to × IsSlotAddress from
+HasWords (Delete slot) = IsSlotAddress slot
+HasWords (Revoke slot) = IsSlotAddress slot
 HasWords (Retype untyped kind bits to offset count) =
     (untyped < 2 ^ 64) × (bits < 2 ^ 64) × (to < 2 ^ 64) × (offset < 2 ^ 64) × (count < 2 ^ 64)
 

@@ -71,6 +71,12 @@ fn next_call(words: &mut Words<'_>) -> Result<Call, Wrong>
         next_mint(words)
     } else if name == b"move".as_slice() {
         next_move(words)
+    } else if name == b"delete".as_slice() {
+        let slot = next_slot_address(words)?;
+        Ok(Call::Delete { slot })
+    } else if name == b"revoke".as_slice() {
+        let slot = next_slot_address(words)?;
+        Ok(Call::Revoke { slot })
     } else if name == b"retype".as_slice() {
         next_retype(words)
     } else {

@@ -28,12 +28,14 @@ pub(crate) enum Form {
     Copy,
     Mint,
     Move,
+    Delete,
+    Revoke,
     Retype,
 }
 
 impl Form {
     /// All forms, those of a text in the order in which its lines may come.
-    pub(crate) const ALL: [Form; 25] = [
+    pub(crate) const ALL: [Form; 27] = [
         Form::Label,
         Form::Untyped,
         Form::CNode,
@@ -58,6 +60,8 @@ impl Form {
         Form::Copy,
         Form::Mint,
         Form::Move,
+        Form::Delete,
+        Form::Revoke,
         Form::Retype,
     ];
 
@@ -75,6 +79,8 @@ impl Form {
             | Form::Copy
             | Form::Mint
             | Form::Move
+            | Form::Delete
+            | Form::Revoke
             | Form::Retype => Text::Script,
             _ => Text::Table,
         }
@@ -106,6 +112,8 @@ impl Form {
             Form::Copy => "copy",
             Form::Mint => "mint",
             Form::Move => "move",
+            Form::Delete => "delete",
+            Form::Revoke => "revoke",
             Form::Retype => "retype",
         }
     }
@@ -139,6 +147,8 @@ impl Form {
                 "`DEC DEC mint DEC DEC DEC DEC DEC DEC RIGHTS` and `badge DEC` or `guard DEC DEC`"
             }
             Form::Move => "`DEC DEC move DEC DEC DEC DEC DEC DEC`",
+            Form::Delete => "`DEC DEC delete DEC DEC DEC`",
+            Form::Revoke => "`DEC DEC revoke DEC DEC DEC`",
             Form::Retype => "`DEC DEC retype DEC KIND DEC DEC DEC DEC`",
         }
     }

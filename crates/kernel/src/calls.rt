@@ -13,6 +13,7 @@ use base::{Cause, Refusal};
 use cnodeops::{copy, mint, move_cap};
 use machine::{Call, Event, Made, Outcome, steps_keep_machines_well_formed};
 use objects::State;
+use removal::{delete, revoke};
 use untyped::retype;
 
 /// Makes the call of an event, once its thread is admitted.
@@ -34,6 +35,8 @@ fn make(state: &mut State, event: Event) -> Result<Made, Cause>
             given,
         } => mint(state, event.thread, to, from, rights, given),
         Call::Move { to, from } => move_cap(state, event.thread, to, from),
+        Call::Delete { slot } => delete(state, event.thread, slot),
+        Call::Revoke { slot } => revoke(state, event.thread, slot),
         Call::Retype {
             untyped,
             kind,

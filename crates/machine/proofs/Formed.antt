@@ -1,21 +1,26 @@
 -- Each step keeps a well-formed machine well formed.
 use Rattle.std.proofs.Common.{◌≡◌, ℕ, ◌⊎◌, inl, inr, List, [], ◌∷◌, ◌++◌, refl, sym, ap, subst, ◌∙◌}
-use Rattle.std.specs.Prelude.{Some, None, option_map, if◌then◌else◌}
+use Rattle.std.specs.Prelude.{Bool, Some, None, option_map, if◌then◌else◌}
 use Rattle.base.specs.declared.ids.ObjId.{ObjId}
+use Rattle.base.specs.declared.ids.SlotRef.{SlotRef}
 use Rattle.machine.specs.declared.call.Call.{Call}
 use Rattle.machine.specs.declared.call.Call.TheVariants as call
 use Rattle.machine.specs.declared.call.Event.{Event}
 use Rattle.machine.specs.declared.call.Outcome.{Outcome}
+use Rattle.machine.specs.declared.cap.Cap.{Cap}
 use Rattle.machine.specs.declared.object.Notification.{Notification}
 use Rattle.machine.specs.declared.object.Object.TheVariants as o
 use Rattle.machine.specs.declared.object.ObjectKind.{ObjectKind}
 use Rattle.machine.specs.declared.object.ObjectKind.TheVariants as kind
+use Rattle.machine.specs.declared.slot_address.SlotAddress.{SlotAddress}
 use Rattle.machine.specs.declared.thread.Inbox.TheVariants as inbox
 use Rattle.machine.specs.declared.thread.RunState.{RunState}
 use Rattle.machine.specs.declared.thread.RunState.TheVariants as state
 use Rattle.machine.specs.declared.thread.Tcb.{Tcb}
-use Rattle.machine.specs.Machine.{Machine, object_of, queue_of, same_id, with_object, with_queue}
+use Rattle.machine.specs.Below.{is_below}
+use Rattle.machine.specs.Machine.{Machine, cap_of, object_of, queue_of, same_id, same_slot, with_object, with_queue}
 use Rattle.machine.specs.Objects.{kind_of_object}
+use Rattle.machine.specs.Removal.{removed}
 use Rattle.machine.specs.Run.{Run}
 use Rattle.machine.specs.Step.{Step}
 use Rattle.machine.specs.WellFormed.{IsThread, IsWellFormed, LinksAgree, WaitsAtKind}
@@ -28,6 +33,8 @@ use Rattle.machine.proofs.LookUps.{object_of-with_object, object_of-with_queue, 
 use Rattle.machine.proofs.Outlines.{Steady, object_steady, queue_steady, steady_steady, slots_kept, parts_kept, numbers_kept}
 use Rattle.machine.proofs.PollRow.{PollDone}
 use Rattle.machine.proofs.Queues.{first_in}
+use Rattle.machine.proofs.RemovalLinks.{removed_formed}
+use Rattle.machine.proofs.RemovalRows.{RemovalDone}
 use Rattle.machine.proofs.RetypeFormed.{retype_formed}
 use Rattle.machine.proofs.SignalRow.{SignalDone, Wakes, marked, roused}
 use Rattle.machine.proofs.ThreadLinks.{NamesNoReply, links_moved}
@@ -163,6 +170,16 @@ wait_formed m caller address next formed is done = by_case done.changes where
       (word_formed m done.open_to.id done.open_to.notification _ done.open_to.there refl formed)
   by_case (inr blocks) = blocks_formed m next caller done.open_to.id done.open_to.notification formed is done.open_to.there blocks
 
+removal_formed :
+    (m : Machine) (caller : ObjId) (address : SlotAddress) (chosen : SlotRef → SlotRef → Bool) (next : Machine) → IsWellFormed m
+    → RemovalDone m caller address chosen next → IsWellFormed next
+removal_formed m caller address chosen next formed done = by_case done.after where
+  by_case :
+      ((cap_of m done.slot ≡ None) × (next ≡ m))
+      ⊎ ((held : Cap) × (cap_of m done.slot ≡ Some held) × (next ≡ removed m (chosen done.slot))) → IsWellFormed next
+  by_case (inl none) = subst IsWellFormed (sym none.1) formed
+  by_case (inr some) = subst IsWellFormed (sym some.2) (removed_formed m (chosen done.slot) formed)
+
 call_formed :
     (m : Machine) (caller : ObjId) (which : Call) (next : Machine) → IsWellFormed m → IsCaller m caller
     → CallDone m caller which next → IsWellFormed next
@@ -172,6 +189,8 @@ call_formed m caller (call.Wait address) next formed is = wait_formed m caller a
 call_formed m caller (call.Copy to from rights) next formed is = derives_formed m caller to from next formed
 call_formed m caller (call.Mint to from rights gift) next formed is = derives_formed m caller to from next formed
 call_formed m caller (call.Move to from) next formed is = move_formed m caller to from next formed
+call_formed m caller (call.Delete slot) next formed is = removal_formed m caller slot same_slot next formed
+call_formed m caller (call.Revoke slot) next formed is = removal_formed m caller slot (is_below m) next formed
 call_formed m caller (call.Retype untyped of bits to offset count) next formed is =
     retype_formed m caller untyped of bits to offset count next formed
 

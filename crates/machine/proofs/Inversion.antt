@@ -8,13 +8,15 @@ use Rattle.machine.specs.declared.call.Call.TheVariants as call
 use Rattle.machine.specs.declared.call.Event.{Event}
 use Rattle.machine.specs.declared.call.Made.{Made}
 use Rattle.machine.specs.declared.call.Outcome.{Outcome}
-use Rattle.machine.specs.Machine.{Machine}
+use Rattle.machine.specs.Below.{is_below}
+use Rattle.machine.specs.Machine.{Machine, same_slot}
 use Rattle.machine.specs.Step.{Step, step_of, settled, made_by, call_of, admitted}
 use Rattle.machine.specs.Step.Step.{ends, lacks}
 use Rattle.machine.specs.WellFormed.{IsWellFormed}
 use Rattle.machine.proofs.Admission.{IsCaller, admits}
 use Rattle.machine.proofs.Conditions.{both_done}
 use Rattle.machine.proofs.PollRow.{PollDone, poll_done}
+use Rattle.machine.proofs.RemovalRows.{RemovalDone, delete_done, revoke_done}
 use Rattle.machine.proofs.RetypeRow.{RetypeDone, retype_done}
 use Rattle.machine.proofs.SignalRow.{SignalDone, signal_done}
 use Rattle.machine.proofs.SlotRows.{Derives, MoveDone, copy_done, mint_done, move_done}
@@ -28,6 +30,8 @@ CallDone m caller (call.Wait address) next = WaitDone m caller address next
 CallDone m caller (call.Copy to from rights) next = Derives m caller to from next
 CallDone m caller (call.Mint to from rights given) next = Derives m caller to from next
 CallDone m caller (call.Move to from) next = MoveDone m caller to from next
+CallDone m caller (call.Delete slot) next = RemovalDone m caller slot same_slot next
+CallDone m caller (call.Revoke slot) next = RemovalDone m caller slot (is_below m) next
 CallDone m caller (call.Retype untyped kind bits to offset count) next = RetypeDone m caller untyped kind bits to offset count next
 
 call_done :
@@ -40,6 +44,8 @@ call_done m caller (call.Copy to from rights) made next formed is = copy_done m 
 call_done m caller (call.Mint to from rights gift) made next formed is =
     mint_done m caller to from rights gift made next formed
 call_done m caller (call.Move to from) made next formed is = move_done m caller to from made next
+call_done m caller (call.Delete slot) made next formed is = delete_done m caller slot made next
+call_done m caller (call.Revoke slot) made next formed is = revoke_done m caller slot made next
 call_done m caller (call.Retype untyped kind bits to offset count) made next formed is =
     retype_done m caller untyped kind bits to offset count made next
 

@@ -36,6 +36,8 @@ call_words (call.Copy to from rights) =
 call_words (call.Mint to from rights gift) =
     codes "mint" ∷ (slot_address_words to ++ (slot_address_words from ++ rights_word rights ∷ data_words gift))
 call_words (call.Move to from) = codes "move" ∷ (slot_address_words to ++ slot_address_words from)
+call_words (call.Delete slot) = codes "delete" ∷ slot_address_words slot
+call_words (call.Revoke slot) = codes "revoke" ∷ slot_address_words slot
 call_words (call.Retype untyped kind bits to offset count) =
     codes "retype"
     ∷ decimal untyped

@@ -28,15 +28,17 @@ pub mod Target
 pub mod Copy
 pub mod Mint
 pub mod Move
-pub mod Retype
 pub mod Delete
 pub mod Revoke
+pub mod Retype
 use Rattle.machine.specs.Step.Signal.{signal_of}
 use Rattle.machine.specs.Step.Poll.{poll_of}
 use Rattle.machine.specs.Step.Wait.{wait_of}
 use Rattle.machine.specs.Step.Copy.{copy_of}
 use Rattle.machine.specs.Step.Mint.{mint_of}
 use Rattle.machine.specs.Step.Move.{move_of}
+use Rattle.machine.specs.Step.Delete.{delete_of}
+use Rattle.machine.specs.Step.Revoke.{revoke_of}
 use Rattle.machine.specs.Step.Retype.{retype_of}
 
 -- the core, budget and period of a context, if it is one and configured
@@ -79,6 +81,8 @@ call_of m caller (call.Wait address) = wait_of m caller address
 call_of m caller (call.Copy to from rights) = copy_of m caller to from rights
 call_of m caller (call.Mint to from rights given) = mint_of m caller to from rights given
 call_of m caller (call.Move to from) = move_of m caller to from
+call_of m caller (call.Delete slot) = delete_of m caller slot
+call_of m caller (call.Revoke slot) = revoke_of m caller slot
 call_of m caller (call.Retype untyped kind bits to offset count) = retype_of m caller untyped kind bits to offset count
 
 -- what an event comes to: its thread is admitted, and then makes its call
@@ -104,6 +108,8 @@ takes_memory (call.Wait _) = Bool.false
 takes_memory (call.Copy _ _ _) = Bool.false
 takes_memory (call.Mint _ _ _ _) = Bool.false
 takes_memory (call.Move _ _) = Bool.false
+takes_memory (call.Delete _) = Bool.false
+takes_memory (call.Revoke _) = Bool.false
 takes_memory (call.Retype _ _ _ _ _ _) = Bool.true
 
 -- the event could be made, but takes memory that isn't there

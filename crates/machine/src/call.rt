@@ -46,6 +46,16 @@ pub enum Call {
         to: SlotAddress,
         from: SlotAddress,
     },
+    /// Removes the capability in the slot, and all that can't stay without it (seL4 manual,
+    /// seL4_CNode_Delete).
+    Delete {
+        slot: SlotAddress,
+    },
+    /// Removes all that descends from the capability in the slot, and what can't stay without that
+    /// (seL4 manual, seL4_CNode_Revoke).
+    Revoke {
+        slot: SlotAddress,
+    },
     /// Makes objects of a kind of the untyped memory at the address, and puts their capabilities into
     /// empty slots, one after another, of the CNode at another (seL4 manual, seL4_Untyped_Retype).
     Retype {

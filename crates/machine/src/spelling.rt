@@ -43,6 +43,8 @@ impl fmt::Display for Call {
                 given,
             } => write!(f, "mint {to} {from} {rights} {given}"),
             Call::Move { to, from } => write!(f, "move {to} {from}"),
+            Call::Delete { slot } => write!(f, "delete {slot}"),
+            Call::Revoke { slot } => write!(f, "revoke {slot}"),
             Call::Retype {
                 untyped,
                 kind,

@@ -4,7 +4,6 @@ use Rattle.std.proofs.Common.{◌≡◌, ℕ, ◌⊎◌, inl, inr, Bool, Some, N
 use Rattle.base.specs.declared.ids.ObjId.{ObjId}
 use Rattle.base.specs.declared.ids.SlotRef.{SlotRef}
 use Rattle.machine.specs.declared.call.Event.{Event}
-use Rattle.machine.specs.declared.call.Made.{Made}
 use Rattle.machine.specs.declared.cap.Cap.{Cap}
 use Rattle.machine.specs.declared.slot_address.SlotAddress.{SlotAddress}
 use Rattle.machine.specs.Authority.{label_of}
@@ -12,12 +11,10 @@ use Rattle.machine.specs.Below.{is_below}
 use Rattle.machine.specs.Layout.{Layout}
 use Rattle.machine.specs.Machine.{Machine, cap_of, same_slot}
 use Rattle.machine.specs.Removal.{removed}
-use Rattle.machine.specs.Step.Delete.{delete_of}
-use Rattle.machine.specs.Step.Revoke.{revoke_of}
 use Rattle.machine.specs.Step.Target.{target_of}
 use Rattle.machine.proofs.BelowLemmas.{below_decided}
 use Rattle.machine.proofs.LookUps.{one_slot}
-use Rattle.machine.proofs.RemovalRows.{RemovalDone, delete_done, revoke_done}
+use Rattle.machine.proofs.RemovalRows.{RemovalDone}
 use Rattle.machine.proofs.SlotRows.{target_leads}
 use Rattle.policy.specs.Closed.{IsClosed}
 use Rattle.policy.specs.Domain.{EdgeTest}
@@ -93,12 +90,8 @@ module _
           subst (λ (n : Machine). Keeps t allowed m event a m n) (sym some.2)
           (removed_keeps t allowed m (chosen done.slot) sound closed m event a (may done.slot done.found))
 
-  pub delete_keeps : (made : Made) → delete_of m caller address ≡ Ok (made, next) → IsSound t allowed next × Keeps t allowed m event a m next
-  delete_keeps made e =
-      let done = delete_done m caller address made next e in
-      (done_sound same_slot may_delete done, done_keeps same_slot may_delete done)
+  pub delete_keeps : RemovalDone m caller address same_slot next → IsSound t allowed next × Keeps t allowed m event a m next
+  delete_keeps done = (done_sound same_slot may_delete done, done_keeps same_slot may_delete done)
 
-  pub revoke_keeps : (made : Made) → revoke_of m caller address ≡ Ok (made, next) → IsSound t allowed next × Keeps t allowed m event a m next
-  revoke_keeps made e =
-      let done = revoke_done m caller address made next e in
-      (done_sound (is_below m) may_revoke done, done_keeps (is_below m) may_revoke done)
+  pub revoke_keeps : RemovalDone m caller address (is_below m) next → IsSound t allowed next × Keeps t allowed m event a m next
+  revoke_keeps done = (done_sound (is_below m) may_revoke done, done_keeps (is_below m) may_revoke done)

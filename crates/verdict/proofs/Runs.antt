@@ -25,6 +25,7 @@ use Rattle.verdict.specs.Safe.{IsReached, IsSafe}
 use Rattle.verdict.specs.Shrinks.{IsSame}
 use Rattle.verdict.proofs.Keeps.{Acts, Keeps}
 use Rattle.verdict.proofs.NotificationKeeps.{poll_keeps, signal_keeps, wait_keeps}
+use Rattle.verdict.proofs.RemovalCalls.{delete_keeps, revoke_keeps}
 use Rattle.verdict.proofs.RetypeKeeps.{retype_keeps}
 use Rattle.verdict.proofs.Shrinking.{same_context}
 use Rattle.verdict.proofs.SlotCalls.{derive_keeps, move_keeps}
@@ -46,6 +47,10 @@ call_keeps t allowed event a m next sound closed caller (call.Mint to from right
     derive_keeps t allowed event a m sound closed caller labelled to from next done
 call_keeps t allowed event a m next sound closed caller (call.Move to from) labelled done =
     move_keeps t allowed event a m sound closed caller labelled to from next done
+call_keeps t allowed event a m next sound closed caller (call.Delete slot) labelled done =
+    (delete_keeps t allowed event a m sound closed caller labelled slot next done).1
+call_keeps t allowed event a m next sound closed caller (call.Revoke slot) labelled done =
+    (revoke_keeps t allowed event a m sound closed caller labelled slot next done).1
 call_keeps t allowed event a m next sound closed caller (call.Retype untyped of bits to offset count) labelled done =
     retype_keeps t allowed event a m sound closed caller labelled untyped of bits to offset count next done
 

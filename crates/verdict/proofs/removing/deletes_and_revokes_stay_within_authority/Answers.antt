@@ -1,3 +1,4 @@
+use Rattle.machine.proofs.RemovalRows.{delete_done, revoke_done}
 use Rattle.verdict.proofs.Keeps.{some_event}
 use Rattle.verdict.proofs.RemovalCalls.{delete_keeps, revoke_keeps}
 use Rattle.verdict.proofs.removing.deletes_and_revokes_stay_within_authority.Goals as goal
@@ -5,9 +6,9 @@ use Rattle.verdict.proofs.removing.deletes_and_revokes_stay_within_authority.Goa
 pub returns : goal.returns
 returns c = record {
   delete = λ t allowed a m next caller address made sound closed labelled e.
-      let done = delete_keeps t allowed (some_event caller) a m sound closed caller labelled address next made e in
+      let done = delete_keeps t allowed (some_event caller) a m sound closed caller labelled address next (delete_done m caller address made next e) in
       (done.0, done.1.acts);
   revoke = λ t allowed a m next caller address made sound closed labelled e.
-      let done = revoke_keeps t allowed (some_event caller) a m sound closed caller labelled address next made e in
+      let done = revoke_keeps t allowed (some_event caller) a m sound closed caller labelled address next (revoke_done m caller address made next e) in
       (done.0, done.1.acts);
 }
