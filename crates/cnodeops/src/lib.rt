@@ -12,5 +12,5 @@ mod slots;
 
 pub use copying::copy;
 pub use minting::mint;
-pub use slots::target;
 pub use moving::move_cap;
+pub use slots::target;

@@ -19,7 +19,8 @@ use Rattle.machine.specs.WellFormed.{IsThread, WaitsAt}
 use Rattle.machine.proofs.Ids.{at_itself, at_other, itself, one_or_two}
 use Rattle.machine.proofs.LookUps.{object_of-with_object, object_of-with_queue, one_id, queue_of-with_object, queue_of-with_queue}
 use Rattle.finalising.specs.Reached.{SameRest, reply_by}
-use Rattle.finalising.specs.Releasing.{unblocked, with_aborted, with_free, with_halted, with_named_free}
+use Rattle.finalising.specs.Releasing.{unblocked, with_aborted, with_halted, with_named_free}
+use Rattle.replies.specs.Holding.{with_free}
 use Rattle.finalising.proofs.Filters.{filter_all}
 
 -- whether a run state names a reply

@@ -5,21 +5,14 @@ use Rattle.std.specs.Prelude.{◌≡◌, List, Option, Some, None, Contains}
 use Rattle.base.specs.declared.ids.ObjId.{ObjId}
 use Rattle.machine.specs.declared.object.Object.{Object}
 use Rattle.machine.specs.declared.object.Object.TheVariants as o
-use Rattle.machine.specs.declared.object.ReplyState.TheVariants as reply
 use Rattle.machine.specs.declared.thread.RunState.{RunState}
 use Rattle.machine.specs.declared.thread.RunState.TheVariants as state
 use Rattle.machine.specs.declared.thread.Tcb.{Tcb}
-use Rattle.machine.specs.Changes.{with_context, with_reply, with_tcb, without_waiting}
+use Rattle.machine.specs.Changes.{with_context, with_tcb, without_waiting}
 use Rattle.machine.specs.Finalising.{aborted, halted}
 use Rattle.machine.specs.Machine.{Machine, object_of, queue_of}
 use Rattle.machine.specs.WellFormed.{IsThread, WaitsAt}
-
--- a reply holds nobody
-unfoldable pub with_free : Machine → ObjId → Machine
-with_free m id = by_content (object_of m id) where
-  by_content : Option Object → Machine
-  by_content (Some (o.Reply holding)) = with_reply m id (record holding { state = reply.Free })
-  by_content _ = m
+use Rattle.replies.specs.Holding.{with_free}
 
 -- the reply that a receiver named, if it named one, holds nobody
 abbrev pub with_named_free : Machine → Option ObjId → Machine

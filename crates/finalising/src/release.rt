@@ -2,27 +2,14 @@ ghost use Rattle.std.specs.Prelude.{◌≡◌};
 ghost use Rattle.base.specs.declared.ids.ObjId.{ObjId as Id};
 ghost use Rattle.machine.specs.WellFormed.{WaitsAt};
 ghost use Rattle.objects.specs.Waiting.{WaitsThere};
-ghost use Rattle.finalising.specs.Releasing.{IsInItsQueue, unblocked, with_aborted, with_free, with_halted};
+ghost use Rattle.finalising.specs.Releasing.{IsInItsQueue, unblocked, with_aborted, with_halted};
 ghost use Rattle.finalising.specs.Releasing.{with_idle_context, with_unbound};
 
 use base::ObjId;
-use machine::{Context, Inbox, Object, Reply, ReplyState, RunState, Tcb};
+use machine::{Context, Inbox, Object, RunState, Tcb};
 use objects::State;
 use queues::take_out;
-
-/// Makes the reply hold nobody. Does nothing where there is none of that number.
-#[tactic(auto, unfolding(crate::specs::Releasing::with_free))]
-pub fn free(state: &mut State, id: ObjId)
-    ensures { state.new ≡ with_free state.old id }
-{
-    if let Some(&Object::Reply(holding)) = state.object(id) {
-        let freed = Reply {
-            state: ReplyState::Free,
-            ..holding
-        };
-        state.set_reply(id, freed);
-    }
-}
+use replies::unlink;
 
 // Takes a thread with that run state out of its queue, and frees its reply.
 fn unblock(state: &mut State, thread: ObjId, run: RunState)
@@ -34,11 +21,11 @@ fn unblock(state: &mut State, thread: ObjId, run: RunState)
         RunState::Receiving(receiving) => {
             take_out(state, receiving.endpoint, thread);
             if let Some(reply) = receiving.reply {
-                free(state, reply);
+                unlink(state, reply);
             }
         }
         RunState::Waiting(notification) => take_out(state, notification, thread),
-        RunState::Called(reply) => free(state, reply),
+        RunState::Called(reply) => unlink(state, reply),
         RunState::Inactive | RunState::Ready => {}
     }
 }

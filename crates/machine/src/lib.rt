@@ -28,9 +28,9 @@ pub use object::{
 pub use radix::Radix;
 pub use removal_laws::{
     a_removal_is_told_by_its_look_ups, counts_tell_the_last_capability,
-    deletes_and_revokes_leave_nothing, descending_is_decided, orphans_come_to_their_nearest_ancestor,
-    removals_keep_machines_well_formed, vanished_objects_are_finalised,
-    what_goes_is_the_least_closed_set,
+    deletes_and_revokes_leave_nothing, descending_is_decided,
+    orphans_come_to_their_nearest_ancestor, removals_keep_machines_well_formed,
+    vanished_objects_are_finalised, what_goes_is_the_least_closed_set,
 };
 pub use slot_address::{Ends, SlotAddress};
 pub use step_laws::{

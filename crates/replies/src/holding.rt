@@ -1,0 +1,21 @@
+ghost use Rattle.std.specs.Prelude.{◌≡◌};
+ghost use Rattle.replies.specs.Holding.{with_free};
+
+use base::ObjId;
+use machine::{Object, Reply, ReplyState};
+use objects::State;
+
+/// Makes the reply hold nobody. The thread that it held isn't changed. Does nothing where there is no
+/// reply of that number.
+#[tactic(auto, unfolding(crate::specs::Holding::with_free))]
+pub fn unlink(state: &mut State, id: ObjId)
+    ensures { state.new ≡ with_free state.old id }
+{
+    if let Some(&Object::Reply(holding)) = state.object(id) {
+        let freed = Reply {
+            state: ReplyState::Free,
+            ..holding
+        };
+        state.set_reply(id, freed);
+    }
+}
