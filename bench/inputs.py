@@ -165,7 +165,13 @@ def copies_and_moves(copies, moves):
 
 def all_done(events):
     """The log in which each event is done."""
-    return text("confine-log 1", [f"{event} = done" for event in events])
+    return text("confine-log 1", [f"{event} = {done(event)}" for event in events])
+
+
+def done(event):
+    """The outcome of an event that is done: a retype tells how many objects it made."""
+    words = event.split(" ")
+    return f"done count {words[-1]}" if words[2] == "retype" else "done"
 
 
 # Objects made of untyped memory: endpoints, whose capabilities fill fifteen CNodes of 2^12 slots each. The thread's CNode has
@@ -215,9 +221,122 @@ def made_memory():
     return events, range(MOST_MADE, MOST_MADE * (MOST_MADE + 1))
 
 
-def all_made(events):
-    """The log in which each retype is done."""
-    return text("confine-log 1", [f"{event} = done count {event.rsplit(' ', 1)[1]}" for event in events])
+def revoke_of_copies():
+    """The event that takes away all copies that `copies_and_moves` makes: a revoke of the slot that they were copied from."""
+    return "0 1 revoke 1 0 64"
+
+
+# What is made and removed again: untyped memory, and three CNodes of 2^12 slots that are empty. The thread's CNode has 2^6: slots for
+# what a script makes there, those of the three CNodes, its own and that of the memory. From the root's guard on an address has six
+# bits for a slot of the thread's CNode, and then twelve, for a slot of a CNode there. The thread's CNode has its own capability with a
+# guard of six bits, which with its six takes up these twelve: so it leads to each slot of its own with no bits left.
+REMOVAL_RADIX = 6
+REMOVAL_NODES = 3
+FIRST_LARGE, ITSELF, ALL_MEMORY = 59, 62, 63
+REMOVER = f"0 {REMOVAL_NODES + 1}"
+# A piece of all the memory has room for 4,096 endpoints.
+PIECE_BITS = 16
+
+
+def removal_table():
+    """A thread with untyped memory, and with CNodes that are empty."""
+    guard, root_guard = NODE_RADIX - REMOVAL_RADIX, 64 - REMOVAL_RADIX - NODE_RADIX
+    lines = ["label a", f"cnode c a 0x10000 {REMOVAL_RADIX}"]
+    lines.extend(f"cnode n{i} a {0x1000000 + i * 0x20000:#x} {NODE_RADIX}" for i in range(REMOVAL_NODES))
+    lines.extend(["tcb t a 0x4000 ready", "context x a 0x5000 0 10 10"])
+    lines.append(f"untyped u a {1 << (MEMORY_BITS + 4):#x} {MEMORY_BITS}")
+    lines.extend(f"cap c.{FIRST_LARGE + i} n{i} 0 0x0" for i in range(REMOVAL_NODES))
+    lines.extend([f"cap c.{ITSELF} c {guard} 0x0", f"cap c.{ALL_MEMORY} u", f"cap t.root c {root_guard} 0x0", "bind t x"])
+    return text("confine-table 1", lines)
+
+
+def own(slot):
+    """The address of a slot of the thread's CNode."""
+    return ITSELF << NODE_RADIX | slot
+
+
+def slot_of(node, radix, index):
+    """The address of a slot of a CNode that is named by its slot in the thread's; it has no guard."""
+    return node << NODE_RADIX | index << NODE_RADIX - radix
+
+
+def retype(memory, kind, bits, node, first, count):
+    return f"{REMOVER} retype {memory} {kind} {bits} {own(node)} {first} {count}"
+
+
+def delete(node, radix, index):
+    return f"{REMOVER} delete {own(node)} {index} {radix}"
+
+
+def delete_own(slot):
+    return f"{REMOVER} delete {own(ITSELF)} {slot} {NODE_RADIX}"
+
+
+def revoke_own(slot):
+    return f"{REMOVER} revoke {own(ITSELF)} {slot} {NODE_RADIX}"
+
+
+def made_and_removed(events):
+    """So many events, in rounds of ten: objects of five kinds are made of memory, some go, and then all of them, so that the memory is
+    used from its base on again."""
+    round_of_ten = [
+        retype(own(ALL_MEMORY), "endpoint", 0, FIRST_LARGE, 0, MOST_MADE),
+        delete(FIRST_LARGE, NODE_RADIX, 3),
+        delete(FIRST_LARGE, NODE_RADIX, MOST_MADE - 1),
+        # Four pieces of memory, whose slots are 0 to 3; what is made of three of them.
+        retype(own(ALL_MEMORY), "untyped", PIECE_BITS, ITSELF, 0, 4),
+        retype(own(0), "notification", 0, FIRST_LARGE, MOST_MADE, MOST_MADE),
+        retype(own(1), "cnode", 4, ITSELF, 4, 2),
+        retype(own(2), "tcb", 0, 4, 0, 8),
+        # Both CNodes vanish, and the threads whose only capabilities one of them holds.
+        revoke_own(1),
+        # The piece vanishes, and what was made of it stays: its capabilities come under that of all the memory.
+        delete_own(0),
+        revoke_own(ALL_MEMORY),
+    ]
+    if events % len(round_of_ten):
+        raise ValueError(f"{events} events: a multiple of {len(round_of_ten)} is wanted")
+    return round_of_ten * (events // len(round_of_ten))
+
+
+def chain_of_memory(memory, bits, places):
+    """The events by which untyped memory is made of all of the memory at that address, and of all of this the next, and so on.
+
+    The places are those of their capabilities: the slot of a CNode, its radix and the index of a slot of it.
+    """
+    events = []
+    for node, radix, index in places:
+        events.append(retype(memory, "untyped", bits, node, index, 1))
+        memory = slot_of(node, radix, index)
+    return events
+
+
+def long_chain(length):
+    """The events that make a chain of untyped memory of so many pieces; the one that deletes the memory of which the first was made; and
+    those that delete the pieces, from the first on."""
+    places = [(FIRST_LARGE + i // NODE_SLOTS, NODE_RADIX, i % NODE_SLOTS) for i in range(length)]
+    made = chain_of_memory(own(ALL_MEMORY), MEMORY_BITS, places)
+    return made, delete_own(ALL_MEMORY), [delete(*place) for place in places]
+
+
+def vanishing_chains(count, length):
+    """The events that make so many chains of untyped memory, and those that remove each of them at once.
+
+    All slots of a chain lie in one CNode, the deepest first, and this CNode has one capability. Of the deepest as many endpoints are made,
+    whose capabilities lie elsewhere and stay.
+    """
+    radix = (length - 1).bit_length()
+    nodes = range(MOST_MADE, MOST_MADE + count)
+    events = [
+        retype(own(ALL_MEMORY), "untyped", PIECE_BITS, ITSELF, 0, MOST_MADE),
+        retype(own(ALL_MEMORY), "cnode", radix, ITSELF, nodes[0], count),
+    ]
+    for i, node in enumerate(nodes):
+        events += chain_of_memory(own(i), PIECE_BITS, [(node, radix, index) for index in reversed(range(length))])
+        for k in range(0, length, MOST_MADE):
+            first = i * length + k
+            events.append(retype(slot_of(node, radix, 0), "endpoint", 0, FIRST_LARGE, first, min(MOST_MADE, length - k)))
+    return events, [delete_own(node) for node in nodes]
 
 
 # The full tables: all nine kinds of object, nearly all slots filled, and a derivation tree. With 448 groups there are
