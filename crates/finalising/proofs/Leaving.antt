@@ -19,8 +19,7 @@ use Rattle.machine.specs.WellFormed.{IsThread, WaitsAt}
 use Rattle.machine.proofs.Ids.{at_itself, at_other, itself, one_or_two}
 use Rattle.machine.proofs.LookUps.{object_of-with_object, object_of-with_queue, one_id, queue_of-with_object, queue_of-with_queue}
 use Rattle.finalising.specs.Reached.{SameRest, reply_by}
-use Rattle.finalising.specs.Releasing.{unblocked, with_aborted, with_halted, with_named_free}
-use Rattle.replies.specs.Holding.{with_free}
+use Rattle.machine.specs.Releasing.{unblocked, with_aborted, with_free, with_halted, with_holding, with_named, with_released}
 use Rattle.finalising.proofs.Filters.{filter_all}
 
 -- whether a run state names a reply
@@ -151,7 +150,7 @@ reply_is m id old new there = rw there refl
 free_is :
     (m : Machine) (id : ObjId) (holding : Reply) → object_of m id ≡ Some (o.Reply holding)
     → with_free m id ≡ with_object m id (o.Reply (record holding { state = reply.Free }))
-unfolding with_free
+unfolding with_holding
 free_is m id holding there = rw there (reply_is m id holding (record holding { state = reply.Free }) there)
 
 held_freed : (thread : ObjId) (run : ReplyState) → IsHolding run thread → reply_by (λ other. same_id other thread) run ≡ reply.Free
@@ -224,7 +223,7 @@ unblocked_objects m thread (state.Called id) links q =
 unblocked_objects m thread (state.Receiving receiving) links q = by_reply receiving.reply refl where
   by_reply :
       (named : Option ObjId) → receiving.reply ≡ named
-      → object_of (with_named_free (without_waiting m receiving.endpoint thread) named) q ≡ option_map (freed thread) (object_of m q)
+      → object_of (with_named (without_waiting m receiving.endpoint thread) named reply.Free) q ≡ option_map (freed thread) (object_of m q)
   by_reply None e =
       objects_unqueued m receiving.endpoint thread q
       ∙ stay_object thread (object_of m q) (λ holding at is. none-some q (sym e ∙ links.held q holding at is))
@@ -248,7 +247,7 @@ unblocked_queues m thread (state.Called id) links q =
 unblocked_queues m thread (state.Receiving receiving) links q = by_reply receiving.reply refl where
   by_reply :
       (named : Option ObjId) → receiving.reply ≡ named
-      → queue_of (with_named_free (without_waiting m receiving.endpoint thread) named) q ≡ option_map (without thread) (queue_of m q)
+      → queue_of (with_named (without_waiting m receiving.endpoint thread) named reply.Free) q ≡ option_map (without thread) (queue_of m q)
   by_reply None e = leave_queue m receiving.endpoint thread links.queued q
   by_reply (Some id) e =
       let mid : Machine = without_waiting m receiving.endpoint thread in let w = links.named id e in
@@ -262,7 +261,7 @@ unblocked_rest m thread (state.Sending sending) links = rest_unqueued m sending.
 unblocked_rest m thread (state.Waiting notification) links = rest_unqueued m notification thread
 unblocked_rest m thread (state.Called id) links = let w = links.named id refl in rest_freed m id w.0 w.1
 unblocked_rest m thread (state.Receiving receiving) links = by_reply receiving.reply refl where
-  by_reply : (named : Option ObjId) → receiving.reply ≡ named → SameRest m (with_named_free (without_waiting m receiving.endpoint thread) named)
+  by_reply : (named : Option ObjId) → receiving.reply ≡ named → SameRest m (with_named (without_waiting m receiving.endpoint thread) named reply.Free)
   by_reply None e = rest_unqueued m receiving.endpoint thread
   by_reply (Some id) e =
       let mid : Machine = without_waiting m receiving.endpoint thread in let w = links.named id e in
@@ -310,11 +309,11 @@ module _ (m : Machine) (thread : ObjId) (tcb new : Tcb) (there : IsThread m thre
 pub halted_is :
     (m : Machine) (thread : ObjId) (tcb : Tcb) → IsThread m thread tcb
     → with_halted m thread ≡ with_tcb (unblocked m thread tcb.state) thread (halted tcb)
-unfolding with_halted
+unfolding with_released
 halted_is m thread tcb there = rw there refl
 
 pub aborted_is :
     (m : Machine) (thread : ObjId) (tcb : Tcb) → IsThread m thread tcb
     → with_aborted m thread ≡ with_tcb (unblocked m thread tcb.state) thread (aborted tcb)
-unfolding with_aborted
+unfolding with_released
 aborted_is m thread tcb there = rw there refl

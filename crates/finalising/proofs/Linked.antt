@@ -21,7 +21,7 @@ use Rattle.machine.proofs.RemovalLinks.{in_whole, into_part}
 use Rattle.machine.proofs.RemovalTable.{one_thread}
 use Rattle.machine.proofs.RoundLemmas.{not_passes}
 use Rattle.finalising.specs.Reached.{IsReached, Reach, has_left, object_by, queue_by, reply_by, state_by, tcb_by}
-use Rattle.finalising.specs.Releasing.{IsInItsQueue}
+use Rattle.machine.specs.Releasing.{IsInItsQueue}
 use Rattle.finalising.proofs.Leaving.{HasLinks, Names}
 
 receiving_names : (run : RunState) (id : ObjId) → IsReceivingWith run id → Names run id

@@ -16,7 +16,8 @@ use Rattle.machine.specs.Machine.{Machine, object_of, same_id}
 use Rattle.machine.specs.Objects.{kind_of_object}
 use Rattle.machine.specs.WellFormed.{LinksAgree, WaitsAtKind, kind_of}
 use Rattle.machine.proofs.LookUps.{one_id}
-use Rattle.finalising.specs.Finalised.{with_holder_halted, with_links_cut}
+use Rattle.finalising.specs.Finalised.{with_links_cut}
+use Rattle.machine.specs.Releasing.{with_holder_halted}
 use Rattle.finalising.specs.Reached.{object_by}
 use Rattle.finalising.proofs.Part.{Follows}
 use Rattle.finalising.proofs.PartSteps.{context_step, thread_step, unlinked_step}

@@ -22,7 +22,7 @@ use Rattle.machine.proofs.RemovalTable.{one_thread}
 use Rattle.machine.proofs.RoundLemmas.{or_second}
 use Rattle.finalising.specs.Finalised.{with_link_cut}
 use Rattle.finalising.specs.Reached.{Reach, and_halted, and_unbound}
-use Rattle.finalising.specs.Releasing.{with_halted, with_unbound}
+use Rattle.machine.specs.Releasing.{with_halted, with_unbound}
 use Rattle.finalising.proofs.Agreement.{link_was}
 use Rattle.finalising.proofs.Leaving.{apart_ids}
 use Rattle.finalising.proofs.Part.{Follows, IsPart}

@@ -18,7 +18,8 @@ use Rattle.machine.specs.Machine.{Machine, object_of, same_id}
 use Rattle.machine.specs.WellFormed.{LinksAgree}
 use Rattle.machine.proofs.LookUps.{one_id}
 use Rattle.machine.proofs.RoundLemmas.{or_second}
-use Rattle.finalising.specs.Finalised.{with_holder_halted, with_links_cut}
+use Rattle.finalising.specs.Finalised.{with_links_cut}
+use Rattle.machine.specs.Releasing.{with_holder_halted}
 use Rattle.finalising.specs.Pass.{IsFinalised}
 use Rattle.finalising.specs.Reached.{nobody}
 use Rattle.finalising.proofs.Agreement.{links_reached, reached_nobody}

@@ -12,7 +12,7 @@ use Rattle.machine.specs.WellFormed.{IsThread, LinksAgree}
 use Rattle.machine.proofs.Ids.{itself}
 use Rattle.machine.proofs.Queues.{first_in, once_first}
 use Rattle.finalising.specs.Finalised.{members, with_waiters_aborted}
-use Rattle.finalising.specs.Releasing.{with_aborted}
+use Rattle.machine.specs.Releasing.{with_aborted}
 use Rattle.finalising.proofs.Agreement.{links_aborted}
 use Rattle.finalising.proofs.Leaving.{aborted_is, released_queues, without, without_absent}
 use Rattle.finalising.proofs.Linked.{links_of}

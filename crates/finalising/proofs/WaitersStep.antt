@@ -16,7 +16,7 @@ use Rattle.machine.proofs.RemovalTable.{one_thread, waits_aborted}
 use Rattle.machine.proofs.RoundLemmas.{or_second}
 use Rattle.finalising.specs.Finalised.{members, with_waiters_aborted}
 use Rattle.finalising.specs.Reached.{IsReached, Reach, and_aborted, has_left}
-use Rattle.finalising.specs.Releasing.{with_aborted}
+use Rattle.machine.specs.Releasing.{with_aborted}
 use Rattle.finalising.proofs.Linked.{member_now, member_was}
 use Rattle.finalising.proofs.Part.{Follows}
 use Rattle.finalising.proofs.PartSteps.{NoContext, NoReply, NoThread, part_added, plain_bound, plain_halted}

@@ -1,26 +1,12 @@
--- Changes by which an object that goes loses its links, by its kind: who a reply holds is halted, who waits at an endpoint or a
--- notification is aborted, and contexts and threads are unbound (seL4 manual, "Deletion, Revocation, and Recycling").
+-- Changes by which an object that goes and is no reply loses its links, by its kind: who waits at an endpoint or a notification is
+-- aborted, and contexts and threads are unbound (seL4 manual, "Deletion, Revocation, and Recycling").
 use Rattle.std.specs.Prelude.{List, [], Option, Some, None}
 use Rattle.std.specs.List.{fold}
 use Rattle.base.specs.declared.ids.ObjId.{ObjId}
 use Rattle.machine.specs.declared.object.Object.{Object}
 use Rattle.machine.specs.declared.object.Object.TheVariants as o
-use Rattle.machine.specs.declared.object.ReplyState.{ReplyState}
-use Rattle.machine.specs.declared.object.ReplyState.TheVariants as reply
 use Rattle.machine.specs.Machine.{Machine, object_of, queue_of}
-use Rattle.finalising.specs.Releasing.{with_aborted, with_halted, with_unbound}
-
--- the thread that a reply holds is halted
-unfoldable pub with_holder_halted : Machine → ObjId → Machine
-with_holder_halted m id = by_content (object_of m id) where
-  by_state : ReplyState → Machine
-  by_state (reply.Waiting thread) = with_halted m thread
-  by_state (reply.Called thread) = with_halted m thread
-  by_state reply.Free = m
-
-  by_content : Option Object → Machine
-  by_content (Some (o.Reply holding)) = by_state holding.state
-  by_content _ = m
+use Rattle.machine.specs.Releasing.{with_aborted, with_halted, with_unbound}
 
 -- the threads of a queue, if there is one
 abbrev pub members : Option (List ObjId) → List ObjId

@@ -1,4 +1,3 @@
 pub mod Finalised
 pub mod Pass
 pub mod Reached
-pub mod Releasing

@@ -1,8 +1,8 @@
 ghost use Rattle.std.specs.Prelude.{◌≡◌};
 ghost use Rattle.base.specs.declared.ids.ObjId.{ObjId as Id};
 ghost use Rattle.machine.specs.WellFormed.{LinksAgree};
-ghost use Rattle.finalising.specs.Releasing.{IsInItsQueue, with_unbound, with_halted};
-ghost use Rattle.finalising.specs.Finalised.{with_holder_halted, with_link_cut, with_links_cut, with_waiters_aborted};
+ghost use Rattle.machine.specs.Releasing.{IsInItsQueue, with_halted, with_holder_halted, with_unbound};
+ghost use Rattle.finalising.specs.Finalised.{with_link_cut, with_links_cut, with_waiters_aborted};
 
 use crate::release::{abort, halt, unbind};
 use base::ObjId;
@@ -11,7 +11,7 @@ use objects::State;
 
 /// Halts the thread that the reply holds, if it holds one; that frees it. Does nothing where there is
 /// no reply of that number.
-#[tactic(auto, unfolding(crate::specs::Finalised::with_holder_halted))]
+#[tactic(auto, unfolding(machine::specs::Releasing::with_holder_halted))]
 pub(crate) fn halt_holder(state: &mut State, id: ObjId)
     requires { (thread : Id) → IsInItsQueue state.old thread }
     ensures { state.new ≡ with_holder_halted state.old id }

@@ -2,8 +2,8 @@ ghost use Rattle.std.specs.Prelude.{◌≡◌};
 ghost use Rattle.base.specs.declared.ids.ObjId.{ObjId as Id};
 ghost use Rattle.machine.specs.WellFormed.{WaitsAt};
 ghost use Rattle.objects.specs.Waiting.{WaitsThere};
-ghost use Rattle.finalising.specs.Releasing.{IsInItsQueue, unblocked, with_aborted, with_halted};
-ghost use Rattle.finalising.specs.Releasing.{with_idle_context, with_unbound};
+ghost use Rattle.machine.specs.Releasing.{IsInItsQueue, unblocked, with_aborted, with_halted};
+ghost use Rattle.machine.specs.Releasing.{with_idle_context, with_unbound};
 
 use base::ObjId;
 use machine::{Context, Inbox, Object, RunState, Tcb};
@@ -32,7 +32,7 @@ fn unblock(state: &mut State, thread: ObjId, run: RunState)
 
 /// Has a thread leave its queue and its reply, and run no more. It keeps its inbox. Does nothing
 /// where there is no such thread.
-#[tactic(auto, unfolding(crate::specs::Releasing::with_halted))]
+#[tactic(auto, unfolding(machine::specs::Releasing::with_released))]
 pub fn halt(state: &mut State, thread: ObjId)
     requires { IsInItsQueue state.old thread }
     ensures { state.new ≡ with_halted state.old thread }
@@ -49,7 +49,7 @@ pub fn halt(state: &mut State, thread: ObjId)
 
 /// Has a thread leave its queue and its reply, and go on; its inbox says that what it waited for
 /// went away. Does nothing where there is no such thread.
-#[tactic(auto, unfolding(crate::specs::Releasing::with_aborted))]
+#[tactic(auto, unfolding(machine::specs::Releasing::with_released))]
 pub fn abort(state: &mut State, thread: ObjId)
     requires { IsInItsQueue state.old thread }
     ensures { state.new ≡ with_aborted state.old thread }
@@ -66,7 +66,7 @@ pub fn abort(state: &mut State, thread: ObjId)
 }
 
 // Takes its thread from a scheduling context. Does nothing where there is none of that number.
-#[tactic(auto, unfolding(crate::specs::Releasing::with_idle_context))]
+#[tactic(auto, unfolding(machine::specs::Releasing::with_idle_context))]
 fn idle(state: &mut State, id: ObjId)
     ensures { state.new ≡ with_idle_context state.old id }
 {
@@ -81,7 +81,7 @@ fn idle(state: &mut State, id: ObjId)
 
 /// Takes its scheduling context from a thread, and the thread from the context. Does nothing where
 /// there is no such thread, or it has no context.
-#[tactic(auto, unfolding(crate::specs::Releasing::with_unbound))]
+#[tactic(auto, unfolding(machine::specs::Releasing::with_unbound))]
 pub fn unbind(state: &mut State, thread: ObjId)
     ensures { state.new ≡ with_unbound state.old thread }
 {

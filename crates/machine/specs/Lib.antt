@@ -25,4 +25,5 @@ pub mod Below
 pub mod Gone
 pub mod Orphans
 pub mod Finalising
+pub mod Releasing
 pub mod Removal

@@ -31,6 +31,11 @@ pub mod Move
 pub mod Delete
 pub mod Revoke
 pub mod Retype
+pub mod Deliver
+pub mod Send
+pub mod Receive
+pub mod Reply
+pub mod Fetch
 use Rattle.machine.specs.Step.Signal.{signal_of}
 use Rattle.machine.specs.Step.Poll.{poll_of}
 use Rattle.machine.specs.Step.Wait.{wait_of}

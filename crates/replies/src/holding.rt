@@ -1,5 +1,5 @@
 ghost use Rattle.std.specs.Prelude.{◌≡◌};
-ghost use Rattle.replies.specs.Holding.{with_free};
+ghost use Rattle.machine.specs.Releasing.{with_free};
 
 use base::ObjId;
 use machine::{Object, Reply, ReplyState};
@@ -7,7 +7,7 @@ use objects::State;
 
 /// Makes the reply hold nobody. The thread that it held isn't changed. Does nothing where there is no
 /// reply of that number.
-#[tactic(auto, unfolding(crate::specs::Holding::with_free))]
+#[tactic(auto, unfolding(machine::specs::Releasing::with_holding))]
 pub fn unlink(state: &mut State, id: ObjId)
     ensures { state.new ≡ with_free state.old id }
 {

@@ -38,6 +38,32 @@ find_notification m caller address = do
   found ← find_cap m caller address
   notification_in found.1
 
+-- the endpoint of a capability, with the capability's rights and badge
+abbrev pub endpoint_in : Cap → Result (ObjId × Badged) Cause
+endpoint_in held = by_detail held.object held.detail where
+  by_detail : ObjId → Detail → Result (ObjId × Badged) Cause
+  by_detail object (d.Endpoint end) = Ok (object, end)
+  by_detail object _ = Err cause.InvalidCapability
+
+-- the endpoint at an address
+unfoldable pub find_endpoint : Machine → ObjId → ℕ → Result (ObjId × Badged) Cause
+find_endpoint m caller address = do
+  found ← find_cap m caller address
+  endpoint_in found.1
+
+-- the reply of a capability
+abbrev pub reply_in : Cap → Result ObjId Cause
+reply_in held = by_detail held.object held.detail where
+  by_detail : ObjId → Detail → Result ObjId Cause
+  by_detail object d.Reply = Ok object
+  by_detail object _ = Err cause.InvalidCapability
+
+-- the reply at an address
+unfoldable pub find_reply : Machine → ObjId → ℕ → Result ObjId Cause
+find_reply m caller address = do
+  found ← find_cap m caller address
+  reply_in found.1
+
 -- a right that the capability has to have
 abbrev pub permitted : Bool → Result (Unit {0}) Cause
 permitted allowed = if allowed then Ok tt else Err cause.InvalidCapability

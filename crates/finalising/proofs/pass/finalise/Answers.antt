@@ -3,7 +3,8 @@ use Rattle.std.proofs.Common.{◌≡◌, ◌≤◌, length, sym, ap, subst, ◌�
 use Rattle.std.specs.Prelude.{List, Some, None, slice_get}
 use Rattle.std.proofs.lemmas.List.{take_all}
 use Rattle.base.specs.declared.ids.ObjId.{ObjId}
-use Rattle.finalising.specs.Finalised.{with_holder_halted, with_links_cut}
+use Rattle.finalising.specs.Finalised.{with_links_cut}
+use Rattle.machine.specs.Releasing.{with_holder_halted}
 use Rattle.finalising.proofs.Passes.{LinksCut, agreed_in, all_cut, is_taken, next_cut, next_halted, none_halted}
 use Rattle.finalising.proofs.pass.finalise.Goals as goal
 use Rattle.finalising.proofs.pass.finalise.Goals.{in-Some, in-Some-going, in_default, in_default-going}

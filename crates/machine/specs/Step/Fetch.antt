@@ -1,0 +1,39 @@
+-- Fetch (confine's own): what the thread was given and has not fetched yet.
+use Rattle.std.specs.Prelude.{Option, Some, None, Result, Ok, Err}
+use Rattle.base.specs.declared.ids.ObjId.{ObjId}
+use Rattle.base.specs.declared.refusal.Cause.{Cause}
+use Rattle.base.specs.declared.refusal.Cause.TheVariants as cause
+use Rattle.machine.specs.declared.call.Answer.{Answer}
+use Rattle.machine.specs.declared.call.Answer.TheVariants as answer
+use Rattle.machine.specs.declared.call.Made.{Made}
+use Rattle.machine.specs.declared.call.Made.TheVariants.{Done}
+use Rattle.machine.specs.declared.object.Object.{Object}
+use Rattle.machine.specs.declared.object.Object.TheVariants as o
+use Rattle.machine.specs.declared.thread.Inbox.{Inbox}
+use Rattle.machine.specs.declared.thread.Inbox.TheVariants as inbox
+use Rattle.machine.specs.Changes.{with_tcb}
+use Rattle.machine.specs.Machine.{Machine, object_of}
+use Rattle.machine.specs.Refusing.{◌>>=◌}
+
+-- what an inbox answers
+abbrev pub fetched : Inbox → Result Answer Cause
+fetched inbox.Empty = Err cause.IllegalOperation
+fetched (inbox.Message message) = Ok (answer.Message message)
+fetched (inbox.Word word) = Ok (answer.Word word)
+fetched inbox.Aborted = Ok answer.Aborted
+
+abbrev pub fetched_in : Option Object → Result Answer Cause
+fetched_in (Some (o.Tcb tcb)) = fetched tcb.inbox
+fetched_in _ = Err cause.NoSuchThread
+
+-- a thread's inbox becomes empty
+unfoldable pub emptied : Machine → ObjId → Machine
+emptied m thread = by_content (object_of m thread) where
+  by_content : Option Object → Machine
+  by_content (Some (o.Tcb tcb)) = with_tcb m thread (record tcb { inbox = inbox.Empty })
+  by_content _ = m
+
+unfoldable pub fetch_of : Machine → ObjId → Result (Made × Machine) Cause
+fetch_of m caller = do
+  given ← fetched_in (object_of m caller)
+  Ok (Done given, emptied m caller)

@@ -1,0 +1,59 @@
+-- Receive (seL4 manual, seL4_Recv): the message of the thread that waits first to send; where none does, the receiver waits. The
+-- thread that the receiver's reply held until then is halted (confine's own).
+use Rattle.std.specs.Prelude.{ℕ, Option, Some, None, Result, Ok, is_ok}
+use Rattle.base.specs.declared.ids.ObjId.{ObjId}
+use Rattle.base.specs.declared.refusal.Cause.{Cause}
+use Rattle.machine.specs.declared.call.Answer.TheVariants as answer
+use Rattle.machine.specs.declared.call.Made.{Made}
+use Rattle.machine.specs.declared.call.Made.TheVariants.{Done, Blocked}
+use Rattle.machine.specs.declared.object.ReplyState.TheVariants as reply
+use Rattle.machine.specs.declared.slot_address.Ends.{Ends}
+use Rattle.machine.specs.declared.slot_address.SlotAddress.{SlotAddress}
+use Rattle.machine.specs.declared.thread.Receiving.{Receiving}
+use Rattle.machine.specs.declared.thread.RunState.TheVariants as state
+use Rattle.machine.specs.declared.thread.Sending.{Sending}
+use Rattle.machine.specs.Capabilities.{can_read}
+use Rattle.machine.specs.Machine.{Machine}
+use Rattle.machine.specs.Refusing.{◌>>=◌}
+use Rattle.machine.specs.Releasing.{with_blocked, with_holder_halted, with_named}
+use Rattle.machine.specs.Step.Deliver.{arrival_of, first_at, message_of, sender_in, sent, with_arrival}
+use Rattle.machine.specs.Step.Find.{find_endpoint, find_reply, permitted}
+
+-- the reply at an address, if one is given
+abbrev pub find_named_reply : Machine → ObjId → Option ℕ → Result (Option ObjId) Cause
+find_named_reply m caller None = Ok None
+find_named_reply m caller (Some address) = do
+  id ← find_reply m caller address
+  Ok (Some id)
+
+-- the reply that is named, if one is, holds nobody
+abbrev pub with_reply_ended : Machine → Option ObjId → Machine
+with_reply_ended m None = m
+with_reply_ended m (Some id) = with_holder_halted m id
+
+-- a thread waits for a message, and the reply that it names waits with it
+abbrev pub awaiting_message : Machine → ObjId → Receiving → Machine
+awaiting_message m caller receiving =
+    with_named (with_blocked m caller receiving.endpoint (state.Receiving receiving)) receiving.reply (reply.Waiting caller)
+
+-- the message of a sender is received, or the receiver waits for one
+abbrev pub received_or_waits : Machine → ObjId → Receiving → Option (ObjId × Sending) → Made × Machine
+received_or_waits m caller receiving (Some (sender, sending)) =
+    take (arrival_of m sender sending caller receiving.slot) where
+      take : Result Ends Cause → Made × Machine
+      take arrival = (
+        Done (answer.Message (message_of sending (is_ok arrival))),
+        sent (with_arrival m arrival) sender sending receiving.reply,
+      )
+received_or_waits m caller receiving None = (Blocked, awaiting_message m caller receiving)
+
+-- who waits first is looked up when the reply holds nobody any more
+abbrev pub received : Machine → ObjId → Receiving → Made × Machine
+received m caller receiving = received_or_waits m caller receiving (sender_in (first_at m receiving.endpoint))
+
+unfoldable pub receive_of : Machine → ObjId → ℕ → Option ℕ → Option SlotAddress → Result (Made × Machine) Cause
+receive_of m caller address named slot = do
+  found ← find_endpoint m caller address
+  _ ← permitted (can_read found.1.rights)
+  id ← find_named_reply m caller named
+  Ok (received (with_reply_ended m id) caller (record { endpoint = found.0; reply = id; slot = slot }))
