@@ -18,10 +18,10 @@ use Rattle.machine.specs.Finalising.{IsHolding, link_after}
 use Rattle.machine.specs.Machine.{Machine, object_of, queue_of}
 use Rattle.machine.specs.Objects.{kind_of_object}
 use Rattle.machine.specs.WellFormed.{IsReceivingWith, IsSending, IsThread, LinksAgree, WaitsAt, WaitsAtKind, kind_of}
-use Rattle.finalising.specs.Reached.{IsReached, Reach, and_aborted, and_halted, and_unbound, has_left, nobody, object_by, queue_by, reply_by, state_by}
-use Rattle.machine.specs.Releasing.{with_aborted, with_halted, with_unbound}
-use Rattle.finalising.proofs.Filters.{filter_all}
-use Rattle.finalising.proofs.Leaving.{rest_itself}
+use Rattle.finalising.specs.Reached.{IsReached, Reach, and_aborted, and_halted, and_unbound, has_left, nobody, object_by, queue_by, state_by}
+use Rattle.machine.specs.Releasing.{reply_by, with_aborted, with_halted, with_unbound}
+use Rattle.machine.proofs.Filters.{filter_all}
+use Rattle.machine.proofs.Leaving.{rest_itself}
 use Rattle.finalising.proofs.Linked.{holder_was, in_its_queue, member_was, tcb_now, thread_now, thread_was}
 use Rattle.finalising.proofs.Releases.{aborted_step, halted_step, unbound_step}
 

@@ -1,6 +1,4 @@
 pub mod Agreement
-pub mod Filters
-pub mod Leaving
 pub mod Linked
 pub mod LinksStep
 pub mod Part

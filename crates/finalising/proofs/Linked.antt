@@ -1,5 +1,5 @@
--- The links of a thread agree at both ends in a machine whose links agree, and still where some of its threads were halted, aborted
--- or unbound.
+-- The links of a thread of a machine whose links agree still agree at both ends where some of the machine's threads were halted,
+-- aborted or unbound.
 use Rattle.std.proofs.Common.{◌≡◌, Bool, true, false, not, cond, ◌||◌, List, refl, sym, ap, subst, ◌∙◌}
 use Rattle.std.specs.Prelude.{Option, Some, None, Contains, option_map}
 use Rattle.std.proofs.lemmas.Bool.{false≢true}
@@ -16,58 +16,13 @@ use Rattle.machine.specs.declared.thread.RunState.TheVariants as state
 use Rattle.machine.specs.declared.thread.Tcb.{Tcb}
 use Rattle.machine.specs.Finalising.{IsHolding}
 use Rattle.machine.specs.Machine.{Machine, object_of, queue_of}
-use Rattle.machine.specs.WellFormed.{IsReceivingWith, IsThread, LinksAgree, WaitsAt}
+use Rattle.machine.specs.WellFormed.{IsThread, LinksAgree, WaitsAt}
+use Rattle.machine.proofs.HeldThreads.{links_of}
+use Rattle.machine.proofs.Leaving.{HasLinks, Names}
 use Rattle.machine.proofs.RemovalLinks.{in_whole, into_part}
-use Rattle.machine.proofs.RemovalTable.{one_thread}
 use Rattle.machine.proofs.RoundLemmas.{not_passes}
-use Rattle.finalising.specs.Reached.{IsReached, Reach, has_left, object_by, queue_by, reply_by, state_by, tcb_by}
-use Rattle.machine.specs.Releasing.{IsInItsQueue}
-use Rattle.finalising.proofs.Leaving.{HasLinks, Names}
-
-receiving_names : (run : RunState) (id : ObjId) → IsReceivingWith run id → Names run id
-receiving_names (state.Receiving receiving) id e = e
-receiving_names _ id e = absurd e
-
-module _ (m : Machine) (links : LinksAgree m) (thread : ObjId) (tcb : Tcb) (there : IsThread m thread tcb) where
-  queued_at :
-      (id : ObjId) (threads : List ObjId) → queue_of m id ≡ Some threads → Contains threads thread → WaitsAt tcb.state id
-  queued_at id threads e within =
-      let w = links.queued id threads thread e within in
-      subst (λ (t : Tcb). WaitsAt t.state id) (one_thread m thread w.0 tcb w.2 there) w.3
-
-  held_by :
-      (id : ObjId) (holding : Reply) → object_of m id ≡ Some (o.Reply holding) → IsHolding holding.state thread → Names tcb.state id
-  held_by id holding e is = by_state holding.state (e ∙ refl) is where
-    by_state :
-        (run : ReplyState) → object_of m id ≡ Some (o.Reply (record { address = holding.address; state = run }))
-        → IsHolding run thread → Names tcb.state id
-    by_state (reply.Waiting waiter) at same =
-        let w = links.waiting_reply id waiter holding.address at in
-        subst (λ (t : Tcb). Names t.state id) (one_thread m thread w.0 tcb (ap (object_of m) (sym same) ∙ w.1) there)
-        (receiving_names w.0.state id w.2)
-    by_state (reply.Called caller) at same =
-        let w = links.reply_called id caller holding.address at in
-        subst (λ (t : Tcb). Names t.state id) (one_thread m thread w.0 tcb (ap (object_of m) (sym same) ∙ w.1) there)
-        (subst (λ (run : RunState). Names run id) (sym w.2) refl)
-    by_state reply.Free at same = absurd same
-
-  holds_it :
-      (id : ObjId) → Names tcb.state id
-      → (holding : Reply) × (object_of m id ≡ Some (o.Reply holding)) × IsHolding holding.state thread
-  holds_it id names = by_run tcb.state refl names where
-    by_run :
-        (run : RunState) → tcb.state ≡ run → Names run id
-        → (holding : Reply) × (object_of m id ≡ Some (o.Reply holding)) × IsHolding holding.state thread
-    by_run (state.Receiving receiving) e named =
-        let w = links.receiver_reply thread id tcb there (subst (λ (run : RunState). IsReceivingWith run id) (sym e) named) in
-        (record { address = w.0; state = reply.Waiting thread }, w.1, refl)
-    by_run (state.Called called) e named =
-        let w = links.called_reply thread id tcb there (e ∙ ap (λ x. state.Called x) named) in
-        (record { address = w.0; state = reply.Called thread }, w.1, refl)
-    by_run _ e named = absurd named
-
-  pub links_of : HasLinks m thread tcb.state
-  links_of = record { queued = queued_at; held = held_by; named = holds_it }
+use Rattle.machine.specs.Releasing.{IsInItsQueue, reply_by}
+use Rattle.finalising.specs.Reached.{IsReached, Reach, has_left, object_by, queue_by, state_by, tcb_by}
 
 module _ (old now : Machine) (reach : Reach) (reached : IsReached old reach now) where
   -- who is in a queue was in it, and left none

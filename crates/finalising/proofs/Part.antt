@@ -15,13 +15,14 @@ use Rattle.machine.specs.Finalising.{aborted, finalised, halted, is_aborted, is_
 use Rattle.machine.specs.Finalising.{reply_after, staying_in, tcb_after, unbound}
 use Rattle.machine.specs.Machine.{Machine, object_of, queue_of}
 use Rattle.machine.specs.Objects.{slot_count}
+use Rattle.machine.specs.Releasing.{reply_by}
 use Rattle.machine.specs.WellFormed.{IsThread, LinksAgree}
 use Rattle.machine.proofs.Queues.{first_in}
 use Rattle.machine.proofs.RemovalTable.{waits_aborted}
 use Rattle.objects.specs.Waiting.{WaitsNowhere}
 use Rattle.finalising.specs.Pass.{IsFinalised}
-use Rattle.finalising.specs.Reached.{IsReached, Reach, has_left, object_by, queue_by, reply_by, tcb_by}
-use Rattle.finalising.proofs.Filters.{filter_same}
+use Rattle.finalising.specs.Reached.{IsReached, Reach, has_left, object_by, queue_by, tcb_by}
+use Rattle.machine.proofs.Filters.{filter_same}
 use Rattle.finalising.proofs.Linked.{member_was}
 
 -- which threads are reached where the objects of a set have lost their links: of those outside the set it is exact; those in the set

@@ -24,7 +24,7 @@ use Rattle.finalising.specs.Finalised.{with_link_cut}
 use Rattle.finalising.specs.Reached.{Reach, and_halted, and_unbound}
 use Rattle.machine.specs.Releasing.{with_halted, with_unbound}
 use Rattle.finalising.proofs.Agreement.{link_was}
-use Rattle.finalising.proofs.Leaving.{apart_ids}
+use Rattle.machine.proofs.Leaving.{apart_ids}
 use Rattle.finalising.proofs.Part.{Follows, IsPart}
 use Rattle.finalising.proofs.Releases.{halted_step, unbound_step}
 use Rattle.finalising.proofs.Tests.{alone, both_aborted, both_halted, both_links, is_link, link_is, neither}

@@ -19,11 +19,11 @@ use Rattle.machine.proofs.LookUps.{object_of-with_object, one_id, queue_of-with_
 use Rattle.machine.proofs.RemovalTable.{one_thread}
 use Rattle.machine.proofs.RoundLemmas.{or_second}
 use Rattle.finalising.specs.Reached.{IsReached, Reach, and_aborted, and_halted, and_unbound, has_left, object_by, queue_by}
-use Rattle.finalising.specs.Reached.{reply_by, tcb_by}
-use Rattle.machine.specs.Releasing.{unblocked, with_aborted, with_halted, with_idle_context, with_unbound}
-use Rattle.finalising.proofs.Filters.{filter_twice}
-use Rattle.finalising.proofs.Leaving.{HasLinks, aborted_is, apart_ids, freed, halted_is, released_objects, released_queues, released_rest}
-use Rattle.finalising.proofs.Leaving.{rest-with_object, rest_along, tcb_is, without}
+use Rattle.finalising.specs.Reached.{tcb_by}
+use Rattle.machine.specs.Releasing.{reply_by, unblocked, with_aborted, with_halted, with_idle_context, with_unbound}
+use Rattle.machine.proofs.Filters.{filter_twice}
+use Rattle.machine.proofs.Leaving.{HasLinks, aborted_is, apart_ids, freed, halted_is, released_objects, released_queues, released_rest}
+use Rattle.machine.proofs.Leaving.{rest-with_object, rest_along, tcb_is, without}
 use Rattle.finalising.proofs.Linked.{links_now, tcb_now, thread_now}
 
 -- tests of who left

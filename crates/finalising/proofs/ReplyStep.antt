@@ -20,10 +20,11 @@ use Rattle.machine.specs.WellFormed.{IsThread, LinksAgree, WaitsAtKind, kind_of}
 use Rattle.machine.proofs.Ids.{itself}
 use Rattle.machine.proofs.RemovalTable.{one_thread}
 use Rattle.machine.proofs.RoundLemmas.{or_second}
-use Rattle.finalising.specs.Reached.{Reach, and_halted, has_left, object_by, reply_by}
-use Rattle.machine.specs.Releasing.{with_halted, with_holder_halted}
-use Rattle.finalising.proofs.Leaving.{Names, apart_ids}
-use Rattle.finalising.proofs.Linked.{holder_now, holder_was, links_of}
+use Rattle.finalising.specs.Reached.{Reach, and_halted, has_left, object_by}
+use Rattle.machine.specs.Releasing.{reply_by, with_halted, with_holder_halted}
+use Rattle.machine.proofs.Leaving.{Names, apart_ids}
+use Rattle.machine.proofs.HeldThreads.{links_of}
+use Rattle.finalising.proofs.Linked.{holder_now, holder_was}
 use Rattle.finalising.proofs.Part.{Follows, IsPart}
 use Rattle.finalising.proofs.PartSteps.{NoContext, NoThread, part_added, plain_aborted, plain_bound}
 use Rattle.finalising.proofs.Releases.{halted_step}

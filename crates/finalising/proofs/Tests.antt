@@ -16,8 +16,8 @@ use Rattle.machine.specs.WellFormed.{IsThread, LinksAgree, WaitsAt, WaitsAtKind,
 use Rattle.machine.proofs.Ids.{itself}
 use Rattle.machine.proofs.LookUps.{one_id}
 use Rattle.machine.proofs.RemovalTable.{one_thread}
-use Rattle.finalising.proofs.Leaving.{Names}
-use Rattle.finalising.proofs.Linked.{links_of}
+use Rattle.machine.proofs.Leaving.{Names}
+use Rattle.machine.proofs.HeldThreads.{links_of}
 
 -- one object alone, and a set with one more
 abbrev pub alone : ObjId → ObjId → Bool

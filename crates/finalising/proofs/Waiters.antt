@@ -14,8 +14,8 @@ use Rattle.machine.proofs.Queues.{first_in, once_first}
 use Rattle.finalising.specs.Finalised.{members, with_waiters_aborted}
 use Rattle.machine.specs.Releasing.{with_aborted}
 use Rattle.finalising.proofs.Agreement.{links_aborted}
-use Rattle.finalising.proofs.Leaving.{aborted_is, released_queues, without, without_absent}
-use Rattle.finalising.proofs.Linked.{links_of}
+use Rattle.machine.proofs.Leaving.{aborted_is, released_queues, without, without_absent}
+use Rattle.machine.proofs.HeldThreads.{links_of}
 
 -- the first leaves a queue that has it once
 first_leaves :

@@ -7,7 +7,7 @@ use Rattle.machine.specs.Finalising.{finalised, staying_in}
 use Rattle.machine.specs.Machine.{Machine, object_of, queue_of}
 use Rattle.machine.specs.Objects.{slot_count}
 use Rattle.objects.specs.Waiting.{WaitsNowhere}
-use Rattle.finalising.specs.Reached.{SameRest}
+use Rattle.machine.specs.Releasing.{SameRest}
 
 pub record IsFinalised (old : Machine) (goes : ObjId → Bool) (now : Machine) : Type 0 where
   pub objects : (id : ObjId) → goes id ≡ false → object_of now id ≡ option_map (finalised old goes) (object_of old id)

@@ -5,14 +5,13 @@ use Rattle.std.specs.Prelude.{◌≡◌, Bool, false, not, ◌||◌, List, filte
 use Rattle.base.specs.declared.ids.ObjId.{ObjId}
 use Rattle.machine.specs.declared.object.Object.{Object}
 use Rattle.machine.specs.declared.object.Object.TheVariants as o
-use Rattle.machine.specs.declared.object.ReplyState.{ReplyState}
-use Rattle.machine.specs.declared.object.ReplyState.TheVariants as reply
 use Rattle.machine.specs.declared.thread.Inbox.TheVariants as inbox
 use Rattle.machine.specs.declared.thread.RunState.{RunState}
 use Rattle.machine.specs.declared.thread.RunState.TheVariants as state
 use Rattle.machine.specs.declared.thread.Tcb.{Tcb}
 use Rattle.machine.specs.Finalising.{link_after}
 use Rattle.machine.specs.Machine.{Machine, object_of, queue_of, same_id}
+use Rattle.machine.specs.Releasing.{SameRest, reply_by}
 
 -- which threads were halted, aborted and unbound
 pub record Reach : Type 0 where
@@ -49,12 +48,6 @@ tcb_by halts aborts unbinds tcb =
       context = if unbinds then None else tcb.context;
     }
 
--- a reply is free where the thread that it held left
-abbrev pub reply_by : (ObjId → Bool) → ReplyState → ReplyState
-reply_by left (reply.Waiting thread) = if left thread then reply.Free else reply.Waiting thread
-reply_by left (reply.Called thread) = if left thread then reply.Free else reply.Called thread
-reply_by left reply.Free = reply.Free
-
 abbrev pub object_by : Reach → ObjId → Object → Object
 object_by reach id (o.Tcb tcb) = o.Tcb (tcb_by (reach.halts id) (reach.aborts id) (reach.unbinds id) tcb)
 object_by reach id (o.Reply holding) = o.Reply (record holding { state = reply_by (has_left reach) holding.state })
@@ -64,14 +57,6 @@ object_by reach id object = object
 -- those of a queue who left no queue
 abbrev pub queue_by : Reach → List ObjId → List ObjId
 queue_by reach threads = filter (λ thread. not (has_left reach thread)) threads
-
--- words, capabilities, the derivation tree, the next number and what is going are the same
-pub record SameRest (old now : Machine) : Type 0 where
-  pub words : now.words ≡ old.words
-  pub caps : now.caps ≡ old.caps
-  pub parents : now.parents ≡ old.parents
-  pub next : now.next ≡ old.next
-  pub going : now.going ≡ old.going
 
 pub record IsReached (old : Machine) (reach : Reach) (now : Machine) : Type 0 where
   pub objects : (id : ObjId) → object_of now id ≡ option_map (object_by reach id) (object_of old id)

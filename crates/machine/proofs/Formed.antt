@@ -13,7 +13,6 @@ use Rattle.machine.specs.declared.object.Object.TheVariants as o
 use Rattle.machine.specs.declared.object.ObjectKind.{ObjectKind}
 use Rattle.machine.specs.declared.object.ObjectKind.TheVariants as kind
 use Rattle.machine.specs.declared.slot_address.SlotAddress.{SlotAddress}
-use Rattle.machine.specs.declared.thread.Inbox.TheVariants as inbox
 use Rattle.machine.specs.declared.thread.RunState.{RunState}
 use Rattle.machine.specs.declared.thread.RunState.TheVariants as state
 use Rattle.machine.specs.declared.thread.Tcb.{Tcb}
@@ -23,14 +22,14 @@ use Rattle.machine.specs.Objects.{kind_of_object}
 use Rattle.machine.specs.Removal.{removed}
 use Rattle.machine.specs.Run.{Run}
 use Rattle.machine.specs.Step.{Step}
-use Rattle.machine.specs.WellFormed.{IsThread, IsWellFormed, LinksAgree, WaitsAtKind}
+use Rattle.machine.specs.WellFormed.{IsThread, IsWellFormed, WaitsAtKind}
 use Rattle.machine.proofs.Admission.{IsCaller}
 use Rattle.machine.proofs.FillsFormed.{derives_formed}
 use Rattle.machine.proofs.MovesFormed.{move_formed}
 use Rattle.machine.proofs.Inversion.{CallDone, EventDone, step_done}
 use Rattle.machine.proofs.JoinLinks.{join_moves}
 use Rattle.machine.proofs.LookUps.{object_of-with_object, object_of-with_queue, queue_of-with_object}
-use Rattle.machine.proofs.Outlines.{Steady, object_steady, queue_steady, steady_steady, slots_kept, parts_kept, numbers_kept}
+use Rattle.machine.proofs.Outlines.{Steady, queue_steady, steady_formed, steady_steady, thread_steady}
 use Rattle.machine.proofs.PollRow.{PollDone}
 use Rattle.machine.proofs.Queues.{first_in}
 use Rattle.machine.proofs.RemovalLinks.{removed_formed}
@@ -42,15 +41,6 @@ use Rattle.machine.proofs.WaitRow.{Blocks, WaitDone, awaiting}
 use Rattle.machine.proofs.WakeLinks.{wake_moves}
 use Rattle.machine.proofs.WordLinks.{SetsObject, word_steady, links_with_word}
 
-steady_formed : (m next : Machine) → Steady m next → LinksAgree next → IsWellFormed m → IsWellFormed next
-steady_formed m next steady links formed =
-    record {
-      slots = slots_kept m next steady formed.slots;
-      parts = parts_kept m next steady formed.parts;
-      links = links;
-      numbers = numbers_kept m next steady formed.numbers;
-    }
-
 -- a notification's word changes
 word_formed :
     (m : Machine) (id : ObjId) (old new : Notification) → object_of m id ≡ Some (o.Notification old)
@@ -58,14 +48,6 @@ word_formed :
 word_formed m id old new was same_address formed =
     steady_formed m (with_object m id (o.Notification new)) (word_steady m id old new was same_address)
     (links_with_word m id old new was same_address formed.links) formed
-
--- the content of a thread changes but for its address
-pub thread_steady :
-    (m : Machine) (id : ObjId) (old new : Tcb) → IsThread m id old → new.address ≡ old.address
-    → Steady m (with_object m id (o.Tcb new))
-thread_steady m id old new was same_address =
-    object_steady m id (o.Tcb old) (o.Tcb new) was
-    (λ i. o.Tcb (record { address = same_address i; state = state.Inactive; inbox = inbox.Empty; context = None }))
 
 -- who waits at a notification names no reply
 alone_at : (run : RunState) (at : ObjectKind) → at ≡ kind.Notification → WaitsAtKind run at → NamesNoReply run

@@ -10,9 +10,11 @@ use Rattle.machine.specs.declared.object.ReplyState.TheVariants as reply
 use Rattle.machine.specs.declared.object.Untyped.{Untyped}
 use Rattle.machine.specs.declared.thread.Inbox.TheVariants as inbox
 use Rattle.machine.specs.declared.thread.RunState.TheVariants as state
+use Rattle.machine.specs.declared.thread.Tcb.{Tcb}
 use Rattle.machine.specs.Machine.{Machine, object_of, queue_of, words_of, cap_of, parent_of, same_id, with_object, with_queue}
 use Rattle.machine.specs.Objects.{kind_of_object, slot_count, word_count, address_of, end_of}
-use Rattle.machine.specs.WellFormed.{kind_of, Descends, IsRanged, LiesIn, Meets, NumbersFit, PartsFit, SlotsFit}
+use Rattle.machine.specs.WellFormed.{kind_of, Descends, IsRanged, IsThread, IsWellFormed, LiesIn, LinksAgree, Meets}
+use Rattle.machine.specs.WellFormed.{NumbersFit, PartsFit, SlotsFit}
 use Rattle.machine.proofs.LookUps.{one_id, object_of-with_object, object_of-with_queue, queue_of-with_object, queue_of-with_queue}
 use Rattle.machine.proofs.LookUps.{words_of-with_object, words_of-with_queue, cap_of-with_object, cap_of-with_queue}
 use Rattle.machine.proofs.LookUps.{parent_of-with_object, parent_of-with_queue, number_of-with_object, number_of-with_queue}
@@ -73,6 +75,14 @@ queue_steady m id old threads was =
         → is_some (cond tie (Some threads) (queue_of m q)) ≡ is_some (queue_of m q)
     at q true e = sym (ap is_some was) ∙ ap (λ p. is_some (queue_of m p)) (sym (one_id q id e))
     at q false e = refl
+
+-- the content of a thread changes but for its address
+pub thread_steady :
+    (m : Machine) (id : ObjId) (old new : Tcb) → IsThread m id old → new.address ≡ old.address
+    → Steady m (with_object m id (o.Tcb new))
+thread_steady m id old new was same_address =
+    object_steady m id (o.Tcb old) (o.Tcb new) was
+    (λ i. o.Tcb (record { address = same_address i; state = state.Inactive; inbox = inbox.Empty; context = None }))
 
 pub steady_steady : (m mid next : Machine) → Steady m mid → Steady mid next → Steady m next
 steady_steady m mid next one two =
@@ -357,3 +367,13 @@ module _ (m next : Machine) (steady : Steady m next) where
             let was = fits.has_cap low high a.0 b.0 less a.1 b.1 (meets_before first second a.0 b.0 a.2 b.2 meets) in
             (was.0, was.1, cap_after was.0 was.1 was.2, was.3);
       }
+
+-- such a change keeps a machine well formed where its links agree
+pub steady_formed : (m next : Machine) → Steady m next → LinksAgree next → IsWellFormed m → IsWellFormed next
+steady_formed m next steady links formed =
+    record {
+      slots = slots_kept m next steady formed.slots;
+      parts = parts_kept m next steady formed.parts;
+      links = links;
+      numbers = numbers_kept m next steady formed.numbers;
+    }

@@ -195,7 +195,7 @@ empty_alone m slot formed empty = by_parent (parent_of m slot) refl where
       sym empty ∙ (formed.slots.child_filled slot parent is).1 in
       cc
 
-with_copy_fills :
+pub with_copy_fills :
     (m : Machine) (target source : SlotRef) (held : Cap) (detail : Detail) → IsWellFormed m → cap_of m target ≡ None
     → Fills m target (copied held detail) (parent_of_copy m source held) (with_copy m target source held detail)
 unfolding with_copy

@@ -1,7 +1,7 @@
 -- Changes by which threads, queues and replies are linked, and are so no more: a thread blocks at an object or calls through a reply,
 -- leaves its queue and its reply and is then ready, halted or aborted; and a thread and its scheduling context are unbound (seL4
 -- manual, "Threads and Execution", "Endpoints", "Notifications" and "Scheduling Contexts").
-use Rattle.std.specs.Prelude.{◌≡◌, List, Option, Some, None, Contains}
+use Rattle.std.specs.Prelude.{◌≡◌, Bool, List, Option, Some, None, Contains, if◌then◌else◌}
 use Rattle.base.specs.declared.ids.ObjId.{ObjId}
 use Rattle.machine.specs.declared.object.Object.{Object}
 use Rattle.machine.specs.declared.object.Object.TheVariants as o
@@ -113,6 +113,20 @@ with_unbound m thread = by_content (object_of m thread) where
   by_content : Option Object → Machine
   by_content (Some (o.Tcb tcb)) = cut tcb tcb.context
   by_content _ = m
+
+-- a reply is free where the thread that it held left
+abbrev pub reply_by : (ObjId → Bool) → ReplyState → ReplyState
+reply_by left (reply.Waiting thread) = if left thread then reply.Free else reply.Waiting thread
+reply_by left (reply.Called thread) = if left thread then reply.Free else reply.Called thread
+reply_by left reply.Free = reply.Free
+
+-- words, capabilities, the derivation tree, the next number and what is going are the same
+pub record SameRest (old now : Machine) : Type 0 where
+  pub words : now.words ≡ old.words
+  pub caps : now.caps ≡ old.caps
+  pub parents : now.parents ≡ old.parents
+  pub next : now.next ≡ old.next
+  pub going : now.going ≡ old.going
 
 -- a thread is in the queue where its run state says that it waits
 abbrev pub IsInItsQueue : Machine → ObjId → Type 0

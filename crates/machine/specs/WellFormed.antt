@@ -86,6 +86,22 @@ IsReceivingWith _ id = ⊥
 abbrev pub IsThread : Machine → ObjId → Tcb → Type 0
 IsThread m id thread = object_of m id ≡ Some (o.Tcb thread)
 
+-- a run state that waits at nothing and names nothing
+abbrev pub IsIdle : RunState → Type 0
+IsIdle state.Inactive = Unit {0}
+IsIdle state.Ready = Unit {0}
+IsIdle _ = ⊥
+
+-- a reply that holds nobody
+abbrev pub IsFree : Machine → ObjId → Type 0
+IsFree m id = (address : ℕ) × (object_of m id ≡ Some (o.Reply (record { address = address; state = reply.Free })))
+
+-- who waits at an object sends exactly where a run state does
+abbrev pub IsAlike : Machine → ObjId → RunState → Type 0
+IsAlike m id run =
+    (threads : List ObjId) (other : ObjId) (tcb : Tcb) → queue_of m id ≡ Some threads → Contains threads other
+    → IsThread m other tcb → (IsSending tcb.state → IsSending run) × (IsSending run → IsSending tcb.state)
+
 -- queues and run states, replies and threads, contexts and threads: each link is agreed at both ends
 pub record LinksAgree (m : Machine) : Type 0 where
   -- who is in a queue is a thread that waits there, and that kind of object is waited at so

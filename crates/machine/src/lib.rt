@@ -9,9 +9,11 @@ mod call;
 mod cap;
 mod kind_names;
 mod layout;
+mod message_laws;
 mod object;
 mod radix;
 mod removal_laws;
+mod row_laws;
 mod slot_address;
 mod spelling;
 mod step_laws;
@@ -21,6 +23,7 @@ pub use authority_laws::{authority_grows_with_capabilities, rights_alone_decide_
 pub use call::{Answer, Call, CapData, Event, Log, Made, Outcome};
 pub use cap::{Badged, Cap, Detail, Guard};
 pub use layout::{Binding, Filled, Initial, Pair};
+pub use message_laws::{blocks_keep_machines_well_formed, releases_keep_machines_well_formed};
 pub use object::{
     CNode, Context, Control, Endpoint, Frame, MemoryKind, Notification, Object, ObjectKind, Reply,
     ReplyState, Share, Untyped,
@@ -32,6 +35,7 @@ pub use removal_laws::{
     orphans_come_to_their_nearest_ancestor, removals_keep_machines_well_formed,
     vanished_objects_are_finalised, what_goes_is_the_least_closed_set,
 };
+pub use row_laws::messages_keep_machines_well_formed;
 pub use slot_address::{Ends, SlotAddress};
 pub use step_laws::{
     retypes_keep_machines_well_formed, steps_keep_machines_well_formed, steps_of_one_event_agree,

@@ -15,12 +15,12 @@ use Rattle.machine.specs.declared.thread.Tcb.{Tcb}
 use Rattle.machine.specs.Changes.{with_reply, with_tcb, without_waiting}
 use Rattle.machine.specs.Finalising.{IsHolding, aborted, halted}
 use Rattle.machine.specs.Machine.{Machine, object_of, queue_of, same_id, with_object, with_queue}
+use Rattle.machine.specs.Releasing.{SameRest, reply_by, unblocked, with_aborted, with_free, with_halted, with_holding, with_named}
+use Rattle.machine.specs.Releasing.{with_released}
 use Rattle.machine.specs.WellFormed.{IsThread, WaitsAt}
+use Rattle.machine.proofs.Filters.{filter_all}
 use Rattle.machine.proofs.Ids.{at_itself, at_other, itself, one_or_two}
 use Rattle.machine.proofs.LookUps.{object_of-with_object, object_of-with_queue, one_id, queue_of-with_object, queue_of-with_queue}
-use Rattle.finalising.specs.Reached.{SameRest, reply_by}
-use Rattle.machine.specs.Releasing.{unblocked, with_aborted, with_free, with_halted, with_holding, with_named, with_released}
-use Rattle.finalising.proofs.Filters.{filter_all}
 
 -- whether a run state names a reply
 abbrev pub Names : RunState → ObjId → Type 0
@@ -71,7 +71,7 @@ pub rest-with_object : (m : Machine) (id : ObjId) (object : Object) → SameRest
 unfolding with_object
 rest-with_object m id object = record { words = refl; caps = refl; parents = refl; next = refl; going = refl }
 
-rest-with_queue : (m : Machine) (id : ObjId) (threads : List ObjId) → SameRest m (with_queue m id threads)
+pub rest-with_queue : (m : Machine) (id : ObjId) (threads : List ObjId) → SameRest m (with_queue m id threads)
 unfolding with_queue
 rest-with_queue m id threads = record { words = refl; caps = refl; parents = refl; next = refl; going = refl }
 
@@ -147,20 +147,20 @@ reply_is :
 unfolding with_reply
 reply_is m id old new there = rw there refl
 
-free_is :
-    (m : Machine) (id : ObjId) (holding : Reply) → object_of m id ≡ Some (o.Reply holding)
-    → with_free m id ≡ with_object m id (o.Reply (record holding { state = reply.Free }))
+pub holding_is :
+    (m : Machine) (id : ObjId) (holding : Reply) (holds : ReplyState) → object_of m id ≡ Some (o.Reply holding)
+    → with_holding m id holds ≡ with_object m id (o.Reply (record holding { state = holds }))
 unfolding with_holding
-free_is m id holding there = rw there (reply_is m id holding (record holding { state = reply.Free }) there)
+holding_is m id holding holds there = rw there (reply_is m id holding (record holding { state = holds }) there)
 
-held_freed : (thread : ObjId) (run : ReplyState) → IsHolding run thread → reply_by (λ other. same_id other thread) run ≡ reply.Free
+pub held_freed : (thread : ObjId) (run : ReplyState) → IsHolding run thread → reply_by (λ other. same_id other thread) run ≡ reply.Free
 held_freed thread (reply.Waiting held) same =
     ap (λ b. cond b reply.Free (reply.Waiting held)) (ap (λ (h : ObjId). same_id h thread) same ∙ itself thread)
 held_freed thread (reply.Called held) same =
     ap (λ b. cond b reply.Free (reply.Called held)) (ap (λ (h : ObjId). same_id h thread) same ∙ itself thread)
 held_freed thread reply.Free same = absurd same
 
-others_kept : (thread : ObjId) (run : ReplyState) → ¬ (IsHolding run thread) → reply_by (λ other. same_id other thread) run ≡ run
+pub others_kept : (thread : ObjId) (run : ReplyState) → ¬ (IsHolding run thread) → reply_by (λ other. same_id other thread) run ≡ run
 others_kept thread (reply.Waiting held) differs =
     ap (λ b. cond b reply.Free (reply.Waiting held)) (apart_ids held thread differs)
 others_kept thread (reply.Called held) differs =
@@ -182,7 +182,7 @@ leave_reply :
     → ((q : ObjId) (other : Reply) → object_of m q ≡ Some (o.Reply other) → IsHolding other.state thread → q ≡ id)
     → (q : ObjId) → object_of (with_free m id) q ≡ option_map (freed thread) (object_of m q)
 leave_reply m id thread holding there is alone q =
-    ap (λ (n : Machine). object_of n q) (free_is m id holding there)
+    ap (λ (n : Machine). object_of n q) (holding_is m id holding reply.Free there)
     ∙ (object_of-with_object m id (o.Reply (record holding { state = reply.Free })) q ∙ by_id (one_or_two q id)) where
       by_id :
           (q ≡ id) ⊎ (q ≢ id)
@@ -200,13 +200,13 @@ queues_freed :
     (m : Machine) (id : ObjId) (holding : Reply) → object_of m id ≡ Some (o.Reply holding)
     → (q : ObjId) → queue_of (with_free m id) q ≡ queue_of m q
 queues_freed m id holding there q =
-    ap (λ (n : Machine). queue_of n q) (free_is m id holding there)
+    ap (λ (n : Machine). queue_of n q) (holding_is m id holding reply.Free there)
     ∙ queue_of-with_object m id (o.Reply (record holding { state = reply.Free })) q
 
 rest_freed :
     (m : Machine) (id : ObjId) (holding : Reply) → object_of m id ≡ Some (o.Reply holding) → SameRest m (with_free m id)
 rest_freed m id holding there =
-    subst (λ (n : Machine). SameRest m n) (sym (free_is m id holding there))
+    subst (λ (n : Machine). SameRest m n) (sym (holding_is m id holding reply.Free there))
     (rest-with_object m id (o.Reply (record holding { state = reply.Free })))
 
 -- a thread is blocked no more
@@ -306,14 +306,18 @@ module _ (m : Machine) (thread : ObjId) (tcb new : Tcb) (there : IsThread m thre
       (rest_along m mid (with_object mid thread (o.Tcb new)) (unblocked_rest m thread tcb.state links)
       (rest-with_object mid thread (o.Tcb new)))
 
+pub released_there :
+    (m : Machine) (thread : ObjId) (tcb : Tcb) (change : Tcb → Tcb) → IsThread m thread tcb
+    → with_released m thread change ≡ with_tcb (unblocked m thread tcb.state) thread (change tcb)
+unfolding with_released
+released_there m thread tcb change there = rw there refl
+
 pub halted_is :
     (m : Machine) (thread : ObjId) (tcb : Tcb) → IsThread m thread tcb
     → with_halted m thread ≡ with_tcb (unblocked m thread tcb.state) thread (halted tcb)
-unfolding with_released
-halted_is m thread tcb there = rw there refl
+halted_is m thread tcb there = released_there m thread tcb halted there
 
 pub aborted_is :
     (m : Machine) (thread : ObjId) (tcb : Tcb) → IsThread m thread tcb
     → with_aborted m thread ≡ with_tcb (unblocked m thread tcb.state) thread (aborted tcb)
-unfolding with_released
-aborted_is m thread tcb there = rw there refl
+aborted_is m thread tcb there = released_there m thread tcb aborted there

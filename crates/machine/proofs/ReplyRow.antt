@@ -1,0 +1,56 @@
+-- What a reply does that is made: the thread that has called through it gets the words; where none has, nothing changes.
+use Rattle.std.proofs.Common.{◌≡◌, ℕ, ◌⊎◌, inl, inr, false, List, refl, sym, ap, ◌∙◌}
+use Rattle.std.specs.Prelude.{Option, Some, Ok}
+use Rattle.base.specs.declared.ids.ObjId.{ObjId}
+use Rattle.machine.specs.declared.call.Made.{Made}
+use Rattle.machine.specs.declared.object.Object.{Object}
+use Rattle.machine.specs.declared.object.Object.TheVariants as o
+use Rattle.machine.specs.declared.object.ReplyState.{ReplyState}
+use Rattle.machine.specs.declared.object.ReplyState.TheVariants as reply
+use Rattle.machine.specs.Machine.{Machine, object_of}
+use Rattle.machine.specs.Releasing.{with_given}
+use Rattle.machine.specs.Step.Find.{find_reply}
+use Rattle.machine.specs.Step.Reply.{answered, caller_in, reply_of}
+use Rattle.machine.proofs.Conditions.{both_done, same_ok}
+use Rattle.machine.proofs.EndpointRow.{FindsReply, finds_reply}
+
+-- a thread that has called through a reply is answered, where one has
+abbrev pub Answers : Machine → ObjId → List ℕ → Machine → Type 0
+Answers m id words next =
+    ((thread : ObjId) × (at : ℕ)
+    × (object_of m id ≡ Some (o.Reply (record { address = at; state = reply.Called thread })))
+    × (next ≡ with_given m thread (record { badge = 0; words = words; capability = false })))
+    ⊎ (next ≡ m)
+
+pub record ReplyDone (m : Machine) (caller : ObjId) (address : ℕ) (words : List ℕ) (next : Machine) : Type 0 where
+  pub id : ObjId
+  pub finds : FindsReply m caller address id
+  pub changes : Answers m id words next
+
+answers :
+    (m : Machine) (id : ObjId) (words : List ℕ) (next : Machine) → answered m (caller_in (object_of m id)) words ≡ next
+    → Answers m id words next
+answers m id words next e = by_content (object_of m id) refl e where
+  by_content :
+      (content : Option Object) → object_of m id ≡ content → answered m (caller_in content) words ≡ next
+      → Answers m id words next
+  by_content (Some (o.Reply holding)) is does = by_state holding.state (is ∙ refl) does where
+    by_state :
+        (run : ReplyState) → object_of m id ≡ Some (o.Reply (record { address = holding.address; state = run }))
+        → answered m (caller_in (Some (o.Reply (record { address = holding.address; state = run })))) words ≡ next
+        → Answers m id words next
+    by_state (reply.Called thread) at does = inl (thread, holding.address, at, sym does)
+    by_state _ at does = inr (sym does)
+  by_content _ is does = inr (sym does)
+
+pub reply_done :
+    (m : Machine) (caller : ObjId) (address : ℕ) (words : List ℕ) (made : Made) (next : Machine)
+    → reply_of m caller address words ≡ Ok (made, next) → ReplyDone m caller address words next
+unfolding reply_of
+reply_done m caller address words made next e =
+    let found = both_done (find_reply m caller address) _ (made, next) e in
+    record {
+      id = found.0;
+      finds = finds_reply m caller address found.0 found.1;
+      changes = answers m found.0 words next (ap (λ p. p.1) (same_ok found.2));
+    }

@@ -1,0 +1,120 @@
+-- What a send and a call do that are made: the message goes to the thread that waits first to receive, and a call waits for the
+-- answer; where none does, the caller waits.
+use Rattle.std.proofs.Common.{◌≡◌, ℕ, ◌⊎◌, inl, inr, true, false, List, refl, sym, ap}
+use Rattle.std.specs.Prelude.{Option, Some, None, Ok, option_map}
+use Rattle.base.specs.declared.ids.ObjId.{ObjId}
+use Rattle.machine.specs.declared.call.Made.{Made}
+use Rattle.machine.specs.declared.call.Made.TheVariants.{Blocked}
+use Rattle.machine.specs.declared.object.Endpoint.{Endpoint}
+use Rattle.machine.specs.declared.object.Object.TheVariants as o
+use Rattle.machine.specs.declared.thread.Receiving.{Receiving}
+use Rattle.machine.specs.declared.thread.RunState.TheVariants as state
+use Rattle.machine.specs.declared.thread.Sending.{Sending}
+use Rattle.machine.specs.Capabilities.{can_write}
+use Rattle.machine.specs.Machine.{Machine, object_of}
+use Rattle.machine.specs.Objects.{kind_of_object}
+use Rattle.machine.specs.Releasing.{with_blocked}
+use Rattle.machine.specs.Step.Deliver.{answer_through, delivered, first_at, linked, receiver_in, sending_by}
+use Rattle.machine.specs.Step.Send.{called_or_waits, endpoint_call_of, send_of, sent_or_waits}
+use Rattle.machine.specs.WellFormed.{IsAlike, IsWellFormed}
+use Rattle.machine.proofs.Conditions.{same_ok}
+use Rattle.machine.proofs.EndpointRow.{IsEndOpen, IsReceiver, no_receiver, opens_end, receiver_first}
+
+-- a message goes to a receiver that waits at an endpoint, or its sender waits there
+abbrev pub Sends : Machine → ObjId → ObjId → Sending → (ObjId → Receiving → Machine) → Machine → Type 0
+Sends m id caller sending does next =
+    ((receiver : ObjId) × (receiving : Receiving) × IsReceiver m id receiver receiving × (next ≡ does receiver receiving))
+    ⊎ (IsAlike m id (state.Sending sending) × (next ≡ with_blocked m caller id (state.Sending sending)))
+
+pub record SendDone (m : Machine) (caller : ObjId) (address : ℕ) (words : List ℕ) (capability : Option ℕ) (next : Machine)
+    : Type 0 where
+  pub open_to : IsEndOpen m caller address (λ end. can_write end.rights)
+  pub changes :
+      ((receiver : ObjId) × (receiving : Receiving) × IsReceiver m open_to.id receiver receiving
+      × (next ≡ delivered m caller (sending_by open_to.id open_to.end false words capability) receiver receiving))
+      ⊎ (IsAlike m open_to.id (state.Sending (sending_by open_to.id open_to.end false words capability))
+      × (next ≡ with_blocked m caller open_to.id (state.Sending (sending_by open_to.id open_to.end false words capability))))
+
+pub record EndpointCallDone (m : Machine) (caller : ObjId) (address : ℕ) (words : List ℕ) (capability : Option ℕ) (next : Machine)
+    : Type 0 where
+  pub open_to : IsEndOpen m caller address (λ end. can_write end.rights)
+  pub changes :
+      ((receiver : ObjId) × (receiving : Receiving) × IsReceiver m open_to.id receiver receiving
+      × (next
+      ≡ linked (delivered m caller (sending_by open_to.id open_to.end true words capability) receiver receiving) caller
+      (answer_through (sending_by open_to.id open_to.end true words capability) receiving.reply)))
+      ⊎ (IsAlike m open_to.id (state.Sending (sending_by open_to.id open_to.end true words capability))
+      × (next ≡ with_blocked m caller open_to.id (state.Sending (sending_by open_to.id open_to.end true words capability))))
+
+module _ (m : Machine) (caller : ObjId) (sending : Sending) (endpoint : Endpoint) (formed : IsWellFormed m)
+    (there : object_of m sending.endpoint ≡ Some (o.Endpoint endpoint)) where
+  sends :
+      (made : Made) (next : Machine)
+      → sent_or_waits m caller sending (receiver_in (first_at m sending.endpoint)) ≡ (made, next)
+      → Sends m sending.endpoint caller sending (delivered m caller sending) next
+  sends made next does = by_first (receiver_in (first_at m sending.endpoint)) refl does where
+    by_first :
+        (first : Option (ObjId × Receiving)) → receiver_in (first_at m sending.endpoint) ≡ first
+        → sent_or_waits m caller sending first ≡ (made, next)
+        → Sends m sending.endpoint caller sending (delivered m caller sending) next
+    by_first (Some (receiver, receiving)) is does =
+        inl (receiver, receiving, receiver_first m sending.endpoint formed receiver receiving is, sym (ap (λ p. p.1) does))
+    by_first None is does =
+        inr
+        (no_receiver m sending.endpoint formed (ap (option_map kind_of_object) there) sending is, sym (ap (λ p. p.1) does))
+
+  -- a call's delivery, after which it waits for the answer
+  abbrev calling : ObjId → Receiving → Machine
+  calling receiver receiving =
+      linked (delivered m caller sending receiver receiving) caller (answer_through sending receiving.reply)
+
+  calls :
+      (next : Machine) → called_or_waits m caller sending (receiver_in (first_at m sending.endpoint)) ≡ next
+      → Sends m sending.endpoint caller sending calling next
+  calls next does = by_first (receiver_in (first_at m sending.endpoint)) refl does where
+    by_first :
+        (first : Option (ObjId × Receiving)) → receiver_in (first_at m sending.endpoint) ≡ first
+        → called_or_waits m caller sending first ≡ next
+        → Sends m sending.endpoint caller sending calling next
+    by_first (Some (receiver, receiving)) is does =
+        inl (receiver, receiving, receiver_first m sending.endpoint formed receiver receiving is, sym does)
+    by_first None is does =
+        inr (no_receiver m sending.endpoint formed (ap (option_map kind_of_object) there) sending is, sym does)
+
+pub send_done :
+    (m : Machine) (caller : ObjId) (address : ℕ) (words : List ℕ) (capability : Option ℕ) (made : Made) (next : Machine)
+    → IsWellFormed m → send_of m caller address words capability ≡ Ok (made, next)
+    → SendDone m caller address words capability next
+unfolding send_of
+send_done m caller address words capability made next formed e =
+    let row = opens_end m caller address (λ end. can_write end.rights)
+    (λ found. Ok (sent_or_waits m caller (sending_by found.0 found.1 false words capability) (receiver_in (first_at m found.0))))
+    (made, next) formed e in
+    let open_to = row.0 in
+    record {
+      open_to = open_to;
+      changes =
+          sends m caller (sending_by open_to.id open_to.end false words capability) open_to.endpoint formed open_to.there made
+          next (same_ok row.1);
+    }
+
+pub endpoint_call_done :
+    (m : Machine) (caller : ObjId) (address : ℕ) (words : List ℕ) (capability : Option ℕ) (made : Made) (next : Machine)
+    → IsWellFormed m → endpoint_call_of m caller address words capability ≡ Ok (made, next)
+    → EndpointCallDone m caller address words capability next
+unfolding endpoint_call_of
+endpoint_call_done m caller address words capability made next formed e =
+    let row = opens_end m caller address (λ end. can_write end.rights)
+    (λ found.
+    Ok (
+      Blocked,
+      called_or_waits m caller (sending_by found.0 found.1 true words capability) (receiver_in (first_at m found.0)),
+    ))
+    (made, next) formed e in
+    let open_to = row.0 in
+    record {
+      open_to = open_to;
+      changes =
+          calls m caller (sending_by open_to.id open_to.end true words capability) open_to.endpoint formed open_to.there next
+          (ap (λ p. p.1) (same_ok row.1));
+    }

@@ -1,0 +1,67 @@
+ghost use Rattle.base.specs.declared.ids.ObjId.{ObjId as Number};
+ghost use Rattle.std.specs.Prelude.{◌≡◌, Some};
+ghost use Rattle.machine.specs.declared.object.Object.TheVariants as o;
+ghost use Rattle.machine.specs.declared.object.ObjectKind.{ObjectKind as Kind};
+ghost use Rattle.machine.specs.declared.object.ObjectKind.TheVariants as kind;
+ghost use Rattle.machine.specs.declared.object.Reply.{Reply as Holding};
+ghost use Rattle.machine.specs.declared.thread.Message.{Message as Given};
+ghost use Rattle.machine.specs.declared.thread.Receiving.{Receiving as Receives};
+ghost use Rattle.machine.specs.declared.thread.RunState.{RunState as State};
+ghost use Rattle.machine.specs.declared.thread.RunState.TheVariants as state;
+ghost use Rattle.machine.specs.declared.thread.Tcb.{Tcb as Thread};
+ghost use Rattle.machine.specs.Machine.{Machine, object_of};
+ghost use Rattle.machine.specs.Releasing.{with_aborted, with_blocked, with_called, with_given, with_halted};
+ghost use Rattle.machine.specs.Releasing.{with_holder_halted, with_ready};
+ghost use Rattle.machine.specs.Step.Fetch.{emptied};
+ghost use Rattle.machine.specs.Step.Receive.{awaiting_message};
+ghost use Rattle.machine.specs.WellFormed.{IsAlike, IsFree, IsIdle, IsReceivingWith, IsThread, IsWellFormed};
+ghost use Rattle.machine.specs.WellFormed.{WaitsAt, WaitsAtKind, kind_of};
+
+/// A law: a thread that leaves its queue and its reply keeps a well-formed machine well formed,
+/// whether it is then ready, halted or aborted, or has a message. A reply whose thread is halted is
+/// free. The inbox of a thread that isn't blocked may become empty.
+pub fn releases_keep_machines_well_formed()
+    ensures given { (m : Machine) (thread : Number) (message : Given) → IsWellFormed m → IsWellFormed (with_given m thread message) }
+    ensures ready { (m : Machine) (thread : Number) → IsWellFormed m → IsWellFormed (with_ready m thread) }
+    ensures halted { (m : Machine) (thread : Number) → IsWellFormed m → IsWellFormed (with_halted m thread) }
+    ensures aborted { (m : Machine) (thread : Number) → IsWellFormed m → IsWellFormed (with_aborted m thread) }
+    ensures holder { (m : Machine) (id : Number) → IsWellFormed m → IsWellFormed (with_holder_halted m id) }
+    ensures free { (m : Machine) (id : Number) (holding : Holding)
+        → IsWellFormed m
+        → object_of m id ≡ Some (o.Reply holding)
+        → IsFree (with_holder_halted m id) id }
+    ensures emptied { (m : Machine) (thread : Number) (tcb : Thread)
+        → IsWellFormed m
+        → IsThread m thread tcb
+        → IsIdle tcb.state
+        → IsWellFormed (emptied m thread) }
+{}
+
+/// A law: a thread that isn't blocked keeps a well-formed machine well formed where it comes to wait
+/// at an object as the others there do, and where it waits with a reply that holds nobody.
+pub fn blocks_keep_machines_well_formed()
+    ensures blocked { (m : Machine) (thread id : Number) (tcb : Thread) (run : State) (at : Kind)
+        → IsWellFormed m
+        → IsThread m thread tcb
+        → IsIdle tcb.state
+        → kind_of m id ≡ Some at
+        → WaitsAt run id
+        → WaitsAtKind run at
+        → ((named : Number) → ¬ (IsReceivingWith run named))
+        → IsAlike m id run
+        → IsWellFormed (with_blocked m thread id run) }
+    ensures awaiting { (m : Machine) (caller : Number) (tcb : Thread) (receiving : Receives)
+        → IsWellFormed m
+        → IsThread m caller tcb
+        → IsIdle tcb.state
+        → kind_of m receiving.endpoint ≡ Some kind.Endpoint
+        → IsAlike m receiving.endpoint (state.Receiving receiving)
+        → ((id : Number) → receiving.reply ≡ Some id → IsFree m id)
+        → IsWellFormed (awaiting_message m caller receiving) }
+    ensures called { (m : Machine) (thread id : Number) (tcb : Thread)
+        → IsWellFormed m
+        → IsThread m thread tcb
+        → IsIdle tcb.state
+        → IsFree m id
+        → IsWellFormed (with_called m thread id) }
+{}
