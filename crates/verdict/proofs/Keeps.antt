@@ -18,7 +18,7 @@ use Rattle.verdict.specs.Budgets.{MayConfigure}
 use Rattle.verdict.specs.Invariant.{IsHeld}
 use Rattle.verdict.specs.Shrinks.{IsSame}
 use Rattle.verdict.proofs.ObjectLabels.{same_label, label_stays, labelled_there}
-use Rattle.verdict.proofs.Shrinking.{same_same, same_shrinks, shrinks_same, shrinks_shrinks}
+use Rattle.verdict.proofs.Shrinking.{same_context, same_same, same_shrinks, shrinks_same, shrinks_shrinks}
 
 -- an object is as it was, or changed within the authority of a label
 abbrev pub Acts : Layout → EdgeTest → ℕ → Machine → Machine → ObjId → Type 0
@@ -43,6 +43,22 @@ pub record Keeps (t : Layout) (allowed : EdgeTest) (began : Machine) (event : Ev
 -- some event of a thread, for what is kept and doesn't hang on the event
 abbrev pub some_event : ObjId → Event
 some_event thread = record { core = 0; thread = thread; call = Signal 0 }
+
+-- nothing changed
+pub unchanged :
+    (t : Layout) (allowed : EdgeTest) (began : Machine) (event : Event) (a : ℕ) (m : Machine) → IsHeld t allowed m
+    → Keeps t allowed began event a m m
+unchanged t allowed began event a m held = record {
+  held = held;
+  acts = λ q. inl (record { content = refl; queue = refl; words = refl; slots = λ index. refl });
+  stays = λ q old new was is.
+      let same = same_Some new old (sym is ∙ was) in (ap kind_of_object same, ap address_of same);
+  born = λ q new gone is. absurd (none-some new (sym gone ∙ is));
+  grows = omega arith;
+  budgets = λ q old new was is.
+      let same = same_Some (o.Context new) (o.Context old) (sym is ∙ was) in
+      inl (ap (λ (c : Context). c.share) (same_context new old same));
+}
 
 context_by_kind : (object : Object) → kind_of_object object ≡ kind.Context → (context : Context) × (object ≡ o.Context context)
 context_by_kind (o.Context context) is = (context, refl)

@@ -16,6 +16,7 @@ pub mod SlotCalls
 pub mod SetKeeps
 pub mod Contents
 pub mod NotificationKeeps
+pub mod MessageTouches
 pub mod Runs
 pub mod AtBoot
 pub mod Gains

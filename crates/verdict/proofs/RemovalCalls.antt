@@ -21,11 +21,10 @@ use Rattle.policy.specs.Domain.{EdgeTest}
 use Rattle.verdict.specs.Invariant.{IsSound}
 use Rattle.verdict.specs.Removals.{MayRemove}
 use Rattle.verdict.proofs.Held.{held_of}
-use Rattle.verdict.proofs.Keeps.{Keeps}
+use Rattle.verdict.proofs.Keeps.{Keeps, unchanged}
 use Rattle.verdict.proofs.Reach.{IsControlled, led_controlled}
 use Rattle.verdict.proofs.RemovalConfined.{descends_derive}
 use Rattle.verdict.proofs.RemovalKeeps.{removed_keeps, removed_sound}
-use Rattle.verdict.proofs.RetypeKeeps.{unchanged}
 
 module _
     (t : Layout) (allowed : EdgeTest) (event : Event) (a : ℕ) (m : Machine) (sound : IsSound t allowed m) (closed : IsClosed allowed)
@@ -85,7 +84,7 @@ module _
           ⊎ ((held : Cap) × (cap_of m done.slot ≡ Some held) × (next ≡ removed m (chosen done.slot)))
           → Keeps t allowed m event a m next
       by_cap (inl none) =
-          subst (λ (n : Machine). Keeps t allowed m event a m n) (sym none.1) (unchanged t allowed m event a closed m (held_of t allowed m sound))
+          subst (λ (n : Machine). Keeps t allowed m event a m n) (sym none.1) (unchanged t allowed m event a m (held_of t allowed m sound))
       by_cap (inr some) =
           subst (λ (n : Machine). Keeps t allowed m event a m n) (sym some.2)
           (removed_keeps t allowed m (chosen done.slot) sound closed m event a (may done.slot done.found))

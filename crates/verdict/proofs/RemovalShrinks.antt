@@ -29,7 +29,7 @@ use Rattle.verdict.specs.Shrinks.Stops.{goes_on, aborted, halted}
 use Rattle.verdict.proofs.Held.{bare_of}
 
 -- who stay of a list, in their order, are a part of it
-part_of_all : (test : ObjId → Bool) (all : List ObjId) → IsPart (filter test all) all
+pub part_of_all : (test : ObjId → Bool) (all : List ObjId) → IsPart (filter test all) all
 part_of_all test [] = ended
 part_of_all test (x ∷ all) = by_test (test x) (part_of_all test all) where
   by_test : (b : Bool) → IsPart (filter test all) all → IsPart (cond b (x ∷ filter test all) (filter test all)) (x ∷ all)

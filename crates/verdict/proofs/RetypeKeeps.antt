@@ -1,13 +1,11 @@
 -- Retype within a caller's authority: the untyped memory and the CNode are controlled by the caller's label, and so is all that is made.
 use Rattle.std.proofs.Common.{◌≡◌, ℕ, zero, suc, ◌+◌, ◌≤◌, ◌⊎◌, inl, inr, Bool, true, false, List, [], ◌∷◌, Some, None, option_map, refl, sym, ap, subst, ◌∙◌, arith}
 use Rattle.std.specs.Prelude.{if◌then◌else◌}
-use Rattle.std.proofs.lemmas.Option.{none-some, same_Some}
 use Rattle.base.specs.declared.ids.ObjId.{ObjId}
 use Rattle.base.specs.declared.ids.SlotRef.{SlotRef}
 use Rattle.base.specs.declared.kind.Kind.TheVariants as authority
 use Rattle.machine.specs.declared.call.Event.{Event}
 use Rattle.machine.specs.declared.cap.Cap.{Cap}
-use Rattle.machine.specs.declared.object.Context.{Context}
 use Rattle.machine.specs.declared.object.MemoryKind.{MemoryKind}
 use Rattle.machine.specs.declared.object.Object.{Object}
 use Rattle.machine.specs.declared.object.Object.TheVariants as o
@@ -18,7 +16,7 @@ use Rattle.machine.specs.Capabilities.{gives}
 use Rattle.machine.specs.Layout.{Layout}
 use Rattle.machine.specs.Machine.{Machine, object_of, same_id}
 use Rattle.machine.specs.Memory.{Source, begun, has_child, new_detail, new_object, new_size, placed, taken, with_made}
-use Rattle.machine.specs.Objects.{kind_of_object, address_of, end_of}
+use Rattle.machine.specs.Objects.{kind_of_object}
 use Rattle.machine.specs.Step.Retype.{window}
 use Rattle.machine.specs.WellFormed.{IsWellFormed, kind_of}
 use Rattle.machine.proofs.LookUps.{same_machine}
@@ -31,11 +29,10 @@ use Rattle.policy.specs.Domain.{EdgeTest, IsInDomain}
 use Rattle.verdict.specs.Invariant.{IsHeld, IsSound}
 use Rattle.verdict.proofs.Held.{held_of}
 use Rattle.verdict.proofs.Joined.{joined_of}
-use Rattle.verdict.proofs.Keeps.{Keeps, keeps_keeps}
+use Rattle.verdict.proofs.Keeps.{Keeps, keeps_keeps, unchanged}
 use Rattle.verdict.proofs.MakeKeeps.{MayMake, make_keeps}
 use Rattle.verdict.proofs.ObjectLabels.{kind_there, label_stays, labelled_there}
 use Rattle.verdict.proofs.Reach.{IsControlled, found_in_reach, found_within, shown_controlled}
-use Rattle.verdict.proofs.Shrinking.{same_context}
 use Rattle.verdict.proofs.Walks.{shows}
 
 -- a machine that is made so is the one that the row says
@@ -74,20 +71,6 @@ record HasAtHand (t : Layout) (allowed : EdgeTest) (a : ℕ) (node : ObjId) (m :
   domain : IsInDomain allowed a above
 
 module _ (t : Layout) (allowed : EdgeTest) (began : Machine) (event : Event) (a : ℕ) (closed : IsClosed allowed) where
-  -- nothing changed
-  pub unchanged : (m : Machine) → IsHeld t allowed m → Keeps t allowed began event a m m
-  unchanged m held = record {
-    held = held;
-    acts = λ q. inl (record { content = refl; queue = refl; words = refl; slots = λ index. refl });
-    stays = λ q old new was is.
-        let same = same_Some new old (sym is ∙ was) in (ap kind_of_object same, ap address_of same);
-    born = λ q new gone is. absurd (none-some new (sym gone ∙ is));
-    grows = omega arith;
-    budgets = λ q old new was is.
-        let same = same_Some (o.Context new) (o.Context old) (sym is ∙ was) in
-        inl (ap (λ (c : Context). c.share) (same_context new old same));
-  }
-
   module _ (of : MemoryKind) (bits : ℕ) (node : ObjId) where
     -- what is there is there after one was made
     there_after :
@@ -167,7 +150,7 @@ module _ (t : Layout) (allowed : EdgeTest) (began : Machine) (event : Event) (a 
         → HasAtHand t allowed a node m source → AreOf node slots → MakesAll of bits m source slots next
         → Keeps t allowed began event a m next
     unfolding AreOf
-    all_keep {m = m} held formed hand on none = unchanged m held
+    all_keep {m = m} held formed hand on none = unchanged t allowed began event a m held
     all_keep {next = next} {source = source} held formed hand on (first {m = m} {between = between} {slot = slot} can makes rest) =
         let mark : ℕ = (taken (new_size of bits) source.memory).watermark in
         let object : Object = new_object of bits (placed (new_size of bits) source.memory) in
