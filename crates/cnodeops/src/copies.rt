@@ -10,7 +10,7 @@ use derivation::insert_child;
 use machine::{Badged, Cap, Detail, Ends};
 use objects::State;
 
-/// Refuses to copy untyped memory.
+/// Refuses to copy untyped memory (seL4 manual, "Capability Derivation Tree": it has one capability).
 pub fn copyable(detail: &Detail) -> Result<(), Cause>
     ensures { result ≡ copyable detail.now }
 {
@@ -60,7 +60,12 @@ fn parent_of_copy(state: &State, slot: SlotRef, source: &Cap) -> Option<SlotRef>
     }
 }
 
-/// Fills the target with a copy that says this, and puts it into the derivation tree.
+/// Fills the target, an empty slot that is there, with a copy of what the source holds that says this,
+/// and puts it into the derivation tree: as a child of the source where that is original, else of the
+/// source's parent, if it has one (seL4 manual, "Capability Derivation Tree").
+///
+/// No memory is taken. Whether the kind may be copied, and what a copy may say, is the caller's to see
+/// to.
 #[tactic(auto, unfolding(machine::specs::Tree::with_copy))]
 pub fn derive(state: &mut State, ends: Ends, detail: Detail)
     requires well_formed { IsWellFormed state.old }

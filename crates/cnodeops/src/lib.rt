@@ -10,7 +10,8 @@ mod minting;
 mod moving;
 mod slots;
 
+pub use copies::{copyable, derive};
 pub use copying::copy;
 pub use minting::mint;
 pub use moving::move_cap;
-pub use slots::target;
+pub use slots::{target, vacant};

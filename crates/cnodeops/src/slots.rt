@@ -30,8 +30,9 @@ pub fn target(state: &State, caller: ObjId, address: SlotAddress) -> Result<Slot
     resolve_target(state, slot, address.index, address.depth)
 }
 
-/// Refuses where a slot is filled.
-fn vacant(filling: Option<Cap>) -> Result<(), Cause>
+/// Refuses to fill a slot that is filled, where this is what it holds (seL4 manual,
+/// seL4_DeleteFirst).
+pub fn vacant(filling: Option<Cap>) -> Result<(), Cause>
     ensures { result ≡ vacant filling }
 {
     match filling {

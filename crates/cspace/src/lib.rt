@@ -1,4 +1,5 @@
-//! Guarded lookup: from an address to a slot of a thread's capability space, by shifts and masks.
+//! Guarded lookup: from an address to a slot of a thread's capability space, by shifts and masks; and
+//! what a call finds there.
 #![tactic(auto)]
 
 mod chain;
@@ -9,7 +10,7 @@ mod walk;
 mod word;
 
 pub use chain::lookup_follows_a_chain;
-pub use find::find_cap;
+pub use find::{find_cap, find_endpoint, find_notification, find_reply, permit};
 pub use level::Level;
 pub use target::{lookup_target, resolve_target};
 pub use walk::{level_at, lookup, resolve};

@@ -1,28 +1,13 @@
 ghost use Rattle.std.specs.Prelude.{◌≡◌};
-ghost use Rattle.base.specs.declared.ids.ObjId.{ObjId as Id};
 ghost use Rattle.machine.specs.WellFormed.{LinksAgree};
-ghost use Rattle.machine.specs.Releasing.{IsInItsQueue, with_halted, with_holder_halted, with_unbound};
+ghost use Rattle.machine.specs.Releasing.{IsInItsQueue, with_halted, with_unbound};
 ghost use Rattle.finalising.specs.Finalised.{with_link_cut, with_links_cut, with_waiters_aborted};
 
-use crate::release::{abort, halt, unbind};
+use crate::release::unbind;
 use base::ObjId;
-use machine::{Object, ReplyState};
+use machine::Object;
 use objects::State;
-
-/// Halts the thread that the reply holds, if it holds one; that frees it. Does nothing where there is
-/// no reply of that number.
-#[tactic(auto, unfolding(machine::specs::Releasing::with_holder_halted))]
-pub(crate) fn halt_holder(state: &mut State, id: ObjId)
-    requires { (thread : Id) → IsInItsQueue state.old thread }
-    ensures { state.new ≡ with_holder_halted state.old id }
-{
-    if let Some(&Object::Reply(holding)) = state.object(id) {
-        match holding.state {
-            ReplyState::Waiting(thread) | ReplyState::Called(thread) => halt(state, thread),
-            ReplyState::Free => {}
-        }
-    }
-}
+use replies::{abort, halt};
 
 /// Aborts each thread that waits at the object.
 fn abort_waiters(state: &mut State, id: ObjId)
@@ -53,7 +38,7 @@ fn cut_context(state: &mut State, thread: Option<ObjId>)
 }
 
 /// Releases who waits at the object, and cuts its links to others; a reply's are those that
-/// [`halt_holder`] cuts.
+/// [`replies::unlink`] cuts.
 #[tactic(auto, unfolding(crate::specs::Finalised::with_links_cut))]
 pub(crate) fn cut_links(state: &mut State, id: ObjId)
     requires { LinksAgree state.old }

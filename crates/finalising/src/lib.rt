@@ -7,4 +7,4 @@ mod pass;
 mod release;
 
 pub use pass::finalise;
-pub use release::{abort, halt, unbind};
+pub use release::unbind;

@@ -4,8 +4,9 @@ ghost use Rattle.machine.specs.Machine.{same_id};
 ghost use Rattle.machine.specs.WellFormed.{LinksAgree};
 ghost use Rattle.finalising.specs.Pass.{IsFinalised};
 
-use crate::kinds::{cut_links, halt_holder};
+use crate::kinds::cut_links;
 use objects::State;
+use replies::unlink;
 
 /// Releases who waits for an object that is going, and cuts all links to such objects. Who is reached
 /// by a reply is halted first, so that it isn't aborted.
@@ -16,7 +17,7 @@ pub fn finalise(state: &mut State)
     let count = state.going_count();
     for place in 0..count {
         if let Some(id) = state.going(place) {
-            halt_holder(state, id);
+            unlink(state, id);
         }
     }
     for index in 0..count {

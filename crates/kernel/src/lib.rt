@@ -6,7 +6,6 @@ mod admit;
 mod boot_laws;
 mod boot_state;
 mod calls;
-mod find;
 mod poll;
 mod runs;
 mod signal;

@@ -1,10 +1,10 @@
 ghost use Rattle.machine.specs.Makes.{Makes};
 ghost use Rattle.machine.specs.Step.Poll.{poll_of};
 
-use crate::find::{find_notification, permit};
 use crate::signal::pending;
 use base::{Cause, ObjId, Rights};
 use bitflags::Flags;
+use cspace::{find_notification, permit};
 use machine::{Answer, Made};
 use objects::State;
 

@@ -3,9 +3,9 @@ ghost use Rattle.machine.specs.Makes.{Makes};
 ghost use Rattle.machine.specs.Machine.{object_of};
 ghost use Rattle.machine.specs.Step.Signal.{pending_in, signal_of, signalled, woken};
 
-use crate::find::{find_notification, permit};
 use base::{Cause, ObjId, Rights};
 use bitflags::Flags;
+use cspace::{find_notification, permit};
 use machine::{Answer, Inbox, Made, Notification, Object, RunState, Tcb};
 use objects::State;
 use queues::pop_first;

@@ -1,31 +1,14 @@
-ghost use Rattle.std.specs.Prelude.{◌≡◌};
 ghost use Rattle.machine.specs.Makes.{Makes};
-ghost use Rattle.machine.specs.Step.Wait.{wait_of, waiting};
+ghost use Rattle.machine.specs.Step.Wait.{wait_of};
 ghost use Rattle.objects.specs.Waiting.{WaitsNowhere};
 
-use crate::find::{find_notification, permit};
 use crate::signal::pending;
 use base::{Cause, ObjId, Rights};
 use bitflags::Flags;
-use machine::{Answer, Made, Object, RunState, Tcb};
+use cspace::{find_notification, permit};
+use machine::{Answer, Made, RunState};
 use objects::State;
-use queues::push_last;
-
-/// Has a thread wait at a notification, after those that wait there.
-#[tactic(auto, unfolding(machine::specs::Step::Wait::waiting))]
-fn block(state: &mut State, thread: ObjId, id: ObjId)
-    requires { WaitsNowhere state.old thread }
-    ensures { state.new ≡ waiting state.old thread id }
-{
-    if let Some(Object::Tcb(old)) = state.object(thread) {
-        let tcb = Tcb {
-            state: RunState::Waiting(id),
-            ..*old
-        };
-        state.set_tcb(thread, tcb);
-        push_last(state, id, thread);
-    }
-}
+use queues::block;
 
 /// Takes the word of the notification at an address; where it has none, the caller waits for one
 /// (seL4 manual, "Notifications").
@@ -42,7 +25,7 @@ pub fn wait(state: &mut State, caller: ObjId, address: u64) -> Result<Made, Caus
             Ok(Made::Done(Answer::Word(word)))
         }
         None => {
-            block(state, caller, notification);
+            block(state, caller, notification, RunState::Waiting(notification));
             Ok(Made::Blocked)
         }
     }

@@ -9,8 +9,9 @@ use Rattle.machine.specs.declared.thread.Tcb.{Tcb}
 use Rattle.machine.specs.Capabilities.{can_read}
 use Rattle.machine.specs.Changes.{with_tcb, with_waiting}
 use Rattle.machine.specs.Machine.{Machine, object_of, queue_of, with_object, with_queue}
+use Rattle.machine.specs.Releasing.{with_blocked}
 use Rattle.machine.specs.Step.Signal.{pending_in}
-use Rattle.machine.specs.Step.Wait.{taken_or_awaited, wait_of, waiting}
+use Rattle.machine.specs.Step.Wait.{taken_or_awaited, wait_of}
 use Rattle.machine.specs.WellFormed.{IsThread, IsWellFormed}
 use Rattle.machine.proofs.Admission.{IsCaller}
 use Rattle.machine.proofs.Conditions.{same_ok}
@@ -38,8 +39,9 @@ pub record WaitDone (m : Machine) (caller : ObjId) (address : ℕ) (next : Machi
 waiting_there :
     (m : Machine) (caller id : ObjId) (thread : Tcb) (threads : List ObjId) → IsThread m caller thread
     → queue_of m id ≡ Some threads
-    → waiting m caller id ≡ with_queue (with_object m caller (o.Tcb (awaiting thread id))) id (threads ++ caller ∷ [])
-unfolding waiting with_tcb with_waiting
+    → with_blocked m caller id (state.Waiting id)
+    ≡ with_queue (with_object m caller (o.Tcb (awaiting thread id))) id (threads ++ caller ∷ [])
+unfolding with_blocked with_tcb with_waiting
 waiting_there m caller id thread threads there waited =
     rw (there, there, queue_of-with_object m caller (o.Tcb (awaiting thread id)) id, waited) refl
 

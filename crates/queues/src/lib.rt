@@ -4,9 +4,11 @@
 ghost use Rattle.std.specs.Prelude.{◌≡◌, None, IsSome};
 ghost use Rattle.machine.specs.Machine.{object_of};
 ghost use Rattle.machine.specs.Changes.{first_waiting, with_waiting, without_first, without_waiting};
+ghost use Rattle.machine.specs.Releasing.{with_blocked};
 ghost use Rattle.objects.specs.Waiting.{WaitsNowhere, WaitsThere};
 
 use base::ObjId;
+use machine::{Object, RunState, Tcb};
 use objects::State;
 
 /// Puts a thread behind those that wait at an object. Does nothing where there is no such object.
@@ -16,6 +18,19 @@ pub fn push_last(state: &mut State, id: ObjId, thread: ObjId)
     ensures { state.new ≡ with_waiting state.old id thread }
 {
     state.push_waiting(id, thread);
+}
+
+/// Has a thread wait at an object in a run state, after those that wait there (seL4 manual, "Threads
+/// and Execution"). Does nothing where there is no such thread.
+#[tactic(auto, unfolding(machine::specs::Releasing::with_blocked))]
+pub fn block(state: &mut State, thread: ObjId, id: ObjId, run: RunState)
+    requires { WaitsNowhere state.old thread }
+    ensures { state.new ≡ with_blocked state.old thread id run }
+{
+    if let Some(&Object::Tcb(tcb)) = state.object(thread) {
+        state.set_tcb(thread, Tcb { state: run, ..tcb });
+        push_last(state, id, thread);
+    }
 }
 
 /// Takes the first of the threads that wait at an object, and says which it was. The others stay in

@@ -2,7 +2,7 @@ ghost use Rattle.std.specs.Prelude.{◌≡◌, IfOk, OnOk};
 ghost use Rattle.machine.specs.Machine.{empty_machine, with_new};
 
 use super::*;
-use machine::{Inbox, Notification, Object, RunState, Tcb};
+use machine::{Inbox, Notification};
 use std::alloc::AllocError;
 use std::process::Abort;
 use std::test::Fail;

@@ -1,21 +1,90 @@
 ghost use Rattle.std.specs.Prelude.{◌≡◌};
-ghost use Rattle.machine.specs.Releasing.{with_free};
+ghost use Rattle.base.specs.declared.ids.ObjId.{ObjId as Id};
+ghost use Rattle.machine.specs.declared.object.ReplyState.TheVariants.{Waiting};
+ghost use Rattle.machine.specs.declared.thread.Tcb.{Tcb as Thread};
+ghost use Rattle.machine.specs.Releasing.{IsInItsQueue, with_called, with_free, with_holder_halted, with_holding};
+ghost use Rattle.machine.specs.WellFormed.{IsFree, IsIdle, IsThread, IsWellFormed};
 
+use crate::release::halt;
 use base::ObjId;
-use machine::{Object, Reply, ReplyState};
+use machine::{Object, Reply, ReplyState, RunState, Tcb, blocks_keep_machines_well_formed};
 use objects::State;
+
+/// Says whom the reply holds. No thread is changed.
+#[tactic(auto, unfolding(machine::specs::Releasing::with_holding))]
+fn hold(state: &mut State, id: ObjId, holds: ReplyState)
+    ensures { state.new ≡ with_holding state.old id holds }
+{
+    if let Some(&Object::Reply(holding)) = state.object(id) {
+        let changed = Reply {
+            state: holds,
+            ..holding
+        };
+        state.set_reply(id, changed);
+    }
+}
 
 /// Makes the reply hold nobody. The thread that it held isn't changed. Does nothing where there is no
 /// reply of that number.
-#[tactic(auto, unfolding(machine::specs::Releasing::with_holding))]
-pub fn unlink(state: &mut State, id: ObjId)
+pub(crate) fn free(state: &mut State, id: ObjId)
     ensures { state.new ≡ with_free state.old id }
 {
-    if let Some(&Object::Reply(holding)) = state.object(id) {
-        let freed = Reply {
-            state: ReplyState::Free,
-            ..holding
+    hold(state, id, ReplyState::Free);
+}
+
+/// Has the reply wait with a thread that waits for a message (seL4 manual, "Reply objects"). The thread
+/// isn't changed: its run state has to name the reply. Does nothing where there is no reply of that
+/// number.
+pub fn wait_with(state: &mut State, id: ObjId, thread: ObjId)
+    ensures { state.new ≡ with_holding state.old id (Waiting thread) }
+{
+    hold(state, id, ReplyState::Waiting(thread));
+}
+
+/// Says of a thread and a reply that each waits with the other for an answer.
+#[tactic(auto, unfolding(machine::specs::Releasing::with_called))]
+fn tie(state: &mut State, thread: ObjId, id: ObjId)
+    ensures { state.new ≡ with_called state.old thread id }
+{
+    if let Some(&Object::Tcb(tcb)) = state.object(thread) {
+        let called = Tcb {
+            state: RunState::Called(id),
+            ..tcb
         };
-        state.set_reply(id, freed);
+        state.set_tcb(thread, called);
+        hold(state, id, ReplyState::Called(thread));
+    }
+}
+
+/// Has a thread wait for the answer to its call, through a reply that then holds it (seL4 manual,
+/// "Reply objects"). Whom the reply held before isn't changed, nor is the queue in which the thread
+/// waited: the reply has to be free, and the thread ready or inactive. Does nothing where there is no
+/// such thread.
+pub fn link(state: &mut State, thread: ObjId, id: ObjId)
+    ensures called { state.new ≡ with_called state.old thread id }
+    ensures well_formed { (tcb : Thread)
+        → IsWellFormed state.old
+        → IsThread state.old thread tcb
+        → IsIdle tcb.state
+        → IsFree state.old id
+        → IsWellFormed state.new }
+{
+    // A law, so that the state stays well formed.
+    blocks_keep_machines_well_formed();
+    tie(state, thread, id);
+}
+
+/// Halts the thread that the reply holds, if it holds one; that frees it, so that both ends agree (seL4
+/// manual, "Reply objects"). Does nothing where there is no reply of that number.
+#[tactic(auto, unfolding(machine::specs::Releasing::with_holder_halted))]
+pub fn unlink(state: &mut State, id: ObjId)
+    requires { (thread : Id) → IsInItsQueue state.old thread }
+    ensures { state.new ≡ with_holder_halted state.old id }
+{
+    if let Some(&Object::Reply(holding)) = state.object(id) {
+        match holding.state {
+            ReplyState::Waiting(thread) | ReplyState::Called(thread) => halt(state, thread),
+            ReplyState::Free => {}
+        }
     }
 }

@@ -1,6 +1,11 @@
-//! Replies: through which one thread that calls is answered by another (seL4 manual, "Endpoints").
+//! Replies: through which one thread that calls is answered by another (seL4 manual, "Endpoints"); and
+//! how a blocked thread leaves its queue and its reply.
 #![tactic(auto)]
 
+mod answering;
 mod holding;
+mod release;
 
-pub use holding::unlink;
+pub use answering::reply;
+pub use holding::{link, unlink, wait_with};
+pub use release::{abort, give, halt, resume};

@@ -12,11 +12,15 @@ pub mod Keeps
 pub mod Steady
 pub mod TouchKeeps
 pub mod SlotKeeps
+pub mod FillKeeps
 pub mod SlotCalls
 pub mod SetKeeps
 pub mod Contents
 pub mod NotificationKeeps
 pub mod MessageTouches
+pub mod ArrivalKeeps
+pub mod MessageParts
+pub mod MessageKeeps
 pub mod Runs
 pub mod AtBoot
 pub mod Gains

@@ -1,6 +1,7 @@
 -- An object that is made from untyped memory keeps what a part of a call keeps: the memory is the caller's to control, so that all kinds
 -- of authority over it are, and its capability comes into a CNode that is the caller's to control too.
-use Rattle.std.proofs.Common.{◌≡◌, ◌≢◌, ℕ, ◌+◌, ◌≤◌, ◌<◌, ◌^◌, ◌⊎◌, inl, inr, Bool, true, false, Some, None, option_map, refl, sym, ap, subst, ◌∙◌, arith}
+use Rattle.std.proofs.Common.{◌≡◌, ◌≢◌, ℕ, ◌+◌, ◌≤◌, ◌<◌, inr, Bool, true, false, Some, None, option_map, refl, sym, ap, subst}
+use Rattle.std.proofs.Common.{◌∙◌, arith}
 use Rattle.std.specs.Prelude.{if◌then◌else◌}
 use Rattle.std.proofs.lemmas.Bool.{false≢true}
 use Rattle.std.proofs.lemmas.Nat.{pow_pos}
@@ -19,31 +20,30 @@ use Rattle.machine.specs.declared.object.Object.TheVariants as o
 use Rattle.machine.specs.declared.object.ObjectKind.TheVariants as kind
 use Rattle.machine.specs.declared.object.Untyped.{Untyped}
 use Rattle.machine.specs.Authority.{label_at, label_of, links}
-use Rattle.machine.specs.Authority.HasAuthority.{by_pair}
 use Rattle.machine.specs.Capabilities.{gives, kind_of_detail}
 use Rattle.machine.specs.Layout.{Layout}
 use Rattle.machine.specs.Machine.{Machine, object_of, queue_of, words_of, cap_of, parent_of, same_slot, with_cap, with_new, with_object, with_parent}
 use Rattle.machine.specs.Memory.{Source, new_cap, new_detail, new_object, new_size, placed, taken, with_made}
-use Rattle.machine.specs.Objects.{kind_of_object, address_of, end_of}
+use Rattle.machine.specs.Objects.{kind_of_object, end_of}
 use Rattle.machine.specs.WellFormed.{kind_of}
-use Rattle.machine.proofs.AuthorityLemmas.{gives_no_structure}
-use Rattle.machine.proofs.Ids.{at_itself, at_other, one_or_two}
-use Rattle.machine.proofs.LookUps.{cap_of-with_cap, cap_of-with_parent, object_of-with_new, object_of-with_object, one_slot, parent_of-with_cap, parent_of-with_parent}
+use Rattle.machine.proofs.Ids.{at_itself, at_other}
+use Rattle.machine.proofs.LookUps.{cap_of-with_cap, cap_of-with_parent, object_of-with_new, object_of-with_object}
+use Rattle.machine.proofs.LookUps.{parent_of-with_cap, parent_of-with_parent}
 use Rattle.machine.proofs.ObjectMade.{marked}
-use Rattle.machine.proofs.RetypeFormed.{new_address, new_end, new_kind}
-use Rattle.machine.proofs.SlotChanges.{SameObjects}
+use Rattle.machine.proofs.RetypeFormed.{new_address, new_kind}
+use Rattle.machine.proofs.SlotChanges.{Fills, SameObjects}
 use Rattle.policy.specs.Closed.{IsClosed}
 use Rattle.policy.specs.Domain.{EdgeTest, IsInDomain}
 use Rattle.policy.specs.Full.IsFull.{modifies}
 use Rattle.verdict.specs.Invariant.{IsBare, IsHeld}
 use Rattle.verdict.proofs.Contents.{full}
+use Rattle.verdict.proofs.FillKeeps.{MayFill, fill_fits, given_of_use, slots_elsewhere}
 use Rattle.verdict.proofs.Joined.{IsJoined, joined_set}
 use Rattle.verdict.proofs.Keeps.{Keeps, keeps_keeps}
 use Rattle.verdict.proofs.NewKeeps.{IsMakeable, new_keeps, new_label}
 use Rattle.verdict.proofs.ObjectLabels.{kind_there, same_label}
 use Rattle.verdict.proofs.Reach.{IsControlled}
 use Rattle.verdict.proofs.SetKeeps.{set_keeps}
-use Rattle.verdict.proofs.SlotCalls.{apart_slots}
 use Rattle.verdict.proofs.SlotKeeps.{SlotsFit, slots_keep}
 
 -- a new object links to nothing
@@ -210,26 +210,14 @@ module _
   unfolding with_object makeable
   here_label = new_label t allowed began event a m1 marks.held joined1 object makeable
 
-  mine : IsControlled t allowed m2 a slot.holder
-  mine = record {
-    is_node = ap (option_map kind_of_object) (node_same slot.holder may.node.is_node) ∙ may.node.is_node;
-    label = may.node.label;
-    labelled = node_label slot.holder may.node.is_node ∙ may.node.labelled;
-    controls = may.node.controls;
-  }
-
   -- each kind that the capability gives is the CNode's label's too
   edges : (k : Kind) → gives (new_detail of) k ≡ true → allowed may.node.label k may.label ≡ true
   edges k given =
       sym (closed.subjects_agree a may.node.label (inr may.node.controls) k of_use may.label)
       ∙ closed.control_gives_all a k may.label may.controls (inr (of_use, not_control))
     where
-      by_case : (structural : Bool) → is_structural k ≡ structural → is_structural k ≡ false
-      by_case true is = absurd (false≢true (sym (gives_no_structure (new_detail of) k is) ∙ given))
-      by_case false is = is
-
       of_use : is_structural k ≡ false
-      of_use = by_case (is_structural k) refl
+      of_use = given_of_use (new_detail of) k given
 
       not_control : k ≢ authority.SchedControl
       not_control is = false≢true (sym (no_control of) ∙ ap (gives (new_detail of)) (sym is) ∙ given)
@@ -246,55 +234,27 @@ module _
   unfolding object_of queue_of words_of with_cap with_parent
   same_objects = record { objects = λ q. refl; queues = λ q. refl; words = λ q. refl; number = refl; going = refl }
 
-  caps :
-      (q : SlotRef) (cap : Cap) → cap_of m3 q ≡ Some cap
-      → (cap_of m2 q ≡ Some cap)
-      ⊎ ((kind_of m2 q.holder ≡ Some kind.CNode)
-      × ((start : ℕ) (k : Kind) (end : ℕ) → gives cap.detail k ≡ true → label_of t m2 q.holder ≡ Some start
-      → label_of t m2 cap.object ≡ Some end → allowed start k end ≡ true))
-  unfolding mine
-  caps q cap e = by_tie (same_slot q slot) refl (sym (cap_now q) ∙ e) where
-    by_tie :
-        (tie : Bool) → same_slot q slot ≡ tie → (if tie then Some (new_cap m.next of) else cap_of m2 q) ≡ Some cap
-        → (cap_of m2 q ≡ Some cap)
-        ⊎ ((kind_of m2 q.holder ≡ Some kind.CNode)
-        × ((start : ℕ) (k : Kind) (end : ℕ) → gives cap.detail k ≡ true → label_of t m2 q.holder ≡ Some start
-        → label_of t m2 cap.object ≡ Some end → allowed start k end ≡ true))
-    by_tie false is same = inl same
-    by_tie true is same =
-        let at_slot = one_slot q slot is in
-        let cap_is : new_cap m.next of ≡ cap = same_Some _ _ same in
-        inr (
-          ap (λ (s : SlotRef). kind_of m2 s.holder) at_slot ∙ mine.is_node,
-          λ start k end given begins ends.
-              let start_is : start ≡ may.node.label =
-              same_Some start may.node.label (sym begins ∙ ap (λ (s : SlotRef). label_of t m2 s.holder) at_slot ∙ mine.labelled) in
-              let end_is : end ≡ may.label =
-              same_Some end may.label (sym ends ∙ ap (λ (c : Cap). label_of t m2 c.object) (sym cap_is) ∙ here_label) in
-              ap (λ l. allowed l k end) start_is ∙ ap (allowed may.node.label k) end_is
-              ∙ edges k (ap (λ (c : Cap). gives c.detail k) cap_is ∙ given),
-        )
+  node_still : kind_of m2 slot.holder ≡ Some kind.CNode
+  node_still = ap (option_map kind_of_object) (node_same slot.holder may.node.is_node) ∙ may.node.is_node
 
-  pairs :
-      (q parent : SlotRef) (start end : ℕ) → parent_of m3 q ≡ Some parent → label_of t m2 parent.holder ≡ Some start
-      → label_of t m2 q.holder ≡ Some end → allowed start authority.Derive end ≡ true
-  unfolding mine
-  pairs q parent start end e begins ends = by_tie (same_slot q slot) refl (sym (parent_now q) ∙ e) where
-    by_tie :
-        (tie : Bool) → same_slot q slot ≡ tie → (if tie then Some source.slot else parent_of m2 q) ≡ Some parent
-        → allowed start authority.Derive end ≡ true
-    by_tie false is same = made.held.confined start authority.Derive end (by_pair q parent same begins ends)
-    by_tie true is same =
-        let at_slot = one_slot q slot is in
-        let parent_is : source.slot ≡ parent = same_Some _ _ same in
+  may_fill : MayFill t allowed a m2 slot (new_cap m.next of) (Some source.slot)
+  may_fill = record {
+    is_node = node_still;
+    label = may.node.label;
+    labelled = node_label slot.holder may.node.is_node ∙ may.node.labelled;
+    has = modifies authority.Control refl may.node.controls;
+    edges = λ k end given ends. ap (allowed may.node.label k) (same_Some end may.label (sym ends ∙ here_label)) ∙ edges k given;
+    derives = λ above start is begins.
         let start_is : start ≡ may.above =
         same_Some start may.above
-        (sym begins ∙ ap (λ (s : SlotRef). label_of t m2 s.holder) (sym parent_is) ∙ node_label source.slot.holder may.is_node
-        ∙ may.above_labelled) in
-        let end_is : end ≡ may.node.label =
-        same_Some end may.node.label (sym ends ∙ ap (λ (s : SlotRef). label_of t m2 s.holder) at_slot ∙ mine.labelled) in
-        ap (λ l. allowed l authority.Derive end) start_is ∙ ap (allowed may.above authority.Derive) end_is
-        ∙ closed.derive_in_domain a may.above may.node.label may.domain (inr may.node.controls)
+        (sym begins ∙ ap (λ (s : SlotRef). label_of t m2 s.holder) (sym (same_Some source.slot above is))
+        ∙ node_label source.slot.holder may.is_node ∙ may.above_labelled) in
+        ap (λ l. allowed l authority.Derive may.node.label) start_is
+        ∙ closed.derive_in_domain a may.above may.node.label may.domain (inr may.node.controls);
+  }
+
+  fills : Fills m2 slot (new_cap m.next of) (Some source.slot) m3
+  fills = record { objects = same_objects; caps = cap_now; parents = parent_now }
 
   kinds : (q : SlotRef) (cap : Cap) → cap_of m3 q ≡ Some cap → kind_of m3 cap.object ≡ Some (kind_of_detail cap.detail)
   kinds q cap e = ap (option_map kind_of_object) (same_objects.objects cap.object) ∙ by_tie (same_slot q slot) (sym (cap_now q) ∙ e) where
@@ -310,37 +270,18 @@ module _
   bare q gone =
       let before = made.held.bare q (sym (same_objects.objects q) ∙ gone) in
       let apart : q ≢ slot.holder = λ same.
-      let node = kind_there m2 slot.holder kind.CNode mine.is_node in
+      let node = kind_there m2 slot.holder kind.CNode node_still in
       none-some node.0 (sym gone ∙ same_objects.objects q ∙ ap (object_of m2) same ∙ node.1) in
       record {
         queue = same_objects.queues q ∙ before.queue;
         words = same_objects.words q ∙ before.words;
-        slots = λ index. elsewhere q index apart ∙ before.slots index;
+        slots = λ index.
+            slots_elsewhere t allowed a m2 m3 made.held slot (new_cap m.next of) (Some source.slot) may_fill fills q apart index
+            ∙ before.slots index;
       }
-    where
-      elsewhere :
-          (i : ObjId) (index : ℕ) → i ≢ slot.holder
-          → cap_of m3 (record { holder = i; index = index }) ≡ cap_of m2 (record { holder = i; index = index })
-      elsewhere i index apart =
-          cap_now (record { holder = i; index = index })
-          ∙ ap (λ tie. if tie then Some (new_cap m.next of) else cap_of m2 (record { holder = i; index = index }))
-          (apart_slots (record { holder = i; index = index }) slot apart)
 
   fit : SlotsFit t allowed a m2 m3
-  fit = record {
-    same = same_objects;
-    caps = caps;
-    pairs = pairs;
-    slots = λ i. elim (one_or_two i slot.holder) [
-      | inl same ↦ inr (subst (λ (n : ObjId). IsControlled t allowed m2 a n) (sym same) mine)
-      | inr apart ↦ inl (λ index.
-          cap_now (record { holder = i; index = index })
-          ∙ ap (λ tie. if tie then Some (new_cap m.next of) else cap_of m2 (record { holder = i; index = index }))
-          (apart_slots (record { holder = i; index = index }) slot apart))
-    ];
-    kinds = kinds;
-    bare = bare;
-  }
+  fit = fill_fits t allowed a m2 m3 made.held slot (new_cap m.next of) (Some source.slot) may_fill fills kinds bare
 
   pub make_keeps : Keeps t allowed began event a m (with_made m source of bits slot)
   unfolding with_made

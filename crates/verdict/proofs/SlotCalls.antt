@@ -2,7 +2,6 @@
 -- same, and derive on one another.
 use Rattle.std.proofs.Common.{◌≡◌, ◌≢◌, ℕ, ◌⊎◌, inl, inr, Bool, true, false, Some, None, refl, sym, ap, subst, ◌∙◌}
 use Rattle.std.specs.Prelude.{if◌then◌else◌}
-use Rattle.std.proofs.lemmas.Bool.{false≢true}
 use Rattle.std.proofs.lemmas.Option.{none-some, same_Some}
 use Rattle.base.specs.declared.ids.ObjId.{ObjId}
 use Rattle.base.specs.declared.ids.SlotRef.{SlotRef}
@@ -20,7 +19,7 @@ use Rattle.machine.specs.Layout.{Layout}
 use Rattle.machine.specs.Machine.{Machine, cap_of, parent_of, same_slot}
 use Rattle.machine.specs.Tree.{copied, exchange, parent_of_copy}
 use Rattle.machine.specs.WellFormed.{IsWellFormed, kind_of}
-use Rattle.machine.proofs.AuthorityLemmas.{gives_fewer, gives_no_structure}
+use Rattle.machine.proofs.AuthorityLemmas.{gives_fewer}
 use Rattle.machine.proofs.FillsFormed.{derives_formed}
 use Rattle.machine.proofs.Ids.{one_or_two}
 use Rattle.machine.proofs.LedSlots.{led_slot}
@@ -29,18 +28,13 @@ use Rattle.machine.proofs.MovesFormed.{move_formed, pair_was}
 use Rattle.machine.proofs.SlotRows.{Derives, MoveDone}
 use Rattle.policy.specs.Closed.{IsClosed, derived}
 use Rattle.policy.specs.Domain.{EdgeTest}
+use Rattle.policy.specs.Full.IsFull.{modifies}
 use Rattle.verdict.specs.Invariant.{IsHeld, IsSound}
+use Rattle.verdict.proofs.FillKeeps.{MayFill, apart_slots, copy_derives, fill_fits, given_of_use}
 use Rattle.verdict.proofs.Held.{bare_of, held_of}
 use Rattle.verdict.proofs.Keeps.{Keeps}
 use Rattle.verdict.proofs.Reach.{IsControlled, led_controlled}
-use Rattle.verdict.proofs.SlotKeeps.{SlotsFit, slots_keep}
-
--- a slot of another object is another slot
-pub apart_slots : (q slot : SlotRef) → q.holder ≢ slot.holder → same_slot q slot ≡ false
-apart_slots q slot apart = by_tie (same_slot q slot) refl where
-  by_tie : (tie : Bool) → same_slot q slot ≡ tie → same_slot q slot ≡ false
-  by_tie true is = absurd (apart (ap (λ (s : SlotRef). s.holder) (one_slot q slot is)))
-  by_tie false is = is
+use Rattle.verdict.proofs.SlotKeeps.{SlotsFit, opened, slots_keep}
 
 -- one label is near another: what may derive to it may derive to the other, and where it may derive to the other may
 record IsNear (allowed : EdgeTest) (label other : ℕ) : Type 0 where
@@ -68,12 +62,6 @@ module _
       sym (closed.subjects_agree a y.label (inr y.controls) k of_use end)
       ∙ closed.subjects_agree a x.label (inr x.controls) k of_use end ∙ edge
 
-  of_use : (cap : Cap) (k : Kind) → gives cap.detail k ≡ true → is_structural k ≡ false
-  of_use cap k given = by_case (is_structural k) refl where
-    by_case : (structural : Bool) → is_structural k ≡ structural → is_structural k ≡ false
-    by_case true is = absurd (false≢true (sym (gives_no_structure cap.detail k is) ∙ given))
-    by_case false is = is
-
   -- what a found capability gives, from the label of any CNode that the caller's controls
   edges :
       (target source : SlotRef) (held : Cap) → (y : Controlled target.holder) → Controlled source.holder
@@ -82,7 +70,7 @@ module _
   edges target source held y x filled k start end given begins ends =
       let is : start ≡ y.label = same_Some start y.label (sym begins ∙ y.labelled) in
       ap (λ l. allowed l k end) is
-      ∙ same_edges source.holder target.holder x y k end (of_use held k given)
+      ∙ same_edges source.holder target.holder x y k end (given_of_use held.detail k given)
       (held_before.confined x.label k end (by_cap source held filled x.is_node given x.labelled ends))
 
   module _ (done : Derives m caller to from next) where
@@ -95,80 +83,25 @@ module _
     formed : IsWellFormed next
     formed = derives_formed m caller to from next sound.well_formed done
 
-    copy_caps :
-        (q : SlotRef) (cap : Cap) → cap_of next q ≡ Some cap
-        → (cap_of m q ≡ Some cap)
-        ⊎ ((kind_of m q.holder ≡ Some kind.CNode)
-        × ((start : ℕ) (k : Kind) (end : ℕ) → gives cap.detail k ≡ true → label_of t m q.holder ≡ Some start
-        → label_of t m cap.object ≡ Some end → allowed start k end ≡ true))
-    copy_caps q cap e = by_tie (same_slot q done.target) refl (sym (done.changes.caps q) ∙ e) where
-      by_tie :
-          (tie : Bool) → same_slot q done.target ≡ tie
-          → (if tie then Some (copied done.held done.detail) else cap_of m q) ≡ Some cap
-          → (cap_of m q ≡ Some cap)
-          ⊎ ((kind_of m q.holder ≡ Some kind.CNode)
-          × ((start : ℕ) (k : Kind) (end : ℕ) → gives cap.detail k ≡ true → label_of t m q.holder ≡ Some start
-          → label_of t m cap.object ≡ Some end → allowed start k end ≡ true))
-      by_tie false is same = inl same
-      by_tie true is same =
-          let at = one_slot q done.target is in
-          let cap_is : copied done.held done.detail ≡ cap = same_Some _ _ same in
-          inr (
-            ap (λ (s : SlotRef). kind_of m s.holder) at ∙ mine.is_node,
-            λ start k end given begins ends.
-                edges done.target done.source done.held mine source_mine done.finds.filled k start end
-                (gives_fewer done.detail done.held.detail k done.narrower (ap (λ (c : Cap). gives c.detail k) cap_is ∙ given))
-                (ap (λ (s : SlotRef). label_of t m s.holder) (sym at) ∙ begins)
-                (ap (λ (c : Cap). label_of t m c.object) cap_is ∙ ends),
-          )
-
-    copy_pairs :
-        (q parent : SlotRef) (start end : ℕ) → parent_of next q ≡ Some parent → label_of t m parent.holder ≡ Some start
-        → label_of t m q.holder ≡ Some end → allowed start authority.Derive end ≡ true
-    copy_pairs q parent start end e begins ends = by_tie (same_slot q done.target) refl (sym (done.changes.parents q) ∙ e) where
-      between : allowed source_mine.label authority.Derive mine.label ≡ true
-      between = derives done.source.holder done.target.holder source_mine mine
-
-      by_original :
-          (original : Bool) → (if original then Some done.source else parent_of m done.source) ≡ Some parent
-          → allowed start authority.Derive mine.label ≡ true
-      by_original true same =
-          let at : done.source ≡ parent = same_Some _ _ same in
-          let is : start ≡ source_mine.label =
-          same_Some start source_mine.label (sym begins ∙ ap (λ (s : SlotRef). label_of t m s.holder) (sym at) ∙ source_mine.labelled) in
-          ap (λ l. allowed l authority.Derive mine.label) is ∙ between
-      by_original false above =
-          closed.derive_by_grant start mine.label
-          (derived source_mine.label
-          (held_before.confined start authority.Derive source_mine.label
-          (by_pair done.source parent above begins source_mine.labelled)) between)
-
-      by_tie :
-          (tie : Bool) → same_slot q done.target ≡ tie
-          → (if tie then parent_of_copy m done.source done.held else parent_of m q) ≡ Some parent
-          → allowed start authority.Derive end ≡ true
-      by_tie false is same = held_before.confined start authority.Derive end (by_pair q parent same begins ends)
-      by_tie true is same =
-          let at = one_slot q done.target is in
-          let end_is : end ≡ mine.label =
-          same_Some end mine.label (sym ends ∙ ap (λ (s : SlotRef). label_of t m s.holder) at ∙ mine.labelled) in
-          ap (λ l. allowed start authority.Derive l) end_is ∙ by_original done.held.original same
+    copy_may : MayFill t allowed a m done.target (copied done.held done.detail) (parent_of_copy m done.source done.held)
+    copy_may = record {
+      is_node = mine.is_node;
+      label = mine.label;
+      labelled = mine.labelled;
+      has = modifies authority.Control refl mine.controls;
+      edges = λ k end given ends.
+          edges done.target done.source done.held mine source_mine done.finds.filled k mine.label end
+          (gives_fewer done.detail done.held.detail k done.narrower given) mine.labelled ends;
+      derives =
+          copy_derives t allowed m held_before closed.derive_by_grant done.source done.held source_mine.label mine.label
+          source_mine.labelled (derives done.source.holder done.target.holder source_mine mine);
+    }
 
     copy_fits : SlotsFit t allowed a m next
-    copy_fits = record {
-      same = done.changes.objects;
-      caps = copy_caps;
-      pairs = copy_pairs;
-      slots = λ id. elim (one_or_two id done.target.holder) [
-        | inl same ↦ inr (subst (λ (i : ObjId). IsControlled t allowed m a i) (sym same) mine)
-        | inr apart ↦ inl (λ index.
-            done.changes.caps (record { holder = id; index = index })
-            ∙ ap (λ tie. if tie then Some (copied done.held done.detail) else cap_of m (record { holder = id; index = index }))
-            (apart_slots (record { holder = id; index = index }) done.target apart))
-      ];
-      kinds = formed.slots.object;
-      bare = bare_of next formed;
-    }
+    copy_fits =
+        fill_fits t allowed a m next held_before done.target (copied done.held done.detail)
+        (parent_of_copy m done.source done.held) copy_may
+        done.changes formed.slots.object (bare_of next formed)
 
     pub derive_keeps : Keeps t allowed m event a m next
     derive_keeps = slots_keep t allowed m event a m next held_before copy_fits
@@ -277,9 +210,9 @@ module _
       caps = move_caps;
       pairs = move_pairs;
       slots = λ id. elim (one_or_two id done.target.holder) [
-        | inl same ↦ inr (subst (λ (i : ObjId). IsControlled t allowed m a i) (sym same) goal_mine)
+        | inl same ↦ inr (opened t allowed m a id (subst (λ (i : ObjId). IsControlled t allowed m a i) (sym same) goal_mine))
         | inr apart ↦ elim (one_or_two id done.source.holder) [
-          | inl same ↦ inr (subst (λ (i : ObjId). IsControlled t allowed m a i) (sym same) start_mine)
+          | inl same ↦ inr (opened t allowed m a id (subst (λ (i : ObjId). IsControlled t allowed m a i) (sym same) start_mine))
           | inr also ↦ inl (others_keep id apart also)
         ]
       ];

@@ -22,6 +22,7 @@ use Rattle.machine.specs.WellFormed.{kind_of}
 use Rattle.machine.proofs.SameObjects.{kinds_same}
 use Rattle.machine.proofs.SlotChanges.{SameObjects}
 use Rattle.policy.specs.Domain.{EdgeTest}
+use Rattle.policy.specs.Full.{IsFull}
 use Rattle.policy.specs.Full.IsFull.{modifies}
 use Rattle.verdict.specs.Confined.{IsConfined}
 use Rattle.verdict.specs.Invariant.{IsBare, IsHeld}
@@ -31,6 +32,18 @@ use Rattle.verdict.proofs.Keeps.{Acts, Keeps}
 use Rattle.verdict.proofs.ObjectLabels.{same_label}
 use Rattle.verdict.proofs.Reach.{IsControlled}
 use Rattle.verdict.proofs.Shrinking.{same_context}
+
+-- a label has full authority over an object's
+pub record IsOpened (t : Layout) (allowed : EdgeTest) (m : Machine) (a : ℕ) (id : ObjId) : Type 0 where
+  pub label : ℕ
+  pub labelled : label_of t m id ≡ Some label
+  pub has : IsFull allowed a label
+
+-- a CNode that it controls is such an object
+pub opened :
+    (t : Layout) (allowed : EdgeTest) (m : Machine) (a : ℕ) (node : ObjId) → IsControlled t allowed m a node
+    → IsOpened t allowed m a node
+opened t allowed m a node c = record { label = c.label; labelled = c.labelled; has = modifies authority.Control refl c.controls }
 
 -- what a change of slots has to meet
 pub record SlotsFit (t : Layout) (allowed : EdgeTest) (a : ℕ) (m next : Machine) : Type 0 where
@@ -46,10 +59,10 @@ pub record SlotsFit (t : Layout) (allowed : EdgeTest) (a : ℕ) (m next : Machin
   pub pairs :
       (q parent : SlotRef) (from to : ℕ) → parent_of next q ≡ Some parent → label_of t m parent.holder ≡ Some from
       → label_of t m q.holder ≡ Some to → allowed from authority.Derive to ≡ true
-  -- an object's slots are as they were, or it is a CNode that the caller's label controls
+  -- an object's slots are as they were, or the caller's label may change it
   pub slots :
       (id : ObjId) → ((index : ℕ) → cap_of next (record { holder = id; index = index }) ≡ cap_of m (record { holder = id; index = index }))
-      ⊎ IsControlled t allowed m a id
+      ⊎ IsOpened t allowed m a id
   -- the object of a capability is of its kind, and what is absent has nothing
   pub kinds : (q : SlotRef) (cap : Cap) → cap_of next q ≡ Some cap → kind_of next cap.object ≡ Some (kind_of_detail cap.detail)
   pub bare : (id : ObjId) → object_of next id ≡ None → IsBare next id
@@ -110,11 +123,11 @@ module _
   acts q = by_case (fit.slots q) where
     by_case :
         ((index : ℕ) → cap_of next (record { holder = q; index = index }) ≡ cap_of m (record { holder = q; index = index }))
-        ⊎ IsControlled t allowed m a q → Acts t allowed a m next q
+        ⊎ IsOpened t allowed m a q → Acts t allowed a m next q
     by_case (inl slots) =
         inl (record { content = fit.same.objects q; queue = fit.same.queues q; words = fit.same.words q; slots = slots })
     by_case (inr mine) =
-        inr (full t allowed a m next q mine.label mine.labelled (modifies authority.Control refl mine.controls))
+        inr (full t allowed a m next q mine.label mine.labelled mine.has)
 
   pub slots_keep : Keeps t allowed began event a m next
   slots_keep = record {

@@ -6,27 +6,19 @@ use Rattle.base.specs.declared.refusal.Cause.{Cause}
 use Rattle.machine.specs.declared.call.Answer.TheVariants as answer
 use Rattle.machine.specs.declared.call.Made.{Made}
 use Rattle.machine.specs.declared.call.Made.TheVariants.{Done, Blocked}
-use Rattle.machine.specs.declared.object.Object.{Object}
-use Rattle.machine.specs.declared.object.Object.TheVariants as o
 use Rattle.machine.specs.declared.thread.RunState.TheVariants as state
 use Rattle.machine.specs.Capabilities.{can_read}
-use Rattle.machine.specs.Changes.{with_pending, with_tcb, with_waiting}
+use Rattle.machine.specs.Changes.{with_pending}
 use Rattle.machine.specs.Machine.{Machine, object_of}
 use Rattle.machine.specs.Refusing.{◌>>=◌}
+use Rattle.machine.specs.Releasing.{with_blocked}
 use Rattle.machine.specs.Step.Find.{find_notification, permitted}
 use Rattle.machine.specs.Step.Signal.{pending_in}
-
--- a thread waits at a notification
-unfoldable pub waiting : Machine → ObjId → ObjId → Machine
-waiting m thread id = wait (object_of m thread) where
-  wait : Option Object → Machine
-  wait (Some (o.Tcb old)) = with_waiting (with_tcb m thread (record old { state = state.Waiting id })) id thread
-  wait _ = m
 
 -- the word is taken, or the caller waits
 abbrev pub taken_or_awaited : Machine → ObjId → ObjId → Option ℕ → Made × Machine
 taken_or_awaited m caller id (Some word) = (Done (answer.Word word), with_pending m id None)
-taken_or_awaited m caller id None = (Blocked, waiting m caller id)
+taken_or_awaited m caller id None = (Blocked, with_blocked m caller id (state.Waiting id))
 
 unfoldable pub wait_of : Machine → ObjId → ℕ → Result (Made × Machine) Cause
 wait_of m caller address = do

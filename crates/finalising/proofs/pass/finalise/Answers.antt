@@ -12,8 +12,8 @@ use Rattle.finalising.proofs.pass.finalise.Goals.{in-Some, in-Some-going, in_def
 pub loop-place-init : goal.loop-place-init
 loop-place-init c = none_halted c.args.state.now c.requires
 
-pub halt_holder-requires : goal.halt_holder-requires
-halt_holder-requires c thread tcb id there waits =
+pub unlink-requires : goal.unlink-requires
+unlink-requires c thread tcb id there waits =
     let h = c.loop-place.invariant in
     (agreed_in c.args.state.now c.requires h.done c.loop-place.state h.follows).waiting thread id tcb there waits
 

@@ -1,0 +1,5 @@
+-- Who waits stands in a queue of a well-formed machine.
+use Rattle.replies.proofs.answering.answer.Goals as goal
+
+pub give-requires : goal.give-requires
+give-requires c = λ tcb id. c.requires.links.waiting c.in-Some.thread id tcb

@@ -1,0 +1,2 @@
+pub mod ArrivingEnds
+pub mod Elsewhere

@@ -1,0 +1,11 @@
+-- Who waits nowhere still does once the holder is halted.
+use Rattle.std.proofs.Common.{sym, subst}
+use Rattle.machine.specs.Machine.{Machine}
+use Rattle.objects.specs.Waiting.{WaitsNowhere}
+use Rattle.transfer.proofs.Elsewhere.{free_halted_holder}
+use Rattle.transfer.proofs.receiving.end_reply.Goals as goal
+
+pub returns-in-Some-clause-free : goal.returns-in-Some-clause-free
+returns-in-Some-clause-free c thread free =
+    subst (λ (m : Machine). WaitsNowhere m thread) (sym c.unlink.ensures)
+    (free_halted_holder c.args.state.now c.in-Some.id thread free)

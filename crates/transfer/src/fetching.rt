@@ -1,0 +1,60 @@
+ghost use Rattle.std.specs.Prelude.{◌≡◌};
+ghost use Rattle.machine.specs.Machine.{object_of};
+ghost use Rattle.machine.specs.Makes.{Makes};
+ghost use Rattle.machine.specs.Step.Fetch.{emptied, fetch_of, fetched, fetched_in};
+
+use base::{Cause, ObjId};
+use machine::{Answer, Inbox, Made, Object, Tcb};
+use objects::State;
+
+/// What an inbox answers.
+fn fetched(inbox: Inbox) -> Result<Answer, Cause>
+    ensures { result ≡ fetched inbox }
+{
+    match inbox {
+        Inbox::Empty => Err(Cause::IllegalOperation),
+        Inbox::Message(message) => Ok(Answer::Message(message)),
+        Inbox::Word(word) => Ok(Answer::Word(word)),
+        Inbox::Aborted => Ok(Answer::Aborted),
+    }
+}
+
+/// What the inbox of a thread answers.
+fn fetched_in(state: &State, thread: ObjId) -> Result<Answer, Cause>
+    ensures { result ≡ fetched_in (object_of state.now thread) }
+{
+    match state.object(thread) {
+        Some(Object::Tcb(tcb)) => fetched(tcb.inbox),
+        _ => Err(Cause::NoSuchThread),
+    }
+}
+
+/// Empties the inbox of a thread.
+#[tactic(auto, unfolding(machine::specs::Step::Fetch::emptied))]
+fn empty_inbox(state: &mut State, thread: ObjId)
+    ensures { state.new ≡ emptied state.old thread }
+{
+    if let Some(&Object::Tcb(tcb)) = state.object(thread) {
+        let emptied = Tcb {
+            inbox: Inbox::Empty,
+            ..tcb
+        };
+        state.set_tcb(thread, emptied);
+    }
+}
+
+/// Takes what the caller was given while it waited and has not fetched yet: a message, the word of a
+/// notification, or that what it waited for went away. Its inbox is empty then. (confine's own: seL4
+/// puts these into the thread's registers.)
+///
+/// # Errors
+///
+/// An illegal operation where the inbox is empty.
+#[tactic(auto, unfolding(machine::specs::Step::Fetch::fetch_of))]
+pub fn fetch(state: &mut State, caller: ObjId) -> Result<Made, Cause>
+    ensures { Makes state.old state.new result (fetch_of state.old caller) }
+{
+    let answer = fetched_in(state, caller)?;
+    empty_inbox(state, caller);
+    Ok(Made::Done(answer))
+}

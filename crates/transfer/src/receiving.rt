@@ -1,0 +1,120 @@
+ghost use Rattle.std.specs.Prelude.{◌≡◌};
+ghost use Rattle.base.specs.declared.ids.ObjId.{ObjId as Id};
+ghost use Rattle.machine.specs.Makes.{Makes};
+ghost use Rattle.machine.specs.Releasing.{IsInItsQueue};
+ghost use Rattle.machine.specs.Step.Receive.{awaiting_message, find_named_reply, receive_of, received, with_reply_ended};
+ghost use Rattle.machine.specs.WellFormed.{IsWellFormed};
+ghost use Rattle.objects.specs.Waiting.{WaitsNowhere};
+
+use crate::arrivals::{arrive, message};
+use crate::firsts::first_sender;
+use crate::releases::release;
+use base::{Cause, ObjId, Rights};
+use bitflags::Flags;
+use cspace::{find_endpoint, find_reply, permit};
+use machine::{Answer, Made, Receiving, RunState, SlotAddress, releases_keep_machines_well_formed};
+use objects::State;
+use queues::block;
+use replies::{unlink, wait_with};
+
+/// The reply at an address, if one is given.
+fn find_named_reply(
+    state: &State,
+    caller: ObjId,
+    named: Option<u64>,
+) -> Result<Option<ObjId>, Cause>
+    ensures { result ≡ find_named_reply state.now caller named }
+{
+    match named {
+        None => Ok(None),
+        Some(address) => {
+            let id = find_reply(state, caller, address)?;
+            Ok(Some(id))
+        }
+    }
+}
+
+/// Halts the thread that the named reply holds, if one is named.
+fn end_reply(state: &mut State, reply: Option<ObjId>)
+    requires { IsWellFormed state.old }
+    ensures changes { state.new ≡ with_reply_ended state.old reply }
+    ensures well_formed { IsWellFormed state.new }
+    ensures free { (thread : Id) → WaitsNowhere state.old thread → WaitsNowhere state.new thread }
+{
+    // A law, so that the state stays well formed.
+    releases_keep_machines_well_formed();
+    if let Some(id) = reply {
+        unlink(state, id);
+    }
+}
+
+/// Has a thread wait for a message, and the reply that it names with it.
+fn await_message(state: &mut State, caller: ObjId, receiving: Receiving)
+    requires { WaitsNowhere state.old caller }
+    ensures { state.new ≡ awaiting_message state.old caller receiving }
+{
+    block(
+        state,
+        caller,
+        receiving.endpoint,
+        RunState::Receiving(receiving),
+    );
+    if let Some(id) = receiving.reply {
+        wait_with(state, id, caller);
+    }
+}
+
+/// Takes the message of the thread that waits first to send, or has the receiver wait for one.
+fn receive_or_wait(state: &mut State, caller: ObjId, receiving: Receiving) -> Made
+    requires well_formed { IsWellFormed state.old }
+    requires free { WaitsNowhere state.old caller }
+    ensures { (result, state.new) ≡ received state.old caller receiving }
+{
+    match first_sender(state, receiving.endpoint) {
+        Some((sender, sending)) => {
+            let arrived = arrive(state, sender, sending, caller, receiving.slot);
+            release(state, sender, sending, receiving.reply);
+            Made::Done(Answer::Message(message(sending, arrived)))
+        }
+        None => {
+            await_message(state, caller, receiving);
+            Made::Blocked
+        }
+    }
+}
+
+/// Receives a message through the endpoint at an address: that of the thread that waits first to send;
+/// where none does, the caller waits for one (seL4 manual, "Endpoints", "Reply objects" and
+/// seL4_Recv).
+///
+/// Through the reply at the address `reply`, if one is given, a call is answered; the thread that it
+/// held until then is halted first. The message's capability, if one arrives, is put into `slot`, an
+/// empty one; where none is given, or it isn't there or is filled, the message comes without it.
+///
+/// # Errors
+///
+/// Those of [`find_endpoint`], an invalid capability where the right Read is missing, and then those of
+/// [`find_reply`].
+#[tactic(auto, unfolding(machine::specs::Step::Receive::receive_of))]
+pub fn receive(
+    state: &mut State,
+    caller: ObjId,
+    address: u64,
+    reply: Option<u64>,
+    slot: Option<SlotAddress>,
+) -> Result<Made, Cause>
+    requires well_formed { IsWellFormed state.old }
+    requires free { WaitsNowhere state.old caller }
+    ensures { Makes state.old state.new result (receive_of state.old caller address reply slot) }
+{
+    let (endpoint, end) = find_endpoint(state, caller, address)?;
+    permit(end.rights.contains(Rights::READ))?;
+    let reply = find_named_reply(state, caller, reply)?;
+    end_reply(state, reply);
+    let receiving = Receiving {
+        endpoint,
+        reply,
+        slot,
+    };
+    Ok(receive_or_wait(state, caller, receiving))
+}

@@ -1,0 +1,130 @@
+ghost use Rattle.std.specs.Prelude.{◌≡◌};
+ghost use Rattle.machine.specs.Makes.{Makes};
+ghost use Rattle.machine.specs.Step.Deliver.{first_at, receiver_in, sending_by};
+ghost use Rattle.machine.specs.Step.Send.{called_or_waits, endpoint_call_of, send_of, sent_or_waits};
+ghost use Rattle.machine.specs.WellFormed.{IsWellFormed};
+ghost use Rattle.objects.specs.Waiting.{WaitsNowhere};
+
+use crate::arrivals::deliver;
+use crate::firsts::first_receiver;
+use crate::releases::{answer_through, link_or_halt};
+use base::{Cause, ObjId, Rights};
+use bitflags::Flags;
+use cspace::{find_endpoint, permit};
+use machine::{Answer, Badged, Made, RunState, Sending};
+use objects::State;
+use queues::block;
+
+/// What is recorded of a message that is sent by a capability to an endpoint.
+fn sending_by(
+    endpoint: ObjId,
+    end: Badged,
+    is_call: bool,
+    words: [u64; 4],
+    capability: Option<u64>,
+) -> Sending
+    ensures { result ≡ sending_by endpoint end is_call words capability }
+{
+    let grants = end.rights.contains(Rights::GRANT);
+    Sending {
+        endpoint,
+        badge: end.badge,
+        grant: end.rights.contains(Rights::WRITE) && grants,
+        is_call,
+        can_reply: grants || end.rights.contains(Rights::GRANT_REPLY),
+        words,
+        capability,
+    }
+}
+
+/// Gives a message to the thread that waits first to receive, or has its sender wait for one.
+fn send_or_wait(state: &mut State, caller: ObjId, sending: Sending) -> Made
+    requires well_formed { IsWellFormed state.old }
+    requires free { WaitsNowhere state.old caller }
+    ensures { (result, state.new)
+        ≡ sent_or_waits state.old caller sending (receiver_in (first_at state.old sending.endpoint)) }
+{
+    match first_receiver(state, sending.endpoint) {
+        Some((receiver, receiving)) => {
+            deliver(state, caller, sending, receiver, receiving);
+            Made::Done(Answer::Nothing)
+        }
+        None => {
+            block(state, caller, sending.endpoint, RunState::Sending(sending));
+            Made::Blocked
+        }
+    }
+}
+
+/// Sends a message through the endpoint at an address: the thread that waits first to receive gets it;
+/// where none does, the caller waits for one (seL4 manual, "Endpoints" and seL4_Send).
+///
+/// At most one capability goes with it, that at the address `capability` when the message is received:
+/// it arrives where the capability to the endpoint has the right Grant, it isn't untyped memory's, and
+/// the receiver gave an empty slot. The message goes without it otherwise.
+///
+/// # Errors
+///
+/// Those of [`find_endpoint`], and an invalid capability where the right Write is missing.
+#[tactic(auto, unfolding(machine::specs::Step::Send::send_of))]
+pub fn send(
+    state: &mut State,
+    caller: ObjId,
+    address: u64,
+    words: [u64; 4],
+    capability: Option<u64>,
+) -> Result<Made, Cause>
+    requires well_formed { IsWellFormed state.old }
+    requires free { WaitsNowhere state.old caller }
+    ensures { Makes state.old state.new result (send_of state.old caller address words capability) }
+{
+    let (endpoint, end) = find_endpoint(state, caller, address)?;
+    permit(end.rights.contains(Rights::WRITE))?;
+    let sending = sending_by(endpoint, end, false, words, capability);
+    Ok(send_or_wait(state, caller, sending))
+}
+
+/// Gives a call to the thread that waits first to receive, and has the caller wait for the answer; or
+/// has it wait for a receiver.
+fn call_or_wait(state: &mut State, caller: ObjId, sending: Sending)
+    requires well_formed { IsWellFormed state.old }
+    requires free { WaitsNowhere state.old caller }
+    ensures { state.new
+        ≡ called_or_waits state.old caller sending (receiver_in (first_at state.old sending.endpoint)) }
+{
+    match first_receiver(state, sending.endpoint) {
+        Some((receiver, receiving)) => {
+            deliver(state, caller, sending, receiver, receiving);
+            link_or_halt(state, caller, answer_through(sending, receiving.reply));
+        }
+        None => block(state, caller, sending.endpoint, RunState::Sending(sending)),
+    }
+}
+
+/// Sends a message as [`send`] does, and has the caller wait for the answer, through the reply that the
+/// receiver named (seL4 manual, "Endpoints", "Reply objects" and seL4_Call).
+///
+/// Where the receiver named none, or the capability to the endpoint has neither the right Grant nor
+/// GrantReply, the caller is halted once its message is received.
+///
+/// # Errors
+///
+/// Those of [`send`].
+#[tactic(auto, unfolding(machine::specs::Step::Send::endpoint_call_of))]
+pub fn call(
+    state: &mut State,
+    caller: ObjId,
+    address: u64,
+    words: [u64; 4],
+    capability: Option<u64>,
+) -> Result<Made, Cause>
+    requires well_formed { IsWellFormed state.old }
+    requires free { WaitsNowhere state.old caller }
+    ensures { Makes state.old state.new result (endpoint_call_of state.old caller address words capability) }
+{
+    let (endpoint, end) = find_endpoint(state, caller, address)?;
+    permit(end.rights.contains(Rights::WRITE))?;
+    let sending = sending_by(endpoint, end, true, words, capability);
+    call_or_wait(state, caller, sending);
+    Ok(Made::Blocked)
+}

@@ -1,0 +1,142 @@
+-- An empty slot gets a capability, which keeps what a part of a call keeps if the policy has the capability's edges and its pair
+-- of the tree.
+use Rattle.std.proofs.Common.{◌≡◌, ◌≢◌, ℕ, ◌⊎◌, inl, inr, Bool, true, false, Option, Some, None, refl, sym, ap, ◌∙◌}
+use Rattle.std.specs.Prelude.{if◌then◌else◌}
+use Rattle.std.proofs.lemmas.Bool.{false≢true}
+use Rattle.std.proofs.lemmas.Option.{same_Some}
+use Rattle.base.specs.declared.ids.ObjId.{ObjId}
+use Rattle.base.specs.declared.ids.SlotRef.{SlotRef}
+use Rattle.base.specs.declared.kind.Kind.{Kind}
+use Rattle.base.specs.declared.kind.Kind.TheVariants as authority
+use Rattle.base.specs.Kinds.{is_structural}
+use Rattle.machine.specs.declared.cap.Cap.{Cap}
+use Rattle.machine.specs.declared.cap.Detail.{Detail}
+use Rattle.machine.specs.declared.object.ObjectKind.TheVariants as kind
+use Rattle.machine.specs.Authority.{label_of}
+use Rattle.machine.specs.Authority.HasAuthority.{by_pair}
+use Rattle.machine.specs.Capabilities.{gives, kind_of_detail}
+use Rattle.machine.specs.Layout.{Layout}
+use Rattle.machine.specs.Machine.{Machine, object_of, cap_of, parent_of, same_slot}
+use Rattle.machine.specs.Tree.{parent_of_copy}
+use Rattle.machine.specs.WellFormed.{kind_of}
+use Rattle.machine.proofs.AuthorityLemmas.{gives_no_structure}
+use Rattle.machine.proofs.Ids.{one_or_two}
+use Rattle.machine.proofs.LookUps.{one_slot}
+use Rattle.machine.proofs.SlotChanges.{Fills}
+use Rattle.policy.specs.Closed.{DeriveByGrant, derived}
+use Rattle.policy.specs.Domain.{EdgeTest}
+use Rattle.policy.specs.Full.{IsFull}
+use Rattle.verdict.specs.Invariant.{IsBare, IsHeld}
+use Rattle.verdict.proofs.SlotKeeps.{SlotsFit}
+
+-- a slot of another object is another slot
+pub apart_slots : (q slot : SlotRef) → q.holder ≢ slot.holder → same_slot q slot ≡ false
+apart_slots q slot apart = by_tie (same_slot q slot) refl where
+  by_tie : (tie : Bool) → same_slot q slot ≡ tie → same_slot q slot ≡ false
+  by_tie true is = absurd (apart (ap (λ (s : SlotRef). s.holder) (one_slot q slot is)))
+  by_tie false is = is
+
+-- what a capability gives is a kind of use
+pub given_of_use : (detail : Detail) (k : Kind) → gives detail k ≡ true → is_structural k ≡ false
+given_of_use detail k given = by_case (is_structural k) refl where
+  by_case : (structural : Bool) → is_structural k ≡ structural → is_structural k ≡ false
+  by_case true is = absurd (false≢true (sym (gives_no_structure detail k is) ∙ given))
+  by_case false is = is
+
+-- a capability may come into a slot, under a parent or under none: the caller's label may change the CNode that has the slot,
+-- and the
+-- policy has the capability's edges from there, and that of the pair
+pub record MayFill
+    (t : Layout) (allowed : EdgeTest) (a : ℕ) (m : Machine) (slot : SlotRef) (new : Cap) (parent : Option SlotRef) : Type 0 where
+  pub is_node : kind_of m slot.holder ≡ Some kind.CNode
+  pub label : ℕ
+  pub labelled : label_of t m slot.holder ≡ Some label
+  pub has : IsFull allowed a label
+  pub edges :
+      (k : Kind) (to : ℕ) → gives new.detail k ≡ true → label_of t m new.object ≡ Some to → allowed label k to ≡ true
+  pub derives :
+      (above : SlotRef) (from : ℕ) → parent ≡ Some above → label_of t m above.holder ≡ Some from
+      → allowed from authority.Derive label ≡ true
+
+-- a copy's label is one that its source's may derive to; then the label of its parent may
+pub copy_derives :
+    (t : Layout) (allowed : EdgeTest) (m : Machine) → IsHeld t allowed m → DeriveByGrant allowed
+    → (source : SlotRef) (held : Cap) (at to : ℕ) → label_of t m source.holder ≡ Some at → allowed at authority.Derive to ≡ true
+    → (above : SlotRef) (from : ℕ) → parent_of_copy m source held ≡ Some above → label_of t m above.holder ≡ Some from
+    → allowed from authority.Derive to ≡ true
+copy_derives t allowed m before by_grant source held at to labelled edge above from is begins = by_original held.original is where
+  by_original :
+      (original : Bool) → (if original then Some source else parent_of m source) ≡ Some above
+      → allowed from authority.Derive to ≡ true
+  by_original true is =
+      let from_is : from ≡ at =
+      same_Some from at (sym begins ∙ ap (λ (s : SlotRef). label_of t m s.holder) (sym (same_Some source above is)) ∙ labelled) in
+      ap (λ l. allowed l authority.Derive to) from_is ∙ edge
+  by_original false is =
+      by_grant from to (derived at (before.confined from authority.Derive at (by_pair source above is begins labelled)) edge)
+
+module _
+    (t : Layout) (allowed : EdgeTest) (a : ℕ) (m next : Machine) (before : IsHeld t allowed m) (slot : SlotRef) (new : Cap)
+    (parent : Option SlotRef) (may : MayFill t allowed a m slot new parent) (fills : Fills m slot new parent next) where
+  caps :
+      (q : SlotRef) (cap : Cap) → cap_of next q ≡ Some cap
+      → (cap_of m q ≡ Some cap)
+      ⊎ ((kind_of m q.holder ≡ Some kind.CNode)
+      × ((from : ℕ) (k : Kind) (to : ℕ) → gives cap.detail k ≡ true → label_of t m q.holder ≡ Some from
+      → label_of t m cap.object ≡ Some to → allowed from k to ≡ true))
+  caps q cap e = by_tie (same_slot q slot) refl (sym (fills.caps q) ∙ e) where
+    by_tie :
+        (tie : Bool) → same_slot q slot ≡ tie → (if tie then Some new else cap_of m q) ≡ Some cap
+        → (cap_of m q ≡ Some cap)
+        ⊎ ((kind_of m q.holder ≡ Some kind.CNode)
+        × ((from : ℕ) (k : Kind) (to : ℕ) → gives cap.detail k ≡ true → label_of t m q.holder ≡ Some from
+        → label_of t m cap.object ≡ Some to → allowed from k to ≡ true))
+    by_tie false is same = inl same
+    by_tie true is same =
+        let at = one_slot q slot is in
+        let cap_is : new ≡ cap = same_Some new cap same in
+        inr (
+          ap (λ (s : SlotRef). kind_of m s.holder) at ∙ may.is_node,
+          λ from k to given begins ends.
+              let from_is : from ≡ may.label =
+              same_Some from may.label (sym begins ∙ ap (λ (s : SlotRef). label_of t m s.holder) at ∙ may.labelled) in
+              ap (λ l. allowed l k to) from_is
+              ∙ may.edges k to (ap (λ (c : Cap). gives c.detail k) cap_is ∙ given)
+              (ap (λ (c : Cap). label_of t m c.object) cap_is ∙ ends),
+        )
+
+  pairs :
+      (q above : SlotRef) (from to : ℕ) → parent_of next q ≡ Some above → label_of t m above.holder ≡ Some from
+      → label_of t m q.holder ≡ Some to → allowed from authority.Derive to ≡ true
+  pairs q above from to e begins ends = by_tie (same_slot q slot) refl (sym (fills.parents q) ∙ e) where
+    by_tie :
+        (tie : Bool) → same_slot q slot ≡ tie → (if tie then parent else parent_of m q) ≡ Some above
+        → allowed from authority.Derive to ≡ true
+    by_tie false is same = before.confined from authority.Derive to (by_pair q above same begins ends)
+    by_tie true is same =
+        let to_is : to ≡ may.label =
+        same_Some to may.label (sym ends ∙ ap (λ (s : SlotRef). label_of t m s.holder) (one_slot q slot is) ∙ may.labelled) in
+        ap (λ l. allowed from authority.Derive l) to_is ∙ may.derives above from same begins
+
+  pub slots_elsewhere :
+      (id : ObjId) → id ≢ slot.holder → (index : ℕ)
+      → cap_of next (record { holder = id; index = index }) ≡ cap_of m (record { holder = id; index = index })
+  slots_elsewhere id apart index =
+      fills.caps (record { holder = id; index = index })
+      ∙ ap (λ tie. if tie then Some new else cap_of m (record { holder = id; index = index }))
+      (apart_slots (record { holder = id; index = index }) slot apart)
+
+  pub fill_fits :
+      ((q : SlotRef) (cap : Cap) → cap_of next q ≡ Some cap → kind_of next cap.object ≡ Some (kind_of_detail cap.detail))
+      → ((id : ObjId) → object_of next id ≡ None → IsBare next id) → SlotsFit t allowed a m next
+  fill_fits kinds bare = record {
+    same = fills.objects;
+    caps = caps;
+    pairs = pairs;
+    slots = λ id. elim (one_or_two id slot.holder) [
+      | inl same ↦ inr (record { label = may.label; labelled = ap (label_of t m) same ∙ may.labelled; has = may.has })
+      | inr apart ↦ inl (slots_elsewhere id apart)
+    ];
+    kinds = kinds;
+    bare = bare;
+  }
