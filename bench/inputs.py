@@ -339,6 +339,144 @@ def vanishing_chains(count, length):
     return events, [delete_own(node) for node in nodes]
 
 
+# Messages: the thread 1 of core 0 is a server, and the thread 2 of core 1 its client. The server receives by slot 0 and replies by slot 1;
+# the client calls by slot 2, with badge 5.
+MESSAGES_TABLE = """\
+confine-table 1
+label a
+cnode c a 0x2000 2
+tcb s a 0x4000 ready
+tcb t a 0x4400 ready
+endpoint e a 0x3000
+reply p a 0x3020
+context x a 0x5000 0 10 10
+context y a 0x5100 1 10 10
+cap c.0 e r 0
+cap c.1 p
+cap c.2 e wy 5
+cap s.root c 62 0x0
+cap t.root c 62 0x0
+bind s x
+bind t y
+end
+"""
+
+
+def told(entries):
+    """The script and the log of these events, each of which comes with its outcome."""
+    return script_of([event for event, _ in entries]), text("confine-log 1", [f"{event} = {out}" for event, out in entries])
+
+
+def in_rounds(events, length, made):
+    """So many events and their outcomes, in rounds of so many; what is made of a round's number, from 0."""
+    if events % length:
+        raise ValueError(f"{events} events: a multiple of {length} is wanted")
+    return [entry for k in range(events // length) for entry in made(k)]
+
+
+def question(number):
+    """The words of a message, which tell its number; there are as many digits of each below 900,000."""
+    return f"{100_000 + number} 1 2 3"
+
+
+def answer(number):
+    """The words of a reply, alike."""
+    return f"4 5 6 {100_000 + number}"
+
+
+def calls_awaited(events):
+    """So many events and their outcomes: the server waits when the client calls, fetches the message and replies, and the client fetches
+    the reply."""
+    return in_rounds(
+        events,
+        5,
+        lambda k: (
+            ("0 1 recv 0 1 -", "blocked"),
+            (f"1 2 call 2 {question(k)} -", "blocked"),
+            ("0 1 fetch", f"done msg 5 {question(k)} 0"),
+            (f"0 1 reply 1 {answer(k)}", "done"),
+            ("1 2 fetch", f"done msg 0 {answer(k)} 0"),
+        ),
+    )
+
+
+def calls_waiting(events):
+    """So many events and their outcomes: the client has called when the server receives, the server replies, and the client fetches the
+    reply."""
+    return in_rounds(
+        events,
+        4,
+        lambda k: (
+            (f"1 2 call 2 {question(k)} -", "blocked"),
+            ("0 1 recv 0 1 -", f"done msg 5 {question(k)} 0"),
+            (f"0 1 reply 1 {answer(k)}", "done"),
+            ("1 2 fetch", f"done msg 0 {answer(k)} 0"),
+        ),
+    )
+
+
+# Queues: a server as before, and 1,000 threads of core 1. Each has a capability for the endpoint of its own, whose slot and whose badge
+# are the same number. All these numbers, and those of the threads, have four digits, so that a line is as long for each thread.
+SENDERS = 1000
+FIRST_SENDER = SENDERS + 5
+FIRST_BADGE = 1000
+SENDERS_RADIX = 11
+SENDERS_GUARD = 64 - SENDERS_RADIX
+
+
+def queue_table():
+    """A server, and the threads that may send to it."""
+    lines = ["label a", f"cnode c a 0x10000 {SENDERS_RADIX}", "tcb s a 0x4000 ready", "endpoint e a 0x3000", "reply p a 0x3020"]
+    lines.append("context x a 0x5000 0 10 10")
+    lines.extend(f"context x{i} a {0x1000000 + i * 0x100:#x} 1 10 10" for i in range(SENDERS))
+    lines.extend(f"tcb t{i} a {0x2000000 + i * 0x400:#x} ready" for i in range(SENDERS))
+    lines.extend(["cap c.0 e r 0", "cap c.1 p"])
+    lines.extend(f"cap c.{FIRST_BADGE + i} e wy {FIRST_BADGE + i}" for i in range(SENDERS))
+    lines.append(f"cap s.root c {SENDERS_GUARD} 0x0")
+    lines.extend(f"cap t{i}.root c {SENDERS_GUARD} 0x0" for i in range(SENDERS))
+    lines.append("bind s x")
+    lines.extend(f"bind t{i} x{i}" for i in range(SENDERS))
+    return text("confine-table 1", lines)
+
+
+def blocks(call, senders, number):
+    """The sender whose turn it is with the message of that number, from 0, sends it by that call, and is blocked; with the outcome."""
+    i = number % senders
+    return f"1 {FIRST_SENDER + i} {call} {FIRST_BADGE + i} {question(number)} -", "blocked"
+
+
+def begun_queue(call, senders):
+    """The events by which so many threads are blocked, each by that call, and their outcomes."""
+    return [blocks(call, senders, i) for i in range(senders)]
+
+
+def sends_in_turn(senders, events):
+    """So many events after these threads are blocked in Send, and their outcomes: the server receives from the first, which sends again
+    and is the last."""
+    return in_rounds(
+        events,
+        2,
+        lambda k: (
+            ("0 1 recv 0 - -", f"done msg {FIRST_BADGE + k % senders} {question(k)} 0"),
+            blocks("send", senders, senders + k),
+        ),
+    )
+
+
+def calls_in_turn(senders, events):
+    """The same where they are blocked in Call: the server replies too, and the first fetches the reply before it calls again."""
+    return in_rounds(
+        events,
+        4,
+        lambda k: (
+            ("0 1 recv 0 1 -", f"done msg {FIRST_BADGE + k % senders} {question(k)} 0"),
+            (f"0 1 reply 1 {answer(k)}", "done"),
+            (f"1 {FIRST_SENDER + k % senders} fetch", f"done msg 0 {answer(k)} 0"),
+            blocks("call", senders, senders + k),
+        ),
+    )
+
+
 # The full tables: all nine kinds of object, nearly all slots filled, and a derivation tree. With 448 groups there are
 # 4,096 objects, 58,000 filled slots of 58,240, and 20,000 pairs. A CNode of them has 2^7 slots.
 FULL_RADIX = 7

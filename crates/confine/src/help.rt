@@ -76,6 +76,10 @@ The kernel calls. Its lines, between `confine-script 1` and `end`, where THREAD 
 number of an object:
 
   CORE THREAD signal ADDRESS                        `poll`, `wait` alike
+  CORE THREAD send ADDRESS WORD WORD WORD WORD CAP  `call` alike
+  CORE THREAD recv ADDRESS REPLY SLOT
+  CORE THREAD reply ADDRESS WORD WORD WORD WORD
+  CORE THREAD fetch                                 what the thread was given
   CORE THREAD copy SLOT SLOT RIGHTS                 to the first slot, from the second
   CORE THREAD mint SLOT SLOT RIGHTS badge BADGE
   CORE THREAD mint SLOT SLOT RIGHTS guard BITS VALUE
@@ -85,7 +89,9 @@ number of an object:
   CORE THREAD retype MEMORY KIND BITS CNODE INDEX COUNT
 
 SLOT is three numbers: the address of a CNode, an index, and how many of its low bits
-are looked up from there, 1 to 64. With the last capability for an object the object
+are looked up from there, 1 to 64. A message has four words, and may take a capability
+along, of the address CAP, to the SLOT of the receiver, who answers a call through the
+reply at the address REPLY; `-` stands for none of each. With the last capability for an object the object
 goes, and all that it holds. A retype makes COUNT objects, 1 to 16, of the untyped
 memory at the address MEMORY. Their capabilities come into the CNode at the address
 CNODE, from the slot INDEX on. KIND is a word of the table's objects, but not `control`.

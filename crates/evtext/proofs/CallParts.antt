@@ -1,8 +1,12 @@
--- The operands of copies, mints, moves and retypes: what was read is what they spell, and each spelling is read back.
-use Rattle.std.proofs.Common.{◌≡◌, ℕ, ◌<◌, ◌^◌, Bool, true, false, cond, List, [], ◌∷◌, ◌++◌, Ok, codes, refl}
-use Rattle.std.specs.Bool.{⊤}
+-- The operands of calls: what was read is what they spell, and each spelling is read back.
+use Rattle.std.proofs.Common.{◌≡◌, ℕ, ◌<◌, ◌^◌, Bool, true, false, cond, List, [], ◌∷◌, ◌++◌, Option, Some, None, Ok, codes, refl, sym, ap, subst, ◌∙◌, if◌then◌else◌}
+use Rattle.std.specs.Bool.{Decides, ⊤}
 use Rattle.std.specs.Fmt.{decimal}
 use Rattle.std.specs.List.{AllByRecursion}
+use Rattle.std.specs.Option.{option_map}
+use Rattle.std.specs.Str.{bytes_eq}
+use Rattle.std.proofs.lemmas.Option.{none-some, same_Some}
+use Rattle.std.proofs.lemmas.Slice.Eq.{bytes_eq-Decides}
 use Rattle.base.proofs.RightsWords.{rights_again, rights_named}
 use Rattle.base.specs.declared.rights.Rights.{Rights}
 use Rattle.base.specs.Rights.{letter_of, rights_of_word, rights_word, IsRights}
@@ -11,16 +15,19 @@ use Rattle.machine.specs.declared.call.CapData.TheVariants.{Badge, Guard}
 use Rattle.machine.specs.declared.object.MemoryKind.{MemoryKind}
 use Rattle.machine.specs.declared.object.MemoryKind.TheVariants.{Untyped, CNode, Tcb, Endpoint, Notification, Reply, Context, Frame}
 use Rattle.machine.specs.KindWords.{memory_kind_of, memory_kind_word}
-use Rattle.machine.specs.Spelling.{data_words, slot_address_words}
+use Rattle.machine.specs.declared.slot_address.SlotAddress.{SlotAddress}
+use Rattle.machine.specs.Spelling.{data_words, four_words, optional_slot_words, optional_word, slot_address_words}
 use Rattle.machine.proofs.KindWords.{memory_again, memory_takes}
-use Rattle.words.specs.Number.{number_at}
-use Rattle.words.specs.Parts.{by_word, in_turn, keyed, IsPart}
+use Rattle.words.specs.Number.{dec_of, number_at}
+use Rattle.words.specs.Parts.{by_word, in_turn, keyed, read_as, IsPart}
 use Rattle.words.specs.Reading.{bind, word_at}
 use Rattle.words.specs.Text.{IsPlainWord}
-use Rattle.words.proofs.Parts.{after_word, both_parts, keyed_part, number_part, part_as, read_as_again, word_part}
+use Rattle.words.proofs.Parts.{after_word, both_parts, keyed_part, number_part, part_as, read_as_again, takes_as, word_part}
+use Rattle.words.proofs.Spellings.{decimal_iff}
 use Rattle.words.proofs.TextLaws.{both}
-use Rattle.words.proofs.WordLaws.{plain_bytes, plain_decimal}
-use Rattle.evtext.specs.Event.{data_at, guard_of, memory_kind_at, rights_at, slot_address_at, slot_address_of, IsData, IsSlotAddress}
+use Rattle.words.proofs.WordLaws.{plain_bytes, plain_decimal, word_then}
+use Rattle.evtext.specs.Event.{data_at, four_at, four_of, guard_of, memory_kind_at, message_at, optional_at, optional_of, optional_slot_at}
+use Rattle.evtext.specs.Event.{rights_at, slot_address_at, slot_address_of, AreFour, IsData, IsOptional, IsOptionalSlot, IsSlotAddress}
 
 -- a slot is three numbers
 pub slot_address_part : IsPart slot_address_at slot_address_words IsSlotAddress
@@ -94,7 +101,125 @@ data_part = keyed_part data_words IsData _ (
   ),
 ) data_again plain_data
 
+-- the words of a message are four numbers
+
+four_fits : (words : List ℕ) → AreFour words
+    → (parts : ℕ × (ℕ × (ℕ × ℕ))) × (four_of parts ≡ words)
+    × ((parts.0 < 2 ^ 64) × ((parts.1.0 < 2 ^ 64) × ((parts.1.1.0 < 2 ^ 64) × (parts.1.1.1 < 2 ^ 64))))
+four_fits (first ∷ second ∷ third ∷ fourth ∷ []) is =
+    ((first, (second, (third, fourth))), refl, (is.0, (is.1, (is.2, is.3))))
+four_fits (first ∷ second ∷ third ∷ fourth ∷ fifth ∷ rest) is = absurd is
+four_fits (first ∷ second ∷ third ∷ []) is = absurd is
+four_fits (first ∷ second ∷ []) is = absurd is
+four_fits (first ∷ []) is = absurd is
+four_fits [] is = absurd is
+
+pub four_part : IsPart four_at four_words AreFour
+unfolding four_at
+four_part =
+    part_as (both_parts number_part (both_parts number_part (both_parts number_part number_part))) four_of four_words AreFour
+    (λ parts. refl) (λ parts is. (is.0, is.1.0, is.1.1.0, is.1.1.1)) four_fits
+
+-- an address is a number, or `-`
+
+optional_takes : (word : List ℕ) (address : Option ℕ) → optional_of word ≡ Some address
+    → (word ≡ optional_word address) × IsOptional address
+optional_takes word address h = by_test (bytes_eq word (codes "-")) (bytes_eq-Decides word (codes "-")) h where
+  by_number : (number : Option ℕ) → dec_of word ≡ number → option_map (λ n. Some n) number ≡ Some address
+      → (word ≡ optional_word address) × IsOptional address
+  by_number None is same = absurd (none-some address same)
+  by_number (Some n) is same =
+      let taken = (decimal_iff word n).0 is in
+      subst (λ (a : Option ℕ). (word ≡ optional_word a) × IsOptional a) (same_Some (Some n) address same) (taken.0, taken.1)
+
+  by_test : (dash : Bool) → Decides dash (word ≡ codes "-")
+      → (if dash then Some None else option_map (λ n. Some n) (dec_of word)) ≡ Some address
+      → (word ≡ optional_word address) × IsOptional address
+  by_test true dash same =
+      subst (λ (a : Option ℕ). (word ≡ optional_word a) × IsOptional a) (same_Some None address same) (dash.0 refl, tt)
+  by_test false dash same = by_number (dec_of word) refl same
+
+dash_is_none : dec_of (codes "-") ≡ None
+unfolding dec_of
+dash_is_none = refl
+
+-- a number isn't spelled `-`
+no_dash : (n : ℕ) → n < 2 ^ 64 → bytes_eq (decimal n) (codes "-") ≡ false
+no_dash n small = by_test (bytes_eq (decimal n) (codes "-")) (bytes_eq-Decides (decimal n) (codes "-")) where
+  by_test : (dash : Bool) → Decides dash (decimal n ≡ codes "-") → dash ≡ false
+  by_test true dash =
+      absurd (none-some n (sym dash_is_none ∙ ap dec_of (sym (dash.0 refl)) ∙ (decimal_iff (decimal n) n).1 (refl, small)))
+  by_test false dash = refl
+
+optional_again : (address : Option ℕ) → IsOptional address → optional_of (optional_word address) ≡ Some address
+optional_again None is = refl
+optional_again (Some n) is = rw (no_dash n is, (decimal_iff (decimal n) n).1 (refl, is)) refl
+
+plain_optional : (address : Option ℕ) → IsOptional address → IsPlainWord (optional_word address)
+plain_optional None is = plain_bytes (codes "-") refl
+plain_optional (Some n) is = plain_decimal n is
+
+pub optional_part : IsPart optional_at (λ address. optional_word address ∷ []) IsOptional
+unfolding optional_at
+optional_part = word_part optional_of optional_word IsOptional optional_takes optional_again plain_optional
+
+-- a slot is three numbers, or `-`
+
+optional_slot_takes :
+    (words : List (List ℕ)) (taken : Option SlotAddress × List (List ℕ)) → optional_slot_at words ≡ Ok taken
+    → (words ≡ optional_slot_words taken.0 ++ taken.1) × IsOptionalSlot taken.0
+unfolding optional_slot_at
+optional_slot_takes words taken h =
+    let read = word_then _ words taken h in
+    by_test read.word read.rest read.words_are (bytes_eq read.word (codes "-")) (bytes_eq-Decides read.word (codes "-")) read.goes_on
+  where
+    by_test :
+        (word : List ℕ) (rest : List (List ℕ)) → words ≡ word ∷ rest → (dash : Bool) → Decides dash (word ≡ codes "-")
+        → (if dash then Ok (None, rest) else read_as (λ slot. Some slot) slot_address_at words) ≡ Ok taken
+        → (words ≡ optional_slot_words taken.0 ++ taken.1) × IsOptionalSlot taken.0
+    by_test word rest are true dash same =
+        let one : ◌≡◌ {A = Option SlotAddress × List (List ℕ)} (None, rest) taken = cc in
+        subst (λ (t : Option SlotAddress × List (List ℕ)). (words ≡ optional_slot_words t.0 ++ t.1) × IsOptionalSlot t.0) one
+        (are ∙ ap (λ w. w ∷ rest) (dash.0 refl), tt)
+    by_test word rest are false dash same =
+        takes_as slot_address_part (λ slot. Some slot) optional_slot_words IsOptionalSlot (λ slot. refl) (λ slot is. is) words taken
+        same
+
+optional_slot_again :
+    (slot : Option SlotAddress) (rest : List (List ℕ)) → IsOptionalSlot slot
+    → optional_slot_at (optional_slot_words slot ++ rest) ≡ Ok (slot, rest)
+unfolding optional_slot_at bind word_at
+optional_slot_again None rest is = refl
+optional_slot_again (Some slot) rest is =
+    rw (no_dash slot.root is.0) (read_as_again slot_address_part (λ s. Some s) slot rest is)
+
+plain_optional_slot : (slot : Option SlotAddress) → IsOptionalSlot slot → AllByRecursion IsPlainWord (optional_slot_words slot)
+plain_optional_slot None is = (plain_bytes (codes "-") refl, tt)
+plain_optional_slot (Some slot) is = slot_address_part.plain slot is
+
+pub optional_slot_part : IsPart optional_slot_at optional_slot_words IsOptionalSlot
+optional_slot_part = record { takes = optional_slot_takes; again = optional_slot_again; plain = plain_optional_slot }
+
 -- the operands of each call
+
+pub message_operands : IsPart
+    message_at
+    (λ parts. decimal parts.0 ∷ (four_words parts.1.0 ++ optional_word parts.1.1 ∷ []))
+    (λ parts. (parts.0 < 2 ^ 64) × (AreFour parts.1.0 × IsOptional parts.1.1))
+unfolding message_at
+message_operands = both_parts number_part (both_parts four_part optional_part)
+
+pub receive_operands : IsPart
+    (in_turn number_at (in_turn optional_at optional_slot_at))
+    (λ parts. decimal parts.0 ∷ optional_word parts.1.0 ∷ optional_slot_words parts.1.1)
+    (λ parts. (parts.0 < 2 ^ 64) × (IsOptional parts.1.0 × IsOptionalSlot parts.1.1))
+receive_operands = both_parts number_part (both_parts optional_part optional_slot_part)
+
+pub reply_operands : IsPart
+    (in_turn number_at four_at)
+    (λ parts. decimal parts.0 ∷ four_words parts.1)
+    (λ parts. (parts.0 < 2 ^ 64) × AreFour parts.1)
+reply_operands = both_parts number_part four_part
 
 pub copy_operands : IsPart
     (in_turn slot_address_at (in_turn slot_address_at rights_at))

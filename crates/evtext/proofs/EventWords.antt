@@ -1,18 +1,21 @@
 -- The words of calls and of events: what was read is what they spell, and each spelling is read back.
-use Rattle.std.proofs.Common.{◌≡◌, ℕ, ◌<◌, ◌^◌, List, ◌++◌, codes, Ok, refl}
+use Rattle.std.proofs.Common.{◌≡◌, ℕ, ◌<◌, ◌^◌, List, ◌∷◌, ◌++◌, codes, Ok, refl, subst}
 use Rattle.std.specs.Bool.{⊤}
 use Rattle.std.specs.List.{AllByRecursion}
 use Rattle.machine.specs.declared.call.Call.{Call}
-use Rattle.machine.specs.declared.call.Call.TheVariants.{Signal, Poll, Wait, Copy, Mint, Move, Delete, Revoke, Retype}
+use Rattle.machine.specs.declared.call.Call.TheVariants.{Signal, Poll, Wait, Send, Receive, Reply, Fetch, Copy, Mint, Move, Delete, Revoke, Retype}
+use Rattle.machine.specs.declared.call.Call.TheVariants as call
 use Rattle.machine.specs.declared.call.Event.{Event}
 use Rattle.machine.specs.Spelling.{call_words, event_words}
 use Rattle.words.specs.Parts.{by_word, keyed, IsPart}
 use Rattle.words.specs.Reading.{bind, word_at}
 use Rattle.words.specs.Text.{IsPlainLine, IsPlainWord}
-use Rattle.words.proofs.Parts.{after_word, both_parts, keyed_part, number_part, part_as, read_as_again}
+use Rattle.words.proofs.Parts.{after_word, both_parts, keyed_part, number_part, part_as, read_as_again, IsChoice}
 use Rattle.words.proofs.WordLaws.{plain_bytes, plain_decimal}
-use Rattle.evtext.specs.Event.{call_at, copy_at, copy_call, event_at, event_of, mint_at, mint_call, move_at, move_call, retype_at, retype_call, HasNumbers, HasWords}
-use Rattle.evtext.proofs.CallParts.{copy_operands, mint_operands, move_operands, retype_operands, slot_address_part}
+use Rattle.evtext.specs.Event.{call_at, copy_at, copy_call, endpoint_call, event_at, event_of, fetch_at, mint_at, mint_call, move_at, move_call}
+use Rattle.evtext.specs.Event.{receive_at, receive_call, reply_at, reply_call, retype_at, retype_call, send_call, HasNumbers, HasWords}
+use Rattle.evtext.proofs.CallParts.{copy_operands, message_operands, mint_operands, move_operands, receive_operands, reply_operands}
+use Rattle.evtext.proofs.CallParts.{retype_operands, slot_address_part}
 
 -- the numbers of a retype, part by part
 retype_fits : {untyped bits to offset count : ℕ}
@@ -23,10 +26,18 @@ retype_fits fits = (fits.0, (tt, (fits.1, (fits.2, (fits.3, fits.4)))))
 -- a call is its name and its operands
 
 call_again : (call : Call) (rest : List (List ℕ)) → HasWords call → call_at (call_words call ++ rest) ≡ Ok (call, rest)
-unfolding call_at copy_at mint_at move_at retype_at keyed by_word bind word_at
+unfolding call_at receive_at reply_at fetch_at copy_at mint_at move_at retype_at keyed by_word bind word_at
 call_again (Signal address) rest fits = read_as_again number_part Signal address rest fits
 call_again (Poll address) rest fits = read_as_again number_part Poll address rest fits
 call_again (Wait address) rest fits = read_as_again number_part Wait address rest fits
+call_again (Send address words capability) rest fits =
+    read_as_again message_operands send_call (address, (words, capability)) rest (fits.0, (fits.1, fits.2))
+call_again (call.Call address words capability) rest fits =
+    read_as_again message_operands endpoint_call (address, (words, capability)) rest (fits.0, (fits.1, fits.2))
+call_again (Receive address reply slot) rest fits =
+    read_as_again receive_operands receive_call (address, (reply, slot)) rest (fits.0, (fits.1, fits.2))
+call_again (Reply address words) rest fits = read_as_again reply_operands reply_call (address, words) rest fits
+call_again Fetch rest fits = refl
 call_again (Copy to from rights) rest fits =
     read_as_again copy_operands copy_call (to, (from, rights)) rest (fits.0, (fits.1, fits.2))
 call_again (Mint to from rights given) rest fits =
@@ -41,6 +52,14 @@ plain_call : (call : Call) → HasWords call → AllByRecursion IsPlainWord (cal
 plain_call (Signal address) fits = (plain_bytes (codes "signal") refl, (plain_decimal address fits, tt))
 plain_call (Poll address) fits = (plain_bytes (codes "poll") refl, (plain_decimal address fits, tt))
 plain_call (Wait address) fits = (plain_bytes (codes "wait") refl, (plain_decimal address fits, tt))
+plain_call (Send address words capability) fits =
+    (plain_bytes (codes "send") refl, message_operands.plain (address, (words, capability)) (fits.0, (fits.1, fits.2)))
+plain_call (call.Call address words capability) fits =
+    (plain_bytes (codes "call") refl, message_operands.plain (address, (words, capability)) (fits.0, (fits.1, fits.2)))
+plain_call (Receive address reply slot) fits =
+    (plain_bytes (codes "recv") refl, receive_operands.plain (address, (reply, slot)) (fits.0, (fits.1, fits.2)))
+plain_call (Reply address words) fits = (plain_bytes (codes "reply") refl, reply_operands.plain (address, words) fits)
+plain_call Fetch fits = (plain_bytes (codes "fetch") refl, tt)
 plain_call (Copy to from rights) fits =
     (plain_bytes (codes "copy") refl, copy_operands.plain (to, (from, rights)) (fits.0, (fits.1, fits.2)))
 plain_call (Mint to from rights given) fits =
@@ -53,8 +72,14 @@ plain_call (Retype untyped kind bits to offset count) fits = (
   retype_operands.plain (untyped, (kind, (bits, (to, (offset, count))))) (retype_fits fits),
 )
 
+fetch_alone : IsChoice call_words HasWords (codes "fetch", fetch_at)
+unfolding fetch_at
+fetch_alone words taken h =
+    let same : ◌≡◌ {A = Call × List (List ℕ)} (Fetch, words) taken = cc in
+    subst (λ (t : Call × List (List ℕ)). (codes "fetch" ∷ words ≡ call_words t.0 ++ t.1) × HasWords t.0) same (refl, tt)
+
 call_part : IsPart call_at call_words HasWords
-unfolding call_at copy_at mint_at move_at retype_at
+unfolding call_at receive_at reply_at fetch_at copy_at mint_at move_at retype_at
 call_part = keyed_part call_words HasWords _ (
   after_word number_part (codes "signal") Signal call_words HasWords (λ n. refl) (λ n small. small),
   (
@@ -62,20 +87,35 @@ call_part = keyed_part call_words HasWords _ (
     (
       after_word number_part (codes "wait") Wait call_words HasWords (λ n. refl) (λ n small. small),
       (
-        after_word copy_operands (codes "copy") copy_call call_words HasWords (λ parts. refl) (λ parts is. (is.0, is.1.0, is.1.1)),
+        after_word message_operands (codes "send") send_call call_words HasWords (λ parts. refl) (λ parts is. (is.0, is.1.0, is.1.1)),
         (
-          after_word mint_operands (codes "mint") mint_call call_words HasWords (λ parts. refl)
-              (λ parts is. (is.0, is.1.0, is.1.1.0, is.1.1.1)),
+          after_word message_operands (codes "call") endpoint_call call_words HasWords (λ parts. refl) (λ parts is. (is.0, is.1.0, is.1.1)),
           (
-            after_word move_operands (codes "move") move_call call_words HasWords (λ parts. refl) (λ parts is. is),
+            after_word receive_operands (codes "recv") receive_call call_words HasWords (λ parts. refl) (λ parts is. (is.0, is.1.0, is.1.1)),
             (
-              after_word slot_address_part (codes "delete") Delete call_words HasWords (λ slot. refl) (λ slot is. is),
+              after_word reply_operands (codes "reply") reply_call call_words HasWords (λ parts. refl) (λ parts is. is),
               (
-                after_word slot_address_part (codes "revoke") Revoke call_words HasWords (λ slot. refl) (λ slot is. is),
+                fetch_alone,
                 (
-                  after_word retype_operands (codes "retype") retype_call call_words HasWords (λ parts. refl)
-                      (λ parts is. (is.0, is.1.1.0, is.1.1.1.0, is.1.1.1.1.0, is.1.1.1.1.1)),
-                  tt,
+                  after_word copy_operands (codes "copy") copy_call call_words HasWords (λ parts. refl) (λ parts is. (is.0, is.1.0, is.1.1)),
+                  (
+                    after_word mint_operands (codes "mint") mint_call call_words HasWords (λ parts. refl)
+                        (λ parts is. (is.0, is.1.0, is.1.1.0, is.1.1.1)),
+                    (
+                      after_word move_operands (codes "move") move_call call_words HasWords (λ parts. refl) (λ parts is. is),
+                      (
+                        after_word slot_address_part (codes "delete") Delete call_words HasWords (λ slot. refl) (λ slot is. is),
+                        (
+                          after_word slot_address_part (codes "revoke") Revoke call_words HasWords (λ slot. refl) (λ slot is. is),
+                          (
+                            after_word retype_operands (codes "retype") retype_call call_words HasWords (λ parts. refl)
+                                (λ parts is. (is.0, is.1.1.0, is.1.1.1.0, is.1.1.1.1.0, is.1.1.1.1.1)),
+                            tt,
+                          ),
+                        ),
+                      ),
+                    ),
+                  ),
                 ),
               ),
             ),

@@ -1,11 +1,14 @@
 -- How the words of a line are read as an event: its core, its thread, then a call by its name and operands (confine's own).
-use Rattle.std.specs.Prelude.{ℕ, ◌<◌, ◌^◌, ◌&&◌, nat_lt, [], ◌∷◌, codes, Result, Ok, Err, if◌then◌else◌}
+use Rattle.std.specs.Prelude.{ℕ, ◌<◌, ◌^◌, ◌&&◌, nat_lt, List, [], ◌∷◌, codes, Option, Some, None, Result, Ok, Err, if◌then◌else◌}
+use Rattle.std.specs.Option.{option_map}
+use Rattle.std.specs.Str.{bytes_eq}
 use Rattle.base.specs.declared.core_number.TheConstants.CoreNo as CoreNo
 use Rattle.base.specs.declared.limits.TheConstants.{MAX_EVENTS}
 use Rattle.base.specs.declared.rights.Rights.{Rights}
 use Rattle.base.specs.Rights.{rights_of_word, IsRights}
 use Rattle.machine.specs.declared.call.Call.{Call}
-use Rattle.machine.specs.declared.call.Call.TheVariants.{Signal, Poll, Wait, Copy, Mint, Move, Delete, Revoke, Retype}
+use Rattle.machine.specs.declared.call.Call.TheVariants.{Signal, Poll, Wait, Send, Receive, Reply, Fetch, Copy, Mint, Move, Delete, Revoke, Retype}
+use Rattle.machine.specs.declared.call.Call.TheVariants as call
 use Rattle.machine.specs.declared.call.CapData.{CapData}
 use Rattle.machine.specs.declared.call.CapData.TheVariants.{Badge, Guard}
 use Rattle.machine.specs.declared.call.Event.{Event}
@@ -14,7 +17,7 @@ use Rattle.machine.specs.declared.slot_address.SlotAddress.{SlotAddress}
 use Rattle.machine.specs.KindWords.{memory_kind_of}
 use Rattle.words.specs.declared.faults.Wrong.{Wrong}
 use Rattle.words.specs.declared.faults.Wrong.TheVariants.{Limit}
-use Rattle.words.specs.Number.{number_at}
+use Rattle.words.specs.Number.{dec_of, number_at}
 use Rattle.words.specs.Parts.{PartReader, in_turn, keyed, read_as}
 use Rattle.words.specs.Reading.{◌>>=◌, word_at, or_syntax}
 
@@ -82,12 +85,73 @@ retype_at =
     read_as retype_call
     (in_turn number_at (in_turn memory_kind_at (in_turn number_at (in_turn number_at (in_turn number_at number_at)))))
 
+-- the words of a message
+abbrev pub four_of : ℕ × (ℕ × (ℕ × ℕ)) → List ℕ
+four_of parts = parts.0 ∷ parts.1.0 ∷ parts.1.1.0 ∷ parts.1.1.1 ∷ []
+
+-- the next words as the four words of a message
+unfoldable pub four_at : PartReader (List ℕ)
+four_at = read_as four_of (in_turn number_at (in_turn number_at (in_turn number_at number_at)))
+
+-- an address, or `-` for none
+abbrev pub optional_of : List ℕ → Option (Option ℕ)
+optional_of word = if bytes_eq word (codes "-") then Some None else option_map (λ n. Some n) (dec_of word)
+
+-- the next word as an address, or `-` for none
+unfoldable pub optional_at : PartReader (Option ℕ)
+optional_at words = do
+  word ← word_at words
+  address ← or_syntax (optional_of word.0)
+  Ok (address, word.1)
+
+-- the next words as a slot, or `-` for none
+unfoldable pub optional_slot_at : PartReader (Option SlotAddress)
+optional_slot_at words = do
+  word ← word_at words
+  if bytes_eq word.0 (codes "-") then Ok (None, word.1) else read_as (λ slot. Some slot) slot_address_at words
+
+-- the sending of words, and of the capability at an address, to an address
+abbrev pub send_call : ℕ × (List ℕ × Option ℕ) → Call
+send_call parts = Send parts.0 parts.1.0 parts.1.1
+
+abbrev pub endpoint_call : ℕ × (List ℕ × Option ℕ) → Call
+endpoint_call parts = call.Call parts.0 parts.1.0 parts.1.1
+
+-- the next words as the operands of a send or a call
+unfoldable pub message_at : PartReader (ℕ × (List ℕ × Option ℕ))
+message_at = in_turn number_at (in_turn four_at optional_at)
+
+-- the receive of an endpoint, a reply and a slot
+abbrev pub receive_call : ℕ × (Option ℕ × Option SlotAddress) → Call
+receive_call parts = Receive parts.0 parts.1.0 parts.1.1
+
+-- the next words as the operands of a receive
+unfoldable pub receive_at : PartReader Call
+receive_at = read_as receive_call (in_turn number_at (in_turn optional_at optional_slot_at))
+
+-- the reply of a reply object and words
+abbrev pub reply_call : ℕ × List ℕ → Call
+reply_call parts = Reply parts.0 parts.1
+
+-- the next words as the operands of a reply
+unfoldable pub reply_at : PartReader Call
+reply_at = read_as reply_call (in_turn number_at four_at)
+
+-- no operands
+unfoldable pub fetch_at : PartReader Call
+fetch_at words = Ok (Fetch, words)
+
 -- the next words as a call: its name, then its operands
 unfoldable pub call_at : PartReader Call
 call_at = keyed (
     (codes "signal", read_as Signal number_at)
     ∷ (codes "poll", read_as Poll number_at)
     ∷ (codes "wait", read_as Wait number_at)
+    ∷ (codes "send", read_as send_call message_at)
+    ∷ (codes "call", read_as endpoint_call message_at)
+    ∷ (codes "recv", receive_at)
+    ∷ (codes "reply", reply_at)
+    ∷ (codes "fetch", fetch_at)
     ∷ (codes "copy", copy_at)
     ∷ (codes "mint", mint_at)
     ∷ (codes "move", move_at)
@@ -117,11 +181,30 @@ abbrev pub IsData : CapData → Type 0
 IsData (Badge badge) = badge < 2 ^ 64
 IsData (Guard size value) = (size < 2 ^ 64) × (value < 2 ^ 64)
 
+-- four words of 64 bits
+abbrev pub AreFour : List ℕ → Type 0
+AreFour (first ∷ second ∷ third ∷ fourth ∷ []) = (first < 2 ^ 64) × (second < 2 ^ 64) × (third < 2 ^ 64) × (fourth < 2 ^ 64)
+AreFour _ = ⊥
+
+-- an address of 64 bits, where there is one
+abbrev pub IsOptional : Option ℕ → Type 0
+IsOptional None = Unit {0}
+IsOptional (Some address) = address < 2 ^ 64
+
+abbrev pub IsOptionalSlot : Option SlotAddress → Type 0
+IsOptionalSlot None = Unit {0}
+IsOptionalSlot (Some slot) = IsSlotAddress slot
+
 -- a call whose numbers are of 64 bits, and whose rights are a set of the four: further bits have no letter
 abbrev pub HasWords : Call → Type 0
 HasWords (Signal address) = address < 2 ^ 64
 HasWords (Poll address) = address < 2 ^ 64
 HasWords (Wait address) = address < 2 ^ 64
+HasWords (Send address words capability) = (address < 2 ^ 64) × AreFour words × IsOptional capability
+HasWords (call.Call address words capability) = (address < 2 ^ 64) × AreFour words × IsOptional capability
+HasWords (Receive address reply slot) = (address < 2 ^ 64) × IsOptional reply × IsOptionalSlot slot
+HasWords (Reply address words) = (address < 2 ^ 64) × AreFour words
+HasWords Fetch = Unit {0}
 HasWords (Copy to from rights) = IsSlotAddress to × IsSlotAddress from × IsRights rights
 HasWords (Mint to from rights given) = IsSlotAddress to × IsSlotAddress from × IsRights rights × IsData given
 HasWords (Move to from) = IsSlotAddress to × IsSlotAddress from

@@ -1,11 +1,12 @@
 ghost use Rattle.std.specs.Prelude.{◌≡◌};
 ghost use Rattle.words.specs.Reading.{Gives};
-ghost use Rattle.evtext.specs.Event.{call_at, copy_at, data_at, event_at, memory_kind_at, mint_at, move_at};
-ghost use Rattle.evtext.specs.Event.{retype_at, rights_at, slot_address_at, within_limits};
+ghost use Rattle.evtext.specs.Event.{call_at, copy_at, data_at, event_at, four_at, memory_kind_at, message_at, mint_at};
+ghost use Rattle.evtext.specs.Event.{move_at, optional_at, optional_slot_at, receive_at, reply_at, retype_at, rights_at};
+ghost use Rattle.evtext.specs.Event.{slot_address_at, within_limits};
 
 use base::{CoreNo, MAX_EVENTS, ObjId, Rights};
 use machine::{Call, CapData, Event, MemoryKind, SlotAddress};
-use words::{Words, Wrong};
+use words::{Words, Wrong, decimal_of};
 
 /// An event as a line has it. Its core's number may be too large.
 #[derive(Clone, Copy)]
@@ -51,7 +52,7 @@ pub(crate) fn next_event(words: &mut Words<'_>) -> Result<Claimed, Wrong>
     })
 }
 
-#[tactic(auto, unfolding(crate::specs::Event::call_at, words::specs::Parts::by_word, words::specs::Parts::keyed, words::specs::Parts::read_as, words::specs::Reading::bind))]
+#[tactic(auto, unfolding(crate::specs::Event::call_at, crate::specs::Event::fetch_at, words::specs::Parts::by_word, words::specs::Parts::keyed, words::specs::Parts::read_as, words::specs::Reading::bind))]
 fn next_call(words: &mut Words<'_>) -> Result<Call, Wrong>
     ensures { Gives (λ call. (call, words.new)) result (call_at words.old) }
 {
@@ -65,6 +66,26 @@ fn next_call(words: &mut Words<'_>) -> Result<Call, Wrong>
     } else if name == b"wait".as_slice() {
         let address = words.number()?;
         Ok(Call::Wait { address })
+    } else if name == b"send".as_slice() {
+        let (address, words, capability) = next_message(words)?;
+        Ok(Call::Send {
+            address,
+            words,
+            capability,
+        })
+    } else if name == b"call".as_slice() {
+        let (address, words, capability) = next_message(words)?;
+        Ok(Call::Call {
+            address,
+            words,
+            capability,
+        })
+    } else if name == b"recv".as_slice() {
+        next_receive(words)
+    } else if name == b"reply".as_slice() {
+        next_reply(words)
+    } else if name == b"fetch".as_slice() {
+        Ok(Call::Fetch)
     } else if name == b"copy".as_slice() {
         next_copy(words)
     } else if name == b"mint".as_slice() {
@@ -82,6 +103,85 @@ fn next_call(words: &mut Words<'_>) -> Result<Call, Wrong>
     } else {
         Err(Wrong::Syntax)
     }
+}
+
+/// The next words as the operands of a send or a call: where to, what, and what goes along.
+#[tactic(auto, unfolding(crate::specs::Event::message_at, words::specs::Parts::in_turn, words::specs::Reading::bind))]
+fn next_message(words: &mut Words<'_>) -> Result<(u64, [u64; 4], Option<u64>), Wrong>
+    ensures { Gives (λ message. ((message.0, (message.1, message.2)), words.new)) result (message_at words.old) }
+{
+    let address = words.number()?;
+    let message = next_four(words)?;
+    let capability = next_optional(words)?;
+    Ok((address, message, capability))
+}
+
+/// The next words as the operands of a receive.
+#[tactic(auto, unfolding(crate::specs::Event::receive_at, words::specs::Parts::in_turn, words::specs::Parts::read_as, words::specs::Reading::bind))]
+fn next_receive(words: &mut Words<'_>) -> Result<Call, Wrong>
+    ensures { Gives (λ call. (call, words.new)) result (receive_at words.old) }
+{
+    let address = words.number()?;
+    let reply = next_optional(words)?;
+    let slot = next_optional_slot(words)?;
+    Ok(Call::Receive {
+        address,
+        reply,
+        slot,
+    })
+}
+
+/// The next words as the operands of a reply.
+#[tactic(auto, unfolding(crate::specs::Event::reply_at, words::specs::Parts::in_turn, words::specs::Parts::read_as, words::specs::Reading::bind))]
+fn next_reply(words: &mut Words<'_>) -> Result<Call, Wrong>
+    ensures { Gives (λ call. (call, words.new)) result (reply_at words.old) }
+{
+    let address = words.number()?;
+    let message = next_four(words)?;
+    Ok(Call::Reply {
+        address,
+        words: message,
+    })
+}
+
+/// The next words as the four words of a message.
+#[tactic(auto, unfolding(crate::specs::Event::four_at, words::specs::Parts::in_turn, words::specs::Parts::read_as, words::specs::Reading::bind))]
+fn next_four(words: &mut Words<'_>) -> Result<[u64; 4], Wrong>
+    ensures { Gives (λ four. (four, words.new)) result (four_at words.old) }
+{
+    let first = words.number()?;
+    let second = words.number()?;
+    let third = words.number()?;
+    let fourth = words.number()?;
+    Ok([first, second, third, fourth])
+}
+
+/// The next word as an address, or `-` for none.
+#[tactic(auto, unfolding(crate::specs::Event::optional_at, words::specs::Reading::or_syntax, words::specs::Reading::bind))]
+fn next_optional(words: &mut Words<'_>) -> Result<Option<u64>, Wrong>
+    ensures { Gives (λ address. (address, words.new)) result (optional_at words.old) }
+{
+    let word = words.word()?;
+    if word == b"-".as_slice() {
+        return Ok(None);
+    }
+    let address = decimal_of(word).ok_or(Wrong::Syntax)?;
+    Ok(Some(address))
+}
+
+/// The next words as a slot, or `-` for none.
+#[tactic(auto, unfolding(crate::specs::Event::optional_slot_at, crate::specs::Event::slot_address_at, words::specs::Number::number_at, words::specs::Parts::in_turn, words::specs::Parts::read_as, words::specs::Reading::or_syntax, words::specs::Reading::bind))]
+fn next_optional_slot(words: &mut Words<'_>) -> Result<Option<SlotAddress>, Wrong>
+    ensures { Gives (λ slot. (slot, words.new)) result (optional_slot_at words.old) }
+{
+    let word = words.word()?;
+    if word == b"-".as_slice() {
+        return Ok(None);
+    }
+    let root = decimal_of(word).ok_or(Wrong::Syntax)?;
+    let index = words.number()?;
+    let depth = words.number()?;
+    Ok(Some(SlotAddress { root, index, depth }))
 }
 
 /// The next words as the operands of a copy.

@@ -25,6 +25,11 @@ pub(crate) enum Form {
     Signal,
     Poll,
     Wait,
+    Send,
+    Call,
+    Receive,
+    Answer,
+    Fetch,
     Copy,
     Mint,
     Move,
@@ -35,7 +40,7 @@ pub(crate) enum Form {
 
 impl Form {
     /// All forms, those of a text in the order in which its lines may come.
-    pub(crate) const ALL: [Form; 27] = [
+    pub(crate) const ALL: [Form; 32] = [
         Form::Label,
         Form::Untyped,
         Form::CNode,
@@ -57,6 +62,11 @@ impl Form {
         Form::Signal,
         Form::Poll,
         Form::Wait,
+        Form::Send,
+        Form::Call,
+        Form::Receive,
+        Form::Answer,
+        Form::Fetch,
         Form::Copy,
         Form::Mint,
         Form::Move,
@@ -76,6 +86,11 @@ impl Form {
             Form::Signal
             | Form::Poll
             | Form::Wait
+            | Form::Send
+            | Form::Call
+            | Form::Receive
+            | Form::Answer
+            | Form::Fetch
             | Form::Copy
             | Form::Mint
             | Form::Move
@@ -109,6 +124,11 @@ impl Form {
             Form::Signal => "signal",
             Form::Poll => "poll",
             Form::Wait => "wait",
+            Form::Send => "send",
+            Form::Call => "call",
+            Form::Receive => "recv",
+            Form::Answer => "reply",
+            Form::Fetch => "fetch",
             Form::Copy => "copy",
             Form::Mint => "mint",
             Form::Move => "move",
@@ -142,6 +162,13 @@ impl Form {
             Form::Signal => "`DEC DEC signal DEC`",
             Form::Poll => "`DEC DEC poll DEC`",
             Form::Wait => "`DEC DEC wait DEC`",
+            Form::Send => "`DEC DEC send DEC DEC DEC DEC DEC DEC` or `.. -`",
+            Form::Call => "`DEC DEC call DEC DEC DEC DEC DEC DEC` or `.. -`",
+            Form::Receive => {
+                "`DEC DEC recv DEC`, then DEC or `-`, and then `DEC DEC DEC` or `-`"
+            }
+            Form::Answer => "`DEC DEC reply DEC DEC DEC DEC DEC`",
+            Form::Fetch => "`DEC DEC fetch`",
             Form::Copy => "`DEC DEC copy DEC DEC DEC DEC DEC DEC RIGHTS`",
             Form::Mint => {
                 "`DEC DEC mint DEC DEC DEC DEC DEC DEC RIGHTS` and `badge DEC` or `guard DEC DEC`"

@@ -14,6 +14,8 @@ use cnodeops::{copy, mint, move_cap};
 use machine::{Call, Event, Made, Outcome, steps_keep_machines_well_formed};
 use objects::State;
 use removal::{delete, revoke};
+use replies::reply;
+use transfer::{call, fetch, receive, send};
 use untyped::retype;
 
 /// Makes the call of an event, once its thread is admitted.
@@ -27,6 +29,23 @@ fn make(state: &mut State, event: Event) -> Result<Made, Cause>
         Call::Signal { address } => signal(state, event.thread, address),
         Call::Poll { address } => poll(state, event.thread, address),
         Call::Wait { address } => wait(state, event.thread, address),
+        Call::Send {
+            address,
+            words,
+            capability,
+        } => send(state, event.thread, address, words, capability),
+        Call::Call {
+            address,
+            words,
+            capability,
+        } => call(state, event.thread, address, words, capability),
+        Call::Receive {
+            address,
+            reply,
+            slot,
+        } => receive(state, event.thread, address, reply, slot),
+        Call::Reply { address, words } => reply(state, event.thread, address, words),
+        Call::Fetch => fetch(state, event.thread),
         Call::Copy { to, from, rights } => copy(state, event.thread, to, from, rights),
         Call::Mint {
             to,

@@ -25,6 +25,7 @@ use Rattle.machine.specs.Step.{Step}
 use Rattle.machine.specs.WellFormed.{IsThread, IsWellFormed, WaitsAtKind}
 use Rattle.machine.proofs.Admission.{IsCaller}
 use Rattle.machine.proofs.FillsFormed.{derives_formed}
+use Rattle.machine.proofs.MessageRows.{endpoint_call_formed, fetch_formed, receive_formed, reply_formed, send_formed}
 use Rattle.machine.proofs.MovesFormed.{move_formed}
 use Rattle.machine.proofs.Inversion.{CallDone, EventDone, step_done}
 use Rattle.machine.proofs.JoinLinks.{join_moves}
@@ -168,6 +169,14 @@ call_formed :
 call_formed m caller (call.Signal address) next formed is = signal_formed m caller address next formed
 call_formed m caller (call.Poll address) next formed is = poll_formed m caller address next formed
 call_formed m caller (call.Wait address) next formed is = wait_formed m caller address next formed is
+call_formed m caller (call.Send address words capability) next formed is =
+    send_formed m caller address words capability next formed is
+call_formed m caller (call.Call address words capability) next formed is =
+    endpoint_call_formed m caller address words capability next formed is
+call_formed m caller (call.Receive address reply slot) next formed is =
+    receive_formed m caller address reply slot next formed is
+call_formed m caller (call.Reply address words) next formed is = reply_formed m caller address words next formed
+call_formed m caller call.Fetch next formed is = fetch_formed m caller next formed is
 call_formed m caller (call.Copy to from rights) next formed is = derives_formed m caller to from next formed
 call_formed m caller (call.Mint to from rights gift) next formed is = derives_formed m caller to from next formed
 call_formed m caller (call.Move to from) next formed is = move_formed m caller to from next formed

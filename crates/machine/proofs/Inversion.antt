@@ -16,8 +16,12 @@ use Rattle.machine.specs.WellFormed.{IsWellFormed}
 use Rattle.machine.proofs.Admission.{IsCaller, admits}
 use Rattle.machine.proofs.Conditions.{both_done}
 use Rattle.machine.proofs.PollRow.{PollDone, poll_done}
+use Rattle.machine.proofs.FetchRow.{FetchDone, fetch_done}
+use Rattle.machine.proofs.ReceiveRow.{ReceiveDone, receive_done}
 use Rattle.machine.proofs.RemovalRows.{RemovalDone, delete_done, revoke_done}
+use Rattle.machine.proofs.ReplyRow.{ReplyDone, reply_done}
 use Rattle.machine.proofs.RetypeRow.{RetypeDone, retype_done}
+use Rattle.machine.proofs.SendRow.{EndpointCallDone, SendDone, endpoint_call_done, send_done}
 use Rattle.machine.proofs.SignalRow.{SignalDone, signal_done}
 use Rattle.machine.proofs.SlotRows.{Derives, MoveDone, copy_done, mint_done, move_done}
 use Rattle.machine.proofs.WaitRow.{WaitDone, wait_done}
@@ -27,6 +31,11 @@ abbrev pub CallDone : Machine → ObjId → Call → Machine → Type 0
 CallDone m caller (call.Signal address) next = SignalDone m caller address next
 CallDone m caller (call.Poll address) next = PollDone m caller address next
 CallDone m caller (call.Wait address) next = WaitDone m caller address next
+CallDone m caller (call.Send address words capability) next = SendDone m caller address words capability next
+CallDone m caller (call.Call address words capability) next = EndpointCallDone m caller address words capability next
+CallDone m caller (call.Receive address reply slot) next = ReceiveDone m caller address reply slot next
+CallDone m caller (call.Reply address words) next = ReplyDone m caller address words next
+CallDone m caller call.Fetch next = FetchDone m caller next
 CallDone m caller (call.Copy to from rights) next = Derives m caller to from next
 CallDone m caller (call.Mint to from rights given) next = Derives m caller to from next
 CallDone m caller (call.Move to from) next = MoveDone m caller to from next
@@ -40,6 +49,14 @@ call_done :
 call_done m caller (call.Signal address) made next formed is = signal_done m caller address made next formed
 call_done m caller (call.Poll address) made next formed is = poll_done m caller address made next formed
 call_done m caller (call.Wait address) made next formed is = wait_done m caller address made next formed is
+call_done m caller (call.Send address words capability) made next formed is =
+    send_done m caller address words capability made next formed
+call_done m caller (call.Call address words capability) made next formed is =
+    endpoint_call_done m caller address words capability made next formed
+call_done m caller (call.Receive address reply slot) made next formed is =
+    receive_done m caller address reply slot made next formed
+call_done m caller (call.Reply address words) made next formed is = reply_done m caller address words made next
+call_done m caller call.Fetch made next formed is = fetch_done m caller made next
 call_done m caller (call.Copy to from rights) made next formed is = copy_done m caller to from rights made next formed
 call_done m caller (call.Mint to from rights gift) made next formed is =
     mint_done m caller to from rights gift made next formed

@@ -1,6 +1,6 @@
 -- How calls, events and what they answer are spelled in the texts of scripts and logs: each is a list of words, which single
 -- spaces part.
-use Rattle.std.specs.Prelude.{ℕ, Bool, List, [], ◌∷◌, ◌++◌, codes, slice_index}
+use Rattle.std.specs.Prelude.{ℕ, Bool, List, Option, Some, None, [], ◌∷◌, ◌++◌, codes, slice_index}
 use Rattle.std.specs.Fmt.{decimal}
 use Rattle.std.specs.List.{join_with_byte}
 use Rattle.base.specs.Rights.{rights_word}
@@ -26,11 +26,38 @@ abbrev pub data_words : CapData → List (List ℕ)
 data_words (given.Badge badge) = codes "badge" ∷ decimal badge ∷ []
 data_words (given.Guard size value) = codes "guard" ∷ decimal size ∷ decimal value ∷ []
 
+-- the four words of a message
+abbrev pub four_words : List ℕ → List (List ℕ)
+four_words words =
+    decimal (slice_index words 0)
+    ∷ decimal (slice_index words 1)
+    ∷ decimal (slice_index words 2)
+    ∷ decimal (slice_index words 3)
+    ∷ []
+
+-- an address, or `-` for none
+abbrev pub optional_word : Option ℕ → List ℕ
+optional_word None = codes "-"
+optional_word (Some address) = decimal address
+
+-- a slot, or `-` for none
+abbrev pub optional_slot_words : Option SlotAddress → List (List ℕ)
+optional_slot_words None = codes "-" ∷ []
+optional_slot_words (Some slot) = slot_address_words slot
+
 -- a call: its name, then its operands
 abbrev pub call_words : Call → List (List ℕ)
 call_words (call.Signal address) = codes "signal" ∷ decimal address ∷ []
 call_words (call.Poll address) = codes "poll" ∷ decimal address ∷ []
 call_words (call.Wait address) = codes "wait" ∷ decimal address ∷ []
+call_words (call.Send address words capability) =
+    codes "send" ∷ decimal address ∷ (four_words words ++ optional_word capability ∷ [])
+call_words (call.Call address words capability) =
+    codes "call" ∷ decimal address ∷ (four_words words ++ optional_word capability ∷ [])
+call_words (call.Receive address reply slot) =
+    codes "recv" ∷ decimal address ∷ optional_word reply ∷ optional_slot_words slot
+call_words (call.Reply address words) = codes "reply" ∷ decimal address ∷ four_words words
+call_words call.Fetch = codes "fetch" ∷ []
 call_words (call.Copy to from rights) =
     codes "copy" ∷ (slot_address_words to ++ (slot_address_words from ++ rights_word rights ∷ []))
 call_words (call.Mint to from rights gift) =
@@ -60,13 +87,7 @@ flag_word Bool.false = codes "0"
 -- a message: badge, four words, and whether a capability arrived
 abbrev pub message_words : Message → List (List ℕ)
 message_words message =
-    decimal message.badge
-    ∷ decimal (slice_index message.words 0)
-    ∷ decimal (slice_index message.words 1)
-    ∷ decimal (slice_index message.words 2)
-    ∷ decimal (slice_index message.words 3)
-    ∷ flag_word message.capability
-    ∷ []
+    decimal message.badge ∷ (four_words message.words ++ flag_word message.capability ∷ [])
 
 -- what a call that is done answers
 abbrev pub answer_words : Answer → List (List ℕ)

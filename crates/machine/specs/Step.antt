@@ -45,6 +45,10 @@ use Rattle.machine.specs.Step.Move.{move_of}
 use Rattle.machine.specs.Step.Delete.{delete_of}
 use Rattle.machine.specs.Step.Revoke.{revoke_of}
 use Rattle.machine.specs.Step.Retype.{retype_of}
+use Rattle.machine.specs.Step.Send.{endpoint_call_of, send_of}
+use Rattle.machine.specs.Step.Receive.{receive_of}
+use Rattle.machine.specs.Step.Reply.{reply_of}
+use Rattle.machine.specs.Step.Fetch.{fetch_of}
 
 -- the core, budget and period of a context, if it is one and configured
 abbrev pub share_in : Option Object → Option Share
@@ -83,6 +87,11 @@ abbrev pub call_of : Machine → ObjId → Call → Result (Made × Machine) Cau
 call_of m caller (call.Signal address) = signal_of m caller address
 call_of m caller (call.Poll address) = poll_of m caller address
 call_of m caller (call.Wait address) = wait_of m caller address
+call_of m caller (call.Send address words capability) = send_of m caller address words capability
+call_of m caller (call.Call address words capability) = endpoint_call_of m caller address words capability
+call_of m caller (call.Receive address reply slot) = receive_of m caller address reply slot
+call_of m caller (call.Reply address words) = reply_of m caller address words
+call_of m caller call.Fetch = fetch_of m caller
 call_of m caller (call.Copy to from rights) = copy_of m caller to from rights
 call_of m caller (call.Mint to from rights given) = mint_of m caller to from rights given
 call_of m caller (call.Move to from) = move_of m caller to from
@@ -110,6 +119,11 @@ abbrev pub takes_memory : Call → Bool
 takes_memory (call.Signal _) = Bool.false
 takes_memory (call.Poll _) = Bool.false
 takes_memory (call.Wait _) = Bool.false
+takes_memory (call.Send _ _ _) = Bool.false
+takes_memory (call.Call _ _ _) = Bool.false
+takes_memory (call.Receive _ _ _) = Bool.false
+takes_memory (call.Reply _ _) = Bool.false
+takes_memory call.Fetch = Bool.false
 takes_memory (call.Copy _ _ _) = Bool.false
 takes_memory (call.Mint _ _ _ _) = Bool.false
 takes_memory (call.Move _ _) = Bool.false

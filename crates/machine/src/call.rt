@@ -27,6 +27,36 @@ pub enum Call {
     Wait {
         address: u64,
     },
+    /// Sends a message to the endpoint at the address, or waits until somebody receives it (seL4 manual,
+    /// seL4_Send).
+    Send {
+        address: u64,
+        words: [u64; 4],
+        /// The address of the capability that it sends along.
+        capability: Option<u64>,
+    },
+    /// Sends it so, and waits for the answer (seL4 manual, seL4_Call).
+    Call {
+        address: u64,
+        words: [u64; 4],
+        capability: Option<u64>,
+    },
+    /// Receives a message at the endpoint at the address, or waits for one (seL4 manual, seL4_Recv).
+    Receive {
+        address: u64,
+        /// The address of the reply through which it answers a call.
+        reply: Option<u64>,
+        /// Where it takes a capability.
+        slot: Option<SlotAddress>,
+    },
+    /// Answers the thread that has called through the reply at the address (seL4 manual, "Reply
+    /// Objects").
+    Reply {
+        address: u64,
+        words: [u64; 4],
+    },
+    /// Takes what the thread was given and has not fetched yet.
+    Fetch,
     /// Copies the capability in the slot `from` to the empty slot `to`, with those of its rights that
     /// are among `rights` (seL4 manual, seL4_CNode_Copy).
     Copy {

@@ -1,6 +1,6 @@
 ghost use Rattle.std.specs.Prelude.{Some};
-ghost use Rattle.machine.specs.Spelling.{answer_words, call_words, data_words, event_words, message_words};
-ghost use Rattle.machine.specs.Spelling.{outcome_words, slot_address_words, spelled};
+ghost use Rattle.machine.specs.Spelling.{answer_words, call_words, data_words, event_words, four_words, message_words};
+ghost use Rattle.machine.specs.Spelling.{optional_slot_words, optional_word, outcome_words, slot_address_words, spelled};
 
 use crate::{Answer, Call, CapData, Event, Message, Outcome, SlotAddress};
 use std::fmt;
@@ -27,6 +27,49 @@ impl fmt::Display for CapData {
     }
 }
 
+// An address that may be left out.
+#[derive(Drop)]
+struct Optional(Option<u64>);
+
+impl fmt::Display for Optional {
+    ghost output = { λ optional. Some (optional_word (optional.0)) };
+
+    fn fmt<W: fmt::Write>(&self, f: &mut fmt::Formatter<W>) -> fmt::Result {
+        match self.0 {
+            Some(address) => write!(f, "{address}"),
+            None => write!(f, "-"),
+        }
+    }
+}
+
+// A slot that may be left out.
+#[derive(Drop)]
+struct OptionalSlot(Option<SlotAddress>);
+
+impl fmt::Display for OptionalSlot {
+    ghost output = { λ optional. Some (spelled (optional_slot_words (optional.0))) };
+
+    fn fmt<W: fmt::Write>(&self, f: &mut fmt::Formatter<W>) -> fmt::Result {
+        match self.0 {
+            Some(slot) => write!(f, "{slot}"),
+            None => write!(f, "-"),
+        }
+    }
+}
+
+// The four words of a message.
+#[derive(Drop)]
+struct Four([u64; 4]);
+
+impl fmt::Display for Four {
+    ghost output = { λ words. Some (spelled (four_words (words.0))) };
+
+    fn fmt<W: fmt::Write>(&self, f: &mut fmt::Formatter<W>) -> fmt::Result {
+        let [first, second, third, fourth] = self.0;
+        write!(f, "{first} {second} {third} {fourth}")
+    }
+}
+
 impl fmt::Display for Call {
     ghost output = { λ call. Some (spelled (call_words call)) };
 
@@ -35,6 +78,38 @@ impl fmt::Display for Call {
             Call::Signal { address } => write!(f, "signal {address}"),
             Call::Poll { address } => write!(f, "poll {address}"),
             Call::Wait { address } => write!(f, "wait {address}"),
+            Call::Send {
+                address,
+                words,
+                capability,
+            } => {
+                let words = Four(*words);
+                let capability = Optional(*capability);
+                write!(f, "send {address} {words} {capability}")
+            }
+            Call::Call {
+                address,
+                words,
+                capability,
+            } => {
+                let words = Four(*words);
+                let capability = Optional(*capability);
+                write!(f, "call {address} {words} {capability}")
+            }
+            Call::Receive {
+                address,
+                reply,
+                slot,
+            } => {
+                let reply = Optional(*reply);
+                let slot = OptionalSlot(*slot);
+                write!(f, "recv {address} {reply} {slot}")
+            }
+            Call::Reply { address, words } => {
+                let words = Four(*words);
+                write!(f, "reply {address} {words}")
+            }
+            Call::Fetch => write!(f, "fetch"),
             Call::Copy { to, from, rights } => write!(f, "copy {to} {from} {rights}"),
             Call::Mint {
                 to,

@@ -17,6 +17,7 @@ use Rattle.table.specs.Rules.{IsLawful, IsObjectOf, IsCapOf, IsBindingOf, kind_a
 use Rattle.table.specs.Tree.{is_original, source_of}
 use Rattle.verdict.specs.Confined.{IsConfined}
 use Rattle.verdict.proofs.ControlPolicy.{has}
+use Rattle.verdict.proofs.EvenPolicy.{even}
 use Rattle.verdict.proofs.LineByLine.{IsBindingWithin, IsCapWithin, confined_by_lines, control_line, root_line}
 use Rattle.verdict.proofs.SmallSystem.{id, slot, labelled, filled, thread, context}
 use Rattle.verdict.proofs.TestTables.{lawful_by_tests, names_differ, pairs_test, tests}
@@ -103,7 +104,7 @@ making_lawful = lawful_by_tests making refl (record {
 -- its boot state is confined
 
 cap_lines : All (IsCapWithin making has) making.caps
-unfolding making initial_of declared_label kind_at has
+unfolding making initial_of declared_label kind_at even
 cap_lines = All-from_recursion (IsCapWithin making has) making.caps (
   control_line making has _ 0 1 (record { source = refl; target = refl }) refl refl refl,
   (
@@ -113,7 +114,7 @@ cap_lines = All-from_recursion (IsCapWithin making has) making.caps (
 )
 
 pub making_confined : (m : Machine) → IsBoot making m → IsConfined making has m
-unfolding making initial_of declared_label has
+unfolding making initial_of declared_label even
 making_confined = confined_by_lines making has (record {
   caps = cap_lines;
   pairs = λ i d within. absurd (omega arith);

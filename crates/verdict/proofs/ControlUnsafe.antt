@@ -23,6 +23,7 @@ use Rattle.machine.specs.Machine.{Machine, id_cmp, same_id, object_of, cap_of}
 use Rattle.machine.specs.Memory.{Source, begun, has_child, new_cap, new_detail, new_object, with_made}
 use Rattle.machine.specs.Objects.{kind_of_object}
 use Rattle.machine.specs.Step.{admitted, made_by, step_of}
+use Rattle.machine.specs.Step.Step.{ends}
 use Rattle.machine.specs.Step.Find.{find_cap}
 use Rattle.machine.specs.Step.Retype.{find_taker, find_untyped, retype_of, within_limits}
 use Rattle.machine.proofs.LookUps.{id_apart, id_total}
@@ -31,6 +32,7 @@ use Rattle.policy.specs.Needed.{control_gives_all}
 use Rattle.verdict.specs.Counterexamples.{UnsafeWithout}
 use Rattle.verdict.proofs.ControlPolicy.{has, others, within}
 use Rattle.verdict.proofs.ControlSystem.{making, making_confined, making_lawful, memory, memory_cap, own, own_cap}
+use Rattle.verdict.proofs.EvenPolicy.{even}
 use Rattle.verdict.proofs.SmallSystem.{id, slot, thread, context}
 use Rattle.verdict.proofs.UnsafeBy.{unsafe_without}
 
@@ -159,17 +161,17 @@ module _ (m : Machine) (boot : IsBoot making m) where
       by_cap (slot 0 2) (new_cap 4 kind.Endpoint) cap_after (ap (option_map kind_of_object) node_after) refl node_label new_label
 
 pub unsafe_without_control : UnsafeWithout control_gives_all
-unfolding has
+unfolding even
 unsafe_without_control = unsafe_without control_gives_all making has (record {
   lawful = making_lawful;
   labels = within;
   others = others;
   confined = making_confined;
   leads = λ m boot. record {
-    event = retyping;
-    outcome = outcome.Done (Count 1);
+    events = retyping ∷ [];
+    outcomes = outcome.Done (Count 1) ∷ [];
     next = after_retype m boot;
-    step = made m boot;
+    run = (after_retype m boot, ends (made m boot), refl);
     from = 0;
     kind = Reset;
     to = 1;

@@ -5,7 +5,7 @@ use Rattle.std.proofs.lemmas.Bool.{false≢true, and_parts, and_from, lt-ltb, lt
 use Rattle.base.specs.declared.kind.Kind.{Kind}
 use Rattle.base.specs.declared.kind.Kind.TheVariants.{Control, Receive, Grant, Call, Reply, Context, Space, Derive, Runs, Holds}
 use Rattle.base.specs.Kinds.{is_structural}
-use Rattle.policy.specs.Closed.{ComesToHold, IsGivenByControl, server, caller}
+use Rattle.policy.specs.Closed.{ComesToHold, IsGivenByControl, MayBeGranted, server, caller}
 use Rattle.policy.specs.Domain.{EdgeTest, IsInDomain}
 use Rattle.policy.specs.Needed.{Rule, subjects_agree, control_gives_all, grant_shares, derive_in_domain, derive_by_grant, context_runs, reply_holds, Obeys}
 
@@ -79,6 +79,11 @@ holds reply thread (server e) =
 holds reply thread (caller b endpoint e calls receives) =
     let labels = labels_of b Reply reply e in
     of_labels reply Holds thread (omega (arith, labels.1)) (labels_of thread Call endpoint calls).0 refl
+
+-- what may be granted may be derived
+pub comes :
+    (x y giver taker : ℕ) → MayBeGranted has giver taker → IsInDomain has giver x → IsInDomain has taker y → has x Derive y ≡ true
+comes x y giver taker may one other = derives x y (in_domain giver x one).1 (in_domain taker y other).1
 
 pub others : (other : Rule) → other ≢ derive_by_grant → Obeys has other
 others subjects_agree differ = λ a b domain k e to.

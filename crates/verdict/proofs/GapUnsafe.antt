@@ -1,6 +1,6 @@
 -- The system whose policy lacks one derive edge isn't safe: its thread copies a derived capability into another label's CNode, and what
 -- it was derived from then derives there.
-use Rattle.std.proofs.Common.{◌≡◌, ℕ, Some, None, Ok, refl, ◌∙◌}
+use Rattle.std.proofs.Common.{◌≡◌, ℕ, true, [], ◌∷◌, Some, None, Ok, refl, ◌∙◌}
 use Rattle.base.specs.declared.ids.ObjId.{ObjId}
 use Rattle.base.specs.declared.kind.Kind.TheVariants.{Derive}
 use Rattle.machine.specs.declared.call.Answer.TheVariants.{Nothing}
@@ -18,20 +18,24 @@ use Rattle.machine.specs.Layout.{initial_of, initial_cap, initial_parent, declar
 use Rattle.machine.specs.Lookup.{level_at, lookup_of, walk, hop}
 use Rattle.machine.specs.Machine.{Machine, object_of, cap_of, parent_of, with_cap, with_parent}
 use Rattle.machine.specs.Step.{admitted, made_by, step_of}
+use Rattle.machine.specs.Step.Step.{ends}
 use Rattle.machine.specs.Step.Copy.{copy_of}
 use Rattle.machine.specs.Step.Find.{find_cap}
 use Rattle.machine.specs.Step.Target.{ends_of, lookup_target_of, source_of, target_of}
 use Rattle.machine.specs.Tree.{with_copy}
 use Rattle.machine.proofs.LookUps.{parent_of-with_parent}
+use Rattle.policy.specs.Closed.{MayBeGranted}
+use Rattle.policy.specs.Domain.{EdgeTest, IsInDomain}
 use Rattle.policy.specs.Needed.{derive_by_grant}
+use Rattle.policy.specs.Policy.{allows}
 use Rattle.table.proofs.AtBoot.{boot_label}
 use Rattle.verdict.specs.Counterexamples.{UnsafeWithout}
 use Rattle.verdict.proofs.GapConfined.{gap_confined}
-use Rattle.verdict.proofs.GapPolicy.{has, others, within}
+use Rattle.verdict.proofs.GapPolicy.{comes, has, others, within}
 use Rattle.verdict.proofs.GapSystem.{gap, gap_lawful, cnode, node_cap, derived_cap}
 use Rattle.verdict.proofs.ObjectLabels.{same_label}
 use Rattle.verdict.proofs.SmallSystem.{id, slot, thread}
-use Rattle.verdict.proofs.UnsafeBy.{unsafe_without}
+use Rattle.verdict.proofs.UnsafeBy.{Needs, unsafe_keeping}
 
 -- the slot of the other CNode, and the slot of the thread's own that holds that CNode's capability
 abbrev to : SlotAddress
@@ -121,22 +125,30 @@ module _ (m : Machine) (boot : IsBoot gap m) where
   unfolding gap initial_of declared_label
   outside = by_pair (slot 1 0) (slot 2 0) derived (label_after 2 2 refl) (label_after 1 1 refl)
 
-pub unsafe_without_derivation : UnsafeWithout derive_by_grant
+gap_needs : Needs derive_by_grant gap has
 unfolding has
-unsafe_without_derivation = unsafe_without derive_by_grant gap has (record {
+gap_needs = record {
   lawful = gap_lawful;
   labels = within;
   others = others;
   confined = gap_confined;
   leads = λ m boot. record {
-    event = copying;
-    outcome = outcome.Done Nothing;
+    events = copying ∷ [];
+    outcomes = outcome.Done Nothing ∷ [];
     next = after_copy m boot;
-    step = made m boot;
+    run = (after_copy m boot, ends (made m boot), refl);
     from = 2;
     kind = Derive;
     to = 1;
     has = outside m boot;
     missing = refl;
   };
-})
+}
+
+abbrev DerivesGranted : EdgeTest → Type 0
+DerivesGranted test =
+    (x y giver taker : ℕ) → MayBeGranted test giver taker → IsInDomain test giver x → IsInDomain test taker y
+    → test x Derive y ≡ true
+
+pub unsafe_without_derivation : (system : UnsafeWithout derive_by_grant) × DerivesGranted (allows system.edges)
+unsafe_without_derivation = unsafe_keeping derive_by_grant gap has DerivesGranted gap_needs comes

@@ -37,9 +37,17 @@ pub mod LineByLine
 pub mod GapConfined
 pub mod UnsafeBy
 pub mod GapUnsafe
+pub mod EvenPolicy
 pub mod ControlPolicy
 pub mod ControlSystem
 pub mod ControlUnsafe
+pub mod ReplyPolicy
+pub mod ReplySystem
+pub mod ReplyUnsafe
+pub mod GrantPolicy
+pub mod GrantSystem
+pub mod GrantRun
+pub mod GrantUnsafe
 pub mod Unallowed
 pub mod Unsafe
 pub mod NoBudget

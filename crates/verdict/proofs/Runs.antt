@@ -15,6 +15,7 @@ use Rattle.machine.specs.Machine.{Machine}
 use Rattle.machine.specs.Run.{Run}
 use Rattle.machine.specs.Step.{Step}
 use Rattle.machine.proofs.Formed.{step_formed}
+use Rattle.machine.proofs.Admission.{IsCaller}
 use Rattle.machine.proofs.Inversion.{CallDone, EventDone, step_done}
 use Rattle.policy.specs.Closed.{IsClosed}
 use Rattle.policy.specs.Domain.{EdgeTest}
@@ -24,6 +25,7 @@ use Rattle.verdict.specs.Invariant.{IsSound}
 use Rattle.verdict.specs.Safe.{IsReached, IsSafe}
 use Rattle.verdict.specs.Shrinks.{IsSame}
 use Rattle.verdict.proofs.Keeps.{Acts, Keeps}
+use Rattle.verdict.proofs.MessageKeeps.{endpoint_call_keeps, fetch_keeps, receive_keeps, reply_keeps, send_keeps}
 use Rattle.verdict.proofs.NotificationKeeps.{poll_keeps, signal_keeps, wait_keeps}
 use Rattle.verdict.proofs.RemovalCalls.{delete_keeps, revoke_keeps}
 use Rattle.verdict.proofs.RetypeKeeps.{retype_keeps}
@@ -33,25 +35,35 @@ use Rattle.verdict.proofs.SlotCalls.{derive_keeps, move_keeps}
 -- one clause for each call
 call_keeps :
     (t : Layout) (allowed : EdgeTest) (event : Event) (a : ℕ) (m next : Machine) → IsSound t allowed m → IsClosed allowed
-    → (caller : ObjId) (made : Call) → label_of t m caller ≡ Some a → CallDone m caller made next
+    → (caller : ObjId) (made : Call) → label_of t m caller ≡ Some a → IsCaller m caller → CallDone m caller made next
     → Keeps t allowed m event a m next
-call_keeps t allowed event a m next sound closed caller (call.Signal address) labelled done =
+call_keeps t allowed event a m next sound closed caller (call.Signal address) labelled is done =
     signal_keeps t allowed event a m sound closed.subjects_agree caller address labelled next done
-call_keeps t allowed event a m next sound closed caller (call.Poll address) labelled done =
+call_keeps t allowed event a m next sound closed caller (call.Poll address) labelled is done =
     poll_keeps t allowed event a m sound closed.subjects_agree caller address labelled next done
-call_keeps t allowed event a m next sound closed caller (call.Wait address) labelled done =
+call_keeps t allowed event a m next sound closed caller (call.Wait address) labelled is done =
     wait_keeps t allowed event a m sound closed.subjects_agree caller address labelled next done
-call_keeps t allowed event a m next sound closed caller (call.Copy to from rights) labelled done =
+call_keeps t allowed event a m next sound closed caller (call.Send address words capability) labelled is done =
+    send_keeps t allowed event a m sound closed caller labelled is next address words capability done
+call_keeps t allowed event a m next sound closed caller (call.Call address words capability) labelled is done =
+    endpoint_call_keeps t allowed event a m sound closed caller labelled is next address words capability done
+call_keeps t allowed event a m next sound closed caller (call.Receive address reply slot) labelled is done =
+    receive_keeps t allowed event a m sound closed caller labelled is next address reply slot done
+call_keeps t allowed event a m next sound closed caller (call.Reply address words) labelled is done =
+    reply_keeps t allowed event a m sound closed caller labelled is next address words done
+call_keeps t allowed event a m next sound closed caller call.Fetch labelled is done =
+    fetch_keeps t allowed event a m sound closed caller labelled is next done
+call_keeps t allowed event a m next sound closed caller (call.Copy to from rights) labelled is done =
     derive_keeps t allowed event a m sound closed caller labelled to from next done
-call_keeps t allowed event a m next sound closed caller (call.Mint to from rights given) labelled done =
+call_keeps t allowed event a m next sound closed caller (call.Mint to from rights given) labelled is done =
     derive_keeps t allowed event a m sound closed caller labelled to from next done
-call_keeps t allowed event a m next sound closed caller (call.Move to from) labelled done =
+call_keeps t allowed event a m next sound closed caller (call.Move to from) labelled is done =
     move_keeps t allowed event a m sound closed caller labelled to from next done
-call_keeps t allowed event a m next sound closed caller (call.Delete slot) labelled done =
+call_keeps t allowed event a m next sound closed caller (call.Delete slot) labelled is done =
     (delete_keeps t allowed event a m sound closed caller labelled slot next done).1
-call_keeps t allowed event a m next sound closed caller (call.Revoke slot) labelled done =
+call_keeps t allowed event a m next sound closed caller (call.Revoke slot) labelled is done =
     (revoke_keeps t allowed event a m sound closed caller labelled slot next done).1
-call_keeps t allowed event a m next sound closed caller (call.Retype untyped of bits to offset count) labelled done =
+call_keeps t allowed event a m next sound closed caller (call.Retype untyped of bits to offset count) labelled is done =
     retype_keeps t allowed event a m sound closed caller labelled untyped of bits to offset count next done
 
 -- a step is allowed and guards budgets, and keeps what belongs to the table and what is confined
@@ -75,7 +87,7 @@ step_keeps t allowed m next sound closed event outcome step = by (step_done m ev
   by : EventDone m event next ⊎ (next ≡ m) → StepKeeps t allowed m event next
   by (inl done) =
       let label = sound.of_table.labelled event.thread (o.Tcb done.caller.thread) done.caller.there in
-      let keeps = call_keeps t allowed event label.0 m next sound closed event.thread event.call label.1 done.done in
+      let keeps = call_keeps t allowed event label.0 m next sound closed event.thread event.call label.1 done.caller done.done in
       record {
         sound = record {
           well_formed = step_formed m event outcome next sound.well_formed step;

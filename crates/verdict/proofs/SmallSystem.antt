@@ -6,6 +6,7 @@ use Rattle.std.proofs.lemmas.List.Elements.{All-from_recursion}
 use Rattle.std.proofs.lemmas.List.Sums.{AllPass-from_list_all}
 use Rattle.base.specs.declared.ids.ObjId.{ObjId}
 use Rattle.base.specs.declared.ids.SlotRef.{SlotRef}
+use Rattle.machine.specs.declared.cap.Badged.{Badged}
 use Rattle.machine.specs.declared.cap.Cap.{Cap}
 use Rattle.machine.specs.declared.cap.Detail.TheVariants as d
 use Rattle.machine.specs.declared.layout.Filled.{Filled}
@@ -38,6 +39,13 @@ notification word = o.Notification (record { address = 0x3000; pending = word })
 abbrev pub context : Option ObjId → Object
 context runner =
     o.Context (record { address = 0x4000; share = Some (record { core = 0; budget = 10; period = 10 }); thread = runner })
+
+abbrev pub endpoint : Object
+endpoint = o.Endpoint (record { address = 0x3100 })
+
+-- the right to receive
+abbrev pub receive_end : Badged
+receive_end = record { rights = record { 0 = 1 }; badge = 0 }
 
 -- a capability to the CNode, before whose bit an address has 63 zeros
 abbrev pub space_cap : Cap

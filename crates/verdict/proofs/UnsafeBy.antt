@@ -1,5 +1,5 @@
--- How a system is shown to need a rule: one step leads from its boot state to authority outside its policy.
-use Rattle.std.proofs.Common.{◌≡◌, ◌≢◌, ℕ, false, [], ◌∷◌, refl, sym, subst, ◌∙◌}
+-- How a system is shown to need a rule: a run leads from its boot state to authority outside its policy.
+use Rattle.std.proofs.Common.{◌≡◌, ◌≢◌, ℕ, false, List, sym, subst, ◌∙◌}
 use Rattle.std.proofs.lemmas.Bool.{false≢true}
 use Rattle.base.specs.declared.kind.Kind.{Kind}
 use Rattle.machine.specs.declared.call.Event.{Event}
@@ -8,10 +8,10 @@ use Rattle.machine.specs.Authority.{HasAuthority}
 use Rattle.machine.specs.Boot.{IsBoot}
 use Rattle.machine.specs.Layout.{Layout}
 use Rattle.machine.specs.Machine.{Machine}
-use Rattle.machine.specs.Step.{step_of}
-use Rattle.machine.specs.Step.Step.{ends}
+use Rattle.machine.specs.Run.{Run}
 use Rattle.policy.specs.Domain.{EdgeTest}
 use Rattle.policy.specs.Needed.{Rule, Obeys}
+use Rattle.policy.specs.Policy.{allows}
 use Rattle.table.specs.Rules.{IsLawful}
 use Rattle.table.proofs.BootState.{boot_state, boot_state_is}
 use Rattle.verdict.specs.Confined.{IsConfined}
@@ -19,19 +19,19 @@ use Rattle.verdict.specs.Counterexamples.{UnsafeWithout}
 use Rattle.verdict.specs.Safe.{IsReached, IsSafe}
 use Rattle.verdict.proofs.TestPolicies.{IsWithin, allows_policy, is_policy, policy_of}
 
--- a step that leads outside
+-- a run that leads outside
 pub record LeadsOutside (t : Layout) (allowed : EdgeTest) (m : Machine) : Type 0 where
-  pub event : Event
-  pub outcome : Outcome
+  pub events : List Event
+  pub outcomes : List Outcome
   pub next : Machine
-  pub step : step_of m event ≡ (outcome, next)
+  pub run : Run m events outcomes next
   pub from : ℕ
   pub kind : Kind
   pub to : ℕ
   pub has : HasAuthority t next from kind to
   pub missing : allowed from kind to ≡ false
 
--- a system that such a step shows to need the rule
+-- a system that such a run shows to need the rule
 pub record Needs (rule : Rule) (t : Layout) (allowed : EdgeTest) : Type 0 where
   pub lawful : IsLawful t
   pub labels : IsWithin allowed
@@ -46,15 +46,19 @@ not_safe t allowed leads safe =
     record {
       boot = boot_state t;
       booted = boot_state_is t;
-      events = out.event ∷ [];
-      outcomes = out.outcome ∷ [];
-      run = (out.next, ends out.step, refl);
+      events = out.events;
+      outcomes = out.outcomes;
+      run = out.run;
     } in
     false≢true (sym out.missing ∙ safe.confined out.next reached out.from out.kind out.to out.has)
 
-pub unsafe_without : (rule : Rule) (t : Layout) (allowed : EdgeTest) → Needs rule t allowed → UnsafeWithout rule
-unsafe_without rule t allowed needs =
+-- such a system, with what else its policy keeps
+pub unsafe_keeping :
+    (rule : Rule) (t : Layout) (allowed : EdgeTest) (Keeps : EdgeTest → Type 0) → Needs rule t allowed → Keeps allowed
+    → (system : UnsafeWithout rule) × Keeps (allows system.edges)
+unsafe_keeping rule t allowed Keeps needs keeps =
     let same = allows_policy allowed needs.labels in
+    let system : UnsafeWithout rule =
     record {
       t = t;
       edges = policy_of allowed;
@@ -63,4 +67,8 @@ unsafe_without rule t allowed needs =
       others = λ other differ. subst (λ test. Obeys test other) (sym same) (needs.others other differ);
       confined = λ m boot. subst (λ test. IsConfined t test m) (sym same) (needs.confined m boot);
       unsafe = λ safe. not_safe t allowed needs.leads (subst (IsSafe t) same safe);
-    }
+    } in
+    (system, subst Keeps (sym same) keeps)
+
+pub unsafe_without : (rule : Rule) (t : Layout) (allowed : EdgeTest) → Needs rule t allowed → UnsafeWithout rule
+unsafe_without rule t allowed needs = (unsafe_keeping rule t allowed (λ test. Unit {0}) needs tt).0

@@ -25,10 +25,10 @@ ghost use Rattle.machine.specs.Machine.{Machine, object_of, queue_of, words_of, 
 ghost use Rattle.machine.specs.Machine.{with_cap, with_object, with_parent, with_queue};
 ghost use Rattle.machine.specs.WellFormed.{kind_of};
 ghost use Rattle.policy.specs.Cut.{IsBase, IsCut, IsHolding, IsNear, is_link};
-ghost use Rattle.policy.specs.Closed.{IsClosed};
-ghost use Rattle.policy.specs.Domain.{EdgeTest};
+ghost use Rattle.policy.specs.Closed.{IsClosed, MayBeGranted};
+ghost use Rattle.policy.specs.Domain.{EdgeTest, IsInDomain};
 ghost use Rattle.policy.specs.Full.{IsFull};
-ghost use Rattle.policy.specs.Needed.{control_gives_all, derive_by_grant, subjects_agree};
+ghost use Rattle.policy.specs.Needed.{control_gives_all, derive_by_grant, grant_shares, reply_holds, subjects_agree};
 ghost use Rattle.policy.specs.Policy.{allows};
 ghost use Rattle.table.specs.Rules.{IsLawful};
 ghost use Rattle.verdict.specs.declared.denial.Denial.{Denial};
@@ -162,11 +162,42 @@ pub fn safety_needs_control_to_give_all()
     ensures { UnsafeWithout control_gives_all }
 {}
 
+/// A law: safety needs that who may be granted a label's capabilities may do what that label may (the rule
+/// P3). There is a system that breaks no other rule and whose boot state is confined, and a thread of it
+/// sends another a capability, so that the other's label can do what it has no edge for.
+pub fn safety_needs_grants_to_share()
+    ensures { UnsafeWithout grant_shares }
+{}
+
+/// A law: P5 is needed, as far as it says that what may be granted may be derived. There is a system that
+/// breaks no other rule, in whose policy derive is transitive, and whose boot state is confined; and a
+/// thread of it sends another a capability, so that a label derives where it has no edge for it.
+pub fn safety_needs_derivation_over_grants()
+    ensures { (system : UnsafeWithout derive_by_grant)
+        × ((x middle y : ℕ)
+        → allows system.edges x authority.Derive middle ≡ true
+        → allows system.edges middle authority.Derive y ≡ true
+        → allows system.edges x authority.Derive y ≡ true) }
+{}
+
 /// A law: P5 is needed, as far as it says that derive is transitive. There is a system that breaks no
-/// other rule and whose boot state is confined, and a thread of it copies a derived capability into
-/// another label's CNode, so that a label derives where it has no edge for it.
+/// other rule, in whose policy all that may be granted may be derived, and whose boot state is confined;
+/// and a thread of it copies a derived capability into another label's CNode, so that a label derives
+/// where it has no edge for it.
 pub fn safety_needs_transitive_derivation()
-    ensures { UnsafeWithout derive_by_grant }
+    ensures { (system : UnsafeWithout derive_by_grant)
+        × ((x y giver taker : ℕ)
+        → MayBeGranted (allows system.edges) giver taker
+        → IsInDomain (allows system.edges) giver x
+        → IsInDomain (allows system.edges) taker y
+        → allows system.edges x authority.Derive y ≡ true) }
+{}
+
+/// A law: safety needs that a reply may hold who uses it (the rule P7). There is a system that breaks no other
+/// rule and whose boot state is confined, and a thread of it receives with a reply, which then holds the
+/// thread where its label has no edge for it.
+pub fn safety_needs_replies_to_hold()
+    ensures { UnsafeWithout reply_holds }
 {}
 
 /// A law: a state is confined exactly where no authority lies outside the policy at any place of the

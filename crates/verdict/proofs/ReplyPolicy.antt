@@ -1,0 +1,37 @@
+-- A policy of one label that obeys every rule but that replies hold: the label has every edge to itself but that.
+use Rattle.std.proofs.Common.{◌≡◌, ◌≢◌, inl, inr, Bool, true, false, refl, sym, lit≤}
+use Rattle.std.proofs.lemmas.Bool.{false≢true}
+use Rattle.base.specs.declared.kind.Kind.{Kind}
+use Rattle.base.specs.declared.kind.Kind.TheVariants.{Space, Holds}
+use Rattle.policy.specs.Closed.{IsGivenByControl}
+use Rattle.policy.specs.Domain.{EdgeTest}
+use Rattle.policy.specs.Needed.{Rule, subjects_agree, control_gives_all, grant_shares, derive_in_domain, derive_by_grant, context_runs}
+use Rattle.policy.specs.Needed.{reply_holds, Obeys}
+use Rattle.verdict.proofs.EvenPolicy.{even, even_agrees, even_comes, even_derives, even_gives, even_runs, even_shares}
+use Rattle.verdict.proofs.EvenPolicy.{even_within}
+use Rattle.verdict.proofs.TestPolicies.{IsWithin}
+
+-- the kinds of its edges
+abbrev is_used : Kind → Bool
+is_used Holds = false
+is_used _ = true
+
+abbrev pub has : EdgeTest
+has = even is_used 1
+
+pub within : IsWithin has
+within = even_within is_used 1 (lit≤ tt)
+
+given_used : (k : Kind) → IsGivenByControl k → is_used k ≡ true
+given_used Holds (inl space) = let clash : Holds ≡ Space = space in cc
+given_used Holds (inr given) = absurd (false≢true (sym given.0))
+given_used _ given = refl
+
+pub others : (other : Rule) → other ≢ reply_holds → Obeys has other
+others subjects_agree differ = even_agrees is_used 1
+others control_gives_all differ = even_gives is_used 1 given_used
+others grant_shares differ = even_shares is_used 1
+others derive_in_domain differ = even_derives is_used 1 refl
+others derive_by_grant differ = even_comes is_used 1 refl
+others context_runs differ = even_runs is_used 1 refl
+others reply_holds differ = absurd (differ refl)
