@@ -91,12 +91,12 @@ number of an object:
 SLOT is three numbers: the address of a CNode, an index, and how many of its low bits
 are looked up from there, 1 to 64. A message has four words, and may take a capability
 along, of the address CAP, to the SLOT of the receiver, who answers a call through the
-reply at the address REPLY; `-` stands for none of each. With the last capability for an object the object
-goes, and all that it holds. A retype makes COUNT objects, 1 to 16, of the untyped
-memory at the address MEMORY. Their capabilities come into the CNode at the address
-CNODE, from the slot INDEX on. KIND is a word of the table's objects, but not `control`.
-BITS is that of untyped memory, or the radix of a CNode; for other kinds any number will
-do. All numbers are decimal.";
+reply at the address REPLY; `-` stands for none of each. With the last capability for an
+object the object goes, and all that it holds. A retype makes COUNT objects, 1 to 16, of
+the untyped memory at the address MEMORY. Their capabilities come into the CNode at the
+address CNODE, from the slot INDEX on. KIND is a word of the table's objects, but not
+`control`. BITS is that of untyped memory, or the radix of a CNode; for other kinds any
+number will do. All numbers are decimal.";
 
 pub const VERSION: &str = "0.1.0";
 
