@@ -1,5 +1,5 @@
 //! The commands of the program, over texts in memory.
-use report::{OnAccept, OnClose, Open, Silence, Watched, check, close, run, verify, why};
+use report::{OnAccept, OnClose, Open, Silence, Watched, check, close, replay, run, verify, why};
 use std::alloc::Global;
 use std::thread::Threads;
 
@@ -7,6 +7,7 @@ use std::thread::Threads;
 #[derive(Clone, Copy)]
 pub enum Command<'a> {
     Run,
+    Replay,
     Check,
     /// A check that writes the certificate.
     Cert,
@@ -27,6 +28,7 @@ impl<'a> Command<'a> {
         }
         match words {
             "run" => Some(Command::Run),
+            "replay" => Some(Command::Replay),
             "check" => Some(Command::Check),
             "cert" => Some(Command::Cert),
             "verify" => Some(Command::Verify),
@@ -44,6 +46,7 @@ pub struct Given<'a> {
     pub policy: &'a [u8],
     pub script: &'a [u8],
     pub certificate: &'a [u8],
+    pub log: &'a [u8],
 }
 
 /// What a command writes, and its exit status.
@@ -64,6 +67,7 @@ pub fn answer_to<R: Threads + Sync>(
     let mut policy = Watched::new(given.policy);
     let mut script = Watched::new(given.script);
     let mut certificate = Watched::new(given.certificate);
+    let mut log = Watched::new(given.log);
     let mut out = Watched::new(Vec::new(alloc));
     let end = match command {
         Command::Run => run(
@@ -75,6 +79,16 @@ pub fn answer_to<R: Threads + Sync>(
             &mut Silence,
             &mut out,
         ),
+        Command::Replay => {
+            replay(
+                alloc,
+                &mut table,
+                &mut policy,
+                &mut log,
+                &mut Silence,
+                &mut out,
+            )
+        }
         Command::Verify => verify(
             rt,
             alloc,

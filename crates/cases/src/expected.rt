@@ -7,9 +7,11 @@ use crate::texts::{File, Texts};
 use crate::wrong::Wrong;
 use std::alloc::{AllocError, Global};
 
+const NO_PLACE: Wrong = Wrong("a rule has a place");
+
 /// The answer that these words say: `log`, `report`, `certificate`, `policy`, `each OUTCOME`, `accept`, ``writes
-/// `TEXT` ``, `full EDGES`, `cut EDGES`, `none`, `lacks EDGES`, `deny RULE PLACE`, or a fault, which is in this
-/// file and line where they don't say another.
+/// `TEXT` ``, `full EDGES`, `cut EDGES`, `none`, `lacks EDGES`, `within N`, `outside N RULE PLACE`, `illegal K`,
+/// `deny RULE PLACE`, or a fault, which is in this file and line where they don't say another.
 pub fn expected(
     alloc: Global,
     words: &str,
@@ -18,7 +20,7 @@ pub fn expected(
     place: (File, usize),
 ) -> Result<Answer, Wrong> {
     match words {
-        "log" => return told(alloc, &texts.log),
+        "log" => return told(alloc, texts.text(File::Log)),
         "report" => return told(alloc, &texts.report),
         "certificate" => return told(alloc, texts.text(File::Certificate)),
         "policy" => return told(alloc, texts.text(File::Policy)),
@@ -26,6 +28,9 @@ pub fn expected(
         _ => (),
     }
     if let Some(answer) = listed(alloc, words)? {
+        return Ok(answer);
+    }
+    if let Some(answer) = replayed(alloc, words)? {
         return Ok(answer);
     }
     if let Some(text) = words.strip_prefix("writes ") {
@@ -66,6 +71,39 @@ fn listed(alloc: Global, words: &str) -> Result<Option<Answer>, Wrong> {
     Ok(Some(Answer { status, text }))
 }
 
+/// What a replay tells: `within N` or `outside N RULE PLACE`, where N is the number of entries, or `illegal K`.
+fn replayed(alloc: Global, words: &str) -> Result<Option<Answer>, Wrong> {
+    let (word, words) = words.split_once(' ').unwrap_or((words, ""));
+    let (text, status) = match word {
+        "within" => (within(alloc, words)?, 0),
+        "outside" => (outside(alloc, words)?, 1),
+        "illegal" => (illegal(alloc, words)?, 1),
+        _ => return Ok(None),
+    };
+    let text = text.into_bytes();
+    Ok(Some(Answer { status, text }))
+}
+
+fn within(alloc: Global, words: &str) -> Result<String, Wrong> {
+    let entries = number(words)?;
+    Ok(format!(in alloc; "{{\"entries\":{entries},\"state\":\"within\",\"verdict\":\"legal\"}}\n")?)
+}
+
+fn outside(alloc: Global, words: &str) -> Result<String, Wrong> {
+    let (entries, words) = words.split_once(' ').ok_or(NO_PLACE)?;
+    let (rule, place) = words.split_once(' ').ok_or(NO_PLACE)?;
+    let entries = number(entries)?;
+    let place = names(alloc, place)?;
+    Ok(format!(in alloc;
+        "{{\"entries\":{entries},\"place\":[{place}],\"rule\":\"{rule}\",\"state\":\"outside\",\"verdict\":\"legal\"}}\n"
+    )?)
+}
+
+fn illegal(alloc: Global, words: &str) -> Result<String, Wrong> {
+    let entry = number(words)?;
+    Ok(format!(in alloc; "{{\"entry\":{entry},\"verdict\":\"illegal\"}}\n")?)
+}
+
 /// The log of a script of which each event has this outcome.
 fn log_of(alloc: Global, script: &[u8], outcome: &str) -> Result<Vec<u8>, Wrong> {
     let no_script = Wrong("the script has no header, or no end");
@@ -86,7 +124,7 @@ fn log_of(alloc: Global, script: &[u8], outcome: &str) -> Result<Vec<u8>, Wrong>
 
 /// The report of a denial, by its rule and the names of its place.
 fn denial(alloc: Global, words: &str) -> Result<Answer, Wrong> {
-    let (rule, place) = words.split_once(' ').ok_or(Wrong("a denial has a place"))?;
+    let (rule, place) = words.split_once(' ').ok_or(NO_PLACE)?;
     let place = names(alloc, place)?;
     let text = format!(in alloc;
         "{{\"place\":[{place}],\"rule\":\"{rule}\",\"verdict\":\"deny\"}}\n"

@@ -149,7 +149,7 @@ impl<'a> Session<'a> {
             *self.texts.text_mut(file) = fs::read_to_string(rt, &path)?;
         }
         *self.texts.text_mut(File::Certificate) = self.told(rt, folder, name, "certificate")?;
-        self.texts.log = self.told(rt, folder, name, "log")?;
+        *self.texts.text_mut(File::Log) = self.told(rt, folder, name, "log")?;
         self.texts.report = self.told(rt, folder, name, "report")?;
         self.asked = Command::Run;
         Ok(())

@@ -10,6 +10,7 @@ pub enum File {
     Policy,
     Script,
     Certificate,
+    Log,
 }
 
 impl File {
@@ -20,6 +21,7 @@ impl File {
             "policy" => Ok(File::Policy),
             "script" => Ok(File::Script),
             "certificate" => Ok(File::Certificate),
+            "log" => Ok(File::Log),
             _ => Err(Wrong("there is no such line, or no such file")),
         }
     }
@@ -31,19 +33,19 @@ impl File {
             File::Policy => "policy",
             File::Script => "script",
             File::Certificate => "certificate",
+            File::Log => "log",
         }
     }
 }
 
-/// The texts of a system, and what the program says of it: the log of its run and the report of its
-/// check, which are empty where there is none.
+/// The texts of a system, and the report of its check. Those that it lacks are empty.
 #[derive(Drop)]
 pub struct Texts {
     table: String,
     policy: String,
     script: String,
     certificate: String,
-    pub log: String,
+    log: String,
     pub report: String,
 }
 
@@ -67,6 +69,7 @@ impl Texts {
             File::Policy => &self.policy,
             File::Script => &self.script,
             File::Certificate => &self.certificate,
+            File::Log => &self.log,
         }
     }
 
@@ -77,6 +80,7 @@ impl Texts {
             File::Policy => &mut self.policy,
             File::Script => &mut self.script,
             File::Certificate => &mut self.certificate,
+            File::Log => &mut self.log,
         }
     }
 
@@ -87,6 +91,7 @@ impl Texts {
             policy: self.policy.as_bytes(),
             script: self.script.as_bytes(),
             certificate: self.certificate.as_bytes(),
+            log: self.log.as_bytes(),
         }
     }
 }
@@ -98,6 +103,7 @@ pub fn with<'a>(mut given: Given<'a>, file: File, bytes: &'a [u8]) -> Given<'a> 
         File::Policy => given.policy = bytes,
         File::Script => given.script = bytes,
         File::Certificate => given.certificate = bytes,
+        File::Log => given.log = bytes,
     }
     given
 }

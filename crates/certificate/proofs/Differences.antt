@@ -50,3 +50,5 @@ rules_deny t edges lines (denial.Capability slot kind label) least = least
 rules_deny t edges lines (denial.Root slot label) least = least
 rules_deny t edges lines (denial.Pair child parent) least = least
 rules_deny t edges lines (denial.Binding thread context) least = least
+rules_deny t edges lines (denial.Holding reply thread) least = least
+rules_deny t edges lines (denial.Recorded thread kind label) least = least

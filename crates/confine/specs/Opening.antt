@@ -4,7 +4,7 @@ use Rattle.std.specs.declared.io.Error.{Error}
 use Rattle.confine.specs.declared.files.Files.{Files}
 use Rattle.confine.specs.declared.files.Files.TheVariants.{One, Two, Three}
 use Rattle.confine.specs.declared.request.Request.{Request}
-use Rattle.confine.specs.declared.request.Request.TheVariants.{Check, Verify, Run, Close, Why}
+use Rattle.confine.specs.declared.request.Request.TheVariants.{Check, Verify, Run, Replay, Close, Why}
 use Rattle.devices.specs.Opened.{bytes_left, opened}
 use Rattle.devices.specs.Watched.{device_of, failed_of, is_flushed_of}
 use Rattle.devices.specs.declared.opened.Unopened.{Unopened}
@@ -15,6 +15,7 @@ use Rattle.report.specs.Closings.{IsClosedOver, IsStarted}
 use Rattle.report.specs.Commands.{Input, Output, input, output}
 use Rattle.report.specs.Ends.{status_of}
 use Rattle.report.specs.Questions.{IsTold}
+use Rattle.report.specs.Replays.{IsReplayed}
 use Rattle.report.specs.declared.end.End.{End}
 
 -- what is written to, before and after
@@ -57,6 +58,9 @@ Serves opens remaining out (Verify table policy certificate) files end = OnThree
 Serves opens remaining out (Run table policy script) files end = OnThree files (λ t_left p_left s_left.
     OnOpened opens remaining table.now t_left (λ t. OnOpened opens remaining policy.now p_left (λ p.
     OnOpened opens remaining script.now s_left (λ s. IsRun t p s out end))))
+Serves opens remaining out (Replay table policy log) files end = OnThree files (λ t_left p_left l_left.
+    OnOpened opens remaining table.now t_left (λ t. OnOpened opens remaining policy.now p_left (λ p.
+    OnOpened opens remaining log.now l_left (λ l. IsReplayed t p l out end))))
 Serves opens remaining out (Close table (Some policy) on_close) files end = OnTwo files (λ t_left p_left.
     OnOpened opens remaining table.now t_left (λ t. OnOpened opens remaining policy.now p_left (λ p. IsClosedOver on_close t p out end)))
 Serves opens remaining out (Close table None on_close) files end = OnOne files (λ t_left.

@@ -1,12 +1,13 @@
 -- What a command line may ask for (confine's own).
 use Rattle.std.specs.Prelude.{◌≤◌}
 use Rattle.confine.specs.declared.request.Request.{Request}
-use Rattle.confine.specs.declared.request.Request.TheVariants.{Check, Verify, Run, Close, Why}
+use Rattle.confine.specs.declared.request.Request.TheVariants.{Check, Verify, Run, Replay, Close, Why}
 
 -- a check has 1 to 16 workers
 abbrev pub IsWithinLimits : Request → Type 0
 IsWithinLimits (Check table policy workers on_accept) = (1 ≤ workers) × (workers ≤ 16)
 IsWithinLimits (Verify table policy certificate) = Unit {0}
 IsWithinLimits (Run table policy script) = Unit {0}
+IsWithinLimits (Replay table policy log) = Unit {0}
 IsWithinLimits (Close table policy on_close) = Unit {0}
 IsWithinLimits (Why table policy actor object) = Unit {0}

@@ -1,12 +1,11 @@
 use crate::request::{Invocation, Request};
 use captext::{read_table, write_table};
-use explain::{Text, explain_closing, explain_denial, explain_fault};
+use explain::{Text, explain_closing, explain_denial, explain_fault, explain_outside};
 use policy::Policy;
-use report::{End, Fault, File, Listener};
+use report::{End, Fault, File, Finding, Listener};
 use std::alloc::{AllocError, Global};
 use std::thread::Threads;
 use table::Table;
-use verdict::Denial;
 
 /// Tells a person on standard error what a command finds, if that was asked for. That standard error can't
 /// be written to, or that memory is refused to a sentence, changes nothing.
@@ -57,13 +56,23 @@ impl<R: AllocGlobal + Eprint> Listener for Explainer<'_, R> {
         }
     }
 
-    fn hear_answer(&mut self, table: &Table, policy: &Policy, denial: Option<&Denial>) {
+    fn hear_answer(&mut self, table: &Table, policy: &Policy, finding: Option<&Finding>) {
         if !self.invocation.explains {
             return;
         }
-        match (denial, self.invocation.request) {
-            (Some(denial), _) => self.tell(explain_denial(self.rt.alloc(), table, denial)),
-            (None, Request::Close { .. }) => self.closed = copies(self.rt.alloc(), table, policy),
+        let alloc = self.rt.alloc();
+        match (finding, self.invocation.request) {
+            (Some(Finding::Denied(denial)), _) => self.tell(explain_denial(alloc, table, denial)),
+            (Some(Finding::Outside(denial)), _) => self.tell(explain_outside(alloc, table, denial)),
+            (Some(Finding::Illegal(entry)), request) => {
+                // The header is a line too.
+                let line = entry.wrapping_add(1);
+                let name = request.name_of(File::Log);
+                self.tell(format!(in alloc;
+                    "{name}:{line}: entry {entry} is no step of the system: it would have come to something else"
+                ));
+            }
+            (None, Request::Close { .. }) => self.closed = copies(alloc, table, policy),
             (None, _) => {}
         }
     }
@@ -100,5 +109,6 @@ fn text_of(file: File) -> Text {
         File::Policy => Text::Policy,
         File::Certificate => Text::Certificate,
         File::Script => Text::Script,
+        File::Log => Text::Log,
     }
 }

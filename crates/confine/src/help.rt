@@ -14,6 +14,9 @@ pub const ABOUT_VERIFY: &str =
 pub const ABOUT_RUN: &str =
     "Checks a table against a policy, runs a script of kernel calls and prints its log";
 
+pub const ABOUT_REPLAY: &str =
+    "Tells whether a log is one of a system, and whether it ends within a policy";
+
 pub const ABOUT_CLOSE: &str =
     "Writes the least policy to which a table keeps, with the edges of one that is named";
 
@@ -87,6 +90,13 @@ number of an object:
   CORE THREAD delete SLOT                           removes its capability
   CORE THREAD revoke SLOT                           removes all that was derived from it
   CORE THREAD retype MEMORY KIND BITS CNODE INDEX COUNT
+  CORE THREAD read FRAME INDEX
+  CORE THREAD write FRAME INDEX WORD
+  CORE THREAD setspace TCB CNODE                    the root of its space
+  CORE THREAD clearspace TCB                        `suspend`, `resume` alike
+  CORE THREAD configure CONTROL CONTEXT BUDGET PERIOD
+  CORE THREAD bind CONTEXT TCB
+  CORE THREAD unbind CONTEXT
 
 SLOT is three numbers: the address of a CNode, an index, and how many of its low bits
 are looked up from there, 1 to 64. A message has four words, and may take a capability
@@ -96,7 +106,20 @@ object the object goes, and all that it holds. A retype makes COUNT objects, 1 t
 the untyped memory at the address MEMORY. Their capabilities come into the CNode at the
 address CNODE, from the slot INDEX on. KIND is a word of the table's objects, but not
 `control`. BITS is that of untyped memory, or the radix of a CNode; for other kinds any
-number will do. All numbers are decimal.";
+number will do. A frame has the words 0 to 511. A thread that is suspended stops, and
+one that is resumed goes on; one that waited learns that it was aborted. FRAME, TCB,
+CONTROL and CONTEXT are addresses too. BUDGET and PERIOD are microseconds. All numbers
+are decimal.";
+
+pub const LOG: &str = "\
+The kernel calls with what they came to. Its lines, between `confine-log 1` and `end`,
+are those of a script, each with ` = ` and an outcome:
+
+  done                                    `done aborted`, `done count COUNT` alike
+  done word WORD
+  done msg BADGE WORD WORD WORD WORD CAP  CAP is 1 where a capability came, else 0
+  blocked
+  refused CODE DETAIL";
 
 pub const VERSION: &str = "0.1.0";
 
@@ -204,14 +227,19 @@ edge a derive a
 edge a runs a
 end
 .
-confine check table policy
+confine check table policy --explain
 
 It prints the rule that is broken and the place, and ends with status 1:
 
 {\"place\":[\"space.0\",\"await\",\"b\"],\"rule\":\"A1\",\"verdict\":\"deny\"}
 
-By rule A1 each capability keeps to the policy. The one in slot 0 of `space` lets label `a` await
-what is labelled `b`, and the policy has no such edge. It belongs after the edge `notify`:
+By rule A1 each capability keeps to the policy. With `--explain` standard error says, in one line,
+which doesn't, and what may be done:
+
+denied by A1: slot 0 of `space` lets `a` await what is labelled `b`, and the policy has no such
+edge: add `edge a await b`, or give the capability fewer rights
+
+The edge belongs after the edge `notify`:
 
 sed -i '/notify/a edge a await b' policy
 confine check table policy
@@ -294,6 +322,43 @@ confine run short policy script
 It prints the number of the fault, and ends with status 2:
 
 {\"fault\":50,\"file\":\"table\",\"line\":3}
+"
+);
+
+pub const EXAMPLE_REPLAY: &str = with_policy!(
+    "a thread `main` signals a bell and polls it,
+and a log says so.",
+    "\
+cat >log <<'.'
+confine-log 1
+0 1 signal 0 = done
+0 1 poll 0 = done word 1
+end
+.
+confine replay table policy log
+
+Each entry is the step that the system makes, and it ends with status 0:
+
+{\"entries\":2,\"state\":\"within\",\"verdict\":\"legal\"}
+
+Now the poll is said to find what it can't have found:
+
+sed -i 's/word 1/word 2/' log
+confine replay table policy log
+
+It prints the first entry that is no step, counted from 1, and ends with status 1:
+
+{\"entry\":2,\"verdict\":\"illegal\"}
+
+A legal log may end outside a policy, as here without the edge `await`:
+
+sed -i '/await/d' policy
+sed -i 's/word 2/word 1/' log
+confine replay table policy log
+
+It prints the rule that is broken there and the place, and ends with status 1:
+
+{\"entries\":2,\"place\":[\"space.0\",\"await\",\"b\"],\"rule\":\"A1\",\"state\":\"outside\",\"verdict\":\"legal\"}
 "
 );
 

@@ -7,7 +7,7 @@ ghost use Rattle.devices.specs.Watched.{failed_of};
 ghost use Rattle.report.specs.Ends.{status_of};
 ghost use Rattle.confine.specs.Opening.{IsStatusOf, Serves, written};
 ghost use Rattle.confine.specs.Requests.{IsWithinLimits};
-ghost use Rattle.confine.specs.declared.request.Request.TheVariants.{Check, Verify, Run, Close, Why};
+ghost use Rattle.confine.specs.declared.request.Request.TheVariants.{Check, Verify, Run, Replay, Close, Why};
 
 mod explaining;
 mod files;
@@ -18,8 +18,8 @@ use clap::error::ErrorKind;
 use explaining::{Explainer, tell_closing};
 use files::Files;
 use report::{
-    End, Listener, OnAccept, OnClose, Open, Watched, check, close, open_result, run, start, verify,
-    why,
+    End, Listener, OnAccept, OnClose, Open, Watched, check, close, open_result, replay, run, start,
+    verify, why,
 };
 use request::{Invocation, Request, read_request};
 use std::alloc::Global;
@@ -142,6 +142,9 @@ where
             policy,
             script,
         } => serve_run(rt, table, policy, script, opener, listener, out),
+        Request::Replay { table, policy, log } => {
+            serve_replay(rt, table, policy, log, opener, listener, out)
+        }
         Request::Close {
             table,
             policy,
@@ -268,6 +271,35 @@ where
         out,
     );
     (end, Files::Three(table, policy, script))
+}
+
+/// Replays the log of this name on the table and the policy of these names.
+fn serve_replay<R, F, O, L, W>(
+    rt: &R,
+    table: &str,
+    policy: &str,
+    log: &str,
+    opener: O,
+    listener: &mut L,
+    out: &mut Watched<W>,
+) -> (End, Files<F>)
+where
+    R: AllocGlobal,
+    F: Read + Drop,
+    O: Fn(&str) -> io::Result<F> + Drop,
+    L: Listener,
+    W: Write,
+    requires opener { O.IsAlwaysCallable opener }
+    requires out { failed_of out.old ≡ false }
+    ensures served { Serves (FnReturnsAt O.Fn opener) F.remaining (written W.contents out.old out.new)
+        (Replay table.entry policy.entry log.entry) result.1 result.0 }
+    ensures exit { status_of result.0 ≤ 2 }
+{
+    let mut table = open_result(opener(table));
+    let mut policy = open_result(opener(policy));
+    let mut log = open_result(opener(log));
+    let end = replay(rt.alloc(), &mut table, &mut policy, &mut log, listener, out);
+    (end, Files::Three(table, policy, log))
 }
 
 /// Closes the policy of this name over the table of this name, or makes one for the table alone.

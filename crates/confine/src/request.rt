@@ -37,6 +37,12 @@ pub enum Request<'a> {
         policy: &'a str,
         script: &'a str,
     },
+    /// Tells whether a log is a run from a table, and whether that ends within a policy.
+    Replay {
+        table: &'a str,
+        policy: &'a str,
+        log: &'a str,
+    },
     /// Closes a policy over a table; where none is named, one without an edge.
     Close {
         table: &'a str,
@@ -61,6 +67,7 @@ impl<'a> Request<'a> {
                 Request::Check { table, .. }
                 | Request::Verify { table, .. }
                 | Request::Run { table, .. }
+                | Request::Replay { table, .. }
                 | Request::Close { table, .. }
                 | Request::Why { table, .. },
             ) => table,
@@ -69,6 +76,7 @@ impl<'a> Request<'a> {
                 Request::Check { policy, .. }
                 | Request::Verify { policy, .. }
                 | Request::Run { policy, .. }
+                | Request::Replay { policy, .. }
                 | Request::Close {
                     policy: Some(policy),
                     ..
@@ -77,6 +85,7 @@ impl<'a> Request<'a> {
             ) => policy,
             (File::Certificate, Request::Verify { certificate, .. }) => certificate,
             (File::Script, Request::Run { script, .. }) => script,
+            (File::Log, Request::Replay { log, .. }) => log,
             _ => "",
         }
     }
@@ -137,6 +146,11 @@ fn request_of<'a>(name: &str, found: &ArgMatches<'a>) -> Option<Request<'a>>
             policy: policy?,
             script: found.get_str("script")?,
         }),
+        "replay" => Some(Request::Replay {
+            table,
+            policy: policy?,
+            log: found.get_str("log")?,
+        }),
         "close" => Some(Request::Close {
             table,
             policy,
@@ -174,6 +188,7 @@ fn command<'a>(alloc: Global) -> Result<Command<'a>, AllocError> {
         .subcommand(check_command(alloc)?)?
         .subcommand(verify_command(alloc)?)?
         .subcommand(run_command(alloc)?)?
+        .subcommand(replay_command(alloc)?)?
         .subcommand(close_command(alloc)?)?
         .subcommand(why_command(alloc)?)
 }
@@ -204,6 +219,11 @@ fn verify_command<'a>(alloc: Global) -> Result<Command<'a>, AllocError> {
 fn run_command<'a>(alloc: Global) -> Result<Command<'a>, AllocError> {
     let script = word(alloc, "script", "SCRIPT", help::SCRIPT);
     on_system(alloc, "run", help::ABOUT_RUN, help::EXAMPLE_RUN)?.arg(script)
+}
+
+fn replay_command<'a>(alloc: Global) -> Result<Command<'a>, AllocError> {
+    let log = word(alloc, "log", "LOG", help::LOG);
+    on_system(alloc, "replay", help::ABOUT_REPLAY, help::EXAMPLE_REPLAY)?.arg(log)
 }
 
 fn close_command<'a>(alloc: Global) -> Result<Command<'a>, AllocError> {

@@ -1,8 +1,9 @@
 ghost use Rattle.std.specs.Prelude.{◌≡◌};
-ghost use Rattle.machine.specs.Step.Find.{find_cap, find_endpoint, find_notification, find_reply, permitted};
+ghost use Rattle.machine.specs.Step.Find.{find_cap, find_context, find_control, find_endpoint, find_frame};
+ghost use Rattle.machine.specs.Step.Find.{find_notification, find_reply, find_tcb, permitted};
 
 use crate::resolve;
-use base::{Cause, ObjId, SlotRef};
+use base::{Cause, ObjId, Rights, SlotRef};
 use machine::{Badged, Cap, Detail};
 use objects::State;
 
@@ -63,6 +64,65 @@ pub fn find_reply(state: &State, caller: ObjId, address: u64) -> Result<ObjId, C
     let (_, cap) = find_cap(state, caller, address)?;
     match cap.detail {
         Detail::Reply => Ok(cap.object),
+        _ => Err(Cause::InvalidCapability),
+    }
+}
+
+/// The frame at an address in a thread's capability space, with the rights of the capability (seL4
+/// manual, "Virtual Memory").
+///
+/// It fails as [`find_notification`] does.
+#[tactic(auto, unfolding(machine::specs::Step::Find::find_frame))]
+pub fn find_frame(state: &State, caller: ObjId, address: u64) -> Result<(ObjId, Rights), Cause>
+    ensures { result ≡ find_frame state.now caller address }
+{
+    let (_, cap) = find_cap(state, caller, address)?;
+    match cap.detail {
+        Detail::Frame(rights) => Ok((cap.object, rights)),
+        _ => Err(Cause::InvalidCapability),
+    }
+}
+
+/// The thread at an address in another's capability space, and the slot with its capability (seL4
+/// manual, "Threads and Execution").
+///
+/// It fails as [`find_notification`] does.
+#[tactic(auto, unfolding(machine::specs::Step::Find::find_tcb))]
+pub fn find_tcb(state: &State, caller: ObjId, address: u64) -> Result<(SlotRef, ObjId), Cause>
+    ensures { result ≡ find_tcb state.now caller address }
+{
+    let (slot, cap) = find_cap(state, caller, address)?;
+    match cap.detail {
+        Detail::Tcb => Ok((slot, cap.object)),
+        _ => Err(Cause::InvalidCapability),
+    }
+}
+
+/// The scheduling context at an address in a thread's capability space (seL4 manual, "Scheduling
+/// Contexts").
+///
+/// It fails as [`find_notification`] does.
+#[tactic(auto, unfolding(machine::specs::Step::Find::find_context))]
+pub fn find_context(state: &State, caller: ObjId, address: u64) -> Result<ObjId, Cause>
+    ensures { result ≡ find_context state.now caller address }
+{
+    let (_, cap) = find_cap(state, caller, address)?;
+    match cap.detail {
+        Detail::Context => Ok(cap.object),
+        _ => Err(Cause::InvalidCapability),
+    }
+}
+
+/// The control of a core at an address in a thread's capability space (seL4 manual, "SchedControl").
+///
+/// It fails as [`find_notification`] does.
+#[tactic(auto, unfolding(machine::specs::Step::Find::find_control))]
+pub fn find_control(state: &State, caller: ObjId, address: u64) -> Result<ObjId, Cause>
+    ensures { result ≡ find_control state.now caller address }
+{
+    let (_, cap) = find_cap(state, caller, address)?;
+    match cap.detail {
+        Detail::Control => Ok(cap.object),
         _ => Err(Cause::InvalidCapability),
     }
 }

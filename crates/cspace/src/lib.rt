@@ -10,7 +10,10 @@ mod walk;
 mod word;
 
 pub use chain::lookup_follows_a_chain;
-pub use find::{find_cap, find_endpoint, find_notification, find_reply, permit};
+pub use find::{
+    find_cap, find_context, find_control, find_endpoint, find_frame, find_notification, find_reply,
+    find_tcb, permit,
+};
 pub use level::Level;
 pub use target::{lookup_target, resolve_target};
 pub use walk::{level_at, lookup, resolve};

@@ -16,6 +16,9 @@ pub one_written : {E : Type 0} (a b c : Option (List ℕ)) (r : Result ℕ E) (b
 one_written a b c (Ok n) buf P kept wrote wrong = absurd wrong
 one_written a b c (Err e) buf P kept wrote wrong = Keeps-trans a b c kept wrote
 
+pub one_flushed : (a b c : Option (List ℕ)) → Keeps a b → Keeps b c → Keeps a c
+one_flushed = Keeps-trans
+
 kept_Consumes : (a b c : Option (List ℕ)) (bs : List ℕ) → Keeps a b → Consumes b c bs → Consumes a c bs
 kept_Consumes None b c bs kept next = tt
 kept_Consumes (Some x) None c bs kept next = absurd kept

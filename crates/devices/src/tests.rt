@@ -32,7 +32,7 @@ impl Read for Drip {
     }
 }
 
-/// Takes at most three bytes a call, is interrupted before each, and has room for `room`.
+/// Takes at most three bytes a call, is interrupted before each call, and has room for `room`.
 #[derive(Drop)]
 struct Narrow {
     taken: Vec<u8>,
@@ -53,6 +53,10 @@ impl Write for Narrow {
     }
 
     fn flush(&mut self) -> io::Result<()> {
+        self.is_interrupted = !self.is_interrupted;
+        if self.is_interrupted {
+            return Err(io::Error::from(ErrorKind::Interrupted));
+        }
         Ok(())
     }
 }

@@ -1,6 +1,6 @@
-ghost use Rattle.std.specs.Prelude.{◌≡◌, ◌<◌, ◌↔◌, Ok, IfOk, OnErr, OnOk, IsErr, IsErrAnd, IsOk, IsTrue};
+ghost use Rattle.std.specs.Prelude.{◌≡◌, ◌≢◌, ◌<◌, ◌↔◌, Ok, IfErr, IfOk, OnErr, OnOk, IsErr, IsErrAnd, IsOk, IsTrue};
 ghost use Rattle.std.specs.Io.{ReadsAtMost, WritesAtMost};
-ghost use Rattle.std.specs.Io.KnownBytes.{ReadConsumes, WriteAppends};
+ghost use Rattle.std.specs.Io.KnownBytes.{Keeps, ReadConsumes, WriteAppends};
 ghost use Rattle.std.specs.IoError.{error_kind};
 
 use crate::{ReadError, Sink, Source, WriteError};
@@ -52,6 +52,7 @@ fn is_interrupted<T>(answer: &io::Result<T>) -> bool
 fn read_from<R: Read>(reader: &mut R, buf: &mut [u8]) -> io::Result<usize>
     ensures bound { ReadsAtMost result buf.new }
     ensures bytes { ReadConsumes (R.remaining reader.old) (R.remaining reader.new) result buf.new }
+    ensures retried { IfErr result (λ error. error_kind error ≢ ErrorKind.Interrupted) }
 {
     for _ in 0..u64::MAX {
         let answer = reader.read(buf);
@@ -59,7 +60,7 @@ fn read_from<R: Read>(reader: &mut R, buf: &mut [u8]) -> io::Result<usize>
             return answer;
         }
     }
-    Err(io::Error::from(ErrorKind::Interrupted))
+    Err(io::Error::from(ErrorKind::TimedOut))
 }
 
 /// Asks a writer until it isn't interrupted.
@@ -67,6 +68,7 @@ fn read_from<R: Read>(reader: &mut R, buf: &mut [u8]) -> io::Result<usize>
 fn write_to<W: Write>(writer: &mut W, bytes: &[u8]) -> io::Result<usize>
     ensures bound { WritesAtMost result bytes.now }
     ensures bytes { WriteAppends (W.contents writer.old) (W.contents writer.new) result bytes.now }
+    ensures retried { IfErr result (λ error. error_kind error ≢ ErrorKind.Interrupted) }
 {
     for _ in 0..u64::MAX {
         let answer = writer.write(bytes);
@@ -74,7 +76,22 @@ fn write_to<W: Write>(writer: &mut W, bytes: &[u8]) -> io::Result<usize>
             return answer;
         }
     }
-    Err(io::Error::from(ErrorKind::Interrupted))
+    Err(io::Error::from(ErrorKind::TimedOut))
+}
+
+/// Asks a writer to pass on what it took until it isn't interrupted.
+#[tactic(auto, using(crate::proofs::Interrupted::none_made, crate::proofs::Interrupted::one_flushed))]
+fn flush_to<W: Write>(writer: &mut W) -> io::Result<()>
+    ensures bytes { Keeps (W.contents writer.old) (W.contents writer.new) }
+    ensures retried { IfErr result (λ error. error_kind error ≢ ErrorKind.Interrupted) }
+{
+    for _ in 0..u64::MAX {
+        let answer = writer.flush();
+        if !is_interrupted(&answer) {
+            return answer;
+        }
+    }
+    Err(io::Error::from(ErrorKind::TimedOut))
 }
 
 /// What the answer of a writer that was given so many bytes comes to. One that takes none of them has
@@ -138,7 +155,7 @@ impl<W: Write> Sink for Watched<W> {
     }
 
     fn flush(&mut self) -> Result<(), WriteError> {
-        let result = flushed(self.device.flush());
+        let result = flushed(flush_to(&mut self.device));
         self.is_flushed = result.is_ok();
         self.failed = result.is_err();
         result

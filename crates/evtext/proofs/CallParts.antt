@@ -27,7 +27,7 @@ use Rattle.words.proofs.Spellings.{decimal_iff}
 use Rattle.words.proofs.TextLaws.{both}
 use Rattle.words.proofs.WordLaws.{plain_bytes, plain_decimal, word_then}
 use Rattle.evtext.specs.Event.{data_at, four_at, four_of, guard_of, memory_kind_at, message_at, optional_at, optional_of, optional_slot_at}
-use Rattle.evtext.specs.Event.{rights_at, slot_address_at, slot_address_of, AreFour, IsData, IsOptional, IsOptionalSlot, IsSlotAddress}
+use Rattle.evtext.specs.Event.{rights_at, slot_address_at, slot_address_of, two_at, AreFour, IsData, IsOptional, IsOptionalSlot, IsSlotAddress}
 
 -- a slot is three numbers
 pub slot_address_part : IsPart slot_address_at slot_address_words IsSlotAddress
@@ -220,6 +220,22 @@ pub reply_operands : IsPart
     (λ parts. decimal parts.0 ∷ four_words parts.1)
     (λ parts. (parts.0 < 2 ^ 64) × AreFour parts.1)
 reply_operands = both_parts number_part four_part
+
+pub two_part : IsPart two_at (λ parts. decimal parts.0 ∷ decimal parts.1 ∷ []) (λ parts. (parts.0 < 2 ^ 64) × (parts.1 < 2 ^ 64))
+unfolding two_at
+two_part = both_parts number_part number_part
+
+pub write_operands : IsPart
+    (in_turn number_at (in_turn number_at number_at))
+    (λ parts. decimal parts.0 ∷ decimal parts.1.0 ∷ decimal parts.1.1 ∷ [])
+    (λ parts. (parts.0 < 2 ^ 64) × ((parts.1.0 < 2 ^ 64) × (parts.1.1 < 2 ^ 64)))
+write_operands = both_parts number_part (both_parts number_part number_part)
+
+pub configure_operands : IsPart
+    (in_turn number_at (in_turn number_at (in_turn number_at number_at)))
+    (λ parts. decimal parts.0 ∷ decimal parts.1.0 ∷ decimal parts.1.1.0 ∷ decimal parts.1.1.1 ∷ [])
+    (λ parts. (parts.0 < 2 ^ 64) × ((parts.1.0 < 2 ^ 64) × ((parts.1.1.0 < 2 ^ 64) × (parts.1.1.1 < 2 ^ 64))))
+configure_operands = both_parts number_part (both_parts number_part (both_parts number_part number_part))
 
 pub copy_operands : IsPart
     (in_turn slot_address_at (in_turn slot_address_at rights_at))

@@ -4,6 +4,7 @@ use Rattle.std.specs.Bool.{⊤}
 use Rattle.std.specs.List.{AllByRecursion}
 use Rattle.machine.specs.declared.call.Call.{Call}
 use Rattle.machine.specs.declared.call.Call.TheVariants.{Signal, Poll, Wait, Send, Receive, Reply, Fetch, Copy, Mint, Move, Delete, Revoke, Retype}
+use Rattle.machine.specs.declared.call.Call.TheVariants.{Read, Write, SetSpace, ClearSpace, Suspend, Resume, Configure, Bind, Unbind}
 use Rattle.machine.specs.declared.call.Call.TheVariants as call
 use Rattle.machine.specs.declared.call.Event.{Event}
 use Rattle.machine.specs.Spelling.{call_words, event_words}
@@ -13,9 +14,10 @@ use Rattle.words.specs.Text.{IsPlainLine, IsPlainWord}
 use Rattle.words.proofs.Parts.{after_word, both_parts, keyed_part, number_part, part_as, read_as_again, IsChoice}
 use Rattle.words.proofs.WordLaws.{plain_bytes, plain_decimal}
 use Rattle.evtext.specs.Event.{call_at, copy_at, copy_call, endpoint_call, event_at, event_of, fetch_at, mint_at, mint_call, move_at, move_call}
+use Rattle.evtext.specs.Event.{bind_call, configure_at, configure_call, read_call, set_space_call, thread_calls, write_at, write_call}
 use Rattle.evtext.specs.Event.{receive_at, receive_call, reply_at, reply_call, retype_at, retype_call, send_call, HasNumbers, HasWords}
 use Rattle.evtext.proofs.CallParts.{copy_operands, message_operands, mint_operands, move_operands, receive_operands, reply_operands}
-use Rattle.evtext.proofs.CallParts.{retype_operands, slot_address_part}
+use Rattle.evtext.proofs.CallParts.{configure_operands, retype_operands, slot_address_part, two_part, write_operands}
 
 -- the numbers of a retype, part by part
 retype_fits : {untyped bits to offset count : ℕ}
@@ -26,7 +28,7 @@ retype_fits fits = (fits.0, (tt, (fits.1, (fits.2, (fits.3, fits.4)))))
 -- a call is its name and its operands
 
 call_again : (call : Call) (rest : List (List ℕ)) → HasWords call → call_at (call_words call ++ rest) ≡ Ok (call, rest)
-unfolding call_at receive_at reply_at fetch_at copy_at mint_at move_at retype_at keyed by_word bind word_at
+unfolding call_at thread_calls receive_at reply_at fetch_at copy_at mint_at move_at retype_at write_at configure_at keyed by_word bind word_at
 call_again (Signal address) rest fits = read_as_again number_part Signal address rest fits
 call_again (Poll address) rest fits = read_as_again number_part Poll address rest fits
 call_again (Wait address) rest fits = read_as_again number_part Wait address rest fits
@@ -47,6 +49,17 @@ call_again (Delete slot) rest fits = read_as_again slot_address_part Delete slot
 call_again (Revoke slot) rest fits = read_as_again slot_address_part Revoke slot rest fits
 call_again (Retype untyped kind bits to offset count) rest fits =
     read_as_again retype_operands retype_call (untyped, (kind, (bits, (to, (offset, count))))) rest (retype_fits fits)
+call_again (Read address index) rest fits = read_as_again two_part read_call (address, index) rest fits
+call_again (Write address index word) rest fits =
+    read_as_again write_operands write_call (address, (index, word)) rest (fits.0, (fits.1, fits.2))
+call_again (SetSpace thread space) rest fits = read_as_again two_part set_space_call (thread, space) rest fits
+call_again (ClearSpace thread) rest fits = read_as_again number_part ClearSpace thread rest fits
+call_again (Suspend thread) rest fits = read_as_again number_part Suspend thread rest fits
+call_again (Resume thread) rest fits = read_as_again number_part Resume thread rest fits
+call_again (Configure control context budget period) rest fits =
+    read_as_again configure_operands configure_call (control, (context, (budget, period))) rest (fits.0, (fits.1, (fits.2, fits.3)))
+call_again (Bind context thread) rest fits = read_as_again two_part bind_call (context, thread) rest fits
+call_again (Unbind context) rest fits = read_as_again number_part Unbind context rest fits
 
 plain_call : (call : Call) → HasWords call → AllByRecursion IsPlainWord (call_words call)
 plain_call (Signal address) fits = (plain_bytes (codes "signal") refl, (plain_decimal address fits, tt))
@@ -71,6 +84,19 @@ plain_call (Retype untyped kind bits to offset count) fits = (
   plain_bytes (codes "retype") refl,
   retype_operands.plain (untyped, (kind, (bits, (to, (offset, count))))) (retype_fits fits),
 )
+plain_call (Read address index) fits = (plain_bytes (codes "read") refl, two_part.plain (address, index) fits)
+plain_call (Write address index word) fits =
+    (plain_bytes (codes "write") refl, write_operands.plain (address, (index, word)) (fits.0, (fits.1, fits.2)))
+plain_call (SetSpace thread space) fits = (plain_bytes (codes "setspace") refl, two_part.plain (thread, space) fits)
+plain_call (ClearSpace thread) fits = (plain_bytes (codes "clearspace") refl, (plain_decimal thread fits, tt))
+plain_call (Suspend thread) fits = (plain_bytes (codes "suspend") refl, (plain_decimal thread fits, tt))
+plain_call (Resume thread) fits = (plain_bytes (codes "resume") refl, (plain_decimal thread fits, tt))
+plain_call (Configure control context budget period) fits = (
+  plain_bytes (codes "configure") refl,
+  configure_operands.plain (control, (context, (budget, period))) (fits.0, (fits.1, (fits.2, fits.3))),
+)
+plain_call (Bind context thread) fits = (plain_bytes (codes "bind") refl, two_part.plain (context, thread) fits)
+plain_call (Unbind context) fits = (plain_bytes (codes "unbind") refl, (plain_decimal context fits, tt))
 
 fetch_alone : IsChoice call_words HasWords (codes "fetch", fetch_at)
 unfolding fetch_at
@@ -79,7 +105,7 @@ fetch_alone words taken h =
     subst (λ (t : Call × List (List ℕ)). (codes "fetch" ∷ words ≡ call_words t.0 ++ t.1) × HasWords t.0) same (refl, tt)
 
 call_part : IsPart call_at call_words HasWords
-unfolding call_at receive_at reply_at fetch_at copy_at mint_at move_at retype_at
+unfolding call_at thread_calls receive_at reply_at fetch_at copy_at mint_at move_at retype_at write_at configure_at
 call_part = keyed_part call_words HasWords _ (
   after_word number_part (codes "signal") Signal call_words HasWords (λ n. refl) (λ n small. small),
   (
@@ -110,7 +136,7 @@ call_part = keyed_part call_words HasWords _ (
                           (
                             after_word retype_operands (codes "retype") retype_call call_words HasWords (λ parts. refl)
                                 (λ parts is. (is.0, is.1.1.0, is.1.1.1.0, is.1.1.1.1.0, is.1.1.1.1.1)),
-                            tt,
+                            (after_word two_part (codes "read") read_call call_words HasWords (λ parts. refl) (λ parts is. is), (after_word write_operands (codes "write") write_call call_words HasWords (λ parts. refl) (λ parts is. (is.0, is.1.0, is.1.1)), (after_word two_part (codes "setspace") set_space_call call_words HasWords (λ parts. refl) (λ parts is. is), (after_word number_part (codes "clearspace") ClearSpace call_words HasWords (λ n. refl) (λ n small. small), (after_word number_part (codes "suspend") Suspend call_words HasWords (λ n. refl) (λ n small. small), (after_word number_part (codes "resume") Resume call_words HasWords (λ n. refl) (λ n small. small), (after_word configure_operands (codes "configure") configure_call call_words HasWords (λ parts. refl) (λ parts is. (is.0, is.1.0, is.1.1.0, is.1.1.1)), (after_word two_part (codes "bind") bind_call call_words HasWords (λ parts. refl) (λ parts is. is), (after_word number_part (codes "unbind") Unbind call_words HasWords (λ n. refl) (λ n small. small), tt))))))))),
                           ),
                         ),
                       ),

@@ -1,6 +1,9 @@
 mod Logs
 mod CallParts
 mod EventWords
+mod EntryWords
 mod EventLines
+mod LimitedLists
 mod Scripts
+mod LogTexts
 mod OneLog

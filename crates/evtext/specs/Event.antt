@@ -8,6 +8,7 @@ use Rattle.base.specs.declared.rights.Rights.{Rights}
 use Rattle.base.specs.Rights.{rights_of_word, IsRights}
 use Rattle.machine.specs.declared.call.Call.{Call}
 use Rattle.machine.specs.declared.call.Call.TheVariants.{Signal, Poll, Wait, Send, Receive, Reply, Fetch, Copy, Mint, Move, Delete, Revoke, Retype}
+use Rattle.machine.specs.declared.call.Call.TheVariants.{Read, Write, SetSpace, ClearSpace, Suspend, Resume, Configure, Bind, Unbind}
 use Rattle.machine.specs.declared.call.Call.TheVariants as call
 use Rattle.machine.specs.declared.call.CapData.{CapData}
 use Rattle.machine.specs.declared.call.CapData.TheVariants.{Badge, Guard}
@@ -137,9 +138,55 @@ reply_call parts = Reply parts.0 parts.1
 unfoldable pub reply_at : PartReader Call
 reply_at = read_as reply_call (in_turn number_at four_at)
 
+-- the next words as two numbers
+unfoldable pub two_at : PartReader (ℕ × ℕ)
+two_at = in_turn number_at number_at
+
+-- the read of a frame's word
+abbrev pub read_call : ℕ × ℕ → Call
+read_call parts = Read parts.0 parts.1
+
+-- the write of a word to a frame
+abbrev pub write_call : ℕ × (ℕ × ℕ) → Call
+write_call parts = Write parts.0 parts.1.0 parts.1.1
+
+-- the next words as the operands of a write
+unfoldable pub write_at : PartReader Call
+write_at = read_as write_call (in_turn number_at (in_turn number_at number_at))
+
+-- a thread gets a space
+abbrev pub set_space_call : ℕ × ℕ → Call
+set_space_call parts = SetSpace parts.0 parts.1
+
+-- a control gives a context a budget and a period
+abbrev pub configure_call : ℕ × (ℕ × (ℕ × ℕ)) → Call
+configure_call parts = Configure parts.0 parts.1.0 parts.1.1.0 parts.1.1.1
+
+-- the next words as the operands of a configure
+unfoldable pub configure_at : PartReader Call
+configure_at = read_as configure_call (in_turn number_at (in_turn number_at (in_turn number_at number_at)))
+
+-- a context gets a thread
+abbrev pub bind_call : ℕ × ℕ → Call
+bind_call parts = Bind parts.0 parts.1
+
 -- no operands
 unfoldable pub fetch_at : PartReader Call
 fetch_at words = Ok (Fetch, words)
+
+-- calls on frames, threads, controls and scheduling contexts: their names, then their operands
+unfoldable pub thread_calls : List (List ℕ × PartReader Call)
+thread_calls =
+    (codes "read", read_as read_call two_at)
+    ∷ (codes "write", write_at)
+    ∷ (codes "setspace", read_as set_space_call two_at)
+    ∷ (codes "clearspace", read_as ClearSpace number_at)
+    ∷ (codes "suspend", read_as Suspend number_at)
+    ∷ (codes "resume", read_as Resume number_at)
+    ∷ (codes "configure", configure_at)
+    ∷ (codes "bind", read_as bind_call two_at)
+    ∷ (codes "unbind", read_as Unbind number_at)
+    ∷ []
 
 -- the next words as a call: its name, then its operands
 unfoldable pub call_at : PartReader Call
@@ -158,7 +205,7 @@ call_at = keyed (
     ∷ (codes "delete", read_as Delete slot_address_at)
     ∷ (codes "revoke", read_as Revoke slot_address_at)
     ∷ (codes "retype", retype_at)
-    ∷ [])
+    ∷ thread_calls)
 
 -- the event of a core, a thread and a call
 abbrev pub event_of : ℕ × (ℕ × Call) → Event
@@ -212,6 +259,16 @@ HasWords (Delete slot) = IsSlotAddress slot
 HasWords (Revoke slot) = IsSlotAddress slot
 HasWords (Retype untyped kind bits to offset count) =
     (untyped < 2 ^ 64) × (bits < 2 ^ 64) × (to < 2 ^ 64) × (offset < 2 ^ 64) × (count < 2 ^ 64)
+HasWords (Read address index) = (address < 2 ^ 64) × (index < 2 ^ 64)
+HasWords (Write address index word) = (address < 2 ^ 64) × (index < 2 ^ 64) × (word < 2 ^ 64)
+HasWords (SetSpace thread space) = (thread < 2 ^ 64) × (space < 2 ^ 64)
+HasWords (ClearSpace thread) = thread < 2 ^ 64
+HasWords (Suspend thread) = thread < 2 ^ 64
+HasWords (Resume thread) = thread < 2 ^ 64
+HasWords (Configure control context budget period) =
+    (control < 2 ^ 64) × (context < 2 ^ 64) × (budget < 2 ^ 64) × (period < 2 ^ 64)
+HasWords (Bind context thread) = (context < 2 ^ 64) × (thread < 2 ^ 64)
+HasWords (Unbind context) = context < 2 ^ 64
 
 -- an event that a line can have: of a core that there can be, with numbers of 64 bits and sets of the four rights
 abbrev pub IsSpellable : Event → Type 0

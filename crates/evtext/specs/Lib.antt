@@ -1,3 +1,4 @@
 pub mod Event
+pub mod Outcome
 pub mod Script
 pub mod Log

@@ -1,16 +1,18 @@
--- The text of a log: the header, a line for each event and its outcome, and `end` (confine's own).
-use Rattle.std.specs.Prelude.{◌≡◌, ℕ, ◌<◌, ◌^◌, List, length, codes}
+-- The text of a log, and which log, or which fault at which line, a text is read as: the header, a line for each event and its
+-- outcome, `end` (confine's own).
+use Rattle.std.specs.Prelude.{ℕ, ◌≤◌, List, [], ◌∷◌, ◌++◌, length, codes, Result, Ok}
 use Rattle.std.specs.List.{AllByRecursion}
-use Rattle.machine.specs.declared.call.Answer.{Answer}
-use Rattle.machine.specs.declared.call.Answer.TheVariants as answer
+use Rattle.base.specs.declared.limits.TheConstants.{MAX_EVENTS}
 use Rattle.machine.specs.declared.call.Event.{Event}
 use Rattle.machine.specs.declared.call.Outcome.{Outcome}
-use Rattle.machine.specs.declared.call.Outcome.TheVariants as outcome
-use Rattle.machine.specs.declared.thread.Message.{Message}
 use Rattle.machine.specs.Spelling.{entry_words}
-use Rattle.words.specs.Reading.{list_text}
-use Rattle.words.specs.Text.{words_of}
-use Rattle.evtext.specs.Event.{HasNumbers}
+use Rattle.words.specs.declared.faults.Wrong.{Wrong}
+use Rattle.words.specs.declared.faults.Fault.{Fault}
+use Rattle.words.specs.Parts.{PartReader, in_turn}
+use Rattle.words.specs.Reading.{◌>>=◌, ended_at, list_format, list_text, read_format, Format}
+use Rattle.words.specs.Text.{words_of, lines_of}
+use Rattle.evtext.specs.Event.{event_at, within_limits, HasNumbers, IsSpellable}
+use Rattle.evtext.specs.Outcome.{equals_at, IsOutcome}
 
 abbrev pub log_header : List (List ℕ)
 log_header = words_of (codes "confine-log 1")
@@ -19,25 +21,40 @@ log_header = words_of (codes "confine-log 1")
 abbrev pub log_text : List (Event × Outcome) → List ℕ
 log_text = list_text log_header entry_words
 
--- a message of 64-bit numbers, four of which are its words
-abbrev pub IsMessage : Message → Type 0
-IsMessage message =
-    (message.badge < 2 ^ 64) × (length message.words ≡ 4) × AllByRecursion (λ word. word < 2 ^ 64) message.words
-
--- an answer of 64-bit numbers
-abbrev pub IsAnswer : Answer → Type 0
-IsAnswer answer.Nothing = Unit {0}
-IsAnswer (answer.Word word) = word < 2 ^ 64
-IsAnswer (answer.Message message) = IsMessage message
-IsAnswer (answer.Count count) = count < 2 ^ 64
-IsAnswer answer.Aborted = Unit {0}
-
--- an outcome of 64-bit numbers
-abbrev pub IsOutcome : Outcome → Type 0
-IsOutcome (outcome.Done answer) = IsAnswer answer
-IsOutcome outcome.Blocked = Unit {0}
-IsOutcome (outcome.Refused refusal) = (refusal.code < 2 ^ 64) × (refusal.detail < 2 ^ 64)
-
 -- an event and its outcome, of 64-bit numbers, as all that the code has are, and of rights that are sets of the four
 abbrev pub IsEntry : Event × Outcome → Type 0
 IsEntry entry = HasNumbers entry.0 × IsOutcome entry.1
+
+-- an entry that a line can have: its event is of a core that there can be
+abbrev pub IsSpellableEntry : Event × Outcome → Type 0
+IsSpellableEntry entry = IsSpellable entry.0 × IsOutcome entry.1
+
+-- entries that a log can have: not too many, each of which a line can have
+abbrev pub IsLog : List (Event × Outcome) → Type 0
+IsLog log = (length log ≤ MAX_EVENTS) × AllByRecursion IsSpellableEntry log
+
+-- the next words as an event, the word `=`, and an outcome, whichever it is
+unfoldable pub entry_at : PartReader (Event × Outcome)
+entry_at = in_turn event_at equals_at
+
+-- a line as an entry, after as many entries as `before`: its form is tested first, then the limits
+unfoldable pub log_line : ℕ → List (List ℕ) → Result (Event × Outcome) Wrong
+log_line before words = do
+  entry ← entry_at words
+  _ ← ended_at entry.1
+  event ← within_limits before entry.0.0
+  Ok (event, entry.0.1)
+
+-- a line's entry joins those before it
+abbrev pub log_step : List (Event × Outcome) → List (List ℕ) → Result (List (Event × Outcome)) Wrong
+log_step log words = do
+  entry ← log_line (length log) words
+  Ok (log ++ entry ∷ [])
+
+-- logs, line by line
+abbrev pub log_format : Format (List (Event × Outcome)) (List (Event × Outcome))
+log_format = list_format log_header log_step
+
+-- what a text is read as
+unfoldable pub read_log_of : List ℕ → Result (List (Event × Outcome)) Fault
+read_log_of bytes = read_format log_format (lines_of bytes)

@@ -1,9 +1,9 @@
-ghost use Rattle.std.specs.Prelude.{◌≡◌, List};
+ghost use Rattle.std.specs.Prelude.{◌≡◌, ◌↔◌, ℕ, List, Ok};
 ghost use Rattle.std.specs.List.{AllByRecursion};
 ghost use Rattle.machine.specs.declared.call.Event.{Event};
 ghost use Rattle.machine.specs.declared.call.Outcome.{Outcome};
 ghost use Rattle.evtext.specs.Event.{HasNumbers};
-ghost use Rattle.evtext.specs.Log.{log_text, IsEntry};
+ghost use Rattle.evtext.specs.Log.{log_text, read_log_of, IsEntry, IsLog};
 ghost use Rattle.evtext.specs.Script.{script_text};
 
 /// A law: the text of a script is the text of no other one. Its numbers are of 64 bits, as all that
@@ -20,4 +20,10 @@ pub fn a_text_is_of_one_log()
     ensures { (log other : List (Event × Outcome))
         → AllByRecursion IsEntry log → AllByRecursion IsEntry other
         → log_text log ≡ log_text other → log ≡ other }
+{}
+
+/// A law: a text is read as a log just where it is that log's text.
+pub fn logs_are_read_back()
+    ensures { (text : List ℕ) (log : List (Event × Outcome))
+        → (read_log_of text ≡ Ok log) ↔ (IsLog log × (text ≡ log_text log)) }
 {}

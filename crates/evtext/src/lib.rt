@@ -4,8 +4,9 @@
 mod laws;
 mod line;
 mod log;
+mod outcome;
 mod script;
 
-pub use laws::{a_text_is_of_one_log, a_text_is_of_one_script};
-pub use log::{write_log, write_run};
+pub use laws::{a_text_is_of_one_log, a_text_is_of_one_script, logs_are_read_back};
+pub use log::{read_log, write_log, write_run};
 pub use script::{read_script, write_script};

@@ -1,8 +1,9 @@
 ghost use Rattle.std.specs.Prelude.{◌≡◌};
+ghost use Rattle.words.specs.Parts.{by_word};
 ghost use Rattle.words.specs.Reading.{Gives};
 ghost use Rattle.evtext.specs.Event.{call_at, copy_at, data_at, event_at, four_at, memory_kind_at, message_at, mint_at};
 ghost use Rattle.evtext.specs.Event.{move_at, optional_at, optional_slot_at, receive_at, reply_at, retype_at, rights_at};
-ghost use Rattle.evtext.specs.Event.{slot_address_at, within_limits};
+ghost use Rattle.evtext.specs.Event.{configure_at, slot_address_at, thread_calls, two_at, within_limits, write_at};
 
 use base::{CoreNo, MAX_EVENTS, ObjId, Rights};
 use machine::{Call, CapData, Event, MemoryKind, SlotAddress};
@@ -101,6 +102,41 @@ fn next_call(words: &mut Words<'_>) -> Result<Call, Wrong>
     } else if name == b"retype".as_slice() {
         next_retype(words)
     } else {
+        next_thread_call(name, words)
+    }
+}
+
+/// The next words as the operands of a call on a frame, a thread, a control or a scheduling context.
+#[tactic(auto, unfolding(crate::specs::Event::thread_calls, words::specs::Parts::by_word, words::specs::Parts::read_as, words::specs::Reading::bind))]
+fn next_thread_call(name: &[u8], words: &mut Words<'_>) -> Result<Call, Wrong>
+    ensures { Gives (λ call. (call, words.new)) result (by_word thread_calls name.now words.old) }
+{
+    if name == b"read".as_slice() {
+        let (address, index) = next_two(words)?;
+        Ok(Call::Read { address, index })
+    } else if name == b"write".as_slice() {
+        next_write(words)
+    } else if name == b"setspace".as_slice() {
+        let (thread, space) = next_two(words)?;
+        Ok(Call::SetSpace { thread, space })
+    } else if name == b"clearspace".as_slice() {
+        let thread = words.number()?;
+        Ok(Call::ClearSpace { thread })
+    } else if name == b"suspend".as_slice() {
+        let thread = words.number()?;
+        Ok(Call::Suspend { thread })
+    } else if name == b"resume".as_slice() {
+        let thread = words.number()?;
+        Ok(Call::Resume { thread })
+    } else if name == b"configure".as_slice() {
+        next_configure(words)
+    } else if name == b"bind".as_slice() {
+        let (context, thread) = next_two(words)?;
+        Ok(Call::Bind { context, thread })
+    } else if name == b"unbind".as_slice() {
+        let context = words.number()?;
+        Ok(Call::Unbind { context })
+    } else {
         Err(Wrong::Syntax)
     }
 }
@@ -146,7 +182,7 @@ fn next_reply(words: &mut Words<'_>) -> Result<Call, Wrong>
 
 /// The next words as the four words of a message.
 #[tactic(auto, unfolding(crate::specs::Event::four_at, words::specs::Parts::in_turn, words::specs::Parts::read_as, words::specs::Reading::bind))]
-fn next_four(words: &mut Words<'_>) -> Result<[u64; 4], Wrong>
+pub(crate) fn next_four(words: &mut Words<'_>) -> Result<[u64; 4], Wrong>
     ensures { Gives (λ four. (four, words.new)) result (four_at words.old) }
 {
     let first = words.number()?;
@@ -240,6 +276,48 @@ fn next_retype(words: &mut Words<'_>) -> Result<Call, Wrong>
         to,
         offset,
         count,
+    })
+}
+
+/// The next words as two numbers.
+#[tactic(auto, unfolding(crate::specs::Event::two_at, words::specs::Parts::in_turn, words::specs::Reading::bind))]
+fn next_two(words: &mut Words<'_>) -> Result<(u64, u64), Wrong>
+    ensures { Gives (λ two. ((two.0, two.1), words.new)) result (two_at words.old) }
+{
+    let first = words.number()?;
+    let second = words.number()?;
+    Ok((first, second))
+}
+
+/// The next words as the operands of a write.
+#[tactic(auto, unfolding(crate::specs::Event::write_at, words::specs::Parts::in_turn, words::specs::Parts::read_as, words::specs::Reading::bind))]
+fn next_write(words: &mut Words<'_>) -> Result<Call, Wrong>
+    ensures { Gives (λ call. (call, words.new)) result (write_at words.old) }
+{
+    let address = words.number()?;
+    let index = words.number()?;
+    let word = words.number()?;
+    Ok(Call::Write {
+        address,
+        index,
+        word,
+    })
+}
+
+/// The next words as the operands of a configure.
+#[tactic(auto, unfolding(crate::specs::Event::configure_at, words::specs::Parts::in_turn, words::specs::Parts::read_as, words::specs::Reading::bind))]
+fn next_configure(words: &mut Words<'_>) -> Result<Call, Wrong>
+    ensures { Gives (λ call. (call, words.new)) result (configure_at words.old) }
+{
+    let control = words.number()?;
+    let context = words.number()?;
+    let budget = words.number()?;
+    let period = words.number()?;
+    Ok(Call::Configure {
+        control,
+        context,
+        budget,
+        period,
     })
 }
 

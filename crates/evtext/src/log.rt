@@ -1,20 +1,99 @@
-ghost use Rattle.std.specs.Prelude.{◌≡◌, ◌++◌, IfOk, IfErr, OnOk, string_bytes};
+ghost use Rattle.std.specs.Prelude.{◌≡◌, ◌≢◌, ◌++◌, ℕ, IfOk, IfErr, Ok, Err, OnOk, List, string_bytes};
 ghost use Rattle.std.specs.List.{zip};
 ghost use Rattle.base.specs.Refusals.{out_of_memory};
+ghost use Rattle.machine.specs.declared.call.Event.{Event as EventOf};
+ghost use Rattle.machine.specs.declared.call.Outcome.{Outcome as OutcomeOf};
 ghost use Rattle.machine.specs.Spelling.{entry_words};
-ghost use Rattle.words.specs.Text.{line_text};
-ghost use Rattle.evtext.specs.Log.{log_text};
+ghost use Rattle.words.specs.declared.faults.Wrong.{Wrong};
+ghost use Rattle.words.specs.Fault.{fault_at, no_memory};
+ghost use Rattle.words.specs.FirstFault.{IsFirstFault, TellsFirst};
+ghost use Rattle.words.specs.Reading.{Reads};
+ghost use Rattle.words.specs.Text.{line_text, lines_of};
+ghost use Rattle.evtext.specs.Log.{log_format, log_line, log_step, log_text, read_log_of, IsLog};
 
+use crate::line::next_event;
+use crate::outcome::next_result;
 use base::Refusal;
 use machine::{Event, Log, Outcome};
 use std::alloc::{AllocError, Global};
+use words::{Fault, LineError, Reader, Words, Wrong, read_text};
+
+/// Reads a log, whichever outcomes its events have.
+///
+/// Fault 50 is for a line that isn't a line of a log, 54 for a core that is none or an event too
+/// many, and 40, which has line 0, for want of memory.
+pub fn read_log(alloc: Global, text: &[u8]) -> Result<Log, Fault>
+    ensures exact { Reads (λ log. log.items) result (read_log_of text.now) }
+
+    // A text that is read is a log's, and each log's text is read as that log.
+    ensures found { IfOk result (λ log. IsLog log.items × (text.now ≡ log_text log.items)) }
+    ensures only { (log : List (EventOf × OutcomeOf)) → IsLog log → text.now ≡ log_text log
+        → Reads (λ log. log.items) result (Ok log) }
+
+    // One that isn't read is refused for its first fault, unless memory was refused.
+    ensures faults { IfErr result (λ fault. fault ≢ no_memory
+        → TellsFirst log_format (lines_of text.now) fault) }
+    ensures refused { (line : ℕ) (wrong : Wrong)
+        → IsFirstFault log_format (lines_of text.now) line wrong
+        → Reads (λ log. log.items) result (Err (fault_at line wrong)) }
+{
+    entries_of(alloc, text)
+}
+
+#[tactic(auto, unfolding(crate::specs::Log::read_log_of))]
+fn entries_of(alloc: Global, text: &[u8]) -> Result<Log, Fault>
+    ensures exact { Reads (λ log. log.items) result (read_log_of text.now) }
+{
+    let mut entries = Entries {
+        log: Vec::new(alloc),
+    };
+    read_text(&mut entries, b"confine-log 1", text)?;
+    Ok(entries.log)
+}
+
+/// The entries of the lines so far.
+#[derive(Drop)]
+struct Entries {
+    log: Log,
+}
+
+impl Reader for Entries {
+    ghost Seen = { List (EventOf × OutcomeOf) };
+
+    ghost seen = { λ entries. entries.log.items };
+
+    ghost step = { λ entries. log_step };
+
+    #[tactic(auto, unfolding(words::specs::Reading::bind))]
+    fn take_line(&mut self, words: &mut Words<'_>) -> Result<(), LineError> {
+        let entry = log_line(words, self.log.len())?;
+        self.log.push(entry)?;
+        Ok(())
+    }
+}
+
+/// A line as an event and its outcome, which come after as many as `before`.
+#[tactic(auto, unfolding(crate::specs::Log::log_line, crate::specs::Log::entry_at, words::specs::Parts::in_turn, words::specs::Reading::bind))]
+fn log_line(words: &mut Words<'_>, before: usize) -> Result<(Event, Outcome), Wrong>
+    ensures { result ≡ log_line before words.old }
+{
+    let event = next_event(words)?;
+    let outcome = next_result(words)?;
+    words.end()?;
+    let event = event.within_limits(before)?;
+    Ok((event, outcome))
+}
 
 /// The text of the log.
 ///
 /// Refused with 40 for want of memory alone.
+#[tactic(auto, using(crate::proofs::LogTexts::log_is_read))]
 pub fn write_log(alloc: Global, log: &Log) -> Result<Vec<u8>, Refusal>
     ensures text { IfOk result (λ text. text.items ≡ log_text log.now.items) }
     ensures memory { IfErr result (λ refusal. refusal ≡ out_of_memory) }
+
+    // What is written is read as the log.
+    ensures read_back { IsLog log.now.items → IfOk result (λ text. read_log_of text.items ≡ Ok log.now.items) }
 {
     let text = log_string(alloc, log)?;
     Ok(text.into_bytes())

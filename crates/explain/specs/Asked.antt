@@ -30,12 +30,14 @@ edge_by_rule (broken.DeriveLacks parent child) = Some (edge_of parent Derive chi
 edge_by_rule (broken.ContextLacks subject context) = Some (edge_of subject Runs context)
 edge_by_rule (broken.ReplyLacks reply thread) = Some (edge_of reply Holds thread)
 
--- what a denial asks for: by P1 to P7 as above; by A1 to A4 the edge of what the table has at that place. No edge mends a
--- certificate
+-- what a denial asks for: by P1 to P7 as above; by A1 to A4 the edge of what the table has at that place, and so by A5 and A6, which no
+-- table breaks. No edge mends a certificate
 abbrev pub edge_asked : Layout → Denial → Option Edge
 edge_asked t (denial.Policy broken) = edge_by_rule broken
 edge_asked t (denial.Capability slot kind label) = joined (declared_label t slot.holder) kind (Some label)
 edge_asked t (denial.Root slot label) = joined (declared_label t slot.holder) Space (Some label)
 edge_asked t (denial.Pair child parent) = joined (declared_label t parent.holder) Derive (declared_label t child.holder)
 edge_asked t (denial.Binding thread context) = joined (declared_label t thread) Runs (declared_label t context)
+edge_asked t (denial.Holding reply thread) = joined (declared_label t reply) Holds (declared_label t thread)
+edge_asked t (denial.Recorded thread kind label) = joined (declared_label t thread) kind (Some label)
 edge_asked t (denial.Certificate line) = None

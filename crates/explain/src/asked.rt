@@ -38,6 +38,16 @@ pub fn asked_edge(table: &Table, denial: &Denial) -> Option<Edge>
             Kind::Runs,
             declared_label(table, context),
         ),
+        Denial::Holding { reply, thread } => joined(
+            declared_label(table, reply),
+            Kind::Holds,
+            declared_label(table, thread),
+        ),
+        Denial::Recorded {
+            thread,
+            kind,
+            label,
+        } => joined(declared_label(table, thread), kind, Some(label)),
         Denial::Certificate { .. } => None,
     }
 }

@@ -63,6 +63,27 @@ pub fn explain_denial(alloc: Global, table: &Table, denial: &Denial) -> Result<S
     }
 }
 
+/// Where the last state of a log lies outside a policy, in a sentence, and which edge it would take.
+pub fn explain_outside(
+    alloc: Global,
+    table: &Table,
+    denial: &Denial,
+) -> Result<String, AllocError> {
+    let rule = denial.rule();
+    match asked_edge(table, denial) {
+        Some(edge) => {
+            let reason = Reason { table, denial };
+            let line = EdgeLine { table, edge };
+            format!(in alloc;
+                "outside by {rule}: after the last entry {reason}, and the policy has no such edge: `{line}`"
+            )
+        }
+        None => format!(in alloc;
+            "outside by {rule}: after the last entry an object that the log made has authority, or is under some, that the policy lacks"
+        ),
+    }
+}
+
 /// The line for an edge that closing adds: the rule and the place that ask for it, and the edge, as
 /// `A1 space.0: edge app await bell`.
 pub(crate) fn explain_edge(

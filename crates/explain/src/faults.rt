@@ -9,6 +9,7 @@ pub enum Text {
     Policy,
     Certificate,
     Script,
+    Log,
 }
 
 impl Text {
@@ -19,14 +20,28 @@ impl Text {
             Text::Policy => "confine-policy 1",
             Text::Certificate => "confine-cert 1",
             Text::Script => "confine-script 1",
+            Text::Log => "confine-log 1",
         }
     }
 
     /// How many words of a line stand before the one by which its form is known.
     fn words_before(self) -> u64 {
         match self {
-            Text::Script => 2,
+            Text::Script | Text::Log => 2,
             _ => 0,
+        }
+    }
+
+    /// Whether its lines have a form, which a log's share with a script's.
+    fn has(self, form: Form) -> bool {
+        form.text() == self || (self == Text::Log && form.text() == Text::Script)
+    }
+
+    /// What stands on each line after its form.
+    fn ending(self) -> &'static str {
+        match self {
+            Text::Log => " with ` = ` and an outcome",
+            _ => "",
         }
     }
 }
@@ -115,8 +130,9 @@ fn expected_line(
     match form_at(kind, text, number) {
         Some(form) => {
             let words = form.words();
+            let ending = kind.ending();
             let place = form.place();
-            format!(in alloc; "{words}{place}")
+            format!(in alloc; "{words}{ending}{place}")
         }
         None => forms_after(alloc, kind, before.bytes),
     }
@@ -137,8 +153,9 @@ fn forms_after(alloc: Global, kind: Text, before: &[u8]) -> Result<String, Alloc
     };
     let mut text = String::new(alloc);
     for form in Form::ALL {
-        if form.text() == kind && form.section() >= section {
+        if kind.has(form) && form.section() >= section {
             text.push_str(form.words())?;
+            text.push_str(kind.ending())?;
             text.push_str(", ")?;
         }
     }
@@ -155,7 +172,7 @@ fn form_at(kind: Text, text: &[u8], number: u64) -> Option<Form> {
 fn form_of(kind: Text, line: &[u8]) -> Option<Form> {
     let word = part(line, b' ', kind.words_before())?;
     for form in Form::ALL {
-        if form.text() == kind && form.word().as_bytes() == word {
+        if kind.has(form) && form.word().as_bytes() == word {
             return Some(form);
         }
     }

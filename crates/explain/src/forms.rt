@@ -36,11 +36,20 @@ pub(crate) enum Form {
     Delete,
     Revoke,
     Retype,
+    Read,
+    Write,
+    SetSpace,
+    ClearSpace,
+    Suspend,
+    Resume,
+    Configure,
+    BindContext,
+    Unbind,
 }
 
 impl Form {
     /// All forms, those of a text in the order in which its lines may come.
-    pub(crate) const ALL: [Form; 32] = [
+    pub(crate) const ALL: [Form; 41] = [
         Form::Label,
         Form::Untyped,
         Form::CNode,
@@ -73,6 +82,15 @@ impl Form {
         Form::Delete,
         Form::Revoke,
         Form::Retype,
+        Form::Read,
+        Form::Write,
+        Form::SetSpace,
+        Form::ClearSpace,
+        Form::Suspend,
+        Form::Resume,
+        Form::Configure,
+        Form::BindContext,
+        Form::Unbind,
     ];
 
     /// The text that has such lines.
@@ -96,7 +114,16 @@ impl Form {
             | Form::Move
             | Form::Delete
             | Form::Revoke
-            | Form::Retype => Text::Script,
+            | Form::Retype
+            | Form::Read
+            | Form::Write
+            | Form::SetSpace
+            | Form::ClearSpace
+            | Form::Suspend
+            | Form::Resume
+            | Form::Configure
+            | Form::BindContext
+            | Form::Unbind => Text::Script,
             _ => Text::Table,
         }
     }
@@ -116,7 +143,7 @@ impl Form {
             Form::Control => "control",
             Form::Cap | Form::CertifiedCap => "cap",
             Form::Child => "child",
-            Form::Bind => "bind",
+            Form::Bind | Form::BindContext => "bind",
             Form::Edge => "edge",
             Form::CertifiedSpace => "space",
             Form::CertifiedDerive => "derive",
@@ -135,6 +162,14 @@ impl Form {
             Form::Delete => "delete",
             Form::Revoke => "revoke",
             Form::Retype => "retype",
+            Form::Read => "read",
+            Form::Write => "write",
+            Form::SetSpace => "setspace",
+            Form::ClearSpace => "clearspace",
+            Form::Suspend => "suspend",
+            Form::Resume => "resume",
+            Form::Configure => "configure",
+            Form::Unbind => "unbind",
         }
     }
 
@@ -177,6 +212,15 @@ impl Form {
             Form::Delete => "`DEC DEC delete DEC DEC DEC`",
             Form::Revoke => "`DEC DEC revoke DEC DEC DEC`",
             Form::Retype => "`DEC DEC retype DEC KIND DEC DEC DEC DEC`",
+            Form::Read => "`DEC DEC read DEC DEC`",
+            Form::Write => "`DEC DEC write DEC DEC DEC`",
+            Form::SetSpace => "`DEC DEC setspace DEC DEC`",
+            Form::ClearSpace => "`DEC DEC clearspace DEC`",
+            Form::Suspend => "`DEC DEC suspend DEC`",
+            Form::Resume => "`DEC DEC resume DEC`",
+            Form::Configure => "`DEC DEC configure DEC DEC DEC DEC`",
+            Form::BindContext => "`DEC DEC bind DEC DEC`",
+            Form::Unbind => "`DEC DEC unbind DEC`",
         }
     }
 

@@ -11,7 +11,7 @@ mod sentences;
 
 pub use asked::{an_asked_edge_is_missing, asked_edge};
 pub use closing::explain_closing;
-pub use denials::explain_denial;
+pub use denials::{explain_denial, explain_outside};
 pub use faults::{Text, explain_fault};
 
 #[cfg(test)]

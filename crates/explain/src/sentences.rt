@@ -140,6 +140,30 @@ impl fmt::Display for Reason<'_> {
                     "the thread `{thread}` of `{from}` runs on the context `{context}` of `{to}`"
                 )
             }
+            Denial::Holding { reply, thread } => {
+                let from = name_of_label(table, reply);
+                let to = name_of_label(table, thread);
+                let reply = object_name(table, reply);
+                let thread = object_name(table, thread);
+                write!(
+                    f,
+                    "the reply `{reply}` of `{from}` holds the thread `{thread}` of `{to}`"
+                )
+            }
+            Denial::Recorded {
+                thread,
+                kind,
+                label,
+            } => {
+                let from = name_of_label(table, thread);
+                let verb = verb(kind);
+                let to = label_name(table, label);
+                let thread = object_name(table, thread);
+                write!(
+                    f,
+                    "the thread `{thread}` of `{from}` waits, and keeps the right to {verb} what is labelled `{to}`"
+                )
+            }
             Denial::Certificate { line } => write!(
                 f,
                 "line {line} after the certificate's header differs from what the table gives, is missing or is too many"
@@ -241,6 +265,15 @@ impl fmt::Display for PlaceNames<'_> {
                 let context = object_name(table, context);
                 write!(f, "{thread} {context}")
             }
+            Denial::Holding { reply, thread } => {
+                let reply = object_name(table, reply);
+                let thread = object_name(table, thread);
+                write!(f, "{reply} {thread}")
+            }
+            Denial::Recorded { thread, .. } => {
+                let thread = object_name(table, thread);
+                write!(f, "{thread}")
+            }
             Denial::Certificate { line } => write!(f, "{line}"),
         }
     }
@@ -291,6 +324,10 @@ impl fmt::Display for OtherWay<'_> {
             Denial::Binding { .. } => f.write_str(
                 "bind the thread to a context to whose label there is such an edge",
             ),
+            Denial::Holding { .. } => f.write_str(
+                "let the reply hold a thread to whose label there is such an edge",
+            ),
+            Denial::Recorded { .. } => f.write_str("let the thread wait where it has such an edge"),
             Denial::Certificate { .. } => {
                 f.write_str("let `confine check --cert` write the certificate anew")
             }

@@ -11,10 +11,13 @@ use crate::signal::signal;
 use crate::wait::wait;
 use base::{Cause, Refusal};
 use cnodeops::{copy, mint, move_cap};
+use frames::{read_word, write_word};
 use machine::{Call, Event, Made, Outcome, steps_keep_machines_well_formed};
 use objects::State;
 use removal::{delete, revoke};
 use replies::reply;
+use schedctl::{bind, configure, unbind};
+use threads::{clear_space, resume, set_space, suspend};
 use transfer::{call, fetch, receive, send};
 use untyped::retype;
 
@@ -64,6 +67,24 @@ fn make(state: &mut State, event: Event) -> Result<Made, Cause>
             offset,
             count,
         } => retype(state, event.thread, untyped, kind, bits, to, offset, count),
+        Call::Read { address, index } => read_word(state, event.thread, address, index),
+        Call::Write {
+            address,
+            index,
+            word,
+        } => write_word(state, event.thread, address, index, word),
+        Call::SetSpace { thread, space } => set_space(state, event.thread, thread, space),
+        Call::ClearSpace { thread } => clear_space(state, event.thread, thread),
+        Call::Suspend { thread } => suspend(state, event.thread, thread),
+        Call::Resume { thread } => resume(state, event.thread, thread),
+        Call::Configure {
+            control,
+            context,
+            budget,
+            period,
+        } => configure(state, event.thread, control, context, budget, period),
+        Call::Bind { context, thread } => bind(state, event.thread, context, thread),
+        Call::Unbind { context } => unbind(state, event.thread, context),
     }
 }
 

@@ -17,7 +17,7 @@ use Rattle.machine.specs.Tree.{copied, parent_of_copy}
 use Rattle.machine.specs.WellFormed.{IsWellFormed}
 use Rattle.machine.proofs.Conditions.{both_done, same_ok}
 use Rattle.machine.proofs.Copies.{is_copyable}
-use Rattle.machine.proofs.FillsFormed.{fills_formed}
+use Rattle.machine.proofs.FillsFormed.{fills_formed, node_takes}
 use Rattle.machine.proofs.Finding.{FindsCap, finds_cap, is_permitted}
 use Rattle.machine.proofs.LedSlots.{led_slot}
 use Rattle.machine.proofs.SlotChanges.{Fills, SameObjects}
@@ -79,8 +79,9 @@ module _ (m : Machine) (sender : ObjId) (sending : Sending) (receiver : ObjId) (
   ends_formed : (ends : Ends) → Arrives m sender sending receiver slot ends → IsWellFormed (with_arrival m (Ok ends))
   ends_formed ends done =
       fills_formed m (with_arrival m (Ok ends)) ends.target ends.source ends.held (copied ends.held ends.held.detail) formed
-      (arrival_fills m sender sending receiver slot ends formed done) (led_slot m receiver done.to ends.target done.leads_to)
-      done.vacant done.finds.holds refl refl done.copyable
+      (arrival_fills m sender sending receiver slot ends formed done)
+      (node_takes m ends.target ends.held.detail (led_slot m receiver done.to ends.target done.leads_to)) done.vacant
+      done.finds.holds refl refl done.copyable
 
   pub arrival_formed : IsWellFormed (with_arrival m (arrival_of m sender sending receiver slot))
   arrival_formed = by_result (arrival_of m sender sending receiver slot) refl where

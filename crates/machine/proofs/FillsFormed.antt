@@ -1,9 +1,11 @@
 -- A machine stays well formed where an empty slot gets a copy of a capability.
-use Rattle.std.proofs.Common.{◌≡◌, ◌≢◌, ◌<◌, ◌⊎◌, inl, inr, Bool, true, false, refl, sym, ap, subst, ◌∙◌}
+use Rattle.std.proofs.Common.{◌≡◌, ◌≢◌, ◌<◌, ◌⊎◌, inl, inr, Bool, true, false, refl, sym, ap, subst, ◌∙◌, arith}
 use Rattle.std.specs.Prelude.{Some, None, option_map, if◌then◌else◌}
+use Rattle.std.proofs.lemmas.Option.{same_Some}
 use Rattle.base.specs.declared.ids.ObjId.{ObjId}
 use Rattle.base.specs.declared.ids.SlotRef.{SlotRef}
 use Rattle.machine.specs.declared.cap.Cap.{Cap}
+use Rattle.machine.specs.declared.cap.Detail.{Detail}
 use Rattle.machine.specs.declared.object.Object.{Object}
 use Rattle.machine.specs.declared.object.Object.TheVariants as o
 use Rattle.machine.specs.declared.object.ObjectKind.TheVariants as kind
@@ -22,9 +24,21 @@ use Rattle.machine.proofs.SameObjects.{KeepsDescent, Kin, OneCap, kin_same, kind
 use Rattle.machine.proofs.SlotChanges.{Fills}
 use Rattle.machine.proofs.SlotRows.{Derives}
 
+-- a slot is there, and takes what a capability says: a root slot, if that is a CNode's
+pub record Takes (m : Machine) (slot : SlotRef) (detail : Detail) : Type 0 where
+  pub object : Object
+  pub there : object_of m slot.holder ≡ Some object
+  pub within : slot.index < slot_count object
+  pub root : kind_of_object object ≡ kind.Tcb → kind_of_detail detail ≡ kind.CNode
+
+-- a CNode's slots take all
+pub node_takes : (m : Machine) (slot : SlotRef) (detail : Detail) → InNode m slot → Takes m slot detail
+node_takes m slot detail node =
+    record { object = o.CNode node.0; there = node.1; within = node.2; root = λ other. absurd (grind (arith, other)) }
+
 module _ (m next : Machine) (slot source : SlotRef) (held new : Cap) (formed : IsWellFormed m)
-    (fills : Fills m slot new (parent_of_copy m source held) next) (within : InNode m slot) (empty : cap_of m slot ≡ None)
-    (full : cap_of m source ≡ Some held) (of : new.object ≡ held.object)
+    (fills : Fills m slot new (parent_of_copy m source held) next) (takes : Takes m slot new.detail)
+    (empty : cap_of m slot ≡ None) (full : cap_of m source ≡ Some held) (of : new.object ≡ held.object)
     (alike : kind_of_detail new.detail ≡ kind_of_detail held.detail) (typed : kind_of_detail held.detail ≢ kind.Untyped) where
   -- the filled slot
   here : cap_of next slot ≡ Some new
@@ -150,7 +164,7 @@ module _ (m next : Machine) (slot source : SlotRef) (held new : Cap) (formed : I
         → (object : Object) × (object_of next q.holder ≡ Some object) × (q.index < slot_count object)
     by_case (inl is) =
         subst (λ (s : SlotRef). (object : Object) × (object_of next s.holder ≡ Some object) × (s.index < slot_count object))
-        (sym is.0) (o.CNode within.0, fills.objects.objects slot.holder ∙ within.1, within.2)
+        (sym is.0) (takes.object, fills.objects.objects slot.holder ∙ takes.there, takes.within)
     by_case (inr was) =
         let w = formed.slots.holder q cap was in (w.0, fills.objects.objects q.holder ∙ w.1, w.2)
 
@@ -163,9 +177,9 @@ module _ (m next : Machine) (slot source : SlotRef) (held new : Cap) (formed : I
 
     by_case : ((q ≡ slot) × (cap ≡ new)) ⊎ (cap_of m q ≡ Some cap) → kind_of_detail cap.detail ≡ kind.CNode
     by_case (inl is) =
-        let node : kind_of m slot.holder ≡ Some kind.CNode = rw within.1 refl in
-        let two : Some kind.CNode ≡ Some kind.Tcb = sym node ∙ ap (λ (s : SlotRef). kind_of m s.holder) (sym is.0) ∙ was_root in
-        cc
+        let same : Some (kind_of_object takes.object) ≡ Some kind.Tcb =
+        sym (ap (option_map kind_of_object) takes.there) ∙ ap (λ (s : SlotRef). kind_of m s.holder) (sym is.0) ∙ was_root in
+        ap (λ (c : Cap). kind_of_detail c.detail) is.1 ∙ takes.root (same_Some (kind_of_object takes.object) kind.Tcb same)
     by_case (inr was) = formed.slots.root q cap was was_root
 
   child_now : (q parent : SlotRef) → parent_of next q ≡ Some parent → (cap : Cap) × (cap_of next q ≡ Some cap)
@@ -273,5 +287,5 @@ pub derives_formed :
     → IsWellFormed next
 derives_formed m caller to from next formed done =
     fills_formed m next done.target done.source done.held (copied done.held done.detail) formed done.changes
-    (led_slot m caller to done.target done.finds.leads_to) done.finds.vacant done.finds.filled refl
-    (kinds_alike done.detail done.held.detail done.narrower) done.copyable
+    (node_takes m done.target done.detail (led_slot m caller to done.target done.finds.leads_to)) done.finds.vacant
+    done.finds.filled refl (kinds_alike done.detail done.held.detail done.narrower) done.copyable

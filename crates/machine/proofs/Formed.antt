@@ -24,6 +24,7 @@ use Rattle.machine.specs.Run.{Run}
 use Rattle.machine.specs.Step.{Step}
 use Rattle.machine.specs.WellFormed.{IsThread, IsWellFormed, WaitsAtKind}
 use Rattle.machine.proofs.Admission.{IsCaller}
+use Rattle.machine.proofs.ContextsFormed.{bind_formed, configure_formed, unbind_formed}
 use Rattle.machine.proofs.FillsFormed.{derives_formed}
 use Rattle.machine.proofs.MessageRows.{endpoint_call_formed, fetch_formed, receive_formed, reply_formed, send_formed}
 use Rattle.machine.proofs.MovesFormed.{move_formed}
@@ -37,10 +38,13 @@ use Rattle.machine.proofs.RemovalLinks.{removed_formed}
 use Rattle.machine.proofs.RemovalRows.{RemovalDone}
 use Rattle.machine.proofs.RetypeFormed.{retype_formed}
 use Rattle.machine.proofs.SignalRow.{SignalDone, Wakes, marked, roused}
+use Rattle.machine.proofs.SpaceFormed.{clear_formed, set_formed}
+use Rattle.machine.proofs.ThreadFormed.{resume_formed, suspend_formed}
 use Rattle.machine.proofs.ThreadLinks.{NamesNoReply, links_moved}
 use Rattle.machine.proofs.WaitRow.{Blocks, WaitDone, awaiting}
 use Rattle.machine.proofs.WakeLinks.{wake_moves}
 use Rattle.machine.proofs.WordLinks.{SetsObject, word_steady, links_with_word}
+use Rattle.machine.proofs.WordsFormed.{read_formed, write_formed}
 
 -- a notification's word changes
 word_formed :
@@ -184,6 +188,16 @@ call_formed m caller (call.Delete slot) next formed is = removal_formed m caller
 call_formed m caller (call.Revoke slot) next formed is = removal_formed m caller slot (is_below m) next formed
 call_formed m caller (call.Retype untyped of bits to offset count) next formed is =
     retype_formed m caller untyped of bits to offset count next formed
+call_formed m caller (call.Read address index) next formed is = read_formed m next formed
+call_formed m caller (call.Write address index word) next formed is = write_formed m caller address index word next formed
+call_formed m caller (call.SetSpace thread space) next formed is = set_formed m caller thread space next formed
+call_formed m caller (call.ClearSpace thread) next formed is = clear_formed m caller thread next formed
+call_formed m caller (call.Suspend thread) next formed is = suspend_formed m caller thread next formed
+call_formed m caller (call.Resume thread) next formed is = resume_formed m caller thread next formed
+call_formed m caller (call.Configure control context budget period) next formed is =
+    configure_formed m caller control context budget period next formed
+call_formed m caller (call.Bind context thread) next formed is = bind_formed m caller context thread next formed
+call_formed m caller (call.Unbind context) next formed is = unbind_formed m caller context next formed
 
 pub step_formed :
     (m : Machine) (event : Event) (outcome : Outcome) (next : Machine) → IsWellFormed m → Step m event outcome next

@@ -15,6 +15,7 @@ use Rattle.machine.specs.Step.Step.{ends, lacks}
 use Rattle.machine.specs.WellFormed.{IsWellFormed}
 use Rattle.machine.proofs.Admission.{IsCaller, admits}
 use Rattle.machine.proofs.Conditions.{both_done}
+use Rattle.machine.proofs.ContextRow.{BindDone, ConfigureDone, UnbindDone, bind_done, configure_done, unbind_done}
 use Rattle.machine.proofs.PollRow.{PollDone, poll_done}
 use Rattle.machine.proofs.FetchRow.{FetchDone, fetch_done}
 use Rattle.machine.proofs.ReceiveRow.{ReceiveDone, receive_done}
@@ -24,7 +25,10 @@ use Rattle.machine.proofs.RetypeRow.{RetypeDone, retype_done}
 use Rattle.machine.proofs.SendRow.{EndpointCallDone, SendDone, endpoint_call_done, send_done}
 use Rattle.machine.proofs.SignalRow.{SignalDone, signal_done}
 use Rattle.machine.proofs.SlotRows.{Derives, MoveDone, copy_done, mint_done, move_done}
+use Rattle.machine.proofs.SpaceRow.{ClearDone, SetDone, clear_done, set_done}
+use Rattle.machine.proofs.ThreadRow.{ResumeDone, SuspendDone, resume_done, suspend_done}
 use Rattle.machine.proofs.WaitRow.{WaitDone, wait_done}
+use Rattle.machine.proofs.WordsRow.{WriteDone, read_done, write_done}
 
 -- what a call did, row by row
 abbrev pub CallDone : Machine → ObjId → Call → Machine → Type 0
@@ -42,6 +46,15 @@ CallDone m caller (call.Move to from) next = MoveDone m caller to from next
 CallDone m caller (call.Delete slot) next = RemovalDone m caller slot same_slot next
 CallDone m caller (call.Revoke slot) next = RemovalDone m caller slot (is_below m) next
 CallDone m caller (call.Retype untyped kind bits to offset count) next = RetypeDone m caller untyped kind bits to offset count next
+CallDone m caller (call.Read address index) next = next ≡ m
+CallDone m caller (call.Write address index word) next = WriteDone m caller address index word next
+CallDone m caller (call.SetSpace thread space) next = SetDone m caller thread space next
+CallDone m caller (call.ClearSpace thread) next = ClearDone m caller thread next
+CallDone m caller (call.Suspend thread) next = SuspendDone m caller thread next
+CallDone m caller (call.Resume thread) next = ResumeDone m caller thread next
+CallDone m caller (call.Configure control context budget period) next = ConfigureDone m caller control context budget period next
+CallDone m caller (call.Bind context thread) next = BindDone m caller context thread next
+CallDone m caller (call.Unbind context) next = UnbindDone m caller context next
 
 call_done :
     (m : Machine) (caller : ObjId) (which : Call) (made : Made) (next : Machine) → IsWellFormed m → IsCaller m caller
@@ -65,6 +78,16 @@ call_done m caller (call.Delete slot) made next formed is = delete_done m caller
 call_done m caller (call.Revoke slot) made next formed is = revoke_done m caller slot made next
 call_done m caller (call.Retype untyped kind bits to offset count) made next formed is =
     retype_done m caller untyped kind bits to offset count made next
+call_done m caller (call.Read address index) made next formed is = read_done m caller address index made next
+call_done m caller (call.Write address index word) made next formed is = write_done m caller address index word made next
+call_done m caller (call.SetSpace thread space) made next formed is = set_done m caller thread space made next
+call_done m caller (call.ClearSpace thread) made next formed is = clear_done m caller thread made next
+call_done m caller (call.Suspend thread) made next formed is = suspend_done m caller thread made next
+call_done m caller (call.Resume thread) made next formed is = resume_done m caller thread made next
+call_done m caller (call.Configure control context budget period) made next formed is =
+    configure_done m caller control context budget period made next
+call_done m caller (call.Bind context thread) made next formed is = bind_done m caller context thread made next
+call_done m caller (call.Unbind context) made next formed is = unbind_done m caller context made next
 
 -- an event was made: by a caller, whose call was done
 pub record EventDone (m : Machine) (event : Event) (next : Machine) : Type 0 where

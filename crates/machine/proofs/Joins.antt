@@ -1,7 +1,7 @@
 -- What changes where a thread that is idle comes to wait at an object, or for an answer through a reply, read off the machine as
 -- it was: the thread is in a run state, is last in the queue where that waits, and is held by the reply that it names.
 use Rattle.std.proofs.Common.{◌≡◌, ◌≢◌, ℕ, ◌⊎◌, inl, inr, List, [], ◌∷◌, ◌++◌, refl, sym, ap, subst, ◌∙◌}
-use Rattle.std.specs.Prelude.{Option, Some, None, is_some, option_map}
+use Rattle.std.specs.Prelude.{Option, Some, None, is_some, length, option_map}
 use Rattle.std.proofs.lemmas.Option.{none-some, same_Some}
 use Rattle.base.specs.declared.ids.ObjId.{ObjId}
 use Rattle.machine.specs.declared.object.Object.{Object}
@@ -267,7 +267,7 @@ module _ (m next : Machine) (thread : ObjId) (old new : Tcb) (joined : IsJoined 
       record {
         outlines = λ q. outlines_kept q (one_or_two q thread) (names_or_not new.state q);
         queues = λ q. queue_kept q (waits_or_not new.state q);
-        words = rest_words m next joined.rest;
+        words = λ q. ap (option_map length) (rest_words m next joined.rest q);
         caps = rest_caps m next joined.rest;
         parents = rest_parents m next joined.rest;
         number = joined.rest.next;

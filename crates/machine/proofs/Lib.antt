@@ -6,6 +6,11 @@ pub mod Queues
 pub mod Conditions
 pub mod Admission
 pub mod Finding
+pub mod FoundObjects
+pub mod ThreadRow
+pub mod SpaceRow
+pub mod ThreadFormed
+pub mod SpaceFormed
 pub mod NotificationRow
 pub mod PollRow
 pub mod SignalRow
@@ -67,3 +72,8 @@ pub mod ReceiveRow
 pub mod ReplyRow
 pub mod FetchRow
 pub mod MessageRows
+pub mod WordsRow
+pub mod ContextRow
+pub mod WordsFormed
+pub mod ContextLinks
+pub mod ContextsFormed

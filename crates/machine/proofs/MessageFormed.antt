@@ -20,8 +20,8 @@ use Rattle.machine.specs.Changes.{with_tcb}
 use Rattle.machine.specs.Finalising.{IsHolding, aborted, halted}
 use Rattle.machine.specs.Machine.{Machine, object_of, queue_of}
 use Rattle.machine.specs.Objects.{kind_of_object}
-use Rattle.machine.specs.Releasing.{given, ready, with_aborted, with_blocked, with_called, with_given, with_halted}
-use Rattle.machine.specs.Releasing.{with_holder_halted, with_ready, with_released}
+use Rattle.machine.specs.Releasing.{given, ready, suspended, with_aborted, with_blocked, with_called, with_given, with_halted}
+use Rattle.machine.specs.Releasing.{with_holder_halted, with_ready, with_released, with_suspended}
 use Rattle.machine.specs.Step.Fetch.{emptied}
 use Rattle.machine.specs.Step.Receive.{awaiting_message}
 use Rattle.machine.specs.WellFormed.{IsAlike, IsFree, IsIdle, IsReceivingWith, IsThread, IsWellFormed, WaitsAt, WaitsAtKind}
@@ -71,6 +71,9 @@ halted_formed m thread formed = released_any m thread halted formed (λ tcb. (re
 
 pub aborted_formed : (m : Machine) (thread : ObjId) → IsWellFormed m → IsWellFormed (with_aborted m thread)
 aborted_formed m thread formed = released_any m thread aborted formed (λ tcb. (refl, refl, tt))
+
+pub suspended_formed : (m : Machine) (thread : ObjId) → IsWellFormed m → IsWellFormed (with_suspended m thread)
+suspended_formed m thread formed = released_any m thread suspended formed (λ tcb. (refl, refl, tt))
 
 -- the thread that a reply holds is halted
 

@@ -1,6 +1,7 @@
 -- Slots, numbers and ranges fit as before where objects keep their kinds, sizes and addresses, and slots are as they were.
 use Rattle.std.proofs.Common.{◌≡◌, ◌<◌, ◌≤◌, ◌⊎◌, inl, inr, refl, sym, ap, subst, ◌∙◌, arith}
-use Rattle.std.specs.Prelude.{Bool, true, false, cond, List, Option, Some, None, is_some, option_map}
+use Rattle.std.specs.Prelude.{Bool, true, false, cond, List, length, Option, Some, None, is_some, option_map}
+use Rattle.std.proofs.lemmas.Option.{none-some, same_Some}
 use Rattle.base.specs.declared.ids.ObjId.{ObjId}
 use Rattle.base.specs.declared.ids.SlotRef.{SlotRef}
 use Rattle.machine.specs.declared.cap.Cap.{Cap}
@@ -27,14 +28,32 @@ outline (o.Reply answers) = o.Reply (record answers { state = reply.Free })
 outline (o.Context context) = o.Context (record context { share = None; thread = None })
 outline object = object
 
--- objects keep their outlines, queues are where they were, and words and slots are as they were
+-- objects keep their outlines, queues are where they were, words as many as they were, and slots are as they were
 pub record Steady (m next : Machine) : Type 0 where
   pub outlines : (q : ObjId) → option_map outline (object_of next q) ≡ option_map outline (object_of m q)
   pub queues : (q : ObjId) → is_some (queue_of next q) ≡ is_some (queue_of m q)
-  pub words : (q : ObjId) → words_of next q ≡ words_of m q
+  pub words : (q : ObjId) → option_map length (words_of next q) ≡ option_map length (words_of m q)
   pub caps : (slot : SlotRef) → cap_of next slot ≡ cap_of m slot
   pub parents : (slot : SlotRef) → parent_of next slot ≡ parent_of m slot
   pub number : next.next ≡ m.next
+
+-- what shows the same as something that is there is there too
+pub shown_there :
+    {X Y : Type 0} (show : X → Y) (here other : Option X) (x : X) → option_map show here ≡ option_map show other
+    → other ≡ Some x → (y : X) × (here ≡ Some y) × (show y ≡ show x)
+shown_there show None other x e is = absurd (none-some (show x) (e ∙ ap (option_map show) is))
+shown_there show (Some y) other x e is = (y, refl, same_Some (show y) (show x) (e ∙ ap (option_map show) is))
+
+-- one place gets another content that shows the same
+pub shown_kept :
+    {X Y : Type 0} (show : X → Y) (look : ObjId → Option X) (id : ObjId) (old new : X) → look id ≡ Some old
+    → show new ≡ show old → (q : ObjId)
+    → option_map show (cond (same_id q id) (Some new) (look q)) ≡ option_map show (look q)
+shown_kept show look id old new was same q = by_tie (same_id q id) refl where
+  by_tie : (tie : Bool) → same_id q id ≡ tie → option_map show (cond tie (Some new) (look q)) ≡ option_map show (look q)
+  by_tie true e =
+      ap (λ x. Some x) same ∙ sym (ap (option_map show) was) ∙ ap (λ p. option_map show (look p)) (sym (one_id q id e))
+  by_tie false e = refl
 
 -- an object gets another content with the same outline
 pub object_steady :
@@ -42,21 +61,16 @@ pub object_steady :
     → Steady m (with_object m id new)
 object_steady m id old new was same =
     record {
-      outlines = outlines_kept;
+      outlines =
+          λ q.
+          ap (option_map outline) (object_of-with_object m id new q)
+          ∙ shown_kept outline (object_of m) id old new was same q;
       queues = λ q. ap is_some (queue_of-with_object m id new q);
-      words = words_of-with_object m id new;
+      words = λ q. ap (option_map length) (words_of-with_object m id new q);
       caps = cap_of-with_object m id new;
       parents = parent_of-with_object m id new;
       number = number_of-with_object m id new;
     }
-  where
-    at : (q : ObjId) (tie : Bool) → same_id q id ≡ tie
-        → option_map outline (cond tie (Some new) (object_of m q)) ≡ option_map outline (object_of m q)
-    at q true e = ap (λ x. Some x) same ∙ sym (ap (option_map outline) was) ∙ ap (λ p. option_map outline (object_of m p)) (sym (one_id q id e))
-    at q false e = refl
-
-    outlines_kept : (q : ObjId) → option_map outline (object_of (with_object m id new) q) ≡ option_map outline (object_of m q)
-    outlines_kept q = ap (option_map outline) (object_of-with_object m id new q) ∙ at q (same_id q id) refl
 
 -- a queue that is there becomes another
 pub queue_steady :
@@ -65,7 +79,7 @@ queue_steady m id old threads was =
     record {
       outlines = λ q. ap (option_map outline) (object_of-with_queue m id threads q);
       queues = λ q. ap is_some (queue_of-with_queue m id threads q) ∙ at q (same_id q id) refl;
-      words = words_of-with_queue m id threads;
+      words = λ q. ap (option_map length) (words_of-with_queue m id threads q);
       caps = cap_of-with_queue m id threads;
       parents = parent_of-with_queue m id threads;
       number = number_of-with_queue m id threads;
@@ -179,33 +193,13 @@ module _ (m next : Machine) (steady : Steady m next) where
   pub object_before :
       (q : ObjId) (object : Object) → object_of next q ≡ Some object
       → (old : Object) × (object_of m q ≡ Some old) × (outline old ≡ outline object)
-  object_before q object e = by_old (object_of m q) refl where
-    by_old :
-        (old : Option Object) → object_of m q ≡ old → (was : Object) × (object_of m q ≡ Some was) × (outline was ≡ outline object)
-    by_old None p =
-        let none : Some (outline object) ≡ None =
-        sym (ap (option_map outline) e) ∙ steady.outlines q ∙ ap (option_map outline) p in
-        cc
-    by_old (Some old) p =
-        let same : Some (outline object) ≡ Some (outline old) =
-        sym (ap (option_map outline) e) ∙ steady.outlines q ∙ ap (option_map outline) p in
-        (old, p, cc)
+  object_before q object e =
+      shown_there outline (object_of m q) (object_of next q) object (sym (steady.outlines q)) e
 
   pub object_after :
       (q : ObjId) (old : Object) → object_of m q ≡ Some old
       → (object : Object) × (object_of next q ≡ Some object) × (outline object ≡ outline old)
-  object_after q old e = by_new (object_of next q) refl where
-    by_new :
-        (new : Option Object) → object_of next q ≡ new
-        → (object : Object) × (object_of next q ≡ Some object) × (outline object ≡ outline old)
-    by_new None p =
-        let none : Some (outline old) ≡ None =
-        sym (ap (option_map outline) e) ∙ sym (steady.outlines q) ∙ ap (option_map outline) p in
-        cc
-    by_new (Some object) p =
-        let same : Some (outline old) ≡ Some (outline object) =
-        sym (ap (option_map outline) e) ∙ sym (steady.outlines q) ∙ ap (option_map outline) p in
-        (object, p, cc)
+  object_after q old e = shown_there outline (object_of next q) (object_of m q) old (steady.outlines q) e
 
   pub same_kinds : (q : ObjId) → kind_of next q ≡ kind_of m q
   same_kinds q =
@@ -303,7 +297,8 @@ module _ (m next : Machine) (steady : Steady m next) where
             λ id object e.
             let was = object_before id object e in
             let words = fits.words id was.0 was.1 in
-            (words.0, steady.words id ∙ words.1, words.2 ∙ same_in word_count words_in was.0 object was.2);
+            let now = shown_there length (words_of next id) (words_of m id) words.0 (steady.words id) words.1 in
+            (now.0, now.1, now.2 ∙ words.2 ∙ same_in word_count words_in was.0 object was.2);
         queue_of_object =
             λ id threads e.
             let queue = queue_was id (sym (steady.queues id) ∙ ap is_some e) in
@@ -312,7 +307,8 @@ module _ (m next : Machine) (steady : Steady m next) where
             (now.0, now.1);
         words_of_object =
             λ id words e.
-            let was = fits.words_of_object id words (sym (steady.words id) ∙ e) in
+            let before = shown_there length (words_of m id) (words_of next id) words (sym (steady.words id)) e in
+            let was = fits.words_of_object id before.0 before.1 in
             let now = object_after id was.0 was.1 in
             (now.0, now.1);
       }

@@ -1,7 +1,7 @@
 -- What changes where a thread leaves its queue and its reply: read off the machine as it was, object by object and queue by
 -- queue.
 use Rattle.std.proofs.Common.{◌≡◌, ◌≢◌, ℕ, ◌⊎◌, inl, inr, Bool, true, false, not, cond, List, refl, sym, ap, subst, ◌∙◌}
-use Rattle.std.specs.Prelude.{Option, Some, None, Contains, is_some, option_map, if◌then◌else◌}
+use Rattle.std.specs.Prelude.{Option, Some, None, Contains, is_some, length, option_map, if◌then◌else◌}
 use Rattle.std.specs.FinMap as map
 use Rattle.std.proofs.lemmas.List.Elements.{All-contains, filter_passes}
 use Rattle.std.proofs.lemmas.Option.{none-some, same_Some}
@@ -222,7 +222,7 @@ module _ (m next : Machine) (thread : ObjId) (new : Tcb) (released : IsReleased 
         record {
           outlines = λ q. outlines_kept q (one_or_two q thread);
           queues = λ q. ap is_some (released.queues q) ∙ queue_kept (queue_of m q);
-          words = rest_words m next released.rest;
+          words = λ q. ap (option_map length) (rest_words m next released.rest q);
           caps = rest_caps m next released.rest;
           parents = rest_parents m next released.rest;
           number = released.rest.next;

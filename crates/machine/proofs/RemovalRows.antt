@@ -69,7 +69,8 @@ revoke_done m caller address made next e =
       by_cap slot (Some held) is same = inr (held, is, sym same)
 
 -- a slot that was chosen is empty
-chosen_empty : (m : Machine) (chosen : SlotRef → Bool) (slot : SlotRef) → chosen slot ≡ true → cap_of (removed m chosen) slot ≡ None
+pub chosen_empty :
+    (m : Machine) (chosen : SlotRef → Bool) (slot : SlotRef) → chosen slot ≡ true → cap_of (removed m chosen) slot ≡ None
 chosen_empty m chosen slot is =
     cap_of-removed m chosen slot ∙ ap (λ b. cond b None (cap_of m slot)) ((gone_decided m chosen slot).1 (given is))
 

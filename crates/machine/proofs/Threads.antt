@@ -14,7 +14,7 @@ use Rattle.machine.proofs.Ids.{at_itself}
 use Rattle.machine.proofs.LookUps.{object_of-with_object, queue_of-with_object}
 use Rattle.machine.proofs.JoinLinks.{ready_waits_nowhere}
 
-with_tcb_there :
+pub with_tcb_there :
     (m : Machine) (id : ObjId) (old new : Tcb) → IsThread m id old → with_tcb m id new ≡ with_object m id (o.Tcb new)
 unfolding with_tcb
 with_tcb_there m id old new there = rw there refl

@@ -1,7 +1,7 @@
 -- Changes of a machine that leave it as it is where the object isn't there or is of another kind: to untyped memory's watermark, a
--- notification's word, a thread, a reply and a scheduling context, and to who waits; an object goes, and what is going is noted (seL4
+-- notification's word, a thread, a reply and a scheduling context, a frame's words, and to who waits; an object goes, and what is going is noted (seL4
 -- manual, "Untyped Memory", "Notifications", "Threads and Execution", "Endpoints" and "Scheduling Contexts").
-use Rattle.std.specs.Prelude.{ℕ, List, [], ◌∷◌, ◌++◌, filter, not, Option, Some, None, option_and_then, slice_get}
+use Rattle.std.specs.Prelude.{ℕ, List, [], ◌∷◌, ◌++◌, filter, not, Option, Some, None, option_and_then, slice_get, slice_set}
 use Rattle.std.specs.FinMap as map
 use Rattle.base.specs.declared.ids.ObjId.{ObjId}
 use Rattle.machine.specs.declared.object.Object.{Object}
@@ -9,7 +9,7 @@ use Rattle.machine.specs.declared.object.Object.TheVariants as o
 use Rattle.machine.specs.declared.object.Context.{Context}
 use Rattle.machine.specs.declared.object.Reply.{Reply}
 use Rattle.machine.specs.declared.thread.Tcb.{Tcb}
-use Rattle.machine.specs.Machine.{Machine, object_of, queue_of, same_id, with_object, with_queue}
+use Rattle.machine.specs.Machine.{Machine, object_of, queue_of, same_id, with_object, with_queue, words_of}
 
 -- the watermark of untyped memory
 unfoldable pub with_watermark : Machine → ObjId → ℕ → Machine
@@ -45,6 +45,17 @@ with_context m id context = by_content (object_of m id) where
   by_content : Option Object → Machine
   by_content (Some (o.Context _)) = with_object m id (o.Context context)
   by_content _ = m
+
+-- the words of an object's memory
+unfoldable pub with_words : Machine → ObjId → List ℕ → Machine
+with_words m id words = record m { words = map.insert m.words id words }
+
+-- one of them
+unfoldable pub with_word : Machine → ObjId → ℕ → ℕ → Machine
+with_word m id index word = by_words (words_of m id) where
+  by_words : Option (List ℕ) → Machine
+  by_words (Some words) = with_words m id (slice_set words index word)
+  by_words None = m
 
 -- who waits first at an object
 unfoldable pub first_waiting : Machine → ObjId → Option ObjId

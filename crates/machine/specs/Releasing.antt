@@ -70,6 +70,13 @@ given message tcb = record tcb { state = state.Ready; inbox = inbox.Message mess
 abbrev pub with_given : Machine → ObjId → Message → Machine
 with_given m thread message = with_released m thread (given message)
 
+-- so that it can't run, and has nothing to fetch
+abbrev pub suspended : Tcb → Tcb
+suspended tcb = record tcb { state = state.Inactive; inbox = inbox.Empty }
+
+abbrev pub with_suspended : Machine → ObjId → Machine
+with_suspended m thread = with_released m thread suspended
+
 -- the thread that a reply holds is halted, which frees the reply
 unfoldable pub with_holder_halted : Machine → ObjId → Machine
 with_holder_halted m id = by_content (object_of m id) where

@@ -74,6 +74,16 @@ call_words (call.Retype untyped kind bits to offset count) =
     ∷ decimal offset
     ∷ decimal count
     ∷ []
+call_words (call.Read address index) = codes "read" ∷ decimal address ∷ decimal index ∷ []
+call_words (call.Write address index word) = codes "write" ∷ decimal address ∷ decimal index ∷ decimal word ∷ []
+call_words (call.SetSpace thread space) = codes "setspace" ∷ decimal thread ∷ decimal space ∷ []
+call_words (call.ClearSpace thread) = codes "clearspace" ∷ decimal thread ∷ []
+call_words (call.Suspend thread) = codes "suspend" ∷ decimal thread ∷ []
+call_words (call.Resume thread) = codes "resume" ∷ decimal thread ∷ []
+call_words (call.Configure control context budget period) =
+    codes "configure" ∷ decimal control ∷ decimal context ∷ decimal budget ∷ decimal period ∷ []
+call_words (call.Bind context thread) = codes "bind" ∷ decimal context ∷ decimal thread ∷ []
+call_words (call.Unbind context) = codes "unbind" ∷ decimal context ∷ []
 
 -- an event: core, thread, call
 abbrev pub event_words : Event → List (List ℕ)

@@ -36,6 +36,11 @@ pub mod Send
 pub mod Receive
 pub mod Reply
 pub mod Fetch
+pub mod Words
+pub mod Suspend
+pub mod Space
+pub mod Configure
+pub mod Bind
 use Rattle.machine.specs.Step.Signal.{signal_of}
 use Rattle.machine.specs.Step.Poll.{poll_of}
 use Rattle.machine.specs.Step.Wait.{wait_of}
@@ -49,6 +54,11 @@ use Rattle.machine.specs.Step.Send.{endpoint_call_of, send_of}
 use Rattle.machine.specs.Step.Receive.{receive_of}
 use Rattle.machine.specs.Step.Reply.{reply_of}
 use Rattle.machine.specs.Step.Fetch.{fetch_of}
+use Rattle.machine.specs.Step.Words.{read_of, write_of}
+use Rattle.machine.specs.Step.Space.{clear_space_of, set_space_of}
+use Rattle.machine.specs.Step.Suspend.{resume_of, suspend_of}
+use Rattle.machine.specs.Step.Configure.{configure_of}
+use Rattle.machine.specs.Step.Bind.{bind_of, unbind_of}
 
 -- the core, budget and period of a context, if it is one and configured
 abbrev pub share_in : Option Object → Option Share
@@ -98,6 +108,15 @@ call_of m caller (call.Move to from) = move_of m caller to from
 call_of m caller (call.Delete slot) = delete_of m caller slot
 call_of m caller (call.Revoke slot) = revoke_of m caller slot
 call_of m caller (call.Retype untyped kind bits to offset count) = retype_of m caller untyped kind bits to offset count
+call_of m caller (call.Read address index) = read_of m caller address index
+call_of m caller (call.Write address index word) = write_of m caller address index word
+call_of m caller (call.SetSpace thread space) = set_space_of m caller thread space
+call_of m caller (call.ClearSpace thread) = clear_space_of m caller thread
+call_of m caller (call.Suspend thread) = suspend_of m caller thread
+call_of m caller (call.Resume thread) = resume_of m caller thread
+call_of m caller (call.Configure control context budget period) = configure_of m caller control context budget period
+call_of m caller (call.Bind context thread) = bind_of m caller context thread
+call_of m caller (call.Unbind context) = unbind_of m caller context
 
 -- what an event comes to: its thread is admitted, and then makes its call
 unfoldable pub made_by : Machine → Event → Result (Made × Machine) Cause
@@ -130,6 +149,15 @@ takes_memory (call.Move _ _) = Bool.false
 takes_memory (call.Delete _) = Bool.false
 takes_memory (call.Revoke _) = Bool.false
 takes_memory (call.Retype _ _ _ _ _ _) = Bool.true
+takes_memory (call.Read _ _) = Bool.false
+takes_memory (call.Write _ _ _) = Bool.false
+takes_memory (call.SetSpace _ _) = Bool.false
+takes_memory (call.ClearSpace _) = Bool.false
+takes_memory (call.Suspend _) = Bool.false
+takes_memory (call.Resume _) = Bool.false
+takes_memory (call.Configure _ _ _ _) = Bool.false
+takes_memory (call.Bind _ _) = Bool.false
+takes_memory (call.Unbind _) = Bool.false
 
 -- the event could be made, but takes memory that isn't there
 pub record LacksMemory (m : Machine) (event : Event) (outcome : Outcome) (next : Machine) : Type 0 where

@@ -99,6 +99,58 @@ pub enum Call {
         offset: u64,
         count: u64,
     },
+    /// Answers a word of the frame at the address.
+    Read {
+        address: u64,
+        index: u64,
+    },
+    /// Sets a word of the frame at the address.
+    Write {
+        address: u64,
+        index: u64,
+        word: u64,
+    },
+    /// Gives the thread at an address the CNode at another as the root of its capability space (seL4
+    /// manual, seL4_TCB_SetSpace).
+    SetSpace {
+        thread: u64,
+        space: u64,
+    },
+    /// Takes the root of its capability space from the thread at the address.
+    ClearSpace {
+        thread: u64,
+    },
+    /// Stops the thread at the address (seL4 manual, seL4_TCB_Suspend).
+    Suspend {
+        thread: u64,
+    },
+    /// Has the thread at the address go on (seL4 manual, seL4_TCB_Resume).
+    Resume {
+        thread: u64,
+    },
+    /// Gives the scheduling context at an address a share of the core of the control at another (seL4
+    /// manual, seL4_SchedControl_ConfigureFlags).
+    Configure {
+        /// The address of the control.
+        control: u64,
+        /// The address of the scheduling context.
+        context: u64,
+        /// In microseconds.
+        budget: u64,
+        /// In microseconds.
+        period: u64,
+    },
+    /// Has the thread at an address run on the scheduling context at another (seL4 manual,
+    /// seL4_SchedContext_Bind).
+    Bind {
+        context: u64,
+        thread: u64,
+    },
+    /// Has no thread run on the scheduling context at the address (seL4 manual,
+    /// seL4_SchedContext_Unbind).
+    Unbind {
+        context: u64,
+    },
 }
 
 /// A call that a thread makes on a core.

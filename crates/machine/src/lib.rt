@@ -18,6 +18,7 @@ mod slot_address;
 mod spelling;
 mod step_laws;
 mod thread;
+mod thread_laws;
 
 pub use authority_laws::{authority_grows_with_capabilities, rights_alone_decide_kinds};
 pub use call::{Answer, Call, CapData, Event, Log, Made, Outcome};
@@ -41,3 +42,4 @@ pub use step_laws::{
     retypes_keep_machines_well_formed, steps_keep_machines_well_formed, steps_of_one_event_agree,
 };
 pub use thread::{Inbox, Message, Receiving, RunState, Sending, Tcb};
+pub use thread_laws::cleared_root_slots_can_be_filled;

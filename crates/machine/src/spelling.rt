@@ -128,6 +128,24 @@ impl fmt::Display for Call {
                 offset,
                 count,
             } => write!(f, "retype {untyped} {kind} {bits} {to} {offset} {count}"),
+            Call::Read { address, index } => write!(f, "read {address} {index}"),
+            Call::Write {
+                address,
+                index,
+                word,
+            } => write!(f, "write {address} {index} {word}"),
+            Call::SetSpace { thread, space } => write!(f, "setspace {thread} {space}"),
+            Call::ClearSpace { thread } => write!(f, "clearspace {thread}"),
+            Call::Suspend { thread } => write!(f, "suspend {thread}"),
+            Call::Resume { thread } => write!(f, "resume {thread}"),
+            Call::Configure {
+                control,
+                context,
+                budget,
+                period,
+            } => write!(f, "configure {control} {context} {budget} {period}"),
+            Call::Bind { context, thread } => write!(f, "bind {context} {thread}"),
+            Call::Unbind { context } => write!(f, "unbind {context}"),
         }
     }
 }

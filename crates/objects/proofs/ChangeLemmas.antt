@@ -1,11 +1,13 @@
 -- What a machine becomes when one entry is changed or added, or threads are linked otherwise.
 use Rattle.std.proofs.Common.{◌≡◌, ◌≢◌, ℕ, ◌+◌, List, [], replicate, Bool, true, false, cond, length, refl, sym, ap}
 use Rattle.std.proofs.Common.{subst, ◌∙◌}
-use Rattle.std.specs.Prelude.{Option, Some, None, IsSome, option_map, option_and_then, slice_get}
+use Rattle.std.specs.Prelude.{Option, Some, None, IsSome, option_map, option_and_then, slice_get, slice_set}
+use Rattle.std.specs.FinMap as finite
 use Rattle.std.proofs.lemmas.Bool.{false≢true}
 use Rattle.base.specs.declared.ids.ObjId.{ObjId}
 use Rattle.base.specs.declared.ids.SlotRef.{SlotRef}
 use Rattle.machine.specs.declared.object.Object.{Object}
+use Rattle.machine.specs.Changes.{with_words}
 use Rattle.machine.specs.Machine.{Machine, same_id, object_of, queue_of}
 use Rattle.machine.proofs.LookUps.{id_total, id_apart, slot_total, slot_apart}
 use Rattle.machine.specs.Machine.{words_of, cap_of, parent_of, with_object, with_queue, with_new}
@@ -16,7 +18,7 @@ use Rattle.objects.specs.declared.entry.Entry.{Entry}
 use Rattle.objects.specs.declared.links.Ends.{Ends}
 use Rattle.objects.specs.declared.links.Standing.{Standing}
 use Rattle.objects.specs.declared.slots.Slot.{Slot}
-use Rattle.objects.specs.Entries.{slot_at, set_caps_in, set_slot_in, replace_in, empty_slot, new_entry}
+use Rattle.objects.specs.Entries.{slot_at, set_caps_in, set_slot_in, set_word_in, replace_in, empty_slot, new_entry}
 use Rattle.objects.specs.Family.{cap_in, parent_in}
 use Rattle.objects.specs.Links.{ends_of, standing_of, queue_in, AreQueued}
 use Rattle.objects.specs.Queues.{walk, AreQueues}
@@ -171,6 +173,12 @@ module _ (old new : ObjId → Option Entry) (same : (q : ObjId) → option_map l
       ap (λ standing. option_map (λ e. walk standing numbers e.ends.first) (new q)) standing_same
       ∙ part_read links (λ l. walk (λ thread. standing_of (old thread)) numbers l.0.first) (old q) (new q) (same q)
 
+words_of-with_words :
+    (m : Machine) (id : ObjId) (words : List ℕ) (q : ObjId)
+    → words_of (with_words m id words) q ≡ cond (same_id q id) (Some words) (words_of m q)
+unfolding words_of with_words
+words_of-with_words m id words q = finite.get-insert id_total m.words id words q
+
 -- where an empty slot reads as an absent one, a new object changes nothing that is read of slots
 pub added_read :
     {A : Type 0} (old new : ObjId → Option Entry) (object : Object) (id : ObjId) → old id ≡ None
@@ -220,6 +228,31 @@ module _ (numbers : ℕ) (m : Machine) (old new : ObjId → Option Entry) (tells
             ∙ sym (part_set old new id change changed (λ e. e.object) e is q);
         queues = λ q. tells.queues q ∙ sym (queue_kept old new (part_kept old new id change changed links (λ e. refl)) numbers q);
         words = λ q. tells.words q ∙ sym (part_kept old new id change changed (λ e. e.words) (λ e. refl) q);
+        caps =
+            λ q.
+            tells.caps q
+            ∙ ap cap_in (sym (reading_kept old new id change changed (λ e. slice_get e.slots q.index) (λ e. refl) q.holder));
+        parents =
+            λ q.
+            tells.parents q
+            ∙ ap parent_in (sym (reading_kept old new id change changed (λ e. slice_get e.slots q.index) (λ e. refl) q.holder));
+      }
+
+  -- a change of one word
+  pub tells-word :
+      (id : ObjId) (index word : ℕ) → IsChanged old new id (set_word_in index word) → (e : Entry) → old id ≡ Some e
+      → Tells numbers (with_words m id (slice_set e.words index word)) new
+  unfolding object_of queue_of cap_of parent_of with_words
+  tells-word id index word changed e is =
+      let change : Entry → Entry = set_word_in index word in
+      record {
+        objects = λ q. tells.objects q ∙ sym (part_kept old new id change changed (λ e. e.object) (λ e. refl) q);
+        queues = λ q. tells.queues q ∙ sym (queue_kept old new (part_kept old new id change changed links (λ e. refl)) numbers q);
+        words =
+            λ q.
+            words_of-with_words m id (slice_set e.words index word) q
+            ∙ ap (cond (same_id q id) (Some (slice_set e.words index word))) (tells.words q)
+            ∙ sym (part_set old new id change changed (λ e. e.words) e is q);
         caps =
             λ q.
             tells.caps q

@@ -2,7 +2,7 @@
 use Rattle.std.proofs.Common.{◌≡◌, ℕ, ◌+◌, ◌<◌, ◌^◌, ◌≤◌, ◌≢◌, List, [], ◌∷◌, ◌++◌, Bool, true, false, cond, length, refl, sym, ap}
 use Rattle.std.proofs.Common.{map, subst, ◌∙◌, arith, inl, inr}
 use Rattle.std.specs.Prelude.{Option, Some, None, is_some, IsSome, IfSome, option_map}
-use Rattle.std.specs.Prelude.{Contains, filter, not, option_and_then, slice_get, IsTrue}
+use Rattle.std.specs.Prelude.{Contains, filter, not, option_and_then, slice_get, slice_set, IsTrue}
 use Rattle.std.specs.List.{fold, AllByRecursion}
 use Rattle.std.proofs.lemmas.Bool.{false≢true, ltb-true}
 use Rattle.std.proofs.lemmas.Option.{same_Some}
@@ -13,19 +13,19 @@ use Rattle.machine.specs.declared.object.Object.{Object}
 use Rattle.machine.specs.Objects.{slot_count}
 use Rattle.machine.specs.Machine.{Machine, id_cmp, same_id, object_of, has_slot, with_object}
 use Rattle.machine.proofs.LookUps.{id_total, id_apart}
-use Rattle.machine.specs.Machine.{with_queue, with_new, empty_machine, queue_of}
+use Rattle.machine.specs.Machine.{with_queue, with_new, empty_machine, queue_of, words_of}
 use Rattle.machine.proofs.LookUps.{object_of-empty, queue_of-empty}
 use Rattle.machine.proofs.LookUps.{words_of-empty, cap_of-empty, parent_of-empty}
 use Rattle.objects.specs.declared.entry.Entry.{Entry}
 use Rattle.objects.specs.declared.links.Standing.{Standing}
 use Rattle.objects.specs.declared.slots.Slot.{Slot}
 use Rattle.objects.specs.declared.state.State.TheInside.{Inside}
-use Rattle.machine.specs.Changes.{first_waiting, with_waiting, without_first, without_waiting}
+use Rattle.machine.specs.Changes.{first_waiting, with_waiting, with_word, with_words, without_first, without_waiting}
 use Rattle.objects.specs.Counts.{one_more}
-use Rattle.objects.specs.Entries.{Entries, caps_in, entry_of, slot_at, with_entry, replace_in, set_caps_in}
+use Rattle.objects.specs.Entries.{Entries, caps_in, entry_of, slot_at, with_entry, replace_in, set_caps_in, set_word_in}
 use Rattle.std.specs.FinMap as finite
 use Rattle.objects.specs.Entries.{empty_slot, new_entry, with_more}
-use Rattle.objects.specs.Family.{cap_in, links_of, AreKin}
+use Rattle.objects.specs.Family.{links_of, AreKin}
 use Rattle.objects.specs.Links.{ends_of, standing_of, queue_in, AreQueued, pushed, left, popped, quitted}
 use Rattle.objects.specs.Queues.{walk, AreQueues}
 use Rattle.objects.specs.Radices.{HasRadix}
@@ -34,8 +34,8 @@ use Rattle.objects.specs.Waiting.{WaitsNowhere, WaitsThere}
 use Rattle.objects.proofs.Families.{no_kin, same_kin}
 use Rattle.machine.proofs.FiniteLemmas.{by_key, same_from_tie, cond_here, cond_elsewhere}
 use Rattle.objects.proofs.EntryLemmas.{some-none, entry_of-with_entry}
-use Rattle.objects.proofs.StateLemmas.{Tells, present_kept, tells-machine_of, going-machine_of, next-machine_of, same_from_tells, object_at}
-use Rattle.objects.proofs.ChangeLemmas.{added_read, reading_kept, slots_kept, tells-caps, tells-replace, tells-queue, tells-same, tells-new}
+use Rattle.objects.proofs.StateLemmas.{Tells, present_kept, tells-machine_of, going-machine_of, next-machine_of, same_from_tells, object_at, words_at}
+use Rattle.objects.proofs.ChangeLemmas.{added_read, reading_kept, slots_kept, tells-caps, tells-replace, tells-queue, tells-same, tells-new, tells-word}
 use Rattle.objects.proofs.ChangeLemmas.{changed_here, changed_other, part_kept, links, rest, links_kept}
 use Rattle.objects.proofs.QueueLemmas.{cases_id, walk_none, walk_first, more_numbers, longer_walk}
 use Rattle.objects.proofs.LinkLemmas.{Requeues, stands_nowhere, pushed_requeues, pushed_queue, popped_requeues}
@@ -464,6 +464,57 @@ replace_gives s consistent id object some =
     (entry_of-with_entry s.store id (replace_in object)) found.0 found.1)
     (next-machine_of s' ∙ sym (next-with_object (machine_of s) id object ∙ next-machine_of s))
     (going-machine_of s' ∙ sym (going-with_object (machine_of s) id object ∙ going-machine_of s))
+
+-- a word is read, or set
+
+pub word-machine_of :
+    (s : Inside) (id : ObjId) (index : ℕ)
+    → option_and_then (λ words. slice_get words index) (words_of (machine_of s) id)
+    ≡ option_and_then (λ e. slice_get e.words index) (entry_of s.store id)
+word-machine_of s id index =
+    ap (option_and_then (λ words. slice_get words index)) ((tells-machine_of s).words id) ∙ by_entry (entry_of s.store id)
+  where
+    by_entry :
+        (o : Option Entry)
+        → option_and_then (λ words. slice_get words index) (words_at o) ≡ option_and_then (λ e. slice_get e.words index) o
+    by_entry None = refl
+    by_entry (Some e) = refl
+
+next-with_words : (m : Machine) (id : ObjId) (words : List ℕ) → (with_words m id words).next ≡ m.next
+unfolding with_words
+next-with_words m id words = refl
+
+going-with_words : (m : Machine) (id : ObjId) (words : List ℕ) → (with_words m id words).going ≡ m.going
+unfolding with_words
+going-with_words m id words = refl
+
+word_none : (m : Machine) (id : ObjId) (index word : ℕ) → words_of m id ≡ None → with_word m id index word ≡ m
+unfolding with_word
+word_none m id index word e = rw e
+
+word_some :
+    (m : Machine) (id : ObjId) (index word : ℕ) (words : List ℕ) → words_of m id ≡ Some words
+    → with_word m id index word ≡ with_words m id (slice_set words index word)
+unfolding with_word
+word_some m id index word words e = rw e
+
+pub word_gives :
+    (s : Inside) (id : ObjId) (index word : ℕ)
+    → machine_of (with_changed s id (set_word_in index word)) ≡ with_word (machine_of s) id index word
+word_gives s id index word = by_entry (entry_of s.store id) refl where
+  s' : Inside
+  s' = with_changed s id (set_word_in index word)
+
+  by_entry : (o : Option Entry) → entry_of s.store id ≡ o → machine_of s' ≡ with_word (machine_of s) id index word
+  by_entry None is = rw is (sym (word_none (machine_of s) id index word ((tells-machine_of s).words id ∙ ap words_at is)))
+  by_entry (Some e) is =
+      let m' : Machine = with_words (machine_of s) id (slice_set e.words index word) in
+      same_from_tells _ _ m' (entry_of s'.store) (tells-machine_of s')
+      (tells-word s.next (machine_of s) (entry_of s.store) (entry_of s'.store) (tells-machine_of s) id index word
+      (entry_of-with_entry s.store id (set_word_in index word)) e is)
+      (next-machine_of s' ∙ sym (next-with_words (machine_of s) id _ ∙ next-machine_of s))
+      (going-machine_of s' ∙ sym (going-with_words (machine_of s) id _ ∙ going-machine_of s))
+      ∙ sym (word_some (machine_of s) id index word e.words ((tells-machine_of s).words id ∙ ap words_at is))
 
 -- a thread comes to wait, or leaves
 

@@ -10,9 +10,9 @@ use Rattle.base.specs.declared.ids.SlotRef.{SlotRef}
 use Rattle.machine.specs.declared.cap.Cap.{Cap}
 use Rattle.machine.specs.declared.object.Object.{Object}
 use Rattle.machine.specs.declared.object.Object.TheVariants as o
-use Rattle.machine.specs.Changes.{with_waiting, without_first, without_object, without_waiting}
+use Rattle.machine.specs.Changes.{with_waiting, with_word, with_words, without_first, without_object, without_waiting}
 use Rattle.machine.specs.Counts.{present, objects_in, slots_in, threads_in}
-use Rattle.machine.specs.Machine.{Machine, empty_machine, id_cmp, object_of, queue_of, with_cap, with_new, with_object}
+use Rattle.machine.specs.Machine.{Machine, empty_machine, id_cmp, object_of, queue_of, with_cap, with_new, with_object, words_of}
 use Rattle.machine.specs.Machine.{with_parent, with_queue, without_cap, without_parent}
 use Rattle.machine.specs.Objects.{slot_count, thread_count}
 use Rattle.machine.proofs.FiniteSums.{sum_of, sum-empty, sum-insert, sum-remove, sum-set}
@@ -123,6 +123,17 @@ counts-with_parent m slot parent = refl
 pub counts-without_parent : (m : Machine) (slot : SlotRef) → counts_in (without_parent m slot) ≡ counts_in m
 unfolding objects_in slots_in threads_in without_parent
 counts-without_parent m slot = refl
+
+counts-with_words : (m : Machine) (id : ObjId) (words : List ℕ) → counts_in (with_words m id words) ≡ counts_in m
+unfolding objects_in slots_in threads_in with_words
+counts-with_words m id words = refl
+
+pub counts-with_word : (m : Machine) (id : ObjId) (index word : ℕ) → counts_in (with_word m id index word) ≡ counts_in m
+unfolding with_word
+counts-with_word m id index word = by_words (words_of m id) refl where
+  by_words : (o : Option (List ℕ)) → words_of m id ≡ o → counts_in (with_word m id index word) ≡ counts_in m
+  by_words None is = rw is refl
+  by_words (Some words) is = rw is (counts-with_words m id _)
 
 counts-with_queue : (m : Machine) (id : ObjId) (threads : List ObjId) → counts_in (with_queue m id threads) ≡ counts_in m
 unfolding objects_in slots_in threads_in with_queue

@@ -10,7 +10,8 @@ use Rattle.base.specs.declared.ids.SlotRef.{SlotRef}
 use Rattle.machine.specs.declared.cap.Cap.{Cap}
 use Rattle.machine.specs.declared.object.Object.{Object}
 use Rattle.machine.specs.Counts.{caps_to, objects_in, slots_in, threads_in}
-use Rattle.machine.specs.Machine.{Machine, cap_of, has_slot, object_of, with_cap, with_object, without_cap}
+use Rattle.machine.specs.Changes.{with_word, with_words}
+use Rattle.machine.specs.Machine.{Machine, cap_of, has_slot, object_of, with_cap, with_object, without_cap, words_of}
 use Rattle.machine.specs.Objects.{slot_count, thread_count}
 use Rattle.machine.proofs.CapCounts.{caps_to-empty, caps_to-with_cap, caps_to-with_new, caps_to-with_object, caps_to-without_cap}
 use Rattle.machine.proofs.CapCounts.{none_for_others, one_for_its_own}
@@ -20,7 +21,7 @@ use Rattle.objects.specs.declared.counts.Counts.{Counts}
 use Rattle.objects.specs.declared.slots.Slot.{Slot}
 use Rattle.objects.specs.declared.state.State.TheInside.{Inside}
 use Rattle.objects.specs.Counts.{counts_in, one_more, AreOfNumbers}
-use Rattle.objects.specs.Entries.{caps_in, entry_of, new_entry, replace_in, set_caps_in}
+use Rattle.objects.specs.Entries.{caps_in, entry_of, new_entry, replace_in, set_caps_in, set_word_in}
 use Rattle.objects.specs.Family.{with_slot}
 use Rattle.objects.specs.Radices.{HasRadix}
 use Rattle.objects.specs.State.{machine_of, IsConsistent, IsCounted, IsSound, IsTallied}
@@ -29,8 +30,8 @@ use Rattle.objects.proofs.CapsKept.{CapsKept, caps-set, caps-with_entry, caps-wi
 use Rattle.objects.proofs.ChangeLemmas.{bulk}
 use Rattle.objects.proofs.ConsistentLemmas.{after, added_gives, caps_give, caps_same, empty_gives, found_there, none_of, replace_gives}
 use Rattle.objects.proofs.ConsistentLemmas.{vacant_number, with_added, with_all_added, with_all_is, with_changed, IsConsistent-added}
-use Rattle.objects.proofs.ConsistentLemmas.{IsConsistent-all_added, IsConsistent-changed, IsConsistent-empty, IsConsistent-replace}
-use Rattle.objects.proofs.CountLemmas.{counts-empty, counts-with_cap, counts-with_new, counts-with_object, counts-without_cap}
+use Rattle.objects.proofs.ConsistentLemmas.{IsConsistent-all_added, IsConsistent-changed, IsConsistent-empty, IsConsistent-replace, word_gives}
+use Rattle.objects.proofs.CountLemmas.{counts-empty, counts-with_cap, counts-with_new, counts-with_object, counts-with_word, counts-without_cap}
 use Rattle.objects.proofs.CountLemmas.{few_slots, few_threads}
 use Rattle.objects.proofs.SlotLemmas.{changes_slot}
 use Rattle.objects.proofs.StateLemmas.{next-machine_of, object_at, present_kept, tells-machine_of}
@@ -234,6 +235,28 @@ sound_replace s sound id object radix some slots threads =
         → counts_in (with_object (machine_of s) id object) ≡ counts_in (machine_of s)
     by_object None is some slots threads = absurd (false≢true some)
     by_object (Some old) is some slots threads = counts-with_object (machine_of s) id old object is slots threads
+
+-- a word is set
+
+caps_to-with_words :
+    (m : Machine) (at : ObjId) (words : List ℕ) (id : ObjId) → caps_to (with_words m at words) id ≡ caps_to m id
+unfolding caps_to with_words
+caps_to-with_words m at words id = refl
+
+caps_to-with_word : (m : Machine) (at : ObjId) (index word : ℕ) (id : ObjId) → caps_to (with_word m at index word) id ≡ caps_to m id
+unfolding with_word
+caps_to-with_word m at index word id = by_words (words_of m at) refl where
+  by_words : (o : Option (List ℕ)) → words_of m at ≡ o → caps_to (with_word m at index word) id ≡ caps_to m id
+  by_words None is = rw is refl
+  by_words (Some words) is = rw is (caps_to-with_words m at _ id)
+
+pub sound_word :
+    (s : Inside) → IsSound s → (id : ObjId) (index word : ℕ) → IsSound (with_changed s id (set_word_in index word))
+sound_word s sound id index word =
+    sound_after s (with_changed s id (set_word_in index word)) sound
+    (IsConsistent-changed s sound.consistent id (set_word_in index word) (λ e is sized. sized) (λ e. refl) (λ e. refl)) refl refl refl
+    (caps-with_entry s.store id (set_word_in index word) (λ e. refl)) _ (word_gives s id index word)
+    (counts-with_word (machine_of s) id index word) (caps_to-with_word (machine_of s) id index word)
 
 -- those that are going are others
 

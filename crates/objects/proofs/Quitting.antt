@@ -1,5 +1,5 @@
 -- Links of queues stay links of queues where any thread of one leaves it, and the others stay in order.
-use Rattle.std.proofs.Common.{◌≡◌, ◌≢◌, ℕ, zero, suc, ◌+◌, ◌<◌, ◌≤◌, ◌⊎◌, inl, inr, Bool, true, false, List, [], ◌∷◌, refl, sym, ap, subst}
+use Rattle.std.proofs.Common.{◌≡◌, ◌≢◌, ℕ, zero, suc, ◌+◌, ◌<◌, ◌≤◌, ◌⊎◌, inl, inr, Bool, true, false, List, ◌∷◌, refl, sym, ap, subst}
 use Rattle.std.proofs.Common.{◌∙◌, arith, cond}
 use Rattle.std.specs.Prelude.{Option, Some, None, Contains, filter, not}
 use Rattle.slab.proofs.SlabLemmas.{Contains-cons_cases}
@@ -11,7 +11,7 @@ use Rattle.objects.specs.declared.links.Ends.{Ends}
 use Rattle.objects.specs.declared.links.Standing.{Standing}
 use Rattle.objects.specs.Links.{end_after}
 use Rattle.objects.specs.Queues.{walk, AreQueues}
-use Rattle.objects.proofs.QueueLemmas.{cases_id, cases_some, walk_none, walk_ends, walk_same}
+use Rattle.objects.proofs.QueueLemmas.{cases_id, cases_some, walk_ends, walk_same}
 
 -- the thread t leaves the queue q, and its neighbours come together
 pub record Quits (ends ends' : ObjId → Ends) (standing standing' : ObjId → Standing) (q t : ObjId) : Type 0 where

@@ -1,5 +1,5 @@
 -- The entry of each object, what it says, and what the entries are after a change to one.
-use Rattle.std.specs.Prelude.{ℕ, ◌+◌, List, [], ◌∷◌, Option, Some, None, option_map, option_and_then, slice_get, replicate}
+use Rattle.std.specs.Prelude.{ℕ, ◌+◌, List, [], ◌∷◌, Option, Some, None, option_map, option_and_then, slice_get, slice_set, replicate}
 use Rattle.std.specs.FinMap as map
 use Rattle.std.specs.FinMap.{FinMap}
 use Rattle.base.specs.declared.ids.ObjId.{ObjId}
@@ -39,6 +39,9 @@ set_ends_in ends entry = record entry { ends = ends }
 
 abbrev pub set_standing_in : Standing → Entry → Entry
 set_standing_in standing entry = record entry { standing = standing }
+
+abbrev pub set_word_in : ℕ → ℕ → Entry → Entry
+set_word_in index word entry = record entry { words = slice_set entry.words index word }
 
 abbrev pub set_caps_in : ℕ → Entry → Entry
 set_caps_in caps entry = record entry { caps = caps }

@@ -1,6 +1,7 @@
 //! Where the entry of an object is kept: a hash map from numbers to places, and the entries at these.
 ghost use Rattle.std.specs.Prelude.{◌≡◌, ◌+◌, ℕ, option_copied, OnOk};
-ghost use Rattle.objects.specs.Entries.{set_slot_in, replace_in, set_ends_in, set_standing_in, set_caps_in};
+ghost use Rattle.objects.specs.Entries.{set_slot_in, replace_in, set_ends_in, set_standing_in, set_word_in};
+ghost use Rattle.objects.specs.Entries.{set_caps_in};
 ghost use Rattle.objects.specs.Places.{places_in, placed, with_placed, AddsEntry, RemovesEntry, SameEntries, HasRoom};
 
 use crate::entry::Entry;
@@ -69,6 +70,23 @@ pub fn set_standing(
     if let Some(place) = places.get(&thread.0) {
         if let Some(entry) = entries.get_mut(*place) {
             entry.standing = standing;
+        }
+    }
+}
+
+/// Sets a word of the object, if both are present.
+pub fn set_word(
+    places: &HashMap<u64, usize>,
+    entries: &mut Slab<Entry>,
+    id: ObjId,
+    index: u64,
+    word: u64,
+)
+    ensures { entries.new ≡ with_placed (places_in places.now) entries.old id (set_word_in index word) }
+{
+    if let Some(place) = places.get(&id.0) {
+        if let Some(entry) = entries.get_mut(*place) {
+            entry.words.set(index, word);
         }
     }
 }

@@ -47,10 +47,10 @@ impl State {
     ghost use Rattle.machine.specs.declared.object.CNode.{CNode};
     ghost use Rattle.machine.specs.declared.object.Object.TheVariants as o;
     ghost use Rattle.std.specs.Prelude.{◌≡◌, ◌≢◌, ◌+◌, ◌*◌, ◌^◌, ◌<◌, ◌≤◌, length, IsTrue, IfOk, OnErr, OnOk, option_copied};
-    ghost use Rattle.std.specs.Prelude.{Some, None, IsSome, IfSome, IfNone, slice_get};
+    ghost use Rattle.std.specs.Prelude.{Some, None, IsSome, IfSome, IfNone, option_and_then, slice_get};
     ghost use Rattle.std.specs.List.{fold};
     ghost use Rattle.machine.specs.Machine.{empty_machine, object_of, cap_of, parent_of, has_slot, with_new, with_cap};
-    ghost use Rattle.machine.specs.Machine.{with_parent, with_object, without_cap, without_parent};
+    ghost use Rattle.machine.specs.Machine.{with_parent, with_object, without_cap, without_parent, words_of};
     ghost use Rattle.machine.specs.Tree.{IsAlone, IsRanked};
     ghost use Rattle.machine.specs.WellFormed.{Descends};
     ghost use Rattle.machine.specs.Counts.{objects_in, slots_in, threads_in, caps_to};
@@ -58,7 +58,7 @@ impl State {
     ghost use Rattle.objects.specs.Waiting.{WaitsNowhere, WaitsThere};
     ghost use Rattle.objects.specs.Walks.{IsBehind};
     ghost use Rattle.machine.specs.Changes.{first_waiting, with_pending, with_tcb, with_reply, with_context, with_waiting, without_first};
-    ghost use Rattle.machine.specs.Changes.{with_going, with_none_going, with_watermark, without_object, without_waiting};
+    ghost use Rattle.machine.specs.Changes.{with_going, with_none_going, with_watermark, with_word, without_object, without_waiting};
 
     /// A state with no objects, which takes its memory from the allocator.
     pub fn new(alloc: Global) -> State
@@ -137,6 +137,14 @@ impl State {
         let _ = &self.next;
     }
 
+    /// The number of each object is below the next one.
+    pub fn objects_are_numbered(&self)
+        ensures { (id : Id) → IsSome (object_of self.now id) → id.0 < self.now.next }
+    {
+        // Reading a field makes known what the type keeps.
+        let _ = &self.next;
+    }
+
     /// The object of that number, if there is one.
     pub fn object(&self, id: ObjId) -> Option<&Object>
         ensures { option_copied result ≡ object_of self.now id }
@@ -167,6 +175,13 @@ impl State {
             Some(object) => slot.index < object.slot_count(),
             None => false,
         }
+    }
+
+    /// The object's word at the index; none where the object isn't there or has fewer words.
+    pub fn word(&self, id: ObjId, index: u64) -> Option<u64>
+        ensures { result ≡ option_and_then (λ words. slice_get words index) (words_of self.now id) }
+    {
+        self.store.word(id, index)
     }
 
     /// The thread that has waited longest at the object, if one waits.
@@ -407,6 +422,14 @@ impl State {
         if let Some(Object::Context(_)) = self.object(id) {
             self.replace(id, Object::Context(context));
         }
+    }
+
+    /// Sets the object's word at the index. Does nothing where the object isn't there or has fewer
+    /// words.
+    pub fn set_word(&mut self, id: ObjId, index: u64, word: u64)
+        ensures { self.new ≡ with_word self.old id index word }
+    {
+        self.store.set_word(id, index, word);
     }
 
     /// Puts the thread behind those that wait at the object. Does nothing where there is no such

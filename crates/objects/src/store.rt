@@ -46,12 +46,13 @@ impl Model for Store {
 impl Store {
     ghost use Rattle.std.specs.FinMap as finite;
     ghost use Rattle.objects.specs.Entries.{entry_of, slot_at, with_entry, set_slot_in, replace_in};
-    ghost use Rattle.objects.specs.Entries.{new_entry, with_more, set_ends_in, set_standing_in, set_caps_in, caps_in};
+    ghost use Rattle.objects.specs.Entries.{new_entry, with_more, set_ends_in, set_standing_in, set_word_in, set_caps_in};
+    ghost use Rattle.objects.specs.Entries.{caps_in};
     ghost use Rattle.objects.specs.Family.{cap_in, parent_in, links_at, with_slot, with_links, attached, leaving, detached};
     ghost use Rattle.objects.specs.Links.{standing_of, with_standing, pushed, popped, quitted};
     ghost use Rattle.objects.specs.Radices.{HasRadix};
     ghost use Rattle.base.specs.declared.limits.TheConstants.{OBJECT_NUMBERS};
-    ghost use Rattle.std.specs.Prelude.{◌+◌, ◌≤◌, length, map};
+    ghost use Rattle.std.specs.Prelude.{◌+◌, ◌≤◌, length, map, slice_get};
     ghost use Rattle.std.specs.List.{AllByRecursion};
 
     /// No entries.
@@ -122,6 +123,13 @@ impl Store {
         ensures { result ≡ option_map (λ entry. entry.ends) (entry_of self.now id) }
     {
         Some(self.entry(id)?.ends)
+    }
+
+    /// The object's word at the index.
+    pub fn word(&self, id: ObjId, index: u64) -> Option<u64>
+        ensures { result ≡ option_and_then (λ entry. slice_get entry.words index) (entry_of self.now id) }
+    {
+        self.entry(id)?.words.get(index)
     }
 
     /// How many capabilities there are for the object.
@@ -259,6 +267,13 @@ impl Store {
         ensures { self.new ≡ with_entry self.old id (replace_in object) }
     {
         places::replace(&self.places, &mut self.entries, id, object);
+    }
+
+    /// Sets the object's word at the index, if both are present.
+    pub fn set_word(&mut self, id: ObjId, index: u64, word: u64)
+        ensures { self.new ≡ with_entry self.old id (set_word_in index word) }
+    {
+        places::set_word(&self.places, &mut self.entries, id, index, word);
     }
 
     /// Says how many capabilities there are for the object, if it is present.

@@ -1,4 +1,4 @@
-ghost use Rattle.std.specs.Prelude.{◌≡◌, replicate, IfOk};
+ghost use Rattle.std.specs.Prelude.{◌≡◌, replicate, slice_get, slice_set, IfOk};
 
 use std::alloc::{AllocError, Global};
 use std::marker::Model;
@@ -25,5 +25,21 @@ impl Words {
         let mut items = Vec::new(alloc);
         items.resize(count as usize, 0)?;
         Ok(Words { items })
+    }
+
+    /// The word at the index.
+    pub fn get(&self, index: u64) -> Option<u64>
+        ensures { result ≡ slice_get self.now index }
+    {
+        self.items.get(index as usize).copied()
+    }
+
+    /// Sets the word at the index, if there is one.
+    pub fn set(&mut self, index: u64, word: u64)
+        ensures { self.new ≡ slice_set self.old index word }
+    {
+        if let Some(place) = self.items.get_mut(index as usize) {
+            *place = word;
+        }
     }
 }

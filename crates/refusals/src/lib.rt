@@ -1,4 +1,4 @@
-//! The calls of a run, of a check, of a verification and of a closing, whose memory is refused: tests alone, for
+//! The calls of a run, of a replay, of a check, of a verification and of a closing, whose memory is refused: tests alone, for
 //! `tests/refuse-memory`, which has their allocations refused one by one.
 //!
 //! A test `CALL_after_COUNT` makes so many allocations of its own, then prepares what the call is given,
@@ -27,6 +27,8 @@ mod logs;
 mod memory;
 #[cfg(test)]
 mod readers;
+#[cfg(test)]
+mod replays;
 #[cfg(test)]
 mod retypes;
 #[cfg(test)]

@@ -1,7 +1,7 @@
-//! `evtext::read_script`.
-use crate::bell::{SCRIPT, events};
+//! `evtext::read_script` and `read_log`.
+use crate::bell::{DONE, LOG, SCRIPT, WORD, events};
 use crate::memory::{UNREAD, answered, are, lend, spend};
-use evtext::read_script;
+use evtext::{read_log, read_script};
 use std::process::Abort;
 use std::test::Fail;
 
@@ -15,4 +15,16 @@ fn reads_the_script<R: Abort + AllocGlobal>(rt: &R, count: u64) -> Result<(), Fa
 #[test]
 fn read_script_after_100(rt: HostRuntime) -> Result<(), Fail> {
     reads_the_script(&rt, 100)
+}
+
+fn reads_the_log<R: Abort + AllocGlobal>(rt: &R, count: u64) -> Result<(), Fail> {
+    spend(rt.alloc(), count)?;
+    let [signal, poll] = events()?;
+    let read = answered(rt, read_log(rt.alloc(), LOG.as_bytes()), UNREAD);
+    lend(read, |read| are(rt, read, &[(signal, DONE), (poll, WORD)]))
+}
+
+#[test]
+fn read_log_after_100(rt: HostRuntime) -> Result<(), Fail> {
+    reads_the_log(&rt, 100)
 }

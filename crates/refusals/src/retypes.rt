@@ -1,12 +1,12 @@
-//! `kernel::step` and `kernel::retype_refusal` of an event that makes objects.
+//! `kernel::step`, `kernel::retype_refusal` and `kernel::replay` of an event that makes objects.
 ghost use Rattle.machine.specs.WellFormed.{IsWellFormed};
 
 use crate::bell::core;
-use crate::memory::{NO_MEMORY, lend, prepared, refused, spend};
+use crate::memory::{NO_MEMORY, answered, lend, prepared, refused, spend};
 use crate::states::booted;
 use base::{ObjId, Refusal, SlotRef};
 use captext::read_table;
-use kernel::{retype_refusal, step};
+use kernel::{replay, retype_refusal, step};
 use machine::{Answer, Call, Event, MemoryKind, Object, Outcome};
 use objects::State;
 use std::process::Abort;
@@ -171,4 +171,36 @@ fn step_after_70(rt: HostRuntime) -> Result<(), Fail> {
 #[test]
 fn step_after_65(rt: HostRuntime) -> Result<(), Fail> {
     steps_of_events(&rt, 65)
+}
+
+/// Replays a log in which an object is made.
+fn replays_on(rt: &impl Abort, state: &mut State) -> Result<(), Fail>
+    requires { IsWellFormed state.old }
+{
+    let entries = [(
+        event(MemoryKind::Endpoint, 3, 1)?,
+        Outcome::Done(Answer::Count(1)),
+    )];
+    let stop = answered(rt, replay(state, &entries), NO_MEMORY)?;
+    assert_eq!(rt; stop, None);
+    Ok(())
+}
+
+fn replays_after_boot<R: Abort + AllocGlobal>(rt: &R, table: &Table) -> Result<(), Fail> {
+    let mut state = booted(rt, table)?;
+    replays_on(rt, &mut state)
+}
+
+fn replays_of_events<R: Abort + AllocGlobal>(rt: &R, count: u64) -> Result<(), Fail> {
+    lend(table(rt, count), |table| replays_after_boot(rt, table))
+}
+
+#[test]
+fn replay_after_70(rt: HostRuntime) -> Result<(), Fail> {
+    replays_of_events(&rt, 70)
+}
+
+#[test]
+fn replay_after_65(rt: HostRuntime) -> Result<(), Fail> {
+    replays_of_events(&rt, 65)
 }

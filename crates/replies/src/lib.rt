@@ -8,4 +8,4 @@ mod release;
 
 pub use answering::reply;
 pub use holding::{link, unlink, wait_with};
-pub use release::{abort, give, halt, resume};
+pub use release::{abort, give, halt, resume, suspend};

@@ -2,6 +2,7 @@ ghost use Rattle.std.specs.Prelude.{◌≡◌};
 ghost use Rattle.base.specs.declared.ids.ObjId.{ObjId as Id};
 ghost use Rattle.machine.specs.WellFormed.{WaitsAt};
 ghost use Rattle.machine.specs.Releasing.{IsInItsQueue, unblocked, with_aborted, with_given, with_halted, with_ready};
+ghost use Rattle.machine.specs.Releasing.{with_suspended};
 ghost use Rattle.objects.specs.Waiting.{WaitsThere};
 
 use crate::holding::free;
@@ -78,6 +79,24 @@ pub fn resume(state: &mut State, thread: ObjId)
             ..tcb
         };
         state.set_tcb(thread, ready);
+    }
+}
+
+/// Has a thread leave its queue and its reply, and run no more until it is resumed (seL4 manual,
+/// "Threads and Execution"). What was in its inbox is lost. Does nothing where there is no such thread.
+#[tactic(auto, unfolding(machine::specs::Releasing::with_released))]
+pub fn suspend(state: &mut State, thread: ObjId)
+    requires { IsInItsQueue state.old thread }
+    ensures { state.new ≡ with_suspended state.old thread }
+{
+    if let Some(&Object::Tcb(tcb)) = state.object(thread) {
+        unblock(state, thread, tcb.state);
+        let suspended = Tcb {
+            state: RunState::Inactive,
+            inbox: Inbox::Empty,
+            ..tcb
+        };
+        state.set_tcb(thread, suspended);
     }
 }
 

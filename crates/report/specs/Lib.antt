@@ -5,5 +5,6 @@ pub mod Relations
 pub mod Files
 pub mod Commands
 pub mod Answers
+pub mod Replays
 pub mod Closings
 pub mod Questions

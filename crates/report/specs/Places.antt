@@ -46,4 +46,6 @@ place_names t (denial.Capability slot kind label) = slot_name t slot ∷ kind_na
 place_names t (denial.Root slot label) = slot_name t slot ∷ codes "space" ∷ label_name t label ∷ []
 place_names t (denial.Pair child parent) = slot_name t parent ∷ slot_name t child ∷ []
 place_names t (denial.Binding thread context) = object_name t thread ∷ object_name t context ∷ []
+place_names t (denial.Holding reply thread) = object_name t reply ∷ object_name t thread ∷ []
+place_names t (denial.Recorded thread kind label) = object_name t thread ∷ kind_name kind ∷ label_name t label ∷ []
 place_names t (denial.Certificate line) = decimal line ∷ []

@@ -51,6 +51,28 @@ check_data t cut full =
     (member (codes "full") (relation_data t full)
     (member (codes "verdict") (string (codes "accept")) no_members))))
 
+-- a legal log: how many entries it has, and that its last state lies within the policy
+abbrev pub within_data : ℕ → Data
+within_data entries =
+    object (member (codes "entries") (number (unsigned entries))
+    (member (codes "state") (string (codes "within"))
+    (member (codes "verdict") (string (codes "legal")) no_members)))
+
+-- the same, where that lies outside: the place, and the rule that is broken there
+abbrev pub outside_data : ℕ → List ℕ → List (List ℕ) → Data
+outside_data entries rule place =
+    object (member (codes "entries") (number (unsigned entries))
+    (member (codes "place") (names_data place)
+    (member (codes "rule") (string rule)
+    (member (codes "state") (string (codes "outside"))
+    (member (codes "verdict") (string (codes "legal")) no_members)))))
+
+-- a log that isn't legal: the first entry, from 1, that is no step
+abbrev pub illegal_data : ℕ → Data
+illegal_data entry =
+    object (member (codes "entry") (number (unsigned entry))
+    (member (codes "verdict") (string (codes "illegal")) no_members))
+
 -- an acceptance, and no more
 abbrev pub accept_data : Data
 accept_data = object (member (codes "verdict") (string (codes "accept")) no_members)

@@ -117,17 +117,17 @@ fn why_answer(alloc: Global, table: &Table, why: &Why) -> Result<Answer, Refusal
         Why::Full(edges) => Ok(Answer {
             text: headed(alloc, "full\n", table, edges)?,
             status: 0,
-            denial: None,
+            finding: None,
         }),
         Why::Cut(edges) => Ok(Answer {
             text: headed(alloc, "cut\n", table, edges)?,
             status: 1,
-            denial: None,
+            finding: None,
         }),
         Why::Nothing => Ok(Answer {
             text: headed(alloc, "none\n", table, &[])?,
             status: 1,
-            denial: None,
+            finding: None,
         }),
     }
 }

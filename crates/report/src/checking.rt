@@ -9,9 +9,9 @@ use crate::command::{Answer, Command, NoMemory, denial_text};
 use crate::engine::carry_out;
 use crate::load::{Loaded, NoFile};
 use crate::reports::check_report;
-use crate::{Asked, End, File, Listener, Sink, Source};
+use crate::{Asked, End, File, Finding, Listener, Sink, Source};
 use captext::Fault;
-use checker::{Certificate, Gate, Verdict};
+use checker::{Certificate, CheckError, Gate, Verdict};
 use policy::Policy;
 use std::alloc::Global;
 use std::thread::Threads;
@@ -56,6 +56,7 @@ where
         (input P.remaining P.failed policy.old policy.new) (output O.contents O.failed O.is_flushed out.old out.new) result }
 {
     let judge = |loaded: &Loaded<()>| -> Result<Answer, NoMemory>
+        requires workers { (1 ≤ workers) × (workers ≤ 16) }
         ensures right { IfOk result (λ answer.
             answers.Checks on_accept loaded.now.table loaded.now.policy answer.text.items answer.status) }
         ensures exit { IfOk result (λ answer. answer.status ≤ 2) }
@@ -114,7 +115,7 @@ impl<J: Fn(&Loaded<()>) -> Result<Answer, NoMemory>> Command for Checking<'_, J>
     }
 }
 
-/// The answer to the verdict.
+/// The answer to the verdict. There is none only where memory is refused, as the number of workers is right.
 fn judged<R: Threads + Sync, G: Gate + Sync>(
     rt: &R,
     alloc: Global,
@@ -123,13 +124,16 @@ fn judged<R: Threads + Sync, G: Gate + Sync>(
     workers: usize,
     gate: &G,
 ) -> Result<Answer, NoMemory>
+    requires workers { (1 ≤ workers) × (workers ≤ 16) }
     ensures right { IfOk result (λ answer.
         answers.Checks on_accept loaded.now.table loaded.now.policy answer.text.items answer.status) }
     ensures exit { IfOk result (λ answer. answer.status ≤ 2) }
 {
     match checker::check(rt, alloc, &loaded.table, &loaded.policy, workers, gate) {
         Ok(verdict) => told(alloc, &loaded.table, &loaded.policy, on_accept, &verdict),
-        Err(_) => Err(NoMemory),
+        Err(CheckError::NoMemory) => Err(NoMemory),
+        // There are 1 to 16 workers.
+        Err(CheckError::WorkerCount) => unreachable!(),
     }
 }
 
@@ -149,12 +153,12 @@ fn told(
         Verdict::Accept(_, certificate) => Ok(Answer {
             text: accepted_text(alloc, table, policy, on_accept, certificate)?,
             status: 0,
-            denial: None,
+            finding: None,
         }),
         Verdict::Deny(denial) => Ok(Answer {
             text: denial_text(alloc, table, denial)?,
             status: 1,
-            denial: Some(*denial),
+            finding: Some(Finding::Denied(*denial)),
         }),
     }
 }

@@ -170,7 +170,7 @@ fn closed(
         OnClose::Policy => Ok(Answer {
             text: write_policy(alloc, &closed, table)?,
             status: 0,
-            denial: None,
+            finding: None,
         }),
         OnClose::Missing => missing_answer(alloc, table, policy, &closed),
     }
@@ -190,7 +190,7 @@ fn missing_answer(
     Ok(Answer {
         text: write_edges(alloc, &missing, table)?,
         status: if missing.is_empty() { 0 } else { 1 },
-        denial: None,
+        finding: None,
     })
 }
 

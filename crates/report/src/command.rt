@@ -12,19 +12,19 @@ ghost use Rattle.words.specs.declared.faults.Fault.{Fault};
 use crate::load::Loaded;
 use crate::places::place_names;
 use crate::reports::denial_report;
-use crate::{Asked, File};
+use crate::{Asked, File, Finding};
 use base::Refusal;
 use captext::Fault;
 use std::alloc::{AllocError, Global};
 use table::Table;
 use verdict::Denial;
 
-/// What is to be written, the exit status, and why the system is denied, if it is.
+/// What is to be written, the exit status, and what is found wrong, if anything is.
 #[derive(Drop)]
 pub(crate) struct Answer {
     pub text: Vec<u8>,
     pub status: u8,
-    pub denial: Option<Denial>,
+    pub finding: Option<Finding>,
 }
 
 /// Memory was refused.

@@ -11,6 +11,7 @@ pub enum File {
     Policy,
     Certificate,
     Script,
+    Log,
 }
 
 impl File {
@@ -23,6 +24,7 @@ impl File {
             File::Policy => "policy",
             File::Certificate => "certificate",
             File::Script => "script",
+            File::Log => "log",
         }
     }
 
@@ -35,6 +37,7 @@ impl File {
             File::Policy => "confine: cannot read policy",
             File::Certificate => "confine: cannot read certificate",
             File::Script => "confine: cannot read script",
+            File::Log => "confine: cannot read log",
         }
     }
 }

@@ -58,7 +58,7 @@ fn announce<X: Drop, L: Listener>(
     answer: &Result<Answer, Unanswered>,
 ) {
     if let (Ok(loaded), Ok(answer)) = (loaded, answer) {
-        listener.hear_answer(&loaded.table, &loaded.policy, answer.denial.as_ref());
+        listener.hear_answer(&loaded.table, &loaded.policy, answer.finding.as_ref());
     }
 }
 
@@ -87,7 +87,7 @@ fn answer<C: Command>(
             Ok(text) => Ok(Answer {
                 text,
                 status: 2,
-                denial: None,
+                finding: None,
             }),
             Err(_) => Err(Unanswered::NoMemory),
         },

@@ -4,13 +4,24 @@ use policy::Policy;
 use table::Table;
 use verdict::Denial;
 
+/// What is found wrong with a system or a log.
+#[derive(Clone, Copy, PartialEq, Eq, Debug)]
+pub enum Finding {
+    /// A table and a policy, or a certificate, are denied.
+    Denied(Denial),
+    /// The last state of a legal log lies outside the policy.
+    Outside(Denial),
+    /// A log isn't legal: the entry, from 1, that is no step.
+    Illegal(usize),
+}
+
 /// Hears what a command finds, to tell a person of it. What is answered doesn't depend on it.
 pub trait Listener {
     /// The text of a file has this fault. It isn't told of a fault that is want of memory.
     fn hear_fault(&mut self, file: File, text: &[u8], fault: Fault);
 
-    /// A table and a policy were judged, and denied if there is a denial.
-    fn hear_answer(&mut self, table: &Table, policy: &Policy, denial: Option<&Denial>);
+    /// The files were judged: what is found wrong, if anything is.
+    fn hear_answer(&mut self, table: &Table, policy: &Policy, finding: Option<&Finding>);
 }
 
 /// Nobody listens.
@@ -20,5 +31,5 @@ pub struct Silence;
 impl Listener for Silence {
     fn hear_fault(&mut self, _file: File, _text: &[u8], _fault: Fault) {}
 
-    fn hear_answer(&mut self, _table: &Table, _policy: &Policy, _denial: Option<&Denial>) {}
+    fn hear_answer(&mut self, _table: &Table, _policy: &Policy, _finding: Option<&Finding>) {}
 }

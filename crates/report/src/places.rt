@@ -37,6 +37,19 @@ pub(crate) fn place_names(
             object_name(alloc, table, *thread)?,
             object_name(alloc, table, *context)?,
         ]?,
+        Denial::Holding { reply, thread } => vec![in alloc;
+            object_name(alloc, table, *reply)?,
+            object_name(alloc, table, *thread)?,
+        ]?,
+        Denial::Recorded {
+            thread,
+            kind,
+            label,
+        } => vec![in alloc;
+            object_name(alloc, table, *thread)?,
+            String::from_str(alloc, kind.name())?,
+            label_name(alloc, table, *label)?,
+        ]?,
         Denial::Certificate { line } => vec![in alloc; format!(in alloc; "{line}")?]?,
     };
     Ok(names)

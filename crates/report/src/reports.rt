@@ -59,6 +59,34 @@ pub(crate) fn accept_report(alloc: Global) -> Result<Vec<u8>, AllocError>
     line_of(alloc, &accept_value(alloc)?)
 }
 
+/// The report of a legal log of so many entries, whose last state lies within the policy.
+pub(crate) fn within_report(alloc: Global, entries: usize) -> Result<Vec<u8>, AllocError>
+    ensures { IfOk result (λ report. report.items ≡ reports.line_of (reports.within_data entries)) }
+{
+    line_of(alloc, &within_value(alloc, entries)?)
+}
+
+#[tactic(auto, using(crate::proofs::Names::names_have_no_float))]
+/// The report of a legal log whose last state lies outside: the rule, and the names at the place.
+pub(crate) fn outside_report(
+    alloc: Global,
+    entries: usize,
+    rule: &str,
+    place: &[String],
+) -> Result<Vec<u8>, AllocError>
+    ensures { IfOk result (λ report.
+        report.items ≡ reports.line_of (reports.outside_data entries rule.now (map string_bytes place.now))) }
+{
+    line_of(alloc, &outside_value(alloc, entries, rule, place)?)
+}
+
+/// The report of a log that isn't legal: the first entry, from 1, that is no step.
+pub(crate) fn illegal_report(alloc: Global, entry: usize) -> Result<Vec<u8>, AllocError>
+    ensures { IfOk result (λ report. report.items ≡ reports.line_of (reports.illegal_data entry)) }
+{
+    line_of(alloc, &illegal_value(alloc, entry)?)
+}
+
 fn check_value(alloc: Global, table: &Table, cut: Value, full: Value) -> Result<Value, AllocError>
     ensures { IfOk result (λ value. (cuts fulls : ℕ → ℕ → Bool) → view cut ≡ reports.relation_data table.now cuts
         → view full ≡ reports.relation_data table.now fulls → view value ≡ reports.check_data table.now cuts fulls) }
@@ -71,6 +99,34 @@ fn accept_value(alloc: Global) -> Result<Value, AllocError>
     ensures { IfOk result (λ value. view value ≡ reports.accept_data) }
 {
     json!(in alloc; {"verdict": "accept"})
+}
+
+fn within_value(alloc: Global, entries: usize) -> Result<Value, AllocError>
+    ensures { IfOk result (λ value. view value ≡ reports.within_data entries) }
+{
+    let entries = entries as u64;
+    json!(in alloc; {"entries": entries, "state": "within", "verdict": "legal"})
+}
+
+fn outside_value(
+    alloc: Global,
+    entries: usize,
+    rule: &str,
+    place: &[String],
+) -> Result<Value, AllocError>
+    ensures { IfOk result (λ value.
+        view value ≡ reports.outside_data entries rule.now (map string_bytes place.now)) }
+{
+    let entries = entries as u64;
+    let names = names_value(alloc, place)?;
+    json!(in alloc; {"entries": entries, "place": names, "rule": rule, "state": "outside", "verdict": "legal"})
+}
+
+fn illegal_value(alloc: Global, entry: usize) -> Result<Value, AllocError>
+    ensures { IfOk result (λ value. view value ≡ reports.illegal_data entry) }
+{
+    let entry = entry as u64;
+    json!(in alloc; {"entry": entry, "verdict": "illegal"})
 }
 
 fn fault_value(alloc: Global, fault: u64, file: File, line: u64) -> Result<Value, AllocError>

@@ -9,7 +9,7 @@ ghost use Rattle.report.specs.declared.end.File.TheVariants as file;
 use crate::command::{Answer, Command, NoMemory, denial_text};
 use crate::engine::carry_out;
 use crate::load::Loaded;
-use crate::{Asked, End, File, Listener, Sink, Source};
+use crate::{Asked, End, File, Finding, Listener, Sink, Source};
 use base::Refusal;
 use captext::Fault;
 use deal::Open;
@@ -92,12 +92,12 @@ impl<R: Threads + Sync> Command for Running<'_, R> {
             Ok(_) => Ok(Answer {
                 text: log_of_run(alloc, &loaded.table, &loaded.third)?,
                 status: 0,
-                denial: None,
+                finding: None,
             }),
             Err(denial) => Ok(Answer {
                 text: denial_text(alloc, &loaded.table, &denial)?,
                 status: 1,
-                denial: Some(denial),
+                finding: Some(Finding::Denied(denial)),
             }),
         }
     }

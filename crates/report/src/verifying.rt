@@ -10,7 +10,7 @@ use crate::command::{Answer, Command, NoMemory, denial_text};
 use crate::engine::carry_out;
 use crate::load::Loaded;
 use crate::reports::accept_report;
-use crate::{Asked, End, File, Listener, Sink, Source};
+use crate::{Asked, End, File, Finding, Listener, Sink, Source};
 use captext::Fault;
 use certificate::{Certificate, NotAccepted};
 use std::alloc::Global;
@@ -96,12 +96,12 @@ impl<R: Threads + Sync> Command for Verifying<'_, R> {
             Ok(_) => Ok(Answer {
                 text: accept_report(alloc)?,
                 status: 0,
-                denial: None,
+                finding: None,
             }),
             Err(NotAccepted::Denied(denial)) => Ok(Answer {
                 text: denial_text(alloc, &loaded.table, &denial)?,
                 status: 1,
-                denial: Some(denial),
+                finding: Some(Finding::Denied(denial)),
             }),
             Err(NotAccepted::NoMemory) => Err(NoMemory),
         }

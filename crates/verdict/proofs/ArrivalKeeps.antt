@@ -23,7 +23,7 @@ use Rattle.policy.specs.Domain.{EdgeTest}
 use Rattle.policy.specs.Full.{IsFull}
 use Rattle.policy.specs.Full.IsFull.{grants, modifies}
 use Rattle.verdict.specs.Invariant.{IsHeld, IsSound}
-use Rattle.verdict.proofs.FillKeeps.{MayFill, copy_derives, fill_fits, given_of_use}
+use Rattle.verdict.proofs.FillKeeps.{MayFill, copy_derives, fill_fits, given_of_use, in_node}
 use Rattle.verdict.proofs.Held.{bare_of, held_of}
 use Rattle.verdict.proofs.Keeps.{Keeps, unchanged}
 use Rattle.verdict.proofs.Reach.{IsControlled, IsInReach, IsWithin, found_in_reach, found_within, led_controlled}
@@ -73,11 +73,11 @@ module _
 
     may_fill : MayFill t allowed a m ends.target (copied ends.held ends.held.detail) (parent_of_copy m ends.source ends.held)
     may_fill = record {
-      is_node = target.is_node;
       label = target.label;
       labelled = target.labelled;
       has = may_change acts;
-      edges = edges;
+      edges =
+          in_node t allowed m ends.target (copied ends.held ends.held.detail) target.label target.is_node target.labelled edges;
       derives =
           copy_derives t allowed m held closed.derive_by_grant ends.source ends.held source.label target.label source.labelled
           (closed.derive_by_grant source.label target.label (granted s b may source.domain (inr target.controls)));

@@ -1,6 +1,5 @@
 -- A table declares the authority that its boot state has: so it breaks a rule where that lies outside the policy, and nowhere else.
 use Rattle.std.proofs.Common.{◌≡◌, ◌↔◌, false, Option, Some, None, option_map, refl, sym, ap, subst, ◌∙◌}
-use mathlib.Core.Bool.{false≢true}
 use Rattle.std.proofs.lemmas.Option.{none-some, same_Some, slice_get_within, get_or_from_slice_get}
 use Rattle.base.specs.declared.ids.ObjId.{ObjId}
 use Rattle.base.specs.declared.kind.Kind.{Kind}
@@ -90,7 +89,7 @@ boot_keeps t lawful id k end (Some initial) declares =
     blank_keeps t id initial.object k end (initial_lawful t lawful id initial declares).blank
 
 module _ (t : Layout) (allowed : EdgeTest) where
-  -- a denial by A1 to A4 names a place: by the same numbers, and it is broken where the table declares authority outside there
+  -- a denial by A1 to A6 names a place: by the same numbers, and it is broken where the table declares authority outside there
   record Names (d : Denial) (place : Excess) : Type 0 where
     numbers : place_of d ≡ excess_place place
     broken : Breaks t allowed d ↔ Exceeds (of_table t) allowed place
@@ -102,6 +101,8 @@ module _ (t : Layout) (allowed : EdgeTest) where
   names (denial.Root slot l) place is = rw (sym (same_Some (root slot l) place is)) (record { numbers = refl; broken = ((λ x. x), (λ x. x)) })
   names (denial.Pair child parent) place is = rw (sym (same_Some (pair child parent) place is)) (record { numbers = refl; broken = ((λ x. x), (λ x. x)) })
   names (denial.Binding thread context) place is = rw (sym (same_Some (binding thread context) place is)) (record { numbers = refl; broken = ((λ x. x), (λ x. x)) })
+  names (denial.Holding reply thread) place is = rw (sym (same_Some (holding reply thread) place is)) (record { numbers = refl; broken = ((λ x. x), (λ x. x)) })
+  names (denial.Recorded thread k l) place is = rw (sym (same_Some (recorded thread k l) place is)) (record { numbers = refl; broken = ((λ x. x), (λ x. x)) })
 
   -- where it is the first that is broken, the policy is closed
   pub first_closed : (d : Denial) (place : Excess) → excess_of d ≡ Some place → IsLeastBroken t allowed d → IsClosed allowed
@@ -116,6 +117,8 @@ module _ (t : Layout) (allowed : EdgeTest) where
   named (denial.Root slot label) closed broken = (root slot label, refl)
   named (denial.Pair child parent) closed broken = (pair child parent, refl)
   named (denial.Binding thread context) closed broken = (binding thread context, refl)
+  named (denial.Holding reply thread) closed broken = (holding reply thread, refl)
+  named (denial.Recorded thread k label) closed broken = (recorded thread k label, refl)
 
   -- each place that a table declares outside has its denial
   declared : (place : Excess) → Exceeds (of_table t) allowed place → (d : Denial) × (excess_of d ≡ Some place) × Breaks t allowed d
@@ -123,8 +126,8 @@ module _ (t : Layout) (allowed : EdgeTest) where
   declared (root slot label) out = (denial.Root slot label, refl, out)
   declared (pair child parent) out = (denial.Pair child parent, refl, out)
   declared (binding thread context) out = (denial.Binding thread context, refl, out)
-  declared (holding reply thread) out = absurd (false≢true out.holds)
-  declared (recorded thread k label) out = absurd (false≢true out.kept)
+  declared (holding reply thread) out = (denial.Holding reply thread, refl, out)
+  declared (recorded thread k label) out = (denial.Recorded thread k label, refl, out)
 
 module _ (t : Layout) (m : Machine) (lawful : IsLawful t) (boot : IsBoot t m) where
   -- the authority of a boot state is read off its table

@@ -1,19 +1,27 @@
--- Contents that a thread, a notification and a reply may get in a step, and a change within full authority.
-use Rattle.std.proofs.Common.{◌≡◌, ℕ, ◌+◌, ◌⊎◌, inl, inr, true, Some, refl, ap}
+-- Contents that a thread, a notification, a reply and a scheduling context may get in a step, and a change within full and within
+-- cut authority.
+use Rattle.std.proofs.Common.{◌≡◌, ℕ, ◌+◌, ◌⊎◌, inl, inr, true, List, Some, refl, sym, ap, ◌∙◌}
 use Rattle.base.specs.declared.ids.ObjId.{ObjId}
 use Rattle.base.specs.declared.kind.Kind.{Kind}
 use Rattle.base.specs.declared.kind.Kind.TheVariants as authority
 use Rattle.machine.specs.declared.call.Event.{Event}
+use Rattle.machine.specs.declared.object.Context.{Context}
 use Rattle.machine.specs.declared.object.Notification.{Notification}
+use Rattle.machine.specs.declared.object.Object.{Object}
 use Rattle.machine.specs.declared.object.Object.TheVariants as o
 use Rattle.machine.specs.declared.object.Reply.{Reply}
 use Rattle.machine.specs.declared.thread.Tcb.{Tcb}
 use Rattle.machine.specs.Authority.{holds_thread, label_of, links}
 use Rattle.machine.specs.Layout.{Layout}
-use Rattle.machine.specs.Machine.{Machine, object_of}
+use Rattle.machine.specs.Machine.{Machine, object_of, queue_of, with_object}
+use Rattle.policy.specs.Cut.{IsCut}
 use Rattle.policy.specs.Domain.{EdgeTest}
 use Rattle.policy.specs.Full.{IsFull}
 use Rattle.verdict.specs.Allowed.{MayChange}
+use Rattle.verdict.specs.Budgets.{MayConfigure}
+use Rattle.verdict.specs.Shrinks.{Lessens}
+use Rattle.verdict.proofs.Losses.{lessened}
+use Rattle.verdict.proofs.Shrinking.{same_context}
 use Rattle.verdict.proofs.TouchKeeps.{Fits}
 
 -- the label has full authority over the object's
@@ -21,6 +29,14 @@ pub full :
     (t : Layout) (allowed : EdgeTest) (a : ℕ) (m next : Machine) (id : ObjId) (label : ℕ) → label_of t m id ≡ Some label
     → IsFull allowed a label → MayChange t allowed a m next id
 full t allowed a m next id label labelled has = record { label = label; labelled = inl labelled; may = inl has }
+
+-- the label has cut authority over the object's, which only loses links
+pub loses_links :
+    (t : Layout) (allowed : EdgeTest) (a : ℕ) (m : Machine) (id : ObjId) (label : ℕ) (old new : Object)
+    → label_of t m id ≡ Some label → IsCut allowed a label → object_of m id ≡ Some old → Lessens old new
+    → (threads : List ObjId) → queue_of m id ≡ Some threads → MayChange t allowed a m (with_object m id new) id
+loses_links t allowed a m id label old new labelled cut there less threads queue =
+    record { label = label; labelled = inl labelled; may = inr (cut, lessened m id old new threads there queue less) }
 
 module _ (t : Layout) (allowed : EdgeTest) (began : Machine) (event : Event) (m : Machine) (id : ObjId) where
   -- a thread stays where it is, and each link was there or is in the policy
@@ -55,3 +71,29 @@ module _ (t : Layout) (allowed : EdgeTest) (began : Machine) (event : Event) (m 
           ⊎ ((from to : ℕ) → label_of t m id ≡ Some from → label_of t m end ≡ Some to → allowed from k to ≡ true)
       held end authority.Holds e = inr (λ from to source target. within end from to e source target)
       held end _ e = cc
+
+  -- a scheduling context stays where it is, and is configured as it was, or the event may configure it
+  pub context_fits :
+      (old new : Context) → object_of m id ≡ Some (o.Context old) → new.address ≡ old.address
+      → (new.share ≡ old.share) ⊎ MayConfigure t allowed began event id
+      → Fits t allowed began event m id (o.Context old) (o.Context new)
+  context_fits old new was same shared =
+      record {
+        was = was;
+        kind = refl;
+        address = same;
+        end = ap (λ n. n + 256) same;
+        links = λ end k e. cc;
+        share = share;
+      }
+    where
+      share :
+          (before after : Context) → o.Context old ≡ o.Context before → o.Context new ≡ o.Context after
+          → (after.share ≡ before.share) ⊎ MayConfigure t allowed began event id
+      share before after one two = elim shared [
+        | inl same ↦
+            inl
+            (ap (λ (c : Context). c.share) (same_context after new (sym two)) ∙ same
+            ∙ ap (λ (c : Context). c.share) (same_context old before one))
+        | inr may ↦ inr may
+      ]

@@ -1,6 +1,6 @@
 -- An empty slot gets a capability, which keeps what a part of a call keeps if the policy has the capability's edges and its pair
 -- of the tree.
-use Rattle.std.proofs.Common.{◌≡◌, ◌≢◌, ℕ, ◌⊎◌, inl, inr, Bool, true, false, Option, Some, None, refl, sym, ap, ◌∙◌}
+use Rattle.std.proofs.Common.{◌≡◌, ◌≢◌, ℕ, ◌⊎◌, inl, inr, Bool, true, false, Option, Some, None, refl, sym, ap, subst, ◌∙◌}
 use Rattle.std.specs.Prelude.{if◌then◌else◌}
 use Rattle.std.proofs.lemmas.Bool.{false≢true}
 use Rattle.std.proofs.lemmas.Option.{same_Some}
@@ -27,7 +27,7 @@ use Rattle.policy.specs.Closed.{DeriveByGrant, derived}
 use Rattle.policy.specs.Domain.{EdgeTest}
 use Rattle.policy.specs.Full.{IsFull}
 use Rattle.verdict.specs.Invariant.{IsBare, IsHeld}
-use Rattle.verdict.proofs.SlotKeeps.{SlotsFit}
+use Rattle.verdict.proofs.SlotKeeps.{IsAllowedIn, SlotsFit}
 
 -- a slot of another object is another slot
 pub apart_slots : (q slot : SlotRef) → q.holder ≢ slot.holder → same_slot q slot ≡ false
@@ -43,20 +43,30 @@ given_of_use detail k given = by_case (is_structural k) refl where
   by_case true is = absurd (false≢true (sym (gives_no_structure detail k is) ∙ given))
   by_case false is = is
 
--- a capability may come into a slot, under a parent or under none: the caller's label may change the CNode that has the slot,
--- and the
--- policy has the capability's edges from there, and that of the pair
+-- a capability may come into a slot, under a parent or under none: the caller's label may change the CNode or the thread that has
+-- the slot, and the policy has the capability's edges from there, and that of the pair
 pub record MayFill
     (t : Layout) (allowed : EdgeTest) (a : ℕ) (m : Machine) (slot : SlotRef) (new : Cap) (parent : Option SlotRef) : Type 0 where
-  pub is_node : kind_of m slot.holder ≡ Some kind.CNode
   pub label : ℕ
   pub labelled : label_of t m slot.holder ≡ Some label
   pub has : IsFull allowed a label
-  pub edges :
-      (k : Kind) (to : ℕ) → gives new.detail k ≡ true → label_of t m new.object ≡ Some to → allowed label k to ≡ true
+  pub edges : IsAllowedIn t allowed m slot new
   pub derives :
       (above : SlotRef) (from : ℕ) → parent ≡ Some above → label_of t m above.holder ≡ Some from
       → allowed from authority.Derive label ≡ true
+
+-- a CNode of a label may have the capability, where the policy has its edges from that label
+pub in_node :
+    (t : Layout) (allowed : EdgeTest) (m : Machine) (slot : SlotRef) (new : Cap) (label : ℕ)
+    → kind_of m slot.holder ≡ Some kind.CNode → label_of t m slot.holder ≡ Some label
+    → ((k : Kind) (to : ℕ) → gives new.detail k ≡ true → label_of t m new.object ≡ Some to → allowed label k to ≡ true)
+    → IsAllowedIn t allowed m slot new
+in_node t allowed m slot new label is_node labelled edges =
+    inl (
+      is_node,
+      λ from k to given begins ends.
+          ap (λ l. allowed l k to) (same_Some from label (sym begins ∙ labelled)) ∙ edges k to given ends,
+    )
 
 -- a copy's label is one that its source's may derive to; then the label of its parent may
 pub copy_derives :
@@ -78,32 +88,16 @@ copy_derives t allowed m before by_grant source held at to labelled edge above f
 module _
     (t : Layout) (allowed : EdgeTest) (a : ℕ) (m next : Machine) (before : IsHeld t allowed m) (slot : SlotRef) (new : Cap)
     (parent : Option SlotRef) (may : MayFill t allowed a m slot new parent) (fills : Fills m slot new parent next) where
-  caps :
-      (q : SlotRef) (cap : Cap) → cap_of next q ≡ Some cap
-      → (cap_of m q ≡ Some cap)
-      ⊎ ((kind_of m q.holder ≡ Some kind.CNode)
-      × ((from : ℕ) (k : Kind) (to : ℕ) → gives cap.detail k ≡ true → label_of t m q.holder ≡ Some from
-      → label_of t m cap.object ≡ Some to → allowed from k to ≡ true))
+  caps : (q : SlotRef) (cap : Cap) → cap_of next q ≡ Some cap → (cap_of m q ≡ Some cap) ⊎ IsAllowedIn t allowed m q cap
   caps q cap e = by_tie (same_slot q slot) refl (sym (fills.caps q) ∙ e) where
     by_tie :
         (tie : Bool) → same_slot q slot ≡ tie → (if tie then Some new else cap_of m q) ≡ Some cap
-        → (cap_of m q ≡ Some cap)
-        ⊎ ((kind_of m q.holder ≡ Some kind.CNode)
-        × ((from : ℕ) (k : Kind) (to : ℕ) → gives cap.detail k ≡ true → label_of t m q.holder ≡ Some from
-        → label_of t m cap.object ≡ Some to → allowed from k to ≡ true))
+        → (cap_of m q ≡ Some cap) ⊎ IsAllowedIn t allowed m q cap
     by_tie false is same = inl same
     by_tie true is same =
-        let at = one_slot q slot is in
-        let cap_is : new ≡ cap = same_Some new cap same in
-        inr (
-          ap (λ (s : SlotRef). kind_of m s.holder) at ∙ may.is_node,
-          λ from k to given begins ends.
-              let from_is : from ≡ may.label =
-              same_Some from may.label (sym begins ∙ ap (λ (s : SlotRef). label_of t m s.holder) at ∙ may.labelled) in
-              ap (λ l. allowed l k to) from_is
-              ∙ may.edges k to (ap (λ (c : Cap). gives c.detail k) cap_is ∙ given)
-              (ap (λ (c : Cap). label_of t m c.object) cap_is ∙ ends),
-        )
+        inr
+        (subst (λ (s : SlotRef). IsAllowedIn t allowed m s cap) (sym (one_slot q slot is))
+        (subst (λ (c : Cap). IsAllowedIn t allowed m slot c) (same_Some new cap same) may.edges))
 
   pairs :
       (q above : SlotRef) (from to : ℕ) → parent_of next q ≡ Some above → label_of t m above.holder ≡ Some from

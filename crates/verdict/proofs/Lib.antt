@@ -3,6 +3,8 @@ pub mod OneVerdict
 pub mod SlotPlaces
 pub mod BindingPlaces
 pub mod LeastOfSlots
+pub mod OutsidePlaces
+pub mod OutsideObjects
 pub mod Walks
 pub mod ObjectLabels
 pub mod Reach
@@ -44,6 +46,9 @@ pub mod ControlUnsafe
 pub mod ReplyPolicy
 pub mod ReplySystem
 pub mod ReplyUnsafe
+pub mod ContextPolicy
+pub mod ContextSystem
+pub mod ContextUnsafe
 pub mod GrantPolicy
 pub mod GrantSystem
 pub mod GrantRun
@@ -61,3 +66,7 @@ pub mod Cascade
 pub mod RemovalCuts
 pub mod RemovalKeeps
 pub mod RemovalCalls
+pub mod WordsKeeps
+pub mod ThreadKeeps
+pub mod ContextKeeps
+pub mod SpaceKeeps

@@ -37,7 +37,7 @@ use Rattle.policy.specs.Domain.{EdgeTest, IsInDomain}
 use Rattle.policy.specs.Full.IsFull.{modifies}
 use Rattle.verdict.specs.Invariant.{IsBare, IsHeld}
 use Rattle.verdict.proofs.Contents.{full}
-use Rattle.verdict.proofs.FillKeeps.{MayFill, fill_fits, given_of_use, slots_elsewhere}
+use Rattle.verdict.proofs.FillKeeps.{MayFill, fill_fits, given_of_use, in_node, slots_elsewhere}
 use Rattle.verdict.proofs.Joined.{IsJoined, joined_set}
 use Rattle.verdict.proofs.Keeps.{Keeps, keeps_keeps}
 use Rattle.verdict.proofs.NewKeeps.{IsMakeable, new_keeps, new_label}
@@ -239,11 +239,14 @@ module _
 
   may_fill : MayFill t allowed a m2 slot (new_cap m.next of) (Some source.slot)
   may_fill = record {
-    is_node = node_still;
     label = may.node.label;
     labelled = node_label slot.holder may.node.is_node ∙ may.node.labelled;
     has = modifies authority.Control refl may.node.controls;
-    edges = λ k end given ends. ap (allowed may.node.label k) (same_Some end may.label (sym ends ∙ here_label)) ∙ edges k given;
+    edges =
+        in_node t allowed m2 slot (new_cap m.next of) may.node.label node_still
+        (node_label slot.holder may.node.is_node ∙ may.node.labelled)
+        (λ k end given ends.
+        ap (allowed may.node.label k) (same_Some end may.label (sym ends ∙ here_label)) ∙ edges k given);
     derives = λ above start is begins.
         let start_is : start ≡ may.above =
         same_Some start may.above

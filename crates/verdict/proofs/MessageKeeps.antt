@@ -356,7 +356,7 @@ module _
             ))
         by_call false calls =
             released_keeps t allowed m event a arrived takes.held sender waits.tcb ready sender_there refl refl tt to_sender.0
-            (label_arrived sender ∙ to_sender.1) sender_full names_none end_full
+            (label_arrived sender ∙ to_sender.1) sender_full (λ q to names target. inl (names_none q to names target)) end_full
 
       received_keeps : Makes m (sent arrived sender sending done.reply)
       received_keeps =
@@ -454,7 +454,7 @@ module _
         (λ q to names target.
         let same : done.id ≡ q = subst (λ run. Names run q) w.2 names in
         let to_is = at_reached t allowed m event a m sound done.id q to_reply.label to to_reply.labelled same target in
-        modifies authority.Reply refl (ap (allowed a authority.Reply) to_is ∙ may_reply))
+        inl (modifies authority.Reply refl (ap (allowed a authority.Reply) to_is ∙ may_reply)))
         (λ q to waits target. absurd (subst (λ run. WaitsAt run q) w.2 waits))
 
     by_state : Answers m done.id words next → Makes m next

@@ -10,6 +10,7 @@ use Rattle.base.specs.declared.ids.ObjId.{ObjId}
 use Rattle.base.specs.declared.ids.SlotRef.{SlotRef}
 use Rattle.base.specs.declared.kind.Kind.{Kind}
 use Rattle.base.specs.declared.kind.Kind.TheVariants as authority
+use Rattle.base.specs.declared.rights.Rights.{Rights}
 use Rattle.base.specs.Kinds.{is_structural}
 use Rattle.machine.specs.declared.call.Event.{Event}
 use Rattle.machine.specs.declared.cap.Badged.{Badged}
@@ -40,6 +41,7 @@ use Rattle.machine.proofs.Arrival.{arrival_same}
 use Rattle.machine.proofs.Beside.{HolderLeaves, holder_leaves}
 use Rattle.machine.proofs.EndpointRow.{FindsReply, IsEndOpen, IsReceiver, IsSender}
 use Rattle.machine.proofs.Finding.{FindsCap}
+use Rattle.machine.proofs.FoundObjects.{FindsContext, FindsFrame, FindsThread}
 use Rattle.machine.proofs.Ids.{at_other, itself}
 use Rattle.machine.proofs.Leaving.{Names}
 use Rattle.machine.proofs.LookUps.{object_of-with_object, object_of-with_queue, one_id}
@@ -124,7 +126,7 @@ module _ (t : Layout) (allowed : EdgeTest) (began : Machine) (event : Event) (a 
     thread_label thread tcb there = sound.of_table.labelled thread (o.Tcb tcb) there
 
     -- what a blocked thread keeps is in the policy
-    thread_edge :
+    pub thread_edge :
         (thread end : ObjId) (tcb : Tcb) (k : Kind) (from to : ℕ) → IsThread m thread tcb → links (o.Tcb tcb) k end ≡ true
         → label_of t m thread ≡ Some from → label_of t m end ≡ Some to → allowed from k to ≡ true
     thread_edge thread end tcb k from to there has source target =
@@ -184,7 +186,7 @@ module _ (t : Layout) (allowed : EdgeTest) (began : Machine) (event : Event) (a 
       pub labelled : label_of t m id ≡ Some label
       pub edge : (k : Kind) → gives detail k ≡ true → is_structural k ≡ false → allowed a k label ≡ true
 
-    reached :
+    pub reached :
         (agree : SubjectsAgree allowed) (thread : ObjId) (address : ℕ) (slot : SlotRef) (cap : Cap) (id : ObjId) (detail : Detail)
         → label_of t m thread ≡ Some a → FindsCap m thread address slot cap → cap.object ≡ id → cap.detail ≡ detail
         → IsReached id detail
@@ -209,6 +211,24 @@ module _ (t : Layout) (allowed : EdgeTest) (began : Machine) (event : Event) (a 
         → FindsReply m thread address id → IsReached id d.Reply
     reply_reached agree thread address id mine found =
         reached agree thread address found.slot found.held id d.Reply mine found.finds found.object found.detail
+
+    pub frame_reached :
+        (agree : SubjectsAgree allowed) (thread : ObjId) (address : ℕ) (id : ObjId) (rights : Rights)
+        → label_of t m thread ≡ Some a → FindsFrame m thread address id rights → IsReached id (d.Frame rights)
+    frame_reached agree thread address id rights mine found =
+        reached agree thread address found.slot found.held id (d.Frame rights) mine found.finds found.object found.detail
+
+    pub thread_reached :
+        (agree : SubjectsAgree allowed) (thread : ObjId) (address : ℕ) (slot : SlotRef) (id : ObjId)
+        → label_of t m thread ≡ Some a → FindsThread m thread address slot id → IsReached id d.Tcb
+    thread_reached agree thread address slot id mine found =
+        reached agree thread address slot found.held id d.Tcb mine found.finds found.object found.detail
+
+    pub context_reached :
+        (agree : SubjectsAgree allowed) (thread : ObjId) (address : ℕ) (id : ObjId) → label_of t m thread ≡ Some a
+        → FindsContext m thread address id → IsReached id d.Context
+    context_reached agree thread address id mine found =
+        reached agree thread address found.slot found.held id d.Context mine found.finds found.object found.detail
 
     pub at_reached : (id q : ObjId) (label to : ℕ) → label_of t m id ≡ Some label → id ≡ q → label_of t m q ≡ Some to → to ≡ label
     at_reached id q label to labelled same target = same_Some to label (sym target ∙ ap (label_of t m) (sym same) ∙ labelled)
@@ -252,7 +272,7 @@ module _ (t : Layout) (allowed : EdgeTest) (began : Machine) (event : Event) (a 
           (label_mid receiver ∙ to_receiver.1)
           (sends e may_send it_receives)
           (λ q to names target.
-          named_full q to (subst (λ run. Names run q) is.state names) (sym (label_mid q) ∙ target))
+          inl (named_full q to (subst (λ run. Names run q) is.state names) (sym (label_mid q) ∙ target)))
           (λ q to waits target.
           let same : id ≡ q = sym is.at ∙ subst (λ run. WaitsAt run q) is.state waits in
           let to_is = at_reached id q e to at same (sym (label_mid q) ∙ target) in
@@ -270,7 +290,9 @@ module _ (t : Layout) (allowed : EdgeTest) (began : Machine) (event : Event) (a 
         (waits : (id : ObjId) (to : ℕ) → WaitsAt tcb.state id → label_of t m id ≡ Some to
         → IsFull allowed a to ⊎ IsCut allowed a to) where
       halts : Does m (with_halted m thread)
-      halts = released_keeps t allowed began event a m held thread tcb halted there refl refl tt l labelled has names waits
+      halts =
+          released_keeps t allowed began event a m held thread tcb halted there refl refl tt l labelled has
+          (λ id to named target. inl (names id to named target)) waits
 
       pub link_keeps :
           (through : Option ObjId) → ((id : ObjId) → through ≡ Some id → IsFree m id)

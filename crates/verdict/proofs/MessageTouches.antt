@@ -1,7 +1,7 @@
 -- The changes by which threads, queues and replies are linked, and are so no more, keep what a part of a call keeps, where the
 -- labels of the objects that they touch allow it.
 use Rattle.std.proofs.Common.{◌≡◌, ◌≢◌, ℕ, ◌⊎◌, inl, inr, true, not, List, [], ◌∷◌, ◌++◌, refl, sym, ap, subst, ◌∙◌}
-use Rattle.std.specs.Prelude.{Option, Some, None}
+use Rattle.std.specs.Prelude.{Option, Some, None, cond}
 use Rattle.std.proofs.lemmas.Bool.{false≢true}
 use Rattle.std.proofs.lemmas.Option.{none-some, same_Some}
 use Rattle.base.specs.declared.ids.ObjId.{ObjId}
@@ -24,7 +24,7 @@ use Rattle.machine.specs.Machine.{Machine, object_of, queue_of, same_id, with_ob
 use Rattle.machine.specs.Releasing.{unblocked, with_blocked, with_called, with_holding, with_named, with_released}
 use Rattle.machine.specs.Step.Fetch.{emptied}
 use Rattle.machine.specs.WellFormed.{IsIdle, IsThread, IsWellFormed, WaitsAt}
-use Rattle.machine.proofs.Ids.{at_itself, at_other}
+use Rattle.machine.proofs.Ids.{at_itself, at_other, one_or_two}
 use Rattle.machine.proofs.Leaving.{Names, holding_is, released_there, tcb_is, without}
 use Rattle.machine.proofs.LookUps.{object_of-with_object, one_id}
 use Rattle.machine.proofs.LookUps.{object_of-with_queue, queue_of-with_queue, words_of-with_queue, cap_of-with_queue}
@@ -33,8 +33,8 @@ use Rattle.policy.specs.Domain.{EdgeTest}
 use Rattle.policy.specs.Full.{IsFull}
 use Rattle.policy.specs.Full.IsFull.{own}
 use Rattle.verdict.specs.Invariant.{IsHeld, IsSound}
-use Rattle.verdict.specs.Shrinks.Lessens.{as_it_was}
-use Rattle.verdict.proofs.Contents.{full, reply_fits, tcb_fits}
+use Rattle.verdict.specs.Shrinks.Lessens.{as_it_was, freed}
+use Rattle.verdict.proofs.Contents.{full, loses_links, reply_fits, tcb_fits}
 use Rattle.verdict.proofs.Keeps.{Keeps, keeps_keeps, unchanged}
 use Rattle.verdict.proofs.ObjectLabels.{label_stays, same_label}
 use Rattle.verdict.proofs.RemovalShrinks.{part_of_all}
@@ -119,6 +119,11 @@ links_left :
 links_left old new same idle authority.Runs end e = ap (λ context. names_reply context end) (sym same) ∙ e
 links_left old new same idle k end e = absurd (idle_links new.state k end idle e)
 
+-- a label has full authority over an object's, or cut authority, and the object has a queue, as each that is there
+abbrev pub MayLessen : EdgeTest → ℕ → Machine → ObjId → ℕ → Type 0
+MayLessen allowed a m id label =
+    IsFull allowed a label ⊎ (IsCut allowed a label × (threads : List ObjId) × (queue_of m id ≡ Some threads))
+
 -- contents where threads leave queues and replies
 
 left_objects : (m : Machine) (id thread q : ObjId) → object_of (without_waiting m id thread) q ≡ object_of m q
@@ -133,6 +138,29 @@ apart_by_kind :
 apart_by_kind m id thread holding tcb reply_there there same = differ (sym there ∙ ap (object_of m) same ∙ reply_there) where
   differ : ◌≡◌ {A = Option Object} (Some (o.Tcb tcb)) (Some (o.Reply holding)) → ⊥
   differ e = cc
+
+-- who is there has a queue, also where a thread left one
+queue_left :
+    (m : Machine) (id thread q : ObjId) (threads : List ObjId) → queue_of m q ≡ Some threads
+    → (rest : List ObjId) × (queue_of (without_waiting m id thread) q ≡ Some rest)
+queue_left m id thread q threads there = by_leave (leaves_or_stays m id thread) where
+  by_leave :
+      ((waited : List ObjId) × (queue_of m id ≡ Some waited)
+      × (without_waiting m id thread ≡ with_queue m id (without thread waited)))
+      ⊎ (without_waiting m id thread ≡ m)
+      → (rest : List ObjId) × (queue_of (without_waiting m id thread) q ≡ Some rest)
+  by_leave (inr same) = (threads, ap (λ (n : Machine). queue_of n q) same ∙ there)
+  by_leave (inl leaves) =
+      let rest : List ObjId = without thread leaves.0 in
+      let looks = ap (λ (n : Machine). queue_of n q) leaves.2 ∙ queue_of-with_queue m id rest q in
+      elim (one_or_two q id) [
+        | inl same ↦ (
+          rest,
+          looks ∙ ap (λ (x : ObjId). cond (same_id x id) (Some rest) (queue_of m q)) same
+              ∙ at_itself id (Some rest) (queue_of m q),
+        )
+        | inr apart ↦ (threads, looks ∙ at_other q id (Some rest) (queue_of m q) apart ∙ there)
+      ]
 
 freed_thread :
     (m : Machine) (id thread : ObjId) (tcb : Tcb) → IsThread m thread tcb → IsThread (with_holding m id reply.Free) thread tcb
@@ -181,15 +209,29 @@ module _
 
   -- a reply holds nobody, if it is there
   freed_keeps :
-      (id : ObjId) → ((to : ℕ) → label_of t m id ≡ Some to → IsFull allowed a to)
+      (id : ObjId) → ((to : ℕ) → label_of t m id ≡ Some to → MayLessen allowed a m id to)
       → Keeps t allowed began event a m (with_holding m id reply.Free)
   freed_keeps id may = by_reply (holds_or_stays m id reply.Free) where
+    by_label :
+        (old : Reply) (label : ℕ) → object_of m id ≡ Some (o.Reply old) → label_of t m id ≡ Some label
+        → MayLessen allowed a m id label → Keeps t allowed began event a m (with_holding m id reply.Free)
+    by_label old label there labelled (inl has) =
+        holding_keeps id old reply.Free label there labelled has (λ thread to is. absurd (false≢true is))
+    by_label old label there labelled (inr cut) =
+        let new : Reply = record old { state = reply.Free } in
+        let next : Machine = with_object m id (o.Reply new) in
+        subst (λ (n : Machine). Keeps t allowed began event a m n) (sym (holding_is m id old reply.Free there))
+        (set_keeps t allowed began event a m id held (o.Reply old) (o.Reply new)
+        (reply_fits t allowed began event m id old new there refl (λ end from to is. absurd (false≢true is)))
+        (loses_links t allowed a m id label (o.Reply old) (o.Reply new) labelled cut.0 there (freed old new refl refl refl refl)
+        cut.1 cut.2))
+
     by_reply :
         ((old : Reply) × (object_of m id ≡ Some (o.Reply old))) ⊎ (with_holding m id reply.Free ≡ m)
         → Keeps t allowed began event a m (with_holding m id reply.Free)
     by_reply (inl there) =
         let label = held.of_table.labelled id (o.Reply there.0) there.1 in
-        holding_keeps id there.0 reply.Free label.0 there.1 label.1 (may label.0 label.1) (λ thread to is. absurd (false≢true is))
+        by_label there.0 label.0 there.1 label.1 (may label.0 label.1)
     by_reply (inr same) =
         subst (λ (n : Machine). Keeps t allowed began event a m n) (sym same) (unchanged t allowed began event a m held)
 
@@ -247,7 +289,7 @@ module _
   receiver_leaves :
       (endpoint : ObjId) (named : Option ObjId) (thread : ObjId)
       → ((to : ℕ) → label_of t m endpoint ≡ Some to → IsFull allowed a to ⊎ IsCut allowed a to)
-      → ((id : ObjId) (to : ℕ) → named ≡ Some id → label_of t m id ≡ Some to → IsFull allowed a to)
+      → ((id : ObjId) (to : ℕ) → named ≡ Some id → label_of t m id ≡ Some to → MayLessen allowed a m id to)
       → Keeps t allowed began event a m (with_named (without_waiting m endpoint thread) named reply.Free)
   receiver_leaves endpoint None thread at names = leaves_keeps t allowed began event a m held endpoint thread at
   receiver_leaves endpoint (Some id) thread at names =
@@ -255,11 +297,16 @@ module _
       let left = leaves_keeps t allowed began event a m held endpoint thread at in
       let label_kept = same_label t m mid id (left_objects m endpoint thread id) in
       keeps_keeps t allowed began event a m mid (with_holding mid id reply.Free) held left
-      (freed_keeps t allowed began event a mid left.held id (λ to labelled. names id to refl (sym label_kept ∙ labelled)))
+      (freed_keeps t allowed began event a mid left.held id
+      (λ to labelled. still to (names id to refl (sym label_kept ∙ labelled))))
+    where
+      still : (to : ℕ) → MayLessen allowed a m id to → MayLessen allowed a (without_waiting m endpoint thread) id to
+      still to (inl has) = inl has
+      still to (inr cut) = let queue = queue_left m endpoint thread id cut.1 cut.2 in inr (cut.0, queue.0, queue.1)
 
   unblocked_keeps :
       (thread : ObjId) (run : RunState)
-      → ((id : ObjId) (to : ℕ) → Names run id → label_of t m id ≡ Some to → IsFull allowed a to)
+      → ((id : ObjId) (to : ℕ) → Names run id → label_of t m id ≡ Some to → MayLessen allowed a m id to)
       → ((id : ObjId) (to : ℕ) → WaitsAt run id → label_of t m id ≡ Some to → IsFull allowed a to ⊎ IsCut allowed a to)
       → Keeps t allowed began event a m (unblocked m thread run)
   unblocked_keeps thread (state.Sending sending) names waits =
@@ -276,7 +323,7 @@ module _
       (thread : ObjId) (tcb : Tcb) (change : Tcb → Tcb) → IsThread m thread tcb → (change tcb).address ≡ tcb.address
       → (change tcb).context ≡ tcb.context → IsIdle (change tcb).state
       → (label : ℕ) → label_of t m thread ≡ Some label → IsFull allowed a label
-      → ((id : ObjId) (to : ℕ) → Names tcb.state id → label_of t m id ≡ Some to → IsFull allowed a to)
+      → ((id : ObjId) (to : ℕ) → Names tcb.state id → label_of t m id ≡ Some to → MayLessen allowed a m id to)
       → ((id : ObjId) (to : ℕ) → WaitsAt tcb.state id → label_of t m id ≡ Some to → IsFull allowed a to ⊎ IsCut allowed a to)
       → Keeps t allowed began event a m (with_released m thread change)
   released_keeps thread tcb change there address context idle label labelled has names waits =

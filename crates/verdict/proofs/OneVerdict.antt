@@ -33,10 +33,10 @@ one_least place P one x y least other = by (slice_cmp nat_cmp (place x) (place y
   by Greater is =
       absurd (least.first y other.has (nat_list_cmp_total.antisymm (place y) (place x) ∙ ap ordering_reverse is))
 
-same_slot : (a b : SlotRef) → a.holder.0 ≡ b.holder.0 → a.index ≡ b.index → a ≡ b
+pub same_slot : (a b : SlotRef) → a.holder.0 ≡ b.holder.0 → a.index ≡ b.index → a ≡ b
 same_slot a b holder index = λ i. record { holder = record { 0 = holder i }; index = index i }
 
-same_id : (a b : ObjId) → a.0 ≡ b.0 → a ≡ b
+pub same_id : (a b : ObjId) → a.0 ≡ b.0 → a ≡ b
 same_id a b same = λ i. record { 0 = same i }
 
 abbrev number : ℕ → List ℕ → ℕ
@@ -75,6 +75,11 @@ same_place (denial.Pair child parent) (denial.Pair child' parent') same =
     (same_slot parent parent' (ap (number 3) same) (ap (number 4) same) i)
 same_place (denial.Binding thread context) (denial.Binding thread' context') same =
     λ i. denial.Binding (same_id thread thread' (ap (number 1) same) i) (same_id context context' (ap (number 2) same) i)
+same_place (denial.Holding reply thread) (denial.Holding reply' thread') same =
+    λ i. denial.Holding (same_id reply reply' (ap (number 1) same) i) (same_id thread thread' (ap (number 2) same) i)
+same_place (denial.Recorded thread kind _) (denial.Recorded thread' kind' _) same =
+    λ i. denial.Recorded (same_id thread thread' (ap (number 1) same) i) (same_kind kind kind' (ap (number 2) same) i)
+    (ap (number 3) same i)
 same_place (denial.Certificate _) (denial.Certificate _) same = λ i. denial.Certificate (ap (number 1) same i)
 same_place _ _ same = absurd (let rule = ap (number 0) same in omega (arith, rule))
 

@@ -20,10 +20,11 @@ use Rattle.machine.proofs.Inversion.{CallDone, EventDone, step_done}
 use Rattle.policy.specs.Closed.{IsClosed}
 use Rattle.policy.specs.Domain.{EdgeTest}
 use Rattle.verdict.specs.Allowed.{IsAllowedStep, IsModified}
-use Rattle.verdict.specs.Budgets.{KeepsBudgets}
+use Rattle.verdict.specs.Budgets.{KeepsBudgets, configures}
 use Rattle.verdict.specs.Invariant.{IsSound}
 use Rattle.verdict.specs.Safe.{IsReached, IsSafe}
 use Rattle.verdict.specs.Shrinks.{IsSame}
+use Rattle.verdict.proofs.ContextKeeps.{bind_keeps, configure_keeps, may_configure, unbind_keeps}
 use Rattle.verdict.proofs.Keeps.{Acts, Keeps}
 use Rattle.verdict.proofs.MessageKeeps.{endpoint_call_keeps, fetch_keeps, receive_keeps, reply_keeps, send_keeps}
 use Rattle.verdict.proofs.NotificationKeeps.{poll_keeps, signal_keeps, wait_keeps}
@@ -31,40 +32,64 @@ use Rattle.verdict.proofs.RemovalCalls.{delete_keeps, revoke_keeps}
 use Rattle.verdict.proofs.RetypeKeeps.{retype_keeps}
 use Rattle.verdict.proofs.Shrinking.{same_context}
 use Rattle.verdict.proofs.SlotCalls.{derive_keeps, move_keeps}
+use Rattle.verdict.proofs.SpaceKeeps.{clear_space_keeps, set_space_keeps}
+use Rattle.verdict.proofs.ThreadKeeps.{resume_keeps, suspend_keeps}
+use Rattle.verdict.proofs.WordsKeeps.{read_keeps, write_keeps}
 
 -- one clause for each call
 call_keeps :
     (t : Layout) (allowed : EdgeTest) (event : Event) (a : ℕ) (m next : Machine) → IsSound t allowed m → IsClosed allowed
-    → (caller : ObjId) (made : Call) → label_of t m caller ≡ Some a → IsCaller m caller → CallDone m caller made next
+    → (made : Call) → event.call ≡ made → label_of t m event.thread ≡ Some a → IsCaller m event.thread
+    → CallDone m event.thread made next
     → Keeps t allowed m event a m next
-call_keeps t allowed event a m next sound closed caller (call.Signal address) labelled is done =
-    signal_keeps t allowed event a m sound closed.subjects_agree caller address labelled next done
-call_keeps t allowed event a m next sound closed caller (call.Poll address) labelled is done =
-    poll_keeps t allowed event a m sound closed.subjects_agree caller address labelled next done
-call_keeps t allowed event a m next sound closed caller (call.Wait address) labelled is done =
-    wait_keeps t allowed event a m sound closed.subjects_agree caller address labelled next done
-call_keeps t allowed event a m next sound closed caller (call.Send address words capability) labelled is done =
-    send_keeps t allowed event a m sound closed caller labelled is next address words capability done
-call_keeps t allowed event a m next sound closed caller (call.Call address words capability) labelled is done =
-    endpoint_call_keeps t allowed event a m sound closed caller labelled is next address words capability done
-call_keeps t allowed event a m next sound closed caller (call.Receive address reply slot) labelled is done =
-    receive_keeps t allowed event a m sound closed caller labelled is next address reply slot done
-call_keeps t allowed event a m next sound closed caller (call.Reply address words) labelled is done =
-    reply_keeps t allowed event a m sound closed caller labelled is next address words done
-call_keeps t allowed event a m next sound closed caller call.Fetch labelled is done =
-    fetch_keeps t allowed event a m sound closed caller labelled is next done
-call_keeps t allowed event a m next sound closed caller (call.Copy to from rights) labelled is done =
-    derive_keeps t allowed event a m sound closed caller labelled to from next done
-call_keeps t allowed event a m next sound closed caller (call.Mint to from rights given) labelled is done =
-    derive_keeps t allowed event a m sound closed caller labelled to from next done
-call_keeps t allowed event a m next sound closed caller (call.Move to from) labelled is done =
-    move_keeps t allowed event a m sound closed caller labelled to from next done
-call_keeps t allowed event a m next sound closed caller (call.Delete slot) labelled is done =
-    (delete_keeps t allowed event a m sound closed caller labelled slot next done).1
-call_keeps t allowed event a m next sound closed caller (call.Revoke slot) labelled is done =
-    (revoke_keeps t allowed event a m sound closed caller labelled slot next done).1
-call_keeps t allowed event a m next sound closed caller (call.Retype untyped of bits to offset count) labelled is done =
-    retype_keeps t allowed event a m sound closed caller labelled untyped of bits to offset count next done
+call_keeps t allowed event a m next sound closed (call.Signal address) by labelled is done =
+    signal_keeps t allowed event a m sound closed.subjects_agree event.thread address labelled next done
+call_keeps t allowed event a m next sound closed (call.Poll address) by labelled is done =
+    poll_keeps t allowed event a m sound closed.subjects_agree event.thread address labelled next done
+call_keeps t allowed event a m next sound closed (call.Wait address) by labelled is done =
+    wait_keeps t allowed event a m sound closed.subjects_agree event.thread address labelled next done
+call_keeps t allowed event a m next sound closed (call.Send address words capability) by labelled is done =
+    send_keeps t allowed event a m sound closed event.thread labelled is next address words capability done
+call_keeps t allowed event a m next sound closed (call.Call address words capability) by labelled is done =
+    endpoint_call_keeps t allowed event a m sound closed event.thread labelled is next address words capability done
+call_keeps t allowed event a m next sound closed (call.Receive address reply slot) by labelled is done =
+    receive_keeps t allowed event a m sound closed event.thread labelled is next address reply slot done
+call_keeps t allowed event a m next sound closed (call.Reply address words) by labelled is done =
+    reply_keeps t allowed event a m sound closed event.thread labelled is next address words done
+call_keeps t allowed event a m next sound closed call.Fetch by labelled is done =
+    fetch_keeps t allowed event a m sound closed event.thread labelled is next done
+call_keeps t allowed event a m next sound closed (call.Copy to from rights) by labelled is done =
+    derive_keeps t allowed event a m sound closed event.thread labelled to from next done
+call_keeps t allowed event a m next sound closed (call.Mint to from rights given) by labelled is done =
+    derive_keeps t allowed event a m sound closed event.thread labelled to from next done
+call_keeps t allowed event a m next sound closed (call.Move to from) by labelled is done =
+    move_keeps t allowed event a m sound closed event.thread labelled to from next done
+call_keeps t allowed event a m next sound closed (call.Delete slot) by labelled is done =
+    (delete_keeps t allowed event a m sound closed event.thread labelled slot next done).1
+call_keeps t allowed event a m next sound closed (call.Revoke slot) by labelled is done =
+    (revoke_keeps t allowed event a m sound closed event.thread labelled slot next done).1
+call_keeps t allowed event a m next sound closed (call.Retype untyped of bits to offset count) by labelled is done =
+    retype_keeps t allowed event a m sound closed event.thread labelled untyped of bits to offset count next done
+call_keeps t allowed event a m next sound closed (call.Read address index) by labelled is done =
+    read_keeps t allowed event a m sound closed event.thread labelled next done
+call_keeps t allowed event a m next sound closed (call.Write address index word) by labelled is done =
+    write_keeps t allowed event a m sound closed event.thread labelled next address index word done
+call_keeps t allowed event a m next sound closed (call.SetSpace thread space) by labelled is done =
+    set_space_keeps t allowed event a m sound closed event.thread labelled next thread space done
+call_keeps t allowed event a m next sound closed (call.ClearSpace thread) by labelled is done =
+    (clear_space_keeps t allowed event a m sound closed event.thread labelled next thread done).1
+call_keeps t allowed event a m next sound closed (call.Suspend thread) by labelled is done =
+    suspend_keeps t allowed event a m sound closed event.thread labelled next thread done
+call_keeps t allowed event a m next sound closed (call.Resume thread) by labelled is done =
+    resume_keeps t allowed event a m sound closed event.thread labelled next thread done
+call_keeps t allowed event a m next sound closed (call.Configure control context budget period) by labelled is done =
+    configure_keeps t allowed event a m sound closed event.thread labelled next control context budget period done
+    (may_configure t allowed event a m sound closed labelled control context (ap configures by) done.governs done.id
+    done.finds_control done.finds)
+call_keeps t allowed event a m next sound closed (call.Bind context thread) by labelled is done =
+    bind_keeps t allowed event a m sound closed event.thread labelled next context thread done
+call_keeps t allowed event a m next sound closed (call.Unbind context) by labelled is done =
+    unbind_keeps t allowed event a m sound closed event.thread labelled next context done
 
 -- a step is allowed and guards budgets, and keeps what belongs to the table and what is confined
 record StepKeeps (t : Layout) (allowed : EdgeTest) (m : Machine) (event : Event) (next : Machine) : Type 0 where
@@ -87,7 +112,7 @@ step_keeps t allowed m next sound closed event outcome step = by (step_done m ev
   by : EventDone m event next ⊎ (next ≡ m) → StepKeeps t allowed m event next
   by (inl done) =
       let label = sound.of_table.labelled event.thread (o.Tcb done.caller.thread) done.caller.there in
-      let keeps = call_keeps t allowed event label.0 m next sound closed event.thread event.call label.1 done.caller done.done in
+      let keeps = call_keeps t allowed event label.0 m next sound closed event.call refl label.1 done.caller done.done in
       record {
         sound = record {
           well_formed = step_formed m event outcome next sound.well_formed step;

@@ -1,8 +1,7 @@
 -- Setting an object's content, and changing who waits at it, touch that object alone.
-use Rattle.std.proofs.Common.{◌≡◌, ℕ, List, Some, refl, inl, sym, ◌∙◌, ap}
+use Rattle.std.proofs.Common.{◌≡◌, ℕ, List, Some, ◌∙◌}
 use Rattle.base.specs.declared.ids.ObjId.{ObjId}
 use Rattle.machine.specs.declared.call.Event.{Event}
-use Rattle.machine.specs.declared.object.Context.{Context}
 use Rattle.machine.specs.declared.object.Object.{Object}
 use Rattle.machine.specs.Layout.{Layout}
 use Rattle.machine.specs.Machine.{Machine, object_of, queue_of, with_object, with_queue}
@@ -13,8 +12,7 @@ use Rattle.policy.specs.Domain.{EdgeTest}
 use Rattle.verdict.specs.Allowed.{MayChange}
 use Rattle.verdict.specs.Invariant.{IsHeld}
 use Rattle.verdict.proofs.Keeps.{Keeps}
-use Rattle.verdict.proofs.TouchKeeps.{Fits, touch_keeps}
-use Rattle.verdict.proofs.Shrinking.{same_context}
+use Rattle.verdict.proofs.TouchKeeps.{Fits, same_fits, touch_keeps}
 
 module _ (t : Layout) (allowed : EdgeTest) (began : Machine) (event : Event) (a : ℕ) (m : Machine) (id : ObjId) (held : IsHeld t allowed m) where
   pub set_keeps :
@@ -37,14 +35,7 @@ module _ (t : Layout) (allowed : EdgeTest) (began : Machine) (event : Event) (a 
       → MayChange t allowed a m (with_queue m id threads) id → Keeps t allowed began event a m (with_queue m id threads)
   queue_keeps object threads there may =
       touch_keeps t allowed began event a m id object object (with_queue m id threads) held
-      (record {
-        was = there;
-        kind = refl;
-        address = refl;
-        end = refl;
-        links = λ end k had. inl had;
-        share = λ before after was is. inl (ap (λ (c : Context). c.share) (same_context after before (sym is ∙ was)));
-      })
+      (same_fits t allowed began event m id object there)
       (record {
         contents = λ q apart. object_of-with_queue m id threads q;
         queues = λ q apart. queue_of-with_queue m id threads q ∙ at_other q id (Some threads) (queue_of m q) apart;

@@ -10,7 +10,6 @@ use Rattle.base.specs.declared.kind.Kind.TheVariants as authority
 use Rattle.base.specs.Kinds.{is_structural}
 use Rattle.machine.specs.declared.call.Event.{Event}
 use Rattle.machine.specs.declared.cap.Cap.{Cap}
-use Rattle.machine.specs.declared.object.ObjectKind.TheVariants as kind
 use Rattle.machine.specs.declared.slot_address.SlotAddress.{SlotAddress}
 use Rattle.machine.specs.Authority.{label_of}
 use Rattle.machine.specs.Authority.HasAuthority.{by_cap, by_pair}
@@ -30,11 +29,11 @@ use Rattle.policy.specs.Closed.{IsClosed, derived}
 use Rattle.policy.specs.Domain.{EdgeTest}
 use Rattle.policy.specs.Full.IsFull.{modifies}
 use Rattle.verdict.specs.Invariant.{IsHeld, IsSound}
-use Rattle.verdict.proofs.FillKeeps.{MayFill, apart_slots, copy_derives, fill_fits, given_of_use}
+use Rattle.verdict.proofs.FillKeeps.{MayFill, apart_slots, copy_derives, fill_fits, given_of_use, in_node}
 use Rattle.verdict.proofs.Held.{bare_of, held_of}
 use Rattle.verdict.proofs.Keeps.{Keeps}
 use Rattle.verdict.proofs.Reach.{IsControlled, led_controlled}
-use Rattle.verdict.proofs.SlotKeeps.{SlotsFit, opened, slots_keep}
+use Rattle.verdict.proofs.SlotKeeps.{IsAllowedIn, SlotsFit, opened, slots_keep}
 
 -- one label is near another: what may derive to it may derive to the other, and where it may derive to the other may
 record IsNear (allowed : EdgeTest) (label other : ℕ) : Type 0 where
@@ -85,13 +84,14 @@ module _
 
     copy_may : MayFill t allowed a m done.target (copied done.held done.detail) (parent_of_copy m done.source done.held)
     copy_may = record {
-      is_node = mine.is_node;
       label = mine.label;
       labelled = mine.labelled;
       has = modifies authority.Control refl mine.controls;
-      edges = λ k end given ends.
+      edges =
+          in_node t allowed m done.target (copied done.held done.detail) mine.label mine.is_node mine.labelled
+          (λ k end given ends.
           edges done.target done.source done.held mine source_mine done.finds.filled k mine.label end
-          (gives_fewer done.detail done.held.detail k done.narrower given) mine.labelled ends;
+          (gives_fewer done.detail done.held.detail k done.narrower given) mine.labelled ends);
       derives =
           copy_derives t allowed m held_before closed.derive_by_grant done.source done.held source_mine.label mine.label
           source_mine.labelled (derives done.source.holder done.target.holder source_mine mine);
@@ -118,34 +118,28 @@ module _
 
     -- a capability was there, or is the one that moved
     move_caps :
-        (q : SlotRef) (cap : Cap) → cap_of next q ≡ Some cap
-        → (cap_of m q ≡ Some cap)
-        ⊎ ((kind_of m q.holder ≡ Some kind.CNode)
-        × ((start : ℕ) (k : Kind) (end : ℕ) → gives cap.detail k ≡ true → label_of t m q.holder ≡ Some start
-        → label_of t m cap.object ≡ Some end → allowed start k end ≡ true))
+        (q : SlotRef) (cap : Cap) → cap_of next q ≡ Some cap → (cap_of m q ≡ Some cap) ⊎ IsAllowedIn t allowed m q cap
     move_caps q cap e =
         by_tie (same_slot q done.target) (same_slot q done.source) refl (sym (done.changes.caps q) ∙ e)
       where
         by_tie :
             (tie also : Bool) → same_slot q done.target ≡ tie
             → (if tie then Some done.held else if also then None else cap_of m q) ≡ Some cap
-            → (cap_of m q ≡ Some cap)
-            ⊎ ((kind_of m q.holder ≡ Some kind.CNode)
-            × ((start : ℕ) (k : Kind) (end : ℕ) → gives cap.detail k ≡ true → label_of t m q.holder ≡ Some start
-            → label_of t m cap.object ≡ Some end → allowed start k end ≡ true))
+            → (cap_of m q ≡ Some cap) ⊎ IsAllowedIn t allowed m q cap
         by_tie false true is same = absurd (none-some cap same)
         by_tie false false is same = inl same
         by_tie true also is same =
             let at = one_slot q done.target is in
             let cap_is : done.held ≡ cap = same_Some _ _ same in
-            inr (
+            inr
+            (inl (
               ap (λ (s : SlotRef). kind_of m s.holder) at ∙ goal_mine.is_node,
               λ start k end given begins ends.
                   edges done.target done.source done.held goal_mine start_mine done.finds.filled k start end
                   (ap (λ (c : Cap). gives c.detail k) cap_is ∙ given)
                   (ap (λ (s : SlotRef). label_of t m s.holder) (sym at) ∙ begins)
                   (ap (λ (c : Cap). label_of t m c.object) cap_is ∙ ends),
-            )
+            ))
 
     -- the labels of two controlled CNodes are near
     near_controlled : (one other : ObjId) → (x : Controlled one) → (y : Controlled other) → IsNear allowed x.label y.label

@@ -1,5 +1,5 @@
--- A change of slots keeps what a part of a call keeps: each capability and pair of the tree that is new is in the policy, and the CNodes
--- whose slots change are the caller's to change.
+-- A change of slots keeps what a part of a call keeps: each capability and pair of the tree that is new is in the policy, and the
+-- objects whose slots change are the caller's to change.
 use Rattle.std.proofs.Common.{◌≡◌, ℕ, ◌⊎◌, inl, inr, true, Some, None, refl, sym, ap, ◌∙◌, arith}
 use Rattle.std.proofs.lemmas.Option.{none-some, same_Some}
 use Rattle.base.specs.declared.ids.ObjId.{ObjId}
@@ -45,16 +45,21 @@ pub opened :
     → IsOpened t allowed m a node
 opened t allowed m a node c = record { label = c.label; labelled = c.labelled; has = modifies authority.Control refl c.controls }
 
+-- the policy has the edges of a capability in a slot: all that it gives, in a slot of a CNode, and space, in a thread's root slot
+abbrev pub IsAllowedIn : Layout → EdgeTest → Machine → SlotRef → Cap → Type 0
+IsAllowedIn t allowed m slot cap =
+    ((kind_of m slot.holder ≡ Some kind.CNode)
+    × ((from : ℕ) (k : Kind) (to : ℕ) → gives cap.detail k ≡ true → label_of t m slot.holder ≡ Some from
+    → label_of t m cap.object ≡ Some to → allowed from k to ≡ true))
+    ⊎ ((kind_of m slot.holder ≡ Some kind.Tcb)
+    × ((from to : ℕ) → label_of t m slot.holder ≡ Some from → label_of t m cap.object ≡ Some to
+    → allowed from authority.Space to ≡ true))
+
 -- what a change of slots has to meet
 pub record SlotsFit (t : Layout) (allowed : EdgeTest) (a : ℕ) (m next : Machine) : Type 0 where
   pub same : SameObjects m next
-  -- a capability was there, or is in a slot of a CNode and its edges are in the policy
-  pub caps :
-      (q : SlotRef) (cap : Cap) → cap_of next q ≡ Some cap
-      → (cap_of m q ≡ Some cap)
-      ⊎ ((kind_of m q.holder ≡ Some kind.CNode)
-      × ((from : ℕ) (k : Kind) (to : ℕ) → gives cap.detail k ≡ true → label_of t m q.holder ≡ Some from
-      → label_of t m cap.object ≡ Some to → allowed from k to ≡ true))
+  -- a capability was there, or its edges are in the policy
+  pub caps : (q : SlotRef) (cap : Cap) → cap_of next q ≡ Some cap → (cap_of m q ≡ Some cap) ⊎ IsAllowedIn t allowed m q cap
   -- each pair's edge is in the policy
   pub pairs :
       (q parent : SlotRef) (from to : ℕ) → parent_of next q ≡ Some parent → label_of t m parent.holder ≡ Some from
@@ -81,29 +86,23 @@ module _
 
   confined : IsConfined t allowed next
   confined from k to (by_cap q cap filled is_node given source target) = by_case (fit.caps q cap filled) where
-    by_case :
-        (cap_of m q ≡ Some cap)
-        ⊎ ((kind_of m q.holder ≡ Some kind.CNode)
-        × ((from : ℕ) (k : Kind) (to : ℕ) → gives cap.detail k ≡ true → label_of t m q.holder ≡ Some from
-        → label_of t m cap.object ≡ Some to → allowed from k to ≡ true))
-        → allowed from k to ≡ true
+    by_case : (cap_of m q ≡ Some cap) ⊎ IsAllowedIn t allowed m q cap → allowed from k to ≡ true
     by_case (inl before) =
         held.confined from k to
         (by_cap q cap before (sym (kinds q.holder) ∙ is_node) given (sym (labels q.holder) ∙ source) (sym (labels cap.object) ∙ target))
-    by_case (inr new) = new.1 from k to given (sym (labels q.holder) ∙ source) (sym (labels cap.object) ∙ target)
+    by_case (inr (inl new)) = new.1 from k to given (sym (labels q.holder) ∙ source) (sym (labels cap.object) ∙ target)
+    by_case (inr (inr new)) =
+        let two : Some kind.Tcb ≡ Some kind.CNode = sym new.0 ∙ sym (kinds q.holder) ∙ is_node in
+        cc
   confined from k to (by_root q cap filled is_thread source target) = by_case (fit.caps q cap filled) where
-    by_case :
-        (cap_of m q ≡ Some cap)
-        ⊎ ((kind_of m q.holder ≡ Some kind.CNode)
-        × ((from : ℕ) (k : Kind) (to : ℕ) → gives cap.detail k ≡ true → label_of t m q.holder ≡ Some from
-        → label_of t m cap.object ≡ Some to → allowed from k to ≡ true))
-        → allowed from authority.Space to ≡ true
+    by_case : (cap_of m q ≡ Some cap) ⊎ IsAllowedIn t allowed m q cap → allowed from authority.Space to ≡ true
     by_case (inl before) =
         held.confined from authority.Space to
         (by_root q cap before (sym (kinds q.holder) ∙ is_thread) (sym (labels q.holder) ∙ source) (sym (labels cap.object) ∙ target))
-    by_case (inr new) =
+    by_case (inr (inl new)) =
         let two : Some kind.CNode ≡ Some kind.Tcb = sym new.0 ∙ sym (kinds q.holder) ∙ is_thread in
         cc
+    by_case (inr (inr new)) = new.1 from to (sym (labels q.holder) ∙ source) (sym (labels cap.object) ∙ target)
   confined from k to (by_pair q parent derived source target) =
       fit.pairs q parent from to derived (sym (labels parent.holder) ∙ source) (sym (labels q.holder) ∙ target)
   confined from k to (by_link q end object at linked source target) =

@@ -51,6 +51,19 @@ pub record Fits (t : Layout) (allowed : EdgeTest) (began : Machine) (event : Eve
       (before after : Context) → old ≡ o.Context before → new ≡ o.Context after
       → (after.share ≡ before.share) ⊎ MayConfigure t allowed began event id
 
+-- it may keep the content that it has
+pub same_fits :
+    (t : Layout) (allowed : EdgeTest) (began : Machine) (event : Event) (m : Machine) (id : ObjId) (object : Object)
+    → object_of m id ≡ Some object → Fits t allowed began event m id object object
+same_fits t allowed began event m id object there = record {
+  was = there;
+  kind = refl;
+  address = refl;
+  end = refl;
+  links = λ end k had. inl had;
+  share = λ before after was is. inl (ap (λ (c : Context). c.share) (same_context after before (sym is ∙ was)));
+}
+
 memory_by_kind : (object : Object) → kind_of_object object ≡ kind.Untyped → (memory : Untyped) × (object ≡ o.Untyped memory)
 memory_by_kind (o.Untyped memory) is = (memory, refl)
 memory_by_kind _ is = cc

@@ -5,6 +5,7 @@ use Rattle.base.specs.declared.ids.ObjId.{ObjId}
 use Rattle.base.specs.declared.ids.SlotRef.{SlotRef}
 use Rattle.base.specs.declared.kind.Kind.TheVariants as authority
 use Rattle.machine.specs.declared.call.Call.{Call}
+use Rattle.machine.specs.declared.call.Call.TheVariants as call
 use Rattle.machine.specs.declared.call.Event.{Event}
 use Rattle.machine.specs.declared.cap.Cap.{Cap}
 use Rattle.machine.specs.declared.object.Context.{Context}
@@ -19,6 +20,7 @@ use Rattle.policy.specs.Domain.{EdgeTest}
 
 -- the address of the control's capability through which a call configures a context, if it is such a call
 abbrev pub configures : Call → Option ℕ
+configures (call.Configure control _ _ _) = Some control
 configures _ = None
 
 -- the call configures a context, through a control's capability, and the caller's label has the edges that this takes

@@ -11,4 +11,5 @@ pub mod OfTable
 pub mod Invariant
 pub mod Counterexamples
 pub mod Slots
+pub mod Outside
 pub mod Removals

@@ -8,7 +8,7 @@ use Rattle.policy.specs.Domain.{EdgeTest}
 use Rattle.policy.specs.Places.{IsLeast, IsNone, IsUnder}
 use Rattle.verdict.specs.declared.denial.Denial.{Denial}
 use Rattle.verdict.specs.declared.denial.Denial.TheVariants as denial
-use Rattle.verdict.specs.Rules.{c1, Excess, capability, root, pair, binding, Exceeds, excess_place}
+use Rattle.verdict.specs.Rules.{c1, Excess, capability, root, pair, binding, holding, recorded, Exceeds, excess_place}
 use Rattle.verdict.specs.Sources.{of_table, of_machine}
 
 -- the table or the policy breaks a rule at a place
@@ -18,6 +18,8 @@ Breaks t allowed (denial.Capability slot kind label) = Exceeds (of_table t) allo
 Breaks t allowed (denial.Root slot label) = Exceeds (of_table t) allowed (root slot label)
 Breaks t allowed (denial.Pair child parent) = Exceeds (of_table t) allowed (pair child parent)
 Breaks t allowed (denial.Binding thread context) = Exceeds (of_table t) allowed (binding thread context)
+Breaks t allowed (denial.Holding reply thread) = Exceeds (of_table t) allowed (holding reply thread)
+Breaks t allowed (denial.Recorded thread kind label) = Exceeds (of_table t) allowed (recorded thread kind label)
 -- C1 is a rule of certificates, and of no table or policy
 Breaks t allowed (denial.Certificate line) = ⊥
 
@@ -28,6 +30,8 @@ place_of (denial.Capability slot kind label) = excess_place (capability slot kin
 place_of (denial.Root slot label) = excess_place (root slot label)
 place_of (denial.Pair child parent) = excess_place (pair child parent)
 place_of (denial.Binding thread context) = excess_place (binding thread context)
+place_of (denial.Holding reply thread) = excess_place (holding reply thread)
+place_of (denial.Recorded thread kind label) = excess_place (recorded thread kind label)
 place_of (denial.Certificate line) = c1 ∷ line ∷ []
 
 abbrev pub rule_name : Denial → List ℕ
@@ -36,6 +40,8 @@ rule_name (denial.Capability _ _ _) = codes "A1"
 rule_name (denial.Root _ _) = codes "A2"
 rule_name (denial.Pair _ _) = codes "A3"
 rule_name (denial.Binding _ _) = codes "A4"
+rule_name (denial.Holding _ _) = codes "A5"
+rule_name (denial.Recorded _ _ _) = codes "A6"
 rule_name (denial.Certificate _) = codes "C1"
 
 -- a broken place that begins with these numbers
@@ -53,11 +59,13 @@ IsAccepted t allowed = IsNone (Breaks t allowed)
 abbrev pub IsOutside : Layout → EdgeTest → Machine → Excess → Type 0
 IsOutside t allowed m = IsLeast excess_place (Exceeds (of_machine t m) allowed)
 
--- where a denial by A1 to A4 says that authority lies outside
+-- where a denial by A1 to A6 says that authority lies outside
 abbrev pub excess_of : Denial → Option Excess
 excess_of (denial.Policy broken) = None
 excess_of (denial.Capability slot kind label) = Some (capability slot kind label)
 excess_of (denial.Root slot label) = Some (root slot label)
 excess_of (denial.Pair child parent) = Some (pair child parent)
 excess_of (denial.Binding thread context) = Some (binding thread context)
+excess_of (denial.Holding reply thread) = Some (holding reply thread)
+excess_of (denial.Recorded thread kind label) = Some (recorded thread kind label)
 excess_of (denial.Certificate line) = None

@@ -34,6 +34,19 @@ pub enum Denial {
         thread: ObjId,
         context: ObjId,
     },
+    /// A5: a reply holds a thread, and the policy doesn't have the edge of kind holds. No table has one
+    /// that does.
+    Holding {
+        reply: ObjId,
+        thread: ObjId,
+    },
+    /// A6: a blocked thread keeps a kind of authority over an object of this label that the policy
+    /// doesn't have. No table has one.
+    Recorded {
+        thread: ObjId,
+        kind: Kind,
+        label: Label,
+    },
     /// C1: a certificate isn't the table's, and this line, from 1 after the header, is the first that
     /// differs, is missing or is too many.
     Certificate {
@@ -54,6 +67,8 @@ impl Denial {
             Denial::Root { .. } => "A2",
             Denial::Pair { .. } => "A3",
             Denial::Binding { .. } => "A4",
+            Denial::Holding { .. } => "A5",
+            Denial::Recorded { .. } => "A6",
             Denial::Certificate { .. } => "C1",
         }
     }

@@ -28,7 +28,7 @@ ghost use Rattle.policy.specs.Cut.{IsBase, IsCut, IsHolding, IsNear, is_link};
 ghost use Rattle.policy.specs.Closed.{IsClosed, MayBeGranted};
 ghost use Rattle.policy.specs.Domain.{EdgeTest, IsInDomain};
 ghost use Rattle.policy.specs.Full.{IsFull};
-ghost use Rattle.policy.specs.Needed.{control_gives_all, derive_by_grant, grant_shares, reply_holds, subjects_agree};
+ghost use Rattle.policy.specs.Needed.{context_runs, control_gives_all, derive_by_grant, grant_shares, reply_holds, subjects_agree};
 ghost use Rattle.policy.specs.Policy.{allows};
 ghost use Rattle.table.specs.Rules.{IsLawful};
 ghost use Rattle.verdict.specs.declared.denial.Denial.{Denial};
@@ -198,6 +198,13 @@ pub fn safety_needs_transitive_derivation()
 /// thread where its label has no edge for it.
 pub fn safety_needs_replies_to_hold()
     ensures { UnsafeWithout reply_holds }
+{}
+
+/// A law: safety needs that who may bind a context may run on it (the rule P6). There is a system that breaks
+/// no other rule and whose boot state is confined, and a thread of it binds another label's context to a
+/// second thread, which then runs on it where its label has no edge for it.
+pub fn safety_needs_contexts_to_run()
+    ensures { UnsafeWithout context_runs }
 {}
 
 /// A law: a state is confined exactly where no authority lies outside the policy at any place of the

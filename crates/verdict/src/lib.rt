@@ -6,6 +6,7 @@ mod accepted;
 mod bindings;
 mod check;
 mod denial;
+mod excess;
 mod laws;
 mod making;
 mod removing;
@@ -15,11 +16,12 @@ mod slots;
 pub use accepted::Accepted;
 pub use check::judge;
 pub use denial::Denial;
+pub use excess::outside;
 pub use laws::{
     a_budget_needs_authority, a_signal_needs_authority, a_system_has_one_verdict,
     a_verdict_is_on_the_boot_state, confined_states_have_nothing_outside, cuts_follow_paths,
     each_reason_of_authority_counts, gains_are_no_shrinking, losses_are_shrinking,
-    safety_needs_agreeing_subjects, safety_needs_control_to_give_all,
+    safety_needs_agreeing_subjects, safety_needs_contexts_to_run, safety_needs_control_to_give_all,
     safety_needs_derivation_over_grants, safety_needs_grants_to_share,
     safety_needs_replies_to_hold, safety_needs_transitive_derivation,
 };

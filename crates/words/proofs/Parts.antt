@@ -9,7 +9,7 @@ use Rattle.std.proofs.lemmas.Slice.Eq.{bytes_eq-Decides}
 use Rattle.words.specs.declared.faults.Wrong.{Wrong}
 use Rattle.words.specs.Name.{is_name, name_at, name_of}
 use Rattle.words.specs.Number.{dec_of, hex_at, hex_of, hexadecimal, number_at}
-use Rattle.words.specs.Parts.{PartReader, in_turn, read_as, by_word, keyed, IsPart}
+use Rattle.words.specs.Parts.{PartReader, in_turn, read_as, by_word, keyed, IsLastPart, IsPart, Takes}
 use Rattle.words.specs.Reading.{bind, ended_at, or_syntax, word_at}
 use Rattle.words.specs.Text.{IsPlainWord}
 use Rattle.words.proofs.TextLaws.{both}
@@ -77,36 +77,53 @@ part_then {read} part f words y h =
     record { value = a.0.0; rest = a.0.1; words_are = taken.0; is = taken.1; goes_on = a.2 }
 
 -- one part after another
+
+in_turn_takes : {X Y : Type 0} (one : PartReader X) (other : PartReader Y) (spell : X → List (List ℕ)) (spell_other : Y → List (List ℕ))
+    (Is : X → Type 0) (IsOther : Y → Type 0) → Takes one spell Is → Takes other spell_other IsOther
+    → Takes (in_turn one other) (λ p. spell p.0 ++ spell_other p.1) (λ p. Is p.0 × IsOther p.1)
+unfolding in_turn
+in_turn_takes one other spell spell_other Is IsOther first second words taken h =
+    let a = bind_ok (one words) _ taken h in
+    let b = bind_ok (other a.0.1) _ taken a.2 in
+    let of_one = first words a.0 a.1 in
+    let of_other = second a.0.1 b.0 b.1 in
+    let same : ((a.0.0, b.0.0), b.0.1) ≡ taken = cc in
+    subst (λ t. (words ≡ (spell t.0.0 ++ spell_other t.0.1) ++ t.1) × (Is t.0.0 × IsOther t.0.1)) same (
+      of_one.0 ∙ ap (λ rest. spell a.0.0 ++ rest) of_other.0 ∙ sym (append_assoc (spell a.0.0) (spell_other b.0.0) b.0.1),
+      (of_one.1, of_other.1),
+    )
+
 pub both_parts : {X Y : Type 0} {one : PartReader X} {other : PartReader Y} {spell : X → List (List ℕ)} {spell_other : Y → List (List ℕ)}
     {Is : X → Type 0} {IsOther : Y → Type 0} → IsPart one spell Is → IsPart other spell_other IsOther
     → IsPart (in_turn one other) (λ p. spell p.0 ++ spell_other p.1) (λ p. Is p.0 × IsOther p.1)
 unfolding in_turn bind
 both_parts {X} {Y} {one} {other} {spell} {spell_other} {Is} {IsOther} first second =
     record {
-      takes = takes;
+      takes = in_turn_takes one other spell spell_other Is IsOther first.takes second.takes;
       again = again;
       plain = λ p is. both IsPlainWord (spell p.0) (spell_other p.1) (first.plain p.0 is.0) (second.plain p.1 is.1);
     }
   where
-    takes : (words : List (List ℕ)) (taken : (X × Y) × List (List ℕ)) → (in_turn one other) words ≡ Ok taken
-        → (words ≡ (spell taken.0.0 ++ spell_other taken.0.1) ++ taken.1) × (Is taken.0.0 × IsOther taken.0.1)
-    takes words taken h =
-        let a = bind_ok (one words) _ taken h in
-        let b = bind_ok (other a.0.1) _ taken a.2 in
-        let of_one = first.takes words a.0 a.1 in
-        let of_other = second.takes a.0.1 b.0 b.1 in
-        let same : ((a.0.0, b.0.0), b.0.1) ≡ taken = cc in
-        subst (λ t. (words ≡ (spell t.0.0 ++ spell_other t.0.1) ++ t.1) × (Is t.0.0 × IsOther t.0.1)) same (
-          of_one.0 ∙ ap (λ rest. spell a.0.0 ++ rest) of_other.0 ∙ sym (append_assoc (spell a.0.0) (spell_other b.0.0) b.0.1),
-          (of_one.1, of_other.1),
-        )
-
     again : (p : X × Y) (rest : List (List ℕ)) → Is p.0 × IsOther p.1
         → (in_turn one other) ((spell p.0 ++ spell_other p.1) ++ rest) ≡ Ok (p, rest)
     again p rest is =
         ap (λ ws. in_turn one other ws) (append_assoc (spell p.0) (spell_other p.1) rest)
         ∙ ap (λ r. bind r (λ a. bind (other a.1) (λ b. Ok ((a.0, b.0), b.1)))) (first.again p.0 (spell_other p.1 ++ rest) is.0)
         ∙ ap (λ r. bind r (λ b. Ok ((p.0, b.0), b.1))) (second.again p.1 rest is.1)
+
+-- and then one that stands last
+pub then_last : {X Y : Type 0} {one : PartReader X} {other : PartReader Y} {spell : X → List (List ℕ)} {spell_other : Y → List (List ℕ)}
+    {Is : X → Type 0} {IsOther : Y → Type 0} → IsPart one spell Is → IsLastPart other spell_other IsOther
+    → IsLastPart (in_turn one other) (λ p. spell p.0 ++ spell_other p.1) (λ p. Is p.0 × IsOther p.1)
+unfolding in_turn bind
+then_last {X} {Y} {one} {other} {spell} {spell_other} {Is} {IsOther} first last =
+    record {
+      takes = in_turn_takes one other spell spell_other Is IsOther first.takes last.takes;
+      again = λ p is.
+          ap (λ r. bind r (λ a. bind (other a.1) (λ b. Ok ((a.0, b.0), b.1)))) (first.again p.0 (spell_other p.1) is.0)
+          ∙ ap (λ r. bind r (λ b. Ok ((p.0, b.0), b.1))) (last.again p.1 is.1);
+      plain = λ p is. both IsPlainWord (spell p.0) (spell_other p.1) (first.plain p.0 is.0) (last.plain p.1 is.1);
+    }
 
 -- a part as another type's value
 pub takes_as : {X Y : Type 0} {read : PartReader X} {spell : X → List (List ℕ)} {Is : X → Type 0} → IsPart read spell Is → (f : X → Y)
@@ -148,17 +165,31 @@ IsChoice {X} spell Is choice =
     (words : List (List ℕ)) (taken : X × List (List ℕ)) → choice.1 words ≡ Ok taken
     → (choice.0 ∷ words ≡ spell taken.0 ++ taken.1) × Is taken.0
 
+-- what is read as a value after its word
+pub takes_after_word : {X Y : Type 0} {read : PartReader X} {spell_part : X → List (List ℕ)} {IsX : X → Type 0} (key : List ℕ) (f : X → Y)
+    (spell : Y → List (List ℕ)) (Is : Y → Type 0) → Takes read spell_part IsX → ((x : X) → spell (f x) ≡ key ∷ spell_part x)
+    → ((x : X) → IsX x → Is (f x)) → IsChoice spell Is (key, read_as f read)
+unfolding read_as
+takes_after_word {read} key f spell Is part_takes spelled is words taken h =
+    let a = bind_ok (read words) _ taken h in
+    let of_part = part_takes words a.0 a.1 in
+    let same : (f a.0.0, a.0.1) ≡ taken = cc in
+    subst (λ t. (key ∷ words ≡ spell t.0 ++ t.1) × Is t.0) same
+    (ap (λ ws. key ∷ ws) of_part.0 ∙ ap (λ ws. ws ++ a.0.1) (sym (spelled a.0.0)), is a.0.0 of_part.1)
+
 -- a part after its word
 pub after_word : {X Y : Type 0} {read : PartReader X} {spell_part : X → List (List ℕ)} {IsX : X → Type 0} → IsPart read spell_part IsX
     → (key : List ℕ) (f : X → Y) (spell : Y → List (List ℕ)) (Is : Y → Type 0) → ((x : X) → spell (f x) ≡ key ∷ spell_part x)
     → ((x : X) → IsX x → Is (f x)) → IsChoice spell Is (key, read_as f read)
-unfolding read_as
-after_word {X} {Y} {read} {spell_part} part key f spell Is spelled is words taken h =
-    let a = bind_ok (read words) _ taken h in
-    let of_part = part.takes words a.0 a.1 in
-    let same : (f a.0.0, a.0.1) ≡ taken = cc in
-    subst (λ t. (key ∷ words ≡ spell t.0 ++ t.1) × Is t.0) same
-    (ap (λ ws. key ∷ ws) of_part.0 ∙ ap (λ ws. ws ++ a.0.1) (sym (spelled a.0.0)), is a.0.0 of_part.1)
+after_word {read} {spell_part} {IsX} part key f spell Is =
+    takes_after_word {read = read} {spell_part = spell_part} {IsX = IsX} key f spell Is part.takes
+
+-- one that stands last, after its word
+pub last_after_word : {X Y : Type 0} {read : PartReader X} {spell_part : X → List (List ℕ)} {IsX : X → Type 0} → IsLastPart read spell_part IsX
+    → (key : List ℕ) (f : X → Y) (spell : Y → List (List ℕ)) (Is : Y → Type 0) → ((x : X) → spell (f x) ≡ key ∷ spell_part x)
+    → ((x : X) → IsX x → Is (f x)) → IsChoice spell Is (key, read_as f read)
+last_after_word {read} {spell_part} {IsX} part key f spell Is =
+    takes_after_word {read = read} {spell_part = spell_part} {IsX = IsX} key f spell Is part.takes
 
 -- a part as it is, after its word
 pub after_key : {X : Type 0} {read : PartReader X} {spell_part : X → List (List ℕ)} {Is : X → Type 0} → IsPart read spell_part Is
@@ -188,18 +219,26 @@ by_word_takes {X} spell Is (choice ∷ choices) all word words taken h =
         subst (λ w. (w ∷ words ≡ spell taken.0 ++ taken.1) × Is taken.0) (sym (same.0 refl)) (all.0 words taken h)
     by_test false same later h = later h
 
+pub keyed_takes : {X : Type 0} (spell : X → List (List ℕ)) (Is : X → Type 0) (choices : List (List ℕ × PartReader X))
+    → AllByRecursion (IsChoice spell Is) choices → Takes (keyed choices) spell Is
+unfolding keyed
+keyed_takes spell Is choices all words taken h =
+    let read = word_then _ words taken h in
+    subst (λ ws. (ws ≡ spell taken.0 ++ taken.1) × Is taken.0) (sym read.words_are)
+    (by_word_takes spell Is choices all read.word read.rest taken read.goes_on)
+
 pub keyed_part : {X : Type 0} (spell : X → List (List ℕ)) (Is : X → Type 0) (choices : List (List ℕ × PartReader X))
     → AllByRecursion (IsChoice spell Is) choices
     → ((x : X) (rest : List (List ℕ)) → Is x → keyed choices (spell x ++ rest) ≡ Ok (x, rest))
     → ((x : X) → Is x → AllByRecursion IsPlainWord (spell x)) → IsPart (keyed choices) spell Is
-unfolding keyed
-keyed_part {X} spell Is choices all again plain = record { takes = takes; again = again; plain = plain } where
-  takes : (words : List (List ℕ)) (taken : X × List (List ℕ)) → keyed choices words ≡ Ok taken
-      → (words ≡ spell taken.0 ++ taken.1) × Is taken.0
-  takes words taken h =
-      let read = word_then _ words taken h in
-      subst (λ ws. (ws ≡ spell taken.0 ++ taken.1) × Is taken.0) (sym read.words_are)
-      (by_word_takes spell Is choices all read.word read.rest taken read.goes_on)
+keyed_part spell Is choices all again plain =
+    record { takes = keyed_takes spell Is choices all; again = again; plain = plain }
+
+pub keyed_last : {X : Type 0} (spell : X → List (List ℕ)) (Is : X → Type 0) (choices : List (List ℕ × PartReader X))
+    → AllByRecursion (IsChoice spell Is) choices → ((x : X) → Is x → keyed choices (spell x) ≡ Ok (x, []))
+    → ((x : X) → Is x → AllByRecursion IsPlainWord (spell x)) → IsLastPart (keyed choices) spell Is
+keyed_last spell Is choices all again plain =
+    record { takes = keyed_takes spell Is choices all; again = again; plain = plain }
 
 -- words that begin with those of a value begin with those of no other
 pub part_once : {X : Type 0} {read : PartReader X} {spell : X → List (List ℕ)} {Is : X → Type 0} → IsPart read spell Is
@@ -211,19 +250,46 @@ part_once {X} {read} part one other rest later this that same =
     let both : ◌≡◌ {A = X × List (List ℕ)} (one, rest) (other, later) = cc in
     (ap (λ (p : X × List (List ℕ)). p.0) both, ap (λ (p : X × List (List ℕ)). p.1) both)
 
+-- the words of a value, where they stand last, are those of no other
+pub last_once : {X : Type 0} {read : PartReader X} {spell : X → List (List ℕ)} {Is : X → Type 0} → IsLastPart read spell Is
+    → (one other : X) → Is one → Is other → spell one ≡ spell other → one ≡ other
+last_once {X} {read} part one other this that same =
+    let taken : ◌≡◌ {A = Result (X × List (List ℕ)) Wrong} (Ok (one, [])) (Ok (other, [])) =
+    sym (part.again one this) ∙ ap read same ∙ part.again other that in
+    let both : ◌≡◌ {A = X × List (List ℕ)} (one, []) (other, []) = cc in
+    ap (λ (p : X × List (List ℕ)). p.0) both
+
+-- a part may stand last
+as_last : {X : Type 0} {read : PartReader X} {spell : X → List (List ℕ)} {Is : X → Type 0} → IsPart read spell Is
+    → IsLastPart read spell Is
+as_last {read} {spell} part =
+    record {
+      takes = part.takes;
+      again = λ x is. ap read (sym (append-nil (spell x))) ∙ part.again x [] is;
+      plain = part.plain;
+    }
+
 -- a line whose words are one part, and nothing after it
-pub alone_again : {X Y : Type 0} {read : PartReader X} {spell : X → List (List ℕ)} {Is : X → Type 0} → IsPart read spell Is
+pub last_again : {X Y : Type 0} {read : PartReader X} {spell : X → List (List ℕ)} {Is : X → Type 0} → IsLastPart read spell Is
     → (next : X → Result Y Wrong) (x : X) → Is x → bind (read (spell x)) (λ x. bind (ended_at x.1) (λ _. next x.0)) ≡ next x
 unfolding bind ended_at
-alone_again {X} {Y} {read} {spell} part next x is =
-    ap (λ ws. bind (read ws) (λ x. bind (ended_at x.1) (λ _. next x.0))) (sym (append-nil (spell x)))
-    ∙ ap (λ r. bind r (λ x. bind (ended_at x.1) (λ _. next x.0))) (part.again x [] is)
+last_again part next x is = ap (λ r. bind r (λ x. bind (ended_at x.1) (λ _. next x.0))) (part.again x is)
+
+pub alone_again : {X Y : Type 0} {read : PartReader X} {spell : X → List (List ℕ)} {Is : X → Type 0} → IsPart read spell Is
+    → (next : X → Result Y Wrong) (x : X) → Is x → bind (read (spell x)) (λ x. bind (ended_at x.1) (λ _. next x.0)) ≡ next x
+alone_again part = last_again (as_last part)
 
 -- a line whose words were one part, and nothing after it
+pub last_takes : {X Y : Type 0} {read : PartReader X} {spell : X → List (List ℕ)} {Is : X → Type 0} → IsLastPart read spell Is
+    → (next : X → Result Y Wrong) (words : List (List ℕ)) (y : Y) → bind (read words) (λ x. bind (ended_at x.1) (λ _. next x.0)) ≡ Ok y
+    → (x : X) × (words ≡ spell x) × Is x × (next x ≡ Ok y)
+last_takes {read} {spell} part next words y h =
+    let a = bind_ok (read words) _ y h in
+    let taken = part.takes words a.0 a.1 in
+    let ended = ended_then (λ _. next a.0.0) a.0.1 y a.2 in
+    (a.0.0, taken.0 ∙ ap (λ rest. spell a.0.0 ++ rest) ended.0 ∙ append-nil (spell a.0.0), taken.1, ended.1)
+
 pub alone_takes : {X Y : Type 0} {read : PartReader X} {spell : X → List (List ℕ)} {Is : X → Type 0} → IsPart read spell Is
     → (next : X → Result Y Wrong) (words : List (List ℕ)) (y : Y) → bind (read words) (λ x. bind (ended_at x.1) (λ _. next x.0)) ≡ Ok y
     → (x : X) × (words ≡ spell x) × Is x × (next x ≡ Ok y)
-alone_takes {X} {Y} {read} {spell} {Is} part next words y h =
-    let a = part_then part _ words y h in
-    let ended = ended_then (λ _. next a.value) a.rest y a.goes_on in
-    (a.value, a.words_are ∙ ap (λ rest. spell a.value ++ rest) ended.0 ∙ append-nil (spell a.value), a.is, ended.1)
+alone_takes part = last_takes (as_last part)

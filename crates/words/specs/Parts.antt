@@ -36,10 +36,20 @@ keyed choices words = do
   word ← word_at words
   by_word choices word.0 word.1
 
+-- what is read is told by what it spells, and the words after it
+abbrev pub Takes : {X : Type 0} → PartReader X → (X → List (List ℕ)) → (X → Type 0) → Type 0
+Takes {X} read spell Is =
+    (words : List (List ℕ)) (taken : X × List (List ℕ)) → read words ≡ Ok taken
+    → (words ≡ spell taken.0 ++ taken.1) × Is taken.0
+
 -- reading and spelling are one another's inverse, for the values that can be spelled; what they spell are plain words
 pub record IsPart {X : Type 0} (read : PartReader X) (spell : X → List (List ℕ)) (Is : X → Type 0) : Type 0 where
-  pub takes :
-      (words : List (List ℕ)) (taken : X × List (List ℕ)) → read words ≡ Ok taken
-      → (words ≡ spell taken.0 ++ taken.1) × Is taken.0
+  pub takes : Takes read spell Is
   pub again : (x : X) (rest : List (List ℕ)) → Is x → read (spell x ++ rest) ≡ Ok (x, rest)
+  pub plain : (x : X) → Is x → AllByRecursion IsPlainWord (spell x)
+
+-- the same of a part that stands last on its line: what it spells may begin what another value spells
+pub record IsLastPart {X : Type 0} (read : PartReader X) (spell : X → List (List ℕ)) (Is : X → Type 0) : Type 0 where
+  pub takes : Takes read spell Is
+  pub again : (x : X) → Is x → read (spell x) ≡ Ok (x, [])
   pub plain : (x : X) → Is x → AllByRecursion IsPlainWord (spell x)

@@ -5,6 +5,7 @@ use Rattle.base.specs.declared.ids.ObjId.{ObjId}
 use Rattle.base.specs.declared.ids.SlotRef.{SlotRef}
 use Rattle.base.specs.declared.refusal.Cause.{Cause}
 use Rattle.base.specs.declared.refusal.Cause.TheVariants as cause
+use Rattle.base.specs.declared.rights.Rights.{Rights}
 use Rattle.machine.specs.declared.cap.Cap.{Cap}
 use Rattle.machine.specs.declared.cap.Badged.{Badged}
 use Rattle.machine.specs.declared.cap.Detail.{Detail}
@@ -63,6 +64,57 @@ unfoldable pub find_reply : Machine → ObjId → ℕ → Result ObjId Cause
 find_reply m caller address = do
   found ← find_cap m caller address
   reply_in found.1
+
+-- the frame of a capability, with the capability's rights
+abbrev pub frame_in : Cap → Result (ObjId × Rights) Cause
+frame_in held = by_detail held.object held.detail where
+  by_detail : ObjId → Detail → Result (ObjId × Rights) Cause
+  by_detail object (d.Frame rights) = Ok (object, rights)
+  by_detail object _ = Err cause.InvalidCapability
+
+-- the frame at an address
+unfoldable pub find_frame : Machine → ObjId → ℕ → Result (ObjId × Rights) Cause
+find_frame m caller address = do
+  found ← find_cap m caller address
+  frame_in found.1
+
+-- a capability that has to be a thread's
+abbrev pub of_tcb : Detail → Result (Unit {0}) Cause
+of_tcb d.Tcb = Ok tt
+of_tcb _ = Err cause.InvalidCapability
+
+-- the slot with a thread's capability at an address, and the thread
+unfoldable pub find_tcb : Machine → ObjId → ℕ → Result (SlotRef × ObjId) Cause
+find_tcb m caller address = do
+  found ← find_cap m caller address
+  _ ← of_tcb found.1.detail
+  Ok (found.0, found.1.object)
+
+-- the scheduling context of a capability
+abbrev pub context_in : Cap → Result ObjId Cause
+context_in held = by_detail held.object held.detail where
+  by_detail : ObjId → Detail → Result ObjId Cause
+  by_detail object d.Context = Ok object
+  by_detail object _ = Err cause.InvalidCapability
+
+-- the scheduling context at an address
+unfoldable pub find_context : Machine → ObjId → ℕ → Result ObjId Cause
+find_context m caller address = do
+  found ← find_cap m caller address
+  context_in found.1
+
+-- the control of a capability
+abbrev pub control_in : Cap → Result ObjId Cause
+control_in held = by_detail held.object held.detail where
+  by_detail : ObjId → Detail → Result ObjId Cause
+  by_detail object d.Control = Ok object
+  by_detail object _ = Err cause.InvalidCapability
+
+-- the control at an address
+unfoldable pub find_control : Machine → ObjId → ℕ → Result ObjId Cause
+find_control m caller address = do
+  found ← find_cap m caller address
+  control_in found.1
 
 -- a right that the capability has to have
 abbrev pub permitted : Bool → Result (Unit {0}) Cause

@@ -1,0 +1,19 @@
+-- What is read is what the definition says, and the laws of that.
+use Rattle.words.proofs.FirstFaults.{faults, refused_for}
+use Rattle.words.proofs.ListLaws.{found, only}
+use Rattle.words.specs.Text.{lines_of}
+use Rattle.evtext.specs.Log.{log_format, log_header, read_log_of}
+use Rattle.evtext.proofs.LogTexts.{format, plain_header}
+use Rattle.evtext.proofs.log.read_log.Goals as goal
+
+pub returns : goal.returns
+unfolding read_log_of
+returns c =
+    let read = c.entries_of.ensures.exact in
+    record {
+      exact = read;
+      found = found format _ log_header c.args.text.now c.entries_of.result read;
+      only = only format _ log_header c.args.text.now c.entries_of.result plain_header read;
+      faults = faults _ log_format (lines_of c.args.text.now) c.entries_of.result read;
+      refused = refused_for _ log_format (lines_of c.args.text.now) c.entries_of.result read;
+    }

@@ -1,0 +1,17 @@
+-- Past the end of the words, and where there are none, 0 is read.
+use Rattle.std.proofs.Common.{◌≡◌, ℕ, List, refl, ap, ◌∙◌}
+use Rattle.std.specs.Prelude.{Option, Some, None, option_and_then, slice_get}
+use Rattle.std.specs.Option.{unwrap_or}
+use Rattle.std.proofs.lemmas.Option.{unwrap_or-slice_get}
+use Rattle.machine.specs.Machine.{words_of}
+use Rattle.machine.specs.Step.Words.{word_in}
+use Rattle.frames.proofs.accesses.word.Goals as goal
+
+word_read : (o : Option (List ℕ)) (index : ℕ) → unwrap_or (option_and_then (λ words. slice_get words index) o) 0 ≡ word_in o index
+word_read None index = refl
+word_read (Some words) index = unwrap_or-slice_get words index 0
+
+pub returns : goal.returns
+returns c =
+    c.unwrap_or.ensures ∙ ap (λ (o : Option ℕ). unwrap_or o 0) c.word.ensures
+    ∙ word_read (words_of c.args.state.now c.args.id) c.args.index

@@ -1,0 +1,69 @@
+ghost use Rattle.std.specs.Prelude.{◌≡◌};
+ghost use Rattle.machine.specs.Machine.{words_of};
+ghost use Rattle.machine.specs.Makes.{Makes};
+ghost use Rattle.machine.specs.Step.Words.{in_frame, read_of, word_in, write_of};
+
+use base::{Cause, ObjId, Rights};
+use bitflags::Flags;
+use cspace::{find_frame, permit};
+use machine::{Answer, Made};
+use objects::State;
+
+/// Refuses an index past the 512 words of a frame.
+fn in_frame(index: u64) -> Result<(), Cause>
+    ensures { result ≡ in_frame index }
+{
+    if index < 512 {
+        Ok(())
+    } else {
+        Err(Cause::RangeError)
+    }
+}
+
+/// The word of an object at an index; 0 where it has none there.
+fn word(state: &State, id: ObjId, index: u64) -> u64
+    ensures { result ≡ word_in (words_of state.now id) index }
+{
+    state.word(id, index).unwrap_or(0)
+}
+
+/// Reads the word of 64 bits at an index of the frame at an address. (confine's own: seL4 maps frames,
+/// and threads read them by their own instructions; seL4 manual, "Virtual Memory".)
+///
+/// # Errors
+///
+/// Those of [`find_frame`], an invalid capability where the right Read is missing, and then a range
+/// error where the index isn't below 512.
+#[tactic(auto, unfolding(machine::specs::Step::Words::read_of))]
+pub fn read_word(state: &State, caller: ObjId, address: u64, index: u64) -> Result<Made, Cause>
+    ensures { Makes state.now state.now result (read_of state.now caller address index) }
+{
+    let (id, rights) = find_frame(state, caller, address)?;
+    permit(rights.contains(Rights::READ))?;
+    in_frame(index)?;
+    Ok(Made::Done(Answer::Word(word(state, id, index))))
+}
+
+/// Writes the word of 64 bits at an index of the frame at an address. (confine's own, as
+/// [`read_word`].)
+///
+/// # Errors
+///
+/// Those of [`find_frame`], an invalid capability where the right Write is missing, and then a range
+/// error where the index isn't below 512.
+#[tactic(auto, unfolding(machine::specs::Step::Words::write_of))]
+pub fn write_word(
+    state: &mut State,
+    caller: ObjId,
+    address: u64,
+    index: u64,
+    word: u64,
+) -> Result<Made, Cause>
+    ensures { Makes state.old state.new result (write_of state.old caller address index word) }
+{
+    let (id, rights) = find_frame(state, caller, address)?;
+    permit(rights.contains(Rights::WRITE))?;
+    in_frame(index)?;
+    state.set_word(id, index, word);
+    Ok(Made::Done(Answer::Nothing))
+}

@@ -1,0 +1,168 @@
+-- Which entries are steps; and a log that stops at an entry is no run, since of two steps of an event with one outcome both lead to
+-- one machine.
+use Rattle.std.proofs.Common.{◌≡◌, ◌≢◌, ◌==◌, ◌&&◌, ℕ, zero, suc, Bool, ◌<◌, ◌⊎◌, inl, inr, List, [], ◌∷◌, ◌++◌, Some, None, Result, Ok, Err, refl, sym, ap, subst, ◌∙◌, arith}
+use Rattle.std.specs.Prelude.{Decides, map, take, slice_get, length}
+use Rattle.std.proofs.Math.Seq.{take-length}
+use Rattle.std.proofs.lemmas.Bool.{cases_order}
+use Rattle.std.proofs.lemmas.Bool.Decides.{Decides-and, Decides-at, Decides-eqb, Decides-like, not_from_Decides}
+use Rattle.std.proofs.lemmas.List.{map_push}
+use Rattle.std.proofs.lemmas.Option.{same_Some, slice_get_within}
+use Rattle.base.specs.declared.refusal.Cause.{Cause}
+use Rattle.base.specs.declared.refusal.Refusal.{Refusal}
+use Rattle.base.specs.Refusals.{out_of_memory, refusal_of}
+use Rattle.machine.specs.declared.call.Event.{Event}
+use Rattle.machine.specs.declared.call.Made.{Made}
+use Rattle.machine.specs.declared.call.Outcome.{Outcome}
+use Rattle.machine.specs.declared.call.Outcome.TheVariants.{Refused}
+use Rattle.machine.specs.Machine.{Machine}
+use Rattle.machine.specs.Outcomes.{IsRefused}
+use Rattle.machine.specs.Step.{LacksMemory, Step, made_by, takes_memory}
+use Rattle.machine.specs.Step.Step.{lacks}
+use Rattle.machine.proofs.Steps.{steps_agree, refused_changes_nothing, refused_steps}
+use Rattle.untyped.specs.Making.{refusal_in}
+use Rattle.kernel.specs.Legal.{Entry, Follows, Leads, StopsAt}
+use Rattle.kernel.specs.Refusals.{lasting_refusal}
+use Rattle.kernel.proofs.RunLemmas.{run_further}
+
+-- of a call that takes memory, what it is refused in any case is what its row says
+lasting_is : (m : Machine) (event : Event) → takes_memory event.call ≡ Bool.true → lasting_refusal m event ≡ refusal_in (made_by m event)
+lasting_is m event takes = rw takes refl
+
+-- one that could be made may lack memory
+made_lacks :
+    (m : Machine) (event : Event) (made : Result (Made × Machine) Cause) → takes_memory event.call ≡ Bool.true
+    → made_by m event ≡ made → refusal_in made ≡ None → Step m event (Refused out_of_memory) m
+made_lacks m event (Ok made) takes is none =
+    lacks (record { takes = takes; made = made; could = is; refused = refl; same = refl })
+made_lacks m event (Err cause) takes is none = cc
+
+pub may_lack :
+    (m : Machine) (event : Event) → takes_memory event.call ≡ Bool.true → lasting_refusal m event ≡ None
+    → Step m event (Refused out_of_memory) m
+may_lack m event takes none = made_lacks m event (made_by m event) takes refl (sym (lasting_is m event takes) ∙ none)
+
+-- one that is refused in any case comes to that refusal
+refused_is :
+    (m : Machine) (event : Event) (refusal : Refusal) (made : Result (Made × Machine) Cause) → made_by m event ≡ made
+    → refusal_in made ≡ Some refusal → Step m event (Refused refusal) m
+refused_is m event refusal (Ok made) is some = cc
+refused_is m event refusal (Err cause) is some =
+    subst (λ (r : Refusal). Step m event (Refused r) m) (same_Some (refusal_of cause) refusal some) (refused_steps m event cause is)
+
+pub is_refused :
+    (m : Machine) (event : Event) (refusal : Refusal) → takes_memory event.call ≡ Bool.true
+    → lasting_refusal m event ≡ Some refusal → Step m event (Refused refusal) m
+is_refused m event refusal takes some = refused_is m event refusal (made_by m event) refl (sym (lasting_is m event takes) ∙ some)
+
+-- and lacks no memory
+refused_lacks_none :
+    (m : Machine) (event : Event) (outcome : Outcome) (next : Machine) (refusal : Refusal) (made : Result (Made × Machine) Cause)
+    → made_by m event ≡ made → refusal_in made ≡ Some refusal → ¬ (LacksMemory m event outcome next)
+refused_lacks_none m event outcome next refusal (Ok made) is some lack = cc
+refused_lacks_none m event outcome next refusal (Err cause) is some lack = cc (lack.could)
+
+pub not_lacking :
+    (m : Machine) (event : Event) (refusal : Refusal) → takes_memory event.call ≡ Bool.true
+    → lasting_refusal m event ≡ Some refusal → refusal ≢ out_of_memory → (next : Machine)
+    → ¬ (Step m event (Refused out_of_memory) next)
+not_lacking m event refusal takes some differs next step =
+    by (steps_agree m event (Refused refusal) (Refused out_of_memory) m next (is_refused m event refusal takes some) step) where
+      row : refusal_in (made_by m event) ≡ Some refusal
+      row = sym (lasting_is m event takes) ∙ some
+
+      by : ((Refused refusal ≡ Refused out_of_memory) × (m ≡ next))
+          ⊎ (LacksMemory m event (Refused refusal) m ⊎ LacksMemory m event (Refused out_of_memory) next) → ⊥
+      by (inl same) = differs (cc (same.0))
+      by (inr (inl lack)) = refused_lacks_none m event (Refused refusal) m refusal (made_by m event) refl row lack
+      by (inr (inr lack)) = refused_lacks_none m event (Refused out_of_memory) next refusal (made_by m event) refl row lack
+
+-- a step that lacked memory, and one with the same outcome, leave the machine as it was
+lacking_agree :
+    (m : Machine) (event : Event) (outcome : Outcome) (next after : Machine) → Step m event outcome next
+    → Step m event outcome after → LacksMemory m event outcome next ⊎ LacksMemory m event outcome after → next ≡ after
+lacking_agree m event outcome next after one other (inl lack) =
+    lack.same ∙ sym (refused_changes_nothing m event outcome after other (subst IsRefused (sym lack.refused) tt))
+lacking_agree m event outcome next after one other (inr lack) =
+    refused_changes_nothing m event outcome next one (subst IsRefused (sym lack.refused) tt) ∙ sym lack.same
+
+pub one_next :
+    (m : Machine) (event : Event) (outcome : Outcome) (next after : Machine) → Step m event outcome next
+    → Step m event outcome after → next ≡ after
+one_next m event outcome next after one other = by (steps_agree m event outcome outcome next after one other) where
+  by :
+      ((outcome ≡ outcome) × (next ≡ after)) ⊎ (LacksMemory m event outcome next ⊎ LacksMemory m event outcome after) → next ≡ after
+  by (inl same) = same.1
+  by (inr lack) = lacking_agree m event outcome next after one other lack
+
+-- where a beginning of the entries is a run, each entry in it is a step from where those before it lead
+step_within :
+    (first last mid : Machine) (entries : List Entry) (at most : ℕ) (entry : Entry) → Leads first (take most entries) last
+    → slice_get entries at ≡ Some entry → at < most → Leads first (take at entries) mid
+    → (next : Machine) × Step mid entry.0 entry.1 next
+step_within first last mid [] at most entry ran here below led = cc
+step_within first last mid (e ∷ es) at zero entry ran here below led = absurd (omega (arith, below))
+step_within first last mid (e ∷ es) zero (suc most) entry ran here below led =
+    let same : e ≡ entry = same_Some e entry here in
+    let step : Step first entry.0 entry.1 ran.0 = subst (λ (x : Entry). Step first x.0 x.1 ran.0) same ran.1 in
+    (ran.0, subst (λ (m : Machine). Step m entry.0 entry.1 ran.0) led step)
+step_within first last mid (e ∷ es) (suc at) (suc most) entry ran here below led =
+    let one : ran.0 ≡ led.0 = one_next first e.0 e.1 ran.0 led.0 ran.1 led.1 in
+    step_within led.0 last mid es at most entry (subst (λ (m : Machine). Leads m (take most es) last) one ran.2) here (omega (arith, below)) led.2
+
+pub no_run :
+    (first last : Machine) (entries : List Entry) (at : ℕ) → StopsAt first entries at → ¬ (Leads first entries last)
+no_run first last entries at stops ran =
+    let all : Leads first (take (length entries) entries) last = subst (λ (es : List Entry). Leads first es last) (sym (take-length entries)) ran in
+    let step = step_within first last stops.last entries at (length entries) stops.entry all stops.here (slice_get_within entries at stops.entry stops.here) stops.led in
+    stops.stuck step.0 step.1
+
+-- entries that lead somewhere, and one more
+pub led_further :
+    (first last next : Machine) (entries : List Entry) (entry : Entry) → Leads first entries last → Step last entry.0 entry.1 next
+    → Leads first (entries ++ entry ∷ []) next
+led_further first last next entries entry ran step =
+    let further = run_further first (map (λ (e : Entry). e.0) entries) (map (λ (e : Entry). e.1) entries) last entry.0 entry.1 next ran step in
+    rw (map_push (λ (e : Entry). e.0) entries entry, map_push (λ (e : Entry). e.1) entries entry) further
+
+-- of two entries where it stops the later one isn't reached
+not_later :
+    (first : Machine) (entries : List Entry) (at other : ℕ) → StopsAt first entries at → StopsAt first entries other → at < other → ⊥
+not_later first entries at other stops further below =
+    let step = step_within first further.last stops.last entries at other stops.entry further.led stops.here below stops.led in
+    stops.stuck step.0 step.1
+
+pub one_stop :
+    (first : Machine) (entries : List Entry) (at other : ℕ) → StopsAt first entries at → StopsAt first entries other → at ≡ other
+one_stop first entries at other one two = elim (cases_order at other) [
+  | inl same ↦ same
+  | inr (inl below) ↦ absurd (not_later first entries at other one two below)
+  | inr (inr above) ↦ absurd (not_later first entries other at two one above)
+]
+
+-- so it may end for want of memory exactly where it is refused so in any case
+pub follows_refusal :
+    (m : Machine) (event : Event) (refusal : Refusal) (lacking : Bool) → takes_memory event.call ≡ Bool.true
+    → lasting_refusal m event ≡ Some refusal → Decides lacking (refusal ≡ out_of_memory)
+    → Follows m event (Refused out_of_memory) m lacking
+follows_refusal m event refusal Bool.true takes some is =
+    subst (λ (r : Refusal). Step m event (Refused r) m) (is.0 refl) (is_refused m event refusal takes some)
+follows_refusal m event refusal Bool.false takes some is =
+    not_lacking m event refusal takes some (not_from_Decides Bool.false is refl)
+
+-- which refusals are want of memory
+same_refusal : (one other : Refusal) → (one.code ≡ other.code) × (one.detail ≡ other.detail) → one ≡ other
+same_refusal one other same =
+    let by_code : ℕ → Refusal = λ n. record { code = n; detail = one.detail } in
+    let by_detail : ℕ → Refusal = λ n. record { code = other.code; detail = n } in
+    ap by_code same.0 ∙ ap by_detail same.1
+
+pub decides_lacking :
+    (refusal other : Refusal) (lacking : Bool) → other ≡ out_of_memory
+    → lacking ≡ ((refusal.code == other.code) && (refusal.detail == other.detail)) → Decides lacking (refusal ≡ out_of_memory)
+decides_lacking refusal other lacking is told =
+    let both = Decides-and (refusal.code == other.code) (refusal.detail == other.detail) (Decides-eqb refusal.code other.code) (Decides-eqb refusal.detail other.detail) in
+    Decides-at lacking ((refusal.code == other.code) && (refusal.detail == other.detail)) told
+    (Decides-like ((refusal.code == other.code) && (refusal.detail == other.detail))
+    (λ (same : (refusal.code ≡ other.code) × (refusal.detail ≡ other.detail)). same_refusal refusal other same ∙ is)
+    (λ (same : refusal ≡ out_of_memory). (ap (λ (r : Refusal). r.code) (same ∙ sym is), ap (λ (r : Refusal). r.detail) (same ∙ sym is)))
+    both)

@@ -1,0 +1,35 @@
+use Rattle.std.proofs.Common.{◌≡◌, ◌+◌, ◌++◌, ◌∷◌, ◌∙◌, [], Bool, List, length, ap, refl, sym, subst, take}
+use Rattle.std.proofs.lemmas.List.{take_more}
+use Rattle.std.proofs.lemmas.Option.{slice_get_read}
+use Rattle.machine.specs.Step.{Step}
+use Rattle.kernel.specs.Legal.{Entry, Follows}
+use Rattle.kernel.proofs.LegalLemmas.{led_further}
+use Rattle.kernel.proofs.replaying.replay.Goals as goal
+
+-- the entry is no step from where those before it lead
+pub returns-then-not-branch-clause-found : goal.returns-then-not-branch-clause-found
+returns-then-not-branch-clause-found c =
+    let entries : List Entry = c.args.entries.now in
+    let entry : Entry = c.index-entries-index.result in
+    record {
+      entry = entry;
+      here = slice_get_read entries (length entries) c.loop-index.index entry refl c.loop-index-test.true c.index-entries-index.is;
+      last = c.loop-index.state;
+      led = c.loop-index.invariant.led;
+      stuck = subst (λ (is : Bool). Follows c.loop-index.state entry.0 entry.1 c.follow.new.state is) c.if-not-branch.true c.in_ok-follow.ensures.followed;
+    }
+
+-- it is the next step
+pub loop-index-preserved : goal.loop-index-preserved
+loop-index-preserved c =
+    let entries : List Entry = c.args.entries.now in
+    let i = c.loop-index.index in
+    let entry : Entry = c.index-entries-index.result in
+    let step : Step c.loop-index.state entry.0 entry.1 c.follow.new.state =
+    subst (λ (is : Bool). Follows c.loop-index.state entry.0 entry.1 c.follow.new.state is) c.if-not-branch.false c.in_ok-follow.ensures.followed in
+    let more : take (i + 1) entries ≡ take i entries ++ entry ∷ [] =
+    take_more entries i entry c.loop-index-test.true ∙ ap (λ last. take i entries ++ last ∷ []) (sym c.index-entries-index.is) in
+    record {
+      led = rw more (led_further c.args.state.now c.loop-index.state c.follow.new.state (take i entries) entry c.loop-index.invariant.led step);
+      formed = c.in_ok-follow.ensures.well_formed;
+    }

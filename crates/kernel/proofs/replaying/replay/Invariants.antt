@@ -1,0 +1,11 @@
+use Rattle.std.proofs.Common.{take}
+use Rattle.kernel.specs.Legal.{Leads}
+use Rattle.machine.specs.WellFormed.{IsWellFormed}
+use Rattle.kernel.proofs.replaying.replay.Given as goal
+
+-- the entries so far are steps
+abbrev pub invariant-loop-index : goal.invariant-loop-index
+invariant-loop-index l = record {
+  led : Leads l.fn.state (take l.index l.entries) l.state;
+  formed : IsWellFormed l.state;
+}

@@ -1,0 +1,33 @@
+-- Legal logs: their events and outcomes are a run; and where a log stops to be one (confine's own).
+use Rattle.std.specs.Prelude.{◌≡◌, ℕ, Bool, List, Some, map, take, slice_get}
+use Rattle.base.specs.Refusals.{out_of_memory}
+use Rattle.machine.specs.declared.call.Event.{Event}
+use Rattle.machine.specs.declared.call.Outcome.{Outcome}
+use Rattle.machine.specs.declared.call.Outcome.TheVariants.{Refused}
+use Rattle.machine.specs.Machine.{Machine}
+use Rattle.machine.specs.Run.{Run}
+use Rattle.machine.specs.Step.{Step, takes_memory}
+
+abbrev pub Entry : Type 0
+Entry = Event × Outcome
+
+-- the entries lead from one machine to another: their events and outcomes are a run
+abbrev pub Leads : Machine → List Entry → Machine → Type 0
+Leads first entries last = Run first (map (λ entry. entry.0) entries) (map (λ entry. entry.1) entries) last
+
+-- the entries are a run up to one that no step makes
+pub record StopsAt (first : Machine) (entries : List Entry) (at : ℕ) : Type 0 where
+  pub entry : Entry
+  pub here : slice_get entries at ≡ Some entry
+  pub last : Machine
+  pub led : Leads first (take at entries) last
+  pub stuck : (next : Machine) → ¬ (Step last entry.0 entry.1 next)
+
+-- the event came to the outcome, or no step of it does
+abbrev pub Follows : Machine → Event → Outcome → Machine → Bool → Type 0
+Follows old event outcome new Bool.true = Step old event outcome new
+Follows old event outcome new Bool.false = (next : Machine) → ¬ (Step old event outcome next)
+
+-- a call that takes memory ended for want of it
+abbrev pub IsLack : Event → Outcome → Type 0
+IsLack event outcome = (takes_memory event.call ≡ Bool.true) × (outcome ≡ Refused out_of_memory)

@@ -1,0 +1,82 @@
+ghost use Rattle.std.specs.Prelude.{◌≡◌, ℕ, Bool, List, Decides, IfErr, IfOk, MatchOption};
+ghost use Rattle.base.specs.Refusals.{out_of_memory};
+ghost use Rattle.kernel.specs.Legal.{Entry, Follows, IsLack, Leads, StopsAt};
+ghost use Rattle.machine.specs.Machine.{Machine};
+ghost use Rattle.machine.specs.Step.{takes_memory};
+ghost use Rattle.machine.specs.WellFormed.{IsWellFormed};
+ghost use Rattle.machine.specs.declared.call.Outcome.TheVariants.{Refused};
+
+use crate::calls::{retype_refusal, step};
+use base::{Cause, Refusal};
+use machine::{Call, Event, Outcome};
+use objects::State;
+
+/// Makes the steps of a log, entry after entry: none where each is the step that its entry tells, and
+/// else the index, from 0, of the first that isn't.
+///
+/// A retype that was refused memory is a step that changes nothing, wherever it could be made.
+///
+/// # Errors
+///
+/// 40, where a retype that the log tells otherwise is refused memory here.
+pub fn replay(state: &mut State, entries: &[(Event, Outcome)]) -> Result<Option<usize>, Refusal>
+    requires { IsWellFormed state.old }
+    ensures found { IfOk result (λ stop. MatchOption stop (Leads state.old entries.now state.new) (StopsAt state.old entries.now)) }
+    ensures well_formed { IsWellFormed state.new }
+    ensures refused { IfErr result (λ refusal. refusal ≡ out_of_memory) }
+{
+    for (index, (event, outcome)) in entries.iter().enumerate() {
+        if !follow(state, event, outcome)? {
+            return Ok(Some(index));
+        }
+    }
+    Ok(None)
+}
+
+// Makes the step of an event, if it comes to this outcome.
+fn follow(state: &mut State, event: &Event, outcome: &Outcome) -> Result<bool, Refusal>
+    requires { IsWellFormed state.old }
+    ensures followed { IfOk result (Follows state.old event.now outcome.now state.new) }
+    ensures well_formed { IsWellFormed state.new }
+    ensures refused { IfErr result (λ refusal. refusal ≡ out_of_memory) }
+{
+    if is_lack(event, outcome) {
+        return Ok(could_lack(state, event));
+    }
+    let came = step(state, *event);
+    if came == *outcome {
+        return Ok(true);
+    }
+    if is_lack(event, &came) {
+        return Err(Refusal::from(Cause::OutOfMemory));
+    }
+    Ok(false)
+}
+
+// Whether a call that takes memory ended for want of it.
+fn is_lack(event: &Event, outcome: &Outcome) -> bool
+    ensures { Decides result (IsLack event.now outcome.now) }
+{
+    match event.call {
+        Call::Retype { .. } => *outcome == Outcome::Refused(Refusal::from(Cause::OutOfMemory)),
+        _ => false,
+    }
+}
+
+// Whether the call of an event, one that takes memory, can end for want of it.
+fn could_lack(state: &State, event: &Event) -> bool
+    requires formed { IsWellFormed state.now }
+    requires takes { takes_memory event.now.call ≡ Bool.true }
+    ensures { Follows state.now event.now (Refused out_of_memory) state.now result }
+{
+    match retype_refusal(state, *event) {
+        None => true,
+        Some(refusal) => refusal == Refusal::from(Cause::OutOfMemory),
+    }
+}
+
+/// A law: a log that stops at an entry isn't legal, and where it stops there is one such entry.
+pub fn logs_stop_where_they_are_no_run()
+    ensures illegal { (first last : Machine) (entries : List Entry) (at : ℕ) → StopsAt first entries at → ¬ (Leads first entries last) }
+    ensures once { (first : Machine) (entries : List Entry) (at other : ℕ) → StopsAt first entries at → StopsAt first entries other → at ≡ other }
+{}

@@ -1,0 +1,50 @@
+-- What a suspend and a resume do that are made: the thread that they found, and the machine after it.
+use Rattle.std.proofs.Common.{◌≡◌, ℕ, sym, ap}
+use Rattle.std.specs.Prelude.{Ok}
+use Rattle.base.specs.declared.ids.ObjId.{ObjId}
+use Rattle.base.specs.declared.ids.SlotRef.{SlotRef}
+use Rattle.machine.specs.declared.call.Made.{Made}
+use Rattle.machine.specs.Machine.{Machine}
+use Rattle.machine.specs.Releasing.{with_suspended}
+use Rattle.machine.specs.Step.Find.{find_tcb}
+use Rattle.machine.specs.Step.Suspend.{resume_of, suspend_of, with_resumed}
+use Rattle.machine.proofs.Conditions.{both_done, same_ok}
+use Rattle.machine.proofs.FoundObjects.{FindsThread, finds_thread}
+
+pub record SuspendDone (m : Machine) (caller : ObjId) (address : ℕ) (next : Machine) : Type 0 where
+  pub slot : SlotRef
+  pub thread : ObjId
+  pub finds : FindsThread m caller address slot thread
+  pub changes : next ≡ with_suspended m thread
+
+pub suspend_done :
+    (m : Machine) (caller : ObjId) (address : ℕ) (made : Made) (next : Machine) → suspend_of m caller address ≡ Ok (made, next)
+    → SuspendDone m caller address next
+unfolding suspend_of
+suspend_done m caller address made next e =
+    let found = both_done (find_tcb m caller address) _ (made, next) e in
+    record {
+      slot = (found.0).0;
+      thread = (found.0).1;
+      finds = finds_thread m caller address (found.0).0 (found.0).1 found.1;
+      changes = sym (ap (λ p. p.1) (same_ok found.2));
+    }
+
+pub record ResumeDone (m : Machine) (caller : ObjId) (address : ℕ) (next : Machine) : Type 0 where
+  pub slot : SlotRef
+  pub thread : ObjId
+  pub finds : FindsThread m caller address slot thread
+  pub changes : next ≡ with_resumed m thread
+
+pub resume_done :
+    (m : Machine) (caller : ObjId) (address : ℕ) (made : Made) (next : Machine) → resume_of m caller address ≡ Ok (made, next)
+    → ResumeDone m caller address next
+unfolding resume_of
+resume_done m caller address made next e =
+    let found = both_done (find_tcb m caller address) _ (made, next) e in
+    record {
+      slot = (found.0).0;
+      thread = (found.0).1;
+      finds = finds_thread m caller address (found.0).0 (found.0).1 found.1;
+      changes = sym (ap (λ p. p.1) (same_ok found.2));
+    }

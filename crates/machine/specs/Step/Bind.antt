@@ -1,0 +1,58 @@
+-- Bind and Unbind (seL4 manual, seL4_SchedContext_Bind, seL4_SchedContext_Unbind): a thread runs on a scheduling context, or no more.
+use Rattle.std.specs.Prelude.{ℕ, Option, Some, None, Result, Ok, Err}
+use Rattle.base.specs.declared.ids.ObjId.{ObjId}
+use Rattle.base.specs.declared.refusal.Cause.{Cause}
+use Rattle.base.specs.declared.refusal.Cause.TheVariants as cause
+use Rattle.machine.specs.declared.call.Answer.TheVariants as answer
+use Rattle.machine.specs.declared.call.Made.{Made}
+use Rattle.machine.specs.declared.call.Made.TheVariants.{Done}
+use Rattle.machine.specs.declared.object.Context.{Context}
+use Rattle.machine.specs.declared.object.Object.{Object}
+use Rattle.machine.specs.declared.object.Object.TheVariants as o
+use Rattle.machine.specs.declared.thread.Tcb.{Tcb}
+use Rattle.machine.specs.Changes.{with_context, with_tcb}
+use Rattle.machine.specs.Machine.{Machine, object_of}
+use Rattle.machine.specs.Refusing.{◌>>=◌}
+use Rattle.machine.specs.Releasing.{with_unbound}
+use Rattle.machine.specs.Step.Find.{find_context, find_tcb}
+
+-- the thread that runs on a scheduling context
+abbrev pub thread_on : Option Object → Option ObjId
+thread_on (Some (o.Context context)) = context.thread
+thread_on _ = None
+
+-- the scheduling context that a thread runs on
+abbrev pub context_under : Option Object → Option ObjId
+context_under (Some (o.Tcb tcb)) = tcb.context
+context_under _ = None
+
+-- a link that isn't there yet
+abbrev pub loose : Option ObjId → Result (Unit {0}) Cause
+loose None = Ok tt
+loose (Some _) = Err cause.IllegalOperation
+
+-- a thread runs on a scheduling context
+unfoldable pub with_bound : Machine → ObjId → ObjId → Machine
+with_bound m id thread = by_contents (object_of m id) (object_of m thread) where
+  by_contents : Option Object → Option Object → Machine
+  by_contents (Some (o.Context context)) (Some (o.Tcb tcb)) =
+      with_context (with_tcb m thread (record tcb { context = Some id })) id (record context { thread = Some thread })
+  by_contents _ _ = m
+
+unfoldable pub bind_of : Machine → ObjId → ℕ → ℕ → Result (Made × Machine) Cause
+bind_of m caller context address = do
+  id ← find_context m caller context
+  found ← find_tcb m caller address
+  _ ← loose (thread_on (object_of m id))
+  _ ← loose (context_under (object_of m found.1))
+  Ok (Done answer.Nothing, with_bound m id found.1)
+
+-- nothing runs on a scheduling context
+abbrev pub without_thread : Machine → Option ObjId → Machine
+without_thread m None = m
+without_thread m (Some thread) = with_unbound m thread
+
+unfoldable pub unbind_of : Machine → ObjId → ℕ → Result (Made × Machine) Cause
+unbind_of m caller address = do
+  id ← find_context m caller address
+  Ok (Done answer.Nothing, without_thread m (thread_on (object_of m id)))

@@ -1,0 +1,46 @@
+-- Setspace and Clearspace (seL4 manual, seL4_TCB_SetSpace; confine's own as two calls): a thread gets another root for its capability
+-- space, or loses the one that it has.
+use Rattle.std.specs.Prelude.{ℕ, Option, Some, Result, Ok}
+use Rattle.base.specs.declared.ids.ObjId.{ObjId}
+use Rattle.base.specs.declared.ids.SlotRef.{SlotRef}
+use Rattle.base.specs.declared.refusal.Cause.{Cause}
+use Rattle.machine.specs.declared.call.Answer.TheVariants as answer
+use Rattle.machine.specs.declared.call.Made.{Made}
+use Rattle.machine.specs.declared.call.Made.TheVariants.{Done}
+use Rattle.machine.specs.declared.cap.Cap.{Cap}
+use Rattle.machine.specs.Lookup.{root_of}
+use Rattle.machine.specs.Machine.{Machine, cap_of}
+use Rattle.machine.specs.Refusing.{◌>>=◌}
+use Rattle.machine.specs.Step.Delete.{deleted}
+use Rattle.machine.specs.Step.Find.{find_cap, find_tcb}
+use Rattle.machine.specs.Step.Target.{of_cnode}
+use Rattle.machine.specs.Tree.{with_copy}
+
+-- a thread's root slot loses its capability, and what can't stay without it goes too
+abbrev pub without_root : Machine → ObjId → Machine
+without_root m thread = deleted m (root_of thread) (cap_of m (root_of thread))
+
+unfoldable pub clear_space_of : Machine → ObjId → ℕ → Result (Made × Machine) Cause
+clear_space_of m caller address = do
+  found ← find_tcb m caller address
+  Ok (Done answer.Nothing, without_root m found.1)
+
+-- the slot with the CNode's capability at an address
+unfoldable pub find_node : Machine → ObjId → ℕ → Result SlotRef Cause
+find_node m caller address = do
+  found ← find_cap m caller address
+  _ ← of_cnode found.1.detail
+  Ok found.0
+
+-- a thread's root slot gets a copy of what a slot holds, if that slot and the one with the thread's capability are still filled
+unfoldable pub with_root : Machine → ObjId → SlotRef → SlotRef → Machine
+with_root m thread tcb node = by_caps (cap_of m tcb) (cap_of m node) where
+  by_caps : Option Cap → Option Cap → Machine
+  by_caps (Some _) (Some held) = with_copy m (root_of thread) node held held.detail
+  by_caps _ _ = m
+
+unfoldable pub set_space_of : Machine → ObjId → ℕ → ℕ → Result (Made × Machine) Cause
+set_space_of m caller address space = do
+  found ← find_tcb m caller address
+  node ← find_node m caller space
+  Ok (Done answer.Nothing, with_root (without_root m found.1) found.1 found.0 node)

@@ -1,0 +1,38 @@
+-- Suspend and Resume (seL4 manual, seL4_TCB_Suspend, seL4_TCB_Resume): a thread stops, or goes on. One that is blocked and goes on is
+-- aborted (confine's own).
+use Rattle.std.specs.Prelude.{ℕ, Option, Some, Result, Ok}
+use Rattle.base.specs.declared.ids.ObjId.{ObjId}
+use Rattle.base.specs.declared.refusal.Cause.{Cause}
+use Rattle.machine.specs.declared.call.Answer.TheVariants as answer
+use Rattle.machine.specs.declared.call.Made.{Made}
+use Rattle.machine.specs.declared.call.Made.TheVariants.{Done}
+use Rattle.machine.specs.declared.object.Object.{Object}
+use Rattle.machine.specs.declared.object.Object.TheVariants as o
+use Rattle.machine.specs.declared.thread.RunState.{RunState}
+use Rattle.machine.specs.declared.thread.RunState.TheVariants as state
+use Rattle.machine.specs.Machine.{Machine, object_of}
+use Rattle.machine.specs.Refusing.{◌>>=◌}
+use Rattle.machine.specs.Releasing.{with_aborted, with_ready, with_suspended}
+use Rattle.machine.specs.Step.Find.{find_tcb}
+
+unfoldable pub suspend_of : Machine → ObjId → ℕ → Result (Made × Machine) Cause
+suspend_of m caller address = do
+  found ← find_tcb m caller address
+  Ok (Done answer.Nothing, with_suspended m found.1)
+
+-- a thread that is inactive can run, one that is blocked is aborted, and one that is ready stays so
+unfoldable pub with_resumed : Machine → ObjId → Machine
+with_resumed m thread = by_content (object_of m thread) where
+  by_state : RunState → Machine
+  by_state state.Ready = m
+  by_state state.Inactive = with_ready m thread
+  by_state _ = with_aborted m thread
+
+  by_content : Option Object → Machine
+  by_content (Some (o.Tcb tcb)) = by_state tcb.state
+  by_content _ = m
+
+unfoldable pub resume_of : Machine → ObjId → ℕ → Result (Made × Machine) Cause
+resume_of m caller address = do
+  found ← find_tcb m caller address
+  Ok (Done answer.Nothing, with_resumed m found.1)

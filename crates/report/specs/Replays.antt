@@ -1,0 +1,42 @@
+-- What the command `replay` answers to a table, a policy and a log (confine's own).
+use Rattle.std.specs.Prelude.{◌≡◌, ℕ, ◌+◌, List, Some, length}
+use Rattle.base.specs.declared.edge.Edge.{Edge}
+use Rattle.evtext.specs.Log.{read_log_of}
+use Rattle.kernel.specs.Legal.{Entry, Leads, StopsAt}
+use Rattle.machine.specs.Boot.{IsBoot}
+use Rattle.machine.specs.Layout.{Layout}
+use Rattle.machine.specs.Machine.{Machine}
+use Rattle.policy.specs.Policy.{allows}
+use Rattle.report.specs.Answers.{no_label}
+use Rattle.report.specs.Commands.{Input, IsCarriedOut, Output}
+use Rattle.report.specs.Places.{place_names}
+use Rattle.report.specs.Reports.{illegal_data, line_of, outside_data, within_data}
+use Rattle.report.specs.declared.end.End.{End}
+use Rattle.report.specs.declared.end.File.TheVariants as file
+use Rattle.verdict.specs.Confined.{IsConfined}
+use Rattle.verdict.specs.Rules.{Excess}
+use Rattle.verdict.specs.Verdict.{IsOutside, excess_of, rule_name}
+use Rattle.verdict.specs.declared.denial.Denial.{Denial}
+
+-- the log's last state: its entries are a run from the boot state of the table to there
+abbrev pub IsReplayedTo : Layout → List Entry → Machine → Type 0
+IsReplayedTo t entries last = (boot : Machine) × IsBoot t boot × Leads boot entries last
+
+-- the least place where a machine's authority lies outside the policy
+abbrev pub LiesOutside : Layout → List Edge → Machine → Denial → Type 0
+LiesOutside t edges m denial = (place : Excess) × (excess_of denial ≡ Some place) × IsOutside t (allows edges) m place
+
+-- the log is legal and its last state lies within the policy, and the text says so, with status 0; or that lies outside, and it says
+-- where, with status 1; or the log isn't legal, and it says which entry is the first that is no step, with status 1
+pub data Replays (t : Layout) (edges : List Edge) (entries : List Entry) (text : List ℕ) (status : ℕ) : Type 0 where
+  within : (last : Machine) → IsReplayedTo t entries last → IsConfined t (allows edges) last
+      → text ≡ line_of (within_data (length entries)) → status ≡ 0 → Replays t edges entries text status
+  outside : (last : Machine) (denial : Denial) → IsReplayedTo t entries last → LiesOutside t edges last denial
+      → text ≡ line_of (outside_data (length entries) (rule_name denial) (place_names t denial)) → status ≡ 1
+      → Replays t edges entries text status
+  illegal : (boot : Machine) (at : ℕ) → IsBoot t boot → StopsAt boot entries at
+      → text ≡ line_of (illegal_data (at + 1)) → status ≡ 1 → Replays t edges entries text status
+
+-- a log was replayed on a table and a policy, accepted or not
+abbrev pub IsReplayed : {T P S O : Type 0} → Input T → Input P → Input S → Output O → End → Type 0
+IsReplayed = IsCarriedOut file.Log (λ t. read_log_of) no_label Replays

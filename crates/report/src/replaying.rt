@@ -1,0 +1,125 @@
+ghost use Rattle.std.specs.Prelude.{◌≡◌, ◌≤◌, List, false, IfOk};
+ghost use Rattle.evtext.specs.Log.{read_log_of};
+ghost use Rattle.kernel.specs.Legal.{Entry};
+ghost use Rattle.report.specs.Answers as answers;
+ghost use Rattle.report.specs.Commands.{input, output};
+ghost use Rattle.report.specs.Replays as replays;
+ghost use Rattle.report.specs.declared.end.File.TheVariants as file;
+
+use crate::command::{Answer, Command, NoMemory};
+use crate::engine::carry_out;
+use crate::load::Loaded;
+use crate::places::place_names;
+use crate::reports::{illegal_report, outside_report, within_report};
+use crate::{Asked, End, File, Finding, Listener, Sink, Source};
+use captext::Fault;
+use evtext::read_log;
+use kernel::boot;
+use machine::{Event, Log, Outcome};
+use policy::Policy;
+use std::alloc::Global;
+use table::Table;
+use verdict::outside;
+
+/// Replays a log from the boot state of a table, whether that is accepted or not.
+///
+/// Writes the report that the log is legal and its last state lies within the policy, with status 0; or
+/// that this lies outside, or which entry is the first that is no step, with status 1; or the report of
+/// the first fault, with status 2.
+pub fn replay<T, P, S, L, O>(
+    alloc: Global,
+    table: &mut T,
+    policy: &mut P,
+    log: &mut S,
+    listener: &mut L,
+    out: &mut O,
+) -> End
+where
+    T: Source,
+    P: Source,
+    S: Source,
+    L: Listener,
+    O: Sink,
+    requires table { T.failed table.old ≡ false }
+    requires policy { P.failed policy.old ≡ false }
+    requires log { S.failed log.old ≡ false }
+    requires out { O.failed out.old ≡ false }
+    ensures { replays.IsReplayed (input T.remaining T.failed table.old table.new)
+        (input P.remaining P.failed policy.old policy.new) (input S.remaining S.failed log.old log.new)
+        (output O.contents O.failed O.is_flushed out.old out.new) result }
+{
+    carry_out(&Replaying, alloc, table, policy, log, listener, out)
+}
+
+/// The command `replay`.
+#[derive(Clone, Copy)]
+struct Replaying;
+
+impl Command for Replaying {
+    type Third = Log;
+
+    ghost third_file = { file.Log };
+
+    ghost Held = { List Entry };
+
+    ghost held = { λ log. log.items };
+
+    ghost read_of = { λ table. read_log_of };
+
+    ghost lacks = { λ _. answers.no_label };
+
+    ghost may_judge = { λ _. Unit {0} };
+
+    ghost judges = { λ replay. replays.Replays };
+
+    fn third_file() -> File {
+        File::Log
+    }
+
+    fn read_third(alloc: Global, _table: &Table, bytes: &[u8]) -> Result<Log, Fault> {
+        read_log(alloc, bytes)
+    }
+
+    fn unlabelled(&self, _table: &Table) -> Option<Asked> {
+        None
+    }
+
+    fn judge(&self, alloc: Global, loaded: &Loaded<Log>) -> Result<Answer, NoMemory> {
+        replayed(alloc, &loaded.table, &loaded.policy, &loaded.third)
+    }
+}
+
+/// The answer to a log: the text and status of what its replay comes to.
+fn replayed(
+    alloc: Global,
+    table: &Table,
+    policy: &Policy,
+    entries: &[(Event, Outcome)],
+) -> Result<Answer, NoMemory>
+    ensures right { IfOk result (λ answer. replays.Replays table.now policy.now entries.now answer.text.items answer.status) }
+    ensures exit { IfOk result (λ answer. answer.status ≤ 2) }
+{
+    let mut state = boot(alloc, table)?;
+    if let Some(at) = kernel::replay(&mut state, entries)? {
+        return Ok(Answer {
+            text: illegal_report(alloc, at + 1)?,
+            status: 1,
+            finding: Some(Finding::Illegal(at + 1)),
+        });
+    }
+    match outside(table, policy, &state) {
+        None => Ok(Answer {
+            text: within_report(alloc, entries.len())?,
+            status: 0,
+            finding: None,
+        }),
+        Some(denial) => {
+            let place = place_names(alloc, table, &denial)?;
+            Ok(Answer {
+                text: outside_report(alloc, entries.len(), denial.rule(), &place)?,
+                status: 1,
+                finding: Some(Finding::Outside(denial)),
+            })
+        }
+    }
+}

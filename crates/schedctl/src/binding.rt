@@ -1,0 +1,105 @@
+ghost use Rattle.std.specs.Prelude.{◌≡◌};
+ghost use Rattle.machine.specs.Machine.{object_of};
+ghost use Rattle.machine.specs.Makes.{Makes};
+ghost use Rattle.machine.specs.Step.Bind.{bind_of, context_under, loose, thread_on, unbind_of, with_bound, without_thread};
+
+use base::{Cause, ObjId};
+use cspace::{find_context, find_tcb};
+use machine::{Answer, Context, Made, Object, Tcb};
+use objects::State;
+
+/// The thread that runs on a scheduling context.
+fn thread_on(state: &State, id: ObjId) -> Option<ObjId>
+    ensures { result ≡ thread_on (object_of state.now id) }
+{
+    match state.object(id) {
+        Some(Object::Context(context)) => context.thread,
+        _ => None,
+    }
+}
+
+/// The scheduling context that a thread runs on.
+fn context_under(state: &State, thread: ObjId) -> Option<ObjId>
+    ensures { result ≡ context_under (object_of state.now thread) }
+{
+    match state.object(thread) {
+        Some(Object::Tcb(tcb)) => tcb.context,
+        _ => None,
+    }
+}
+
+/// Refuses where a link is there.
+fn loose(link: Option<ObjId>) -> Result<(), Cause>
+    ensures { result ≡ loose link }
+{
+    match link {
+        None => Ok(()),
+        Some(_) => Err(Cause::IllegalOperation),
+    }
+}
+
+/// Has a thread run on a scheduling context. Whatever ran on the context before, or the thread ran on,
+/// isn't changed: neither may be bound. Does nothing where one of them isn't there.
+#[tactic(auto, unfolding(machine::specs::Step::Bind::with_bound))]
+fn tie(state: &mut State, id: ObjId, thread: ObjId)
+    ensures { state.new ≡ with_bound state.old id thread }
+{
+    if let Some(&Object::Context(context)) = state.object(id) {
+        if let Some(&Object::Tcb(tcb)) = state.object(thread) {
+            let bound = Tcb {
+                context: Some(id),
+                ..tcb
+            };
+            let taken = Context {
+                thread: Some(thread),
+                ..context
+            };
+            state.set_tcb(thread, bound);
+            state.set_context(id, taken);
+        }
+    }
+}
+
+/// Unbinds the thread that runs on a scheduling context, if one does.
+fn cut(state: &mut State, thread: Option<ObjId>)
+    ensures { state.new ≡ without_thread state.old thread }
+{
+    if let Some(thread) = thread {
+        finalising::unbind(state, thread);
+    }
+}
+
+/// Has the thread at the address `thread` run on the scheduling context at the address `context` (seL4
+/// manual, seL4_SchedContext_Bind). The context may not be configured yet.
+///
+/// # Errors
+///
+/// Those of [`find_context`] and then those of [`find_tcb`]; an illegal operation where a thread runs
+/// on the context already, or the thread on a context.
+#[tactic(auto, unfolding(machine::specs::Step::Bind::bind_of))]
+pub fn bind(state: &mut State, caller: ObjId, context: u64, thread: u64) -> Result<Made, Cause>
+    ensures { Makes state.old state.new result (bind_of state.old caller context thread) }
+{
+    let id = find_context(state, caller, context)?;
+    let (_, thread) = find_tcb(state, caller, thread)?;
+    loose(thread_on(state, id))?;
+    loose(context_under(state, thread))?;
+    tie(state, id, thread);
+    Ok(Made::Done(Answer::Nothing))
+}
+
+/// Unbinds the thread that runs on the scheduling context at an address (seL4 manual,
+/// seL4_SchedContext_Unbind). Where none does, nothing changes.
+///
+/// # Errors
+///
+/// Those of [`find_context`].
+#[tactic(auto, unfolding(machine::specs::Step::Bind::unbind_of))]
+pub fn unbind(state: &mut State, caller: ObjId, address: u64) -> Result<Made, Cause>
+    ensures { Makes state.old state.new result (unbind_of state.old caller address) }
+{
+    let id = find_context(state, caller, address)?;
+    let thread = thread_on(state, id);
+    cut(state, thread);
+    Ok(Made::Done(Answer::Nothing))
+}

@@ -1,0 +1,75 @@
+ghost use Rattle.std.specs.Prelude.{◌≡◌};
+ghost use Rattle.machine.specs.Machine.{object_of};
+ghost use Rattle.machine.specs.Makes.{Makes};
+ghost use Rattle.machine.specs.Step.Configure.{configure_of, core_in, in_limits, with_share};
+
+use base::{Cause, CoreNo, MAX_PERIOD, ObjId};
+use cspace::{find_context, find_control};
+use machine::{Answer, Context, Made, Object, Share};
+use objects::State;
+
+/// Refuses a budget below 1 or past its period, and a period past [`MAX_PERIOD`].
+fn in_limits(budget: u64, period: u64) -> Result<(), Cause>
+    ensures { result ≡ in_limits budget period }
+{
+    if 1 <= budget && budget <= period && period <= MAX_PERIOD {
+        Ok(())
+    } else {
+        Err(Cause::RangeError)
+    }
+}
+
+/// The core of a control; the first core where there is no control of that number.
+fn core(state: &State, id: ObjId) -> CoreNo
+    ensures { result ≡ core_in (object_of state.now id) }
+{
+    match state.object(id) {
+        Some(Object::Control(control)) => control.core,
+        _ => CoreNo::new(0).unwrap(),
+    }
+}
+
+/// Gives a scheduling context a share of a core. Does nothing where there is none of that number.
+#[tactic(auto, unfolding(machine::specs::Step::Configure::with_share))]
+fn give_share(state: &mut State, id: ObjId, share: Share)
+    ensures { state.new ≡ with_share state.old id share }
+{
+    if let Some(&Object::Context(context)) = state.object(id) {
+        let configured = Context {
+            share: Some(share),
+            ..context
+        };
+        state.set_context(id, configured);
+    }
+}
+
+/// Gives the scheduling context at an address a budget and a period, in microseconds, on the core of
+/// the control at the address `control` (seL4 manual, seL4_SchedControl_ConfigureFlags). What it had
+/// before is lost; the thread that runs on it stays.
+///
+/// # Errors
+///
+/// Those of [`find_control`] and then those of [`find_context`]; and a range error unless
+/// `1 <= budget <= period <= MAX_PERIOD`.
+#[tactic(auto, unfolding(machine::specs::Step::Configure::configure_of))]
+pub fn configure(
+    state: &mut State,
+    caller: ObjId,
+    control: u64,
+    address: u64,
+    budget: u64,
+    period: u64,
+) -> Result<Made, Cause>
+    ensures { Makes state.old state.new result (configure_of state.old caller control address budget period) }
+{
+    let governs = find_control(state, caller, control)?;
+    let id = find_context(state, caller, address)?;
+    in_limits(budget, period)?;
+    let share = Share {
+        core: core(state, governs),
+        budget,
+        period,
+    };
+    give_share(state, id, share);
+    Ok(Made::Done(Answer::Nothing))
+}

@@ -1,0 +1,59 @@
+ghost use Rattle.std.specs.Prelude.{◌≡◌};
+ghost use Rattle.machine.specs.Makes.{Makes};
+ghost use Rattle.machine.specs.Releasing.{IsInItsQueue};
+ghost use Rattle.machine.specs.Step.Suspend.{resume_of, suspend_of, with_resumed};
+ghost use Rattle.machine.specs.WellFormed.{IsWellFormed};
+
+use base::{Cause, ObjId};
+use cspace::find_tcb;
+use machine::{Answer, Made, Object, RunState};
+use objects::State;
+use replies::abort;
+
+/// Has a thread that is inactive run, and aborts one that is blocked. One that is ready stays so.
+#[tactic(auto, unfolding(machine::specs::Step::Suspend::with_resumed))]
+fn go_on(state: &mut State, thread: ObjId)
+    requires { IsInItsQueue state.old thread }
+    ensures { state.new ≡ with_resumed state.old thread }
+{
+    if let Some(&Object::Tcb(tcb)) = state.object(thread) {
+        match tcb.state {
+            RunState::Ready => {}
+            RunState::Inactive => replies::resume(state, thread),
+            _ => abort(state, thread),
+        }
+    }
+}
+
+/// Suspends the thread at an address: it leaves its queue and its reply, can't run until it is resumed,
+/// and has nothing to fetch (seL4 manual, seL4_TCB_Suspend).
+///
+/// # Errors
+///
+/// Those of [`find_tcb`].
+#[tactic(auto, unfolding(machine::specs::Step::Suspend::suspend_of))]
+pub fn suspend(state: &mut State, caller: ObjId, address: u64) -> Result<Made, Cause>
+    requires { IsWellFormed state.old }
+    ensures { Makes state.old state.new result (suspend_of state.old caller address) }
+{
+    let (_, thread) = find_tcb(state, caller, address)?;
+    replies::suspend(state, thread);
+    Ok(Made::Done(Answer::Nothing))
+}
+
+/// Resumes the thread at an address: one that is inactive can run, and keeps its inbox; one that is
+/// blocked leaves its queue and its reply, can run, and learns that it was aborted (seL4 manual,
+/// seL4_TCB_Resume; the abort is confine's own). One that is ready stays as it is.
+///
+/// # Errors
+///
+/// Those of [`find_tcb`].
+#[tactic(auto, unfolding(machine::specs::Step::Suspend::resume_of))]
+pub fn resume(state: &mut State, caller: ObjId, address: u64) -> Result<Made, Cause>
+    requires { IsWellFormed state.old }
+    ensures { Makes state.old state.new result (resume_of state.old caller address) }
+{
+    let (_, thread) = find_tcb(state, caller, address)?;
+    go_on(state, thread);
+    Ok(Made::Done(Answer::Nothing))
+}

@@ -1,0 +1,114 @@
+ghost use Rattle.std.specs.Prelude.{◌≡◌, IsTrue, Some, None};
+ghost use Rattle.machine.specs.declared.cap.Cap.{Cap as Held};
+ghost use Rattle.machine.specs.Lookup.{root_of};
+ghost use Rattle.machine.specs.Machine.{cap_of, has_slot};
+ghost use Rattle.machine.specs.Makes.{Makes};
+ghost use Rattle.machine.specs.Step.Space.{clear_space_of, find_node, set_space_of, with_root, without_root};
+ghost use Rattle.machine.specs.WellFormed.{IsWellFormed};
+
+use base::{Cause, ObjId, SlotRef};
+use cnodeops::derive;
+use cspace::{find_cap, find_tcb};
+use machine::{Answer, Detail, Ends, Made, cleared_root_slots_can_be_filled};
+use objects::State;
+use removal::remove;
+
+/// The root slot of a thread.
+fn root_of(thread: ObjId) -> SlotRef
+    ensures { result ≡ root_of thread }
+{
+    SlotRef {
+        holder: thread,
+        index: 0,
+    }
+}
+
+/// The slot with the CNode's capability at an address.
+#[tactic(auto, unfolding(machine::specs::Step::Space::find_node))]
+fn find_node(state: &State, caller: ObjId, address: u64) -> Result<SlotRef, Cause>
+    ensures { result ≡ find_node state.now caller address }
+{
+    let (slot, cap) = find_cap(state, caller, address)?;
+    match cap.detail {
+        Detail::CNode(_) => Ok(slot),
+        _ => Err(Cause::InvalidCapability),
+    }
+}
+
+/// Removes the capability in a thread's root slot, if it is filled, and all that can't stay without it.
+fn clear_root(state: &mut State, thread: ObjId)
+    requires { IsWellFormed state.old }
+    ensures changes { state.new ≡ without_root state.old thread }
+    ensures well_formed { IsWellFormed state.new }
+{
+    // A law, so that the state stays well formed.
+    cleared_root_slots_can_be_filled();
+    let root = root_of(thread);
+    if let Some(_) = state.cap(root) {
+        remove(state, root);
+    }
+}
+
+/// Fills a thread's root slot, which is empty, with a copy of what the slot `node` holds. Does nothing
+/// where that slot is empty, or the slot `tcb` with the thread's capability is.
+#[tactic(auto, unfolding(machine::specs::Step::Space::with_root))]
+fn fill_root(state: &mut State, thread: ObjId, tcb: SlotRef, node: SlotRef)
+    requires well_formed { IsWellFormed state.old }
+    requires there { (of held : Held)
+        → cap_of state.old tcb ≡ Some of
+        → cap_of state.old node ≡ Some held
+        → IsTrue (has_slot state.old (root_of thread)) }
+    requires vacant { cap_of state.old (root_of thread) ≡ None }
+    ensures { state.new ≡ with_root state.old thread tcb node }
+{
+    if let Some(_) = state.cap(tcb) {
+        if let Some(held) = state.cap(node) {
+            let ends = Ends {
+                target: root_of(thread),
+                source: node,
+                held,
+            };
+            derive(state, ends, held.detail);
+        }
+    }
+}
+
+/// Removes the capability in the root slot of the thread at an address, if it is filled, and all that
+/// can't stay without it: the thread's look-ups fail from then on (confine's own, a part of seL4's
+/// seL4_TCB_SetSpace).
+///
+/// # Errors
+///
+/// Those of [`find_tcb`].
+#[tactic(auto, unfolding(machine::specs::Step::Space::clear_space_of))]
+pub fn clear_space(state: &mut State, caller: ObjId, address: u64) -> Result<Made, Cause>
+    requires { IsWellFormed state.old }
+    ensures { Makes state.old state.new result (clear_space_of state.old caller address) }
+{
+    let (_, thread) = find_tcb(state, caller, address)?;
+    clear_root(state, thread);
+    Ok(Made::Done(Answer::Nothing))
+}
+
+/// Gives the thread at an address another root for its capability space: a copy of the CNode's
+/// capability at the address `space` (seL4 manual, seL4_TCB_SetSpace). The old one is removed first, as
+/// by [`clear_space`]; where that empties the slot of the thread's or of the CNode's capability, the
+/// root slot stays empty.
+///
+/// # Errors
+///
+/// Those of [`find_tcb`] and then those of [`find_cap`]; and an invalid capability where that at
+/// `space` is no CNode's.
+#[tactic(auto, unfolding(machine::specs::Step::Space::set_space_of))]
+pub fn set_space(state: &mut State, caller: ObjId, address: u64, space: u64) -> Result<Made, Cause>
+    requires { IsWellFormed state.old }
+    ensures { Makes state.old state.new result (set_space_of state.old caller address space) }
+{
+    // A law, so that the root slot can be filled.
+    cleared_root_slots_can_be_filled();
+    let (tcb, thread) = find_tcb(state, caller, address)?;
+    let node = find_node(state, caller, space)?;
+    clear_root(state, thread);
+    fill_root(state, thread, tcb, node);
+    Ok(Made::Done(Answer::Nothing))
+}

@@ -1,0 +1,327 @@
+-- Configure, Bind and Unbind within a caller's authority: its label may use the scheduling context, a thread that comes to run on
+-- it is one that the label controls, and one that runs on it no more only loses it.
+use Rattle.std.proofs.Common.{◌≡◌, ◌≢◌, ℕ, ◌⊎◌, inl, inr, true, Option, Some, None, refl, sym, ap, subst, ◌∙◌}
+use Rattle.std.proofs.lemmas.Bool.{false≢true}
+use Rattle.std.proofs.lemmas.Option.{same_Some}
+use Rattle.base.specs.declared.ids.ObjId.{ObjId}
+use Rattle.base.specs.declared.ids.SlotRef.{SlotRef}
+use Rattle.base.specs.declared.kind.Kind.{Kind}
+use Rattle.base.specs.declared.kind.Kind.TheVariants as authority
+use Rattle.machine.specs.declared.call.Event.{Event}
+use Rattle.machine.specs.declared.cap.Detail.TheVariants as d
+use Rattle.machine.specs.declared.object.Context.{Context}
+use Rattle.machine.specs.declared.object.Object.{Object}
+use Rattle.machine.specs.declared.object.Object.TheVariants as o
+use Rattle.machine.specs.declared.thread.Tcb.{Tcb}
+use Rattle.machine.specs.Authority.{label_of, links, names_reply}
+use Rattle.machine.specs.Authority.HasAuthority.{by_link}
+use Rattle.machine.specs.Capabilities.{kind_of_detail}
+use Rattle.machine.specs.Layout.{Layout}
+use Rattle.machine.specs.Machine.{Machine, object_of, queue_of, words_of, cap_of, with_object}
+use Rattle.machine.specs.Releasing.{with_unbound}
+use Rattle.machine.specs.Step.Bind.{thread_on, without_thread}
+use Rattle.machine.specs.WellFormed.{IsThread}
+use Rattle.machine.proofs.ContextRow.{BindDone, ConfigureDone, UnbindDone}
+use Rattle.machine.proofs.ContextsFormed.{bound_is, share_is, unbound_is}
+use Rattle.machine.proofs.FoundObjects.{FindsContext, FindsControl, found_context, found_thread}
+use Rattle.machine.proofs.Ids.{at_other, itself, one_or_two}
+use Rattle.machine.proofs.LookUps.{cap_of-with_object, object_of-with_object, one_id, queue_of-with_object, words_of-with_object}
+use Rattle.policy.specs.Closed.{IsClosed}
+use Rattle.policy.specs.Cut.{IsCut}
+use Rattle.policy.specs.Cut.IsNear.{against, stays}
+use Rattle.policy.specs.Domain.{EdgeTest}
+use Rattle.policy.specs.Full.IsFull.{modifies}
+use Rattle.verdict.specs.Budgets.{MayConfigure, configures}
+use Rattle.verdict.specs.Invariant.{IsHeld, IsSound}
+use Rattle.verdict.specs.Shrinks.Lessens.{released}
+use Rattle.verdict.specs.Shrinks.Stops.{goes_on}
+use Rattle.verdict.proofs.Contents.{context_fits, full, loses_links, tcb_fits}
+use Rattle.verdict.proofs.Held.{held_of}
+use Rattle.verdict.proofs.Keeps.{Acts, Keeps, keeps_keeps, unchanged}
+use Rattle.verdict.proofs.MessageParts.{IsReached, context_reached, reached, thread_label}
+use Rattle.verdict.proofs.ObjectLabels.{same_label}
+use Rattle.verdict.proofs.SetKeeps.{set_keeps}
+use Rattle.verdict.proofs.Shrinking.{same_context}
+use Rattle.verdict.proofs.ThreadKeeps.{may_control, to_thread}
+
+-- the contents that a bind and an unbind give
+
+abbrev runs_on : Tcb → Option ObjId → Tcb
+runs_on tcb context = record tcb { context = context }
+
+abbrev has_thread : Context → Option ObjId → Context
+has_thread context thread = record context { thread = thread }
+
+apart_by_kind :
+    (m : Machine) (id thread : ObjId) (context : Context) (tcb : Tcb) → object_of m id ≡ Some (o.Context context)
+    → IsThread m thread tcb → id ≢ thread
+apart_by_kind m id thread context tcb context_there there same =
+    differ (sym there ∙ ap (object_of m) (sym same) ∙ context_there)
+  where
+    differ : ◌≡◌ {A = Option Object} (Some (o.Tcb tcb)) (Some (o.Context context)) → ⊥
+    differ e = cc
+
+-- what comes to be of the thread leaves the context as it is
+context_beside :
+    (m : Machine) (id thread : ObjId) (context : Context) (tcb new : Tcb) → object_of m id ≡ Some (o.Context context)
+    → IsThread m thread tcb → object_of (with_object m thread (o.Tcb new)) id ≡ object_of m id
+context_beside m id thread context tcb new context_there there =
+    object_of-with_object m thread (o.Tcb new) id
+    ∙ at_other id thread (Some (o.Tcb new)) (object_of m id) (apart_by_kind m id thread context tcb context_there there)
+
+-- the control that is found
+control_reached :
+    (t : Layout) (allowed : EdgeTest) (event : Event) (a : ℕ) (m : Machine) (sound : IsSound t allowed m) → IsClosed allowed
+    → (caller : ObjId) → label_of t m caller ≡ Some a
+    → (address : ℕ) (id : ObjId) → FindsControl m caller address id → IsReached t allowed m event a m sound id d.Control
+control_reached t allowed event a m sound closed caller mine address id finds =
+    reached t allowed m event a m sound closed.subjects_agree caller address finds.slot finds.held id d.Control mine finds.finds
+    finds.object finds.detail
+
+module _
+    (t : Layout) (allowed : EdgeTest) (event : Event) (a : ℕ) (m : Machine) (sound : IsSound t allowed m)
+    (closed : IsClosed allowed) (caller : ObjId) (mine : label_of t m caller ≡ Some a) (next : Machine) where
+  held : IsHeld t allowed m
+  held = held_of t allowed m sound
+
+  -- the context that is found
+  module _ (address : ℕ) (id : ObjId) (finds : FindsContext m caller address id) where
+    to_context : IsReached t allowed m event a m sound id d.Context
+    to_context = context_reached t allowed m event a m sound closed.subjects_agree caller address id mine finds
+
+    may_use : allowed a authority.Context to_context.label ≡ true
+    may_use = to_context.edge authority.Context refl refl
+
+    context : (context : Context) × (object_of m id ≡ Some (o.Context context))
+    context = found_context m caller address sound.well_formed id finds
+
+    -- it gets another thread, or none
+    with_thread :
+        (thread : ObjId) (tcb : Tcb) (end : Option ObjId) (on : Option ObjId) → IsThread m thread tcb
+        → Keeps t allowed m event a m (with_object m thread (o.Tcb (runs_on tcb end)))
+        → Keeps t allowed m event a m
+        (with_object (with_object m thread (o.Tcb (runs_on tcb end))) id (o.Context (has_thread context.0 on)))
+    with_thread thread tcb end on there first =
+        let mid : Machine = with_object m thread (o.Tcb (runs_on tcb end)) in
+        let new : Context = has_thread context.0 on in
+        let beside : object_of mid id ≡ object_of m id =
+        context_beside m id thread context.0 tcb (runs_on tcb end) context.1 there in
+        keeps_keeps t allowed m event a m mid (with_object mid id (o.Context new)) held first
+        (set_keeps t allowed m event a mid id first.held (o.Context context.0) (o.Context new)
+        (context_fits t allowed m event mid id context.0 new (beside ∙ context.1) refl (inl refl))
+        (full t allowed a mid (with_object mid id (o.Context new)) id to_context.label
+        (same_label t m mid id beside ∙ to_context.labelled) (modifies authority.Context refl may_use)))
+
+  -- a context is configured, where the event may do so
+  pub configure_keeps :
+      (control address budget period : ℕ) → (done : ConfigureDone m caller control address budget period next)
+      → MayConfigure t allowed m event done.id → Keeps t allowed m event a m next
+  configure_keeps control address budget period done may =
+      let to = to_context address done.id done.finds in
+      let old = context address done.id done.finds in
+      let new : Context = record old.0 { share = Some done.share } in
+      subst (λ (n : Machine). Keeps t allowed m event a m n) (sym (done.changes ∙ share_is m done.id old.0 done.share old.1))
+      (set_keeps t allowed m event a m done.id held (o.Context old.0) (o.Context new)
+      (context_fits t allowed m event m done.id old.0 new old.1 refl (inr may))
+      (full t allowed a m (with_object m done.id (o.Context new)) done.id to.label to.labelled
+      (modifies authority.Context refl (may_use address done.id done.finds))))
+
+  -- what a configure changes, whatever the event is
+  module _ (control address budget period : ℕ) (done : ConfigureDone m caller control address budget period next) where
+    abbrev configured : IsReached t allowed m event a m sound done.id d.Context
+    configured = to_context address done.id done.finds
+
+    set : Context
+    set = record (context address done.id done.finds).0 { share = Some done.share }
+
+    set_is : next ≡ with_object m done.id (o.Context set)
+    unfolding set
+    set_is =
+        let old = context address done.id done.finds in
+        done.changes ∙ share_is m done.id old.0 done.share old.1
+
+    beside : (id : ObjId) → id ≢ done.id → object_of next id ≡ object_of m id
+    beside id apart =
+        ap (λ (n : Machine). object_of n id) set_is ∙ object_of-with_object m done.id (o.Context set) id
+        ∙ at_other id done.id (Some (o.Context set)) (object_of m id) apart
+
+    pub configure_acts : (id : ObjId) → Acts t allowed a m next id
+    configure_acts id = by_id (one_or_two id done.id) where
+      by_id : (id ≡ done.id) ⊎ (id ≢ done.id) → Acts t allowed a m next id
+      by_id (inl same) =
+          inr
+          (full t allowed a m next id configured.label (ap (label_of t m) same ∙ configured.labelled)
+          (modifies authority.Context refl (may_use address done.id done.finds)))
+      by_id (inr apart) =
+          inl (record {
+            content = beside id apart;
+            queue = ap (λ (n : Machine). queue_of n id) set_is ∙ queue_of-with_object m done.id (o.Context set) id;
+            words = ap (λ (n : Machine). words_of n id) set_is ∙ words_of-with_object m done.id (o.Context set) id;
+            slots = λ index.
+                let slot : SlotRef = record { holder = id; index = index } in
+                ap (λ (n : Machine). cap_of n slot) set_is ∙ cap_of-with_object m done.id (o.Context set) slot;
+          })
+
+    -- the caller's label has the edges that a change of a context's share takes
+    pub configure_edges :
+        (id : ObjId) (old new : Context) → object_of m id ≡ Some (o.Context old) → object_of next id ≡ Some (o.Context new)
+        → new.share ≢ old.share
+        → (core : ℕ) × (label : ℕ) × (allowed a authority.SchedControl core ≡ true) × (label_of t m id ≡ Some label)
+        × (allowed a authority.Context label ≡ true)
+    configure_edges id old new was is differs = by_id (one_or_two id done.id) where
+      to_control : IsReached t allowed m event a m sound done.governs d.Control
+      to_control = control_reached t allowed event a m sound closed caller mine control done.governs done.finds_control
+
+      by_id :
+          (id ≡ done.id) ⊎ (id ≢ done.id)
+          → (core : ℕ) × (label : ℕ) × (allowed a authority.SchedControl core ≡ true) × (label_of t m id ≡ Some label)
+          × (allowed a authority.Context label ≡ true)
+      by_id (inl same) = (
+        to_control.label,
+        configured.label,
+        to_control.edge authority.SchedControl refl refl,
+        ap (label_of t m) same ∙ configured.labelled,
+        may_use address done.id done.finds,
+      )
+      by_id (inr apart) =
+          let one = same_Some (o.Context new) (o.Context old) (sym is ∙ beside id apart ∙ was) in
+          absurd (differs (ap (λ (c : Context). c.share) (same_context new old one)))
+
+  pub bind_keeps : (address thread_address : ℕ) → BindDone m caller address thread_address next → Keeps t allowed m event a m next
+  bind_keeps address thread_address done =
+      subst (λ (n : Machine). Keeps t allowed m event a m n)
+      (sym (done.changes ∙ bound_is m done.id done.thread old.0 tcb.0 old.1 tcb.1))
+      (with_thread address done.id done.finds done.thread tcb.0 (Some done.id) (Some done.thread) tcb.1 runs)
+    where
+      old : (context : Context) × (object_of m done.id ≡ Some (o.Context context))
+      old = context address done.id done.finds
+
+      tcb : (tcb : Tcb) × IsThread m done.thread tcb
+      tcb = found_thread m caller thread_address sound.well_formed done.slot done.thread done.finds_thread
+
+      of_context : IsReached t allowed m event a m sound done.id d.Context
+      of_context = to_context address done.id done.finds
+
+      of_thread : IsReached t allowed m event a m sound done.thread d.Tcb
+      of_thread =
+          to_thread t allowed event a m sound closed caller mine next thread_address done.slot done.thread done.finds_thread
+
+      controls : allowed a authority.Control of_thread.label ≡ true
+      controls =
+          may_control t allowed event a m sound closed caller mine next thread_address done.slot done.thread done.finds_thread
+
+      -- the thread's label may use the context as the caller's may, so it may run on it
+      may_run : allowed of_thread.label authority.Runs of_context.label ≡ true
+      may_run =
+          closed.context_runs of_thread.label of_context.label
+          (sym (closed.subjects_agree a of_thread.label (inr controls) authority.Context refl of_context.label)
+          ∙ may_use address done.id done.finds)
+
+      links_within :
+          (end : ObjId) (k : Kind) → links (o.Tcb (runs_on tcb.0 (Some done.id))) k end ≡ true
+          → (links (o.Tcb tcb.0) k end ≡ true)
+          ⊎ ((from to : ℕ) → label_of t m done.thread ≡ Some from → label_of t m end ≡ Some to → allowed from k to ≡ true)
+      links_within end authority.Runs is =
+          inr (λ from to source target.
+          let from_is : from ≡ of_thread.label = same_Some from of_thread.label (sym source ∙ of_thread.labelled) in
+          let to_is : to ≡ of_context.label =
+          same_Some to of_context.label
+          (sym target ∙ ap (label_of t m) (sym (one_id done.id end is)) ∙ of_context.labelled) in
+          ap (λ l. allowed l authority.Runs to) from_is ∙ ap (allowed of_thread.label authority.Runs) to_is ∙ may_run)
+      links_within end k is = inl is
+
+      runs : Keeps t allowed m event a m (with_object m done.thread (o.Tcb (runs_on tcb.0 (Some done.id))))
+      runs =
+          set_keeps t allowed m event a m done.thread held (o.Tcb tcb.0) (o.Tcb (runs_on tcb.0 (Some done.id)))
+          (tcb_fits t allowed m event m done.thread tcb.0 (runs_on tcb.0 (Some done.id)) tcb.1 refl links_within)
+          (full t allowed a m (with_object m done.thread (o.Tcb (runs_on tcb.0 (Some done.id)))) done.thread of_thread.label
+          of_thread.labelled (modifies authority.Control refl controls))
+
+  -- a thread runs on the context no more
+  module _ (address : ℕ) (id : ObjId) (finds : FindsContext m caller address id) (thread : ObjId) (tcb : Tcb)
+      (there : IsThread m thread tcb) (on : tcb.context ≡ Some id) where
+    abbrev used : IsReached t allowed m event a m sound id d.Context
+    used = to_context address id finds
+
+    left : (label : ℕ) × (label_of t m thread ≡ Some label)
+    left = thread_label t allowed m event a m sound thread tcb there
+
+    ran : allowed left.0 authority.Runs used.label ≡ true
+    ran =
+        sound.confined left.0 authority.Runs used.label
+        (by_link thread id (o.Tcb tcb) there (ap (λ named. names_reply named id) on ∙ itself id) left.1 used.labelled)
+
+    may_lose : IsCut allowed a left.0
+    may_lose = record {
+      base = a;
+      based = record { controlled = a; control = inl refl; derive = inl refl };
+      reached = used.label;
+      edge = inr (authority.Context, inl refl, may_use address id finds);
+      near = left.0;
+      one = against authority.Runs refl ran;
+      two = stays refl;
+    }
+
+    links_kept :
+        (end : ObjId) (k : Kind) → links (o.Tcb (runs_on tcb None)) k end ≡ true
+        → (links (o.Tcb tcb) k end ≡ true)
+        ⊎ ((from to : ℕ) → label_of t m thread ≡ Some from → label_of t m end ≡ Some to → allowed from k to ≡ true)
+    links_kept end authority.Runs is = absurd (false≢true is)
+    links_kept end k is = inl is
+
+    stops : Keeps t allowed m event a m (with_object m thread (o.Tcb (runs_on tcb None)))
+    stops =
+        let queue = sound.well_formed.parts.queue thread (o.Tcb tcb) there in
+        set_keeps t allowed m event a m thread held (o.Tcb tcb) (o.Tcb (runs_on tcb None))
+        (tcb_fits t allowed m event m thread tcb (runs_on tcb None) there refl links_kept)
+        (loses_links t allowed a m thread left.0 (o.Tcb tcb) (o.Tcb (runs_on tcb None)) left.1 may_lose there
+        (released tcb (runs_on tcb None) refl refl refl (goes_on refl refl) (inr refl)) queue.0 queue.1)
+
+    unbound_keeps : Keeps t allowed m event a m (with_unbound m thread)
+    unbound_keeps =
+        let old = context address id finds in
+        subst (λ (n : Machine). Keeps t allowed m event a m n) (sym (unbound_is m id thread old.0 tcb old.1 there on))
+        (with_thread address id finds thread tcb None None there stops)
+
+  pub unbind_keeps : (address : ℕ) → UnbindDone m caller address next → Keeps t allowed m event a m next
+  unbind_keeps address done =
+      subst (λ (n : Machine). Keeps t allowed m event a m n)
+      (sym (done.changes ∙ ap (λ object. without_thread m (thread_on object)) old.1)) (by_thread old.0.thread refl)
+    where
+      old : (context : Context) × (object_of m done.id ≡ Some (o.Context context))
+      old = context address done.id done.finds
+
+      by_thread : (thread : Option ObjId) → old.0.thread ≡ thread → Keeps t allowed m event a m (without_thread m thread)
+      by_thread None is = unchanged t allowed m event a m held
+      by_thread (Some thread) is =
+          let w = sound.well_formed.links.context_thread done.id thread old.0 old.1 is in
+          unbound_keeps address done.id done.finds thread w.0 w.1 w.2
+
+-- the caller of a configure may configure the context: its label has the edges that this takes
+pub may_configure :
+    (t : Layout) (allowed : EdgeTest) (event : Event) (a : ℕ) (m : Machine) → IsSound t allowed m → IsClosed allowed
+    → label_of t m event.thread ≡ Some a
+    → (control address : ℕ) → configures event.call ≡ Some control
+    → (governs id : ObjId) → FindsControl m event.thread control governs → FindsContext m event.thread address id
+    → MayConfigure t allowed m event id
+may_configure t allowed event a m sound closed mine control address configured governs id found finds =
+    let to_control = control_reached t allowed event a m sound closed event.thread mine control governs found in
+    let to = context_reached t allowed m event a m sound closed.subjects_agree event.thread address id mine finds in
+    record {
+      address = control;
+      configured = configured;
+      slot = found.slot;
+      left = found.finds.left;
+      held = found.held;
+      found = found.finds.ends;
+      filled = found.finds.holds;
+      control = ap kind_of_detail found.detail;
+      caller_label = a;
+      control_label = to_control.label;
+      context_label = to.label;
+      calls = mine;
+      controls = ap (label_of t m) found.object ∙ to_control.labelled;
+      labelled = to.labelled;
+      may_schedule = to_control.edge authority.SchedControl refl refl;
+      may_use = to.edge authority.Context refl refl;
+    }

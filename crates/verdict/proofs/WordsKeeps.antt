@@ -1,0 +1,94 @@
+-- Read and Write within a caller's authority: the frame is one that its label may write, and nothing but its words changes.
+use Rattle.std.proofs.Common.{◌≡◌, ℕ, ◌⊎◌, inl, inr, List, Option, Some, None, refl, sym, subst, ◌∙◌}
+use Rattle.std.specs.FinMap.{get-insert}
+use Rattle.std.specs.Prelude.{slice_set}
+use Rattle.base.specs.declared.ids.ObjId.{ObjId}
+use Rattle.base.specs.declared.kind.Kind.TheVariants as authority
+use Rattle.machine.specs.declared.call.Event.{Event}
+use Rattle.machine.specs.declared.cap.Detail.TheVariants as d
+use Rattle.machine.specs.declared.object.Object.{Object}
+use Rattle.machine.specs.Authority.{label_of}
+use Rattle.machine.specs.Changes.{with_word, with_words}
+use Rattle.machine.specs.Layout.{Layout}
+use Rattle.machine.specs.Machine.{Machine, object_of, queue_of, words_of, cap_of, parent_of}
+use Rattle.machine.proofs.Ids.{at_other}
+use Rattle.machine.proofs.LookUps.{id_total}
+use Rattle.machine.proofs.WordsRow.{WriteDone}
+use Rattle.policy.specs.Closed.{IsClosed}
+use Rattle.policy.specs.Domain.{EdgeTest}
+use Rattle.policy.specs.Full.{IsFull}
+use Rattle.policy.specs.Full.IsFull.{modifies}
+use Rattle.verdict.specs.Allowed.{MayChange}
+use Rattle.verdict.specs.Invariant.{IsHeld, IsSound}
+use Rattle.verdict.proofs.Contents.{full}
+use Rattle.verdict.proofs.Held.{held_of}
+use Rattle.verdict.proofs.Keeps.{Keeps, unchanged}
+use Rattle.verdict.proofs.MessageParts.{IsReached, frame_reached}
+use Rattle.verdict.proofs.ObjectLabels.{labelled_there}
+use Rattle.verdict.proofs.TouchKeeps.{same_fits, touch_keeps}
+
+-- one of an object's words is set, if it has words
+word_or_stays :
+    (m : Machine) (id : ObjId) (index word : ℕ)
+    → ((words : List ℕ) × (with_word m id index word ≡ with_words m id (slice_set words index word)))
+    ⊎ (with_word m id index word ≡ m)
+unfolding with_word
+word_or_stays m id index word = by_words (words_of m id) refl where
+  by_words :
+      (found : Option (List ℕ)) → words_of m id ≡ found
+      → ((words : List ℕ) × (with_word m id index word ≡ with_words m id (slice_set words index word)))
+      ⊎ (with_word m id index word ≡ m)
+  by_words None e = inr (rw e refl)
+  by_words (Some words) e = inl (words, rw e refl)
+
+module _
+    (t : Layout) (allowed : EdgeTest) (began : Machine) (event : Event) (a : ℕ) (m : Machine) (id : ObjId)
+    (held : IsHeld t allowed m) where
+  words_keep :
+      (object : Object) (words : List ℕ) → object_of m id ≡ Some object → MayChange t allowed a m (with_words m id words) id
+      → Keeps t allowed began event a m (with_words m id words)
+  unfolding object_of queue_of words_of cap_of parent_of with_words
+  words_keep object words there may =
+      touch_keeps t allowed began event a m id object object (with_words m id words) held
+      (same_fits t allowed began event m id object there)
+      (record {
+        contents = λ q apart. refl;
+        queues = λ q apart. refl;
+        words = λ q apart. get-insert id_total m.words id words q ∙ at_other q id (Some words) (words_of m q) apart;
+        caps = λ slot. refl;
+        parents = λ slot. refl;
+        number = refl;
+      })
+      there may
+
+  word_keeps :
+      (index word label : ℕ) → label_of t m id ≡ Some label → IsFull allowed a label
+      → Keeps t allowed began event a m (with_word m id index word)
+  word_keeps index word label labelled has = by_word (word_or_stays m id index word) where
+    by_word :
+        ((words : List ℕ) × (with_word m id index word ≡ with_words m id (slice_set words index word)))
+        ⊎ (with_word m id index word ≡ m)
+        → Keeps t allowed began event a m (with_word m id index word)
+    by_word (inl sets) =
+        let there = labelled_there t m id label labelled in
+        let words : List ℕ = slice_set sets.0 index word in
+        subst (λ (n : Machine). Keeps t allowed began event a m n) (sym sets.1)
+        (words_keep there.0 words there.1 (full t allowed a m (with_words m id words) id label labelled has))
+    by_word (inr same) =
+        subst (λ (n : Machine). Keeps t allowed began event a m n) (sym same) (unchanged t allowed began event a m held)
+
+module _
+    (t : Layout) (allowed : EdgeTest) (event : Event) (a : ℕ) (m : Machine) (sound : IsSound t allowed m)
+    (closed : IsClosed allowed) (caller : ObjId) (mine : label_of t m caller ≡ Some a) (next : Machine) where
+  pub read_keeps : next ≡ m → Keeps t allowed m event a m next
+  read_keeps same =
+      subst (λ (n : Machine). Keeps t allowed m event a m n) (sym same)
+      (unchanged t allowed m event a m (held_of t allowed m sound))
+
+  pub write_keeps : (address index word : ℕ) → WriteDone m caller address index word next → Keeps t allowed m event a m next
+  write_keeps address index word done =
+      let frame : IsReached t allowed m event a m sound done.id (d.Frame done.rights) =
+      frame_reached t allowed m event a m sound closed.subjects_agree caller address done.id done.rights mine done.finds in
+      subst (λ (n : Machine). Keeps t allowed m event a m n) (sym done.changes)
+      (word_keeps t allowed m event a m done.id (held_of t allowed m sound) index word frame.label frame.labelled
+      (modifies authority.Write refl (frame.edge authority.Write done.allowed refl)))

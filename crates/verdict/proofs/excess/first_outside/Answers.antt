@@ -1,0 +1,30 @@
+-- one object more
+use Rattle.std.proofs.Common.{◌+◌, sym, subst, arith}
+use Rattle.policy.specs.Places.{FindsLeast}
+use Rattle.policy.specs.Policy.{allows}
+use Rattle.verdict.specs.Verdict.{place_of}
+use Rattle.verdict.proofs.OutsideObjects.{LiesBelow, least_kept, least_new, least_of_all_objects}
+use Rattle.verdict.proofs.excess.first_outside.Goals as goal
+use Rattle.verdict.proofs.excess.first_outside.Goals.{then-rule_of, else-rule_of}
+
+pub loop-number-preserved : goal.loop-number-preserved
+loop-number-preserved c =
+    let t = c.args.table.now in
+    let allowed = allows c.args.policy.now in
+    let m = c.args.state.now in
+    let n = c.loop-number.number in
+    let next = c.first_at-next.result in
+    let first = c.loop-number.first in
+    elim c.if-rule_of.branch [
+      | then-rule_of w ↦
+          subst (FindsLeast place_of (LiesBelow t allowed m (n + 1))) (sym w.first-is)
+          (least_new t allowed m n next c.first_at-next.ensures first c.loop-number.invariant (let lt = w.if-rule_of.true in omega (arith, lt)))
+      | else-rule_of w ↦
+          subst (FindsLeast place_of (LiesBelow t allowed m (n + 1))) (sym w.first-is)
+          (least_kept t allowed m n next c.first_at-next.ensures first c.loop-number.invariant (let le = w.if-rule_of.false in omega (arith, le)))
+    ]
+
+pub returns : goal.returns
+returns c =
+    least_of_all_objects c.args.table.now (allows c.args.policy.now) c.args.state.now c.objects_are_numbered.ensures c.loop-number.number
+    (let end = c.loop-number-test.false in omega (arith, end)) c.loop-number.first c.loop-number.invariant

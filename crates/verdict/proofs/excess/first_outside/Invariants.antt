@@ -1,0 +1,9 @@
+-- the least at the objects so far
+use Rattle.policy.specs.Places.{FindsLeast}
+use Rattle.policy.specs.Policy.{allows}
+use Rattle.verdict.specs.Verdict.{place_of}
+use Rattle.verdict.proofs.OutsideObjects.{LiesBelow}
+use Rattle.verdict.proofs.excess.first_outside.Given as goal
+
+abbrev pub invariant-loop-number : goal.invariant-loop-number
+invariant-loop-number l = FindsLeast place_of (LiesBelow l.table (allows l.policy) l.state l.number) l.first

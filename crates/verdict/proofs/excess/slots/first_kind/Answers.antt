@@ -1,0 +1,23 @@
+-- the first place is at the first kind that has one
+use Rattle.std.proofs.Common.{arith}
+use Rattle.std.proofs.lemmas.Option.{slice_get-get_or}
+use Rattle.policy.specs.Policy.{allows}
+use Rattle.policy.proofs.KindNumbers.{all_kinds}
+use Rattle.policy.proofs.Places.{least_here, none_at_all, none_more}
+use Rattle.verdict.proofs.OutsidePlaces.{slot_kinds}
+use Rattle.verdict.proofs.excess.slots.first_kind.Goals as goal
+
+pub returns-in-Some : goal.returns-in-Some
+returns-in-Some c =
+    least_here (slot_kinds c.args.table.now (allows c.args.policy.now) c.args.state.now c.args.slot.holder c.args.from c.requires.from c.args.slot.index) c.loop-kind.kind-index _
+    (slice_get-get_or all_kinds c.loop-kind.kind-index _ (omega arith)) c.loop-kind.invariant c.in-Some.denial c.in-Some.ensures
+
+pub loop-kind-preserved : goal.loop-kind-preserved
+loop-kind-preserved c =
+    none_more (slot_kinds c.args.table.now (allows c.args.policy.now) c.args.state.now c.args.slot.holder c.args.from c.requires.from c.args.slot.index) c.loop-kind.kind-index _
+    (slice_get-get_or all_kinds c.loop-kind.kind-index _ (omega arith)) c.loop-kind.invariant c.in_default.ensures
+
+pub returns : goal.returns
+returns c =
+    none_at_all (slot_kinds c.args.table.now (allows c.args.policy.now) c.args.state.now c.args.slot.holder c.args.from c.requires.from c.args.slot.index) c.loop-kind.kind-index (omega arith)
+    c.loop-kind.invariant

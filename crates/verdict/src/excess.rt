@@ -1,0 +1,85 @@
+ghost use Rattle.std.specs.Prelude.{◌≡◌, IfNone, IfSome, Some};
+ghost use Rattle.machine.specs.Machine.{object_of};
+ghost use Rattle.policy.specs.Places.{FindsLeast};
+ghost use Rattle.policy.specs.Policy.{allows};
+ghost use Rattle.verdict.specs.Confined.{IsConfined};
+ghost use Rattle.verdict.specs.Outside.{LiesAt, LiesOutside, outside_rule};
+ghost use Rattle.verdict.specs.Rules.{Excess};
+ghost use Rattle.verdict.specs.Verdict.{IsOutside, excess_of, place_of};
+
+mod links;
+mod slots;
+
+use crate::{Denial, confined_states_have_nothing_outside};
+use base::ObjId;
+use labels::label_of;
+use links::{binding_at, first_record, holding_at};
+use objects::State;
+use policy::Policy;
+use slots::{first_capability, first_pair, root_at};
+use table::Table;
+
+/// The first place where a state's authority lies outside the policy, by the rules A1 to A6; none
+/// exactly if all of it lies within. The table says the labels of objects. It takes no memory.
+pub fn outside(table: &Table, policy: &Policy, state: &State) -> Option<Denial>
+    ensures within { IfNone result (IsConfined table.now (allows policy.now) state.now) }
+    ensures first { IfSome result (λ denial. (place : Excess) × (excess_of denial ≡ Some place)
+        × IsOutside table.now (allows policy.now) state.now place) }
+{
+    confined_states_have_nothing_outside();
+    first_outside(table, policy, state)
+}
+
+// The first denial: by the least rule that is broken at any object, and at the first such object. Each
+// object is looked at once.
+fn first_outside(table: &Table, policy: &Policy, state: &State) -> Option<Denial>
+    ensures { FindsLeast place_of (LiesOutside table.now (allows policy.now) state.now) result }
+{
+    state.objects_are_numbered();
+    let mut first = None;
+    for number in 0..state.next_id() {
+        let next = first_at(table, policy, state, ObjId(number));
+        if rule_of(&next) < rule_of(&first) {
+            first = next;
+        }
+    }
+    first
+}
+
+// The first denial at an object. Where it is absent, that is one look-up.
+fn first_at(table: &Table, policy: &Policy, state: &State, id: ObjId) -> Option<Denial>
+    ensures { FindsLeast place_of (LiesAt table.now (allows policy.now) state.now id) result }
+{
+    let label = label_of(table, state, id)?;
+    if let Some(denial) = first_capability(table, policy, state, id, label) {
+        return Some(denial);
+    }
+    if let Some(denial) = root_at(table, policy, state, id, label) {
+        return Some(denial);
+    }
+    if let Some(denial) = first_pair(table, policy, state, id, label) {
+        return Some(denial);
+    }
+    if let Some(denial) = binding_at(table, policy, state, id, label) {
+        return Some(denial);
+    }
+    if let Some(denial) = holding_at(table, policy, state, id, label) {
+        return Some(denial);
+    }
+    first_record(table, policy, state, id, label)
+}
+
+// The number of the rule by which authority lies outside, and a greater one where it doesn't.
+fn rule_of(denial: &Option<Denial>) -> u64
+    ensures { result ≡ outside_rule denial.now }
+{
+    match denial {
+        Some(Denial::Capability { .. }) => 8,
+        Some(Denial::Root { .. }) => 9,
+        Some(Denial::Pair { .. }) => 10,
+        Some(Denial::Binding { .. }) => 11,
+        Some(Denial::Holding { .. }) => 12,
+        Some(Denial::Recorded { .. }) => 13,
+        Some(_) | None => 14,
+    }
+}

@@ -1,0 +1,160 @@
+ghost use Rattle.std.specs.Prelude.{◌≡◌, ◌∷◌, ◌↔◌, [], ℕ, false, true, Some};
+ghost use Rattle.base.specs.declared.ids.ObjId.{ObjId as Id};
+ghost use Rattle.base.specs.Kinds.{kind_number};
+ghost use Rattle.machine.specs.Authority.{label_of, state_links};
+ghost use Rattle.machine.specs.Machine.{object_of};
+ghost use Rattle.policy.specs.Places.{FindsLeast};
+ghost use Rattle.policy.specs.Policy.{allows};
+ghost use Rattle.verdict.specs.Outside.{LiesUnder};
+ghost use Rattle.verdict.specs.Rules.{a4, a5, a6};
+ghost use Rattle.verdict.specs.Sources.{context_in, holds_in, keeps_in};
+ghost use Rattle.verdict.specs.Verdict.{place_of};
+
+use crate::Denial;
+use base::{Edge, Kind, Label, ObjId};
+use labels::label_of;
+use machine::{Object, ReplyState, RunState};
+use objects::State;
+use policy::Policy;
+use table::Table;
+
+/// The place of this thread, if A4 is broken there.
+pub(crate) fn binding_at(
+    table: &Table,
+    policy: &Policy,
+    state: &State,
+    thread: ObjId,
+    from: Label,
+) -> Option<Denial>
+    requires { label_of table.now state.now thread ≡ Some from }
+    ensures { FindsLeast place_of (LiesUnder table.now (allows policy.now) state.now (a4 ∷ thread.0 ∷ [])) result }
+{
+    let context = context_of(state, thread)?;
+    missing_label(table, policy, state, from, Kind::Runs, context)?;
+    Some(Denial::Binding { thread, context })
+}
+
+/// The place of this reply, if A5 is broken there.
+pub(crate) fn holding_at(
+    table: &Table,
+    policy: &Policy,
+    state: &State,
+    reply: ObjId,
+    from: Label,
+) -> Option<Denial>
+    requires { label_of table.now state.now reply ≡ Some from }
+    ensures { FindsLeast place_of (LiesUnder table.now (allows policy.now) state.now (a5 ∷ reply.0 ∷ [])) result }
+{
+    let thread = held_by(state, reply)?;
+    missing_label(table, policy, state, from, Kind::Holds, thread)?;
+    Some(Denial::Holding { reply, thread })
+}
+
+/// The first place of this thread where A6 is broken.
+pub(crate) fn first_record(
+    table: &Table,
+    policy: &Policy,
+    state: &State,
+    thread: ObjId,
+    from: Label,
+) -> Option<Denial>
+    requires { label_of table.now state.now thread ≡ Some from }
+    ensures { FindsLeast place_of (LiesUnder table.now (allows policy.now) state.now (a6 ∷ thread.0 ∷ [])) result }
+{
+    for kind in Kind::ALL {
+        if let Some(denial) = record_at(table, policy, state, thread, from, kind) {
+            return Some(denial);
+        }
+    }
+    None
+}
+
+// The place of this thread and kind, if A6 is broken there.
+fn record_at(
+    table: &Table,
+    policy: &Policy,
+    state: &State,
+    thread: ObjId,
+    from: Label,
+    kind: Kind,
+) -> Option<Denial>
+    requires { label_of table.now state.now thread ≡ Some from }
+    ensures { FindsLeast place_of (LiesUnder table.now (allows policy.now) state.now (a6 ∷ thread.0 ∷ kind_number kind ∷ [])) result }
+{
+    let end = kept_by(state, thread, kind)?;
+    let label = missing_label(table, policy, state, from, kind, end)?;
+    Some(Denial::Recorded {
+        thread,
+        kind,
+        label,
+    })
+}
+
+// The context that a thread runs on.
+fn context_of(state: &State, thread: ObjId) -> Option<ObjId>
+    ensures { result ≡ context_in (object_of state.now thread) }
+{
+    match state.object(thread) {
+        Some(Object::Tcb(tcb)) => tcb.context,
+        _ => None,
+    }
+}
+
+// The thread that a reply holds.
+fn held_by(state: &State, reply: ObjId) -> Option<ObjId>
+    ensures { (thread : Id) → (result ≡ Some thread) ↔ (holds_in (object_of state.now reply) thread ≡ true) }
+{
+    match state.object(reply) {
+        Some(Object::Reply(reply)) => match reply.state {
+            ReplyState::Free => None,
+            ReplyState::Waiting(thread) | ReplyState::Called(thread) => Some(thread),
+        },
+        _ => None,
+    }
+}
+
+// What a blocked thread keeps this kind of authority over.
+fn kept_by(state: &State, thread: ObjId, kind: Kind) -> Option<ObjId>
+    ensures { (end : Id) → (result ≡ Some end) ↔ (keeps_in (object_of state.now thread) kind end ≡ true) }
+{
+    match state.object(thread) {
+        Some(Object::Tcb(tcb)) => kept_in(&tcb.state, kind),
+        _ => None,
+    }
+}
+
+// The same of what it waits for.
+fn kept_in(state: &RunState, kind: Kind) -> Option<ObjId>
+    ensures { (end : Id) → (result ≡ Some end) ↔ (state_links state.now kind end ≡ true) }
+{
+    match (state, kind) {
+        (RunState::Sending(sending), Kind::Send) => Some(sending.endpoint),
+        (RunState::Sending(sending), Kind::Grant) if sending.grant => Some(sending.endpoint),
+        (RunState::Sending(sending), Kind::Call) if sending.is_call && sending.can_reply => {
+            Some(sending.endpoint)
+        }
+        (RunState::Receiving(receiving), Kind::Receive) => Some(receiving.endpoint),
+        (RunState::Receiving(receiving), Kind::Reply) => receiving.reply,
+        (RunState::Waiting(notification), Kind::Await) => Some(*notification),
+        _ => None,
+    }
+}
+
+/// The label of an object to which the policy doesn't have the edge.
+pub(crate) fn missing_label(
+    table: &Table,
+    policy: &Policy,
+    state: &State,
+    from: Label,
+    kind: Kind,
+    end: ObjId,
+) -> Option<Label>
+    ensures { (label : ℕ) → (result ≡ Some label)
+        ↔ ((label_of table.now state.now end ≡ Some label) × (allows policy.now from kind label ≡ false)) }
+{
+    let to = label_of(table, state, end)?;
+    if policy.has(Edge { from, kind, to }) {
+        return None;
+    }
+    Some(to)
+}
