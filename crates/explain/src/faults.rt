@@ -147,6 +147,9 @@ fn lacks_line_feed(text: &[u8], number: u64) -> bool {
 
 /// The forms of the lines that may come after one.
 fn forms_after(alloc: Global, kind: Text, before: &[u8]) -> Result<String, AllocError> {
+    if let Text::Script | Text::Log = kind {
+        return any_call(alloc, kind);
+    }
     let section = match form_of(kind, before) {
         Some(form) => form.section(),
         None => 0,
@@ -155,11 +158,25 @@ fn forms_after(alloc: Global, kind: Text, before: &[u8]) -> Result<String, Alloc
     for form in Form::ALL {
         if kind.has(form) && form.section() >= section {
             text.push_str(form.words())?;
-            text.push_str(kind.ending())?;
             text.push_str(", ")?;
         }
     }
     text.push_str("or `end`")?;
+    Ok(text)
+}
+
+/// A line of a script or a log, with the words of the calls. The words of each would be too many.
+fn any_call(alloc: Global, kind: Text) -> Result<String, AllocError> {
+    let ending = kind.ending();
+    let mut text = format!(in alloc; "`DEC DEC CALL ..`{ending}, or `end`; CALL is one of")?;
+    let mut separator = " ";
+    for form in Form::ALL {
+        if kind.has(form) {
+            text.push_str(separator)?;
+            text.push_str(form.word())?;
+            separator = ", ";
+        }
+    }
     Ok(text)
 }
 

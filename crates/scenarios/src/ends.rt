@@ -63,6 +63,11 @@ const LEAST: &str = "confine-policy 1\nedge a context a\nedge a runs a\nend\n";
 
 const REASON: &str = "full\nedge a notify b\n";
 
+const LEGAL: &str = "{\"entries\":3,\"state\":\"within\",\"verdict\":\"legal\"}\n";
+
+const OUTSIDE: &str =
+    "{\"entries\":3,\"place\":[\"ca.0\",\"reset\",\"b\"],\"rule\":\"A1\",\"state\":\"outside\",\"verdict\":\"legal\"}\n";
+
 const DENIAL: &str =
     "{\"place\":[\"ca.0\",\"reset\",\"b\"],\"rule\":\"A1\",\"verdict\":\"deny\"}\n";
 
@@ -72,30 +77,41 @@ const FAULTY_POLICY: &str = "{\"fault\":50,\"file\":\"policy\",\"line\":1}\n";
 
 const FAULTY_SCRIPT: &str = "{\"fault\":50,\"file\":\"script\",\"line\":1}\n";
 
+const FAULTY_LOG: &str = "{\"fault\":50,\"file\":\"log\",\"line\":1}\n";
+
 const NO_TABLE: &str = "confine: cannot read table";
 
 const NO_POLICY: &str = "confine: cannot read policy";
 
 const NO_SCRIPT: &str = "confine: cannot read script";
 
+const NO_LOG: &str = "confine: cannot read log";
+
 /// The files that each command reads, with what is told where one can't be read.
-const MESSAGES: [(Command, File, &str); 7] = [
+const MESSAGES: [(Command, File, &str); 10] = [
     (Command::Run, File::Table, NO_TABLE),
     (Command::Run, File::Policy, NO_POLICY),
     (Command::Run, File::Script, NO_SCRIPT),
+    (Command::Replay, File::Table, NO_TABLE),
+    (Command::Replay, File::Policy, NO_POLICY),
+    (Command::Replay, File::Log, NO_LOG),
     (Command::Close, File::Table, NO_TABLE),
     (Command::Close, File::Policy, NO_POLICY),
     (Command::Why, File::Table, NO_TABLE),
     (Command::Why, File::Policy, NO_POLICY),
 ];
 
-/// The files that are accepted: a notification from one label to another, on two cores.
-fn accepted() -> Files<'static> {
+/// The files of a system that is accepted: a notification from one label to another, on two cores.
+fn files_for(command: Command) -> Files<'static> {
+    let third = match command {
+        Command::Replay => LOG,
+        _ => SCRIPT,
+    };
     Files {
-        command: Command::Run,
+        command,
         table: Given::text(TABLE),
         policy: Given::text(POLICY),
-        script: Given::text(SCRIPT),
+        third: Given::text(third),
     }
 }
 
@@ -117,19 +133,22 @@ fn empty_policy() -> Given<'static> {
 /// A policy that lacks an edge, by P6, and a table with little in it.
 fn to_close() -> Files<'static> {
     Files {
-        command: Command::Close,
         table: Given::text("confine-table 1\nlabel a\nend\n"),
         policy: Given::text("confine-policy 1\nedge a context a\nend\n"),
-        ..accepted()
+        ..files_for(Command::Close)
     }
 }
 
 /// Files of each kind of answer, with the status and the answer.
-fn answers() -> [(Files<'static>, u8, &'static str); 7] {
-    let files = accepted();
+fn answers() -> [(Files<'static>, u8, &'static str); 10] {
+    let files = files_for(Command::Run);
+    let to_replay = files_for(Command::Replay);
     [
         (to_close(), 0, LEAST),
-        (files.asking(Command::Why), 0, REASON),
+        (files_for(Command::Why), 0, REASON),
+        (to_replay, 0, LEGAL),
+        (to_replay.with(File::Policy, empty_policy()), 1, OUTSIDE),
+        (to_replay.with(File::Log, faulty()), 2, FAULTY_LOG),
         (files, 0, LOG),
         (files.with(File::Policy, empty_policy()), 1, DENIAL),
         (files.with(File::Table, faulty()), 2, FAULTY_TABLE),
@@ -164,13 +183,13 @@ fn command_ends<R: Abort + AllocGlobal + Threads + Sync>(
 
 #[test]
 fn each_file_is_parsed_before_the_next_is_read(rt: HostRuntime) -> Result<(), Fail> {
-    let files = accepted();
-    for (table, policy, script, message, written) in [
-        (missing(), files.policy, files.script, Some(NO_TABLE), ""),
+    let files = files_for(Command::Run);
+    for (table, policy, third, message, written) in [
+        (missing(), files.policy, files.third, Some(NO_TABLE), ""),
         (missing(), faulty(), faulty(), Some(NO_TABLE), ""),
         (missing(), missing(), missing(), Some(NO_TABLE), ""),
         (faulty(), missing(), missing(), None, FAULTY_TABLE),
-        (files.table, missing(), files.script, Some(NO_POLICY), ""),
+        (files.table, missing(), files.third, Some(NO_POLICY), ""),
         (files.table, missing(), faulty(), Some(NO_POLICY), ""),
         (files.table, missing(), missing(), Some(NO_POLICY), ""),
         (files.table, faulty(), missing(), None, FAULTY_POLICY),
@@ -181,7 +200,7 @@ fn each_file_is_parsed_before_the_next_is_read(rt: HostRuntime) -> Result<(), Fa
         let files = Files {
             table,
             policy,
-            script,
+            third,
             ..files
         };
         command_ends(&rt, files, (message, 2, written))?;
@@ -194,7 +213,7 @@ fn read_up_to(file: File) -> [bool; 3] {
     match file {
         File::Table => [true, false, false],
         File::Policy => [true, true, false],
-        File::Certificate | File::Script => [true, true, true],
+        File::Certificate | File::Script | File::Log => [true, true, true],
     }
 }
 
@@ -205,9 +224,7 @@ fn fails_after<R: Abort + AllocGlobal + Threads + Sync>(
     given: Given<'_>,
     after: usize,
 ) -> Result<(), Fail> {
-    let files = accepted()
-        .asking(command)
-        .with(file, given.failing(after, ErrorKind::Other));
+    let files = files_for(command).with(file, given.failing(after, ErrorKind::Other));
     let ending = ending_of(rt, files, Page::new(rt.alloc()))?;
     ends(rt, &ending, (Some(message), 2, ""), after);
     assert!(rt; ending.reads == read_up_to(file), "after {after} bytes");
@@ -218,7 +235,7 @@ fn fails_after<R: Abort + AllocGlobal + Threads + Sync>(
 fn a_file_that_fails_at_any_byte_cannot_be_read(rt: HostRuntime) -> Result<(), Fail> {
     for (command, file, message) in MESSAGES {
         for most in [usize::MAX, 1] {
-            let given = accepted().file(file).at_most(most);
+            let given = files_for(command).file(file).at_most(most);
             for after in 0..given.text.len() {
                 fails_after(&rt, (command, file, message), given, after)?;
             }
@@ -238,8 +255,8 @@ fn a_read_that_fails_is_no_end_of_file(rt: HostRuntime) -> Result<(), Fail> {
     ] {
         for (command, file, message) in MESSAGES {
             // Nor is it a fault of what was read.
-            for given in [accepted().file(file), faulty()] {
-                let files = accepted().asking(command).with(file, given.at_end(kind));
+            for given in [files_for(command).file(file), faulty()] {
+                let files = files_for(command).with(file, given.at_end(kind));
                 command_ends(&rt, files, (Some(message), 2, ""))?;
             }
         }
@@ -250,7 +267,7 @@ fn a_read_that_fails_is_no_end_of_file(rt: HostRuntime) -> Result<(), Fail> {
 #[test]
 fn a_read_that_is_interrupted_is_asked_again(rt: HostRuntime) -> Result<(), Fail> {
     for after in 0..TABLE.len() {
-        let mut files = accepted();
+        let mut files = files_for(Command::Run);
         for file in [File::Table, File::Policy, File::Script] {
             let given = files.file(file);
             let after = after.min(given.text.len());
@@ -265,7 +282,7 @@ fn a_read_that_is_interrupted_is_asked_again(rt: HostRuntime) -> Result<(), Fail
 fn a_read_without_memory_blames_no_file(rt: HostRuntime) -> Result<(), Fail> {
     let starved = Given::text("").failing(0, ErrorKind::OutOfMemory);
     for (command, file, _) in MESSAGES {
-        let files = accepted().asking(command).with(file, starved);
+        let files = files_for(command).with(file, starved);
         command_ends(&rt, files, (Some("confine: no memory"), 2, ""))?;
     }
     Ok(())

@@ -2,7 +2,7 @@
 ghost use Rattle.std.specs.Prelude.{◌≡◌, false};
 
 use crate::failing::{Given, Page};
-use report::{End, File, OnClose, Silence, Sink, Source, Watched, close, run, why};
+use report::{End, File, OnClose, Silence, Sink, Source, Watched, close, replay, run, why};
 use std::alloc::AllocGlobal;
 use std::test::Fail;
 use std::thread::Threads;
@@ -11,31 +11,27 @@ use std::thread::Threads;
 #[derive(Clone, Copy)]
 pub enum Command {
     Run,
+    Replay,
     Close,
     Why,
 }
 
-/// A command and its files; that of the script is for a run alone.
+/// A command and its files. The third is the script of a run or the log of a replay, and for these alone.
 #[derive(Clone, Copy)]
 pub struct Files<'a> {
     pub command: Command,
     pub table: Given<'a>,
     pub policy: Given<'a>,
-    pub script: Given<'a>,
+    pub third: Given<'a>,
 }
 
 impl<'a> Files<'a> {
-    /// The same files for another command.
-    pub fn asking(self, command: Command) -> Files<'a> {
-        Files { command, ..self }
-    }
-
     /// One of the files.
     pub fn file(self, file: File) -> Given<'a> {
         match file {
             File::Table => self.table,
             File::Policy => self.policy,
-            File::Certificate | File::Script => self.script,
+            File::Certificate | File::Script | File::Log => self.third,
         }
     }
 
@@ -50,8 +46,8 @@ impl<'a> Files<'a> {
                 policy: given,
                 ..self
             },
-            File::Certificate | File::Script => Files {
-                script: given,
+            File::Certificate | File::Script | File::Log => Files {
+                third: given,
                 ..self
             },
         }
@@ -62,7 +58,7 @@ impl<'a> Files<'a> {
         Files {
             table: self.table.at_most(most),
             policy: self.policy.at_most(most),
-            script: self.script.at_most(most),
+            third: self.third.at_most(most),
             ..self
         }
     }
@@ -82,7 +78,7 @@ fn carry_out<R, T, P, S, O>(
     command: Command,
     table: &mut T,
     policy: &mut P,
-    script: &mut S,
+    third: &mut S,
     out: &mut O,
 ) -> End
 where
@@ -93,11 +89,12 @@ where
     O: Sink,
     requires table { T.failed table.old ≡ false }
     requires policy { P.failed policy.old ≡ false }
-    requires script { S.failed script.old ≡ false }
+    requires third { S.failed third.old ≡ false }
     requires out { O.failed out.old ≡ false }
 {
     match command {
-        Command::Run => run(rt, rt.alloc(), table, policy, script, &mut Silence, out),
+        Command::Run => run(rt, rt.alloc(), table, policy, third, &mut Silence, out),
+        Command::Replay => replay(rt.alloc(), table, policy, third, &mut Silence, out),
         Command::Close => close(
             rt.alloc(),
             table,
@@ -118,14 +115,14 @@ pub fn ending_of<R: Threads + Sync + AllocGlobal>(
 ) -> Result<Ending, Fail> {
     let mut table = Watched::new(files.table.reader());
     let mut policy = Watched::new(files.policy.reader());
-    let mut script = Watched::new(files.script.reader());
+    let mut third = Watched::new(files.third.reader());
     let mut out = Watched::new(page);
     let end = carry_out(
         rt,
         files.command,
         &mut table,
         &mut policy,
-        &mut script,
+        &mut third,
         &mut out,
     );
     let written = String::from_utf8(out.into_inner().written)
@@ -137,7 +134,7 @@ pub fn ending_of<R: Threads + Sync + AllocGlobal>(
         reads: [
             table.into_inner().is_read,
             policy.into_inner().is_read,
-            script.into_inner().is_read,
+            third.into_inner().is_read,
         ],
     })
 }

@@ -282,7 +282,7 @@ const SCRIPTS: [Row; 4] = [
             number: 50,
             line: 2,
         },
-        told: "f:2: `0 1 yield 0`: expected `DEC DEC signal DEC`, `DEC DEC poll DEC`, `DEC DEC wait DEC`, `DEC DEC send DEC DEC DEC DEC DEC DEC` or `.. -`, `DEC DEC call DEC DEC DEC DEC DEC DEC` or `.. -`, `DEC DEC recv DEC`, then DEC or `-`, and then `DEC DEC DEC` or `-`, `DEC DEC reply DEC DEC DEC DEC DEC`, `DEC DEC fetch`, `DEC DEC copy DEC DEC DEC DEC DEC DEC RIGHTS`, `DEC DEC mint DEC DEC DEC DEC DEC DEC RIGHTS` and `badge DEC` or `guard DEC DEC`, `DEC DEC move DEC DEC DEC DEC DEC DEC`, `DEC DEC delete DEC DEC DEC`, `DEC DEC revoke DEC DEC DEC`, `DEC DEC retype DEC KIND DEC DEC DEC DEC`, `DEC DEC read DEC DEC`, `DEC DEC write DEC DEC DEC`, `DEC DEC setspace DEC DEC`, `DEC DEC clearspace DEC`, `DEC DEC suspend DEC`, `DEC DEC resume DEC`, `DEC DEC configure DEC DEC DEC DEC`, `DEC DEC bind DEC DEC`, `DEC DEC unbind DEC`, or `end`",
+        told: "f:2: `0 1 yield 0`: expected `DEC DEC CALL ..`, or `end`; CALL is one of signal, poll, wait, send, call, recv, reply, fetch, copy, mint, move, delete, revoke, retype, read, write, setspace, clearspace, suspend, resume, configure, bind, unbind",
     },
     Row {
         text: "confine-script 1\n0 1 retype 0 control 0 0 0 1\n",
