@@ -1,5 +1,5 @@
 -- The names that stand at a place: labels, kinds and objects by their names, slots as the texts spell them (confine's own).
-use Rattle.std.specs.Prelude.{ℕ, List, [], ◌∷◌, ◌++◌, codes, decimal, unwrap_or, slice_get}
+use Rattle.std.specs.Prelude.{ℕ, List, [], ◌∷◌, ◌++◌, Option, codes, decimal, unwrap_or, slice_get}
 use Rattle.base.specs.Kinds.{kind_name}
 use Rattle.base.specs.declared.ids.ObjId.{ObjId}
 use Rattle.base.specs.declared.ids.SlotRef.{SlotRef}
@@ -9,6 +9,7 @@ use Rattle.captext.specs.Spelling.{slot_word}
 use Rattle.captext.specs.TableText.{place_in}
 use Rattle.verdict.specs.declared.denial.Denial.{Denial}
 use Rattle.verdict.specs.declared.denial.Denial.TheVariants as denial
+use Rattle.machine.specs.declared.object.ObjectKind.{ObjectKind}
 use Rattle.machine.specs.Layout.{Layout}
 use Rattle.policy.specs.declared.broken.Broken.{Broken}
 use Rattle.policy.specs.declared.broken.Broken.TheVariants as broken
@@ -21,9 +22,9 @@ label_name t label = unwrap_or (slice_get t.labels label) []
 abbrev pub object_name : Layout → ObjId → List ℕ
 object_name t id = unwrap_or (slice_get t.names id.0) (codes "#" ++ decimal id.0)
 
--- a slot of a CNode by its index, and of a thread as its root
-abbrev pub slot_name : Layout → SlotRef → List ℕ
-slot_name t slot = slot_word (object_name t slot.holder) (place_in (kind_at t slot.holder) slot.index)
+-- a slot of a CNode by its index, and of a thread as its root; the holder's kind is told by itself, since a call may have made it
+abbrev pub slot_name : Layout → Option ObjectKind → SlotRef → List ℕ
+slot_name t holder slot = slot_word (object_name t slot.holder) (place_in holder slot.index)
 
 -- an edge
 abbrev pub edge_names : Layout → ℕ → Kind → ℕ → List (List ℕ)
@@ -39,13 +40,17 @@ broken_names t (broken.DeriveLacks parent child) = edge_names t parent Derive ch
 broken_names t (broken.ContextLacks subject context) = edge_names t subject Runs context
 broken_names t (broken.ReplyLacks reply thread) = edge_names t reply Holds thread
 
--- the place that a denial names
+-- the place that a denial names, where objects are of these kinds
+abbrev pub place_names_by : (ObjId → Option ObjectKind) → Layout → Denial → List (List ℕ)
+place_names_by kinds t (denial.Policy broken) = broken_names t broken
+place_names_by kinds t (denial.Capability slot kind label) = slot_name t (kinds slot.holder) slot ∷ kind_name kind ∷ label_name t label ∷ []
+place_names_by kinds t (denial.Root slot label) = slot_name t (kinds slot.holder) slot ∷ codes "space" ∷ label_name t label ∷ []
+place_names_by kinds t (denial.Pair child parent) = slot_name t (kinds parent.holder) parent ∷ slot_name t (kinds child.holder) child ∷ []
+place_names_by kinds t (denial.Binding thread context) = object_name t thread ∷ object_name t context ∷ []
+place_names_by kinds t (denial.Holding reply thread) = object_name t reply ∷ object_name t thread ∷ []
+place_names_by kinds t (denial.Recorded thread kind label) = object_name t thread ∷ kind_name kind ∷ label_name t label ∷ []
+place_names_by kinds t (denial.Certificate line) = decimal line ∷ []
+
+-- the place of what is denied at boot
 abbrev pub place_names : Layout → Denial → List (List ℕ)
-place_names t (denial.Policy broken) = broken_names t broken
-place_names t (denial.Capability slot kind label) = slot_name t slot ∷ kind_name kind ∷ label_name t label ∷ []
-place_names t (denial.Root slot label) = slot_name t slot ∷ codes "space" ∷ label_name t label ∷ []
-place_names t (denial.Pair child parent) = slot_name t parent ∷ slot_name t child ∷ []
-place_names t (denial.Binding thread context) = object_name t thread ∷ object_name t context ∷ []
-place_names t (denial.Holding reply thread) = object_name t reply ∷ object_name t thread ∷ []
-place_names t (denial.Recorded thread kind label) = object_name t thread ∷ kind_name kind ∷ label_name t label ∷ []
-place_names t (denial.Certificate line) = decimal line ∷ []
+place_names t = place_names_by (kind_at t) t

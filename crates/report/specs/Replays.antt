@@ -6,10 +6,11 @@ use Rattle.kernel.specs.Legal.{Entry, Leads, StopsAt}
 use Rattle.machine.specs.Boot.{IsBoot}
 use Rattle.machine.specs.Layout.{Layout}
 use Rattle.machine.specs.Machine.{Machine}
+use Rattle.machine.specs.WellFormed.{kind_of}
 use Rattle.policy.specs.Policy.{allows}
 use Rattle.report.specs.Answers.{no_label}
 use Rattle.report.specs.Commands.{Input, IsCarriedOut, Output}
-use Rattle.report.specs.Places.{place_names}
+use Rattle.report.specs.Places.{place_names_by}
 use Rattle.report.specs.Reports.{illegal_data, line_of, outside_data, within_data}
 use Rattle.report.specs.declared.end.End.{End}
 use Rattle.report.specs.declared.end.File.TheVariants as file
@@ -23,16 +24,16 @@ abbrev pub IsReplayedTo : Layout → List Entry → Machine → Type 0
 IsReplayedTo t entries last = (boot : Machine) × IsBoot t boot × Leads boot entries last
 
 -- the least place where a machine's authority lies outside the policy
-abbrev pub LiesOutside : Layout → List Edge → Machine → Denial → Type 0
-LiesOutside t edges m denial = (place : Excess) × (excess_of denial ≡ Some place) × IsOutside t (allows edges) m place
+abbrev pub IsFirstOutside : Layout → List Edge → Machine → Denial → Type 0
+IsFirstOutside t edges m denial = (place : Excess) × (excess_of denial ≡ Some place) × IsOutside t (allows edges) m place
 
 -- the log is legal and its last state lies within the policy, and the text says so, with status 0; or that lies outside, and it says
 -- where, with status 1; or the log isn't legal, and it says which entry is the first that is no step, with status 1
 pub data Replays (t : Layout) (edges : List Edge) (entries : List Entry) (text : List ℕ) (status : ℕ) : Type 0 where
   within : (last : Machine) → IsReplayedTo t entries last → IsConfined t (allows edges) last
       → text ≡ line_of (within_data (length entries)) → status ≡ 0 → Replays t edges entries text status
-  outside : (last : Machine) (denial : Denial) → IsReplayedTo t entries last → LiesOutside t edges last denial
-      → text ≡ line_of (outside_data (length entries) (rule_name denial) (place_names t denial)) → status ≡ 1
+  outside : (last : Machine) (denial : Denial) → IsReplayedTo t entries last → IsFirstOutside t edges last denial
+      → text ≡ line_of (outside_data (length entries) (rule_name denial) (place_names_by (kind_of last) t denial)) → status ≡ 1
       → Replays t edges entries text status
   illegal : (boot : Machine) (at : ℕ) → IsBoot t boot → StopsAt boot entries at
       → text ≡ line_of (illegal_data (at + 1)) → status ≡ 1 → Replays t edges entries text status

@@ -95,6 +95,6 @@ pub(crate) fn denial_text(
 ) -> Result<Vec<u8>, AllocError>
     ensures { IfOk result (λ text. text.items ≡ denial_report (rule_name denial.now) (place_names table.now denial.now)) }
 {
-    let place = place_names(alloc, table, denial)?;
+    let place = place_names(alloc, table, table, denial)?;
     denial_report(alloc, denial.rule(), &place)
 }

@@ -1,37 +1,72 @@
-ghost use Rattle.std.specs.Prelude.{◌≡◌, IfOk, map, string_bytes};
+ghost use Rattle.std.specs.Prelude.{◌≡◌, IfOk, Option, map, string_bytes};
+ghost use Rattle.base.specs.declared.ids.ObjId.{ObjId as Id};
+ghost use Rattle.machine.specs.WellFormed.{kind_of};
+ghost use Rattle.machine.specs.declared.object.ObjectKind.{ObjectKind as KindOfObject};
 ghost use Rattle.report.specs.Places as places;
+ghost use Rattle.table.specs.Rules.{kind_at};
 
 use base::{Kind, Label, ObjId, SlotRef};
 use machine::ObjectKind;
+use objects::State;
 use policy::Broken;
 use std::alloc::{AllocError, Global};
 use table::Table;
 use verdict::Denial;
 
-/// The names at the place that a denial names.
-pub(crate) fn place_names(
+/// Who tells the kinds of objects: a table those of the initial ones, a state those of all that are there.
+pub(crate) trait KindsOfObjects {
+    // The kind of the object of each number.
+    ghost kinds: { Self → Id → Option KindOfObject };
+
+    /// The kind of the object of this number.
+    fn object_kind(&self, id: ObjId) -> Option<ObjectKind>
+        ensures { result ≡ kinds self.now id };
+}
+
+impl KindsOfObjects for Table {
+    ghost kinds = { kind_at };
+
+    fn object_kind(&self, id: ObjId) -> Option<ObjectKind> {
+        self.kind(id)
+    }
+}
+
+impl KindsOfObjects for State {
+    ghost kinds = { kind_of };
+
+    fn object_kind(&self, id: ObjId) -> Option<ObjectKind> {
+        match self.object(id) {
+            Some(object) => Some(object.kind()),
+            None => None,
+        }
+    }
+}
+
+/// The names at the place that a denial names. Slots are spelled by the kinds of their holders.
+pub(crate) fn place_names<K: KindsOfObjects>(
     alloc: Global,
     table: &Table,
+    kinds: &K,
     denial: &Denial,
 ) -> Result<Vec<String>, AllocError>
     ensures { IfOk result (λ names.
-        map string_bytes names.items ≡ places.place_names table.now denial.now) }
+        map string_bytes names.items ≡ places.place_names_by (K.kinds kinds.now) table.now denial.now) }
 {
     let names = match denial {
         Denial::Policy(broken) => broken_names(alloc, table, broken)?,
         Denial::Capability { slot, kind, label } => vec![in alloc;
-            slot_name(alloc, table, *slot)?,
+            slot_name(alloc, table, kinds.object_kind(slot.holder), *slot)?,
             String::from_str(alloc, kind.name())?,
             label_name(alloc, table, *label)?,
         ]?,
         Denial::Root { slot, label } => vec![in alloc;
-            slot_name(alloc, table, *slot)?,
+            slot_name(alloc, table, kinds.object_kind(slot.holder), *slot)?,
             String::from_str(alloc, "space")?,
             label_name(alloc, table, *label)?,
         ]?,
         Denial::Pair { child, parent } => vec![in alloc;
-            slot_name(alloc, table, *parent)?,
-            slot_name(alloc, table, *child)?,
+            slot_name(alloc, table, kinds.object_kind(parent.holder), *parent)?,
+            slot_name(alloc, table, kinds.object_kind(child.holder), *child)?,
         ]?,
         Denial::Binding { thread, context } => vec![in alloc;
             object_name(alloc, table, *thread)?,
@@ -128,12 +163,17 @@ fn object_name(alloc: Global, table: &Table, id: ObjId) -> Result<String, AllocE
     }
 }
 
-fn slot_name(alloc: Global, table: &Table, slot: SlotRef) -> Result<String, AllocError>
-    ensures { IfOk result (λ name. string_bytes name ≡ places.slot_name table.now slot) }
+fn slot_name(
+    alloc: Global,
+    table: &Table,
+    holder: Option<ObjectKind>,
+    slot: SlotRef,
+) -> Result<String, AllocError>
+    ensures { IfOk result (λ name. string_bytes name ≡ places.slot_name table.now holder slot) }
 {
-    let holder = object_name(alloc, table, slot.holder)?;
-    match table.kind(slot.holder) {
-        Some(ObjectKind::Tcb) => format!(in alloc; "{holder}.root"),
-        _ => format!(in alloc; "{holder}.{}", slot.index),
+    let name = object_name(alloc, table, slot.holder)?;
+    match holder {
+        Some(ObjectKind::Tcb) => format!(in alloc; "{name}.root"),
+        _ => format!(in alloc; "{name}.{}", slot.index),
     }
 }

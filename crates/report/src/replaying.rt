@@ -114,7 +114,7 @@ fn replayed(
             finding: None,
         }),
         Some(denial) => {
-            let place = place_names(alloc, table, &denial)?;
+            let place = place_names(alloc, table, &state, &denial)?;
             Ok(Answer {
                 text: outside_report(alloc, entries.len(), denial.rule(), &place)?,
                 status: 1,

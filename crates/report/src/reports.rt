@@ -24,8 +24,8 @@ pub(crate) fn fault_report(
     line_of(alloc, &fault_value(alloc, fault, file, line)?)
 }
 
-#[tactic(auto, using(crate::proofs::Names::names_have_no_float))]
 /// The report of a denial: the rule that is broken, and the names at the place that breaks it.
+#[tactic(auto, using(crate::proofs::Names::names_have_no_float))]
 pub(crate) fn denial_report(
     alloc: Global,
     rule: &str,
@@ -66,8 +66,8 @@ pub(crate) fn within_report(alloc: Global, entries: usize) -> Result<Vec<u8>, Al
     line_of(alloc, &within_value(alloc, entries)?)
 }
 
-#[tactic(auto, using(crate::proofs::Names::names_have_no_float))]
 /// The report of a legal log whose last state lies outside: the rule, and the names at the place.
+#[tactic(auto, using(crate::proofs::Names::names_have_no_float))]
 pub(crate) fn outside_report(
     alloc: Global,
     entries: usize,

@@ -1,5 +1,6 @@
 use Rattle.std.proofs.Common.{◌≡◌, ◌∙◌, List, ℕ, ap, map, length, refl, string_bytes}
-use Rattle.report.specs.Places.{place_names}
+use Rattle.machine.specs.WellFormed.{kind_of}
+use Rattle.report.specs.Places.{place_names_by}
 use Rattle.report.specs.Replays.{illegal, outside, within}
 use Rattle.report.specs.Reports.{line_of, outside_data}
 use Rattle.verdict.specs.Verdict.{rule_name}
@@ -18,7 +19,7 @@ returns-in-None-clause-right c =
 pub returns-clause-right : goal.returns-clause-right
 returns-clause-right c =
     let denial = c.in-Some-outside.denial in
-    let names : map string_bytes c.deref.result.now ≡ place_names c.args.table.now denial =
+    let names : map string_bytes c.deref.result.now ≡ place_names_by (kind_of c.replay.new.state) c.args.table.now denial =
     ap (map string_bytes) c.deref.ensures.value ∙ c.in_ok-place-in-Some-outside.ensures in
     outside c.replay.new.state denial
     (c.in_ok-state.state, c.in_ok-state.ensures.booted, rw c.in_default.is at c.in_ok-at.ensures.found)
