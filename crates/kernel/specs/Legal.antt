@@ -1,5 +1,5 @@
 -- Legal logs: their events and outcomes are a run; and where a log stops to be one (confine's own).
-use Rattle.std.specs.Prelude.{◌≡◌, ℕ, Bool, List, Some, map, take, slice_get}
+use Rattle.std.specs.Prelude.{◌≡◌, ◌≢◌, ℕ, Bool, List, Some, map, take, slice_get}
 use Rattle.base.specs.Refusals.{out_of_memory}
 use Rattle.machine.specs.declared.call.Event.{Event}
 use Rattle.machine.specs.declared.call.Outcome.{Outcome}
@@ -31,3 +31,18 @@ Follows old event outcome new Bool.false = (next : Machine) → ¬ (Step old eve
 -- a call that takes memory ended for want of it
 abbrev pub IsLack : Event → Outcome → Type 0
 IsLack event outcome = (takes_memory event.call ≡ Bool.true) × (outcome ≡ Refused out_of_memory)
+
+-- a call that takes memory may end for want of it, and the outcome tells otherwise
+pub record MayLack (m : Machine) (event : Event) (outcome : Outcome) : Type 0 where
+  pub takes : takes_memory event.call ≡ Bool.true
+  pub lacking : Step m event (Refused out_of_memory) m
+  pub otherwise : outcome ≢ Refused out_of_memory
+
+-- the entries are a run up to one that may lack memory, and tells otherwise
+pub record LacksMemoryIn (first : Machine) (entries : List Entry) : Type 0 where
+  pub at : ℕ
+  pub entry : Entry
+  pub here : slice_get entries at ≡ Some entry
+  pub last : Machine
+  pub led : Leads first (take at entries) last
+  pub lack : MayLack last entry.0 entry.1

@@ -1,6 +1,6 @@
 ghost use Rattle.std.specs.Prelude.{◌≡◌, ℕ, Bool, List, Decides, IfErr, IfOk, MatchOption};
 ghost use Rattle.base.specs.Refusals.{out_of_memory};
-ghost use Rattle.kernel.specs.Legal.{Entry, Follows, IsLack, Leads, StopsAt};
+ghost use Rattle.kernel.specs.Legal.{Entry, Follows, IsLack, LacksMemoryIn, Leads, MayLack, StopsAt};
 ghost use Rattle.machine.specs.Machine.{Machine};
 ghost use Rattle.machine.specs.Step.{takes_memory};
 ghost use Rattle.machine.specs.WellFormed.{IsWellFormed};
@@ -18,12 +18,12 @@ use objects::State;
 ///
 /// # Errors
 ///
-/// 40, where a retype that the log tells otherwise is refused memory here.
+/// 40, where a retype could be done that the log tells otherwise, and is refused memory here.
 pub fn replay(state: &mut State, entries: &[(Event, Outcome)]) -> Result<Option<usize>, Refusal>
     requires { IsWellFormed state.old }
     ensures found { IfOk result (λ stop. MatchOption stop (Leads state.old entries.now state.new) (StopsAt state.old entries.now)) }
     ensures well_formed { IsWellFormed state.new }
-    ensures refused { IfErr result (λ refusal. refusal ≡ out_of_memory) }
+    ensures refused { IfErr result (λ refusal. (refusal ≡ out_of_memory) × LacksMemoryIn state.old entries.now) }
 {
     for (index, (event, outcome)) in entries.iter().enumerate() {
         if !follow(state, event, outcome)? {
@@ -38,7 +38,7 @@ fn follow(state: &mut State, event: &Event, outcome: &Outcome) -> Result<bool, R
     requires { IsWellFormed state.old }
     ensures followed { IfOk result (Follows state.old event.now outcome.now state.new) }
     ensures well_formed { IsWellFormed state.new }
-    ensures refused { IfErr result (λ refusal. refusal ≡ out_of_memory) }
+    ensures refused { IfErr result (λ refusal. (refusal ≡ out_of_memory) × MayLack state.old event.now outcome.now) }
 {
     if is_lack(event, outcome) {
         return Ok(could_lack(state, event));

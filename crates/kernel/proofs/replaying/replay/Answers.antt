@@ -1,8 +1,9 @@
 use Rattle.std.proofs.Common.{◌≡◌, ◌+◌, ◌++◌, ◌∷◌, ◌∙◌, [], Bool, List, length, ap, refl, sym, subst, take}
 use Rattle.std.proofs.lemmas.List.{take_more}
 use Rattle.std.proofs.lemmas.Option.{slice_get_read}
+use Rattle.std.proofs.lemmas.Result.{err_from_is_err_and}
 use Rattle.machine.specs.Step.{Step}
-use Rattle.kernel.specs.Legal.{Entry, Follows}
+use Rattle.kernel.specs.Legal.{Entry, Follows, LacksMemoryIn}
 use Rattle.kernel.proofs.LegalLemmas.{led_further}
 use Rattle.kernel.proofs.replaying.replay.Goals as goal
 
@@ -33,3 +34,21 @@ loop-index-preserved c =
       led = rw more (led_further c.args.state.now c.loop-index.state c.follow.new.state (take i entries) entry c.loop-index.invariant.led step);
       formed = c.in_ok-follow.ensures.well_formed;
     }
+
+-- memory is lacking for the entry
+pub returns-in_err-follow-clause-refused : goal.returns-in_err-follow-clause-refused
+returns-in_err-follow-clause-refused c =
+    let entries : List Entry = c.args.entries.now in
+    let entry : Entry = c.index-entries-index.result in
+    let told = c.in_err-follow.ensures.refused in
+    let lacks : LacksMemoryIn c.args.state.now entries =
+    record {
+      at = c.loop-index.index;
+      entry = entry;
+      here = slice_get_read entries (length entries) c.loop-index.index entry refl c.loop-index-test.true c.index-entries-index.is;
+      last = c.loop-index.state;
+      led = c.loop-index.invariant.led;
+      lack = told.1;
+    } in
+    let p = err_from_is_err_and c.from_residual.result c.from_residual.ensures.1 in
+    rw p.1 (p.2 ∙ told.0, lacks)
