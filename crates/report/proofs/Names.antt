@@ -9,7 +9,7 @@ use Rattle.serde_json.specs.Data.{Data, Members, member, no_members, put, string
 use Rattle.serde_json.specs.View.{items_of}
 use Rattle.serde_json.specs.Written.{has_float, items_have_float, members_have_float}
 use Rattle.machine.specs.Layout.{Layout}
-use Rattle.report.specs.Places.{label_name}
+use Rattle.captext.specs.PolicyText.{label_name}
 use Rattle.report.specs.Reports.{check_data, labels_of, names_data, with_related}
 
 pub names_have_no_float : (names : List (List ℕ)) → items_have_float (items_of (map string names)) ≡ false

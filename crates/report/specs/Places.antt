@@ -5,6 +5,7 @@ use Rattle.base.specs.declared.ids.ObjId.{ObjId}
 use Rattle.base.specs.declared.ids.SlotRef.{SlotRef}
 use Rattle.base.specs.declared.kind.Kind.{Kind}
 use Rattle.base.specs.declared.kind.Kind.TheVariants.{Derive, Runs, Holds}
+use Rattle.captext.specs.PolicyText.{label_name}
 use Rattle.captext.specs.Spelling.{slot_word}
 use Rattle.captext.specs.TableText.{place_in}
 use Rattle.verdict.specs.declared.denial.Denial.{Denial}
@@ -14,9 +15,6 @@ use Rattle.machine.specs.Layout.{Layout}
 use Rattle.policy.specs.declared.broken.Broken.{Broken}
 use Rattle.policy.specs.declared.broken.Broken.TheVariants as broken
 use Rattle.table.specs.Rules.{kind_at}
-
-abbrev pub label_name : Layout → ℕ → List ℕ
-label_name t label = unwrap_or (slice_get t.labels label) []
 
 -- an object that the table doesn't name has a number sign and its number
 abbrev pub object_name : Layout → ObjId → List ℕ

@@ -7,7 +7,7 @@ use Rattle.serde_json.specs.Written.{compact_text}
 use Rattle.machine.specs.Layout.{Layout}
 use Rattle.report.specs.declared.end.File.{File}
 use Rattle.report.specs.Ends.{file_word}
-use Rattle.report.specs.Places.{label_name}
+use Rattle.captext.specs.PolicyText.{label_name}
 
 -- a value on a line, where 10 is the line feed
 abbrev pub line_of : Data → List ℕ

@@ -1,5 +1,6 @@
 ghost use Rattle.std.specs.Prelude.{◌≡◌, IfOk, Option, map, string_bytes};
 ghost use Rattle.base.specs.declared.ids.ObjId.{ObjId as Id};
+ghost use Rattle.captext.specs.PolicyText as policy_text;
 ghost use Rattle.machine.specs.WellFormed.{kind_of};
 ghost use Rattle.machine.specs.declared.object.ObjectKind.{ObjectKind as KindOfObject};
 ghost use Rattle.report.specs.Places as places;
@@ -149,9 +150,9 @@ fn edge_names(
 }
 
 pub(crate) fn label_name(alloc: Global, table: &Table, label: Label) -> Result<String, AllocError>
-    ensures { IfOk result (λ name. string_bytes name ≡ places.label_name table.now label) }
+    ensures { IfOk result (λ name. string_bytes name ≡ policy_text.label_name table.now label) }
 {
-    String::from_str(alloc, table.label_name(label).unwrap_or(""))
+    String::from_str(alloc, captext::label_name(table, label))
 }
 
 fn object_name(alloc: Global, table: &Table, id: ObjId) -> Result<String, AllocError>

@@ -1,9 +1,9 @@
 ghost use Rattle.std.specs.Prelude.{◌≡◌, ◌↔◌, ◌<◌, ◌∷◌, ◌++◌, [], ℕ, Bool, length, map, true, IfOk, OnOk};
 ghost use Rattle.std.specs.List.{filter};
 ghost use Rattle.base.specs.Labels.{is_in};
+ghost use Rattle.captext.specs.PolicyText as policy_text;
 ghost use Rattle.policy.specs.Policy.{allows};
 ghost use Rattle.report.specs.Relations.{Decides, relates, relation_of};
-ghost use Rattle.report.specs.Places as places;
 ghost use Rattle.report.specs.Reports as reports;
 ghost use Rattle.serde_json.specs.Data.{string};
 ghost use Rattle.serde_json.specs.View.{members_view, view};
@@ -104,7 +104,7 @@ fn put_label(
 #[tactic(auto, using(crate::proofs::LabelLists::names_more))]
 fn names_in(alloc: Global, table: &Table, set: Labels) -> Result<Value, AllocError>
     ensures { IfOk result (λ value. view value
-        ≡ reports.names_data (map (places.label_name table.now) (filter (is_in set) (reports.labels_of table.now)))) }
+        ≡ reports.names_data (map (policy_text.label_name table.now) (filter (is_in set) (reports.labels_of table.now)))) }
 {
     let _ = table.objects();
     let mut names = Vec::new(alloc);
@@ -126,7 +126,7 @@ fn push_name(
     names: &mut Vec<Value>,
 ) -> Result<(), AllocError>
     ensures { OnOk result (map view names.new.items ≡ map view names.old.items
-        ++ map string (map (places.label_name table.now) (filter (is_in set) (label ∷ [])))) }
+        ++ map string (map (policy_text.label_name table.now) (filter (is_in set) (label ∷ [])))) }
 {
     if !set.has(label) {
         return Ok(());

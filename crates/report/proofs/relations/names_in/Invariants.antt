@@ -3,7 +3,7 @@ use Rattle.std.specs.List.{filter, range_with_len}
 use Rattle.base.specs.Labels.{is_in}
 use Rattle.serde_json.specs.Data.{string}
 use Rattle.serde_json.specs.View.{view}
-use Rattle.report.specs.Places.{label_name}
+use Rattle.captext.specs.PolicyText.{label_name}
 use Rattle.report.proofs.relations.names_in.Given as goal
 
 abbrev pub invariant-loop-number : goal.invariant-loop-number

@@ -4,7 +4,7 @@ use Rattle.base.specs.Labels.{is_in}
 use Rattle.serde_json.specs.Data.{put}
 use Rattle.serde_json.specs.View.{members_view, view}
 use Rattle.serde_json.proofs.Views.{members_view-insert_entry}
-use Rattle.report.specs.Places.{label_name}
+use Rattle.captext.specs.PolicyText.{label_name}
 use Rattle.report.specs.Reports.{labels_of, names_data}
 use Rattle.report.proofs.LabelLists.{same_set}
 use Rattle.report.proofs.relations.put_label.Goals as goal
