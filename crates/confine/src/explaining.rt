@@ -69,7 +69,7 @@ impl<R: AllocGlobal + Eprint> Listener for Explainer<'_, R> {
                 let line = entry.wrapping_add(1);
                 let name = request.name_of(File::Log);
                 self.tell(format!(in alloc;
-                    "{name}:{line}: entry {entry} is no step of the system: it would have come to something else"
+                    "{name}:{line}: entry {entry} is no step of the system, which answers otherwise there: compare the log that `confine run` prints"
                 ));
             }
             (None, Request::Close { .. }) => self.closed = copies(alloc, table, policy),

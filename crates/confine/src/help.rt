@@ -3,7 +3,7 @@
 //! shown.
 
 pub const ABOUT: &str =
-    "Checks what the threads of a system of capabilities may do, and runs their calls";
+    "Checks what the threads of a system of capabilities may do, and runs and replays their calls";
 
 pub const ABOUT_CHECK: &str =
     "Checks a table against a policy, and prints who may change what, or which rule is broken";
@@ -15,7 +15,7 @@ pub const ABOUT_RUN: &str =
     "Checks a table against a policy, runs a script of kernel calls and prints its log";
 
 pub const ABOUT_REPLAY: &str =
-    "Tells whether a log is one of a system, and whether it ends within a policy";
+    "Tells whether a system could have made a log, and whether the log ends within a policy";
 
 pub const ABOUT_CLOSE: &str =
     "Writes the least policy to which a table keeps, with the edges of one that is named";

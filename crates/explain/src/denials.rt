@@ -79,7 +79,7 @@ pub fn explain_outside(
             )
         }
         None => format!(in alloc;
-            "outside by {rule}: after the last entry an object that the log made has authority, or is under some, that the policy lacks"
+            "outside by {rule}: after the last entry an object that the log made (the report has its number, after `#`) gives authority, or is under some, that the policy lacks"
         ),
     }
 }

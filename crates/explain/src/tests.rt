@@ -15,6 +15,7 @@ cnode space app 0x1000 2
 tcb main app 0x2000 ready
 notification ring bell 0x3000
 context share bell 0x4000 0 10 10
+reply answer bell 0x3020
 cap space.0 ring rw 1
 cap space.1 ring r 1
 cap main.root space 62 0x0

@@ -1,5 +1,5 @@
 use super::table;
-use crate::explain_denial;
+use crate::{explain_denial, explain_outside};
 use base::{Kind, Label, ObjId, SlotRef};
 use policy::Broken;
 use std::process::Abort;
@@ -13,6 +13,11 @@ const SPACE: ObjId = ObjId(0);
 const MAIN: ObjId = ObjId(1);
 
 const SHARE: ObjId = ObjId(3);
+
+const ANSWER: ObjId = ObjId(4);
+
+/// An object that the table doesn't have.
+const MADE: ObjId = ObjId(5);
 
 /// A denial with its sentence.
 #[derive(Clone, Copy)]
@@ -139,6 +144,34 @@ fn by_table(app: Label, bell: Label) -> [Row; 6] {
     ]
 }
 
+/// What lies outside after a log, by A5, A6 and of an object that the log made.
+fn after_a_log(bell: Label) -> [Row; 3] {
+    [
+        Row {
+            denial: Denial::Holding {
+                reply: ANSWER,
+                thread: MAIN,
+            },
+            sentence: "outside by A5: after the last entry the reply `answer` of `bell` holds the thread `main` of `app`, and the policy has no such edge: `edge bell holds app`",
+        },
+        Row {
+            denial: Denial::Recorded {
+                thread: MAIN,
+                kind: Kind::Await,
+                label: bell,
+            },
+            sentence: "outside by A6: after the last entry the thread `main` of `app` waits, and keeps the right to await what is labelled `bell`, and the policy has no such edge: `edge app await bell`",
+        },
+        Row {
+            denial: Denial::Binding {
+                thread: MADE,
+                context: SHARE,
+            },
+            sentence: "outside by A4: after the last entry an object that the log made (the report has its number, after `#`) gives authority, or is under some, that the policy lacks",
+        },
+    ]
+}
+
 /// Asserts that each denial has its words.
 fn are_told<R: Abort + AllocGlobal>(rt: &R, table: &Table, rows: &[Row]) -> Result<(), Fail> {
     for row in rows {
@@ -155,4 +188,15 @@ fn tells_why_a_system_is_denied(rt: HostRuntime) -> Result<(), Fail> {
     let table = table(rt.alloc())?;
     are_told(&rt, &table, &by_policy(app, bell))?;
     are_told(&rt, &table, &by_table(app, bell))
+}
+
+#[test]
+fn tells_where_a_log_ends_outside(rt: HostRuntime) -> Result<(), Fail> {
+    let bell = Label::new(1).ok_or("a label")?;
+    let table = table(rt.alloc())?;
+    for row in &after_a_log(bell) {
+        let sentence = explain_outside(rt.alloc(), &table, &row.denial)?;
+        assert_eq!(rt; sentence.as_str(), row.sentence);
+    }
+    Ok(())
 }
