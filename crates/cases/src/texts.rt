@@ -1,6 +1,7 @@
 //! The texts of a system, and which of them a line speaks of.
 use crate::engine::Given;
 use crate::wrong::Wrong;
+use evtext::{read_log, write_log};
 use std::alloc::Global;
 
 /// One of the files of a command.
@@ -81,6 +82,25 @@ impl Texts {
             File::Script => &mut self.script,
             File::Certificate => &mut self.certificate,
             File::Log => &mut self.log,
+        }
+    }
+
+    /// Wrong where there is a log, and it isn't written again as it is read.
+    pub fn keep_log(&self, alloc: Global) -> Result<(), Wrong> {
+        if self.log.is_empty() {
+            return Ok(());
+        }
+        let told = self.log.as_bytes();
+        let log = read_log(alloc, told)
+            .ok()
+            .ok_or(Wrong("the system's log isn't read"))?;
+        let written = write_log(alloc, &log)
+            .ok()
+            .ok_or(Wrong("the system's log isn't written"))?;
+        if written.as_slice() == told {
+            Ok(())
+        } else {
+            Err(Wrong("the system's log isn't written as it is read"))
         }
     }
 
