@@ -37,6 +37,14 @@ impl Text {
         form.text() == self || (self == Text::Log && form.text() == Text::Script)
     }
 
+    /// What is said before the forms that may come.
+    fn opening(self) -> &'static str {
+        match self {
+            Text::Table => "a line that begins with ",
+            _ => "",
+        }
+    }
+
     /// What stands on each line after its form.
     fn ending(self) -> &'static str {
         match self {
@@ -154,15 +162,28 @@ fn forms_after(alloc: Global, kind: Text, before: &[u8]) -> Result<String, Alloc
         Some(form) => form.section(),
         None => 0,
     };
-    let mut text = String::new(alloc);
+    let mut text = String::from_str(alloc, kind.opening())?;
     for form in Form::ALL {
         if kind.has(form) && form.section() >= section {
-            text.push_str(form.words())?;
-            text.push_str(", ")?;
+            push_form(&mut text, kind, form)?;
         }
     }
     text.push_str("or `end`")?;
     Ok(text)
+}
+
+/// A form among those that may come: a table has many, and tells its word alone.
+fn push_form(text: &mut String, kind: Text, form: Form) -> Result<(), AllocError> {
+    match kind {
+        Text::Table => {
+            let word = form.word();
+            write!(text, "`{word}`, ")
+        }
+        _ => {
+            text.push_str(form.words())?;
+            text.push_str(", ")
+        }
+    }
 }
 
 /// A line of a script or a log, with the words of the calls. The words of each would be too many.

@@ -197,8 +197,8 @@ impl Form {
             Form::Signal => "`DEC DEC signal DEC`",
             Form::Poll => "`DEC DEC poll DEC`",
             Form::Wait => "`DEC DEC wait DEC`",
-            Form::Send => "`DEC DEC send DEC DEC DEC DEC DEC DEC` or `.. -`",
-            Form::Call => "`DEC DEC call DEC DEC DEC DEC DEC DEC` or `.. -`",
+            Form::Send => "`DEC DEC send DEC DEC DEC DEC DEC`, then DEC or `-`",
+            Form::Call => "`DEC DEC call DEC DEC DEC DEC DEC`, then DEC or `-`",
             Form::Receive => {
                 "`DEC DEC recv DEC`, then DEC or `-`, and then `DEC DEC DEC` or `-`"
             }

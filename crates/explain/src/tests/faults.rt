@@ -70,7 +70,7 @@ const TABLES: [Row; 17] = [
             number: 50,
             line: 3,
         },
-        told: "t:3: the line is missing: expected `label NAME`, `untyped NAME LABEL HEX DEC`, `cnode NAME LABEL HEX DEC`, `tcb NAME LABEL HEX ready` or `.. inactive`, `endpoint NAME LABEL HEX`, `notification NAME LABEL HEX`, `reply NAME LABEL HEX`, `frame NAME LABEL HEX`, `context NAME LABEL HEX DEC DEC DEC` or `context NAME LABEL HEX -`, `control NAME LABEL DEC`, `cap SLOT NAME` and at most two words, each RIGHTS, DEC or HEX, `child SLOT SLOT`, `bind NAME NAME`, or `end`",
+        told: "t:3: the line is missing: expected a line that begins with `label`, `untyped`, `cnode`, `tcb`, `endpoint`, `notification`, `reply`, `frame`, `context`, `control`, `cap`, `child`, `bind`, or `end`",
     },
     Row {
         text: "confine-table 1\nlabel a\ncnode c a 0x1000 1\ncap c.0 c 62 0x0\n\tcap\u{e9}\n",
@@ -78,7 +78,7 @@ const TABLES: [Row; 17] = [
             number: 50,
             line: 5,
         },
-        told: "t:5: `\\x09cap\\xc3\\xa9`: expected `cap SLOT NAME` and at most two words, each RIGHTS, DEC or HEX, `child SLOT SLOT`, `bind NAME NAME`, or `end`",
+        told: "t:5: `\\x09cap\\xc3\\xa9`: expected a line that begins with `cap`, `child`, `bind`, or `end`",
     },
     Row {
         text: "confine-table 1\nlabel a\ntcb t a 0x2000 running\n",
@@ -267,7 +267,15 @@ const CERTIFICATES: [Row; 8] = [
 ];
 
 /// Texts of scripts.
-const SCRIPTS: [Row; 4] = [
+const SCRIPTS: [Row; 5] = [
+    Row {
+        text: "confine-script 1\n0 1 send 0 1 2 3 4\n",
+        fault: Fault {
+            number: 50,
+            line: 2,
+        },
+        told: "f:2: `0 1 send 0 1 2 3 4`: expected `DEC DEC send DEC DEC DEC DEC DEC`, then DEC or `-`",
+    },
     Row {
         text: "confine-script 1\n0 main signal 0\n",
         fault: Fault {
