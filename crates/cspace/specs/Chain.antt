@@ -44,7 +44,7 @@ abbrev pub Leads : Machine → Level → List Link → Level → Type 0
 Leads m from [] to = from ≡ to
 Leads m from (link ∷ links) to = (next : Level) × Joins m from link next × Leads m next links to
 
--- a lookup finds a slot: a chain ends there, and nothing is left or the slot holds no CNode capability
+-- a lookup finds a slot: a chain ends there, and all bits are used up, or the slot holds no CNode capability
 pub record Resolves (m : Machine) (from : Level) (string : List Bool) (slot : SlotRef) (rest : List Bool) : Type 0 where
   pub links : List Link
   pub last : Link

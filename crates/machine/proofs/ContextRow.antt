@@ -7,7 +7,7 @@ use Rattle.base.specs.declared.ids.SlotRef.{SlotRef}
 use Rattle.machine.specs.declared.call.Made.{Made}
 use Rattle.machine.specs.declared.object.Share.{Share}
 use Rattle.machine.specs.Machine.{Machine, object_of}
-use Rattle.machine.specs.Step.Bind.{bind_of, context_under, loose, thread_on, unbind_of, with_bound, without_thread}
+use Rattle.machine.specs.Step.Bind.{bind_of, context_under, thread_on, unbind_of, unlinked, with_bound, without_thread}
 use Rattle.machine.specs.Step.Configure.{configure_of, core_in, in_limits, with_share}
 use Rattle.machine.specs.Step.Find.{find_context, find_control, find_tcb}
 use Rattle.machine.proofs.Conditions.{both_done, same_ok}
@@ -54,9 +54,9 @@ configure_done m caller control address budget period made next e =
       changes = sym (ap (λ p. p.1) (same_ok limits.2));
     }
 
-is_loose : (link : Option ObjId) (u : Unit {0}) → loose link ≡ Ok u → link ≡ None
-is_loose None u e = refl
-is_loose (Some id) u e = cc
+is_unlinked : (link : Option ObjId) (u : Unit {0}) → unlinked link ≡ Ok u → link ≡ None
+is_unlinked None u e = refl
+is_unlinked (Some id) u e = cc
 
 pub bind_done :
     (m : Machine) (caller : ObjId) (context address : ℕ) (made : Made) (next : Machine)
@@ -65,16 +65,16 @@ unfolding bind_of
 bind_done m caller context address made next e =
     let id = both_done (find_context m caller context) _ (made, next) e in
     let found = both_done (find_tcb m caller address) _ (made, next) id.2 in
-    let on = both_done (loose (thread_on (object_of m id.0))) _ (made, next) found.2 in
-    let under = both_done (loose (context_under (object_of m (found.0).1))) _ (made, next) on.2 in
+    let on = both_done (unlinked (thread_on (object_of m id.0))) _ (made, next) found.2 in
+    let under = both_done (unlinked (context_under (object_of m (found.0).1))) _ (made, next) on.2 in
     record {
       id = id.0;
       finds = finds_context m caller context id.0 id.1;
       slot = (found.0).0;
       thread = (found.0).1;
       finds_thread = finds_thread m caller address (found.0).0 (found.0).1 found.1;
-      unbound = is_loose (thread_on (object_of m id.0)) on.0 on.1;
-      free = is_loose (context_under (object_of m (found.0).1)) under.0 under.1;
+      unbound = is_unlinked (thread_on (object_of m id.0)) on.0 on.1;
+      free = is_unlinked (context_under (object_of m (found.0).1)) under.0 under.1;
       changes = sym (ap (λ p. p.1) (same_ok under.2));
     }
 

@@ -178,8 +178,8 @@ pub record NumbersFit (m : Machine) : Type 0 where
   pub watermark :
       (id : ObjId) (memory : Untyped) → object_of m id ≡ Some (o.Untyped memory)
       → (memory.base ≤ memory.watermark) × (memory.watermark ≤ end_of (o.Untyped memory))
-  -- of two objects whose ranges meet, the one with the lower number is an untyped with a capability, and the other lies in its
-  -- range and below its watermark
+  -- where the ranges of two objects meet, the lower number is that of untyped memory which has a capability; the other is
+  -- inside, below the mark
   pub inside :
       (low high : ObjId) (first second : Object) → low.0 < high.0 → object_of m low ≡ Some first → object_of m high ≡ Some second
       → Meets first second

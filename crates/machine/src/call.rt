@@ -97,23 +97,28 @@ pub enum Call {
         to: u64,
         /// The index of the first slot.
         offset: u64,
+        /// 1 to [`MAX_MADE`](base::MAX_MADE).
         count: u64,
     },
     /// Answers a word of the frame at the address.
     Read {
         address: u64,
+        /// 0 to 511.
         index: u64,
     },
     /// Sets a word of the frame at the address.
     Write {
         address: u64,
+        /// 0 to 511.
         index: u64,
         word: u64,
     },
     /// Gives the thread at an address the CNode at another as the root of its capability space (seL4
     /// manual, seL4_TCB_SetSpace).
     SetSpace {
+        /// The address of the thread.
         thread: u64,
+        /// The address of the CNode.
         space: u64,
     },
     /// Takes the root of its capability space from the thread at the address.
@@ -135,15 +140,17 @@ pub enum Call {
         control: u64,
         /// The address of the scheduling context.
         context: u64,
-        /// In microseconds.
+        /// In microseconds, 1 to the period.
         budget: u64,
-        /// In microseconds.
+        /// In microseconds, at most [`MAX_PERIOD`](base::MAX_PERIOD).
         period: u64,
     },
     /// Has the thread at an address run on the scheduling context at another (seL4 manual,
-    /// seL4_SchedContext_Bind).
+    /// seL4_SchedContext_Bind). Neither may be bound yet.
     Bind {
+        /// The address of the scheduling context.
         context: u64,
+        /// The address of the thread.
         thread: u64,
     },
     /// Has no thread run on the scheduling context at the address (seL4 manual,

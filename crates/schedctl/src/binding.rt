@@ -1,7 +1,7 @@
 ghost use Rattle.std.specs.Prelude.{◌≡◌};
 ghost use Rattle.machine.specs.Machine.{object_of};
 ghost use Rattle.machine.specs.Makes.{Makes};
-ghost use Rattle.machine.specs.Step.Bind.{bind_of, context_under, loose, thread_on, unbind_of, with_bound, without_thread};
+ghost use Rattle.machine.specs.Step.Bind.{bind_of, context_under, thread_on, unbind_of, unlinked, with_bound, without_thread};
 
 use base::{Cause, ObjId};
 use cspace::{find_context, find_tcb};
@@ -29,8 +29,8 @@ fn context_under(state: &State, thread: ObjId) -> Option<ObjId>
 }
 
 /// Refuses where a link is there.
-fn loose(link: Option<ObjId>) -> Result<(), Cause>
-    ensures { result ≡ loose link }
+fn unlinked(link: Option<ObjId>) -> Result<(), Cause>
+    ensures { result ≡ unlinked link }
 {
     match link {
         None => Ok(()),
@@ -41,7 +41,7 @@ fn loose(link: Option<ObjId>) -> Result<(), Cause>
 /// Has a thread run on a scheduling context. Whatever ran on the context before, or the thread ran on,
 /// isn't changed: neither may be bound. Does nothing where one of them isn't there.
 #[tactic(auto, unfolding(machine::specs::Step::Bind::with_bound))]
-fn tie(state: &mut State, id: ObjId, thread: ObjId)
+fn bind_to(state: &mut State, id: ObjId, thread: ObjId)
     ensures { state.new ≡ with_bound state.old id thread }
 {
     if let Some(&Object::Context(context)) = state.object(id) {
@@ -61,7 +61,7 @@ fn tie(state: &mut State, id: ObjId, thread: ObjId)
 }
 
 /// Unbinds the thread that runs on a scheduling context, if one does.
-fn cut(state: &mut State, thread: Option<ObjId>)
+fn unbind_thread(state: &mut State, thread: Option<ObjId>)
     ensures { state.new ≡ without_thread state.old thread }
 {
     if let Some(thread) = thread {
@@ -82,9 +82,9 @@ pub fn bind(state: &mut State, caller: ObjId, context: u64, thread: u64) -> Resu
 {
     let id = find_context(state, caller, context)?;
     let (_, thread) = find_tcb(state, caller, thread)?;
-    loose(thread_on(state, id))?;
-    loose(context_under(state, thread))?;
-    tie(state, id, thread);
+    unlinked(thread_on(state, id))?;
+    unlinked(context_under(state, thread))?;
+    bind_to(state, id, thread);
     Ok(Made::Done(Answer::Nothing))
 }
 
@@ -100,6 +100,6 @@ pub fn unbind(state: &mut State, caller: ObjId, address: u64) -> Result<Made, Ca
 {
     let id = find_context(state, caller, address)?;
     let thread = thread_on(state, id);
-    cut(state, thread);
+    unbind_thread(state, thread);
     Ok(Made::Done(Answer::Nothing))
 }

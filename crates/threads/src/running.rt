@@ -12,7 +12,7 @@ use replies::abort;
 
 /// Has a thread that is inactive run, and aborts one that is blocked. One that is ready stays so.
 #[tactic(auto, unfolding(machine::specs::Step::Suspend::with_resumed))]
-fn go_on(state: &mut State, thread: ObjId)
+fn let_run(state: &mut State, thread: ObjId)
     requires { IsInItsQueue state.old thread }
     ensures { state.new ≡ with_resumed state.old thread }
 {
@@ -54,6 +54,6 @@ pub fn resume(state: &mut State, caller: ObjId, address: u64) -> Result<Made, Ca
     ensures { Makes state.old state.new result (resume_of state.old caller address) }
 {
     let (_, thread) = find_tcb(state, caller, address)?;
-    go_on(state, thread);
+    let_run(state, thread);
     Ok(Made::Done(Answer::Nothing))
 }

@@ -92,8 +92,8 @@ pub fn clear_space(state: &mut State, caller: ObjId, address: u64) -> Result<Mad
 
 /// Gives the thread at an address another root for its capability space: a copy of the CNode's
 /// capability at the address `space` (seL4 manual, seL4_TCB_SetSpace). The old one is removed first, as
-/// by [`clear_space`]; where that empties the slot of the thread's or of the CNode's capability, the
-/// root slot stays empty.
+/// by [`clear_space`]; where that empties the slot of the thread's or of the CNode's capability, or takes
+/// the thread itself, the call is done and the root slot stays empty.
 ///
 /// # Errors
 ///

@@ -26,10 +26,10 @@ abbrev pub context_under : Option Object → Option ObjId
 context_under (Some (o.Tcb tcb)) = tcb.context
 context_under _ = None
 
--- a link that isn't there yet
-abbrev pub loose : Option ObjId → Result (Unit {0}) Cause
-loose None = Ok tt
-loose (Some _) = Err cause.IllegalOperation
+-- a link that may be made: it isn't there yet
+abbrev pub unlinked : Option ObjId → Result (Unit {0}) Cause
+unlinked None = Ok tt
+unlinked (Some _) = Err cause.IllegalOperation
 
 -- a thread runs on a scheduling context
 unfoldable pub with_bound : Machine → ObjId → ObjId → Machine
@@ -43,8 +43,8 @@ unfoldable pub bind_of : Machine → ObjId → ℕ → ℕ → Result (Made × M
 bind_of m caller context address = do
   id ← find_context m caller context
   found ← find_tcb m caller address
-  _ ← loose (thread_on (object_of m id))
-  _ ← loose (context_under (object_of m found.1))
+  _ ← unlinked (thread_on (object_of m id))
+  _ ← unlinked (context_under (object_of m found.1))
   Ok (Done answer.Nothing, with_bound m id found.1)
 
 -- nothing runs on a scheduling context
