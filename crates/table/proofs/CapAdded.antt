@@ -85,7 +85,7 @@ root_holds holder d.Context e at = absurd (no_tcb holder.object (not-true _ e) a
 root_holds holder (d.Frame _) e at = absurd (no_tcb holder.object (not-true _ e) at)
 root_holds holder d.Control e at = absurd (no_tcb holder.object (not-true _ e) at)
 
-pub untyped_at : (detail : Detail) → kind_of_detail detail ≡ kind.Untyped → is_for_untyped detail ≡ true
+untyped_at : (detail : Detail) → kind_of_detail detail ≡ kind.Untyped → is_for_untyped detail ≡ true
 untyped_at d.Untyped e = refl
 untyped_at _ e = cc
 

@@ -1,8 +1,8 @@
 -- The tests of the derivation tree say what its rules say, and marks change nothing but marks.
 use Rattle.std.proofs.Common.{◌≡◌, ℕ, ◌+◌, ◌<◌, ◌≤◌, ◌⊎◌, ◌==◌, ◌||◌, Bool, true, false, cond, not, nat_lt, List, [], ◌∷◌, ◌++◌, map, is_some}
 use Rattle.std.proofs.Common.{length, get_or, set, take, Option, None, Some, option_map, All, AllPairs, refl, sym, ap, subst, ◌∙◌, arith}
-use Rattle.std.proofs.lemmas.Bool.{and_from, and_parts, eq-eqb, eqb-true, false≢true, le-ltb, lt-ltb, not-false, not-true}
-use Rattle.std.proofs.lemmas.Bool.{not_from_false, not_from_true}
+use Rattle.std.proofs.lemmas.Bool.{and_from, and_parts, eq-eqb, eqb-true, false≢true, le-ltb, lt-ltb, not-false}
+use Rattle.std.proofs.lemmas.Bool.{not_from_true}
 use Rattle.std.proofs.lemmas.Bool.Decides.{Decides-eqb, Decides-or}
 use Rattle.std.proofs.lemmas.Simd.{map-map}
 use Rattle.std.proofs.lemmas.List.Sums.{position_or_len_is}
@@ -18,7 +18,6 @@ use Rattle.std.specs.declared.cmp.Ordering.TheVariants.{Less}
 use Rattle.base.specs.declared.ids.SlotRef.{SlotRef}
 use Rattle.machine.specs.declared.cap.Cap.{Cap}
 use Rattle.machine.specs.declared.cap.Detail.{Detail}
-use Rattle.machine.specs.declared.cap.Detail.TheVariants as d
 use Rattle.machine.specs.declared.layout.Filled.{Filled}
 use Rattle.machine.specs.declared.layout.Pair.{Pair}
 use Rattle.machine.specs.declared.object.ObjectKind.TheVariants as kind
@@ -28,19 +27,14 @@ use Rattle.machine.specs.Machine.{same_id, same_slot, slot_cmp}
 use Rattle.machine.proofs.LookUps.{id_total, one_id}
 use Rattle.table.specs.Aims.{Marks}
 use Rattle.table.specs.Rules.{IsCapOf, IsDraft, IsLawful, Rises}
-use Rattle.table.specs.Tree.{is_for_untyped, tree_of, source_of, is_original, is_original_from, with_mark}
+use Rattle.table.specs.Tree.{tree_of, source_of, is_original, is_original_from, with_mark}
 use Rattle.table.specs.Tree.{with_originals}
 use Rattle.table.specs.Tree.{IsPairOf, are_kin, is_kin, tree_fault}
-use Rattle.table.proofs.CapAdded.{untyped_at}
 use Rattle.table.proofs.FrontLemmas.{none_passes}
 use Rattle.table.proofs.ListLemmas.{not_any}
 use Rattle.table.proofs.NameLemmas.{list_any-none, list_any-position}
 
 -- a pair passes the test just where it keeps the rules
-
-no_untyped : (detail : Detail) → (kind_of_detail detail ≡ kind.Untyped → ⊥) → is_for_untyped detail ≡ false
-no_untyped d.Untyped apart = absurd (apart refl)
-no_untyped _ apart = refl
 
 badges :
     (above below : Detail)
@@ -57,14 +51,12 @@ pair_from_kin t pair e = by (initial_cap t pair.parent) (initial_cap t pair.chil
       let rights = and_parts _ _ e in
       let badge = and_parts _ _ rights.0 in
       let original = and_parts _ _ badge.0 in
-      let same = and_parts _ _ original.0 in
       record {
         above = above;
         below = below;
         parent = at_above;
         child = at_below;
-        object = one_id _ _ same.0;
-        derivable = λ untyped. false≢true (sym (not-true _ same.1) ∙ untyped_at below.detail untyped);
+        object = one_id _ _ original.0;
         original = original.1;
         badge = (badges above.detail below.detail).0 badge.1;
         rights = eqb-true _ _ rights.1;
@@ -77,10 +69,7 @@ kin_from_pair t pair h =
     (λ i. are_kin (h.parent i) (h.child i))
     ∙ and_from _ _
     (and_from _ _
-    (and_from _ _
-    (and_from _ _ (ap (λ id. same_id id h.below.object) h.object ∙ ap is_eq (tied_itself id_total h.below.object))
-    (not_from_false _ (no_untyped h.below.detail h.derivable)))
-    h.original)
+    (and_from _ _ (ap (λ id. same_id id h.below.object) h.object ∙ ap is_eq (tied_itself id_total h.below.object)) h.original)
     ((badges h.above.detail h.below.detail).1 h.badge))
     (eq-eqb _ _ h.rights)
 

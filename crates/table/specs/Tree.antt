@@ -1,6 +1,6 @@
 -- The derivation tree of a capability table: which capability may be whose child, and which are original (seL4 manual,
 -- "Capability Derivation Tree").
-use Rattle.std.specs.Prelude.{◌≡◌, ◌≢◌, ℕ, ◌==◌, ◌&&◌, ◌||◌, ◌⊎◌, Bool, true, false, not, List, map, Option, None, Some}
+use Rattle.std.specs.Prelude.{◌≡◌, ℕ, ◌==◌, ◌&&◌, ◌||◌, ◌⊎◌, Bool, true, false, not, List, map, Option, None, Some}
 use Rattle.std.specs.Prelude.{position}
 use Rattle.std.specs.Int.RustNames.{bit_and}
 use Rattle.std.specs.Option.{option_and_then}
@@ -10,8 +10,7 @@ use Rattle.machine.specs.declared.cap.Detail.{Detail}
 use Rattle.machine.specs.declared.cap.Detail.TheVariants as d
 use Rattle.machine.specs.declared.layout.Filled.{Filled}
 use Rattle.machine.specs.declared.layout.Pair.{Pair}
-use Rattle.machine.specs.declared.object.ObjectKind.TheVariants as kind
-use Rattle.machine.specs.Capabilities.{badge_of, kind_of_detail}
+use Rattle.machine.specs.Capabilities.{badge_of}
 use Rattle.machine.specs.Layout.{Layout, empty_layout, initial_cap, initial_parent}
 use Rattle.machine.specs.Machine.{same_id}
 
@@ -55,15 +54,15 @@ with_originals t = record t { caps = map (with_mark t) t.caps }
 
 -- which capabilities may be parent and child
 
--- the capability above and the one below in a pair of the tree: both slots are filled and for one object, which is no untyped;
--- the one above is original, and has no badge or the badge of the one below, whose rights are among its own
+-- the capability above and the one below in a pair of the tree: both slots are filled and for one object; the one above is
+-- original, and has no badge or the badge of the one below, whose rights are among its own. Neither is for untyped memory: this
+-- has one capability at most, and a capability that is its own parent isn't original
 pub record IsPairOf (t : Layout) (pair : Pair) : Type 0 where
   pub above : Cap
   pub below : Cap
   pub parent : initial_cap t pair.parent ≡ Some above
   pub child : initial_cap t pair.child ≡ Some below
   pub object : above.object ≡ below.object
-  pub derivable : kind_of_detail below.detail ≢ kind.Untyped
   pub original : above.original ≡ true
   pub badge : (badge_of above.detail ≡ 0) ⊎ (badge_of above.detail ≡ badge_of below.detail)
   pub rights : bit_and (rights_of above.detail) (rights_of below.detail) ≡ rights_of below.detail
@@ -71,7 +70,7 @@ pub record IsPairOf (t : Layout) (pair : Pair) : Type 0 where
 -- the same as a test
 abbrev pub are_kin : Option Cap → Option Cap → Bool
 are_kin (Some above) (Some below) =
-    same_id above.object below.object && not (is_for_untyped below.detail) && above.original
+    same_id above.object below.object && above.original
     && (badge_of above.detail == 0 || badge_of above.detail == badge_of below.detail)
     && bit_and (rights_of above.detail) (rights_of below.detail) == rights_of below.detail
 are_kin _ _ = false

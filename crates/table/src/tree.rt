@@ -128,12 +128,12 @@ pub fn mark_originals(caps: &mut [Filled], pairs: &[Pair])
     }
 }
 
-/// Whether two capabilities may be parent and child.
+/// Whether two capabilities may be parent and child. None for untyped memory are: such memory has one
+/// capability, and what is its own parent isn't original.
 fn are_kin(above: &Cap, below: &Cap) -> bool
     ensures { result ≡ tree.are_kin (Some above.now) (Some below.now) }
 {
     above.object == below.object
-        && !matches!(below.detail, Detail::Untyped)
         && above.original
         && (above.detail.badge() == 0 || above.detail.badge() == below.detail.badge())
         && rights_of(&above.detail).contains(rights_of(&below.detail))

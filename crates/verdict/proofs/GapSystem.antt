@@ -126,7 +126,6 @@ gap_lawful = lawful_by_tests gap refl (record {
           parent = refl;
           child = refl;
           object = refl;
-          derivable = λ e. cc;
           original = refl;
           badge = inl refl;
           rights = refl;
