@@ -22,12 +22,13 @@ module _ (one other : EdgeTest) (within : IsWithin one other) (closed : IsClosed
 
   has_given : (from : ℕ) (kind : Kind) (to : ℕ) → IsGiven one from kind to → other from kind to ≡ true
   has_given from kind to (shared giver (of_its_domain domain) of_use has) =
-      sym (closed.subjects_agree giver from (in_domain giver from domain) kind of_use to) ∙ within giver kind to has
+      sym (closed.subjects_agree giver from kind (record { domain = in_domain giver from domain; of_use = of_use }) to) ∙ within giver kind to has
   has_given from kind to (shared giver (of_their_domain domain) of_use has) =
-      closed.subjects_agree from giver (in_domain from giver domain) kind of_use to ∙ within giver kind to has
+      closed.subjects_agree from giver kind (record { domain = in_domain from giver domain; of_use = of_use }) to ∙ within giver kind to has
   has_given from kind to (shared giver (by_grant h) of_use has) =
-      closed.grant_shares giver from (may giver from h) kind of_use to (within giver kind to has)
-  has_given from kind to (controlled given e) = closed.control_gives_all from kind to (within from Control to e) given
+      closed.grant_shares giver from kind to (record { granted = may giver from h; of_use = of_use; has = within giver kind to has })
+  has_given from kind to (controlled h) =
+      closed.control_gives_all from kind to (record { controls = within from Control to h.controls; given = h.given })
 
   has_derived : (from to : ℕ) → ComesToDerive one from to → other from Derive to ≡ true
   has_derived from to (granted giver taker h of_parent of_child) =
@@ -43,8 +44,13 @@ module _ (one other : EdgeTest) (within : IsWithin one other) (closed : IsClosed
 
   pub has_asked : (from : ℕ) (kind : Kind) (to : ℕ) → IsAskedFor one from kind to → other from kind to ≡ true
   has_asked from kind to (gives h) = has_given from kind to h
-  has_asked from kind to (derives is subject parent child) =
-      rw is (closed.derive_in_domain subject from to (in_domain subject from parent) (in_domain subject to child))
+  has_asked from kind to (derives is h) =
+      rw is
+      (closed.derive_in_domain from to (record {
+        subject = h.subject;
+        of_parent = in_domain h.subject from h.of_parent;
+        of_child = in_domain h.subject to h.of_child;
+      }))
   has_asked from kind to (comes is h) = rw is (has_derived from to h)
   has_asked from kind to (runs is e) = rw is (closed.context_runs from to (within from Context to e))
   has_asked from kind to (holds is h) = rw is (has_held from to h)
@@ -57,12 +63,12 @@ alike false false forth back = refl
 -- a policy that has all that it asks for is closed
 pub closed_if_settled : (test : EdgeTest) → ((from : ℕ) (kind : Kind) (to : ℕ) → IsAskedFor test from kind to → test from kind to ≡ true) → IsClosed test
 closed_if_settled test settled = record {
-  subjects_agree = λ a b domain kind of_use to.
-      alike (test a kind to) (test b kind to) (λ has. settled b kind to (gives (shared a (of_its_domain domain) of_use has)))
-      (λ has. settled a kind to (gives (shared b (of_their_domain domain) of_use has)));
-  control_gives_all = λ a kind b e given. settled a kind b (gives (controlled given e));
-  grant_shares = λ a b h kind of_use to has. settled b kind to (gives (shared a (by_grant h) of_use has));
-  derive_in_domain = λ a x y parent child. settled x Derive y (derives refl a parent child);
+  subjects_agree = λ a b kind share to.
+      alike (test a kind to) (test b kind to) (λ has. settled b kind to (gives (shared a (of_its_domain share.domain) share.of_use has)))
+      (λ has. settled a kind to (gives (shared b (of_their_domain share.domain) share.of_use has)));
+  control_gives_all = λ a kind b h. settled a kind b (gives (controlled h));
+  grant_shares = λ a b kind to h. settled b kind to (gives (shared a (by_grant h.granted) h.of_use h.has));
+  derive_in_domain = λ x y h. settled x Derive y (derives refl h);
   derive_by_grant = λ x y h. settled x Derive y (comes refl h);
   context_runs = λ a s e. settled a Runs s (runs refl e);
   reply_holds = λ reply thread h. settled reply Holds thread (holds refl h);
@@ -81,8 +87,8 @@ module _ (test : EdgeTest) (joins : (from : ℕ) (kind : Kind) (to : ℕ) → te
 
   pub asked_starts : (from : ℕ) (kind : Kind) (to : ℕ) → IsAskedFor test from kind to → from < 64
   asked_starts from kind to (gives (shared giver h of_use has)) = shared_joins giver from h
-  asked_starts from kind to (gives (controlled given e)) = (joins from Control to e).0
-  asked_starts from kind to (derives is subject parent child) = (domain_joins subject from parent).1
+  asked_starts from kind to (gives (controlled h)) = (joins from Control to h.controls).0
+  asked_starts from kind to (derives is h) = (domain_joins h.subject from h.of_parent).1
   asked_starts from kind to (comes is (granted giver taker h parent child)) = (domain_joins giver from parent).1
   asked_starts from kind to (comes is (derived middle first second)) = (joins from Derive middle first).0
   asked_starts from kind to (runs is e) = (joins from Context to e).0

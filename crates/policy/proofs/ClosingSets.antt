@@ -9,7 +9,7 @@ use Rattle.base.specs.declared.labels.Labels.{Labels}
 use Rattle.base.specs.Kinds.{kind_number, is_structural}
 use Rattle.base.specs.Labels.{is_in}
 use Rattle.policy.specs.Broken.{DomainLacks, DeriveLacks, ReplyLacks}
-use Rattle.policy.specs.Closed.{IsGivenByControl}
+use Rattle.policy.specs.Closed.{ControlGives}
 use Rattle.policy.specs.Settling.{Shares, of_its_domain, of_their_domain, by_grant, IsGiven, shared, controlled, IsAskedFor, gives, derives, comes, runs, holds, IsMissing, IsSettled}
 use Rattle.policy.specs.Domain.{EdgeTest, IsInDomain}
 use Rattle.policy.proofs.KindNumbers.{all_kinds, number_stands, same_kind}
@@ -55,11 +55,11 @@ givers_told test taker subjects only around row granting domains all in_subjects
 -- what control and sharing give
 pub given_told :
     (test : EdgeTest) (from : ℕ) (kind : Kind) (controls givers shares all : Labels) → is_structural kind ≡ false
-    → Holds controls (λ to. IsGivenByControl kind × (test from Control to ≡ true)) → Holds givers (λ giver. Shares test giver from)
+    → Holds controls (ControlGives test from kind) → Holds givers (λ giver. Shares test giver from)
     → IsReached test givers kind shares → IsUnion controls shares all → Holds all (IsGiven test from kind)
 given_told test from kind controls givers shares all of_use in_controls in_givers in_shares both to = (
   λ is. elim (or_cases (is_in controls to) (is_in shares to) (sym (both to) ∙ is)) [
-    | inl control ↦ let h = (in_controls to).0 control in controlled h.0 h.1
+    | inl control ↦ controlled ((in_controls to).0 control)
     | inr share ↦
         let giver = (in_shares to).0 share in
         shared giver.from ((in_givers giver.from).0 giver.among) of_use (only_kind test kind giver.from to giver.joined)
@@ -67,7 +67,7 @@ given_told test from kind controls givers shares all of_use in_controls in_giver
   found,
 ) where
   found : IsGiven test from kind to → is_in all to ≡ true
-  found (controlled given e) = both to ∙ or_left (is_in controls to) (is_in shares to) ((in_controls to).1 (given, e))
+  found (controlled h) = both to ∙ or_left (is_in controls to) (is_in shares to) ((in_controls to).1 h)
   found (shared giver h is_use has) =
       both to ∙ or_right (is_in controls to) (is_in shares to)
       ((in_shares to).1 (target_by test kind givers giver to ((in_givers giver).1 h) has))
@@ -75,8 +75,10 @@ given_told test from kind controls givers shares all of_use in_controls in_giver
 -- nothing gives an edge that says what may be derived, run or held
 not_given : (test : EdgeTest) (from : ℕ) (kind : Kind) (to : ℕ) → is_structural kind ≡ true → (kind ≡ kinds.Space → ⊥) → IsGiven test from kind to → ⊥
 not_given test from kind to structural other (shared giver h is_use has) = false≢true (sym is_use ∙ structural)
-not_given test from kind to structural other (controlled (inl space) e) = other space
-not_given test from kind to structural other (controlled (inr of_use) e) = false≢true (sym of_use.0 ∙ structural)
+not_given test from kind to structural other (controlled h) = elim h.given [
+  | inl space ↦ other space
+  | inr of_use ↦ false≢true (sym of_use.0 ∙ structural)
+]
 
 -- P4 and P5
 pub derivations_missing :
@@ -84,18 +86,17 @@ pub derivations_missing :
     → Holds derived (λ child. DeriveLacks test from child) → IsUnion domain derived all → Holds all (IsMissing test from Derive)
 derivations_missing test from domain derived all in_domain in_derived both to = (
   λ is. elim (or_cases (is_in domain to) (is_in derived to) (sym (both to) ∙ is)) [
-    | inl one ↦ let h = (in_domain to).0 one in record { asked = derives refl h.subject h.of_parent h.of_child; missing = h.missing }
-    | inr other ↦ let h = (in_derived to).0 other in record { asked = comes refl h.comes; missing = h.missing }
+    | inl one ↦ let h = (in_domain to).0 one in record { asked = derives refl h.asked; missing = h.missing }
+    | inr other ↦ let h = (in_derived to).0 other in record { asked = comes refl h.asked; missing = h.missing }
   ],
   λ h. found h.missing h.asked,
 ) where
   found : test from Derive to ≡ false → IsAskedFor test from Derive to → is_in all to ≡ true
   found missing (gives h) = absurd (not_given test from Derive to refl (λ e. cc) h)
-  found missing (derives is subject parent child) =
-      both to ∙ or_left (is_in domain to) (is_in derived to)
-      ((in_domain to).1 (record { subject = subject; of_parent = parent; of_child = child; missing = missing }))
+  found missing (derives is h) =
+      both to ∙ or_left (is_in domain to) (is_in derived to) ((in_domain to).1 (record { asked = h; missing = missing }))
   found missing (comes is h) =
-      both to ∙ or_right (is_in domain to) (is_in derived to) ((in_derived to).1 (record { comes = h; missing = missing }))
+      both to ∙ or_right (is_in domain to) (is_in derived to) ((in_derived to).1 (record { asked = h; missing = missing }))
   found missing (runs is e) = cc
   found missing (holds is e) = cc
 
@@ -112,7 +113,7 @@ runs_missing test from contexts row lacks in_contexts in_row differ to = (
   found : test from Runs to ≡ false → IsAskedFor test from Runs to → is_in lacks to ≡ true
   found missing (gives h) = absurd (not_given test from Runs to refl (λ e. cc) h)
   found missing (runs is e) = back test from Runs contexts row lacks in_row differ to (in_contexts to ∙ e) missing
-  found missing (derives is subject parent child) = cc
+  found missing (derives is h) = cc
   found missing (comes is h) = cc
   found missing (holds is h) = cc
 
@@ -120,13 +121,13 @@ runs_missing test from contexts row lacks in_contexts in_row differ to = (
 pub replies_missing :
     (test : EdgeTest) (from : ℕ) (lacks : Labels) → Holds lacks (λ thread. ReplyLacks test from thread) → Holds lacks (IsMissing test from kinds.Holds)
 replies_missing test from lacks in_lacks to = (
-  λ is. let h = (in_lacks to).0 is in record { asked = holds refl h.comes; missing = h.missing },
+  λ is. let h = (in_lacks to).0 is in record { asked = holds refl h.asked; missing = h.missing },
   λ h. found h.missing h.asked,
 ) where
   found : test from kinds.Holds to ≡ false → IsAskedFor test from kinds.Holds to → is_in lacks to ≡ true
   found missing (gives h) = absurd (not_given test from kinds.Holds to refl (λ e. cc) h)
-  found missing (holds is h) = (in_lacks to).1 (record { comes = h; missing = missing })
-  found missing (derives is subject parent child) = cc
+  found missing (holds is h) = (in_lacks to).1 (record { asked = h; missing = missing })
+  found missing (derives is h) = cc
   found missing (comes is h) = cc
   found missing (runs is e) = cc
 
@@ -142,7 +143,7 @@ given_missing test from kind given row lacks no_derive no_runs no_holds in_given
 ) where
   found : test from kind to ≡ false → IsAskedFor test from kind to → is_in lacks to ≡ true
   found missing (gives h) = back test from kind given row lacks in_row differ to ((in_given to).1 h) missing
-  found missing (derives is subject parent child) = absurd (no_derive is)
+  found missing (derives is h) = absurd (no_derive is)
   found missing (comes is h) = absurd (no_derive is)
   found missing (runs is e) = absurd (no_runs is)
   found missing (holds is h) = absurd (no_holds is)

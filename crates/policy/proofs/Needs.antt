@@ -22,19 +22,19 @@ outside test space control a x (inl e) = not_both e (space a x)
 outside test space control a x (inr e) = not_both e (control a x)
 
 no_domain_agrees : (test : EdgeTest) → Lacks test Space → Lacks test Control → SubjectsAgree test
-no_domain_agrees test space control a b domain kind of_use to = absurd (outside test space control a b domain)
+no_domain_agrees test space control a b kind share to = absurd (outside test space control a b share.domain)
 
 no_control : (test : EdgeTest) → Lacks test Control → ControlGivesAll test
-no_control test lacks a kind b e given = absurd (not_both e (lacks a b))
+no_control test lacks a kind b h = absurd (not_both h.controls (lacks a b))
 
 no_grant : (test : EdgeTest) → Lacks test Grant → GrantShares test
-no_grant test lacks a b may kind of_use to e = absurd (not_both may.grants (lacks a may.endpoint))
+no_grant test lacks a b kind to h = absurd (not_both h.granted.grants (lacks a h.granted.endpoint))
 
 no_domain_derives : (test : EdgeTest) → Lacks test Space → Lacks test Control → DeriveInDomain test
-no_domain_derives test space control a x y one other = absurd (outside test space control a x one)
+no_domain_derives test space control x y h = absurd (outside test space control h.subject x h.of_parent)
 
 all_derive : (test : EdgeTest) → HasAll test Derive → DeriveInDomain test
-all_derive test all a x y one other = all x y
+all_derive test all x y h = all x y
 
 all_derive_by_grant : (test : EdgeTest) → HasAll test Derive → DeriveByGrant test
 all_derive_by_grant test all x y comes = all x y
@@ -61,7 +61,7 @@ apart a _ to = false
 
 breaks_subjects : BreaksOnly subjects_agree
 breaks_subjects =
-    record { test = apart; others = others; broken = λ agree. false≢true (sym (agree 0 1 (inl refl) Reset refl 0)) } where
+    record { test = apart; others = others; broken = λ agree. false≢true (sym (agree 0 1 Reset (record { domain = inl refl; of_use = refl }) 0)) } where
       others : (other : Rule) → other ≢ subjects_agree → Obeys apart other
       others subjects_agree differ = absurd (differ refl)
       others control_gives_all differ = no_control apart (λ a b. refl)
@@ -79,17 +79,17 @@ weak_control a Derive to = true
 weak_control a _ to = false
 
 weak_agrees : SubjectsAgree weak_control
-weak_agrees a b domain Control of_use to = refl
-weak_agrees a b domain Space of_use to = refl
-weak_agrees a b domain Derive of_use to = refl
-weak_agrees a b domain _ of_use to = refl
+weak_agrees a b Control share to = refl
+weak_agrees a b Space share to = refl
+weak_agrees a b Derive share to = refl
+weak_agrees a b _ share to = refl
 
 breaks_control : BreaksOnly control_gives_all
 breaks_control =
     record {
       test = weak_control;
       others = others;
-      broken = λ gives. false≢true (gives 0 Reset 0 refl (inr (refl, λ e. cc)));
+      broken = λ gives. false≢true (gives 0 Reset 0 (record { controls = refl; given = inr (refl, λ e. cc) }));
     } where
       others : (other : Rule) → other ≢ control_gives_all → Obeys weak_control other
       others subjects_agree differ = weak_agrees
@@ -116,7 +116,12 @@ breaks_grant =
     record {
       test = unshared;
       others = others;
-      broken = λ shares. false≢true (shares 0 1 (record { endpoint = 0; grants = refl; receives = refl }) Reset refl 0 refl);
+      broken = λ shares.
+          false≢true (shares 0 1 Reset 0 (record {
+            granted = record { endpoint = 0; grants = refl; receives = refl };
+            of_use = refl;
+            has = refl;
+          }));
     } where
       others : (other : Rule) → other ≢ grant_shares → Obeys unshared other
       others subjects_agree differ = no_domain_agrees unshared (λ a b. refl) (λ a b. refl)
@@ -133,12 +138,12 @@ underived a Space to = true
 underived a _ to = false
 
 underived_agrees : SubjectsAgree underived
-underived_agrees a b domain Space of_use to = refl
-underived_agrees a b domain _ of_use to = refl
+underived_agrees a b Space share to = refl
+underived_agrees a b _ share to = refl
 
 breaks_derive : BreaksOnly derive_in_domain
 breaks_derive =
-    record { test = underived; others = others; broken = λ derives. false≢true (derives 0 0 0 (inl refl) (inl refl)) } where
+    record { test = underived; others = others; broken = λ derives. false≢true (derives 0 0 (record { subject = 0; of_parent = inl refl; of_child = inl refl })) } where
       others : (other : Rule) → other ≢ derive_in_domain → Obeys underived other
       others subjects_agree differ = underived_agrees
       others control_gives_all differ = no_control underived (λ a b. refl)
@@ -221,10 +226,10 @@ obeys_each test closed reply_holds = closed.reply_holds
 pub full_closed : IsClosed (λ from kind to. true)
 full_closed =
     record {
-      subjects_agree = λ a b domain kind of_use to. refl;
-      control_gives_all = λ a kind b e given. refl;
-      grant_shares = λ a b may kind of_use to e. refl;
-      derive_in_domain = λ a x y one other. refl;
+      subjects_agree = λ a b kind share to. refl;
+      control_gives_all = λ a kind b h. refl;
+      grant_shares = λ a b kind to h. refl;
+      derive_in_domain = λ x y h. refl;
       derive_by_grant = λ x y comes. refl;
       context_runs = λ a s e. refl;
       reply_holds = λ reply thread comes. refl;

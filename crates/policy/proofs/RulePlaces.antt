@@ -121,23 +121,23 @@ module _ (test : EdgeTest) (joins : (from : ℕ) (kind : Kind) (to : ℕ) → te
   place_number : (b : Broken) → IsBrokenAt test b → IsNumbered b
   unfolding rule_of
   place_number (broken.SubjectsDisagree a b kind to) h =
-      let both = in_domain a b h.domain in
+      let both = in_domain a b h.share.domain in
       let pair = paired a b both.1 in
       record { number = a * 64 + b; within = of_pair a b both.0 both.1; begins = (refl, (pair.0, (pair.1, tt))) }
-  place_number (broken.ControlLacks a kind to) h = record { number = a; within = (joins a _ to h.controls).0; begins = (refl, (refl, tt)) }
+  place_number (broken.ControlLacks a kind to) h = record { number = a; within = (joins a _ to h.asked.controls).0; begins = (refl, (refl, tt)) }
   place_number (broken.GrantLacks a b kind to) h =
-      let below = (joins b _ h.granted.endpoint h.granted.receives).0 in
+      let below = (joins b _ h.asked.granted.endpoint h.asked.granted.receives).0 in
       let pair = paired a b below in
       record {
         number = a * 64 + b;
-        within = of_pair a b (joins a _ h.granted.endpoint h.granted.grants).0 below;
+        within = of_pair a b (joins a _ h.asked.granted.endpoint h.asked.granted.grants).0 below;
         begins = (refl, (pair.0, (pair.1, tt)));
       }
   place_number (broken.DomainLacks a to) h =
-      record { number = a; within = (in_domain h.subject a h.of_parent).1; begins = (refl, (refl, tt)) }
-  place_number (broken.DeriveLacks a to) h = record { number = a; within = derives a to h.comes; begins = (refl, (refl, tt)) }
-  place_number (broken.ContextLacks a to) h = record { number = a; within = (joins a _ to h.binds).0; begins = (refl, (refl, tt)) }
-  place_number (broken.ReplyLacks a to) h = record { number = a; within = holds a to h.comes; begins = (refl, (refl, tt)) }
+      record { number = a; within = (in_domain h.asked.subject a h.asked.of_parent).1; begins = (refl, (refl, tt)) }
+  place_number (broken.DeriveLacks a to) h = record { number = a; within = derives a to h.asked; begins = (refl, (refl, tt)) }
+  place_number (broken.ContextLacks a to) h = record { number = a; within = (joins a _ to h.asked).0; begins = (refl, (refl, tt)) }
+  place_number (broken.ReplyLacks a to) h = record { number = a; within = holds a to h.asked; begins = (refl, (refl, tt)) }
 
   -- the places of a rule
   pub of_places : (r : Rule) → Searches broken_place (IsBrokenAt test) (of_rule r) (numbers (count_of r)) (place_of r)

@@ -61,10 +61,13 @@ domain_told test parent subjects domain row lacks in_subjects in_domain in_row d
   λ e.
       let parts = out test parent Derive domain row lacks in_row differ child e in
       let found = (in_domain child).0 parts.0 in
-      record { subject = found.0; of_parent = (in_subjects found.0).0 found.1; of_child = found.2; missing = parts.1 },
+      record {
+        asked = record { subject = found.0; of_parent = (in_subjects found.0).0 found.1; of_child = found.2 };
+        missing = parts.1;
+      },
   λ h.
       back test parent Derive domain row lacks in_row differ child
-      ((in_domain child).1 (h.subject, (in_subjects h.subject).1 h.of_parent, h.of_child)) h.missing,
+      ((in_domain child).1 (h.asked.subject, (in_subjects h.asked.subject).1 h.asked.of_parent, h.asked.of_child)) h.missing,
 )
 
 -- P5
@@ -76,8 +79,8 @@ pub derive_told :
 derive_told test parent subjects endpoints takers domain row steps comes lacks in_subjects in_endpoints in_takers in_domain in_row in_steps either differ child = (
   λ e.
       let parts = out test parent Derive comes row lacks in_row differ child e in
-      record { comes = told (or_cases (is_in domain child) (is_in steps child) (sym (either child) ∙ parts.0)); missing = parts.1 },
-  λ h. back test parent Derive comes row lacks in_row differ child (untold h.comes) h.missing,
+      record { asked = told (or_cases (is_in domain child) (is_in steps child) (sym (either child) ∙ parts.0)); missing = parts.1 },
+  λ h. back test parent Derive comes row lacks in_row differ child (untold h.asked) h.missing,
 ) where
   told : (is_in domain child ≡ true) ⊎ (is_in steps child ≡ true) → ComesToDerive test parent child
   told (inl e) =
@@ -111,8 +114,8 @@ pub reply_told :
 reply_told test reply only servers endpoints callers row comes lacks in_only in_servers in_endpoints in_callers either in_row differ thread = (
   λ e.
       let parts = out test reply kind.Holds comes row lacks in_row differ thread e in
-      record { comes = told (or_cases (is_in servers thread) (is_in callers thread) (sym (either thread) ∙ parts.0)); missing = parts.1 },
-  λ h. back test reply kind.Holds comes row lacks in_row differ thread (untold h.comes) h.missing,
+      record { asked = told (or_cases (is_in servers thread) (is_in callers thread) (sym (either thread) ∙ parts.0)); missing = parts.1 },
+  λ h. back test reply kind.Holds comes row lacks in_row differ thread (untold h.asked) h.missing,
 ) where
   serves : (label : ℕ) → is_in servers label ≡ true → test label Reply reply ≡ true
   serves label e =

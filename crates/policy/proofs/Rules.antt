@@ -40,8 +40,8 @@ module _ (test : EdgeTest) where
       least_cell test (p1 ∷ subject ∷ other ∷ []) (λ cell. broken.SubjectsDisagree subject other cell.0 cell.1) (disagreements subject other) gives
       (λ kind labels given target.
       let told = tells kind labels given target in (
-        λ e. let h = told.0 e in record { domain = domain; of_use = h.0; differ = h.1 },
-        λ h. told.1 (h.of_use, h.differ),
+        λ e. let h = told.0 e in record { share = record { domain = domain; of_use = h.0 }; differ = h.1 },
+        λ h. told.1 (h.share.of_use, h.differ),
       ))
 
   -- P2
@@ -73,8 +73,8 @@ module _ (test : EdgeTest) where
       least_cell test (p3 ∷ giver ∷ taker ∷ []) (λ cell. broken.GrantLacks giver taker cell.0 cell.1) (grants giver taker) gives
       (λ kind labels given target.
       let told = tells kind labels given target in (
-        λ e. let h = told.0 e in record { granted = may; of_use = h.0; has = h.1; missing = h.2 },
-        λ h. told.1 (h.of_use, h.has, h.missing),
+        λ e. let h = told.0 e in record { asked = record { granted = may; of_use = h.0; has = h.1 }; missing = h.2 },
+        λ h. told.1 (h.asked.of_use, h.asked.has, h.missing),
       ))
 
   -- P5

@@ -1,13 +1,14 @@
--- Where the rules of closed policies (`Closed`) are broken: what a rule asks for is missing, and in which order these places come (compare 'seL4 Enforces Integrity', section 3,
--- well-formed policies; the rules, their places and their order are confine's own).
-use Rattle.std.specs.Prelude.{◌≡◌, ◌≢◌, ℕ, ◌⊎◌, true, false, List, [], ◌∷◌, codes}
+-- Where the rules of closed policies (`Closed`) are broken: a rule asks for an edge there, and it is missing. In which order these
+-- places come (compare 'seL4 Enforces Integrity', section 3, well-formed policies; the rules, their places and their order are
+-- confine's own).
+use Rattle.std.specs.Prelude.{◌≡◌, ◌≢◌, ℕ, List, [], ◌∷◌, codes}
 use Rattle.base.specs.declared.kind.Kind.{Kind}
-use Rattle.base.specs.declared.kind.Kind.TheVariants.{Control, Receive, Call, Reply, Context, SchedControl, Space, Derive, Runs, Holds}
-use Rattle.base.specs.Kinds.{kind_number, is_structural}
+use Rattle.base.specs.declared.kind.Kind.TheVariants.{Derive, Runs, Holds}
+use Rattle.base.specs.Kinds.{kind_number}
 use Rattle.policy.specs.declared.broken.Broken.{Broken}
 use Rattle.policy.specs.declared.broken.Broken.TheVariants as broken
-use Rattle.policy.specs.Closed.{ComesToDerive, ComesToHold, IsGivenByControl, MayBeGranted}
-use Rattle.policy.specs.Domain.{EdgeTest, IsInDomain}
+use Rattle.policy.specs.Closed.{ComesToDerive, ComesToHold, ControlGives, GrantGives, IsLacking, MayBind, ShareDomain}
+use Rattle.policy.specs.Domain.{EdgeTest, ShareUse}
 
 -- the numbers of the rules
 
@@ -32,46 +33,34 @@ p6 = 6
 abbrev pub p7 : ℕ
 p7 = 7
 
--- P1: one label is in the other's domain, and only one of the two has an edge
+-- P1: of two labels of one domain only one has an edge
 pub record SubjectsDisagree (test : EdgeTest) (subject other : ℕ) (kind : Kind) (target : ℕ) : Type 0 where
-  pub domain : IsInDomain test subject other
-  pub of_use : is_structural kind ≡ false
+  pub share : ShareUse test subject other kind
   pub differ : test subject kind target ≢ test other kind target
 
 -- P2: one label controls another, and lacks an edge to it that control gives
-pub record ControlLacks (test : EdgeTest) (subject : ℕ) (kind : Kind) (object : ℕ) : Type 0 where
-  pub controls : test subject Control object ≡ true
-  pub given : IsGivenByControl kind
-  pub missing : test subject kind object ≡ false
+abbrev pub ControlLacks : EdgeTest → ℕ → Kind → ℕ → Type 0
+ControlLacks test subject kind object = IsLacking (ControlGives test subject kind object) (test subject kind object)
 
 -- P3: one label may be granted another's capabilities, and lacks an edge that the other has
-pub record GrantLacks (test : EdgeTest) (giver taker : ℕ) (kind : Kind) (target : ℕ) : Type 0 where
-  pub granted : MayBeGranted test giver taker
-  pub of_use : is_structural kind ≡ false
-  pub has : test giver kind target ≡ true
-  pub missing : test taker kind target ≡ false
+abbrev pub GrantLacks : EdgeTest → ℕ → ℕ → Kind → ℕ → Type 0
+GrantLacks test giver taker kind target = IsLacking (GrantGives test giver taker kind target) (test taker kind target)
 
 -- P4: two labels are in one domain, and the second's capabilities may not be derived from the first's
-pub record DomainLacks (test : EdgeTest) (parent child : ℕ) : Type 0 where
-  pub subject : ℕ
-  pub of_parent : IsInDomain test subject parent
-  pub of_child : IsInDomain test subject child
-  pub missing : test parent Derive child ≡ false
+abbrev pub DomainLacks : EdgeTest → ℕ → ℕ → Type 0
+DomainLacks test parent child = IsLacking (ShareDomain test parent child) (test parent Derive child)
 
 -- P5: capabilities may come to be derived, and the edge for it is missing
-pub record DeriveLacks (test : EdgeTest) (parent child : ℕ) : Type 0 where
-  pub comes : ComesToDerive test parent child
-  pub missing : test parent Derive child ≡ false
+abbrev pub DeriveLacks : EdgeTest → ℕ → ℕ → Type 0
+DeriveLacks test parent child = IsLacking (ComesToDerive test parent child) (test parent Derive child)
 
 -- P6: a label may bind a context, and may not run on it
-pub record ContextLacks (test : EdgeTest) (subject context : ℕ) : Type 0 where
-  pub binds : test subject Context context ≡ true
-  pub missing : test subject Runs context ≡ false
+abbrev pub ContextLacks : EdgeTest → ℕ → ℕ → Type 0
+ContextLacks test subject context = IsLacking (MayBind test subject context) (test subject Runs context)
 
 -- P7: a reply may come to hold a thread, and the edge for it is missing
-pub record ReplyLacks (test : EdgeTest) (reply thread : ℕ) : Type 0 where
-  pub comes : ComesToHold test reply thread
-  pub missing : test reply Holds thread ≡ false
+abbrev pub ReplyLacks : EdgeTest → ℕ → ℕ → Type 0
+ReplyLacks test reply thread = IsLacking (ComesToHold test reply thread) (test reply Holds thread)
 
 -- a policy breaks a rule at a place
 abbrev pub IsBrokenAt : EdgeTest → Broken → Type 0

@@ -1,6 +1,7 @@
 -- Closed policies: what a policy has to have so that no run leads out of it
 -- (the well-formed policies of 'seL4 Enforces Integrity', section 3, restated for this profile).
-use Rattle.std.specs.Prelude.{◌≡◌, ◌≢◌, ℕ, ◌⊎◌, true, false}
+-- Each rule is in two parts: where it asks for an edge, and that the edge is there.
+use Rattle.std.specs.Prelude.{◌≡◌, ◌≢◌, ℕ, ◌⊎◌, Bool, true, false}
 use Rattle.base.specs.declared.kind.Kind.{Kind}
 use Rattle.base.specs.declared.kind.Kind.TheVariants.{Control, Receive, Grant, Call, Reply, Context, SchedControl, Space, Derive, Runs, Holds}
 use Rattle.base.specs.Kinds.{is_structural}
@@ -10,9 +11,14 @@ use Rattle.policy.specs.Domain.{EdgeTest, IsInDomain, SubjectsAgree}
 abbrev pub IsGivenByControl : Kind → Type 0
 IsGivenByControl kind = (kind ≡ Space) ⊎ ((is_structural kind ≡ false) × (kind ≢ SchedControl))
 
+-- an edge that control gives
+pub record ControlGives (test : EdgeTest) (a : ℕ) (kind : Kind) (b : ℕ) : Type 0 where
+  pub controls : test a Control b ≡ true
+  pub given : IsGivenByControl kind
+
 -- P2: who controls a label has its space, and may do everything to it but configure its core
 abbrev pub ControlGivesAll : EdgeTest → Type 0
-ControlGivesAll test = (a : ℕ) (kind : Kind) (b : ℕ) → test a Control b ≡ true → IsGivenByControl kind → test a kind b ≡ true
+ControlGivesAll test = (a : ℕ) (kind : Kind) (b : ℕ) → ControlGives test a kind b → test a kind b ≡ true
 
 -- b may get capabilities from a, by a grant over some endpoint
 pub record MayBeGranted (test : EdgeTest) (a b : ℕ) : Type 0 where
@@ -20,15 +26,25 @@ pub record MayBeGranted (test : EdgeTest) (a b : ℕ) : Type 0 where
   pub grants : test a Grant endpoint ≡ true
   pub receives : test b Receive endpoint ≡ true
 
+-- an edge of a's that b may come to use
+pub record GrantGives (test : EdgeTest) (a b : ℕ) (kind : Kind) (to : ℕ) : Type 0 where
+  pub granted : MayBeGranted test a b
+  pub of_use : is_structural kind ≡ false
+  pub has : test a kind to ≡ true
+
 -- P3: who may be granted a's capabilities may do what a may
 abbrev pub GrantShares : EdgeTest → Type 0
-GrantShares test =
-    (a b : ℕ) → MayBeGranted test a b → (kind : Kind) → is_structural kind ≡ false → (to : ℕ)
-    → test a kind to ≡ true → test b kind to ≡ true
+GrantShares test = (a b : ℕ) (kind : Kind) (to : ℕ) → GrantGives test a b kind to → test b kind to ≡ true
+
+-- two labels in the domain of one
+pub record ShareDomain (test : EdgeTest) (parent child : ℕ) : Type 0 where
+  pub subject : ℕ
+  pub of_parent : IsInDomain test subject parent
+  pub of_child : IsInDomain test subject child
 
 -- P4: within a domain, capabilities may be derived
 abbrev pub DeriveInDomain : EdgeTest → Type 0
-DeriveInDomain test = (a x y : ℕ) → IsInDomain test a x → IsInDomain test a y → test x Derive y ≡ true
+DeriveInDomain test = (x y : ℕ) → ShareDomain test x y → test x Derive y ≡ true
 
 -- capabilities may come to be derived, over a grant or in two steps
 pub data ComesToDerive (test : EdgeTest) (parent child : ℕ) : Type 0 where
@@ -40,9 +56,13 @@ pub data ComesToDerive (test : EdgeTest) (parent child : ℕ) : Type 0 where
 abbrev pub DeriveByGrant : EdgeTest → Type 0
 DeriveByGrant test = (x y : ℕ) → ComesToDerive test x y → test x Derive y ≡ true
 
+-- a context may be bound
+abbrev pub MayBind : EdgeTest → ℕ → ℕ → Type 0
+MayBind test a s = test a Context s ≡ true
+
 -- P6: who may bind a context may run on it
 abbrev pub ContextRuns : EdgeTest → Type 0
-ContextRuns test = (a s : ℕ) → test a Context s ≡ true → test a Runs s ≡ true
+ContextRuns test = (a s : ℕ) → MayBind test a s → test a Runs s ≡ true
 
 -- a reply may come to hold a thread: of a label that may use the reply, or of one that calls such a label
 pub data ComesToHold (test : EdgeTest) (reply thread : ℕ) : Type 0 where
@@ -53,6 +73,11 @@ pub data ComesToHold (test : EdgeTest) (reply thread : ℕ) : Type 0 where
 -- P7: a reply may hold the threads that it may come to hold
 abbrev pub ReplyHolds : EdgeTest → Type 0
 ReplyHolds test = (reply thread : ℕ) → ComesToHold test reply thread → test reply Holds thread ≡ true
+
+-- a rule asks for an edge that is missing
+pub record IsLacking (Asked : Type 0) (edge : Bool) : Type 0 where
+  pub asked : Asked
+  pub missing : edge ≡ false
 
 pub record IsClosed (test : EdgeTest) : Type 0 where
   pub subjects_agree : SubjectsAgree test

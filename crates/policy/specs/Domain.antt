@@ -13,7 +13,11 @@ EdgeTest = ℕ → Kind → ℕ → Bool
 abbrev pub IsInDomain : EdgeTest → ℕ → ℕ → Type 0
 IsInDomain test a x = (test a Space x ≡ true) ⊎ (test a Control x ≡ true)
 
+-- a kind of use, and two labels of one domain
+pub record ShareUse (test : EdgeTest) (a b : ℕ) (kind : Kind) : Type 0 where
+  pub domain : IsInDomain test a b
+  pub of_use : is_structural kind ≡ false
+
 -- P1: labels of one domain may do the same
 abbrev pub SubjectsAgree : EdgeTest → Type 0
-SubjectsAgree test =
-    (a b : ℕ) → IsInDomain test a b → (kind : Kind) → is_structural kind ≡ false → (to : ℕ) → test a kind to ≡ test b kind to
+SubjectsAgree test = (a b : ℕ) (kind : Kind) → ShareUse test a b kind → (to : ℕ) → test a kind to ≡ test b kind to

@@ -3,13 +3,12 @@
 use Rattle.std.specs.Prelude.{◌≡◌, ℕ, ◌<◌, ◌⊎◌, Bool, true, false, List}
 use Rattle.base.specs.declared.edge.Edge.{Edge}
 use Rattle.base.specs.declared.kind.Kind.{Kind}
-use Rattle.base.specs.declared.kind.Kind.TheVariants.{Control, Context, Derive, Runs, Holds}
+use Rattle.base.specs.declared.kind.Kind.TheVariants.{Derive, Runs, Holds}
 use Rattle.base.specs.declared.label.TheConstants.Label as Label
 use Rattle.base.specs.declared.labels.Labels.{Labels}
 use Rattle.base.specs.Kinds.{is_structural}
 use Rattle.base.specs.Labels.{is_in}
-use Rattle.policy.specs.Closed.{IsGivenByControl, ComesToDerive, ComesToHold}
-use Rattle.policy.specs.Closed.{IsClosed, MayBeGranted}
+use Rattle.policy.specs.Closed.{ComesToDerive, ComesToHold, ControlGives, IsClosed, IsLacking, MayBeGranted, MayBind, ShareDomain}
 use Rattle.policy.specs.Closing.{IsWithin}
 use Rattle.policy.specs.Domain.{EdgeTest, IsInDomain}
 use Rattle.policy.specs.Policy.{allows}
@@ -23,20 +22,19 @@ pub data Shares (test : EdgeTest) (giver taker : ℕ) : Type 0 where
 -- an edge that its label shares with another, or has by control
 pub data IsGiven (test : EdgeTest) (from : ℕ) (kind : Kind) (to : ℕ) : Type 0 where
   shared : (giver : ℕ) → Shares test giver from → is_structural kind ≡ false → test giver kind to ≡ true → IsGiven test from kind to
-  controlled : IsGivenByControl kind → test from Control to ≡ true → IsGiven test from kind to
+  controlled : ControlGives test from kind to → IsGiven test from kind to
 
 -- an edge that closed policies have if they have the edges of this one
 pub data IsAskedFor (test : EdgeTest) (from : ℕ) (kind : Kind) (to : ℕ) : Type 0 where
   gives : IsGiven test from kind to → IsAskedFor test from kind to
-  derives : kind ≡ Derive → (subject : ℕ) → IsInDomain test subject from → IsInDomain test subject to → IsAskedFor test from kind to
+  derives : kind ≡ Derive → ShareDomain test from to → IsAskedFor test from kind to
   comes : kind ≡ Derive → ComesToDerive test from to → IsAskedFor test from kind to
-  runs : kind ≡ Runs → test from Context to ≡ true → IsAskedFor test from kind to
+  runs : kind ≡ Runs → MayBind test from to → IsAskedFor test from kind to
   holds : kind ≡ Holds → ComesToHold test from to → IsAskedFor test from kind to
 
 -- an edge that is asked for and isn't there
-pub record IsMissing (test : EdgeTest) (from : ℕ) (kind : Kind) (to : ℕ) : Type 0 where
-  pub asked : IsAskedFor test from kind to
-  pub missing : test from kind to ≡ false
+abbrev pub IsMissing : EdgeTest → ℕ → Kind → ℕ → Type 0
+IsMissing test from kind to = IsLacking (IsAskedFor test from kind to) (test from kind to)
 
 -- no edge of this kind is missing at this label
 abbrev pub IsSettled : EdgeTest → ℕ → Kind → Type 0

@@ -1,10 +1,8 @@
 ghost use Rattle.std.specs.Prelude.{◌≡◌, ◌↔◌, ◌++◌, ◌||◌, ℕ, true, false, IfErr, IfOk, OnOk};
 ghost use Rattle.base.specs.declared.kind.Kind.{Kind};
-ghost use Rattle.base.specs.declared.kind.Kind.TheVariants.{Control};
 ghost use Rattle.base.specs.Labels.{is_in};
 ghost use Rattle.base.specs.Refusals.{out_of_memory};
-ghost use Rattle.policy.specs.Closed.{IsGivenByControl};
-ghost use Rattle.policy.specs.Closed.{IsClosed};
+ghost use Rattle.policy.specs.Closed.{ControlGives, IsClosed};
 ghost use Rattle.policy.specs.Closing.{IsLeastClosed};
 ghost use Rattle.policy.specs.Settling.{Grows, IsGiven, IsMissing, IsSettled, Joins, Shares};
 ghost use Rattle.policy.specs.Policy.{allows};
@@ -148,8 +146,7 @@ fn given(policy: &Policy, from: Label, kind: Kind) -> Labels
 
 // The labels to which control gives the label the edge of this kind.
 fn controlled(policy: &Policy, from: Label, kind: Kind) -> Labels
-    ensures { (to : ℕ) → (is_in result to ≡ true)
-        ↔ (IsGivenByControl kind × (allows policy.now from Control to ≡ true)) }
+    ensures { (to : ℕ) → (is_in result to ≡ true) ↔ ControlGives (allows policy.now) from kind to }
 {
     if is_given_by_control(kind) {
         policy.row(from, Kind::Control)

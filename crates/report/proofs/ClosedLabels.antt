@@ -58,11 +58,12 @@ module _ (n : ℕ) where
   all_closed : IsClosed (among n)
   all_closed =
       record {
-        subjects_agree = λ a b of kind of_use to. agree a b of kind to;
-        control_gives_all = λ a kind b e given. joins a kind b (joined a _ b e).0 (joined a _ b e).1;
-        grant_shares = λ a b granted kind of_use to e.
-            joins b kind to (joined b _ granted.endpoint granted.receives).0 (joined a kind to e).1;
-        derive_in_domain = λ a x y one two. joins x _ y (in_domain a x one).1 (in_domain a y two).1;
+        subjects_agree = λ a b kind share to. agree a b share.domain kind to;
+        control_gives_all = λ a kind b h. joins a kind b (joined a _ b h.controls).0 (joined a _ b h.controls).1;
+        grant_shares = λ a b kind to h.
+            joins b kind to (joined b _ h.granted.endpoint h.granted.receives).0 (joined a kind to h.has).1;
+        derive_in_domain = λ x y h.
+            joins x _ y (in_domain h.subject x h.of_parent).1 (in_domain h.subject y h.of_child).1;
         derive_by_grant = derives;
         context_runs = λ a s e. joins a _ s (joined a _ s e).0 (joined a _ s e).1;
         reply_holds = holds;

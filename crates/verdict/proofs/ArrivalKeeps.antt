@@ -62,8 +62,9 @@ module _
     edges k to given labelled =
         let uses = given_of_use ends.held.detail k given in
         let to_is : to ≡ reach.label = same_Some to reach.label (sym labelled ∙ reach.labelled) in
-        sym (closed.subjects_agree b target.label (inr target.controls) k uses to)
-        ∙ closed.grant_shares s b may k uses to (ap (allowed s k) to_is ∙ reach.edge k given uses)
+        sym (closed.subjects_agree b target.label k (record { domain = inr target.controls; of_use = uses }) to)
+        ∙ closed.grant_shares s b k to
+        (record { granted = may; of_use = uses; has = ap (allowed s k) to_is ∙ reach.edge k given uses })
 
     may_change : (a ≡ s) ⊎ (a ≡ b) → IsFull allowed a target.label
     may_change (inl same) =

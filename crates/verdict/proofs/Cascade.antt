@@ -135,7 +135,7 @@ module _
           based = led.based;
           label = to.0;
           labelled = ap (label_of t m) (sym own) ∙ to.1;
-          alike = closed.subjects_agree led.base to.0 (inr edge);
+          alike = λ k of_use. closed.subjects_agree led.base to.0 k (record { domain = inr edge; of_use = of_use });
           of_thread = λ thread. inr edge;
         }
     by_holder (inr thread) =
@@ -147,7 +147,8 @@ module _
           based = led.based;
           label = to.0;
           labelled = ap (label_of t m) (sym own) ∙ to.1;
-          alike = λ k of_use end. led.alike k of_use end ∙ closed.subjects_agree led.label to.0 (inl edge) k of_use end;
+          alike = λ k of_use end.
+              led.alike k of_use end ∙ closed.subjects_agree led.label to.0 k (record { domain = inl edge; of_use = of_use }) end;
           of_thread = λ other.
               let two : Some kind.CNode ≡ Some kind.Tcb = sym (kinds ∙ ap (λ k. Some k) is_node) ∙ other in
               cc;

@@ -214,7 +214,7 @@ module _
       may_run : allowed of_thread.label authority.Runs of_context.label ≡ true
       may_run =
           closed.context_runs of_thread.label of_context.label
-          (sym (closed.subjects_agree a of_thread.label (inr controls) authority.Context refl of_context.label)
+          (sym (closed.subjects_agree a of_thread.label authority.Context (record { domain = inr controls; of_use = refl }) of_context.label)
           ∙ may_use address done.id done.finds)
 
       links_within :

@@ -66,11 +66,12 @@ holds r thread (caller b endpoint e calls receives) = own r Holds thread (to_own
 
 pub others : (other : Rule) → other ≢ context_runs → Obeys has other
 others subjects_agree differ =
-    λ a b domain k e to. let is = in_domain a b domain in ap (λ x. has x k to) (is.0 ∙ sym is.1)
-others control_gives_all differ = λ a k b e given. own a k b (from_own a Control b e) (to_own a Control b refl e)
+    λ a b k share to. let is = in_domain a b share.domain in ap (λ x. has x k to) (is.0 ∙ sym is.1)
+others control_gives_all differ = λ a k b h. own a k b (from_own a Control b h.controls) (to_own a Control b refl h.controls)
 others grant_shares differ =
-    λ a b may k e to there. let is = receiver a b may in ap (λ x. has x k to) (is.1 ∙ sym is.0) ∙ there
-others derive_in_domain differ = λ a x y one other. own x Derive y (in_domain a x one).1 (in_domain a y other).1
+    λ a b k to h. let is = receiver a b h.granted in ap (λ x. has x k to) (is.1 ∙ sym is.0) ∙ h.has
+others derive_in_domain differ = λ x y h.
+    own x Derive y (in_domain h.subject x h.of_parent).1 (in_domain h.subject y h.of_child).1
 others derive_by_grant differ = comes
 others context_runs differ = absurd (differ refl)
 others reply_holds differ = holds

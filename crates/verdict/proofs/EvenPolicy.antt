@@ -33,19 +33,21 @@ module _ (kinds : Kind → Bool) (n : ℕ) where
   even_within few a k b e = let labels = labels_of a k b e in (omega (arith, labels.0, few), omega (arith, labels.1, few))
 
   pub even_agrees : SubjectsAgree (even kinds n)
-  even_agrees a b domain k e to = let labels = in_domain a b domain in alike a b k to labels.0 labels.1
+  even_agrees a b k share to = let labels = in_domain a b share.domain in alike a b k to labels.0 labels.1
 
   pub even_gives : ((k : Kind) → IsGivenByControl k → kinds k ≡ true) → ControlGivesAll (even kinds n)
-  even_gives used a k b e given = let labels = labels_of a Control b e in of_labels a k b (used k given) labels.0 labels.1
+  even_gives used a k b h = let labels = labels_of a Control b h.controls in of_labels a k b (used k h.given) labels.0 labels.1
 
   pub even_shares : GrantShares (even kinds n)
-  even_shares a b may k e to there =
+  even_shares a b k to h =
+      let may = h.granted in
       let from = labels_of a Grant may.endpoint may.grants in
       let receiver = labels_of b Receive may.endpoint may.receives in
-      sym (alike a b k to from.0 receiver.0) ∙ there
+      sym (alike a b k to from.0 receiver.0) ∙ h.has
 
   pub even_derives : kinds Derive ≡ true → DeriveInDomain (even kinds n)
-  even_derives used a x y one other = of_labels x Derive y used (in_domain a x one).1 (in_domain a y other).1
+  even_derives used x y h =
+      of_labels x Derive y used (in_domain h.subject x h.of_parent).1 (in_domain h.subject y h.of_child).1
 
   pub even_comes : kinds Derive ≡ true → DeriveByGrant (even kinds n)
   even_comes used x y (granted a b may one other) = of_labels x Derive y used (in_domain a x one).1 (in_domain b y other).1

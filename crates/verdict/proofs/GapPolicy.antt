@@ -86,15 +86,18 @@ pub comes :
 comes x y giver taker may one other = derives x y (in_domain giver x one).1 (in_domain taker y other).1
 
 pub others : (other : Rule) → other ≢ derive_by_grant → Obeys has other
-others subjects_agree differ = λ a b domain k e to.
-    let labels = in_domain a b domain in
-    alike a b k to labels.0 (omega (arith, labels.1)) e
-others control_gives_all differ = λ a k b e given. let labels = labels_of a Control b e in controls a k b labels.0 labels.1 given
-others grant_shares differ = λ a b may k e to there.
+others subjects_agree differ = λ a b k share to.
+    let labels = in_domain a b share.domain in
+    alike a b k to labels.0 (omega (arith, labels.1)) share.of_use
+others control_gives_all differ = λ a k b h.
+    let labels = labels_of a Control b h.controls in controls a k b labels.0 labels.1 h.given
+others grant_shares differ = λ a b k to h.
+    let may = h.granted in
     let from = labels_of a Grant may.endpoint may.grants in
     let receiver = labels_of b Receive may.endpoint may.receives in
-    sym (alike a b k to from.0 receiver.0 e) ∙ there
-others derive_in_domain differ = λ a x y one other. derives x y (in_domain a x one).1 (in_domain a y other).1
+    sym (alike a b k to from.0 receiver.0 h.of_use) ∙ h.has
+others derive_in_domain differ = λ x y h.
+    derives x y (in_domain h.subject x h.of_parent).1 (in_domain h.subject y h.of_child).1
 others derive_by_grant differ = absurd (differ refl)
 others context_runs differ = λ a s e. let labels = labels_of a Context s e in of_labels a Runs s labels.0 labels.1 refl
 others reply_holds differ = holds

@@ -58,7 +58,7 @@ small shares a x (inl e) = (labels_of shares a Space x e).1
 small shares a x (inr e) = (labels_of shares a Control x e).1
 
 agrees : (shares : Bool) → SubjectsAgree (has shares)
-agrees shares a b domain k e to = ap (λ x. has shares x k to) (in_domain shares a b domain)
+agrees shares a b k share to = ap (λ x. has shares x k to) (in_domain shares a b share.domain)
 
 all_to_itself : (shares : Bool) (k : Kind) → joins shares k 1 1 ≡ true
 all_to_itself true Space = refl
@@ -67,9 +67,9 @@ all_to_itself false Space = refl
 all_to_itself false _ = refl
 
 gives : (shares : Bool) → ControlGivesAll (has shares)
-gives shares a k b e given =
-    let ends = controlled shares a b e in
-    let labels = labels_of shares a Control b e in
+gives shares a k b h =
+    let ends = controlled shares a b h.controls in
+    let labels = labels_of shares a Control b h.controls in
     let joined = ap (λ x. joins shares k x b) ends.0 ∙ ap (λ x. joins shares k 1 x) ends.1 ∙ all_to_itself shares k in
     of_labels shares a k b joined labels.0 labels.1
 
@@ -78,9 +78,10 @@ derives_itself true x y same = eq-eqb x y same
 derives_itself false x y same = refl
 
 derives : (shares : Bool) → DeriveInDomain (has shares)
-derives shares a x y one other =
-    let same = sym (in_domain shares a x one) ∙ in_domain shares a y other in
-    of_labels shares x Derive y (derives_itself shares x y same) (small shares a x one) (small shares a y other)
+derives shares x y h =
+    let same = sym (in_domain shares h.subject x h.of_parent) ∙ in_domain shares h.subject y h.of_child in
+    of_labels shares x Derive y (derives_itself shares x y same) (small shares h.subject x h.of_parent)
+    (small shares h.subject y h.of_child)
 
 runs : (shares : Bool) → ContextRuns (has shares)
 runs shares a s e = let labels = labels_of shares a Context s e in of_labels shares a Runs s refl labels.0 labels.1
@@ -100,10 +101,11 @@ taken a Control to e there = (and_parts (a == 1) (to == 1) there).1
 taken a _ to e there = refl
 
 shared : GrantShares (has true)
-shared a b may k e to there =
+shared a b k to h =
+    let may = h.granted in
     let takes = joins_of true b Receive may.endpoint may.receives in
-    let labels = labels_of true a k to there in
-    of_labels true b k to (ap (λ x. joins true k x to) (eqb-true b 1 takes) ∙ taken a k to e (joins_of true a k to there))
+    let labels = labels_of true a k to h.has in
+    of_labels true b k to (ap (λ x. joins true k x to) (eqb-true b 1 takes) ∙ taken a k to h.of_use (joins_of true a k to h.has))
     (labels_of true b Receive may.endpoint may.receives).0 labels.1
 
 pub others_sharing : (other : Rule) → other ≢ derive_by_grant → Obeys (has true) other

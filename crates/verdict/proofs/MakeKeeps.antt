@@ -213,8 +213,8 @@ module _
   -- each kind that the capability gives is the CNode's label's too
   edges : (k : Kind) → gives (new_detail of) k ≡ true → allowed may.node.label k may.label ≡ true
   edges k given =
-      sym (closed.subjects_agree a may.node.label (inr may.node.controls) k of_use may.label)
-      ∙ closed.control_gives_all a k may.label may.controls (inr (of_use, not_control))
+      sym (closed.subjects_agree a may.node.label k (record { domain = inr may.node.controls; of_use = of_use }) may.label)
+      ∙ closed.control_gives_all a k may.label (record { controls = may.controls; given = inr (of_use, not_control) })
     where
       of_use : is_structural k ≡ false
       of_use = given_of_use (new_detail of) k given
@@ -253,7 +253,8 @@ module _
         (sym begins ∙ ap (λ (s : SlotRef). label_of t m2 s.holder) (sym (same_Some source.slot above is))
         ∙ node_label source.slot.holder may.is_node ∙ may.above_labelled) in
         ap (λ l. allowed l authority.Derive may.node.label) start_is
-        ∙ closed.derive_in_domain a may.above may.node.label may.domain (inr may.node.controls);
+        ∙ closed.derive_in_domain may.above may.node.label
+        (record { subject = a; of_parent = may.domain; of_child = inr may.node.controls });
   }
 
   fills : Fills m2 slot (new_cap m.next of) (Some source.slot) m3

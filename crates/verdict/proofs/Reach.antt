@@ -50,7 +50,7 @@ module _ (t : Layout) (allowed : EdgeTest) (m : Machine) (held : IsHeld t allowe
         (slot : SlotRef) (cap : Cap) (k : Kind) (to : ℕ) → IsWithin t allowed m a slot.holder → cap_of m slot ≡ Some cap
         → gives cap.detail k ≡ true → is_structural k ≡ false → label_of t m cap.object ≡ Some to → allowed a k to ≡ true
     held_within slot cap k to within filled given of_use labelled =
-        agree a within.label within.domain k of_use to
+        agree a within.label k (record { domain = within.domain; of_use = of_use }) to
         ∙ held.confined within.label k to (by_cap slot cap filled within.is_node given within.labelled labelled)
 
     -- so a CNode in the domain hands it on

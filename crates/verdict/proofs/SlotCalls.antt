@@ -51,15 +51,16 @@ module _
 
   -- labels that the caller's controls derive on one another
   derives : (one other : ObjId) → (x : Controlled one) → (y : Controlled other) → allowed x.label authority.Derive y.label ≡ true
-  derives one other x y = closed.derive_in_domain a x.label y.label (inr x.controls) (inr y.controls)
+  derives one other x y =
+      closed.derive_in_domain x.label y.label (record { subject = a; of_parent = inr x.controls; of_child = inr y.controls })
 
   -- and may do the same
   same_edges :
       (one other : ObjId) (x : Controlled one) (y : Controlled other) (k : Kind) (end : ℕ) → is_structural k ≡ false
       → allowed x.label k end ≡ true → allowed y.label k end ≡ true
   same_edges one other x y k end of_use edge =
-      sym (closed.subjects_agree a y.label (inr y.controls) k of_use end)
-      ∙ closed.subjects_agree a x.label (inr x.controls) k of_use end ∙ edge
+      sym (closed.subjects_agree a y.label k (record { domain = inr y.controls; of_use = of_use }) end)
+      ∙ closed.subjects_agree a x.label k (record { domain = inr x.controls; of_use = of_use }) end ∙ edge
 
   -- what a found capability gives, from the label of any CNode that the caller's controls
   edges :

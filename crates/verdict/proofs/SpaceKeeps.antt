@@ -158,10 +158,12 @@ module _
       -- the thread's label controls the CNode as the caller's does, so it may have it as its space
       may_have : allowed at_thread.label authority.Space at_node.label ≡ true
       may_have =
-          closed.control_gives_all at_thread.label authority.Space at_node.label
-          (sym (closed.subjects_agree a at_thread.label (inr may_act) authority.Control refl at_node.label)
-          ∙ at_node.edge authority.Control refl refl)
-          (inl refl)
+          closed.control_gives_all at_thread.label authority.Space at_node.label (record {
+            controls =
+                sym (closed.subjects_agree a at_thread.label authority.Control (record { domain = inr may_act; of_use = refl }) at_node.label)
+                ∙ at_node.edge authority.Control refl refl;
+            given = inl refl;
+          })
 
       abbrev new : Cap
       new = copied done.held done.held.detail
@@ -187,7 +189,8 @@ module _
         derives =
             copy_derives t allowed mid mid_held closed.derive_by_grant done.node done.held node_within.label at_thread.label
             holder_label
-            (closed.derive_in_domain a node_within.label at_thread.label node_within.domain (inr may_act));
+            (closed.derive_in_domain node_within.label at_thread.label
+            (record { subject = a; of_parent = node_within.domain; of_child = inr may_act }));
       }
 
       root_is : with_root mid thread done.slot done.node ≡ after

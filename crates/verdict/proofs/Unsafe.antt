@@ -81,9 +81,9 @@ holds reply thread (caller b endpoint e calls receives) = absurd (no_reply b rep
 
 others : (other : Rule) → other ≢ subjects_agree → Obeys (allows edges) other
 others subjects_agree differ = absurd (differ refl)
-others control_gives_all differ = λ a k b e given. absurd (no_control a b e)
-others grant_shares differ = λ a b may k of_use to e. absurd (no_grant a may.endpoint may.grants)
-others derive_in_domain differ = λ a x y one other. derives x y (in_domain a x one) (in_domain a y other)
+others control_gives_all differ = λ a k b h. absurd (no_control a b h.controls)
+others grant_shares differ = λ a b k to h. absurd (no_grant a h.granted.endpoint h.granted.grants)
+others derive_in_domain differ = λ x y h. derives x y (in_domain h.subject x h.of_parent) (in_domain h.subject y h.of_child)
 others derive_by_grant differ = comes
 others context_runs differ = λ a s e. absurd (no_context a s e)
 others reply_holds differ = holds
