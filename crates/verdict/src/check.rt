@@ -1,10 +1,8 @@
 ghost use Rattle.std.specs.Prelude.{◌≡◌, ◌≤◌, IfErr, IfOk};
 ghost use Rattle.base.specs.Refusals.{out_of_memory};
-ghost use Rattle.policy.specs.Places.{FindsLeast};
 ghost use Rattle.policy.specs.Policy.{allows};
 ghost use Rattle.verdict.specs.Safe.{LabelsObjects, StaysConfined, KeepsIntegrity, GuardsBudgets};
 ghost use Rattle.verdict.specs.System.{IsVerdict};
-ghost use Rattle.verdict.specs.Verdict.{Breaks, place_of};
 
 use crate::bindings::first_binding;
 use crate::slots::first_at_slots;
@@ -46,30 +44,14 @@ pub fn judge<'a, R: Threads + Sync, G: Gate + Sync>(
     ensures budgets { IfOk result (λ answer. IfOk answer (λ accepted. GuardsBudgets table.now (allows policy.now))) }
     ensures memory { IfErr result (λ refusal. refusal ≡ out_of_memory) }
 {
-    if let Some(denial) = first_denial(rt, alloc, table, policy, workers, gate)? {
+    if let Some(broken) = first_broken(rt, policy) {
+        return Ok(Err(Denial::Policy(broken)));
+    }
+    if let Some(denial) = first_at_slots(rt, alloc, table, policy, workers, gate)? {
+        return Ok(Err(denial));
+    }
+    if let Some(denial) = first_binding(table, policy) {
         return Ok(Err(denial));
     }
     Ok(Ok(Accepted::of(table, policy)))
-}
-
-// The first rule that is broken, and the first place where it is.
-fn first_denial<R: Threads + Sync, G: Gate + Sync>(
-    rt: &R,
-    alloc: Global,
-    table: &Table,
-    policy: &Policy,
-    workers: usize,
-    gate: &G,
-) -> Result<Option<Denial>, Refusal>
-    requires workers { (1 ≤ workers) × (workers ≤ 16) }
-    ensures least { IfOk result (FindsLeast place_of (Breaks table.now (allows policy.now))) }
-    ensures memory { IfErr result (λ refusal. refusal ≡ out_of_memory) }
-{
-    if let Some(broken) = first_broken(rt, policy) {
-        return Ok(Some(Denial::Policy(broken)));
-    }
-    if let Some(denial) = first_at_slots(rt, alloc, table, policy, workers, gate)? {
-        return Ok(Some(denial));
-    }
-    Ok(first_binding(table, policy))
 }
