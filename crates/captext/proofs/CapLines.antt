@@ -18,64 +18,43 @@ use Rattle.table.specs.Items.{CapItem}
 use Rattle.table.specs.Rules.{kind_at}
 use Rattle.words.specs.declared.faults.Wrong.{Wrong}
 use Rattle.words.specs.declared.faults.Wrong.TheVariants as wrong
-use Rattle.words.specs.Reading.{bind, ended_at, or_syntax}
-use Rattle.words.proofs.Parts.{name_part, part_then}
-use Rattle.words.proofs.WordLaws.{bind_ok, ended_then}
+use Rattle.words.specs.Name.{is_name}
+use Rattle.words.specs.Parts.{IsLastPart}
+use Rattle.words.proofs.Parts.{last_takes, name_part, then_last}
+use Rattle.words.proofs.WordLaws.{bind_ok}
 use Rattle.captext.specs.declared.shapes.Place.{Place}
 use Rattle.captext.specs.declared.shapes.Place.TheVariants as place
 use Rattle.captext.specs.declared.shapes.Term.{Term}
 use Rattle.captext.specs.declared.shapes.Term.TheVariants as term
-use Rattle.captext.specs.Shapes.{term_of, terms_from, terms_at}
-use Rattle.captext.specs.Spelling.{option_words, slot_word, term_word, AreTerms, IsTerm}
-use Rattle.captext.specs.Tables.{takes_caps, slot_in, rises, fits_holder, may_fill, is_claimed, is_plain, is_guard, detail_of, detail_for, capability, filled, cap_line}
+use Rattle.captext.specs.Spelling.{slot_word, AreTerms}
+use Rattle.captext.specs.Tables.{takes_caps, slot_in, rises, fits_holder, may_fill, is_claimed, is_plain, is_guard, detail_of, detail_for, capability, filled, capped, cap_at, cap_line, NamedCap}
 use Rattle.captext.specs.TableText.{object_name, place_in, slot_name, detail_words}
 use Rattle.captext.proofs.Admits.{admits_cap}
-use Rattle.captext.proofs.LineLaws.{TakesItem, then_words, spelled_then, same_ok, caps_take}
+use Rattle.captext.proofs.LineLaws.{TakesItem, same_ok, caps_take}
 use Rattle.captext.proofs.NameLaws.{object_takes}
-use Rattle.captext.proofs.SlotLaws.{slot_part, term_takes, term_again}
+use Rattle.captext.proofs.SlotLaws.{slot_part, IsSlotName}
 use Rattle.captext.proofs.StepLaws.{demand_then, value_then}
+use Rattle.captext.proofs.TermLaws.{terms_part, terms_words}
 
--- at most two terms
+-- the words of the line
 
-abbrev TakesTerms : List (List ℕ) → Option Term × Option Term → Type 0
-TakesTerms words terms = (words ≡ option_words terms.0 ++ option_words terms.1) × AreTerms terms
+abbrev pub HasCap : NamedCap → Type 0
+HasCap cap = IsSlotName cap.0 × ((is_name cap.1.0 ≡ true) × AreTerms cap.1.1)
 
-pub terms_take : (words : List (List ℕ)) (terms : Option Term × Option Term) → terms_at words ≡ Ok terms → TakesTerms words terms
-unfolding terms_at terms_from
-terms_take [] terms h = let same : (None, None) ≡ terms = cc in subst (TakesTerms []) same (refl, (tt, tt))
-terms_take (one ∷ []) terms h =
-    let first = spelled_then (term_of one) _ terms h in
-    let is = term_takes one first.0 first.1 in
-    let same : (Some first.0, None) ≡ terms = cc in
-    subst (TakesTerms (one ∷ [])) same (ap (λ w. w ∷ []) is.0, (is.1, tt))
-terms_take (one ∷ two ∷ rest) terms h =
-    let ended = ended_then _ rest terms h in
-    let first = spelled_then (term_of one) _ terms ended.1 in
-    let second = spelled_then (term_of two) _ terms first.2 in
-    let is = term_takes one first.0 first.1 in
-    let other = term_takes two second.0 second.1 in
-    let same : (Some first.0, Some second.0) ≡ terms = cc in
-    subst (TakesTerms (one ∷ two ∷ rest)) same ((λ i. is.0 i ∷ other.0 i ∷ ended.0 i), (is.1, other.1))
-
-pub one_again : (one : Term) → IsTerm one → terms_at (term_word one ∷ []) ≡ Ok (Some one, None)
-unfolding terms_at terms_from bind or_syntax
-one_again one is = rw (term_again one is) refl
-
-pub two_again : (one two : Term) → IsTerm one → IsTerm two
-    → terms_at (term_word one ∷ term_word two ∷ []) ≡ Ok (Some one, Some two)
-unfolding terms_at terms_from bind or_syntax ended_at
-two_again one two is other = rw (term_again one is, term_again two other) refl
+pub cap_part : IsLastPart cap_at (λ cap. slot_word cap.0.0 cap.0.1 ∷ cap.1.0 ∷ terms_words cap.1.1) HasCap
+unfolding cap_at
+cap_part = then_last slot_part (then_last name_part terms_part)
 
 -- what a capability says
 
 record TakesDetail (object : Object) (terms : Option Term × Option Term) (detail : Detail) : Type 0 where
   fitting : fits object detail ≡ true
   kind_is : kind_of_object object ≡ kind_of_detail detail
-  words_are : option_words terms.0 ++ option_words terms.1 ≡ detail_words detail
+  words_are : terms_words terms ≡ detail_words detail
 
 told : (object : Object) (terms : Option Term × Option Term) (made detail : Detail)
     → ◌≡◌ {A = Result Detail Wrong} (Ok made) (Ok detail) → fits object made ≡ true → kind_of_object object ≡ kind_of_detail made
-    → option_words terms.0 ++ option_words terms.1 ≡ detail_words made → TakesDetail object terms detail
+    → terms_words terms ≡ detail_words made → TakesDetail object terms detail
 told object terms made detail h fitting kind_is words_are =
     subst (TakesDetail object terms) (same_ok made detail h)
     (record { fitting = fitting; kind_is = kind_is; words_are = words_are })
@@ -112,7 +91,7 @@ detail_takes _ _ detail is h = cc
 pub record TakesCap (t : Layout) (target : ObjId) (terms : Option Term × Option Term) (detail : Detail) : Type 0 where
   pub fitting : is_fitting t (capability target detail) ≡ true
   pub kind_is : kind_at t target ≡ Some (kind_of_detail detail)
-  pub words_are : option_words terms.0 ++ option_words terms.1 ≡ detail_words detail
+  pub words_are : terms_words terms ≡ detail_words detail
 
 pub target_takes : (t : Layout) (target : ObjId) (terms : Option Term × Option Term) (detail : Detail) → AreTerms terms
     → detail_for t target terms ≡ Ok detail → TakesCap t target terms detail
@@ -140,34 +119,31 @@ slot_spelled t name id at named fits = λ i. slot_word (named i) (sym (place_tak
 
 pub cap_line_takes : (t : Layout) (words : List (List ℕ)) (next : Layout) → cap_line t words ≡ Ok next
     → TakesItem t (codes "cap" ∷ words) next
-unfolding cap_line filled
+unfolding cap_line capped filled
 cap_line_takes t words next h =
-    let slot = part_then slot_part _ words next h in
-    let name = part_then name_part _ slot.rest next slot.goes_on in
-    let terms = bind_ok (terms_at name.rest) _ next name.goes_on in
-    let are = terms_take name.rest terms.0 terms.1 in
-    let tests = demand_then (takes_caps t && rises (is_above_caps t) (object_named t slot.value.0) slot.value.1) wrong.Syntax _ next terms.2 in
+    let read = last_takes cap_part (capped t) words next h in
+    let slot = read.0.0 in
+    let terms = read.0.1.1 in
+    let tests = demand_then (takes_caps t && rises (is_above_caps t) (object_named t slot.0) slot.1) wrong.Syntax _ next read.3 in
     let parts = and_parts _ _ tests.0 in
-    let holder = value_then (object_named t slot.value.0) wrong.UnknownName _ next tests.1 in
-    let target = value_then (object_named t name.value) wrong.UnknownName _ next holder.2 in
-    let held = object_takes t slot.value.0 holder.0 holder.1 in
-    let aimed = object_takes t name.value target.0 target.1 in
+    let holder = value_then (object_named t slot.0) wrong.UnknownName _ next tests.1 in
+    let target = value_then (object_named t read.0.1.0) wrong.UnknownName _ next holder.2 in
+    let held = object_takes t slot.0 holder.0 holder.1 in
+    let aimed = object_takes t read.0.1.0 target.0 target.1 in
     let once = demand_then (not (is_claimed t target.0)) wrong.Double _ next target.2 in
-    let fills = demand_then (may_fill (kind_at t holder.0) slot.value.1 (kind_at t target.0)) wrong.WrongKind _ next once.1 in
-    let detail = bind_ok (detail_for t target.0 terms.0) _ next fills.1 in
-    let within = demand_then (declares_slot t (slot_in holder.0 slot.value.1)) wrong.Limit _ next detail.2 in
-    let told = target_takes t target.0 terms.0 detail.0 are.1 detail.1 in
-    let rising : is_above_caps t (slot_in holder.0 slot.value.1) ≡ true =
-    ap (λ found. rises (is_above_caps t) found slot.value.1) (sym holder.1) ∙ parts.1 in
-    let spelled = slot_spelled t slot.value.0 holder.0 slot.value.1 held.1 (and_parts _ _ fills.0).0 in (
-      CapItem (record { slot = slot_in holder.0 slot.value.1; cap = capability target.0 detail.0 }),
+    let fills = demand_then (may_fill (kind_at t holder.0) slot.1 (kind_at t target.0)) wrong.WrongKind _ next once.1 in
+    let detail = bind_ok (detail_for t target.0 terms) _ next fills.1 in
+    let within = demand_then (declares_slot t (slot_in holder.0 slot.1)) wrong.Limit _ next detail.2 in
+    let told = target_takes t target.0 terms detail.0 read.2.1.1 detail.1 in
+    let rising : is_above_caps t (slot_in holder.0 slot.1) ≡ true =
+    ap (λ found. rises (is_above_caps t) found slot.1) (sym holder.1) ∙ parts.1 in
+    let spelled = slot_spelled t slot.0 holder.0 slot.1 held.1 (and_parts _ _ fills.0).0 in (
+      CapItem (record { slot = slot_in holder.0 slot.1; cap = capability target.0 detail.0 }),
       record {
         now = caps_take t parts.0;
-        admits = admits_cap t holder.0 slot.value.1 target.0 detail.0
+        admits = admits_cap t holder.0 slot.1 target.0 detail.0
             rising within.0 fills.0 told.fitting told.kind_is (not-true _ once.0);
-        words_are = ap (λ ws. codes "cap" ∷ ws)
-            (then_words (slot.words_are ∙ ap (λ w. w ∷ slot.rest) spelled)
-            (then_words (name.words_are ∙ ap (λ w. w ∷ name.rest) aimed.1) (are.0 ∙ told.words_are)));
+        words_are = ap (λ ws. codes "cap" ∷ ws) (read.1 ∙ (λ i. spelled i ∷ aimed.1 i ∷ told.words_are i));
         grown = same_ok _ _ within.1;
       },
     )

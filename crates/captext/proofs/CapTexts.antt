@@ -7,7 +7,7 @@ use Rattle.std.proofs.Math.Pow.{pow_mono}
 use Rattle.base.specs.declared.ids.ObjId.{ObjId}
 use Rattle.base.specs.declared.ids.SlotRef.{SlotRef}
 use Rattle.base.specs.declared.rights.Rights.{Rights}
-use Rattle.base.specs.Rights.{letter_of, rights_word, IsRights}
+use Rattle.base.specs.Rights.{IsRights}
 use Rattle.base.specs.declared.limits.TheConstants.{MAX_RADIX}
 use Rattle.machine.specs.declared.cap.Detail.{Detail}
 use Rattle.machine.specs.declared.cap.Detail.TheVariants as d
@@ -26,25 +26,23 @@ use Rattle.table.specs.Building.{AdmitsCap, declares_slot, fits, fits_target, ha
 use Rattle.table.specs.Names.{object_named}
 use Rattle.table.specs.Items.{BeforePairs}
 use Rattle.table.specs.Rules.{IsBlank, IsDraft, kind_at}
-use Rattle.words.specs.Name.{is_name, name_at}
+use Rattle.words.specs.Name.{is_name}
 use Rattle.words.specs.Reading.{bind}
 use Rattle.words.specs.Text.{IsPlainLine, IsPlainWord}
-use Rattle.words.proofs.TextLaws.{both}
-use Rattle.words.proofs.Parts.{name_part}
-use Rattle.words.proofs.WordLaws.{plain_bytes, plain_decimal, plain_hexadecimal, plain_name}
+use Rattle.words.proofs.Parts.{last_again}
+use Rattle.words.proofs.WordLaws.{plain_bytes}
 use Rattle.captext.specs.declared.shapes.Place.{Place}
 use Rattle.captext.specs.declared.shapes.Place.TheVariants as place
 use Rattle.captext.specs.declared.shapes.Term.{Term}
 use Rattle.captext.specs.declared.shapes.Term.TheVariants as term
-use Rattle.captext.specs.Shapes.{slot_at, terms_at}
-use Rattle.captext.specs.Spelling.{option_words, term_word, AreTerms, IsOptionTerm, IsPlace, IsTerm}
-use Rattle.captext.specs.Tables.{takes_caps, slot_in, fits_holder, fits_place, may_fill, is_claimed, is_plain, detail_of, detail_for, capability, filled, cap_line}
+use Rattle.captext.specs.Spelling.{AreTerms, IsPlace}
+use Rattle.captext.specs.Tables.{takes_caps, slot_in, fits_holder, fits_place, may_fill, is_claimed, is_plain, detail_of, detail_for, capability, filled, capped, cap_line, NamedCap}
 use Rattle.captext.specs.TableText.{object_name, place_in, slot_name, detail_words, cap_words}
 use Rattle.captext.proofs.Admits.{claims}
-use Rattle.captext.proofs.CapLines.{one_again, two_again}
+use Rattle.captext.proofs.CapLines.{cap_part, HasCap}
 use Rattle.captext.proofs.LineLaws.{caps_again}
 use Rattle.captext.proofs.NameLaws.{object_again, is_object_name}
-use Rattle.captext.proofs.SlotLaws.{slot_part, IsSlotName}
+use Rattle.captext.proofs.TermLaws.{terms_words}
 
 abbrev terms_of : Detail → Option Term × Option Term
 terms_of (d.CNode guard) = (Some (term.Decimal guard.size), Some (term.Hexadecimal guard.value))
@@ -53,17 +51,9 @@ terms_of (d.Notification end) = (Some (term.Rights end.rights), Some (term.Decim
 terms_of (d.Frame rights) = (Some (term.Rights rights), None)
 terms_of _ = (None, None)
 
-words_of_terms : (detail : Detail) → detail_words detail ≡ option_words (terms_of detail).0 ++ option_words (terms_of detail).1
+words_of_terms : (detail : Detail) → detail_words detail ≡ terms_words (terms_of detail)
 words_of_terms d.Untyped = refl
 words_of_terms _ = refl
-
-terms_again : (detail : Detail) → AreTerms (terms_of detail) → terms_at (detail_words detail) ≡ Ok (terms_of detail)
-unfolding terms_at
-terms_again (d.CNode guard) is = two_again (term.Decimal guard.size) (term.Hexadecimal guard.value) is.0 is.1
-terms_again (d.Endpoint end) is = two_again (term.Rights end.rights) (term.Decimal end.badge) is.0 is.1
-terms_again (d.Notification end) is = two_again (term.Rights end.rights) (term.Decimal end.badge) is.0 is.1
-terms_again (d.Frame rights) is = one_again (term.Rights rights) is.0
-terms_again _ is = refl
 
 abbrev ReadsDetail : Object → Detail → Type 0
 ReadsDetail object detail =
@@ -86,11 +76,11 @@ detail_again (o.Notification _) (d.Notification end) fitting =
     let parts = and_parts _ _ fitting in
     (cond-true _ _ _ parts.0, (plain_is end.rights parts.0, ltb-true _ _ parts.1), refl)
 detail_again (o.Frame _) (d.Frame rights) fitting = (cond-true _ _ _ fitting, (plain_is rights fitting, tt), refl)
-detail_again (o.Untyped _) d.Untyped fitting = (refl, (tt, tt), refl)
-detail_again (o.Tcb _) d.Tcb fitting = (refl, (tt, tt), refl)
-detail_again (o.Reply _) d.Reply fitting = (refl, (tt, tt), refl)
-detail_again (o.Context _) d.Context fitting = (refl, (tt, tt), refl)
-detail_again (o.Control _) d.Control fitting = (refl, (tt, tt), refl)
+detail_again (o.Untyped _) d.Untyped fitting = (refl, tt, refl)
+detail_again (o.Tcb _) d.Tcb fitting = (refl, tt, refl)
+detail_again (o.Reply _) d.Reply fitting = (refl, tt, refl)
+detail_again (o.Context _) d.Context fitting = (refl, tt, refl)
+detail_again (o.Control _) d.Control fitting = (refl, tt, refl)
 detail_again _ _ fitting = absurd (false≢true fitting)
 
 -- what is found is there
@@ -122,13 +112,8 @@ place_again (o.Tcb _) slot blank within =
     (tt, ap (λ (index : ℕ). record { holder = slot.holder; index = index }) first, refl)
 place_again _ slot blank within = absurd (omega arith)
 
--- the word of a slot that the table declares is read as that slot, which fits its holder
+-- a slot that the table declares has a name, which is that slot's alone, and it fits its holder
 pub record IsPlaced (t : Layout) (slot : SlotRef) : Type 0 where
-  pub read :
-      (rest : List (List ℕ))
-      → slot_at (slot_name t slot ∷ rest)
-      ≡ Ok ((object_name t slot.holder, place_in (kind_at t slot.holder) slot.index), rest)
-  pub plain : IsPlainWord (slot_name t slot)
   pub named : is_name (object_name t slot.holder) ≡ true
   pub indexed : IsPlace (place_in (kind_at t slot.holder) slot.index)
   pub found : object_named t (object_name t slot.holder) ≡ Some slot.holder
@@ -153,11 +138,7 @@ placed t slot draft declares =
     let named : id.0 < length t.names = omega arith in
     let is_name = is_object_name t id draft named in
     let is_place = subst IsPlace (sym there) place.0 in
-    let name : List ℕ × Place = (object_name t id, place_in (kind_at t id) slot.index) in
-    let is : IsSlotName name = (is_name, is_place) in
     record {
-      read = λ rest. slot_part.again name rest is;
-      plain = (slot_part.plain name is).0;
       named = is_name;
       indexed = is_place;
       found = object_again t id draft named;
@@ -183,19 +164,16 @@ place_fits : (label : ℕ) (holder target : Object) (index : ℕ) (detail : Deta
 place_fits label (o.Tcb thread) target index detail holds fitting = root_takes label thread target detail holds fitting
 place_fits label _ target index detail holds fitting = refl
 
--- the steps of the line one after another
-cap_line_is :
-    (t : Layout) (line rest more : List (List ℕ)) (name other : List ℕ) (at : Place) (holder target : ObjId)
-    (terms : Option Term × Option Term) (detail : Detail)
-    → slot_at line ≡ Ok ((name, at), rest) → name_at rest ≡ Ok (other, more) → terms_at more ≡ Ok terms → takes_caps t ≡ true
-    → object_named t name ≡ Some holder → is_above_caps t (slot_in holder at) ≡ true → object_named t other ≡ Some target
-    → is_claimed t target ≡ false → may_fill (kind_at t holder) at (kind_at t target) ≡ true
+-- the steps after its words one after another
+capped_is :
+    (t : Layout) (name other : List ℕ) (at : Place) (holder target : ObjId) (terms : Option Term × Option Term) (detail : Detail)
+    → takes_caps t ≡ true → object_named t name ≡ Some holder → is_above_caps t (slot_in holder at) ≡ true
+    → object_named t other ≡ Some target → is_claimed t target ≡ false → may_fill (kind_at t holder) at (kind_at t target) ≡ true
     → detail_for t target terms ≡ Ok detail → declares_slot t (slot_in holder at) ≡ true
-    → cap_line t line ≡ Ok (with_filled t (record { slot = slot_in holder at; cap = capability target detail }))
-unfolding cap_line filled bind
-cap_line_is t line rest more name other at holder target terms detail slot named spelled now held rising aimed
-    once fills told within =
-    rw (slot, named, spelled, held, and_from _ _ now rising, aimed, once, fills, told, within) refl
+    → capped t ((name, at), (other, terms)) ≡ Ok (with_filled t (record { slot = slot_in holder at; cap = capability target detail }))
+unfolding capped filled bind
+capped_is t name other at holder target terms detail now held rising aimed once fills told within =
+    rw (held, and_from _ _ now rising, aimed, once, fills, told, within) refl
 
 -- what a capability that the table takes has to do with its objects
 record Places (t : Layout) (filled : Filled) : Type 0 where
@@ -236,9 +214,20 @@ places t filled draft admits =
       terms = reads.1;
     }
 
+-- the words of a filled slot as they are read
+abbrev named_cap : Layout → Filled → NamedCap
+named_cap t filled = (
+  (object_name t filled.slot.holder, place_in (kind_at t filled.slot.holder) filled.slot.index),
+  (object_name t filled.cap.object, terms_of filled.cap.detail),
+)
+
+has_cap : (t : Layout) (filled : Filled) → IsDraft t → Places t filled → HasCap (named_cap t filled)
+has_cap t filled draft p = ((p.place.named, p.place.indexed), (is_object_name t filled.cap.object draft p.target, p.terms))
+
 pub cap_line_again : (t : Layout) (filled : Filled) → IsDraft t → BeforePairs t → AdmitsCap t filled
     → cap_line t (slot_name t filled.slot ∷ object_name t filled.cap.object ∷ detail_words filled.cap.detail)
     ≡ Ok (with_filled t filled)
+unfolding cap_line
 cap_line_again t filled draft now admits =
     let id = filled.slot.holder in
     let to = filled.cap.object in
@@ -248,11 +237,9 @@ cap_line_again t filled draft now admits =
     let within : declares_slot t (slot_in id at) ≡ true = ap (declares_slot t) p.place.slot_is ∙ admits.slot in
     let same : (record { slot = slot_in id at; cap = capability to detail }) ≡ filled =
     (λ i. record { slot = p.place.slot_is i; cap = record { object = to; detail = detail; original = sym admits.original i } }) in
-    cap_line_is t (slot_name t filled.slot ∷ object_name t to ∷ detail_words detail) (object_name t to ∷ detail_words detail)
-    (detail_words detail) (object_name t id) (object_name t to) at id to (terms_of detail) detail
-    (p.place.read (object_name t to ∷ detail_words detail))
-    (name_part.again (object_name t to) (detail_words detail) (is_object_name t to draft p.target))
-    (terms_again detail p.terms)
+    ap (λ ws. cap_line t (slot_name t filled.slot ∷ object_name t to ∷ ws)) (words_of_terms detail)
+    ∙ last_again cap_part (capped t) (named_cap t filled) (has_cap t filled draft p)
+    ∙ capped_is t (object_name t id) (object_name t to) at id to (terms_of detail) detail
     (caps_again t now)
     p.place.found
     (ap (is_above_caps t) p.place.slot_is ∙ admits.rises)
@@ -264,46 +251,11 @@ cap_line_again t filled draft now admits =
     ∙ ap (λ (f : Filled). Ok (with_filled t f)) same
 
 -- its words are plain
-
-plain_cond : (test : Bool) (one other : List ℕ) → IsPlainWord one → IsPlainWord other → IsPlainWord (cond test one other)
-plain_cond true one other h k = h
-plain_cond false one other h k = k
-
-plain_rights : (rights : Rights) → IsPlainWord (rights_word rights)
-plain_rights rights =
-    plain_cond _ (codes "-") _ (plain_bytes (codes "-") refl)
-    (both (λ b. 32 < b) _ _
-    (both (λ b. 32 < b) _ _
-    (both (λ b. 32 < b) _ _ (letter 1 (codes "r") (plain_bytes (codes "r") refl))
-    (letter 2 (codes "w") (plain_bytes (codes "w") refl)))
-    (letter 4 (codes "g") (plain_bytes (codes "g") refl)))
-    (letter 8 (codes "y") (plain_bytes (codes "y") refl)))
-  where
-    letter : (right : ℕ) (word : List ℕ) → IsPlainWord word → IsPlainWord (letter_of rights right word)
-    letter right word plain = plain_cond _ word [] plain tt
-
-plain_term : (t : Term) → IsTerm t → IsPlainWord (term_word t)
-plain_term (term.Rights rights) is = plain_rights rights
-plain_term (term.Decimal n) is = plain_decimal n is
-plain_term (term.Hexadecimal n) is = plain_hexadecimal n is
-
-plain_option : (t : Option Term) → IsOptionTerm t → AllByRecursion IsPlainWord (option_words t)
-plain_option None is = tt
-plain_option (Some t) is = (plain_term t is, tt)
-
 pub cap_plain : (t : Layout) (filled : Filled) → IsDraft t → AdmitsCap t filled
     → IsPlainLine (cap_words t filled)
-cap_plain t filled draft admits =
-    let p = places t filled draft admits in
-    let terms =
-    both IsPlainWord (option_words (terms_of filled.cap.detail).0) (option_words (terms_of filled.cap.detail).1)
-    (plain_option _ p.terms.0) (plain_option _ p.terms.1) in (
-      plain_bytes (codes "cap") refl,
-      (
-        p.place.plain,
-        (
-          plain_name (object_name t filled.cap.object) (is_object_name t filled.cap.object draft p.target),
-          subst (AllByRecursion IsPlainWord) (sym (words_of_terms filled.cap.detail)) terms,
-        ),
-      ),
-    )
+cap_plain t filled draft admits = (
+  plain_bytes (codes "cap") refl,
+  subst (λ ws. AllByRecursion IsPlainWord (slot_name t filled.slot ∷ object_name t filled.cap.object ∷ ws))
+      (sym (words_of_terms filled.cap.detail))
+      (cap_part.plain (named_cap t filled) (has_cap t filled draft (places t filled draft admits))),
+)

@@ -13,3 +13,4 @@ pub mod CapTexts
 mod PairLines
 pub mod BindLines
 mod TableLaws
+mod TermLaws

@@ -12,10 +12,6 @@ use Rattle.captext.specs.TableText.{IsLineOf}
 abbrev pub TakesItem : Layout → List (List ℕ) → Layout → Type 0
 TakesItem t words next = (item : Item) × IsLineOf t words next item
 
--- a word and the words after it
-pub then_words : {word : List ℕ} {words rest more : List (List ℕ)} → words ≡ word ∷ rest → rest ≡ more → words ≡ word ∷ more
-then_words {word} first later = first ∙ ap (λ ws. word ∷ ws) later
-
 -- a word spelled a value, and reading went on with it
 pub spelled_then : {V Y : Type 0} (o : Option V) (f : V → Result Y Wrong) (y : Y) → bind (or_syntax o) f ≡ Ok y
     → (v : V) × (o ≡ Some v) × (f v ≡ Ok y)

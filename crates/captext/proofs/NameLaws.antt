@@ -1,5 +1,5 @@
 -- What has a name's number has that name, and where names differ the number of a name is found by it.
-use Rattle.std.proofs.Common.{◌≡◌, ◌≢◌, ◌↔◌, ℕ, ◌<◌, Bool, true, false, not, cond, nat_lt, List, [], length, get_or, position, option_map, Option, Some, None, AllPairs, refl, sym, ap, ◌∙◌, arith}
+use Rattle.std.proofs.Common.{◌≡◌, ◌≢◌, ◌↔◌, ℕ, ◌<◌, Bool, true, false, not, cond, nat_lt, List, [], ◌∷◌, length, get_or, position, option_map, Option, Some, None, AllPairs, refl, sym, ap, ◌∙◌, arith}
 use Rattle.std.specs.Bool.{Decides}
 use Rattle.std.specs.List.{position_or_len}
 use Rattle.std.specs.Str.{bytes_eq}
@@ -12,8 +12,20 @@ use Rattle.machine.specs.Layout.{Layout}
 use Rattle.table.specs.Names.{label_named, object_named}
 use Rattle.table.specs.Rules.{IsDraft}
 use Rattle.words.specs.Name.{is_name}
+use Rattle.words.specs.Parts.{IsPart}
+use Rattle.words.proofs.Parts.{both_parts, name_part}
 use Rattle.captext.specs.PolicyText.{label_name}
+use Rattle.captext.specs.Shapes.{names_at}
 use Rattle.captext.specs.TableText.{object_name}
+
+-- two names
+
+abbrev pub AreNames : List ℕ × List ℕ → Type 0
+AreNames names = (is_name names.0 ≡ true) × (is_name names.1 ≡ true)
+
+pub names_part : IsPart names_at (λ names. names.0 ∷ names.1 ∷ []) AreNames
+unfolding names_at
+names_part = both_parts name_part name_part
 
 -- the place at which a name is found has that name
 found_at : (names : List (List ℕ)) (name : List ℕ) (k : ℕ) → position (λ other. bytes_eq name other) names ≡ Some k

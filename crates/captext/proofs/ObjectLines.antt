@@ -16,13 +16,13 @@ use Rattle.table.specs.Rules.{IsDraft}
 use Rattle.words.specs.declared.faults.Wrong.TheVariants as wrong
 use Rattle.words.specs.Parts.{read_as}
 use Rattle.words.specs.Reading.{bind, ended_at}
-use Rattle.words.proofs.Parts.{name_part, part_then}
+use Rattle.words.proofs.Parts.{alone_again, alone_takes, name_part, part_then}
 use Rattle.words.proofs.WordLaws.{bind_ok, ended_then}
 use Rattle.captext.specs.PolicyText.{label_name}
-use Rattle.captext.specs.Tables.{takes_objects, takes_labels, label_line, heading, is_within, declared, limited, content_at, object_line}
+use Rattle.captext.specs.Tables.{takes_objects, takes_labels, labelled, label_line, heading, is_within, declared, limited, content_at, object_line}
 use Rattle.captext.specs.TableText.{content_words}
-use Rattle.captext.proofs.LineLaws.{TakesItem, then_words, same_ok, objects_take, labels_take, objects_again, labels_again}
-use Rattle.captext.proofs.NameLaws.{label_takes, label_again, is_label_name}
+use Rattle.captext.proofs.LineLaws.{TakesItem, same_ok, objects_take, labels_take, objects_again, labels_again}
+use Rattle.captext.proofs.NameLaws.{label_takes, label_again, is_label_name, names_part}
 use Rattle.captext.proofs.ObjectParts.{object_takes, object_again}
 use Rattle.captext.proofs.StepLaws.{demand_then, value_then}
 
@@ -30,27 +30,27 @@ use Rattle.captext.proofs.StepLaws.{demand_then, value_then}
 
 pub label_line_takes : (t : Layout) (words : List (List ℕ)) (next : Layout) → label_line t words ≡ Ok next
     → TakesItem t (codes "label" ∷ words) next
-unfolding label_line
+unfolding label_line labelled
 label_line_takes t words next h =
-    let name = part_then name_part _ words next h in
-    let ended = ended_then _ name.rest next name.goes_on in
-    let now = demand_then (takes_labels t) wrong.Syntax _ next ended.1 in
-    let fresh = demand_then (not (is_some (label_named t name.value))) wrong.Double _ next now.1 in
+    let read = alone_takes name_part (labelled t) words next h in
+    let now = demand_then (takes_labels t) wrong.Syntax _ next read.3 in
+    let fresh = demand_then (not (is_some (label_named t read.0))) wrong.Double _ next now.1 in
     let room = demand_then (nat_lt (length t.labels) Label.COUNT) wrong.Limit _ next fresh.1 in (
-      LabelItem name.value,
+      LabelItem read.0,
       record {
         now = labels_take t now.0;
-        admits = record { spelled = name.is; fresh = not-true _ fresh.0; room = ltb-true _ _ room.0 };
-        words_are = ap (λ ws. codes "label" ∷ ws) (then_words name.words_are ended.0);
+        admits = record { spelled = read.2; fresh = not-true _ fresh.0; room = ltb-true _ _ room.0 };
+        words_are = ap (λ ws. codes "label" ∷ ws) read.1;
         grown = cc;
       },
     )
 
 pub label_line_again : (t : Layout) (name : List ℕ) → BeforeObjects t → Admits t (LabelItem name)
     → label_line t (name ∷ []) ≡ Ok (with_label t name)
-unfolding label_line bind ended_at
+unfolding label_line labelled bind
 label_line_again t name now admits =
-    rw (name_part.again name [] admits.spelled, labels_again t now, admits.fresh, lt-ltb (length t.labels) Label.COUNT admits.room) refl
+    alone_again name_part (labelled t) name admits.spelled
+    ∙ rw (labels_again t now, admits.fresh, lt-ltb (length t.labels) Label.COUNT admits.room) refl
 
 -- an object's name and label
 
@@ -75,27 +75,26 @@ pub object_line_takes : (kind : ObjectKind) (t : Layout) (words : List (List ℕ
     → object_line kind t words ≡ Ok next → TakesItem t (object_kind_word kind ∷ words) next
 unfolding object_line declared
 object_line_takes kind t words next h =
-    let name = part_then name_part _ words next h in
-    let label = part_then name_part _ name.rest next name.goes_on in
-    let told = bind_ok (read_as limited (content_at kind) label.rest) _ next label.goes_on in
+    let names = part_then names_part _ words next h in
+    let name = names.value.0 in
+    let told = bind_ok (read_as limited (content_at kind) names.rest) _ next names.goes_on in
     let ended = ended_then _ told.0.1 next told.2 in
-    let number = bind_ok (heading t name.value label.value) _ next ended.1 in
-    let head = heading_takes t name.value label.value number.0 number.1 in
+    let number = bind_ok (heading t name names.value.1) _ next ended.1 in
+    let head = heading_takes t name names.value.1 number.0 number.1 in
     let object = value_then told.0.0 wrong.Limit _ next number.2 in
     let once = demand_then (not (repeats_control t object.0)) wrong.Double _ next object.2 in
-    let is = object_takes kind label.rest object.0 [] (told.1 ∙ (λ i. Ok (object.1 i, ended.0 i))) in
+    let is = object_takes kind names.rest object.0 [] (told.1 ∙ (λ i. Ok (object.1 i, ended.0 i))) in
     let spelled = is.0 ∙ append-nil (content_words object.0) in
-    let named =
-    then_words name.words_are (then_words (label.words_are ∙ ap (λ w. w ∷ label.rest) head.2) spelled) in
+    let named = names.words_are ∙ (λ i. name ∷ head.2 i ∷ spelled i) in
     let limits = demand_then (is_within t object.0) wrong.Limit _ next once.1 in
     let placed = demand_then (is_aligned object.0 && is_free t object.0) wrong.Misplaced _ next limits.1 in
     let fits = and_parts _ _ limits.0 in
     let lies = and_parts _ _ placed.0 in (
-      ObjectItem name.value (record { label = number.0; object = object.0 }),
+      ObjectItem name (record { label = number.0; object = object.0 }),
       record {
         now = head.0;
         admits = record {
-          spelled = name.is;
+          spelled = names.is.0;
           fresh = head.3;
           label = head.1;
           blank = is.2;
@@ -117,8 +116,7 @@ unfolding object_line declared bind ended_at
 object_line_again t name initial draft now admits =
     let words = content_words initial.object in
     rw (
-      name_part.again name (label_name t initial.label ∷ words) admits.spelled,
-      name_part.again (label_name t initial.label) words (is_label_name t initial.label draft admits.label),
+      names_part.again (name, label_name t initial.label) words (admits.spelled, is_label_name t initial.label draft admits.label),
       object_again initial.object admits.blank admits.end,
       heading_again t name initial.label draft now admits.label admits.fresh,
       admits.controls,

@@ -27,12 +27,12 @@ use Rattle.words.proofs.TextReading.{whole_text_takes, whole_text_again}
 use Rattle.words.proofs.WordLaws.{bind_ok, word_then, plain_bytes, plain_name}
 use Rattle.captext.specs.PolicyText.{label_name}
 use Rattle.captext.specs.Tables.{object_line, declaration, line_by, table_line, grown, grown_by, table_format, read_table_of}
-use Rattle.captext.specs.TableText.{table_header, content_words, object_name, cap_words, item_words, label_lines, object_lines, pair_lines, binding_lines, table_lines, table_text, IsLineOf}
-use Rattle.captext.proofs.BindLines.{bind_line_takes, bind_line_again, has_name}
+use Rattle.captext.specs.TableText.{table_header, content_words, cap_words, item_words, label_lines, object_lines, pair_lines, binding_lines, table_lines, table_text, IsLineOf}
+use Rattle.captext.proofs.BindLines.{bind_line_takes, bind_line_again, binding_plain}
 use Rattle.captext.proofs.CapLines.{cap_line_takes}
 use Rattle.captext.proofs.CapTexts.{cap_line_again, cap_plain}
 use Rattle.captext.proofs.LineLaws.{TakesItem, spelled_then}
-use Rattle.captext.proofs.NameLaws.{is_label_name, is_object_name}
+use Rattle.captext.proofs.NameLaws.{is_label_name}
 use Rattle.captext.proofs.ObjectLines.{label_line_takes, label_line_again, object_line_takes, object_line_again}
 use Rattle.captext.proofs.ObjectParts.{plain_content}
 use Rattle.captext.proofs.PairLines.{child_line_takes, child_line_again, pair_plain}
@@ -115,18 +115,7 @@ plain_item t (ObjectItem name initial) draft admits = (
 )
 plain_item t (CapItem filled) draft admits = cap_plain t filled draft admits
 plain_item t (PairItem pair) draft admits = pair_plain t pair draft admits
-plain_item t (BindingItem binding) draft admits = (
-  plain_bytes (codes "bind") refl,
-  (
-    plain_name (object_name t binding.thread)
-        (is_object_name t binding.thread draft (has_name t binding.thread kind.Tcb draft admits.thread)),
-    (
-      plain_name (object_name t binding.context)
-          (is_object_name t binding.context draft (has_name t binding.context kind.Context draft admits.context)),
-      tt,
-    ),
-  ),
-)
+plain_item t (BindingItem binding) draft admits = binding_plain t binding draft admits
 
 kind_not_last : (kind : ObjectKind) (words : List (List ℕ)) → IsNotLast (object_kind_word kind ∷ words)
 kind_not_last kind.Untyped words = refl

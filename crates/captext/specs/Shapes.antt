@@ -1,16 +1,20 @@
--- Words with parts: slots, and what may follow the object in a line for a capability.
-use Rattle.std.specs.Prelude.{ℕ, ◌+◌, ◌==◌, List, [], ◌∷◌, take, drop, position, codes, Option, Some, None, Result, Ok, option_map, if◌then◌else◌}
+-- Parts of a table's lines: names, slots, and what may follow the object in a line for a capability.
+use Rattle.std.specs.Prelude.{ℕ, ◌+◌, ◌==◌, List, [], ◌∷◌, take, drop, position, codes, Option, Some, None, Ok, option_map, if◌then◌else◌}
 use Rattle.std.specs.Str.{bytes_eq}
 use Rattle.base.specs.declared.rights.Rights.{Rights}
 use Rattle.base.specs.Rights.{rights_of_word}
-use Rattle.words.specs.declared.faults.Wrong.{Wrong}
-use Rattle.words.specs.Name.{name_of}
+use Rattle.words.specs.Name.{name_at, name_of}
 use Rattle.words.specs.Number.{dec_of, hex_of}
-use Rattle.words.specs.Reading.{◌>>=◌, word_at, ended_at, or_syntax}
+use Rattle.words.specs.Parts.{PartReader, in_turn}
+use Rattle.words.specs.Reading.{◌>>=◌, word_at, or_syntax}
 use Rattle.captext.specs.declared.shapes.Place.{Place}
 use Rattle.captext.specs.declared.shapes.Place.TheVariants as place
 use Rattle.captext.specs.declared.shapes.Term.{Term}
 use Rattle.captext.specs.declared.shapes.Term.TheVariants as term
+
+-- the next two words as names
+unfoldable pub names_at : PartReader (List ℕ × List ℕ)
+names_at = in_turn name_at name_at
 
 -- a slot of an object: by its index, or the root slot
 unfoldable pub place_of : List ℕ → Option Place
@@ -31,8 +35,12 @@ slot_at_dot word (Some i) = slot_with (name_of (take i word)) (place_of (drop (i
 unfoldable pub slot_of : List ℕ → Option (List ℕ × Place)
 slot_of word = slot_at_dot word (position (λ b. b == 46) word)
 
+-- a slot, by its holder's name and its place there
+abbrev pub NamedSlot : Type 0
+NamedSlot = List ℕ × Place
+
 -- the next word as a slot
-unfoldable pub slot_at : List (List ℕ) → Result ((List ℕ × Place) × List (List ℕ)) Wrong
+unfoldable pub slot_at : PartReader NamedSlot
 slot_at words = do
   word ← word_at words
   slot ← or_syntax (slot_of word.0)
@@ -48,18 +56,13 @@ first_term None None hexadecimal = option_map term.Hexadecimal hexadecimal
 unfoldable pub term_of : List ℕ → Option Term
 term_of word = first_term (rights_of_word word) (dec_of word) (hex_of word)
 
--- one term, and one more if a word is left
-unfoldable pub terms_from : List ℕ → List (List ℕ) → Result (Option Term × Option Term) Wrong
-terms_from one [] = do
-  first ← or_syntax (term_of one)
-  Ok (Some first, None)
-terms_from one (two ∷ rest) = do
-  _ ← ended_at rest
-  first ← or_syntax (term_of one)
-  second ← or_syntax (term_of two)
-  Ok (Some first, Some second)
+-- the next word as a term, if a word is left
+unfoldable pub term_at : PartReader (Option Term)
+term_at [] = Ok (None, [])
+term_at (word ∷ rest) = do
+  term ← or_syntax (term_of word)
+  Ok (Some term, rest)
 
--- the words left, which are at most two terms
-unfoldable pub terms_at : List (List ℕ) → Result (Option Term × Option Term) Wrong
-terms_at [] = Ok (None, None)
-terms_at (one ∷ rest) = terms_from one rest
+-- at most two terms
+unfoldable pub terms_at : PartReader (Option Term × Option Term)
+terms_at = in_turn term_at term_at

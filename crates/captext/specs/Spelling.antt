@@ -45,5 +45,8 @@ abbrev pub IsOptionTerm : Option Term → Type 0
 IsOptionTerm None = ⊤
 IsOptionTerm (Some t) = IsTerm t
 
+-- at most two terms, of which the first is there if the second is
 abbrev pub AreTerms : Option Term × Option Term → Type 0
-AreTerms terms = IsOptionTerm terms.0 × IsOptionTerm terms.1
+AreTerms (None, None) = ⊤
+AreTerms (None, Some _) = ⊥
+AreTerms (Some first, second) = IsTerm first × IsOptionTerm second

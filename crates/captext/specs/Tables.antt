@@ -40,7 +40,7 @@ use Rattle.captext.specs.declared.shapes.Place.{Place}
 use Rattle.captext.specs.declared.shapes.Place.TheVariants as place
 use Rattle.captext.specs.declared.shapes.Term.{Term}
 use Rattle.captext.specs.declared.shapes.Term.TheVariants as term
-use Rattle.captext.specs.Shapes.{slot_at, terms_at}
+use Rattle.captext.specs.Shapes.{NamedSlot, names_at, slot_at, terms_at}
 use Rattle.captext.specs.TableText.{start_word}
 use Rattle.base.specs.declared.rights.Rights.{Rights}
 
@@ -72,15 +72,20 @@ takes_objects t = is_nil t.caps && takes_caps t
 abbrev pub takes_labels : Layout → Bool
 takes_labels t = is_nil t.objects && takes_objects t
 
+-- a label of this name
+unfoldable pub labelled : Layout → List ℕ → Result Layout Wrong
+labelled t name = do
+  _ ← demand (takes_labels t) wrong.Syntax
+  _ ← demand (not (is_some (label_named t name))) wrong.Double
+  _ ← demand (nat_lt (length t.labels) Label.COUNT) wrong.Limit
+  Ok (with_label t name)
+
 -- label NAME
 unfoldable pub label_line : Layout → List (List ℕ) → Result Layout Wrong
 label_line t words = do
   name ← name_at words
   _ ← ended_at name.1
-  _ ← demand (takes_labels t) wrong.Syntax
-  _ ← demand (not (is_some (label_named t name.0))) wrong.Double
-  _ ← demand (nat_lt (length t.labels) Label.COUNT) wrong.Limit
-  Ok (with_label t name.0)
+  labelled t name.0
 
 -- the number of an object's label, where an object of this name may be declared now
 unfoldable pub heading : Layout → List ℕ → List ℕ → Result ℕ Wrong
@@ -186,14 +191,13 @@ limited object = if is_limited object then Some object else None
 -- KIND NAME LABEL and the kind's own words; a control of a core past the limit doubles none
 unfoldable pub object_line : ObjectKind → Layout → List (List ℕ) → Result Layout Wrong
 object_line kind t words = do
-  name ← name_at words
-  label ← name_at name.1
-  told ← read_as limited (content_at kind) label.1
+  names ← names_at words
+  told ← read_as limited (content_at kind) names.1
   _ ← ended_at told.1
-  number ← heading t name.0 label.0
+  number ← heading t names.0.0 names.0.1
   object ← value_or wrong.Limit told.0
   _ ← demand (not (repeats_control t object)) wrong.Double
-  declared t name.0 number object
+  declared t names.0.0 number object
 
 -- the slot at a place of a holder
 abbrev pub slot_in : ObjId → Place → SlotRef
@@ -286,16 +290,28 @@ filled t holder at target terms = do
 abbrev pub named : Layout → List ℕ → Result ObjId Wrong
 named t name = value_or wrong.UnknownName (object_named t name)
 
+-- a slot, the object of its capability, and what the capability says
+abbrev pub NamedCap : Type 0
+NamedCap = NamedSlot × (List ℕ × (Option Term × Option Term))
+
+-- the capability that these words name
+unfoldable pub capped : Layout → NamedCap → Result Layout Wrong
+capped t cap = do
+  _ ← demand (takes_caps t && rises (is_above_caps t) (object_named t cap.0.0) cap.0.1) wrong.Syntax
+  holder ← named t cap.0.0
+  target ← named t cap.1.0
+  filled t holder cap.0.1 target cap.1.1
+
+-- SLOT NAME and at most two terms
+unfoldable pub cap_at : PartReader NamedCap
+cap_at = in_turn slot_at (in_turn name_at terms_at)
+
 -- cap SLOT NAME and at most two terms
 unfoldable pub cap_line : Layout → List (List ℕ) → Result Layout Wrong
 cap_line t words = do
-  slot ← slot_at words
-  name ← name_at slot.1
-  terms ← terms_at name.1
-  _ ← demand (takes_caps t && rises (is_above_caps t) (object_named t slot.0.0) slot.0.1) wrong.Syntax
-  holder ← named t slot.0.0
-  target ← named t name.0
-  filled t holder slot.0.1 target terms
+  cap ← cap_at words
+  _ ← ended_at cap.1
+  capped t cap.0
 
 -- the capability in the slot of the first holder and place is the parent of that in the slot of the second
 unfoldable pub paired : Layout → ObjId × Place → ObjId × Place → Result Layout Wrong
@@ -304,16 +320,24 @@ paired t parent child = do
   _ ← demand (declares_slot t (slot_in parent.0 parent.1) && declares_slot t (slot_in child.0 child.1)) wrong.Limit
   Ok (with_pair t (record { parent = slot_in parent.0 parent.1; child = slot_in child.0 child.1 }))
 
+-- the pair that these words name
+unfoldable pub derived : Layout → NamedSlot × NamedSlot → Result Layout Wrong
+derived t pair = do
+  _ ← demand (takes_pairs t && rises (is_above_pairs t) (object_named t pair.1.0) pair.1.1) wrong.Syntax
+  above ← named t pair.0.0
+  below ← named t pair.1.0
+  paired t (above, pair.0.1) (below, pair.1.1)
+
+-- SLOT SLOT
+unfoldable pub pair_at : PartReader (NamedSlot × NamedSlot)
+pair_at = in_turn slot_at slot_at
+
 -- child SLOT SLOT
 unfoldable pub child_line : Layout → List (List ℕ) → Result Layout Wrong
 child_line t words = do
-  parent ← slot_at words
-  child ← slot_at parent.1
-  _ ← ended_at child.1
-  _ ← demand (takes_pairs t && rises (is_above_pairs t) (object_named t child.0.0) child.0.1) wrong.Syntax
-  above ← named t parent.0.0
-  below ← named t child.0.0
-  paired t (above, parent.0.1) (below, child.0.1)
+  pair ← pair_at words
+  _ ← ended_at pair.1
+  derived t pair.0
 
 -- the thread rises above those that are bound; an unknown name isn't compared
 abbrev pub thread_rises : Layout → Option ObjId → Bool
@@ -324,18 +348,22 @@ abbrev pub is_thread_and_context : Option ObjectKind → Option ObjectKind → B
 is_thread_and_context (Some kind.Tcb) (Some kind.Context) = true
 is_thread_and_context _ _ = false
 
--- bind NAME NAME
-unfoldable pub bind_line : Layout → List (List ℕ) → Result Layout Wrong
-bind_line t words = do
-  first ← name_at words
-  second ← name_at first.1
-  _ ← ended_at second.1
-  _ ← demand (thread_rises t (object_named t first.0)) wrong.Syntax
-  thread ← named t first.0
-  context ← named t second.0
+-- the binding that these words name
+unfoldable pub bound : Layout → List ℕ × List ℕ → Result Layout Wrong
+bound t binding = do
+  _ ← demand (thread_rises t (object_named t binding.0)) wrong.Syntax
+  thread ← named t binding.0
+  context ← named t binding.1
   _ ← demand (not (is_bound t context)) wrong.Double
   _ ← demand (is_thread_and_context (kind_at t thread) (kind_at t context)) wrong.WrongKind
   Ok (with_binding t (record { thread = thread; context = context }))
+
+-- bind NAME NAME
+unfoldable pub bind_line : Layout → List (List ℕ) → Result Layout Wrong
+bind_line t words = do
+  binding ← names_at words
+  _ ← ended_at binding.1
+  bound t binding.0
 
 -- an object's line, by its first word
 unfoldable pub declaration : List ℕ → Layout → List (List ℕ) → Result Layout Wrong

@@ -190,7 +190,7 @@ fn named(draft: &Draft, name: &str) -> Result<ObjId, Wrong>
 }
 
 /// Reads `SLOT NAME` and what the capability says, after the word `cap`.
-#[tactic(auto, unfolding(crate::specs::Tables::cap_line, words::specs::Reading::bind))]
+#[tactic(auto, unfolding(crate::specs::Tables::cap_line, crate::specs::Tables::cap_at, crate::specs::Tables::capped, words::specs::Parts::in_turn, words::specs::Reading::bind))]
 pub fn cap_line(draft: &mut Draft, words: &mut Words<'_>) -> Result<(), LineError>
     ensures exact { GivesOrStops (λ _. draft.new) result (text.cap_line draft.old words.old) }
     ensures err { OnErr result (draft.new ≡ draft.old) }
@@ -198,6 +198,7 @@ pub fn cap_line(draft: &mut Draft, words: &mut Words<'_>) -> Result<(), LineErro
     let (holder, place) = slot(words)?;
     let target = words.name()?;
     let terms = terms(words)?;
+    words.end()?;
     if !(takes_caps(draft) && cap_rises(draft, draft.object_named(holder), place)) {
         return Err(LineError::Text(Wrong::Syntax));
     }
@@ -237,7 +238,7 @@ fn pair(draft: &mut Draft, parent: (ObjId, Place), child: (ObjId, Place)) -> Res
 }
 
 /// Reads `SLOT SLOT`, of a parent and its child, after the word `child`.
-#[tactic(auto, unfolding(crate::specs::Tables::child_line, words::specs::Reading::bind))]
+#[tactic(auto, unfolding(crate::specs::Tables::child_line, crate::specs::Tables::pair_at, crate::specs::Tables::derived, words::specs::Parts::in_turn, words::specs::Reading::bind))]
 pub fn child_line(draft: &mut Draft, words: &mut Words<'_>) -> Result<(), LineError>
     ensures exact { GivesOrStops (λ _. draft.new) result (text.child_line draft.old words.old) }
     ensures err { OnErr result (draft.new ≡ draft.old) }
@@ -274,7 +275,7 @@ pub fn is_thread_and_context(thread: Option<ObjectKind>, context: Option<ObjectK
 }
 
 /// Reads `NAME NAME`, after the word `bind`.
-#[tactic(auto, unfolding(crate::specs::Tables::bind_line, words::specs::Reading::bind))]
+#[tactic(auto, unfolding(crate::specs::Shapes::names_at, crate::specs::Tables::bind_line, crate::specs::Tables::bound, words::specs::Parts::in_turn, words::specs::Reading::bind))]
 pub fn bind_line(draft: &mut Draft, words: &mut Words<'_>) -> Result<(), LineError>
     ensures exact { GivesOrStops (λ _. draft.new) result (text.bind_line draft.old words.old) }
     ensures err { OnErr result (draft.new ≡ draft.old) }

@@ -16,7 +16,7 @@ use table::{Draft, is_addressable, is_aligned};
 use words::{LineError, Words, Wrong, decimal_of};
 
 /// Reads `NAME`, after the word `label`.
-#[tactic(auto, unfolding(crate::specs::Tables::label_line, words::specs::Reading::bind))]
+#[tactic(auto, unfolding(crate::specs::Tables::label_line, crate::specs::Tables::labelled, words::specs::Reading::bind))]
 pub fn label_line(draft: &mut Draft, words: &mut Words<'_>) -> Result<(), LineError>
     ensures exact { GivesOrStops (λ _. draft.new) result (text.label_line draft.old words.old) }
     ensures err { OnErr result (draft.new ≡ draft.old) }
@@ -120,7 +120,7 @@ fn repeats_control(draft: &Draft, object: &Object) -> bool
 }
 
 /// Reads an object's `NAME LABEL` and its kind's own words, after the kind's word.
-#[tactic(auto, unfolding(crate::specs::Tables::object_line, words::specs::Reading::bind))]
+#[tactic(auto, unfolding(crate::specs::Shapes::names_at, crate::specs::Tables::object_line, words::specs::Parts::in_turn, words::specs::Reading::bind))]
 pub fn object_line(
     draft: &mut Draft,
     kind: ObjectKind,

@@ -75,28 +75,23 @@ fn term_of(word: &[u8]) -> Option<Term>
     hexadecimal_of(word).map(Term::Hexadecimal)
 }
 
-/// One term, and one more if a word is left.
-#[tactic(auto, unfolding(crate::specs::Shapes::terms_from, words::specs::Reading::or_syntax, words::specs::Reading::bind))]
-fn terms_from(one: &[u8], words: &mut Words<'_>) -> Result<(Option<Term>, Option<Term>), Wrong>
-    ensures { result ≡ shape.terms_from one.now words.old }
-{
-    let Some(two) = words.next_word() else {
-        let first = term_of(one).ok_or(Wrong::Syntax)?;
-        return Ok((Some(first), None));
-    };
-    words.end()?;
-    let first = term_of(one).ok_or(Wrong::Syntax)?;
-    let second = term_of(two).ok_or(Wrong::Syntax)?;
-    Ok((Some(first), Some(second)))
-}
-
-/// The words left, which are at most two terms.
-#[tactic(auto, unfolding(crate::specs::Shapes::terms_at))]
-pub fn terms(words: &mut Words<'_>) -> Result<(Option<Term>, Option<Term>), Wrong>
-    ensures { result ≡ shape.terms_at words.old }
+/// The next word as a term, if a word is left.
+#[tactic(auto, unfolding(crate::specs::Shapes::term_at, words::specs::Reading::or_syntax, words::specs::Reading::bind))]
+fn next_term(words: &mut Words<'_>) -> Result<Option<Term>, Wrong>
+    ensures { Gives (λ term. (term, words.new)) result (shape.term_at words.old) }
 {
     match words.next_word() {
-        None => Ok((None, None)),
-        Some(one) => terms_from(one, words),
+        None => Ok(None),
+        Some(word) => Ok(Some(term_of(word).ok_or(Wrong::Syntax)?)),
     }
+}
+
+/// At most two terms.
+#[tactic(auto, unfolding(crate::specs::Shapes::terms_at, words::specs::Parts::in_turn, words::specs::Reading::bind))]
+pub fn terms(words: &mut Words<'_>) -> Result<(Option<Term>, Option<Term>), Wrong>
+    ensures { Gives (λ terms. (terms, words.new)) result (shape.terms_at words.old) }
+{
+    let first = next_term(words)?;
+    let second = next_term(words)?;
+    Ok((first, second))
 }

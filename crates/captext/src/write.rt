@@ -173,7 +173,7 @@ pub fn object_name(table: &Table, id: ObjId) -> &str
 }
 
 /// A slot's place in its holder.
-pub fn place_of(table: &Table, slot: SlotRef) -> Place
+pub fn place_in(table: &Table, slot: SlotRef) -> Place
     ensures { result ≡ place_in (kind_at table.now slot.holder) slot.index }
 {
     match table.kind(slot.holder) {
@@ -254,7 +254,7 @@ impl Line for Filled {
 
     fn write(&self, text: &mut String, table: &Table) -> Result<(), AllocError> {
         let holder = object_name(table, self.slot.holder);
-        let place = place_of(table, self.slot);
+        let place = place_in(table, self.slot);
         let object = object_name(table, self.cap.object);
         match self.cap.detail {
             Detail::CNode(guard) => {
@@ -284,9 +284,9 @@ impl Line for Pair {
 
     fn write(&self, text: &mut String, table: &Table) -> Result<(), AllocError> {
         let parent = object_name(table, self.parent.holder);
-        let parent_place = place_of(table, self.parent);
+        let parent_place = place_in(table, self.parent);
         let child = object_name(table, self.child.holder);
-        let child_place = place_of(table, self.child);
+        let child_place = place_in(table, self.child);
         writeln!(text, "child {parent}.{parent_place} {child}.{child_place}")
     }
 }

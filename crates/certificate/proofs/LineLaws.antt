@@ -21,7 +21,7 @@ use Rattle.words.proofs.WordLaws.{bind_ok, plain_bytes}
 use Rattle.captext.specs.declared.shapes.Place.{Place}
 use Rattle.captext.specs.declared.shapes.Place.TheVariants as place
 use Rattle.captext.specs.PolicyText.{label_name}
-use Rattle.captext.specs.Shapes.{slot_at}
+use Rattle.captext.specs.Shapes.{NamedSlot, slot_at}
 use Rattle.captext.specs.Spelling.{slot_word}
 use Rattle.captext.specs.TableText.{object_name, place_in, slot_name}
 use Rattle.captext.specs.Tables.{fits_holder, is_thread_and_context, slot_in}
@@ -36,7 +36,7 @@ use Rattle.certificate.specs.declared.line.Line.{Line}
 use Rattle.certificate.specs.declared.line.Line.TheVariants as line
 use Rattle.certificate.specs.Kinds.{kinds_at, kinds_word, IsKinds}
 use Rattle.certificate.specs.Line.{line_words, AreLabels, IsLineFor}
-use Rattle.certificate.specs.Reading.{cap_at, space_at, derive_at, runs_at, named_line_at, labels_named, is_in_cnode, is_root, declared, line_named, line_by, line_of, NamedLabels, NamedLine, NamedSlot, NamedCap, NamedSpace, NamedDerive, NamedRuns}
+use Rattle.certificate.specs.Reading.{cap_at, space_at, derive_at, runs_at, named_line_at, labels_named, is_in_cnode, is_root, declared, line_named, line_by, line_of, NamedLabels, NamedLine, NamedCap, NamedSpace, NamedDerive, NamedRuns}
 use Rattle.certificate.proofs.KindWords.{kinds_part}
 
 -- the words of a line

@@ -18,15 +18,11 @@ use Rattle.words.specs.Reading.{◌>>=◌, ended_at, list_format, read_format, F
 use Rattle.words.specs.Text.{words_of, lines_of}
 use Rattle.captext.specs.declared.shapes.Place.{Place}
 use Rattle.captext.specs.declared.shapes.Place.TheVariants as place
-use Rattle.captext.specs.Shapes.{slot_at}
+use Rattle.captext.specs.Shapes.{NamedSlot, slot_at}
 use Rattle.captext.specs.Tables.{demand, value_or, named, slot_in, fits_holder, is_thread_and_context}
 use Rattle.certificate.specs.declared.line.Line.{Line}
 use Rattle.certificate.specs.declared.line.Line.TheVariants as line
 use Rattle.certificate.specs.Kinds.{kinds_at}
-
--- a slot, by its holder's name and its place there
-abbrev pub NamedSlot : Type 0
-NamedSlot = List ℕ × Place
 
 -- the labels of a line, by their names
 abbrev pub NamedLabels : Type 0

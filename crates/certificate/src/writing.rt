@@ -8,7 +8,7 @@ ghost use Rattle.words.specs.Text.{line_text};
 use crate::kinds::kinds_string;
 use crate::line::{Certificate, Line};
 use base::Refusal;
-use captext::{label_name, object_name, place_of};
+use captext::{label_name, object_name, place_in};
 use std::alloc::{AllocError, Global};
 use table::Table;
 
@@ -58,7 +58,7 @@ fn write_line(
             to,
         } => {
             let holder = object_name(table, slot.holder);
-            let place = place_of(table, slot);
+            let place = place_in(table, slot);
             let from = label_name(table, from);
             let to = label_name(table, to);
             let kinds = kinds_string(alloc, kinds)?;
@@ -66,7 +66,7 @@ fn write_line(
         }
         Line::Space { slot, from, to } => {
             let holder = object_name(table, slot.holder);
-            let place = place_of(table, slot);
+            let place = place_in(table, slot);
             let from = label_name(table, from);
             let to = label_name(table, to);
             writeln!(text, "space {holder}.{place} {from} {to}")
@@ -78,9 +78,9 @@ fn write_line(
             to,
         } => {
             let above = object_name(table, parent.holder);
-            let parent = place_of(table, parent);
+            let parent = place_in(table, parent);
             let below = object_name(table, child.holder);
-            let child = place_of(table, child);
+            let child = place_in(table, child);
             let from = label_name(table, from);
             let to = label_name(table, to);
             writeln!(text, "derive {above}.{parent} {below}.{child} {from} {to}")

@@ -23,6 +23,6 @@ IfAccepted (Accept accepted certificate) P = P
 IfAccepted (Deny denial) P = Unit {0}
 
 -- an error as a refusal
-abbrev pub refusal_of : CheckError → Refusal
-refusal_of NoMemory = refusals.out_of_memory
-refusal_of WorkerCount = refusals.refusal_of cause.WorkerCount
+abbrev pub error_refusal : CheckError → Refusal
+error_refusal NoMemory = refusals.out_of_memory
+error_refusal WorkerCount = refusals.refusal_of cause.WorkerCount

@@ -1,5 +1,5 @@
 ghost use Rattle.std.specs.Prelude.{◌≡◌, ◌≤◌, ◌↔◌, Err, IfOk};
-ghost use Rattle.checker.specs.Check.{IfAccepted, IsCheck, refusal_of};
+ghost use Rattle.checker.specs.Check.{IfAccepted, IsCheck, error_refusal};
 ghost use Rattle.policy.specs.Policy.{allows};
 ghost use Rattle.verdict.specs.Safe.{GuardsBudgets, KeepsIntegrity, LabelsObjects, StaysConfined};
 
@@ -31,7 +31,7 @@ pub enum CheckError {
 }
 
 impl From<CheckError> for Refusal {
-    ghost from_gives = { λ error refusal. refusal ≡ refusal_of error };
+    ghost from_gives = { λ error refusal. refusal ≡ error_refusal error };
 
     fn from(error: CheckError) -> Refusal {
         match error {

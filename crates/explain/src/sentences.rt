@@ -1,6 +1,6 @@
 //! The sentences on denials: why a rule is broken, and what mends it beside the edge.
 use base::{Edge, Kind, Label, ObjId, SlotRef};
-use captext::{label_name, object_name, place_of};
+use captext::{label_name, object_name, place_in};
 use labels::declared_label;
 use policy::Broken;
 use std::fmt;
@@ -17,7 +17,7 @@ pub(crate) struct SlotName<'a> {
 impl fmt::Display for SlotName<'_> {
     fn fmt<W: fmt::Write>(&self, f: &mut fmt::Formatter<W>) -> fmt::Result {
         let holder = object_name(self.table, self.slot.holder);
-        let place = place_of(self.table, self.slot);
+        let place = place_in(self.table, self.slot);
         write!(f, "{holder}.{place}")
     }
 }
