@@ -1,18 +1,14 @@
 ghost use Rattle.std.specs.Prelude.{◌≡◌, ◌++◌, [], false, IfOk};
 ghost use Rattle.captext.specs.PolicyText.{edge_lines};
-ghost use Rattle.report.specs.Answers as answers;
 ghost use Rattle.report.specs.Commands.{input, output};
 ghost use Rattle.report.specs.Questions as questions;
-ghost use Rattle.report.specs.declared.end.File.TheVariants as file;
-ghost use Rattle.words.specs.Reading.{Reads};
 
-use crate::command::{Answer, Command, NoMemory};
-use crate::engine::carry_out;
-use crate::load::{Loaded, NoFile};
-use crate::{Asked, End, File, Listener, Sink, Source};
+use crate::command::{Answer, NoMemory};
+use crate::question::{Question, answer_question};
+use crate::{Asked, End, Listener, Sink, Source};
 use base::{Edge, Refusal};
-use captext::{Fault, write_edges};
-use policy::Why;
+use captext::write_edges;
+use policy::{Policy, Why};
 use std::alloc::Global;
 use table::Table;
 
@@ -40,48 +36,23 @@ where
     ensures { questions.IsTold actor.now object.now (input T.remaining T.failed table.old table.new)
         (input P.remaining P.failed policy.old policy.new) (output O.contents O.failed O.is_flushed out.old out.new) result }
 {
-    let question = Question { actor, object };
-    carry_out(&question, alloc, table, policy, &mut NoFile, listener, out)
+    let question = Authority { actor, object };
+    answer_question(&question, alloc, table, policy, listener, out)
 }
 
-/// The command `why`, which has no third file.
+/// The command `why`.
 #[derive(Clone, Copy)]
-struct Question<'a> {
+struct Authority<'a> {
     actor: &'a str,
     object: &'a str,
 }
 
-impl Command for Question<'_> {
-    type Third = ();
-
-    ghost third_file = { file.Policy };
-
-    ghost use Rattle.std.specs.Prelude.{ℕ, List, []};
-
-    ghost Held = { List ℕ };
-
-    ghost held = { λ none. [] };
-
-    ghost read_of = { answers.read_nothing };
-
+impl Question for Authority<'_> {
     ghost lacks = { λ question t. questions.unlabelled t question.actor.now question.object.now };
 
     ghost may_judge = { λ _. Unit {0} };
 
-    ghost judges = { λ question t edges none. questions.Tells question.actor.now question.object.now t edges };
-
-    fn third_file() -> File
-        ensures { result ≡ file.Policy }
-    {
-        File::Policy
-    }
-
-    #[tactic(auto, unfolding(crate::specs::Answers::read_nothing))]
-    fn read_third(_alloc: Global, _table: &Table, _bytes: &[u8]) -> Result<(), Fault>
-        ensures { Reads (λ none. []) result (answers.read_nothing _table.now _bytes.now) }
-    {
-        Ok(())
-    }
+    ghost judges = { λ question. questions.Tells question.actor.now question.object.now };
 
     fn unlabelled(&self, table: &Table) -> Option<Asked> {
         if table.label_named(self.actor).is_none() {
@@ -93,14 +64,14 @@ impl Command for Question<'_> {
         }
     }
 
-    fn judge(&self, alloc: Global, loaded: &Loaded<()>) -> Result<Answer, NoMemory> {
+    fn judge(&self, alloc: Global, table: &Table, policy: &Policy) -> Result<Answer, NoMemory> {
         match (
-            loaded.table.label_named(self.actor),
-            loaded.table.label_named(self.object),
+            table.label_named(self.actor),
+            table.label_named(self.object),
         ) {
             (Some(actor), Some(object)) => {
-                let why = loaded.policy.why(alloc, actor, object)?;
-                Ok(why_answer(alloc, &loaded.table, &why)?)
+                let why = policy.why(alloc, actor, object)?;
+                Ok(why_answer(alloc, table, &why)?)
             }
             // The labels were looked up before.
             _ => unreachable!(),

@@ -3,14 +3,11 @@ ghost use Rattle.checker.specs.Check.{IsCheck};
 ghost use Rattle.certificate.specs.Right.{right_certificate};
 ghost use Rattle.report.specs.Answers as answers;
 ghost use Rattle.report.specs.Commands.{input, output};
-ghost use Rattle.report.specs.declared.end.File.TheVariants as file;
 
-use crate::command::{Answer, Command, NoMemory, denial_text};
-use crate::engine::carry_out;
-use crate::load::{Loaded, NoFile};
+use crate::command::{Answer, NoMemory, denial_text};
+use crate::question::{Question, answer_question};
 use crate::reports::check_report;
-use crate::{Asked, End, File, Finding, Listener, Sink, Source};
-use captext::Fault;
+use crate::{Asked, End, Finding, Listener, Sink, Source};
 use checker::{Certificate, CheckError, Gate, Verdict};
 use policy::Policy;
 use std::alloc::Global;
@@ -55,63 +52,41 @@ where
     ensures { answers.IsChecked on_accept (input T.remaining T.failed table.old table.new)
         (input P.remaining P.failed policy.old policy.new) (output O.contents O.failed O.is_flushed out.old out.new) result }
 {
-    let judge = |loaded: &Loaded<()>| -> Result<Answer, NoMemory>
+    let judge = |table: &Table, policy: &Policy| -> Result<Answer, NoMemory>
         requires workers { (1 ≤ workers) × (workers ≤ 16) }
-        ensures right { IfOk result (λ answer.
-            answers.Checks on_accept loaded.now.table loaded.now.policy answer.text.items answer.status) }
+        ensures right { IfOk result (λ answer. answers.Checks on_accept table.now policy.now answer.text.items answer.status) }
         ensures exit { IfOk result (λ answer. answer.status ≤ 2) }
-    { judged(rt, alloc, loaded, on_accept, workers, gate) };
-    let command = Checking {
+    { judged(rt, alloc, table, policy, on_accept, workers, gate) };
+    let question = Checking {
         on_accept,
         judge: &judge,
     };
-    carry_out(&command, alloc, table, policy, &mut NoFile, listener, out)
+    answer_question(&question, alloc, table, policy, listener, out)
 }
 
-/// The command `check`, which has no third file.
+/// The command `check`.
 #[derive(Drop)]
 struct Checking<'a, J> {
     on_accept: OnAccept,
     judge: &'a J,
 }
 
-impl<J: Fn(&Loaded<()>) -> Result<Answer, NoMemory>> Command for Checking<'_, J> {
-    type Third = ();
-
-    ghost third_file = { file.Policy };
-
-    ghost use Rattle.std.specs.Prelude.{ℕ, List, []};
-
-    ghost Held = { List ℕ };
-
-    ghost held = { λ none. [] };
-
-    ghost read_of = { answers.read_nothing };
-
+impl<J: Fn(&Table, &Policy) -> Result<Answer, NoMemory>> Question for Checking<'_, J> {
     ghost lacks = { λ _. answers.no_label };
 
     ghost may_judge = { λ check. J.IsAlwaysCallable check.judge.now
-        × ((loaded : _) (answer : _) → J.post check.judge.now loaded answer
-        → IfOk answer (λ answer. answers.Checks check.on_accept loaded.now.table loaded.now.policy answer.text.items answer.status)
+        × ((table policy : _) (answer : _) → J.post check.judge.now table policy answer
+        → IfOk answer (λ answer. answers.Checks check.on_accept table.now policy.now answer.text.items answer.status)
         × IfOk answer (λ answer. answer.status ≤ 2)) };
 
-    ghost judges = { λ check t edges none. answers.Checks check.on_accept t edges };
-
-    fn third_file() -> File {
-        File::Policy
-    }
-
-    #[tactic(auto, unfolding(crate::specs::Answers::read_nothing))]
-    fn read_third(_alloc: Global, _table: &Table, _bytes: &[u8]) -> Result<(), Fault> {
-        Ok(())
-    }
+    ghost judges = { λ check. answers.Checks check.on_accept };
 
     fn unlabelled(&self, _table: &Table) -> Option<Asked> {
         None
     }
 
-    fn judge(&self, _alloc: Global, loaded: &Loaded<()>) -> Result<Answer, NoMemory> {
-        (self.judge)(loaded)
+    fn judge(&self, _alloc: Global, table: &Table, policy: &Policy) -> Result<Answer, NoMemory> {
+        (self.judge)(table, policy)
     }
 }
 
@@ -119,18 +94,18 @@ impl<J: Fn(&Loaded<()>) -> Result<Answer, NoMemory>> Command for Checking<'_, J>
 fn judged<R: Threads + Sync, G: Gate + Sync>(
     rt: &R,
     alloc: Global,
-    loaded: &Loaded<()>,
+    table: &Table,
+    policy: &Policy,
     on_accept: OnAccept,
     workers: usize,
     gate: &G,
 ) -> Result<Answer, NoMemory>
     requires workers { (1 ≤ workers) × (workers ≤ 16) }
-    ensures right { IfOk result (λ answer.
-        answers.Checks on_accept loaded.now.table loaded.now.policy answer.text.items answer.status) }
+    ensures right { IfOk result (λ answer. answers.Checks on_accept table.now policy.now answer.text.items answer.status) }
     ensures exit { IfOk result (λ answer. answer.status ≤ 2) }
 {
-    match checker::check(rt, alloc, &loaded.table, &loaded.policy, workers, gate) {
-        Ok(verdict) => told(alloc, &loaded.table, &loaded.policy, on_accept, &verdict),
+    match checker::check(rt, alloc, table, policy, workers, gate) {
+        Ok(verdict) => told(alloc, table, policy, on_accept, &verdict),
         Err(CheckError::NoMemory) => Err(NoMemory),
         // There are 1 to 16 workers.
         Err(CheckError::WorkerCount) => unreachable!(),

@@ -3,14 +3,12 @@ ghost use Rattle.captext.specs.PolicyText.{edge_lines};
 ghost use Rattle.report.specs.Answers as answers;
 ghost use Rattle.report.specs.Closings as closings;
 ghost use Rattle.report.specs.Commands.{input, output};
-ghost use Rattle.report.specs.declared.end.File.TheVariants as file;
 
-use crate::command::{Answer, Command, NoMemory};
-use crate::engine::carry_out;
-use crate::load::{Loaded, NoFile};
-use crate::{Asked, End, File, Listener, ReadError, Sink, Source};
+use crate::command::{Answer, NoMemory};
+use crate::question::{Question, answer_question};
+use crate::{Asked, End, Listener, ReadError, Sink, Source};
 use base::{Edge, Refusal};
-use captext::{Fault, write_edges, write_policy};
+use captext::{write_edges, write_policy};
 use kernel::each_table_has_one_boot_state;
 use labels::{authority, boot_authority_joins_labels_of_its_table};
 use policy::Policy;
@@ -52,15 +50,7 @@ where
     ensures { closings.IsClosedOver on_close (input T.remaining T.failed table.old table.new)
         (input P.remaining P.failed policy.old policy.new) (output O.contents O.failed O.is_flushed out.old out.new) result }
 {
-    carry_out(
-        &Closing { on_close },
-        alloc,
-        table,
-        policy,
-        &mut NoFile,
-        listener,
-        out,
-    )
+    answer_question(&Closing { on_close }, alloc, table, policy, listener, out)
 }
 
 // The text of a policy without an edge, whatever the labels are.
@@ -105,46 +95,25 @@ impl Source for Known<'_> {
     }
 }
 
-/// The command `close`, which has no third file.
+/// The command `close`.
 #[derive(Clone, Copy)]
 struct Closing {
     on_close: OnClose,
 }
 
-impl Command for Closing {
-    type Third = ();
-
-    ghost third_file = { file.Policy };
-
-    ghost use Rattle.std.specs.Prelude.{ℕ, List, []};
-
-    ghost Held = { List ℕ };
-
-    ghost held = { λ none. [] };
-
-    ghost read_of = { answers.read_nothing };
-
+impl Question for Closing {
     ghost lacks = { λ _. answers.no_label };
 
     ghost may_judge = { λ _. Unit {0} };
 
-    ghost judges = { λ closing t edges none. closings.Closes closing.on_close t edges };
-
-    fn third_file() -> File {
-        File::Policy
-    }
-
-    #[tactic(auto, unfolding(crate::specs::Answers::read_nothing))]
-    fn read_third(_alloc: Global, _table: &Table, _bytes: &[u8]) -> Result<(), Fault> {
-        Ok(())
-    }
+    ghost judges = { λ closing. closings.Closes closing.on_close };
 
     fn unlabelled(&self, _table: &Table) -> Option<Asked> {
         None
     }
 
-    fn judge(&self, alloc: Global, loaded: &Loaded<()>) -> Result<Answer, NoMemory> {
-        Ok(closed(alloc, &loaded.table, &loaded.policy, self.on_close)?)
+    fn judge(&self, alloc: Global, table: &Table, policy: &Policy) -> Result<Answer, NoMemory> {
+        Ok(closed(alloc, table, policy, self.on_close)?)
     }
 }
 

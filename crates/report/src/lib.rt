@@ -11,6 +11,7 @@ mod engine;
 mod listener;
 mod load;
 mod places;
+mod question;
 mod relations;
 mod replaying;
 mod reports;
