@@ -1,0 +1,190 @@
+"""The examples of the documents, and what they show. What counts as an example:
+
+- a code block that begins with `confine-table 1`, `confine-policy 1` or `confine-script 1` is that file
+  from here on; `<!-- system: NAME -->` takes the files of examples/NAME, and `<!-- labels: NAME .. -->` a
+  table of these labels alone, without an edge and without an event;
+- one that begins with `confine-log 1` is the log of its events on these files, and legal; after `<!-- log: not run -->`, it is the log
+  alone that `replay` is asked about;
+- one that begins with `confine-cert 1` is what `check --cert` prints of them, and the certificate from here on;
+- one that begins with `{"` is the report on them, with the change that `<!-- change: .. -->` tells;
+- one that begins with `full`, `cut` or `none` is what `why` prints of the labels that `<!-- why: A B -->` tells, and one that
+  begins with `edge` what `close --missing` does, with that change;
+- a row of a table whose last cell is a report, or 'accepted', is the answer to these files with the
+  changes that the cells before it tell, as `X` becomes `Y`;
+- one with numbered lines is the beginning of a file of the system;
+- one that begins with `denied by` is what `check --explain` says of them on standard error.
+
+A report with `full` is that of `check`; one that says no more than `accept`, the rule C1 and a fault of the
+certificate are those of `verify`; one with entries or an entry, and a fault of the log, are those of `replay`; all others
+are those of `run`, and of `check` too.
+"""
+import pathlib
+import re
+
+TOP = pathlib.Path(__file__).resolve().parent.parent
+FILES = ["table", "policy", "script", "certificate", "log"]
+NOT_WELL = '"verdict":"(deny|illegal)"|"state":"outside"'
+MARKS = str.maketrans({"␣": " ", "␍": "\r"})
+
+
+def text_of(file, lines):
+    kind = "cert" if file == "certificate" else file
+    return "\n".join([f"confine-{kind} 1", *lines, "end"]) + "\n"
+
+
+def of_label_a(objects):
+    return text_of("table", ["label a", *objects])
+
+
+# Texts that are too long to be shown, by the words that stand for them.
+LONG = {
+    "65 labels": ("table", text_of("table", [f"label l{i}" for i in range(65)])),
+    "4,097 objects": ("table", of_label_a(f"notification n{i} a {i << 5:#x}" for i in range(4097))),
+    "1,025 threads": ("table", of_label_a(f"tcb t{i} a {i << 10:#x} ready" for i in range(1025))),
+    "16 CNodes of radix 12 and a thread": (
+        "table",
+        of_label_a([*(f"cnode c{i} a {i << 17:#x} 12" for i in range(16)), "tcb t a 0x200000 ready"]),
+    ),
+    "1,000,001 events": ("script", text_of("script", ["0 1 poll 0"] * 1000001)),
+    "1,000,001 entries": ("log", text_of("log", ["0 1 poll 0 = done word 0"] * 1000001)),
+}
+
+
+def with_lines_changed(text, told):
+    """A text with lines that are named by their numbers changed."""
+    lines = text.split("\n")
+    for new, number, line in re.findall(r"\b(new )?line (\d+)(?:: `([^`]*)`|, empty)", told):
+        at = int(number) - 1
+        lines[at : at if new else at + 1] = [line.translate(MARKS)]
+    for number in re.findall(r"no line (\d+)", told):
+        lines.pop(int(number) - 1)
+    if "no line feed" in told:
+        lines.pop()
+    return "" if "nothing at all" in told else "\n".join(lines)
+
+
+def with_line_replaced(files, old, lines):
+    """The files with other lines in place of one, which is in one of them."""
+    for kind, text in files.items():
+        if f"\n{old}\n" in text:
+            new = "".join(f"{line}\n" for line in lines)
+            return files | {kind: text.replace(f"\n{old}\n", f"\n{new}")}
+    raise SystemExit(f"an example changes the line {old}, which no file has")
+
+
+def changed(files, told, answer):
+    """The files with the changes that a row or a comment tells."""
+    for words, (kind, text) in LONG.items():
+        if words in told:
+            return files | {kind: text}
+    if '"C1"' in answer:
+        files = files | {"certificate": with_lines_changed(files["certificate"], told)}
+    if faulty := re.search(r'"file":"(\w+)"', answer):
+        return files | {faulty[1]: with_lines_changed(files[faulty[1]], told)}
+    for old, new in re.findall(r"`([^`]*)` becomes `([^`]*)`", told):
+        files = with_line_replaced(files, old, [new])
+    for new, old in re.findall(r"`([^`]*)` before `([^`]*)`", told):
+        files = with_line_replaced(files, old, [new, old])
+    for new, old in re.findall(r"`([^`]*)` after `([^`]*)`", told):
+        files = with_line_replaced(files, old, [old, new])
+    for old in re.findall(r"without `([^`]*)`", told):
+        files = with_line_replaced(files, old, [])
+    return files
+
+
+def parts_of(text):
+    """The code blocks, rows of tables and comments of a document, each with its line."""
+    block, fenced = [], False
+    for number, line in enumerate([*text.split("\n"), ""], 1):
+        if line.startswith("```"):
+            fenced = not fenced
+        elif fenced or line.startswith("    "):
+            block.append(line if fenced else line[4:])
+            continue
+        if block:
+            yield number - len(block), "block", "\n".join(block) + "\n"
+            block = []
+        if comment := re.match(r"<!-- (system|labels|change|why|log): (.*) -->", line):
+            yield number, comment[1], comment[2]
+        elif line.startswith("| "):
+            yield number, "row", line
+
+
+def examples_of(path):
+    """Where each example stands, its files, and the answer that it shows."""
+    files, change, asked, alone = {}, "", [], False
+    for number, form, text in parts_of(path.read_text()):
+        where = f"{path.relative_to(TOP)}:{number}"
+        kind = (re.match(r" *(?:1  )?confine-(\w+) 1\n", text) or ["", ""])[1]
+        if form == "system":
+            files = {kind: (TOP / "examples" / text / kind).read_text() for kind in FILES}
+        elif form == "labels":
+            files = {kind: text_of(kind, []) for kind in FILES}
+            files["table"] = text_of("table", [f"label {label}" for label in text.split()])
+        elif form == "change":
+            change = text
+        elif form == "why":
+            asked = text.split()
+        elif form == "log":
+            alone = True
+        elif form == "block" and re.match(r" *1  ", text):
+            lines = re.sub(r"(?m)^ *\d+  (.*?)(   .*)?$", r"\1", text)
+            if not files[{"cert": "certificate"}.get(kind, kind)].startswith(lines):
+                yield where, files, f"the text of the system's {kind}"
+        elif form == "block" and kind == "cert":
+            files = files | {"certificate": text}
+            yield where, files, text
+        elif form == "block" and kind == "log":
+            entries = text.split("\n")[1:-2]
+            files = files | {"log": text}
+            if not alone:
+                yield where, files | {"script": text_of("script", [line.split(" = ")[0] for line in entries])}, text
+                yield where, files, f'{{"entries":{len(entries)},"state":"within","verdict":"legal"}}\n'
+            alone = False
+        elif form == "block" and kind in FILES:
+            files = files | {kind: text}
+        elif form == "block" and re.match('{"|full\n|cut\n|none\n|edge ', text):
+            yield where, changed(files, change, text) | {"asked": asked}, text
+            change = ""
+        elif form == "block" and text.startswith("denied by "):
+            yield where, files, text
+        elif form == "row":
+            *told, answer = [cell.strip() for cell in text.strip("|").split("|")]
+            if answer == "accepted" or re.match(r'`\{".*\}`$', answer):
+                yield where, changed(files, " ".join(told), answer), answer.strip("`") + "\n"
+
+
+def is_answered(answer, status, out):
+    if answer.startswith("denied by "):
+        return (status, out) == (1, answer)
+    if answer == "accepted\n":
+        return status == 0 and out.startswith("confine-log 1\n")
+    if re.match("cut\n|none\n|edge ", answer):
+        return (status, out) == (1, answer)
+    return out == answer and status == (2 if '"fault"' in answer else 1 if re.search(NOT_WELL, answer) else 0)
+
+
+def commands_of(answer, asked):
+    """The commands that give such an answer."""
+    if re.match("full\n|cut\n|none\n", answer):
+        return [["why", "table", "policy", *asked]]
+    if answer.startswith("denied by "):
+        return [["check", "table", "policy", "--explain"]]
+    if answer.startswith("edge "):
+        return [["close", "table", "policy", "--missing"]]
+    if answer.startswith("confine-cert 1"):
+        return [["check", "table", "policy", "--cert"]]
+    if re.match('{"entr', answer) or '"file":"log"' in answer:
+        return [["replay", "table", "policy", "log"]]
+    if '"full"' in answer:
+        return [["check", "table", "policy"]]
+    if answer == '{"verdict":"accept"}\n' or '"C1"' in answer or '"file":"certificate"' in answer:
+        return [["verify", "table", "policy", "certificate"]]
+    run = ["run", "table", "policy", "script"]
+    return [run] if "confine-log" in answer or "accepted" in answer or '"file":"script"' in answer else [run, ["check", *run[1:3]]]
+
+
+def write(files, folder):
+    """Puts the files of an example into a folder; one that it doesn't have is an empty text."""
+    for kind in FILES:
+        (folder / kind).write_bytes(files.get(kind, text_of(kind, [])).encode())
