@@ -1,8 +1,8 @@
 -- Sets of labels, bit by bit.
-use Rattle.std.proofs.Common.{◌≡◌, ◌&&◌, ◌||◌, ◌==◌, ◌<◌, ◌-◌, ◌^◌, not, false, true, ℕ, Bool, min, max, bit_and, bit_or, refl, sym, ap, ◌∙◌, subst, arith, w64, ◌⊎◌, inl, inr, ◌≢◌, ◌≤◌, ◌*◌, ◌%◌, zero, suc}
+use Rattle.std.proofs.Common.{◌≡◌, ◌&&◌, ◌||◌, ◌==◌, ◌<◌, ◌-◌, ◌^◌, not, false, true, ℕ, min, max, bit_and, bit_or, refl, sym, ap, ◌∙◌, arith, w64, ◌⊎◌, inl, inr, ◌≢◌, ◌≤◌, ◌*◌, ◌%◌, zero, suc}
 use Rattle.std.proofs.lemmas.Bool.{cases_lt, cases_eq, eq-eqb, ne_eqb}
 use Rattle.std.proofs.lemmas.Nat.{one_shl}
-use Rattle.std.specs.Int.{bit_at, bit_not, trailing_zeros}
+use Rattle.std.specs.Int.{bit_at, trailing_zeros}
 use Rattle.std.proofs.lemmas.Nat.Bits.{bit_at_and, bit_at_or, bit_at_not, bit_at-lt, bit_at_above, bit_at-pow_same, bit_at-pow_other, bit_at-trailing_zeros, bit_at-zero}
 
 -- a bit is 0 or 1

@@ -1,4 +1,4 @@
 pub mod RightsWords
 pub mod KindNames
-mod CauseLemmas
+pub mod CauseLemmas
 mod LabelSets

@@ -1,9 +1,12 @@
 -- How a cause of refusal is written as a code and a detail (seL4 manual, "Error Codes"; codes from 32 up are confine's own).
-use Rattle.std.specs.Prelude.{ℕ}
+use Rattle.std.specs.Prelude.{◌≡◌, ◌≢◌, ◌≤◌, ℕ, List, [], ◌∷◌}
+use Rattle.std.specs.List.{Contains}
 use Rattle.base.specs.declared.refusal.LookupFailure.{LookupFailure}
 use Rattle.base.specs.declared.refusal.LookupFailure.TheVariants.{InvalidRoot, MissingCapability, DepthMismatch, GuardMismatch}
 use Rattle.base.specs.declared.refusal.Cause.{Cause}
 use Rattle.base.specs.declared.refusal.Cause.TheVariants as cause
+use Rattle.base.specs.declared.refusal.Misuse.{Misuse}
+use Rattle.base.specs.declared.refusal.Misuse.TheVariants as misuse
 use Rattle.base.specs.declared.refusal.Refusal.{Refusal}
 
 abbrev pub failure_detail : LookupFailure → ℕ
@@ -20,6 +23,7 @@ plain code = record { code = code; detail = 0 }
 abbrev pub out_of_memory : Refusal
 out_of_memory = plain 40
 
+-- the refusal by a condition of a call
 abbrev pub refusal_of : Cause → Refusal
 refusal_of cause.InvalidArgument = plain 1
 refusal_of cause.InvalidCapability = plain 2
@@ -31,10 +35,22 @@ refusal_of cause.NotEnoughMemory = plain 10
 refusal_of cause.NotRunnable = plain 32
 refusal_of cause.WrongCore = plain 33
 refusal_of cause.NoSuchThread = plain 34
-refusal_of cause.OutOfMemory = plain 40
-refusal_of cause.LogFull = plain 41
-refusal_of cause.ForeignSeat = plain 42
-refusal_of cause.LogSize = plain 43
 refusal_of cause.TooMany = plain 44
-refusal_of cause.WorkerCount = plain 45
-refusal_of cause.SeatCount = plain 46
+
+-- the refusal of what isn't begun
+abbrev pub misuse_refusal : Misuse → Refusal
+misuse_refusal misuse.LogFull = plain 41
+misuse_refusal misuse.ForeignSeat = plain 42
+misuse_refusal misuse.LogSize = plain 43
+misuse_refusal misuse.WorkerCount = plain 45
+misuse_refusal misuse.SeatCount = plain 46
+
+-- the codes that a condition of a call has
+abbrev pub condition_codes : List ℕ
+condition_codes = 1 ∷ 2 ∷ 3 ∷ 4 ∷ 6 ∷ 8 ∷ 10 ∷ 32 ∷ 33 ∷ 34 ∷ 44 ∷ []
+
+-- a refusal that a condition of a call may give: a failed lookup alone has a detail
+pub record IsOfCondition (refusal : Refusal) : Type 0 where
+  pub code : Contains condition_codes refusal.code
+  pub no_detail : refusal.code ≢ 6 → refusal.detail ≡ 0
+  pub failure : refusal.code ≡ 6 → (1 ≤ refusal.detail) × (refusal.detail ≤ 4)

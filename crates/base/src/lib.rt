@@ -22,5 +22,5 @@ pub use limits::{
     ADDRESS_BITS, ADDRESS_END, MAX_EVENTS, MAX_MADE, MAX_OBJECTS, MAX_PERIOD, MAX_PRESENT,
     MAX_RADIX, MAX_SLOTS, MAX_THREADS, OBJECT_NUMBERS,
 };
-pub use refusal::{Cause, LookupFailure, Refusal, a_refusal_tells_its_cause};
+pub use refusal::{Cause, LookupFailure, Misuse, Refusal, a_refusal_tells_its_cause};
 pub use rights::{Rights, rights_words_are_read_back};

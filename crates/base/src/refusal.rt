@@ -1,7 +1,8 @@
-ghost use Rattle.std.specs.Prelude.{◌≡◌};
-ghost use Rattle.base.specs.Refusals.{refusal_of, failure_detail, out_of_memory};
+ghost use Rattle.std.specs.Prelude.{◌≡◌, ◌≢◌};
+ghost use Rattle.base.specs.Refusals.{IsOfCondition, failure_detail, misuse_refusal, out_of_memory, refusal_of};
 ghost use Rattle.base.specs.declared.refusal.Cause.{Cause as Why};
 ghost use Rattle.base.specs.declared.refusal.LookupFailure.{LookupFailure as Failure};
+ghost use Rattle.base.specs.declared.refusal.Misuse.{Misuse as Wrong};
 
 use std::alloc::{AllocError, AllocFailed};
 
@@ -18,7 +19,8 @@ pub enum LookupFailure {
     GuardMismatch,
 }
 
-/// Why a call is refused. The first seven are the errors of the seL4 manual, "Error Codes".
+/// The condition of a call that fails, so that the call is refused. The first seven are the errors of
+/// the seL4 manual, "Error Codes".
 #[derive(Clone, Copy, PartialEq, Eq, Debug)]
 pub enum Cause {
     InvalidArgument,
@@ -33,16 +35,20 @@ pub enum Cause {
     /// The thread's context is on another core.
     WrongCore,
     NoSuchThread,
-    /// An allocation failed.
-    OutOfMemory,
+    /// There would be too many objects, slots, threads or object numbers.
+    TooMany,
+}
+
+/// Why what is asked of a running kernel, or of the checker, isn't begun. No call of a thread is
+/// refused so.
+#[derive(Clone, Copy, PartialEq, Eq, Debug)]
+pub enum Misuse {
     /// The log of a running kernel is full.
     LogFull,
     /// A seat belongs to another kernel.
     ForeignSeat,
     /// The size of a log is outside 1 to 1,000,000.
     LogSize,
-    /// There would be too many objects, slots, threads or object numbers.
-    TooMany,
     /// The number of workers is outside 1 to 16.
     WorkerCount,
     /// The number of seats is outside 1 to 64.
@@ -54,6 +60,14 @@ pub enum Cause {
 pub struct Refusal {
     pub code: u64,
     pub detail: u64,
+}
+
+impl Refusal {
+    /// An allocation failed.
+    pub const OUT_OF_MEMORY: Refusal = Refusal {
+        code: 40,
+        detail: 0,
+    };
 }
 
 impl LookupFailure {
@@ -90,13 +104,22 @@ impl From<Cause> for Refusal {
             Cause::NotRunnable => 32,
             Cause::WrongCore => 33,
             Cause::NoSuchThread => 34,
-            Cause::OutOfMemory => 40,
-            Cause::LogFull => 41,
-            Cause::ForeignSeat => 42,
-            Cause::LogSize => 43,
             Cause::TooMany => 44,
-            Cause::WorkerCount => 45,
-            Cause::SeatCount => 46,
+        };
+        Refusal { code, detail: 0 }
+    }
+}
+
+impl From<Misuse> for Refusal {
+    ghost from_gives = { λ misuse refusal. refusal ≡ misuse_refusal misuse };
+
+    fn from(misuse: Misuse) -> Refusal {
+        let code = match misuse {
+            Misuse::LogFull => 41,
+            Misuse::ForeignSeat => 42,
+            Misuse::LogSize => 43,
+            Misuse::WorkerCount => 45,
+            Misuse::SeatCount => 46,
         };
         Refusal { code, detail: 0 }
     }
@@ -106,7 +129,7 @@ impl From<AllocError> for Refusal {
     ghost from_gives = { λ error refusal. refusal ≡ out_of_memory };
 
     fn from(_error: AllocError) -> Refusal {
-        Refusal::from(Cause::OutOfMemory)
+        Refusal::OUT_OF_MEMORY
     }
 }
 
@@ -114,14 +137,20 @@ impl<T: Drop> From<AllocFailed<T>> for Refusal {
     ghost from_gives = { λ failed refusal. refusal ≡ out_of_memory };
 
     fn from(_failed: AllocFailed<T>) -> Refusal {
-        Refusal::from(Cause::OutOfMemory)
+        Refusal::OUT_OF_MEMORY
     }
 }
 
 /// A law about refusals as they are written, with nothing to run: different causes have different
-/// refusals, and different failures of a lookup have different details, so that a refusal tells its
-/// cause.
+/// refusals, and so have different misuses; different failures of a lookup have different details. So a
+/// refusal tells its cause. No condition is refused as a misuse or as want of memory, and want of memory
+/// isn't a misuse.
 pub fn a_refusal_tells_its_cause()
     ensures cause { (one other : Why) → refusal_of one ≡ refusal_of other → one ≡ other }
+    ensures misuse { (one other : Wrong) → misuse_refusal one ≡ misuse_refusal other → one ≡ other }
     ensures failure { (one other : Failure) → failure_detail one ≡ failure_detail other → one ≡ other }
+    ensures condition { (why : Why) → IsOfCondition (refusal_of why) }
+    ensures apart { (why : Why) (wrong : Wrong) → refusal_of why ≢ misuse_refusal wrong }
+    ensures lasting { (why : Why) → refusal_of why ≢ out_of_memory }
+    ensures memory { (wrong : Wrong) → out_of_memory ≢ misuse_refusal wrong }
 {}

@@ -1,7 +1,7 @@
 -- What the checker answers to a capability table and a policy (confine's own).
 use Rattle.std.specs.Prelude.{◌≡◌, List, Ok, Err}
 use Rattle.base.specs.declared.edge.Edge.{Edge}
-use Rattle.base.specs.declared.refusal.Cause.TheVariants as cause
+use Rattle.base.specs.declared.refusal.Misuse.TheVariants as misuse
 use Rattle.base.specs.declared.refusal.Refusal.{Refusal}
 use Rattle.base.specs.Refusals as refusals
 use Rattle.certificate.specs.Right.{right_certificate}
@@ -25,4 +25,4 @@ IfAccepted (Deny denial) P = Unit {0}
 -- an error as a refusal
 abbrev pub error_refusal : CheckError → Refusal
 error_refusal NoMemory = refusals.out_of_memory
-error_refusal WorkerCount = refusals.refusal_of cause.WorkerCount
+error_refusal WorkerCount = refusals.misuse_refusal misuse.WorkerCount

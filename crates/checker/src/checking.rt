@@ -3,7 +3,7 @@ ghost use Rattle.checker.specs.Check.{IfAccepted, IsCheck, error_refusal};
 ghost use Rattle.policy.specs.Policy.{allows};
 ghost use Rattle.verdict.specs.Safe.{GuardsBudgets, KeepsIntegrity, LabelsObjects, StaysConfined};
 
-use base::{Cause, Refusal};
+use base::{Misuse, Refusal};
 use certificate::{Certificate, make};
 use deal::Gate;
 use policy::Policy;
@@ -35,8 +35,8 @@ impl From<CheckError> for Refusal {
 
     fn from(error: CheckError) -> Refusal {
         match error {
-            CheckError::NoMemory => Refusal::from(Cause::OutOfMemory),
-            CheckError::WorkerCount => Refusal::from(Cause::WorkerCount),
+            CheckError::NoMemory => Refusal::OUT_OF_MEMORY,
+            CheckError::WorkerCount => Refusal::from(Misuse::WorkerCount),
         }
     }
 }

@@ -1,7 +1,7 @@
 ghost use Rattle.std.specs.Prelude.{◌*◌};
 
 use crate::{Gate, Open, Work, shares};
-use base::{Cause, Refusal};
+use base::Refusal;
 use std::sync::atomic::{AtomicU64, Ordering};
 use std::test::Fail;
 
@@ -29,7 +29,7 @@ impl Work<u32> for RefusedAt {
 
     fn of(&self, item: &u32) -> Result<u64, Refusal> {
         if *item == self.0 {
-            return Err(Refusal::from(Cause::OutOfMemory));
+            return Err(Refusal::OUT_OF_MEMORY);
         }
         Ok(2 * u64::from(*item))
     }

@@ -3,7 +3,7 @@ ghost use Rattle.base.specs.Refusals.{out_of_memory};
 ghost use Rattle.deal.specs.Shares.{share_of, start_of};
 
 use crate::{Gate, Work};
-use base::{Cause, Refusal};
+use base::Refusal;
 use std::alloc::Global;
 use std::thread;
 use std::thread::Threads;
@@ -45,7 +45,7 @@ where
         work_share(alloc, items, workers, worker, work)
     };
     let Ok(parts) = thread::map_indices(rt, alloc, workers, &share) else {
-        return Err(Refusal::from(Cause::OutOfMemory));
+        return Err(Refusal::OUT_OF_MEMORY);
     };
     joined(alloc, items, work, parts)
 }

@@ -1,15 +1,16 @@
 -- Which entries are steps; and a log that stops at an entry is no run, since of two steps of an event with one outcome both lead to
 -- one machine.
-use Rattle.std.proofs.Common.{◌≡◌, ◌≢◌, ◌==◌, ◌&&◌, ℕ, zero, suc, Bool, ◌<◌, ◌⊎◌, inl, inr, List, [], ◌∷◌, ◌++◌, Some, None, Result, Ok, Err, refl, sym, ap, subst, ◌∙◌, arith}
-use Rattle.std.specs.Prelude.{Decides, map, take, slice_get, length}
+use Rattle.std.proofs.Common.{◌≡◌, ◌≢◌, ℕ, zero, suc, Bool, ◌<◌, ◌⊎◌, inl, inr, List, [], ◌∷◌, ◌++◌, Some, None, Result, Ok, Err, refl, sym, ap, subst, ◌∙◌, arith}
+use Rattle.std.specs.Prelude.{Option, is_some, map, not, take, slice_get, length}
+use Rattle.std.specs.List.{All, zip}
 use Rattle.std.proofs.Math.Seq.{take-length}
 use Rattle.std.proofs.lemmas.Bool.{cases_order}
-use Rattle.std.proofs.lemmas.Bool.Decides.{Decides-and, Decides-at, Decides-eqb, Decides-like, not_from_Decides}
 use Rattle.std.proofs.lemmas.List.{map_push}
 use Rattle.std.proofs.lemmas.Option.{same_Some, slice_get_within}
 use Rattle.base.specs.declared.refusal.Cause.{Cause}
 use Rattle.base.specs.declared.refusal.Refusal.{Refusal}
 use Rattle.base.specs.Refusals.{out_of_memory, refusal_of}
+use Rattle.base.proofs.CauseLemmas.{cause_no_memory}
 use Rattle.machine.specs.declared.call.Event.{Event}
 use Rattle.machine.specs.declared.call.Made.{Made}
 use Rattle.machine.specs.declared.call.Outcome.{Outcome}
@@ -18,7 +19,7 @@ use Rattle.machine.specs.Machine.{Machine}
 use Rattle.machine.specs.Outcomes.{IsRefused}
 use Rattle.machine.specs.Step.{LacksMemory, Step, made_by, takes_memory}
 use Rattle.machine.specs.Step.Step.{lacks}
-use Rattle.machine.proofs.Steps.{steps_agree, refused_changes_nothing, refused_steps}
+use Rattle.machine.proofs.Steps.{Ended, refused_changes_nothing, refused_steps, runs_end, steps_agree}
 use Rattle.untyped.specs.Making.{refusal_in}
 use Rattle.kernel.specs.Legal.{Entry, Follows, Leads, StopsAt}
 use Rattle.kernel.specs.Refusals.{lasting_refusal}
@@ -36,7 +37,7 @@ made_lacks m event (Ok made) takes is none =
     lacks (record { takes = takes; made = made; could = is; refused = refl; same = refl })
 made_lacks m event (Err cause) takes is none = cc
 
-pub may_lack :
+may_lack :
     (m : Machine) (event : Event) → takes_memory event.call ≡ Bool.true → lasting_refusal m event ≡ None
     → Step m event (Refused out_of_memory) m
 may_lack m event takes none = made_lacks m event (made_by m event) takes refl (sym (lasting_is m event takes) ∙ none)
@@ -49,7 +50,7 @@ refused_is m event refusal (Ok made) is some = cc
 refused_is m event refusal (Err cause) is some =
     subst (λ (r : Refusal). Step m event (Refused r) m) (same_Some (refusal_of cause) refusal some) (refused_steps m event cause is)
 
-pub is_refused :
+is_refused :
     (m : Machine) (event : Event) (refusal : Refusal) → takes_memory event.call ≡ Bool.true
     → lasting_refusal m event ≡ Some refusal → Step m event (Refused refusal) m
 is_refused m event refusal takes some = refused_is m event refusal (made_by m event) refl (sym (lasting_is m event takes) ∙ some)
@@ -61,20 +62,34 @@ refused_lacks_none :
 refused_lacks_none m event outcome next refusal (Ok made) is some lack = cc
 refused_lacks_none m event outcome next refusal (Err cause) is some lack = cc (lack.could)
 
-pub not_lacking :
+-- nor is it refused for want of memory
+refused_lasts :
+    (refusal : Refusal) (made : Result (Made × Machine) Cause) → refusal_in made ≡ Some refusal → refusal ≢ out_of_memory
+refused_lasts refusal (Ok made) is = cc
+refused_lasts refusal (Err cause) is = λ same. cause_no_memory cause (same_Some (refusal_of cause) refusal is ∙ same)
+
+not_lacking :
     (m : Machine) (event : Event) (refusal : Refusal) → takes_memory event.call ≡ Bool.true
-    → lasting_refusal m event ≡ Some refusal → refusal ≢ out_of_memory → (next : Machine)
-    → ¬ (Step m event (Refused out_of_memory) next)
-not_lacking m event refusal takes some differs next step =
+    → lasting_refusal m event ≡ Some refusal → (next : Machine) → ¬ (Step m event (Refused out_of_memory) next)
+not_lacking m event refusal takes some next step =
     by (steps_agree m event (Refused refusal) (Refused out_of_memory) m next (is_refused m event refusal takes some) step) where
       row : refusal_in (made_by m event) ≡ Some refusal
       row = sym (lasting_is m event takes) ∙ some
 
       by : ((Refused refusal ≡ Refused out_of_memory) × (m ≡ next))
           ⊎ (LacksMemory m event (Refused refusal) m ⊎ LacksMemory m event (Refused out_of_memory) next) → ⊥
-      by (inl same) = differs (cc (same.0))
+      by (inl same) = refused_lasts refusal (made_by m event) row (cc (same.0))
       by (inr (inl lack)) = refused_lacks_none m event (Refused refusal) m refusal (made_by m event) refl row lack
       by (inr (inr lack)) = refused_lacks_none m event (Refused out_of_memory) next refusal (made_by m event) refl row lack
+
+-- so it may end for want of memory exactly where it isn't refused in any case
+pub follows_lack :
+    (m : Machine) (event : Event) (refusal : Option Refusal) (lacking : Bool) → takes_memory event.call ≡ Bool.true
+    → lasting_refusal m event ≡ refusal → is_some refusal ≡ not lacking → Follows m event (Refused out_of_memory) m lacking
+follows_lack m event None Bool.true takes is told = may_lack m event takes is
+follows_lack m event None Bool.false takes is told = cc
+follows_lack m event (Some refusal) Bool.true takes is told = cc
+follows_lack m event (Some refusal) Bool.false takes is told = not_lacking m event refusal takes is
 
 -- a step that lacked memory, and one with the same outcome, leave the machine as it was
 lacking_agree :
@@ -139,30 +154,13 @@ one_stop first entries at other one two = elim (cases_order at other) [
   | inr (inr above) ↦ absurd (not_later first entries other at two one above)
 ]
 
--- so it may end for want of memory exactly where it is refused so in any case
-pub follows_refusal :
-    (m : Machine) (event : Event) (refusal : Refusal) (lacking : Bool) → takes_memory event.call ≡ Bool.true
-    → lasting_refusal m event ≡ Some refusal → Decides lacking (refusal ≡ out_of_memory)
-    → Follows m event (Refused out_of_memory) m lacking
-follows_refusal m event refusal Bool.true takes some is =
-    subst (λ (r : Refusal). Step m event (Refused r) m) (is.0 refl) (is_refused m event refusal takes some)
-follows_refusal m event refusal Bool.false takes some is =
-    not_lacking m event refusal takes some (not_from_Decides Bool.false is refl)
+-- how each entry of a legal log ends
 
--- which refusals are want of memory
-same_refusal : (one other : Refusal) → (one.code ≡ other.code) × (one.detail ≡ other.detail) → one ≡ other
-same_refusal one other same =
-    let by_code : ℕ → Refusal = λ n. record { code = n; detail = one.detail } in
-    let by_detail : ℕ → Refusal = λ n. record { code = other.code; detail = n } in
-    ap by_code same.0 ∙ ap by_detail same.1
+zipped : (entries : List Entry) → zip (map (λ entry. entry.0) entries) (map (λ entry. entry.1) entries) ≡ entries
+zipped [] = refl
+zipped (entry ∷ entries) = ap (λ (rest : List Entry). entry ∷ rest) (zipped entries)
 
-pub decides_lacking :
-    (refusal other : Refusal) (lacking : Bool) → other ≡ out_of_memory
-    → lacking ≡ ((refusal.code == other.code) && (refusal.detail == other.detail)) → Decides lacking (refusal ≡ out_of_memory)
-decides_lacking refusal other lacking is told =
-    let both = Decides-and (refusal.code == other.code) (refusal.detail == other.detail) (Decides-eqb refusal.code other.code) (Decides-eqb refusal.detail other.detail) in
-    Decides-at lacking ((refusal.code == other.code) && (refusal.detail == other.detail)) told
-    (Decides-like ((refusal.code == other.code) && (refusal.detail == other.detail))
-    (λ (same : (refusal.code ≡ other.code) × (refusal.detail ≡ other.detail)). same_refusal refusal other same ∙ is)
-    (λ (same : refusal ≡ out_of_memory). (ap (λ (r : Refusal). r.code) (same ∙ sym is), ap (λ (r : Refusal). r.detail) (same ∙ sym is)))
-    both)
+pub legal_ends : (first last : Machine) (entries : List Entry) → Leads first entries last → All Ended entries
+legal_ends first last entries ran =
+    subst (All Ended) (zipped entries)
+    (runs_end first (map (λ (e : Entry). e.0) entries) (map (λ (e : Entry). e.1) entries) last ran)

@@ -1,8 +1,11 @@
-ghost use Rattle.std.specs.Prelude.{◌≡◌};
-ghost use Rattle.machine.specs.Makes.{MakesOrLacks};
+ghost use Rattle.std.specs.Prelude.{◌≡◌, ◌≢◌, Bool};
+ghost use Rattle.base.specs.Refusals.{misuse_refusal};
+ghost use Rattle.base.specs.declared.refusal.Misuse.{Misuse};
+ghost use Rattle.machine.specs.Makes.{Makes, MakesWithMemory};
 ghost use Rattle.machine.specs.Outcomes.{IsRefused};
-ghost use Rattle.machine.specs.Step.{Step, made_by, takes_memory};
+ghost use Rattle.machine.specs.Step.{MayEnd, Step, made_by, takes_memory};
 ghost use Rattle.machine.specs.WellFormed.{IsWellFormed};
+ghost use Rattle.machine.specs.declared.call.Outcome.TheVariants.{Refused};
 ghost use Rattle.kernel.specs.Refusals.{lasting_refusal};
 
 use crate::admit::admit;
@@ -12,7 +15,10 @@ use crate::wait::wait;
 use base::{Cause, Refusal};
 use cnodeops::{copy, mint, move_cap};
 use frames::{read_word, write_word};
-use machine::{Call, Event, Made, Outcome, steps_keep_machines_well_formed};
+use machine::{
+    Call, Event, Made, Outcome, Unmade, calls_are_refused_by_conditions,
+    steps_keep_machines_well_formed,
+};
 use objects::State;
 use removal::{delete, revoke};
 use replies::reply;
@@ -21,11 +27,12 @@ use threads::{clear_space, resume, set_space, suspend};
 use transfer::{call, fetch, receive, send};
 use untyped::retype;
 
-/// Makes the call of an event, once its thread is admitted.
+// Makes the call of an event, one that takes no memory, once its thread is admitted.
 #[tactic(auto, unfolding(machine::specs::Step::made_by))]
 fn make(state: &mut State, event: Event) -> Result<Made, Cause>
-    requires { IsWellFormed state.old }
-    ensures { MakesOrLacks (takes_memory event.call) state.old state.new result (made_by state.old event) }
+    requires formed { IsWellFormed state.old }
+    requires without_memory { takes_memory event.call ≡ Bool.false }
+    ensures { Makes state.old state.new result (made_by state.old event) }
 {
     admit(state, event.core, event.thread)?;
     match event.call {
@@ -59,14 +66,7 @@ fn make(state: &mut State, event: Event) -> Result<Made, Cause>
         Call::Move { to, from } => move_cap(state, event.thread, to, from),
         Call::Delete { slot } => delete(state, event.thread, slot),
         Call::Revoke { slot } => revoke(state, event.thread, slot),
-        Call::Retype {
-            untyped,
-            kind,
-            bits,
-            to,
-            offset,
-            count,
-        } => retype(state, event.thread, untyped, kind, bits, to, offset, count),
+        Call::Retype { .. } => unreachable!(),
         Call::Read { address, index } => read_word(state, event.thread, address, index),
         Call::Write {
             address,
@@ -88,18 +88,51 @@ fn make(state: &mut State, event: Event) -> Result<Made, Cause>
     }
 }
 
+// Makes the retype of an event, once its thread is admitted.
+#[tactic(auto, unfolding(machine::specs::Step::made_by))]
+fn make_with_memory(state: &mut State, event: Event) -> Result<Made, Unmade>
+    requires formed { IsWellFormed state.old }
+    requires with_memory { takes_memory event.call ≡ Bool.true }
+    ensures { MakesWithMemory state.old state.new result (made_by state.old event) }
+{
+    let Event { core, thread, call } = event;
+    let Call::Retype {
+        untyped,
+        kind,
+        bits,
+        to,
+        offset,
+        count,
+    } = call
+    else {
+        unreachable!()
+    };
+    admit(state, core, thread)?;
+    retype(state, thread, untyped, kind, bits, to, offset, count)
+}
+
 /// One kernel call, whole: what it answers, and the state after it. A refused call leaves the state
 /// as it was.
 ///
-/// No call but a retype takes memory, and is refused 40 where there is none.
+/// No call but a retype takes memory, and is refused 40 where there is none. Every other refusal is by a
+/// condition of the call: a code of the seL4 manual from 1 to 10, or 32, 33, 34 or 44.
 pub fn step(state: &mut State, event: Event) -> Outcome
     requires { IsWellFormed state.old }
     ensures stepped { Step state.old event result state.new }
     ensures refusals { IsRefused result → state.new ≡ state.old }
+    ensures ends { MayEnd event result }
+    ensures begun { (misuse : Misuse) → result ≢ Refused (misuse_refusal misuse) }
     ensures well_formed { IsWellFormed state.new }
 {
-    // A law, so that the state stays well formed.
+    // Laws, so that the state stays well formed and refusals are those of the rows.
     steps_keep_machines_well_formed();
+    calls_are_refused_by_conditions();
+    if event.call.takes_memory() {
+        return match make_with_memory(state, event) {
+            Ok(made) => Outcome::from(made),
+            Err(unmade) => Outcome::Refused(Refusal::from(unmade)),
+        };
+    }
     match make(state, event) {
         Ok(made) => Outcome::from(made),
         Err(cause) => Outcome::Refused(Refusal::from(cause)),

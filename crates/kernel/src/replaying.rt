@@ -1,14 +1,14 @@
-ghost use Rattle.std.specs.Prelude.{◌≡◌, ℕ, Bool, List, Decides, IfErr, IfOk, MatchOption};
+ghost use Rattle.std.specs.Prelude.{◌≡◌, ℕ, Bool, List, All, Decides, IfErr, IfOk, MatchOption, take};
 ghost use Rattle.base.specs.Refusals.{out_of_memory};
 ghost use Rattle.kernel.specs.Legal.{Entry, Follows, IsLack, LacksMemoryIn, Leads, MayLack, StopsAt};
 ghost use Rattle.machine.specs.Machine.{Machine};
-ghost use Rattle.machine.specs.Step.{takes_memory};
+ghost use Rattle.machine.specs.Step.{MayEnd, takes_memory};
 ghost use Rattle.machine.specs.WellFormed.{IsWellFormed};
 ghost use Rattle.machine.specs.declared.call.Outcome.TheVariants.{Refused};
 
 use crate::calls::{retype_refusal, step};
-use base::{Cause, Refusal};
-use machine::{Call, Event, Outcome};
+use base::Refusal;
+use machine::{Event, Outcome, calls_are_refused_by_conditions};
 use objects::State;
 
 /// Makes the steps of a log, entry after entry: none where each is the step that its entry tells, and
@@ -22,9 +22,12 @@ use objects::State;
 pub fn replay(state: &mut State, entries: &[(Event, Outcome)]) -> Result<Option<usize>, Refusal>
     requires { IsWellFormed state.old }
     ensures found { IfOk result (λ stop. MatchOption stop (Leads state.old entries.now state.new) (StopsAt state.old entries.now)) }
+    ensures ends { IfOk result (λ stop. MatchOption stop (All (λ entry. MayEnd entry.0 entry.1) entries.now) (λ at. All (λ entry. MayEnd entry.0 entry.1) (take at entries.now))) }
     ensures well_formed { IsWellFormed state.new }
     ensures refused { IfErr result (λ refusal. (refusal ≡ out_of_memory) × LacksMemoryIn state.old entries.now) }
 {
+    // A law, so that refusals are those of the rows.
+    calls_are_refused_by_conditions();
     for (index, (event, outcome)) in entries.iter().enumerate() {
         if !follow(state, event, outcome)? {
             return Ok(Some(index));
@@ -48,7 +51,7 @@ fn follow(state: &mut State, event: &Event, outcome: &Outcome) -> Result<bool, R
         return Ok(true);
     }
     if is_lack(event, &came) {
-        return Err(Refusal::from(Cause::OutOfMemory));
+        return Err(Refusal::OUT_OF_MEMORY);
     }
     Ok(false)
 }
@@ -57,22 +60,16 @@ fn follow(state: &mut State, event: &Event, outcome: &Outcome) -> Result<bool, R
 fn is_lack(event: &Event, outcome: &Outcome) -> bool
     ensures { Decides result (IsLack event.now outcome.now) }
 {
-    match event.call {
-        Call::Retype { .. } => *outcome == Outcome::Refused(Refusal::from(Cause::OutOfMemory)),
-        _ => false,
-    }
+    event.call.takes_memory() && *outcome == Outcome::Refused(Refusal::OUT_OF_MEMORY)
 }
 
-// Whether the call of an event, one that takes memory, can end for want of it.
+// Whether the call of an event, one that takes memory, can end for want of it: where it could be made.
 fn could_lack(state: &State, event: &Event) -> bool
     requires formed { IsWellFormed state.now }
     requires takes { takes_memory event.now.call ≡ Bool.true }
     ensures { Follows state.now event.now (Refused out_of_memory) state.now result }
 {
-    match retype_refusal(state, *event) {
-        None => true,
-        Some(refusal) => refusal == Refusal::from(Cause::OutOfMemory),
-    }
+    retype_refusal(state, *event).is_none()
 }
 
 /// A law: a log that stops at an entry isn't legal, and where it stops there is one such entry.

@@ -1,12 +1,14 @@
-ghost use Rattle.std.specs.Prelude.{◌≡◌, ◌+◌, ◌≤◌, ◌++◌, List, length, vec_len, vec_capacity, IfErr, IsOk, OnOk, OnErr};
+ghost use Rattle.std.specs.Prelude.{◌≡◌, ◌+◌, ◌≤◌, ◌++◌, List, All, drop, length, vec_len, vec_capacity, IfErr, IsOk, OnOk, OnErr};
+ghost use Rattle.std.specs.List.{zip};
 ghost use Rattle.base.specs.Refusals.{plain};
 ghost use Rattle.machine.specs.declared.call.Outcome.{Outcome as Ended};
 ghost use Rattle.machine.specs.Run.{Run};
+ghost use Rattle.machine.specs.Step.{MayEnd};
 ghost use Rattle.machine.specs.WellFormed.{IsWellFormed};
 
 use crate::calls::step;
 use base::Refusal;
-use machine::{Event, Outcome};
+use machine::{Event, Outcome, calls_are_refused_by_conditions};
 use objects::State;
 
 /// Runs a list of events, and appends the outcome of each.
@@ -23,11 +25,14 @@ pub fn run(state: &mut State, events: &[Event], outcomes: &mut Vec<Outcome>) -> 
         × Run state.old events.now made state.new) }
     ensures counted { OnOk result (length outcomes.new.items ≡ length outcomes.old.items + length events.now) }
     ensures appends { (made : List Ended) × (outcomes.new.items ≡ outcomes.old.items ++ made) }
+    ensures ends { OnOk result (All (λ entry. MayEnd entry.0 entry.1) (zip events.now (drop (length outcomes.old.items) outcomes.new.items))) }
     ensures well_formed { IsWellFormed state.new }
     ensures refused { IfErr result (λ refusal. refusal ≡ plain 40) }
     ensures kept { OnErr result ((state.new ≡ state.old) × (outcomes.new.items ≡ outcomes.old.items)) }
     ensures succeeds { vec_len outcomes.old + length events.now ≤ vec_capacity outcomes.old → IsOk result }
 {
+    // A law, so that refusals are those of the rows.
+    calls_are_refused_by_conditions();
     outcomes.reserve(events.len())?;
     for event in events {
         outcomes.push_reserved(step(state, *event));

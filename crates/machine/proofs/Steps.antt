@@ -1,8 +1,12 @@
 -- What is a step, when two steps of one event agree, and that a refused one changes nothing.
-use Rattle.std.proofs.Common.{◌≡◌, ◌⊎◌, inl, inr, sym, ap, subst, ◌∙◌}
+use Rattle.std.proofs.Common.{◌≡◌, ◌≢◌, ◌⊎◌, inl, inr, List, [], ◌∷◌, refl, sym, ap, subst, ◌∙◌}
 use Rattle.std.specs.Prelude.{Result, Ok, Err}
+use Rattle.std.specs.List.{All, zip}
+use Rattle.std.proofs.lemmas.List.Elements.{All-cons, All-nil}
 use Rattle.base.specs.declared.refusal.Cause.{Cause}
-use Rattle.base.specs.Refusals.{refusal_of}
+use Rattle.base.specs.declared.refusal.Misuse.{Misuse}
+use Rattle.base.specs.Refusals.{misuse_refusal, out_of_memory, refusal_of}
+use Rattle.base.proofs.CauseLemmas.{cause_no_misuse, memory_no_misuse, of_condition}
 use Rattle.machine.specs.declared.call.Event.{Event}
 use Rattle.machine.specs.declared.call.Made.{Made}
 use Rattle.machine.specs.declared.call.Made.TheVariants as made
@@ -10,7 +14,8 @@ use Rattle.machine.specs.declared.call.Outcome.{Outcome}
 use Rattle.machine.specs.declared.call.Outcome.TheVariants.{Refused}
 use Rattle.machine.specs.Machine.{Machine}
 use Rattle.machine.specs.Outcomes.{IsRefused, outcome_of}
-use Rattle.machine.specs.Step.{LacksMemory, Step, made_by, settled, step_of}
+use Rattle.machine.specs.Run.{Run}
+use Rattle.machine.specs.Step.{LacksMemory, MayEnd, Step, made_by, settled, step_of}
 use Rattle.machine.specs.Step.Step.{ends, lacks}
 
 -- an event that was made is a step, and so is one that was refused
@@ -51,3 +56,46 @@ pub refused_changes_nothing :
 unfolding step_of
 refused_changes_nothing m event outcome next (ends e) = settled_refused m (made_by m event) outcome next e
 refused_changes_nothing m event outcome next (lacks without) = λ refused. without.same
+
+-- how an event ends that its call decides
+settled_ends : (m : Machine) (event : Event) (made : Result (Made × Machine) Cause) → MayEnd event (settled m made).0
+settled_ends m event (Ok (made.Done answer, next)) = tt
+settled_ends m event (Ok (made.Blocked, next)) = tt
+settled_ends m event (Err cause) = inl (of_condition cause)
+
+pub steps_end :
+    (m : Machine) (event : Event) (outcome : Outcome) (next : Machine) → Step m event outcome next → MayEnd event outcome
+unfolding step_of
+steps_end m event outcome next (ends e) = subst (MayEnd event) (ap (λ p. p.0) e) (settled_ends m event (made_by m event))
+steps_end m event outcome next (lacks without) = subst (MayEnd event) (sym without.refused) (inr (without.takes, refl))
+
+-- and so how each event of a run ends
+abbrev pub Ended : Event × Outcome → Type 0
+Ended entry = MayEnd entry.0 entry.1
+
+pub runs_end :
+    (first : Machine) (events : List Event) (outcomes : List Outcome) (last : Machine) → Run first events outcomes last
+    → All Ended (zip events outcomes)
+runs_end first [] [] last ran = All-nil Ended
+runs_end first [] (outcome ∷ outcomes) last ran = absurd ran
+runs_end first (event ∷ events) [] last ran = absurd ran
+runs_end first (event ∷ events) (outcome ∷ outcomes) last ran =
+    All-cons Ended (event, outcome) (zip events outcomes) (steps_end first event outcome ran.0 ran.1)
+    (runs_end ran.0 events outcomes last ran.2)
+
+-- no step is refused as what isn't begun
+
+settled_is_begun : (m : Machine) (made : Result (Made × Machine) Cause) (wrong : Misuse) → (settled m made).0 ≢ Refused (misuse_refusal wrong)
+settled_is_begun m (Ok (made.Done answer, next)) wrong same = cc
+settled_is_begun m (Ok (made.Blocked, next)) wrong same = cc
+settled_is_begun m (Err cause) wrong same =
+    let refusals : refusal_of cause ≡ misuse_refusal wrong = cc in cause_no_misuse cause wrong refusals
+
+pub steps_are_begun :
+    (m : Machine) (event : Event) (outcome : Outcome) (next : Machine) → Step m event outcome next → (wrong : Misuse)
+    → outcome ≢ Refused (misuse_refusal wrong)
+unfolding step_of
+steps_are_begun m event outcome next (ends e) wrong same =
+    settled_is_begun m (made_by m event) wrong (ap (λ p. p.0) e ∙ same)
+steps_are_begun m event outcome next (lacks without) wrong same =
+    let refusals : out_of_memory ≡ misuse_refusal wrong = cc in memory_no_misuse wrong refusals

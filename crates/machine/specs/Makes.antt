@@ -1,22 +1,18 @@
 -- How the code of a call meets the call's definition: it comes to what the definition says and leaves the machine that it says, or
 -- refuses with its cause and leaves the machine as it was.
-use Rattle.std.specs.Prelude.{◌≡◌, ◌⊎◌, Bool, Result, Ok, Err, IsOk}
+use Rattle.std.specs.Prelude.{◌≡◌, Result, Ok, Err, IsOk}
 use Rattle.base.specs.declared.refusal.Cause.{Cause}
-use Rattle.base.specs.declared.refusal.Cause.TheVariants.{OutOfMemory}
 use Rattle.machine.specs.declared.call.Made.{Made}
+use Rattle.machine.specs.declared.call.Unmade.{Unmade}
+use Rattle.machine.specs.declared.call.Unmade.TheVariants.{OutOfMemory, Refused}
 use Rattle.machine.specs.Machine.{Machine}
 
 abbrev pub Makes : Machine → Machine → Result Made Cause → Result (Made × Machine) Cause → Type 0
 Makes old new (Ok made) defined = defined ≡ Ok (made, new)
 Makes old new (Err cause) defined = (defined ≡ Err cause) × (new ≡ old)
 
--- the same of a call that takes memory: where the definition says that it is made it may lack memory, is refused then, and leaves
--- the machine as it was
-abbrev pub MakesWithMemory : Machine → Machine → Result Made Cause → Result (Made × Machine) Cause → Type 0
-MakesWithMemory old new result defined =
-    Makes old new result defined ⊎ (IsOk defined × (result ≡ Err OutOfMemory) × (new ≡ old))
-
--- the same of a call that may be one that takes memory
-abbrev pub MakesOrLacks : Bool → Machine → Machine → Result Made Cause → Result (Made × Machine) Cause → Type 0
-MakesOrLacks Bool.true old new result defined = MakesWithMemory old new result defined
-MakesOrLacks Bool.false old new result defined = Makes old new result defined
+-- the same of a call that takes memory: where the definition says that it is made it may lack memory, and leaves the machine as it was
+abbrev pub MakesWithMemory : Machine → Machine → Result Made Unmade → Result (Made × Machine) Cause → Type 0
+MakesWithMemory old new (Ok made) defined = defined ≡ Ok (made, new)
+MakesWithMemory old new (Err (Refused cause)) defined = (defined ≡ Err cause) × (new ≡ old)
+MakesWithMemory old new (Err OutOfMemory) defined = IsOk defined × (new ≡ old)

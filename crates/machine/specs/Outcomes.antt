@@ -1,8 +1,12 @@
 -- How a call ends: made, with an answer or blocked, or refused (seL4 manual, "Errors"; the outcomes are confine's own).
+use Rattle.base.specs.declared.refusal.Refusal.{Refusal}
+use Rattle.base.specs.Refusals.{out_of_memory, refusal_of}
 use Rattle.machine.specs.declared.call.Made.{Made}
 use Rattle.machine.specs.declared.call.Made.TheVariants as made
 use Rattle.machine.specs.declared.call.Outcome.{Outcome}
 use Rattle.machine.specs.declared.call.Outcome.TheVariants.{Done, Blocked, Refused}
+use Rattle.machine.specs.declared.call.Unmade.{Unmade}
+use Rattle.machine.specs.declared.call.Unmade.TheVariants as unmade
 
 -- how a call ends that is made
 abbrev pub outcome_of : Made → Outcome
@@ -12,3 +16,8 @@ outcome_of made.Blocked = Blocked
 abbrev pub IsRefused : Outcome → Type 0
 IsRefused (Refused _) = Unit {0}
 IsRefused _ = ⊥
+
+-- how a call that takes memory is refused
+abbrev pub unmade_refusal : Unmade → Refusal
+unmade_refusal (unmade.Refused cause) = refusal_of cause
+unmade_refusal unmade.OutOfMemory = out_of_memory

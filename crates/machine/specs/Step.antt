@@ -1,10 +1,11 @@
 -- The kernel step: how an event ends, and the machine after it (seL4 manual, "Kernel Services and Objects"; the order of the
 -- conditions is confine's own). A refusal leaves the machine as it was.
-use Rattle.std.specs.Prelude.{◌≡◌, ℕ, Bool, ◌==◌, Option, Some, None, Result, Ok, Err, if◌then◌else◌}
+use Rattle.std.specs.Prelude.{◌≡◌, ◌⊎◌, ℕ, Bool, ◌==◌, Option, Some, None, Result, Ok, Err, if◌then◌else◌}
 use Rattle.base.specs.declared.ids.ObjId.{ObjId}
 use Rattle.base.specs.declared.refusal.Cause.{Cause}
 use Rattle.base.specs.declared.refusal.Cause.TheVariants as cause
-use Rattle.base.specs.Refusals.{refusal_of}
+use Rattle.base.specs.declared.refusal.Refusal.{Refusal}
+use Rattle.base.specs.Refusals.{IsOfCondition, out_of_memory, refusal_of}
 use Rattle.machine.specs.declared.call.Call.{Call}
 use Rattle.machine.specs.declared.call.Call.TheVariants as call
 use Rattle.machine.specs.declared.call.Event.{Event}
@@ -164,10 +165,19 @@ pub record LacksMemory (m : Machine) (event : Event) (outcome : Outcome) (next :
   pub takes : takes_memory event.call ≡ Bool.true
   pub made : Made × Machine
   pub could : made_by m event ≡ Ok made
-  pub refused : outcome ≡ Refused (refusal_of cause.OutOfMemory)
+  pub refused : outcome ≡ Refused out_of_memory
   pub same : next ≡ m
 
 -- the step from one machine to another with an outcome
 pub data Step (m : Machine) (event : Event) (outcome : Outcome) (next : Machine) : Type 0 where
   ends : step_of m event ≡ (outcome, next) → Step m event outcome next
   lacks : LacksMemory m event outcome next → Step m event outcome next
+
+-- what a call may be refused: by a condition of its own or, where it takes memory, for want of it
+abbrev pub MayBeRefused : Call → Refusal → Type 0
+MayBeRefused call refusal = IsOfCondition refusal ⊎ ((takes_memory call ≡ Bool.true) × (refusal ≡ out_of_memory))
+
+-- how an event may end
+abbrev pub MayEnd : Event → Outcome → Type 0
+MayEnd event (Refused refusal) = MayBeRefused event.call refusal
+MayEnd event _ = Unit {0}

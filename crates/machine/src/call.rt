@@ -1,8 +1,10 @@
 ghost use Rattle.std.specs.Prelude.{◌≡◌};
-ghost use Rattle.machine.specs.Outcomes.{outcome_of};
+ghost use Rattle.machine.specs.Outcomes.{outcome_of, unmade_refusal};
+ghost use Rattle.machine.specs.Step.{takes_memory};
+ghost use Rattle.machine.specs.declared.call.Unmade.TheVariants.{Refused};
 
 use crate::{MemoryKind, Message, SlotAddress};
-use base::{CoreNo, ObjId, Refusal, Rights};
+use base::{Cause, CoreNo, ObjId, Refusal, Rights};
 
 /// What a mint gives to the copy (seL4 manual, seL4_CNode_Mint: "badge or guard").
 #[derive(Clone, Copy, PartialEq, Eq, Debug)]
@@ -160,6 +162,15 @@ pub enum Call {
     },
 }
 
+impl Call {
+    /// Whether it takes memory to make it: a retype does.
+    pub fn takes_memory(&self) -> bool
+        ensures { result ≡ takes_memory self.now }
+    {
+        matches!(self, Call::Retype { .. })
+    }
+}
+
 /// A call that a thread makes on a core.
 #[derive(Clone, Copy, PartialEq, Eq, Debug)]
 pub struct Event {
@@ -188,6 +199,15 @@ pub enum Made {
     Blocked,
 }
 
+/// Why a call that takes memory isn't made.
+#[derive(Clone, Copy, PartialEq, Eq, Debug)]
+pub enum Unmade {
+    /// A condition of the call fails, however much memory there is.
+    Refused(Cause),
+    /// It could be made, and an allocation failed.
+    OutOfMemory,
+}
+
 /// How a call ends.
 #[derive(Clone, Copy, PartialEq, Eq, Debug)]
 pub enum Outcome {
@@ -198,6 +218,25 @@ pub enum Outcome {
 
 /// A log: events with what they came to.
 pub type Log = Vec<(Event, Outcome)>;
+
+impl From<Cause> for Unmade {
+    ghost from_gives = { λ cause unmade. unmade ≡ Refused cause };
+
+    fn from(cause: Cause) -> Unmade {
+        Unmade::Refused(cause)
+    }
+}
+
+impl From<Unmade> for Refusal {
+    ghost from_gives = { λ unmade refusal. refusal ≡ unmade_refusal unmade };
+
+    fn from(unmade: Unmade) -> Refusal {
+        match unmade {
+            Unmade::Refused(cause) => Refusal::from(cause),
+            Unmade::OutOfMemory => Refusal::OUT_OF_MEMORY,
+        }
+    }
+}
 
 impl From<Made> for Outcome {
     fn from(made: Made) -> Outcome

@@ -21,7 +21,7 @@ mod thread;
 mod thread_laws;
 
 pub use authority_laws::{authority_grows_with_capabilities, rights_alone_decide_kinds};
-pub use call::{Answer, Call, CapData, Event, Log, Made, Outcome};
+pub use call::{Answer, Call, CapData, Event, Log, Made, Outcome, Unmade};
 pub use cap::{Badged, Cap, Detail, Guard};
 pub use layout::{Binding, Filled, Initial, Pair};
 pub use message_laws::{blocks_keep_machines_well_formed, releases_keep_machines_well_formed};
@@ -39,7 +39,8 @@ pub use removal_laws::{
 pub use row_laws::messages_keep_machines_well_formed;
 pub use slot_address::{Ends, SlotAddress};
 pub use step_laws::{
-    retypes_keep_machines_well_formed, steps_keep_machines_well_formed, steps_of_one_event_agree,
+    calls_are_refused_by_conditions, retypes_keep_machines_well_formed,
+    steps_keep_machines_well_formed, steps_of_one_event_agree,
 };
 pub use thread::{Inbox, Message, Receiving, RunState, Sending, Tcb};
 pub use thread_laws::cleared_root_slots_can_be_filled;

@@ -1,13 +1,17 @@
 ghost use Rattle.base.specs.declared.ids.ObjId.{ObjId as Number};
-ghost use Rattle.std.specs.Prelude.{◌≡◌, ◌⊎◌, ℕ, List, Ok};
+ghost use Rattle.std.specs.Prelude.{◌≡◌, ◌≢◌, ◌⊎◌, ℕ, List, All, Ok};
+ghost use Rattle.std.specs.List.{zip};
+ghost use Rattle.base.specs.declared.refusal.Misuse.{Misuse as Wrong};
+ghost use Rattle.base.specs.Refusals.{misuse_refusal};
 ghost use Rattle.machine.specs.declared.call.Event.{Event as Occurs};
 ghost use Rattle.machine.specs.declared.call.Made.{Made as Comes};
 ghost use Rattle.machine.specs.declared.call.Outcome.{Outcome as Ended};
+ghost use Rattle.machine.specs.declared.call.Outcome.TheVariants.{Refused};
 ghost use Rattle.machine.specs.declared.object.MemoryKind.{MemoryKind as Kind};
 ghost use Rattle.machine.specs.Machine.{Machine};
 ghost use Rattle.machine.specs.Outcomes.{IsRefused};
 ghost use Rattle.machine.specs.Run.{Run};
-ghost use Rattle.machine.specs.Step.{LacksMemory, Step};
+ghost use Rattle.machine.specs.Step.{LacksMemory, MayEnd, Step};
 ghost use Rattle.machine.specs.Step.Retype.{retype_of};
 ghost use Rattle.machine.specs.WellFormed.{IsWellFormed};
 
@@ -22,6 +26,20 @@ pub fn steps_of_one_event_agree()
         → Step m event outcome next
         → IsRefused outcome
         → next ≡ m }
+{}
+
+/// A law: a call is refused by a condition of its own, with a detail for a failed lookup alone, or for
+/// want of memory if it takes some, a retype; so is each call of a run. No step is refused as what isn't
+/// begun.
+pub fn calls_are_refused_by_conditions()
+    ensures step { (m : Machine) (event : Occurs) (outcome : Ended) (next : Machine) → Step m event outcome next → MayEnd event outcome }
+    ensures run { (first : Machine) (events : List Occurs) (outcomes : List Ended) (last : Machine)
+        → Run first events outcomes last
+        → All (λ entry. MayEnd entry.0 entry.1) (zip events outcomes) }
+    ensures begun { (m : Machine) (event : Occurs) (outcome : Ended) (next : Machine)
+        → Step m event outcome next
+        → (wrong : Wrong)
+        → outcome ≢ Refused (misuse_refusal wrong) }
 {}
 
 /// A law: each step keeps a well-formed machine well formed, and so does each run.

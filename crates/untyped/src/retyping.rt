@@ -12,7 +12,7 @@ use crate::making::{Making, new_object};
 use crate::placing::place;
 use crate::room::{begun, new_size, roomy};
 use base::{Cause, MAX_MADE, ObjId, Refusal};
-use machine::{Answer, Made, MemoryKind, retypes_keep_machines_well_formed};
+use machine::{Answer, Made, MemoryKind, Unmade, retypes_keep_machines_well_formed};
 use objects::State;
 use std::alloc::AllocError;
 
@@ -90,7 +90,7 @@ pub fn retype(
     to: u64,
     offset: u64,
     count: u64,
-) -> Result<Made, Cause>
+) -> Result<Made, Unmade>
     requires well_formed { IsWellFormed state.old }
     ensures row { MakesWithMemory state.old state.new result (retype_of state.old caller untyped kind bits to offset count) }
     ensures well_formed { IsWellFormed state.new }
@@ -100,7 +100,7 @@ pub fn retype(
     let making = plan(state, caller, untyped, kind, bits, to, offset, count)?;
     match make(state, making) {
         Ok(()) => Ok(Made::Done(Answer::Count(making.window.count))),
-        Err(_) => Err(Cause::OutOfMemory),
+        Err(_) => Err(Unmade::OutOfMemory),
     }
 }
 

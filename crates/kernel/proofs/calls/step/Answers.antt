@@ -1,35 +1,66 @@
 -- An event that was made is a step, and so is one that was refused; each keeps a machine well formed.
-use Rattle.std.proofs.Common.{sym, subst}
+use Rattle.std.proofs.Common.{◌∙◌, sym, subst}
 use Rattle.base.specs.declared.refusal.Refusal.{Refusal}
 use Rattle.machine.specs.declared.call.Outcome.{Outcome}
 use Rattle.machine.specs.declared.call.Outcome.TheVariants.{Refused}
-use Rattle.machine.specs.Step.{Step, made_by, takes_memory}
+use Rattle.machine.specs.Step.{Step}
 use Rattle.machine.proofs.Steps.{made_steps}
-use Rattle.kernel.proofs.Makings.{made_is, refused_is}
+use Rattle.kernel.proofs.Makings.{refused_by_row, unmade_is}
 use Rattle.kernel.proofs.calls.step.Goals as goal
+
+-- with memory
 
 pub returns-in-Ok-clause-stepped : goal.returns-in-Ok-clause-stepped
 returns-in-Ok-clause-stepped c =
     let m = c.args.state.now in
-    let event = c.args.event in
-    subst (λ (outcome : Outcome). Step m event outcome c.make.new.state) (sym c.from.ensures)
-    (made_steps m event c.in-Ok.made c.make.new.state
-    (made_is (takes_memory event.call) m c.make.new.state c.in-Ok.made (made_by m event) c.in-Ok.ensures))
+    let next = c.make_with_memory.new.state in
+    subst (λ (outcome : Outcome). Step m c.args.event outcome next) (sym c.from.ensures)
+    (made_steps m c.args.event c.in-Ok.made next c.in-Ok.ensures)
 
 pub returns-in-Ok-clause-well_formed : goal.returns-in-Ok-clause-well_formed
 returns-in-Ok-clause-well_formed c =
-    let m = c.args.state.now in
-    c.steps_keep_machines_well_formed.ensures.step m c.args.event c.from.result c.make.new.state c.requires
+    c.steps_keep_machines_well_formed.ensures.step c.args.state.now c.args.event c.from.result c.make_with_memory.new.state c.requires
     (returns-in-Ok-clause-stepped c)
 
 pub returns-in-Err-clause-stepped : goal.returns-in-Err-clause-stepped
 returns-in-Err-clause-stepped c =
     let m = c.args.state.now in
-    subst (λ (refusal : Refusal). Step m c.args.event (Refused refusal) c.make.new.state) (sym c.from-in-Err.ensures)
-    (refused_is m c.make.new.state c.args.event c.in-Err.cause c.in-Err.ensures)
+    let next = c.make_with_memory.new.state in
+    subst (λ (refusal : Refusal). Step m c.args.event (Refused refusal) next) (sym c.from-in-Err.ensures)
+    (unmade_is m next c.args.event c.in-Err.unmade (sym c.takes_memory.ensures ∙ c.if-takes_memory.true) c.in-Err.ensures)
+
+pub returns-in-Err-clause-ends : goal.returns-in-Err-clause-ends
+returns-in-Err-clause-ends c =
+    c.calls_are_refused_by_conditions.ensures.step c.args.state.now c.args.event (Refused c.from-in-Err.result)
+    c.make_with_memory.new.state (returns-in-Err-clause-stepped c)
 
 pub returns-in-Err-clause-well_formed : goal.returns-in-Err-clause-well_formed
 returns-in-Err-clause-well_formed c =
+    c.steps_keep_machines_well_formed.ensures.step c.args.state.now c.args.event (Refused c.from-in-Err.result)
+    c.make_with_memory.new.state c.requires (returns-in-Err-clause-stepped c)
+
+-- without
+
+pub returns-in-Ok-make-clause-stepped : goal.returns-in-Ok-make-clause-stepped
+returns-in-Ok-make-clause-stepped c =
     let m = c.args.state.now in
-    c.steps_keep_machines_well_formed.ensures.step m c.args.event (Refused c.from-in-Err.result) c.make.new.state c.requires
-    (returns-in-Err-clause-stepped c)
+    let next = c.make.new.state in
+    subst (λ (outcome : Outcome). Step m c.args.event outcome next) (sym c.from-in-Ok-make.ensures)
+    (made_steps m c.args.event c.in-Ok-make.made next c.in-Ok-make.ensures)
+
+pub returns-in-Ok-make-clause-well_formed : goal.returns-in-Ok-make-clause-well_formed
+returns-in-Ok-make-clause-well_formed c =
+    c.steps_keep_machines_well_formed.ensures.step c.args.state.now c.args.event c.from-in-Ok-make.result c.make.new.state c.requires
+    (returns-in-Ok-make-clause-stepped c)
+
+pub returns-in-Err-make-clause-stepped : goal.returns-in-Err-make-clause-stepped
+returns-in-Err-make-clause-stepped c =
+    let m = c.args.state.now in
+    let next = c.make.new.state in
+    subst (λ (refusal : Refusal). Step m c.args.event (Refused refusal) next) (sym c.from-in-Err-make.ensures)
+    (refused_by_row m next c.args.event c.in-Err-make.cause c.in-Err-make.ensures)
+
+pub returns-in-Err-make-clause-ends : goal.returns-in-Err-make-clause-ends
+returns-in-Err-make-clause-ends c =
+    c.calls_are_refused_by_conditions.ensures.step c.args.state.now c.args.event (Refused c.from-in-Err-make.result) c.make.new.state
+    (returns-in-Err-make-clause-stepped c)

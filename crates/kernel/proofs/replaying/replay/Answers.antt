@@ -1,10 +1,11 @@
-use Rattle.std.proofs.Common.{◌≡◌, ◌+◌, ◌++◌, ◌∷◌, ◌∙◌, [], Bool, List, length, ap, refl, sym, subst, take}
+use Rattle.std.proofs.Common.{◌≡◌, ◌+◌, ◌++◌, ◌∷◌, ◌∙◌, [], Bool, List, length, ap, arith, refl, sym, subst, take}
+use Rattle.std.proofs.Math.Seq.{take-length}
 use Rattle.std.proofs.lemmas.List.{take_more}
 use Rattle.std.proofs.lemmas.Option.{slice_get_read}
 use Rattle.std.proofs.lemmas.Result.{err_from_is_err_and}
 use Rattle.machine.specs.Step.{Step}
-use Rattle.kernel.specs.Legal.{Entry, Follows, LacksMemoryIn}
-use Rattle.kernel.proofs.LegalLemmas.{led_further}
+use Rattle.kernel.specs.Legal.{Entry, Follows, LacksMemoryIn, Leads}
+use Rattle.kernel.proofs.LegalLemmas.{led_further, legal_ends}
 use Rattle.kernel.proofs.replaying.replay.Goals as goal
 
 -- the entry is no step from where those before it lead
@@ -52,3 +53,16 @@ returns-in_err-follow-clause-refused c =
     } in
     let p = err_from_is_err_and c.from_residual.result c.from_residual.ensures.1 in
     rw p.1 (p.2 ∙ told.0, lacks)
+
+-- how the entries end that are steps
+pub returns-then-not-branch-clause-ends : goal.returns-then-not-branch-clause-ends
+returns-then-not-branch-clause-ends c =
+    legal_ends c.args.state.now c.loop-index.state (take c.loop-index.index c.args.entries.now) c.loop-index.invariant.led
+
+pub returns-clause-ends : goal.returns-clause-ends
+returns-clause-ends c =
+    let entries : List Entry = c.args.entries.now in
+    let whole : take c.loop-index.index entries ≡ entries =
+    ap (λ n. take n entries) (omega (arith, c.loop-index-test.false, c.loop-index.auto.index-end)) ∙ take-length entries in
+    legal_ends c.args.state.now c.loop-index.state entries
+    (subst (λ (es : List Entry). Leads c.args.state.now es c.loop-index.state) whole c.loop-index.invariant.led)

@@ -1,6 +1,11 @@
-use Rattle.std.proofs.Common.{◌≡◌, ◌+◌, ◌∷◌, ◌++◌, [], ap, sym, ◌∙◌, append_assoc, take, length, arith}
+use Rattle.std.proofs.Common.{◌≡◌, ◌+◌, List, ◌∷◌, ◌++◌, [], ap, sym, subst, ◌∙◌, append_assoc, drop, take, length, arith}
+use Rattle.std.proofs.Math.Seq.{drop-append_seam, take-length}
+use Rattle.std.specs.List.{All, zip}
 use Rattle.std.proofs.lemmas.List.{take_more, length_push}
+use Rattle.machine.specs.declared.call.Event.{Event}
+use Rattle.machine.specs.declared.call.Outcome.{Outcome}
 use Rattle.machine.specs.Run.{Run}
+use Rattle.machine.proofs.Steps.{Ended}
 use Rattle.kernel.proofs.RunLemmas.{run_further}
 use Rattle.kernel.proofs.runs.run.Goals as goal
 
@@ -29,3 +34,16 @@ loop-event-preserved c = record {
   formed = c.step.ensures.well_formed;
   room = omega arith;
 }
+
+pub returns-clause-ends : goal.returns-clause-ends
+returns-clause-ends c =
+    let ran = c.loop-event.invariant.ran in
+    let events = c.args.events.now in
+    let whole : take c.loop-event.event-index events ≡ events =
+    ap (λ n. take n events) (omega (arith, c.loop-event-test.false, c.loop-event.auto.event-index-end)) ∙ take-length events in
+    let run : Run c.args.state.now events ran.0 c.loop-event.state =
+    subst (λ (es : List Event). Run c.args.state.now es ran.0 c.loop-event.state) whole ran.2 in
+    let made : drop (length c.args.outcomes.now.items) c.loop-event.outcomes.items ≡ ran.0 =
+    ap (drop (length c.args.outcomes.now.items)) ran.1 ∙ drop-append_seam c.args.outcomes.now.items ran.0 in
+    subst (λ (os : List Outcome). All Ended (zip events os)) (sym made)
+    (c.calls_are_refused_by_conditions.ensures.run c.args.state.now events ran.0 c.loop-event.state run)

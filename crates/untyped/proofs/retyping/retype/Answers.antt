@@ -1,9 +1,9 @@
 -- What was planned is made, and keeps the machine well formed.
-use Rattle.std.proofs.Common.{inl, sym}
+use Rattle.std.proofs.Common.{sym}
 use Rattle.untyped.proofs.retyping.retype.Goals as goal
 
 pub returns-in-Ok-clause-row : goal.returns-in-Ok-clause-row
-returns-in-Ok-clause-row c = rw c.in-Ok.ensures.ok (inl (sym (c.in_ok-making.ensures {u = tt}).row))
+returns-in-Ok-clause-row c = rw c.in-Ok.ensures.ok (sym (c.in_ok-making.ensures {u = tt}).row)
 
 pub returns-in-Ok-clause-well_formed : goal.returns-in-Ok-clause-well_formed
 returns-in-Ok-clause-well_formed c =
