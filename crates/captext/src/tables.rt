@@ -76,17 +76,22 @@ fn table_of(alloc: Global, text: &[u8]) -> Result<Table, Fault>
     while let Some(mut words) = lines.next_line() {
         if words.is(b"end") {
             return match grown(draft) {
-                Ok(table) => {
-                    lines.end()?;
-                    Ok(table)
-                }
+                Ok(table) => match lines.end() {
+                    Ok(()) => Ok(table),
+                    Err(fault) => {
+                        drop(table);
+                        Err(fault)
+                    }
+                },
                 Err(line) => Err(Fault::at(Wrong::Tree, line)),
             };
         }
         if let Err(error) = table_line(&mut draft, &mut words) {
+            drop(draft);
             return Err(lines.stopped(error));
         }
     }
+    drop(draft);
     Err(lines.after(Wrong::Syntax))
 }
 

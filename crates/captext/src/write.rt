@@ -7,6 +7,7 @@ ghost use Rattle.captext.specs.Spelling.{place_word};
 ghost use Rattle.captext.specs.Tables.{read_table_of};
 ghost use Rattle.captext.specs.TableText.{binding_words, cap_words, label_lines, object_lines, object_name, object_words, pair_words};
 ghost use Rattle.captext.specs.TableText.{place_in, table_lines, table_text};
+ghost use Rattle.machine.specs.KindWords.{object_kind_word};
 ghost use Rattle.machine.specs.Layout.{Layout};
 ghost use Rattle.table.specs.Rules.{kind_at};
 ghost use Rattle.words.specs.Text.{line_text, text_of};
@@ -193,6 +194,23 @@ impl fmt::Display for Place {
     }
 }
 
+/// The word that begins the line of an object of this kind.
+fn kind_name(kind: ObjectKind) -> &'static str
+    ensures { result.now ≡ object_kind_word kind }
+{
+    match kind {
+        ObjectKind::Untyped => "untyped",
+        ObjectKind::CNode => "cnode",
+        ObjectKind::Tcb => "tcb",
+        ObjectKind::Endpoint => "endpoint",
+        ObjectKind::Notification => "notification",
+        ObjectKind::Reply => "reply",
+        ObjectKind::Context => "context",
+        ObjectKind::Frame => "frame",
+        ObjectKind::Control => "control",
+    }
+}
+
 fn write_object(
     text: &mut String,
     table: &Table,
@@ -202,50 +220,38 @@ fn write_object(
     ensures { OnOk result (string_bytes text.new
         ≡ string_bytes text.old ++ line_text (object_words table.now (object_name table.now id) initial.now)) }
 {
+    let kind = kind_name(initial.object.kind());
     let name = object_name(table, id);
     let label = label_name(table, initial.label);
+    write!(text, "{kind} {name} {label}")?;
     match initial.object {
-        Object::Untyped(Untyped { base, bits, .. }) => {
-            writeln!(text, "untyped {name} {label} 0x{base:x} {bits}")
-        }
+        Object::Untyped(Untyped { base, bits, .. }) => writeln!(text, " 0x{base:x} {bits}"),
         Object::CNode(CNode { address, radix }) => {
             let radix = radix.bits();
-            writeln!(text, "cnode {name} {label} 0x{address:x} {radix}")
+            writeln!(text, " 0x{address:x} {radix}")
         }
         Object::Tcb(Tcb { address, state, .. }) => {
             let start = match state {
                 RunState::Ready => "ready",
                 _ => "inactive",
             };
-            writeln!(text, "tcb {name} {label} 0x{address:x} {start}")
+            writeln!(text, " 0x{address:x} {start}")
         }
-        Object::Endpoint(Endpoint { address }) => {
-            writeln!(text, "endpoint {name} {label} 0x{address:x}")
-        }
-        Object::Notification(Notification { address, .. }) => {
-            writeln!(text, "notification {name} {label} 0x{address:x}")
-        }
-        Object::Reply(Reply { address, .. }) => writeln!(
-            text,
-            "reply {name} {label} 0x{address:x}"
-        ),
+        Object::Endpoint(Endpoint { address })
+        | Object::Notification(Notification { address, .. })
+        | Object::Reply(Reply { address, .. })
+        | Object::Frame(Frame { address }) => writeln!(text, " 0x{address:x}"),
         Object::Context(Context { address, share, .. }) => match share {
-            None => writeln!(text, "context {name} {label} 0x{address:x} -"),
+            None => writeln!(text, " 0x{address:x} -"),
             Some(
                 Share {
                     core,
                     budget,
                     period,
                 },
-            ) => {
-                writeln!(
-                    text,
-                    "context {name} {label} 0x{address:x} {core} {budget} {period}"
-                )
-            }
+            ) => writeln!(text, " 0x{address:x} {core} {budget} {period}"),
         },
-        Object::Frame(Frame { address }) => writeln!(text, "frame {name} {label} 0x{address:x}"),
-        Object::Control(Control { core }) => writeln!(text, "control {name} {label} {core}"),
+        Object::Control(Control { core }) => writeln!(text, " {core}"),
     }
 }
 
@@ -256,24 +262,15 @@ impl Line for Filled {
         let holder = object_name(table, self.slot.holder);
         let place = place_in(table, self.slot);
         let object = object_name(table, self.cap.object);
+        write!(text, "cap {holder}.{place} {object}")?;
         match self.cap.detail {
-            Detail::CNode(guard) => {
-                writeln!(
-                    text,
-                    "cap {holder}.{place} {object} {} 0x{:x}",
-                    guard.size, guard.value
-                )
-            }
+            Detail::CNode(guard) => writeln!(text, " {} 0x{:x}", guard.size, guard.value),
             Detail::Endpoint(end) | Detail::Notification(end) => {
-                writeln!(
-                    text,
-                    "cap {holder}.{place} {object} {} {}",
-                    end.rights, end.badge
-                )
+                writeln!(text, " {} {}", end.rights, end.badge)
             }
-            Detail::Frame(rights) => writeln!(text, "cap {holder}.{place} {object} {rights}"),
+            Detail::Frame(rights) => writeln!(text, " {rights}"),
             Detail::Untyped | Detail::Tcb | Detail::Reply | Detail::Context | Detail::Control => {
-                writeln!(text, "cap {holder}.{place} {object}")
+                writeln!(text)
             }
         }
     }

@@ -13,6 +13,3 @@ pub use asked::{an_asked_edge_is_missing, asked_edge};
 pub use closing::explain_closing;
 pub use denials::{explain_denial, explain_outside};
 pub use faults::{Text, explain_fault};
-
-#[cfg(test)]
-mod tests;

@@ -148,8 +148,21 @@ pub(crate) fn load<C: Command, T: Source, P: Source, S: Source, L: Listener>(
     ensures unread { unread_of result ≡ first_failed C.third_file (T.failed table.new) (P.failed policy.new) (S.failed third.new) }
 {
     let table = load_table(alloc, table, listener)?;
-    let policy = load_policy(alloc, &table, policy, listener)?;
-    let third = load_third::<C, S, L>(alloc, &table, third, listener)?;
+    let policy = match load_policy(alloc, &table, policy, listener) {
+        Ok(policy) => policy,
+        Err(stop) => {
+            drop(table);
+            return Err(stop);
+        }
+    };
+    let third = match load_third::<C, S, L>(alloc, &table, third, listener) {
+        Ok(third) => third,
+        Err(stop) => {
+            drop(policy);
+            drop(table);
+            return Err(stop);
+        }
+    };
     Ok(Loaded {
         table,
         policy,

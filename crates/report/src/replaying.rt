@@ -1,6 +1,8 @@
 ghost use Rattle.std.specs.Prelude.{◌≡◌, ◌≤◌, List, false, IfOk};
 ghost use Rattle.evtext.specs.Log.{read_log_of};
 ghost use Rattle.kernel.specs.Legal.{Entry};
+ghost use Rattle.machine.specs.Boot.{IsBoot};
+ghost use Rattle.machine.specs.WellFormed.{IsWellFormed};
 ghost use Rattle.report.specs.Answers as answers;
 ghost use Rattle.report.specs.Commands.{input, output};
 ghost use Rattle.report.specs.Replays as replays;
@@ -16,6 +18,7 @@ use captext::Fault;
 use evtext::read_log;
 use kernel::boot;
 use machine::{Event, Log, Outcome};
+use objects::State;
 use policy::Policy;
 use std::alloc::Global;
 use table::Table;
@@ -100,21 +103,37 @@ fn replayed(
     ensures exit { IfOk result (λ answer. answer.status ≤ 2) }
 {
     let mut state = boot(alloc, table)?;
-    if let Some(at) = kernel::replay(&mut state, entries)? {
+    replayed_from(alloc, table, policy, entries, &mut state)
+}
+
+/// The answer to a log that is replayed from the table's boot state, which it brings to where it stops.
+fn replayed_from(
+    alloc: Global,
+    table: &Table,
+    policy: &Policy,
+    entries: &[(Event, Outcome)],
+    state: &mut State,
+) -> Result<Answer, NoMemory>
+    requires boot { IsBoot table.now state.old }
+    requires well_formed { IsWellFormed state.old }
+    ensures right { IfOk result (λ answer. replays.Replays table.now policy.now entries.now answer.text.items answer.status) }
+    ensures exit { IfOk result (λ answer. answer.status ≤ 2) }
+{
+    if let Some(at) = kernel::replay(state, entries)? {
         return Ok(Answer {
             text: illegal_report(alloc, at + 1)?,
             status: 1,
             finding: Some(Finding::Illegal(at + 1)),
         });
     }
-    match outside(table, policy, &state) {
+    match outside(table, policy, state) {
         None => Ok(Answer {
             text: within_report(alloc, entries.len())?,
             status: 0,
             finding: None,
         }),
         Some(denial) => {
-            let place = place_names(alloc, table, &state, &denial)?;
+            let place = place_names(alloc, table, &*state, &denial)?;
             Ok(Answer {
                 text: outside_report(alloc, entries.len(), denial.rule(), &place)?,
                 status: 1,

@@ -1,5 +1,5 @@
 //! Commands whose devices fail, and checks by several workers: what no text can say, so that it isn't among
-//! the `cases`. Tests alone.
+//! the `cases`; and words to a person. Tests alone.
 #![tactic(auto)]
 
 #[cfg(test)]
@@ -8,5 +8,7 @@ mod ends;
 mod failing;
 #[cfg(test)]
 mod gate;
+#[cfg(test)]
+mod sentences;
 #[cfg(test)]
 mod session;

@@ -7,7 +7,7 @@ use Rattle.words.specs.Text.{Progress, words_of}
 use Rattle.words.specs.declared.faults.Fault.{Fault}
 use Rattle.words.specs.declared.faults.Wrong.TheVariants.{Syntax, Tree}
 use Rattle.words.specs.Fault.{fault_at}
-use Rattle.words.proofs.ReadingLaws.{begins, ends_followed, ends_misjudged, no_beginning, no_more, stops_by}
+use Rattle.words.proofs.ReadingLaws.{begins, ends_followed, ends_judged, ends_misjudged, no_beginning, no_more, stops_by}
 use Rattle.captext.specs.Tables.{grown, table_line, read_table_of}
 use Rattle.captext.proofs.tables.table_of.Goals as goal
 
@@ -24,12 +24,17 @@ returns-in_err-header c =
     let p = err_from_is_err_and c.from_residual.result c.from_residual.ensures.1 in
     rw (p.1, p.2) (λ _. no_beginning _ table_line (judged grown) empty_layout _ _ (sym starts ∙ c.in_err-header.ensures.exact))
 
-pub returns-in_err-end-in-Ok : goal.returns-in_err-end-in-Ok
-returns-in_err-end-in-Ok c =
+pub returns-in-Ok-end : goal.returns-in-Ok-end
+returns-in-Ok-end c =
     let taken = c.in-Some.ensures in
-    let p = err_from_is_err_and c.from_residual-in_err-end-in-Ok.result c.from_residual-in_err-end-in-Ok.ensures.1 in
-    rw (p.1, p.2) (λ _. ends_followed table_line grown c.loop-words.lines c.next_line.new.self c.loop-words.draft _ c.in-Some.words _ _
-    c.loop-words.invariant taken.0 taken.1 (sym c.is.ensures ∙ c.if-is.true) c.in-Ok.ensures (sym c.in_err-end-in-Ok.ensures))
+    ends_judged table_line grown c.loop-words.lines c.next_line.new.self c.loop-words.draft _ c.in-Some.words _
+    c.loop-words.invariant taken.0 taken.1 (sym c.is.ensures ∙ c.if-is.true) c.in-Ok.ensures (sym c.in-Ok-end.ensures)
+
+pub returns-in-Err-end : goal.returns-in-Err-end
+returns-in-Err-end c _ =
+    let taken = c.in-Some.ensures in
+    ends_followed table_line grown c.loop-words.lines c.next_line.new.self c.loop-words.draft _ c.in-Some.words _ _
+    c.loop-words.invariant taken.0 taken.1 (sym c.is.ensures ∙ c.if-is.true) c.in-Ok.ensures (sym c.in-Err-end.ensures)
 
 pub returns-in-Err : goal.returns-in-Err
 returns-in-Err c _ =

@@ -4,25 +4,25 @@ use Rattle.report.specs.Places.{place_names_by}
 use Rattle.report.specs.Replays.{illegal, outside, within}
 use Rattle.report.specs.Reports.{line_of, outside_data}
 use Rattle.verdict.specs.Verdict.{rule_name}
-use Rattle.report.proofs.replaying.replayed.Goals as goal
+use Rattle.report.proofs.replaying.replayed_from.Goals as goal
 
 pub returns-in-Some-clause-right : goal.returns-in-Some-clause-right
 returns-in-Some-clause-right c =
-    illegal c.in_ok-state.state c.in-Some.at c.in_ok-state.ensures.booted (rw c.in-Some.is at c.in_ok-at.ensures.found)
+    illegal c.args.state.now c.in-Some.at c.requires.boot (rw c.in-Some.is at c.in_ok-at.ensures.found)
     c.in_ok-illegal_report.ensures refl
 
-pub returns-in-None-clause-right : goal.returns-in-None-clause-right
-returns-in-None-clause-right c =
-    within c.replay.new.state (c.in_ok-state.state, c.in_ok-state.ensures.booted, rw c.in_default.is at c.in_ok-at.ensures.found)
+pub returns-in_ok-within_report-in-None-clause-right : goal.returns-in_ok-within_report-in-None-clause-right
+returns-in_ok-within_report-in-None-clause-right c =
+    within c.replay.new.state (c.args.state.now, c.requires.boot, rw c.in_default.is at c.in_ok-at.ensures.found)
     c.in-None.ensures.within c.in_ok-within_report-in-None.ensures refl
 
-pub returns-clause-right : goal.returns-clause-right
-returns-clause-right c =
+pub returns-in_ok-outside_report-in-Some-outside-clause-right : goal.returns-in_ok-outside_report-in-Some-outside-clause-right
+returns-in_ok-outside_report-in-Some-outside-clause-right c =
     let denial = c.in-Some-outside.denial in
     let names : map string_bytes c.deref.result.now ≡ place_names_by (kind_of c.replay.new.state) c.args.table.now denial =
     ap (map string_bytes) c.deref.ensures.value ∙ c.in_ok-place-in-Some-outside.ensures in
     outside c.replay.new.state denial
-    (c.in_ok-state.state, c.in_ok-state.ensures.booted, rw c.in_default.is at c.in_ok-at.ensures.found)
+    (c.args.state.now, c.requires.boot, rw c.in_default.is at c.in_ok-at.ensures.found)
     c.in-Some-outside.ensures.first
     (c.in_ok-outside_report-in-Some-outside.ensures
     ∙ ap (λ (rule : List ℕ). line_of (outside_data (length c.args.entries.now) rule (map string_bytes c.deref.result.now))) c.rule.ensures

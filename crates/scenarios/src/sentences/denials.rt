@@ -1,6 +1,6 @@
 use super::table;
-use crate::{explain_denial, explain_outside};
 use base::{Kind, Label, ObjId, SlotRef};
+use explain::{explain_denial, explain_outside};
 use policy::Broken;
 use std::process::Abort;
 use std::test::Fail;
@@ -181,22 +181,45 @@ fn are_told<R: Abort + AllocGlobal>(rt: &R, table: &Table, rows: &[Row]) -> Resu
     Ok(())
 }
 
+/// Asserts that each denial by a rule of policies and of tables has its words.
+fn are_denials_told<R: Abort + AllocGlobal>(
+    rt: &R,
+    table: &Table,
+    app: Label,
+    bell: Label,
+) -> Result<(), Fail> {
+    are_told(rt, table, &by_policy(app, bell))?;
+    are_told(rt, table, &by_table(app, bell))
+}
+
+/// Asserts that each of what lies outside has its words.
+fn are_told_outside<R: Abort + AllocGlobal>(
+    rt: &R,
+    table: &Table,
+    rows: &[Row],
+) -> Result<(), Fail> {
+    for row in rows {
+        let sentence = explain_outside(rt.alloc(), table, &row.denial)?;
+        assert_eq!(rt; sentence.as_str(), row.sentence);
+    }
+    Ok(())
+}
+
 #[test]
 fn tells_why_a_system_is_denied(rt: HostRuntime) -> Result<(), Fail> {
     let app = Label::new(0).ok_or("a label")?;
     let bell = Label::new(1).ok_or("a label")?;
     let table = table(rt.alloc())?;
-    are_told(&rt, &table, &by_policy(app, bell))?;
-    are_told(&rt, &table, &by_table(app, bell))
+    let told = are_denials_told(&rt, &table, app, bell);
+    drop(table);
+    told
 }
 
 #[test]
 fn tells_where_a_log_ends_outside(rt: HostRuntime) -> Result<(), Fail> {
     let bell = Label::new(1).ok_or("a label")?;
     let table = table(rt.alloc())?;
-    for row in &after_a_log(bell) {
-        let sentence = explain_outside(rt.alloc(), &table, &row.denial)?;
-        assert_eq!(rt; sentence.as_str(), row.sentence);
-    }
-    Ok(())
+    let told = are_told_outside(&rt, &table, &after_a_log(bell));
+    drop(table);
+    told
 }

@@ -1,4 +1,4 @@
-//! The sentences, as a reader of the documents wants them.
+//! The sentences of `explain`, as a reader of the documents wants them.
 mod denials;
 mod faults;
 

@@ -1,6 +1,6 @@
 use super::table;
-use crate::{Text, explain_fault};
 use captext::{Fault, read_policy, read_table};
+use explain::{Text, explain_fault};
 use std::alloc::Global;
 use std::process::Abort;
 use std::test::Fail;
@@ -334,6 +334,13 @@ fn policy_fault(alloc: Global, table: &Table, text: &str) -> Option<Fault> {
     read_policy(alloc, text.as_bytes(), table).err()
 }
 
+/// Asserts that each text of a policy has its fault.
+fn are_policies_faulty<R: Abort + AllocGlobal>(rt: &R, table: &Table, rows: &[Row]) {
+    for row in rows {
+        assert_eq!(rt; policy_fault(rt.alloc(), table, row.text), Some(row.fault));
+    }
+}
+
 #[test]
 fn tells_what_a_table_should_have(rt: HostRuntime) -> Result<(), Fail> {
     for row in &TABLES {
@@ -345,9 +352,8 @@ fn tells_what_a_table_should_have(rt: HostRuntime) -> Result<(), Fail> {
 #[test]
 fn tells_what_a_policy_should_have(rt: HostRuntime) -> Result<(), Fail> {
     let table = table(rt.alloc())?;
-    for row in &POLICIES {
-        assert_eq!(rt; policy_fault(rt.alloc(), &table, row.text), Some(row.fault));
-    }
+    are_policies_faulty(&rt, &table, &POLICIES);
+    drop(table);
     are_told(&rt, Text::Policy, "p", &POLICIES)
 }
 
