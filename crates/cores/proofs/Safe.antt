@@ -1,0 +1,39 @@
+-- On a legal history each state is one that is reached.
+use Rattle.std.proofs.Common.{ℕ, List}
+use Rattle.std.specs.Prelude.{map}
+use Rattle.machine.specs.Boot.{IsBoot}
+use Rattle.machine.specs.Layout.{Layout}
+use Rattle.machine.specs.Machine.{Machine}
+use Rattle.kernel.specs.Legal.{Entry, Leads}
+use Rattle.policy.specs.Policy.{allows}
+use Rattle.verdict.specs.Safe.{IsReached}
+use Rattle.verdict.specs.System.{IsAcceptedSystem, System}
+use Rattle.cores.specs.declared.view.Noted.{Noted}
+use Rattle.cores.specs.History.{IsLegal, log_of}
+use Rattle.cores.specs.Safety.{IsSafeHistory}
+
+reached :
+    (t : Layout) (boot : Machine) (before : List Noted) (m : Machine) → IsBoot t boot → Leads boot (log_of before) m → IsReached t m
+reached t boot before m booted led =
+    record {
+      boot = boot;
+      booted = booted;
+      events = map (λ (entry : Entry). entry.0) (log_of before);
+      outcomes = map (λ (entry : Entry). entry.1) (log_of before);
+      run = led;
+    }
+
+pub seen_is_safe :
+    (system : System) (boot : Machine) (cores : List ℕ) (history : List Noted) → IsAcceptedSystem system → IsBoot system.table boot
+    → IsLegal boot cores history → IsSafeHistory system.table (allows system.policy) boot history
+seen_is_safe system boot cores history accepted booted legal =
+    record {
+      labelled = λ before after m is led. accepted.safe.labelled m (reached system.table boot before m booted led);
+      confined = λ before after m is led. accepted.safe.confined m (reached system.table boot before m booted led);
+      integrity =
+          λ before after noted m next is led step.
+          accepted.safe.integrity m next noted.event noted.outcome (reached system.table boot before m booted led) step;
+      budgets =
+          λ before after noted m next is led step.
+          accepted.safe.budgets m next noted.event noted.outcome (reached system.table boot before m booted led) step;
+    }

@@ -1,0 +1,72 @@
+-- What the token of a seat knows.
+use Rattle.std.proofs.Common.{◌≡◌, ◌∙◌, ◌+◌, ◌<◌, ◌⊎◌, inl, inr, ℕ, List, [], ◌∷◌, ◌++◌, Some, length, slice_index_or, arith, refl, sym, ap, subst}
+use Rattle.std.specs.Prelude.{All, slice_get}
+use Rattle.std.proofs.Math.ListN.{get_or-append}
+use Rattle.std.proofs.Math.Seq.{get_or-append_seam}
+use Rattle.std.proofs.lemmas.Bool.{cases_order}
+use Rattle.std.proofs.lemmas.List.{length_push}
+use Rattle.std.proofs.lemmas.Option.{get_or_from_slice_get, same_Some, slice_get-get_or, slice_get_read}
+use Rattle.std.proofs.lemmas.List.Elements.{All-nil}
+use Rattle.machine.specs.Machine.{Machine}
+use Rattle.cores.specs.declared.view.Noted.{Noted}
+use Rattle.cores.specs.declared.view.About.{About}
+use Rattle.cores.specs.declared.view.View.{View}
+use Rattle.cores.specs.History.{IsLegal}
+use Rattle.cores.specs.Moves.{newcomer}
+use Rattle.cores.specs.Rule.{about, keeper_view}
+use Rattle.cores.specs.Seats.{AreNew, IsOf, IsSeated, Known, Ticket, new_seat}
+use Rattle.cores.specs.Tokens.{Token}
+
+-- no entry is a run of no event
+pub none_legal : (boot : Machine) (cores : List ℕ) → IsLegal boot cores []
+none_legal boot cores =
+    record { last = boot; run = refl; on_cores = All-nil (λ (n : Noted). slice_get cores n.seat ≡ Some n.event.core) }
+
+-- a seat that was just dealt
+pub dealt_seated : (token : Token) (start : About) (number core : ℕ) (keeper : View)
+    → keeper ≡ keeper_view start (record { history = []; next = number }) → token.me ≡ (newcomer keeper, [])
+    → slice_get start.cores number ≡ Some core → IsSeated token number core
+dealt_seated token start number core keeper is me on_core =
+    record {
+      start = start;
+      hand = record { number = number; seen = []; mine = [] };
+      me = me ∙ ap (λ (view : View). (newcomer view, [])) is;
+      numbered = refl;
+      on_core = on_core;
+      legal = none_legal start.boot start.cores;
+      exact = refl;
+    }
+
+-- a list of one for each core, once there is one more
+pub each_more :
+    {A : Type 0} (xs : List A) (y : A) (n : ℕ) (cores : List ℕ) (seat : ℕ → ℕ → A) (core : ℕ) → length xs ≡ n
+    → slice_get cores n ≡ Some core → y ≡ seat n core
+    → ((i c : ℕ) → i < n → slice_get cores i ≡ Some c → slice_get xs i ≡ Some (seat i c))
+    → (i c : ℕ) → i < n + 1 → slice_get cores i ≡ Some c → slice_get (xs ++ y ∷ []) i ≡ Some (seat i c)
+each_more xs y n cores seat core count here is each i c below at = by (cases_order i n) where
+  longer : length (xs ++ y ∷ []) ≡ length xs + 1
+  longer = length_push xs y
+
+  by : (i ≡ n) ⊎ ((i < n) ⊎ (n < i)) → slice_get (xs ++ y ∷ []) i ≡ Some (seat i c)
+  by (inl same) =
+      let same_core : c ≡ core = same_Some c core (sym at ∙ ap (slice_get cores) same ∙ here) in
+      let read : y ≡ slice_index_or (xs ++ y ∷ []) (length xs) y = sym (get_or-append_seam xs y [] y) in
+      let found : slice_get (xs ++ y ∷ []) (length xs) ≡ Some y =
+      slice_get_read (xs ++ y ∷ []) (length (xs ++ y ∷ [])) (length xs) y refl (omega (arith, longer)) read in
+      ap (slice_get (xs ++ y ∷ [])) (same ∙ sym count) ∙ found ∙ ap Some (is ∙ ap (λ k. seat k core) (sym same) ∙ ap (seat i) (sym same_core))
+  by (inr (inl before)) =
+      let old = each i c before at in
+      let inside : i < length xs = omega (arith, before, count) in
+      let read : seat i c ≡ slice_index_or (xs ++ y ∷ []) i (seat i c) =
+      sym (get_or-append xs (y ∷ []) (seat i c) i inside ∙ get_or_from_slice_get xs i (seat i c) (seat i c) old) in
+      slice_get_read (xs ++ y ∷ []) (length (xs ++ y ∷ [])) i (seat i c) refl (omega (arith, longer, inside)) read
+  by (inr (inr after)) = absurd (omega (arith, after, below))
+
+-- new seats are the kernel's
+pub new_are_of : (t : Ticket) (seats : List Known) → AreNew t seats → All (IsOf t) seats
+new_are_of t seats new k d below =
+    let core = slice_index_or t.cores k 0 in
+    let at : slice_get t.cores k ≡ Some core = slice_get-get_or t.cores k 0 (omega (arith, below, new.count)) in
+    let is : slice_index_or seats k d ≡ new_seat t.table (about t.boot t.cores) t.name k core =
+    get_or_from_slice_get seats k (new_seat t.table (about t.boot t.cores) t.name k core) d (new.each k core at) in
+    subst (IsOf t) (sym is) (record { table = refl; start = refl; name = refl })

@@ -1,0 +1,9 @@
+use Rattle.std.proofs.Common.{rules}
+use Rattle.cores.proofs.Keeps.{visits, hosts}
+use Rattle.cores.proofs.steps.visit.Goals as goal
+
+pub split_seat-guest-requires : goal.split_seat-guest-requires
+split_seat-guest-requires c = (search rules, search rules, visits _ _ _ _)
+
+pub join_seat-requires : goal.join_seat-requires
+join_seat-requires c = (search rules, search rules, search rules, search rules, hosts _ _ _ _ _ _)

@@ -1,0 +1,6 @@
+pub mod History
+pub mod Rule
+pub mod Moves
+pub mod Tokens
+pub mod Seats
+pub mod Safety

@@ -1,0 +1,31 @@
+-- A history that stays within a policy, state by state and step by step ('seL4 Enforces Integrity', sections 4 and 5, authority confinement
+-- and integrity, of a history in place of a run).
+use Rattle.std.specs.Prelude.{◌≡◌, ℕ, List, ◌∷◌, ◌++◌, Some}
+use Rattle.base.specs.declared.ids.ObjId.{ObjId}
+use Rattle.machine.specs.declared.object.Object.{Object}
+use Rattle.machine.specs.Authority.{label_of}
+use Rattle.machine.specs.Layout.{Layout}
+use Rattle.machine.specs.Machine.{Machine, object_of}
+use Rattle.machine.specs.Step.{Step}
+use Rattle.kernel.specs.Legal.{Leads}
+use Rattle.policy.specs.Domain.{EdgeTest}
+use Rattle.verdict.specs.Allowed.{IsAllowedStep}
+use Rattle.verdict.specs.Budgets.{KeepsBudgets}
+use Rattle.verdict.specs.Confined.{IsConfined}
+use Rattle.cores.specs.declared.view.Noted.{Noted}
+use Rattle.cores.specs.History.{log_of}
+
+-- each state on it, after any of its beginnings, is confined, and its objects have labels; each step on it is allowed, and keeps the
+-- budgets
+pub record IsSafeHistory (t : Layout) (allowed : EdgeTest) (boot : Machine) (history : List Noted) : Type 0 where
+  pub labelled :
+      (before after : List Noted) (m : Machine) → history ≡ before ++ after → Leads boot (log_of before) m
+      → (id : ObjId) (object : Object) → object_of m id ≡ Some object → (label : ℕ) × (label_of t m id ≡ Some label)
+  pub confined :
+      (before after : List Noted) (m : Machine) → history ≡ before ++ after → Leads boot (log_of before) m → IsConfined t allowed m
+  pub integrity :
+      (before after : List Noted) (noted : Noted) (m next : Machine) → history ≡ before ++ noted ∷ after
+      → Leads boot (log_of before) m → Step m noted.event noted.outcome next → IsAllowedStep t allowed m noted.event next
+  pub budgets :
+      (before after : List Noted) (noted : Noted) (m next : Machine) → history ≡ before ++ noted ∷ after
+      → Leads boot (log_of before) m → Step m noted.event noted.outcome next → KeepsBudgets t allowed m noted.event next

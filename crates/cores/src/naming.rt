@@ -1,0 +1,17 @@
+//! Which kernel it is, told to the types that have to agree on it.
+
+use std::marker::Brand;
+
+/// Which kernel a [`Kernel`](crate::Kernel) is. Nothing is known of what lies under a lock but what its type tells, so the
+/// kernel's type names it. Each call of a program's generic function picks it.
+pub trait Naming {
+    ghost use Rattle.cores.specs.Seats.{Ticket};
+
+    ghost ticket: { Ticket };
+}
+
+impl Naming for Brand {
+    ghost use Rattle.cores.specs.Seats.{no_ticket};
+
+    ghost ticket = { no_ticket };
+}

@@ -1,0 +1,21 @@
+//! What the headline says of all that seats have seen.
+ghost use Rattle.std.specs.Prelude.{ℕ, List};
+ghost use Rattle.cores.specs.History.{IsLegal};
+ghost use Rattle.cores.specs.Safety.{IsSafeHistory};
+ghost use Rattle.cores.specs.declared.view.Noted.{Noted as Entered};
+ghost use Rattle.machine.specs.Boot.{IsBoot};
+ghost use Rattle.machine.specs.Machine.{Machine};
+ghost use Rattle.policy.specs.Policy.{allows};
+ghost use Rattle.verdict.specs.System.{IsAcceptedSystem, System};
+
+/// A law: on a legal history from the boot state of an accepted system each state is confined, each object in it has a label, and
+/// each step is allowed and keeps the budgets.
+///
+/// So it is of all that a seat has seen, and of all that a kernel's log tells.
+pub fn seen_histories_are_safe()
+    ensures { (system : System) (boot : Machine) (cores : List ℕ) (history : List Entered)
+        → IsAcceptedSystem system
+        → IsBoot system.table boot
+        → IsLegal boot cores history
+        → IsSafeHistory system.table (allows system.policy) boot history }
+{}

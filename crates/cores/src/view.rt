@@ -1,0 +1,48 @@
+//! What a seat knows of the history. No value of these types but `Noted` is made: they say what proofs remember.
+
+use base::CoreNo;
+use machine::{Event, Outcome};
+use objects::State;
+use std::collections::LinkedList;
+
+/// One entry of the history.
+#[derive(Clone, Copy, PartialEq, Eq, Debug)]
+pub struct Noted {
+    /// The number of the seat that made it.
+    pub seat: u64,
+    pub event: Event,
+    pub outcome: Outcome,
+}
+
+/// What a kernel was opened with. It never changes, and every seat knows it.
+pub struct About {
+    /// The state before the first entry.
+    pub boot: State,
+    /// The core of each seat, by the seat's number.
+    pub cores: LinkedList<CoreNo>,
+}
+
+/// What the keeper knows, the one seat that adds to the history.
+pub struct Keeping {
+    pub history: LinkedList<Noted>,
+    /// Seats from this number on have not been dealt.
+    pub next: u64,
+}
+
+/// What a caller's seat knows of the history.
+pub struct Hand {
+    pub number: u64,
+    /// The beginning of the history that it has seen.
+    pub seen: LinkedList<Noted>,
+    /// Its own entries.
+    pub mine: LinkedList<Noted>,
+}
+
+/// What a seat of the board knows: the keeper keeps the history, a caller's has a hand, and a seat that is visited has the
+/// visitor's hand as its guest.
+pub struct View {
+    pub about: Option<About>,
+    pub kept: Option<Keeping>,
+    pub hand: Option<Hand>,
+    pub guest: Option<Hand>,
+}
