@@ -1,0 +1,3 @@
+pub mod OneCore
+pub mod Counting
+pub mod AllCores

@@ -1,0 +1,2 @@
+pub mod SplitRun
+pub mod Workers
