@@ -6,11 +6,11 @@
 - one that begins with `confine-log 1` is the log of its events on these files, and legal; after `<!-- log: not run -->`, it is the log
   alone that `replay` is asked about;
 - one that begins with `confine-cert 1` is what `check --cert` prints of them, and the certificate from here on;
-- one that begins with `{"` is the report on them, with the change that `<!-- change: .. -->` tells;
+- one that begins with `{"` is the report on them, with the change that `<!-- change: .. -->` tells; it may go over several lines;
 - one that begins with `full`, `cut` or `none` is what `why` prints of the labels that `<!-- why: A B -->` tells, and one that
   begins with `edge` what `close --missing` does, with that change;
 - a row of a table whose last cell is a report, or 'accepted', is the answer to these files with the
-  changes that the cells before it tell, as `X` becomes `Y`;
+  changes that the cells before it tell, as `X` becomes `Y`; a row whose last cell is empty is continued by the next;
 - one with numbered lines is the beginning of a file of the system;
 - one that begins with `denied by` is what `check --explain` says of them on standard error.
 
@@ -112,9 +112,11 @@ def parts_of(text):
 
 def examples_of(path):
     """Where each example stands, its files, and the answer that it shows."""
-    files, change, asked, alone = {}, "", [], False
+    files, change, asked, alone, begun = {}, "", [], False, []
     for number, form, text in parts_of(path.read_text()):
         where = f"{path.relative_to(TOP)}:{number}"
+        if text.startswith('{"'):
+            text = re.sub(r"\n *(?=.)", "", text)
         kind = (re.match(r" *(?:1  )?confine-(\w+) 1\n", text) or ["", ""])[1]
         if form == "system":
             files = {kind: (TOP / "examples" / text / kind).read_text() for kind in FILES}
@@ -149,8 +151,11 @@ def examples_of(path):
         elif form == "block" and text.startswith("denied by "):
             yield where, files, text
         elif form == "row":
-            *told, answer = [cell.strip() for cell in text.strip("|").split("|")]
-            if answer == "accepted" or re.match(r'`\{".*\}`$', answer):
+            *told, answer = [cell.strip() for cell in text.strip().removeprefix("|").removesuffix("|").split("|")]
+            told, begun = begun + told, []
+            if answer == "":
+                begun = told
+            elif answer == "accepted" or re.match(r'`\{".*\}`$', answer):
                 yield where, changed(files, " ".join(told), answer), answer.strip("`") + "\n"
 
 
