@@ -6,13 +6,18 @@
 - one that begins with `confine-log 1` is the log of its events on these files, and legal; after `<!-- log: not run -->`, it is the log
   alone that `replay` is asked about;
 - one that begins with `confine-cert 1` is what `check --cert` prints of them, and the certificate from here on;
-- one that begins with `{"` is the report on them, with the change that `<!-- change: .. -->` tells; it may go over several lines;
+- one that begins with `{"` is the report on them, with the change that `<!-- change: .. -->` tells;
 - one that begins with `full`, `cut` or `none` is what `why` prints of the labels that `<!-- why: A B -->` tells, and one that
-  begins with `edge` what `close --missing` does, with that change;
+  begins with `edge` what `close --missing` does, with that change; where the change ends with `closed`, it is asked by the policy that
+  `close` then prints;
+- one that begins with `confine-policy 1` after `<!-- close: of the table -->` is what `close` prints of the table alone;
 - a row of a table whose last cell is a report, or 'accepted', is the answer to these files with the
-  changes that the cells before it tell, as `X` becomes `Y`; a row whose last cell is empty is continued by the next;
+  changes that the cells before it tell, as `X` becomes `Y`; a row whose last cell is empty goes on in the next;
 - one with numbered lines is the beginning of a file of the system;
 - one that begins with `denied by` is what `check --explain` says of them on standard error.
+
+A report or a sentence that is too long for a line of the document goes on in the next, which begins with two spaces more; the sentence is
+broken where it has a space.
 
 A report with `full` is that of `check`; one that says no more than `accept`, the rule C1 and a fault of the
 certificate are those of `verify`; one with entries or an entry, and a fault of the log, are those of `replay`; all others
@@ -89,7 +94,7 @@ def changed(files, told, answer):
         files = with_line_replaced(files, old, [old, new])
     for old in re.findall(r"without `([^`]*)`", told):
         files = with_line_replaced(files, old, [])
-    return files
+    return files | {"closed": True} if told.endswith("closed") else files
 
 
 def parts_of(text):
@@ -104,19 +109,22 @@ def parts_of(text):
         if block:
             yield number - len(block), "block", "\n".join(block) + "\n"
             block = []
-        if comment := re.match(r"<!-- (system|labels|change|why|log): (.*) -->", line):
+        if comment := re.match(r"<!-- (system|labels|change|why|log|close): (.*) -->", line):
             yield number, comment[1], comment[2]
         elif line.startswith("| "):
             yield number, "row", line
 
 
+def in_one_line(text, between=""):
+    """A report or a sentence that was broken into lines."""
+    return between.join(line.strip() for line in text.split("\n")[:-1]) + "\n"
+
+
 def examples_of(path):
     """Where each example stands, its files, and the answer that it shows."""
-    files, change, asked, alone, begun = {}, "", [], False, []
+    files, change, asked, alone, closes, begun = {}, "", [], False, False, []
     for number, form, text in parts_of(path.read_text()):
         where = f"{path.relative_to(TOP)}:{number}"
-        if text.startswith('{"'):
-            text = re.sub(r"\n *(?=.)", "", text)
         kind = (re.match(r" *(?:1  )?confine-(\w+) 1\n", text) or ["", ""])[1]
         if form == "system":
             files = {kind: (TOP / "examples" / text / kind).read_text() for kind in FILES}
@@ -129,6 +137,8 @@ def examples_of(path):
             asked = text.split()
         elif form == "log":
             alone = True
+        elif form == "close":
+            closes = True
         elif form == "block" and re.match(r" *1  ", text):
             lines = re.sub(r"(?m)^ *\d+  (.*?)(   .*)?$", r"\1", text)
             if not files[{"cert": "certificate"}.get(kind, kind)].startswith(lines):
@@ -145,11 +155,15 @@ def examples_of(path):
             alone = False
         elif form == "block" and kind in FILES:
             files = files | {kind: text}
+            if closes:
+                yield where, files, text
+            closes = False
         elif form == "block" and re.match('{"|full\n|cut\n|none\n|edge ', text):
+            text = in_one_line(text) if text.startswith("{") else text
             yield where, changed(files, change, text) | {"asked": asked}, text
             change = ""
         elif form == "block" and text.startswith("denied by "):
-            yield where, files, text
+            yield where, files, in_one_line(text, " ")
         elif form == "row":
             *told, answer = [cell.strip() for cell in text.strip().removeprefix("|").removesuffix("|").split("|")]
             told, begun = begun + told, []
@@ -177,6 +191,8 @@ def commands_of(answer, asked):
         return [["check", "table", "policy", "--explain"]]
     if answer.startswith("edge "):
         return [["close", "table", "policy", "--missing"]]
+    if answer.startswith("confine-policy 1"):
+        return [["close", "table"]]
     if answer.startswith("confine-cert 1"):
         return [["check", "table", "policy", "--cert"]]
     if re.match('{"entr', answer) or '"file":"log"' in answer:
