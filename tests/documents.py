@@ -6,13 +6,13 @@
 - one that begins with `confine-log 1` is the log of its events on these files, and legal; after `<!-- log: not run -->`, it is the log
   alone that `replay` is asked about;
 - one that begins with `confine-cert 1` is what `check --cert` prints of them, and the certificate from here on;
-- one that begins with `{"` is the report on them, with the change that `<!-- change: .. -->` tells;
+- one that begins with `{"` is the report on them, with the change that `<!-- change: .. -->` tells, or several of these;
 - one that begins with `full`, `cut` or `none` is what `why` prints of the labels that `<!-- why: A B -->` tells, and one that
   begins with `edge` what `close --missing` does, with that change; where the change ends with `closed`, it is asked by the policy that
   `close` then prints;
 - one that begins with `confine-policy 1` after `<!-- close: of the table -->` is what `close` prints of the table alone;
 - a row of a table whose last cell is a report, or 'accepted', is the answer to these files with the
-  changes that the cells before it tell, as `X` becomes `Y`; a row whose last cell is empty goes on in the next;
+  changes that the cells before it tell, as `X` becomes `Y`;
 - one with numbered lines is the beginning of a file of the system;
 - one that begins with `denied by` is what `check --explain` says of them on standard error.
 
@@ -22,6 +22,8 @@ broken where it has a space.
 A report with `full` is that of `check`; one that says no more than `accept`, the rule C1 and a fault of the
 certificate are those of `verify`; one with entries or an entry, and a fault of the log, are those of `replay`; all others
 are those of `run`, and of `check` too.
+
+A row of a table whose last cell is empty goes on in the next row.
 """
 import pathlib
 import re
@@ -39,6 +41,17 @@ def text_of(file, lines):
 
 def of_label_a(objects):
     return text_of("table", ["label a", *objects])
+
+
+def lines_of(text):
+    """The lines of a document, each with its number, and one more, which is empty; a row that goes on is one with the next."""
+    begun = ""
+    for number, line in enumerate([*text.split("\n"), ""], 1):
+        if begun and line.startswith("| "):
+            line = begun + line.removeprefix("|")
+        begun = line.removesuffix(" |") if line.startswith("| ") and line.endswith("| |") else ""
+        if not begun:
+            yield number, line
 
 
 # Texts that are too long to be shown, by the words that stand for them.
@@ -100,7 +113,7 @@ def changed(files, told, answer):
 def parts_of(text):
     """The code blocks, rows of tables and comments of a document, each with its line."""
     block, fenced = [], False
-    for number, line in enumerate([*text.split("\n"), ""], 1):
+    for number, line in lines_of(text):
         if line.startswith("```"):
             fenced = not fenced
         elif fenced or line.startswith("    "):
@@ -122,7 +135,7 @@ def in_one_line(text, between=""):
 
 def examples_of(path):
     """Where each example stands, its files, and the answer that it shows."""
-    files, change, asked, alone, closes, begun = {}, "", [], False, False, []
+    files, change, asked, alone, closes = {}, "", [], False, False
     for number, form, text in parts_of(path.read_text()):
         where = f"{path.relative_to(TOP)}:{number}"
         kind = (re.match(r" *(?:1  )?confine-(\w+) 1\n", text) or ["", ""])[1]
@@ -132,7 +145,7 @@ def examples_of(path):
             files = {kind: text_of(kind, []) for kind in FILES}
             files["table"] = text_of("table", [f"label {label}" for label in text.split()])
         elif form == "change":
-            change = text
+            change = f"{change} {text}"
         elif form == "why":
             asked = text.split()
         elif form == "log":
@@ -165,11 +178,8 @@ def examples_of(path):
         elif form == "block" and text.startswith("denied by "):
             yield where, files, in_one_line(text, " ")
         elif form == "row":
-            *told, answer = [cell.strip() for cell in text.strip().removeprefix("|").removesuffix("|").split("|")]
-            told, begun = begun + told, []
-            if answer == "":
-                begun = told
-            elif answer == "accepted" or re.match(r'`\{".*\}`$', answer):
+            *told, answer = [cell.strip() for cell in text.strip("|").split("|")]
+            if answer == "accepted" or re.match(r'`\{".*\}`$', answer):
                 yield where, changed(files, " ".join(told), answer), answer.strip("`") + "\n"
 
 
