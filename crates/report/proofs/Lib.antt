@@ -1,6 +1,4 @@
-mod Names
 mod Loads
-mod LabelLists
 mod Answered
 mod ClosedLabels
 mod Missing

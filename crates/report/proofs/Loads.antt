@@ -5,8 +5,8 @@ use Rattle.captext.specs.Policies.{read_policy_of}
 use Rattle.captext.specs.Tables.{read_table_of}
 use Rattle.machine.specs.Layout.{Layout}
 use Rattle.report.specs.Files.{Contents, Gives, IsStopOf, LoadsAs, and_then, contents_of, faulty, read_then, unknown, whole}
-use Rattle.report.specs.declared.end.File.{File}
-use Rattle.report.specs.declared.end.File.TheVariants.{Table, Policy}
+use Rattle.reptext.specs.declared.file.File.{File}
+use Rattle.reptext.specs.declared.file.File.TheVariants.{Table, Policy}
 use Rattle.report.specs.declared.load.Loaded.{Loaded}
 use Rattle.report.specs.declared.load.Stop.{Stop}
 use Rattle.report.specs.declared.load.Stop.TheVariants as stop

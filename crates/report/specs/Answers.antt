@@ -10,25 +10,24 @@ use Rattle.certificate.specs.declared.line.Line.{Line}
 use Rattle.certificate.specs.declared.verifying.NotAccepted.TheVariants as not_accepted
 use Rattle.evtext.specs.Log.{log_text}
 use Rattle.evtext.specs.Script.{read_script_of}
+use Rattle.kernel.specs.Legal.{Entry}
 use Rattle.machine.specs.Boot.{IsBoot}
 use Rattle.machine.specs.Layout.{Layout}
 use Rattle.machine.specs.Machine.{Machine}
 use Rattle.machine.specs.Run.{Run}
 use Rattle.machine.specs.declared.call.Event.{Event}
 use Rattle.machine.specs.declared.call.Outcome.{Outcome}
-use Rattle.policy.specs.Cut.{IsCut}
-use Rattle.policy.specs.Full.{IsFull}
 use Rattle.policy.specs.Policy.{allows}
 use Rattle.report.specs.Commands.{Input, IsCarriedOut, Output}
-use Rattle.report.specs.Places.{place_names}
-use Rattle.report.specs.Relations.{Decides}
-use Rattle.report.specs.Reports.{accept_data, check_data, denial_report, line_of}
+use Rattle.reptext.specs.Places.{place_names}
+use Rattle.reptext.specs.Reports.{IsCheckReport, accept_data, denial_report, line_of}
 use Rattle.report.specs.declared.checking.OnAccept.{OnAccept}
 use Rattle.report.specs.declared.checking.OnAccept.TheVariants as on_accept
 use Rattle.report.specs.declared.end.Asked.{Asked}
 use Rattle.report.specs.declared.end.End.{End}
-use Rattle.report.specs.declared.end.File.TheVariants as file
+use Rattle.reptext.specs.declared.file.File.TheVariants as file
 use Rattle.report.specs.declared.load.NoFile.{NoFile}
+use Rattle.split.specs.SplitRun.{IsSplitRun}
 use Rattle.verdict.specs.Verdict.{IsAccepted, IsLeastBroken, rule_name}
 use Rattle.verdict.specs.declared.denial.Denial.{Denial}
 use Rattle.words.specs.declared.faults.Fault.{Fault}
@@ -53,13 +52,15 @@ pub record IsLogOfRun (t : Layout) (events : List Event) (text : List ℕ) : Typ
   pub ran : Run boot events outcomes last
   pub told : text ≡ log_text (zip events outcomes)
 
--- a text is the report of an acceptance, with each label's cut and full authority
-pub record IsCheckReport (t : Layout) (edges : List Edge) (text : List ℕ) : Type 0 where
-  pub cut : ℕ → ℕ → Bool
-  pub full : ℕ → ℕ → Bool
-  pub cuts : Decides t cut (IsCut (allows edges))
-  pub fulls : Decides t full (IsFull (allows edges))
-  pub told : text ≡ line_of (check_data t cut full)
+-- a text is the log of a run that is made of the events by several cores, from the boot state of the table: each core's events in
+-- their order
+pub record IsLogOfSplit (t : Layout) (events : List Event) (text : List ℕ) : Type 0 where
+  pub boot : Machine
+  pub last : Machine
+  pub log : List Entry
+  pub booted : IsBoot t boot
+  pub split : IsSplitRun boot events log last
+  pub told : text ≡ log_text log
 
 -- what is written of an acceptance: the report, or the table's certificate
 abbrev pub TellsCheck : OnAccept → Layout → List Edge → List ℕ → Type 0
@@ -79,6 +80,10 @@ Verifies t edges lines =
 -- the answer to a script for a table and a policy
 abbrev pub Runs : Layout → List Edge → List Event → List ℕ → ℕ → Type 0
 Runs t edges events = AnswersVerdict t edges (IsLogOfRun t events)
+
+-- the answer to a script that is split among the cores
+abbrev pub RunsSplit : Layout → List Edge → List Event → List ℕ → ℕ → Type 0
+RunsSplit t edges events = AnswersVerdict t edges (IsLogOfSplit t events)
 
 -- the third file of a command that has none: it is empty and can't fail, so that its name is never told
 abbrev pub no_file : Input NoFile
@@ -103,3 +108,7 @@ IsVerifiedWith = IsCarriedOut file.Certificate read_certificate_of no_label Veri
 -- a script was run on a table and a policy, where they are accepted
 abbrev pub IsRun : {T P S O : Type 0} → Input T → Input P → Input S → Output O → End → Type 0
 IsRun = IsCarriedOut file.Script (λ t. read_script_of) no_label Runs
+
+-- a script was run on a table and a policy, where they are accepted, by a worker for each core
+abbrev pub IsRunSplit : {T P S O : Type 0} → Input T → Input P → Input S → Output O → End → Type 0
+IsRunSplit = IsCarriedOut file.Script (λ t. read_script_of) no_label RunsSplit

@@ -17,7 +17,7 @@ use Rattle.report.specs.declared.closing.Known.{Known}
 use Rattle.report.specs.declared.closing.OnClose.{OnClose}
 use Rattle.report.specs.declared.closing.OnClose.TheVariants as on_close
 use Rattle.report.specs.declared.end.End.{End}
-use Rattle.report.specs.declared.end.File.TheVariants as file
+use Rattle.reptext.specs.declared.file.File.TheVariants as file
 use Rattle.verdict.specs.Verdict.{IsAccepted}
 
 -- these edges are the authority of the table's boot state

@@ -8,11 +8,11 @@ use Rattle.devices.specs.Devices.{AppendsBeginning}
 use Rattle.machine.specs.Layout.{Layout}
 use Rattle.report.specs.Ends.{IfCannotWrite, IfNoLabel, IfStatus, IfUnwritten, is_unwritable, status_of, unread_file}
 use Rattle.report.specs.Files.{Contents, contents_of, faulty, unknown, whole}
-use Rattle.report.specs.Reports.{fault_report}
+use Rattle.reptext.specs.Reports.{fault_report}
 use Rattle.report.specs.declared.end.Asked.{Asked}
 use Rattle.report.specs.declared.end.End.{End}
-use Rattle.report.specs.declared.end.File.{File}
-use Rattle.report.specs.declared.end.File.TheVariants.{Table, Policy}
+use Rattle.reptext.specs.declared.file.File.{File}
+use Rattle.reptext.specs.declared.file.File.TheVariants.{Table, Policy}
 use Rattle.words.specs.declared.faults.Fault.{Fault}
 
 -- a source, before and after a command: the bytes that it had left, where they are known, and whether it failed

@@ -1,19 +1,11 @@
 -- How the program ends: its exit status, what it says on standard error, and what an end tells of the devices and of what was written (confine's own).
 use Rattle.std.specs.Prelude.{ℕ, Bool, true, false, List, ◌++◌, codes, Option, Some, None}
-use Rattle.report.specs.declared.end.File.{File}
-use Rattle.report.specs.declared.end.File.TheVariants.{Table, Policy, Certificate, Script, Log}
+use Rattle.reptext.specs.declared.file.File.{File}
+use Rattle.reptext.specs.Reports.{file_word}
 use Rattle.report.specs.declared.end.Asked.{Asked}
 use Rattle.report.specs.declared.end.Asked.TheVariants.{Actor, Object}
 use Rattle.report.specs.declared.end.End.{End}
 use Rattle.report.specs.declared.end.End.TheVariants.{Status, NoMemory, CannotRead, NoLabel, CannotWrite}
-
--- the word for a file
-abbrev pub file_word : File → List ℕ
-file_word Table = codes "table"
-file_word Policy = codes "policy"
-file_word Certificate = codes "certificate"
-file_word Script = codes "script"
-file_word Log = codes "log"
 
 -- the line that says that a file couldn't be read
 abbrev pub unread_message : File → List ℕ

@@ -1,7 +1,4 @@
 pub mod Ends
-pub mod Places
-pub mod Reports
-pub mod Relations
 pub mod Files
 pub mod Commands
 pub mod Answers

@@ -13,7 +13,7 @@ use Rattle.report.specs.Commands.{Input, IsCarriedOut, Output}
 use Rattle.report.specs.declared.end.Asked.{Asked}
 use Rattle.report.specs.declared.end.Asked.TheVariants as asked
 use Rattle.report.specs.declared.end.End.{End}
-use Rattle.report.specs.declared.end.File.TheVariants as file
+use Rattle.reptext.specs.declared.file.File.TheVariants as file
 use Rattle.table.specs.Names.{label_named}
 
 -- of two labels that may be there, the first that isn't

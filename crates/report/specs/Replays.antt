@@ -10,10 +10,10 @@ use Rattle.machine.specs.WellFormed.{kind_of}
 use Rattle.policy.specs.Policy.{allows}
 use Rattle.report.specs.Answers.{no_label}
 use Rattle.report.specs.Commands.{Input, IsCarriedOut, Output}
-use Rattle.report.specs.Places.{place_names_by}
-use Rattle.report.specs.Reports.{illegal_data, line_of, outside_data, within_data}
+use Rattle.reptext.specs.Places.{place_names_by}
+use Rattle.reptext.specs.Reports.{illegal_data, line_of, outside_data, within_data}
 use Rattle.report.specs.declared.end.End.{End}
-use Rattle.report.specs.declared.end.File.TheVariants as file
+use Rattle.reptext.specs.declared.file.File.TheVariants as file
 use Rattle.verdict.specs.Confined.{IsConfined}
 use Rattle.verdict.specs.Rules.{Excess}
 use Rattle.verdict.specs.Verdict.{IsOutside, excess_of, rule_name}

@@ -4,12 +4,12 @@ ghost use Rattle.certificate.specs.Right.{right_certificate};
 ghost use Rattle.report.specs.Answers as answers;
 ghost use Rattle.report.specs.Commands.{input, output};
 
-use crate::command::{Answer, NoMemory, denial_text};
+use crate::command::{Answer, NoMemory, denied};
 use crate::question::{Question, answer_question};
-use crate::reports::check_report;
-use crate::{Asked, End, Finding, Listener, Sink, Source};
+use crate::{Asked, End, Listener, Sink, Source};
 use checker::{Certificate, CheckError, Gate, Verdict};
 use policy::Policy;
+use reptext::check_report;
 use std::alloc::Global;
 use std::thread::Threads;
 use table::Table;
@@ -130,11 +130,7 @@ fn told(
             status: 0,
             finding: None,
         }),
-        Verdict::Deny(denial) => Ok(Answer {
-            text: denial_text(alloc, table, denial)?,
-            status: 1,
-            finding: Some(Finding::Denied(*denial)),
-        }),
+        Verdict::Deny(denial) => Ok(denied(alloc, table, *denial)?),
     }
 }
 

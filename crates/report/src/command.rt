@@ -1,20 +1,19 @@
 ghost use Rattle.std.specs.Prelude.{◌≡◌, ◌≤◌, ℕ, List, IfOk, None, Option, Result};
 ghost use Rattle.base.specs.declared.edge.Edge.{Edge};
 ghost use Rattle.machine.specs.Layout.{Layout};
-ghost use Rattle.report.specs.Places.{place_names};
-ghost use Rattle.report.specs.Reports.{denial_report};
+ghost use Rattle.reptext.specs.Places.{place_names};
+ghost use Rattle.reptext.specs.Reports.{denial_report};
 ghost use Rattle.report.specs.declared.end.Asked.{Asked};
-ghost use Rattle.report.specs.declared.end.File.{File};
+ghost use Rattle.reptext.specs.declared.file.File.{File};
 ghost use Rattle.verdict.specs.Verdict.{rule_name};
 ghost use Rattle.words.specs.Reading.{Reads};
 ghost use Rattle.words.specs.declared.faults.Fault.{Fault};
 
 use crate::load::Loaded;
-use crate::places::place_names;
-use crate::reports::denial_report;
 use crate::{Asked, File, Finding};
 use base::Refusal;
 use captext::Fault;
+use reptext::denial_text;
 use std::alloc::{AllocError, Global};
 use table::Table;
 use verdict::Denial;
@@ -87,14 +86,14 @@ pub(crate) trait Command {
         ensures exit { IfOk result (λ answer. answer.status ≤ 2) };
 }
 
-/// The report of a denial: the rule that is broken, and the names at the place.
-pub(crate) fn denial_text(
-    alloc: Global,
-    table: &Table,
-    denial: &Denial,
-) -> Result<Vec<u8>, AllocError>
-    ensures { IfOk result (λ text. text.items ≡ denial_report (rule_name denial.now) (place_names table.now denial.now)) }
+/// The answer to a denial.
+pub(crate) fn denied(alloc: Global, table: &Table, denial: Denial) -> Result<Answer, AllocError>
+    ensures text { IfOk result (λ answer. answer.text.items ≡ denial_report (rule_name denial) (place_names table.now denial)) }
+    ensures status { IfOk result (λ answer. answer.status ≡ 1) }
 {
-    let place = place_names(alloc, table, table, denial)?;
-    denial_report(alloc, denial.rule(), &place)
+    Ok(Answer {
+        text: denial_text(alloc, table, &denial)?,
+        status: 1,
+        finding: Some(Finding::Denied(denial)),
+    })
 }

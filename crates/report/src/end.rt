@@ -1,54 +1,8 @@
-ghost use Rattle.std.specs.Prelude.{◌≡◌, Some};
+ghost use Rattle.std.specs.Prelude.{◌≡◌};
 ghost use Rattle.std.specs.Option.{option_copied};
-ghost use Rattle.report.specs.Ends.{file_word, message_of, status_of, unlabelled_message, unread_message};
+ghost use Rattle.report.specs.Ends.{message_of, status_of, unlabelled_message, unread_message};
 
-use std::fmt;
-
-/// A file that an engine reads.
-#[derive(Clone, Copy, PartialEq, Eq, Debug)]
-pub enum File {
-    Table,
-    Policy,
-    Certificate,
-    Script,
-    Log,
-}
-
-impl File {
-    /// The word by which reports and messages name it.
-    pub fn as_str(self) -> &'static str
-        ensures { result.now ≡ file_word self }
-    {
-        match self {
-            File::Table => "table",
-            File::Policy => "policy",
-            File::Certificate => "certificate",
-            File::Script => "script",
-            File::Log => "log",
-        }
-    }
-
-    /// The line that says that it couldn't be read.
-    fn unread_message(self) -> &'static str
-        ensures { result.now ≡ unread_message self }
-    {
-        match self {
-            File::Table => "confine: cannot read table",
-            File::Policy => "confine: cannot read policy",
-            File::Certificate => "confine: cannot read certificate",
-            File::Script => "confine: cannot read script",
-            File::Log => "confine: cannot read log",
-        }
-    }
-}
-
-impl fmt::Display for File {
-    ghost output = { λ file. Some (file_word file) };
-
-    fn fmt<W: fmt::Write>(&self, f: &mut fmt::Formatter<W>) -> fmt::Result {
-        f.write_str(self.as_str())
-    }
-}
+use reptext::File;
 
 /// A label that a command asks about, as the command line names it.
 #[derive(Clone, Copy, PartialEq, Eq, Debug)]
@@ -68,6 +22,19 @@ impl Asked {
             Asked::Actor => "confine: A is no label of the table",
             Asked::Object => "confine: B is no label of the table",
         }
+    }
+}
+
+// The line that says that a file couldn't be read.
+fn unread_message(file: File) -> &'static str
+    ensures { result.now ≡ unread_message file }
+{
+    match file {
+        File::Table => "confine: cannot read table",
+        File::Policy => "confine: cannot read policy",
+        File::Certificate => "confine: cannot read certificate",
+        File::Script => "confine: cannot read script",
+        File::Log => "confine: cannot read log",
     }
 }
 
@@ -104,7 +71,7 @@ impl End {
         match self {
             End::Status(_) => None,
             End::NoMemory => Some("confine: no memory"),
-            End::CannotRead(file) => Some(file.unread_message()),
+            End::CannotRead(file) => Some(unread_message(file)),
             End::NoLabel(asked) => Some(asked.unlabelled_message()),
             End::CannotWrite => Some("confine: cannot write"),
         }

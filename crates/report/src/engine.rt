@@ -7,8 +7,8 @@ ghost use Rattle.report.specs.Files.{Contents, Gives, IfUnlabelled, unread_by, u
 
 use crate::command::{Answer, Command};
 use crate::load::{Loaded, Stop, load};
-use crate::reports::fault_report;
 use crate::{Asked, End, File, Listener, Sink, Source};
+use reptext::fault_report;
 use std::alloc::Global;
 
 /// Why there is no answer.

@@ -4,7 +4,7 @@ ghost use Rattle.machine.specs.Layout.{Layout};
 ghost use Rattle.report.specs.Answers.{no_file, read_nothing};
 ghost use Rattle.report.specs.Commands.{IsCarriedOut, input, output};
 ghost use Rattle.report.specs.declared.end.Asked.{Asked};
-ghost use Rattle.report.specs.declared.end.File.TheVariants as file;
+ghost use Rattle.reptext.specs.declared.file.File.TheVariants as file;
 
 use crate::command::{Answer, Command, NoMemory};
 use crate::engine::carry_out;

@@ -4,12 +4,12 @@ ghost use Rattle.machine.specs.declared.call.Event.{Event};
 ghost use Rattle.std.specs.Thread.{IsSync};
 ghost use Rattle.report.specs.Answers as answers;
 ghost use Rattle.report.specs.Commands.{input, output};
-ghost use Rattle.report.specs.declared.end.File.TheVariants as file;
+ghost use Rattle.reptext.specs.declared.file.File.TheVariants as file;
 
-use crate::command::{Answer, Command, NoMemory, denial_text};
+use crate::command::{Answer, Command, NoMemory, denied};
 use crate::engine::carry_out;
 use crate::load::Loaded;
-use crate::{Asked, End, File, Finding, Listener, Sink, Source};
+use crate::{Asked, End, File, Listener, Sink, Source};
 use base::Refusal;
 use captext::Fault;
 use deal::Open;
@@ -94,11 +94,7 @@ impl<R: Threads + Sync> Command for Running<'_, R> {
                 status: 0,
                 finding: None,
             }),
-            Err(denial) => Ok(Answer {
-                text: denial_text(alloc, &loaded.table, &denial)?,
-                status: 1,
-                finding: Some(Finding::Denied(denial)),
-            }),
+            Err(denial) => Ok(denied(alloc, &loaded.table, denial)?),
         }
     }
 }

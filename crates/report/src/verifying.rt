@@ -4,15 +4,15 @@ ghost use Rattle.certificate.specs.declared.line.Line.{Line};
 ghost use Rattle.std.specs.Thread.{IsSync};
 ghost use Rattle.report.specs.Answers as answers;
 ghost use Rattle.report.specs.Commands.{input, output};
-ghost use Rattle.report.specs.declared.end.File.TheVariants as file;
+ghost use Rattle.reptext.specs.declared.file.File.TheVariants as file;
 
-use crate::command::{Answer, Command, NoMemory, denial_text};
+use crate::command::{Answer, Command, NoMemory, denied};
 use crate::engine::carry_out;
 use crate::load::Loaded;
-use crate::reports::accept_report;
-use crate::{Asked, End, File, Finding, Listener, Sink, Source};
+use crate::{Asked, End, File, Listener, Sink, Source};
 use captext::Fault;
 use certificate::{Certificate, NotAccepted};
+use reptext::accept_report;
 use std::alloc::Global;
 use std::thread::Threads;
 use table::Table;
@@ -98,11 +98,7 @@ impl<R: Threads + Sync> Command for Verifying<'_, R> {
                 status: 0,
                 finding: None,
             }),
-            Err(NotAccepted::Denied(denial)) => Ok(Answer {
-                text: denial_text(alloc, &loaded.table, &denial)?,
-                status: 1,
-                finding: Some(Finding::Denied(denial)),
-            }),
+            Err(NotAccepted::Denied(denial)) => Ok(denied(alloc, &loaded.table, denial)?),
             Err(NotAccepted::NoMemory) => Err(NoMemory),
         }
     }

@@ -1,8 +1,8 @@
 use Rattle.std.proofs.Common.{◌≡◌, ◌∙◌, List, ℕ, ap, map, length, refl, string_bytes}
 use Rattle.machine.specs.WellFormed.{kind_of}
-use Rattle.report.specs.Places.{place_names_by}
+use Rattle.reptext.specs.Places.{place_names_by}
 use Rattle.report.specs.Replays.{illegal, outside, within}
-use Rattle.report.specs.Reports.{line_of, outside_data}
+use Rattle.reptext.specs.Reports.{line_of, outside_data}
 use Rattle.verdict.specs.Verdict.{rule_name}
 use Rattle.report.proofs.replaying.replayed_from.Goals as goal
 

@@ -1,6 +1,0 @@
-use Rattle.std.proofs.Common.{refl}
-use Rattle.report.proofs.end.File.unread_message.Goals as goal
-
--- the longest line, which a search doesn't compute
-pub returns-in-Certificate : goal.returns-in-Certificate
-returns-in-Certificate c = rw c.in-Certificate.is refl

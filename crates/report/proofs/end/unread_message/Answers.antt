@@ -1,0 +1,6 @@
+use Rattle.std.proofs.Common.{refl}
+use Rattle.report.proofs.end.unread_message.Goals as goal
+
+-- the longest line, which a search doesn't compute
+pub returns-in-Certificate : goal.returns-in-Certificate
+returns-in-Certificate c = rw c.in-Certificate.is refl

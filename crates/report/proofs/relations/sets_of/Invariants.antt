@@ -1,9 +1,0 @@
-use Rattle.std.proofs.Common.{◌≡◌, ◌<◌, ◌↔◌, ℕ, true, length}
-use Rattle.policy.specs.Policy.{allows}
-use Rattle.report.specs.Relations.{relates, relation_of}
-use Rattle.report.proofs.relations.sets_of.Given as goal
-
-abbrev pub invariant-loop-number : goal.invariant-loop-number
-invariant-loop-number l =
-    (length l.sets.items ≡ l.number)
-    × ((a : ℕ) → a < l.number → (other : ℕ) → (relation_of l.sets.items a other ≡ true) ↔ relates l.relation (allows l.policy) a other)

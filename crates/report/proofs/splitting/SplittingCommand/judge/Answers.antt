@@ -1,0 +1,7 @@
+use Rattle.report.proofs.splitting.SplittingCommand.judge.Goals as goal
+
+pub returns-clause-right : goal.returns-clause-right
+returns-clause-right g c = (c.requires.may.1 _ _ c.judge.ensures).0
+
+pub returns-clause-exit : goal.returns-clause-exit
+returns-clause-exit g c = (c.requires.may.1 _ _ c.judge.ensures).1

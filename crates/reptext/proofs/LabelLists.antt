@@ -1,0 +1,53 @@
+-- The labels one after another: the names of some of them, and a set for each.
+use Rattle.std.proofs.Common.{◌≡◌, ◌↔◌, ◌<◌, ℕ, Bool, true, false, ◌+◌, List, [], ◌∷◌, ◌++◌, length, get_or, arith, map, ap, ◌∙◌, sym}
+use Rattle.std.specs.List.{filter, fold, range_with_len}
+use Rattle.std.proofs.lemmas.List.{get_or_default, map-append, map-id}
+use Rattle.std.proofs.lemmas.List.Elements.{filter-append}
+use Rattle.std.proofs.lemmas.List.FromFn.{map-range_with_len_more}
+use Rattle.std.proofs.lemmas.List.Sums.{fold-append}
+use Rattle.std.proofs.Math.ListN.{get_or-append}
+use Rattle.std.proofs.Math.Seq.{get_or-append_seam}
+use Rattle.base.specs.Labels.{is_in}
+use Rattle.base.specs.declared.labels.Labels.{Labels}
+use Rattle.reptext.specs.Relations.{relation_of}
+use borrow.Author.Count.{below_more}
+
+-- one number more
+one_more : (n : ℕ) → range_with_len 0 (n + 1) ≡ range_with_len 0 n ++ n ∷ []
+one_more n =
+    sym (map-id (range_with_len 0 (n + 1))) ∙ map-range_with_len_more (λ (x : ℕ). x) 0 n n (omega arith)
+    ∙ ap (λ xs. xs ++ n ∷ []) (map-id (range_with_len 0 n))
+
+-- a fold takes one step more
+pub fold_more : {B : Type 0} (step : B → ℕ → B) (b : B) (n : ℕ) → fold step b (range_with_len 0 (n + 1)) ≡ step (fold step b (range_with_len 0 n)) n
+fold_more step b n = ap (fold step b) (one_more n) ∙ fold-append step b (range_with_len 0 n) (n ∷ [])
+
+-- one more that passes the test, or not
+filter_more : (p : ℕ → Bool) (n : ℕ) → filter p (range_with_len 0 (n + 1)) ≡ filter p (range_with_len 0 n) ++ filter p (n ∷ [])
+filter_more p n = ap (filter p) (one_more n) ∙ filter-append p (range_with_len 0 n) (n ∷ [])
+
+pub one_passes : {X : Type 0} (p : X → Bool) (x : X) → p x ≡ true → filter p (x ∷ []) ≡ x ∷ []
+one_passes p x is = rw is
+
+pub one_fails : {X : Type 0} (p : X → Bool) (x : X) → p x ≡ false → filter p (x ∷ []) ≡ []
+one_fails p x is = rw is
+
+-- the names of those that pass, with one more that passes or not
+pub names_more : {X Y : Type 0} (g : X → Y) (f : ℕ → X) (p : ℕ → Bool) (n : ℕ)
+    → map g (map f (filter p (range_with_len 0 (n + 1)))) ≡ map g (map f (filter p (range_with_len 0 n))) ++ map g (map f (filter p (n ∷ [])))
+names_more g f p n =
+    ap (λ xs. map g (map f xs)) (filter_more p n) ∙ ap (map g) (map-append f (filter p (range_with_len 0 n)) (filter p (n ∷ [])))
+    ∙ map-append g (map f (filter p (range_with_len 0 n))) (map f (filter p (n ∷ [])))
+
+-- a label's set, where it is there
+pub same_set : (sets : List Labels) (i a : ℕ) (d : Labels) → i ≡ a → a < length sets → get_or sets i d ≡ get_or sets a (record { word = 0 })
+same_set sets i a d same within = ap (λ k. get_or sets k d) same ∙ get_or_default sets a d (record { word = 0 }) within
+
+-- one more label has its set
+pub decided_more : (sets : List Labels) (set : Labels) (R : ℕ → ℕ → Type 0) (n : ℕ) → length sets ≡ n
+    → ((a : ℕ) → a < n → (l : ℕ) → (relation_of sets a l ≡ true) ↔ R a l) → ((l : ℕ) → (is_in set l ≡ true) ↔ R n l)
+    → (a : ℕ) → a < n + 1 → (l : ℕ) → (relation_of (sets ++ set ∷ []) a l ≡ true) ↔ R a l
+decided_more sets set R n count before here =
+    below_more (λ a. (l : ℕ) → (relation_of (sets ++ set ∷ []) a l ≡ true) ↔ R a l) n
+    (λ a low l. rw (get_or-append sets (set ∷ []) (record { word = 0 }) a (omega arith)) (before a low l))
+    (λ l. rw (← count) (rw (get_or-append_seam sets set [] (record { word = 0 })) (rw count (here l))))

@@ -1,0 +1,2 @@
+mod LabelLists
+mod Names

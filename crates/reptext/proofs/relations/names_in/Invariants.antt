@@ -1,0 +1,11 @@
+use Rattle.std.proofs.Common.{◌≡◌, map}
+use Rattle.std.specs.List.{filter, range_with_len}
+use Rattle.base.specs.Labels.{is_in}
+use Rattle.serde_json.specs.Data.{string}
+use Rattle.serde_json.specs.View.{view}
+use Rattle.captext.specs.PolicyText.{label_name}
+use Rattle.reptext.proofs.relations.names_in.Given as goal
+
+abbrev pub invariant-loop-number : goal.invariant-loop-number
+invariant-loop-number l =
+    map view l.names.items ≡ map string (map (label_name l.table) (filter (is_in l.set) (range_with_len 0 l.number)))

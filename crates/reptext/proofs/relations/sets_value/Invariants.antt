@@ -1,0 +1,11 @@
+use Rattle.std.proofs.Common.{◌≡◌}
+use Rattle.std.specs.List.{fold, range_with_len}
+use Rattle.serde_json.specs.Data.{no_members}
+use Rattle.serde_json.specs.View.{members_view}
+use Rattle.reptext.specs.Relations.{relation_of}
+use Rattle.reptext.specs.Reports.{with_related}
+use Rattle.reptext.proofs.relations.sets_value.Given as goal
+
+abbrev pub invariant-loop-number : goal.invariant-loop-number
+invariant-loop-number l =
+    members_view l.members.entries ≡ fold (with_related l.table (relation_of l.sets)) no_members (range_with_len 0 l.number)

@@ -1,0 +1,22 @@
+-- The relations of labels that the report of an acceptance tells, and tests that decide them (confine's own).
+use Rattle.std.specs.Prelude.{◌≡◌, ◌↔◌, ◌<◌, ℕ, Bool, true, List, length, get_or}
+use Rattle.base.specs.Labels.{is_in}
+use Rattle.base.specs.declared.labels.Labels.{Labels}
+use Rattle.machine.specs.Layout.{Layout}
+use Rattle.policy.specs.Cut.{IsCut}
+use Rattle.policy.specs.Domain.{EdgeTest}
+use Rattle.policy.specs.Full.{IsFull}
+use Rattle.reptext.specs.declared.relations.Relation.{Relation}
+use Rattle.reptext.specs.declared.relations.Relation.TheVariants.{Cut, Full}
+
+abbrev pub relates : Relation → EdgeTest → ℕ → ℕ → Type 0
+relates Cut allowed = IsCut allowed
+relates Full allowed = IsFull allowed
+
+-- a test decides a relation for the labels of a table
+abbrev pub Decides : Layout → (ℕ → ℕ → Bool) → (ℕ → ℕ → Type 0) → Type 0
+Decides t test R = (a : ℕ) → a < length t.labels → (l : ℕ) → (test a l ≡ true) ↔ R a l
+
+-- whether a label is in the set of another, where each label has a set
+abbrev pub relation_of : List Labels → ℕ → ℕ → Bool
+relation_of sets a l = is_in (get_or sets a (record { word = 0 })) l

@@ -1,0 +1,14 @@
+//! The texts of reports: one JSON object on a line, and the names at the place that it tells.
+#![tactic(auto)]
+
+mod file;
+mod places;
+mod relations;
+mod reports;
+
+pub use file::File;
+pub use places::{KindsOfObjects, place_names};
+pub use reports::{
+    accept_report, check_report, denial_text, fault_report, illegal_report, outside_report,
+    within_report,
+};

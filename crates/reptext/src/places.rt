@@ -1,0 +1,180 @@
+ghost use Rattle.std.specs.Prelude.{◌≡◌, IfOk, Option, map, string_bytes};
+ghost use Rattle.base.specs.declared.ids.ObjId.{ObjId as Id};
+ghost use Rattle.captext.specs.PolicyText as policy_text;
+ghost use Rattle.machine.specs.WellFormed.{kind_of};
+ghost use Rattle.machine.specs.declared.object.ObjectKind.{ObjectKind as KindOfObject};
+ghost use Rattle.reptext.specs.Places as places;
+ghost use Rattle.table.specs.Rules.{kind_at};
+
+use base::{Kind, Label, ObjId, SlotRef};
+use machine::ObjectKind;
+use objects::State;
+use policy::Broken;
+use std::alloc::{AllocError, Global};
+use table::Table;
+use verdict::Denial;
+
+/// Who tells the kinds of objects: a table those of the initial ones, a state those of all that are there.
+pub trait KindsOfObjects {
+    // The kind of the object of each number.
+    ghost kinds: { Self → Id → Option KindOfObject };
+
+    /// The kind of the object of this number.
+    fn object_kind(&self, id: ObjId) -> Option<ObjectKind>
+        ensures { result ≡ kinds self.now id };
+}
+
+impl KindsOfObjects for Table {
+    ghost kinds = { kind_at };
+
+    fn object_kind(&self, id: ObjId) -> Option<ObjectKind> {
+        self.kind(id)
+    }
+}
+
+impl KindsOfObjects for State {
+    ghost kinds = { kind_of };
+
+    fn object_kind(&self, id: ObjId) -> Option<ObjectKind> {
+        match self.object(id) {
+            Some(object) => Some(object.kind()),
+            None => None,
+        }
+    }
+}
+
+/// The names at the place that a denial names. Slots are spelled by the kinds of their holders.
+pub fn place_names<K: KindsOfObjects>(
+    alloc: Global,
+    table: &Table,
+    kinds: &K,
+    denial: &Denial,
+) -> Result<Vec<String>, AllocError>
+    ensures { IfOk result (λ names.
+        map string_bytes names.items ≡ places.place_names_by (K.kinds kinds.now) table.now denial.now) }
+{
+    let names = match denial {
+        Denial::Policy(broken) => broken_names(alloc, table, broken)?,
+        Denial::Capability { slot, kind, label } => vec![in alloc;
+            slot_name(alloc, table, kinds.object_kind(slot.holder), *slot)?,
+            String::from_str(alloc, kind.name())?,
+            label_name(alloc, table, *label)?,
+        ]?,
+        Denial::Root { slot, label } => vec![in alloc;
+            slot_name(alloc, table, kinds.object_kind(slot.holder), *slot)?,
+            String::from_str(alloc, "space")?,
+            label_name(alloc, table, *label)?,
+        ]?,
+        Denial::Pair { child, parent } => vec![in alloc;
+            slot_name(alloc, table, kinds.object_kind(parent.holder), *parent)?,
+            slot_name(alloc, table, kinds.object_kind(child.holder), *child)?,
+        ]?,
+        Denial::Binding { thread, context } => vec![in alloc;
+            object_name(alloc, table, *thread)?,
+            object_name(alloc, table, *context)?,
+        ]?,
+        Denial::Holding { reply, thread } => vec![in alloc;
+            object_name(alloc, table, *reply)?,
+            object_name(alloc, table, *thread)?,
+        ]?,
+        Denial::Recorded {
+            thread,
+            kind,
+            label,
+        } => vec![in alloc;
+            object_name(alloc, table, *thread)?,
+            String::from_str(alloc, kind.name())?,
+            label_name(alloc, table, *label)?,
+        ]?,
+        Denial::Certificate { line } => vec![in alloc; format!(in alloc; "{line}")?]?,
+    };
+    Ok(names)
+}
+
+fn broken_names(alloc: Global, table: &Table, broken: &Broken) -> Result<Vec<String>, AllocError>
+    ensures { IfOk result (λ names.
+        map string_bytes names.items ≡ places.broken_names table.now broken.now) }
+{
+    let names = match *broken {
+        Broken::SubjectsDisagree {
+            subject: first,
+            other: second,
+            kind,
+            target,
+        }
+        | Broken::GrantLacks {
+            giver: first,
+            taker: second,
+            kind,
+            target,
+        } => vec![in alloc;
+            label_name(alloc, table, first)?,
+            label_name(alloc, table, second)?,
+            String::from_str(alloc, kind.name())?,
+            label_name(alloc, table, target)?,
+        ]?,
+        Broken::ControlLacks {
+            subject,
+            kind,
+            object,
+        } => edge_names(alloc, table, subject, kind, object)?,
+        Broken::DomainLacks { parent, child } | Broken::DeriveLacks { parent, child } => {
+            edge_names(alloc, table, parent, Kind::Derive, child)?
+        }
+        Broken::ContextLacks { subject, context } => {
+            edge_names(alloc, table, subject, Kind::Runs, context)?
+        }
+        Broken::ReplyLacks { reply, thread } => {
+            edge_names(alloc, table, reply, Kind::Holds, thread)?
+        }
+    };
+    Ok(names)
+}
+
+fn edge_names(
+    alloc: Global,
+    table: &Table,
+    from: Label,
+    kind: Kind,
+    to: Label,
+) -> Result<Vec<String>, AllocError>
+    ensures { IfOk result (λ names.
+        map string_bytes names.items ≡ places.edge_names table.now from kind to) }
+{
+    let names = vec![in alloc;
+        label_name(alloc, table, from)?,
+        String::from_str(alloc, kind.name())?,
+        label_name(alloc, table, to)?,
+    ]?;
+    Ok(names)
+}
+
+pub(crate) fn label_name(alloc: Global, table: &Table, label: Label) -> Result<String, AllocError>
+    ensures { IfOk result (λ name. string_bytes name ≡ policy_text.label_name table.now label) }
+{
+    String::from_str(alloc, captext::label_name(table, label))
+}
+
+fn object_name(alloc: Global, table: &Table, id: ObjId) -> Result<String, AllocError>
+    ensures { IfOk result (λ name. string_bytes name ≡ places.object_name table.now id) }
+{
+    match table.object_name(id) {
+        Some(name) => String::from_str(alloc, name),
+        None => format!(in alloc; "#{}", id.0),
+    }
+}
+
+fn slot_name(
+    alloc: Global,
+    table: &Table,
+    holder: Option<ObjectKind>,
+    slot: SlotRef,
+) -> Result<String, AllocError>
+    ensures { IfOk result (λ name. string_bytes name ≡ places.slot_name table.now holder slot) }
+{
+    let name = object_name(alloc, table, slot.holder)?;
+    match holder {
+        Some(ObjectKind::Tcb) => format!(in alloc; "{name}.root"),
+        _ => format!(in alloc; "{name}.{}", slot.index),
+    }
+}
