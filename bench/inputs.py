@@ -77,6 +77,50 @@ def script_log(events):
     return text("confine-log 1", entries)
 
 
+def core_table(cores):
+    """A table of a thread on each of so many cores, each with a CNode, a notification and a context of its own, all of one label."""
+    objects, caps, bindings = [], [], []
+    for core in range(cores):
+        objects += [
+            f"cnode c{core} a 0x{0x1000 + 0x40 * core:x} 1",
+            f"tcb t{core} a 0x{0x2000 + 0x400 * core:x} ready",
+            f"notification n{core} a 0x{0x8000 + 0x40 * core:x}",
+            f"context x{core} a 0x{0x9000 + 0x100 * core:x} {core} 10 10",
+        ]
+        caps.append((4 * core, f"cap c{core}.0 n{core} rw 4"))
+        caps.append((4 * core + 1, f"cap t{core}.root c{core} 63 0x0"))
+        bindings.append(f"bind t{core} x{core}")
+    return text("confine-table 1", ["label a", *objects, *(line for _, line in sorted(caps)), *bindings])
+
+
+CORE_POLICY = """\
+confine-policy 1
+edge a reset a
+edge a notify a
+edge a await a
+edge a space a
+edge a derive a
+edge a runs a
+end
+"""
+
+
+def core_script(cores, events):
+    """A script of that many events, of each core in turn: each thread signals its notification and polls it, again and again."""
+    calls = ("signal 0", "poll 0")
+    return text(
+        "confine-script 1",
+        [f"{i % cores} {4 * (i % cores) + 1} {calls[i // cores % 2]}" for i in range(events)],
+    )
+
+
+def core_log(cores, events):
+    """The log of that script, in its order: each poll takes the word that the signal before it left."""
+    outcomes = ("done", "done word 4")
+    lines = core_script(cores, events).split("\n")[1:-2]
+    return text("confine-log 1", [f"{line} = {outcomes[i // cores % 2]}" for i, line in enumerate(lines)])
+
+
 def groups(objects):
     if objects % GROUP or not 0 < objects <= GROUP * MOST_GROUPS:
         raise ValueError(f"{objects} objects: a multiple of 4 from 4 to 4,096 is wanted")

@@ -1,5 +1,7 @@
 -- What a command line may ask for (confine's own).
 use Rattle.std.specs.Prelude.{◌≤◌}
+use Rattle.confine.specs.declared.request.CommandLine.{CommandLine}
+use Rattle.confine.specs.declared.request.CommandLine.TheVariants.{InTurn, Split}
 use Rattle.confine.specs.declared.request.Request.{Request}
 use Rattle.confine.specs.declared.request.Request.TheVariants.{Check, Verify, Run, Replay, Close, Why}
 
@@ -11,3 +13,8 @@ IsWithinLimits (Run table policy script) = Unit {0}
 IsWithinLimits (Replay table policy log) = Unit {0}
 IsWithinLimits (Close table policy on_close) = Unit {0}
 IsWithinLimits (Why table policy actor object) = Unit {0}
+
+-- a fact for a request that is done in turn
+abbrev pub OnInTurn : CommandLine → (Request → Type 0) → Type 0
+OnInTurn (InTurn invocation) P = P invocation.request
+OnInTurn (Split run) P = Unit {0}

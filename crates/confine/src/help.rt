@@ -121,7 +121,7 @@ are those of a script, each with ` = ` and an outcome:
   blocked
   refused CODE DETAIL";
 
-pub const VERSION: &str = "0.1.0";
+pub const VERSION: &str = "0.11.0";
 
 pub const EXPLAIN: &str =
     "Tells in sentences, on standard error, what is denied or faulty, and a way out";
@@ -129,6 +129,9 @@ pub const EXPLAIN: &str =
 pub const WORKERS: &str = "Threads that look over the slots side by side, 1 to 16";
 
 pub const CERT: &str = "Writes the certificate of an accepted table in place of the report";
+
+pub const SPLIT: &str =
+    "Has a worker for each core make its calls, side by side; their order may differ";
 
 pub const MISSING: &str =
     "Writes the lines alone that POLICY lacks; the status is 1 where there are any";

@@ -1,12 +1,12 @@
 //! The program `confine`: its command line, its files and its exit status.
 #![tactic(auto)]
 
-ghost use Rattle.std.specs.Prelude.{◌≡◌, ◌≤◌, false, IfOk, IsErr, IsSomeAnd, None, OnErr};
+ghost use Rattle.std.specs.Prelude.{◌≡◌, ◌≤◌, false, IfOk, IsErr, OnErr};
 ghost use Rattle.std.specs.Fn.{FnReturnsAt};
 ghost use Rattle.devices.specs.Watched.{failed_of};
 ghost use Rattle.report.specs.Ends.{status_of};
-ghost use Rattle.confine.specs.Opening.{IsStatusOf, Serves, written};
-ghost use Rattle.confine.specs.Requests.{IsWithinLimits};
+ghost use Rattle.confine.specs.Opening.{IsStatusOf, Serves, ServesSplit, written};
+ghost use Rattle.confine.specs.Requests.{IsWithinLimits, OnInTurn};
 ghost use Rattle.confine.specs.declared.request.Request.TheVariants.{Check, Verify, Run, Replay, Close, Why};
 
 mod explaining;
@@ -18,23 +18,27 @@ use clap::error::ErrorKind;
 use explaining::{Explainer, tell_closing};
 use files::Files;
 use report::{
-    End, Listener, OnAccept, OnClose, Open, Watched, check, close, open_result, replay, run, start,
-    verify, why,
+    End, Listener, OnAccept, OnClose, Open, Watched, check, close, open_result, replay, run,
+    run_split, start, verify, why,
 };
-use request::{Invocation, Request, read_request};
+use request::{CommandLine, Invocation, Request, SplitRun, read_request};
 use std::alloc::Global;
 use std::env::Env;
 use std::io::{Read, Write};
 use std::process::ExitCode;
+use std::sync::Wait;
 use std::thread::Threads;
 use std::{env, fs, io};
 
 fn main(rt: HostRuntime) -> ExitCode {
     let opener = |path: &str| fs::open(&rt, path);
     let words = words(&rt);
-    let asked = asked(rt.alloc(), &words);
     let mut out = Watched::new(io::writer(&rt));
-    let (status, _files) = answer(&rt, asked, opener, &mut out);
+    let status = match asked(rt.alloc(), &words) {
+        Ok(CommandLine::InTurn(invocation)) => answer(&rt, invocation, opener, &mut out).0,
+        Ok(CommandLine::Split(run)) => answer_split(&rt, run, opener, &mut out).0,
+        Err(unasked) => refuse(&rt, unasked),
+    };
     ExitCode::from(status)
 }
 
@@ -54,13 +58,13 @@ fn words<R: Env + AllocGlobal>(rt: &R) -> io::Result<Vec<String>> {
 }
 
 /// What the words of the command line ask for.
-fn asked<'a>(alloc: Global, words: &'a io::Result<Vec<String>>) -> Result<Invocation<'a>, Unasked>
-    ensures limits { IfOk result (λ invocation. IsWithinLimits invocation.request) }
+fn asked<'a>(alloc: Global, words: &'a io::Result<Vec<String>>) -> Result<CommandLine<'a>, Unasked>
+    ensures limits { IfOk result (λ line. OnInTurn line IsWithinLimits) }
     ensures unread { OnErr words.now (IsErr result) }
 {
     match words {
         Ok(words) => match read_request(alloc, words) {
-            Ok(invocation) => Ok(invocation),
+            Ok(line) => Ok(line),
             Err(error) if error.kind() == ErrorKind::OutOfMemory => Err(Unasked::NoMemory),
             Err(error) => Err(Unasked::Misused(error)),
         },
@@ -73,36 +77,54 @@ fn asked<'a>(alloc: Global, words: &'a io::Result<Vec<String>>) -> Result<Invoca
 /// gives the exit status, and the files back.
 fn answer<R, F, O, W>(
     rt: &R,
-    asked: Result<Invocation<'_>, Unasked>,
+    invocation: Invocation<'_>,
     opener: O,
     out: &mut Watched<W>,
-) -> (u8, Option<Files<F>>)
+) -> (u8, Files<F>)
 where
     R: Eprint + AllocGlobal + Threads + Sync,
     F: Read + Drop,
     O: Fn(&str) -> io::Result<F> + Drop,
     W: Write,
     requires opener { O.IsAlwaysCallable opener }
-    requires asked { IfOk asked (λ invocation. IsWithinLimits invocation.request) }
+    requires limits { IsWithinLimits invocation.request }
     requires out { failed_of out.old ≡ false }
-    ensures served { IfOk asked.entry (λ invocation. IsSomeAnd result.1 (λ files. IsStatusOf
-        (Serves (FnReturnsAt O.Fn opener) F.remaining (written W.contents out.old out.new) invocation.request files) result.0)) }
-    ensures unasked { OnErr asked.entry ((result.0 ≡ 2) × (result.1 ≡ None) × (out.new ≡ out.old)) }
+    ensures served { IsStatusOf (Serves (FnReturnsAt O.Fn opener) F.remaining (written W.contents out.old out.new) invocation.entry.request result.1) result.0 }
     ensures exit { result.0 ≤ 2 }
 {
-    match asked {
-        Ok(invocation) => {
-            let mut explainer = Explainer::new(rt, invocation);
-            let (end, files) = serve(rt, invocation.request, opener, &mut explainer, out);
-            let status = tell(rt, end);
-            explainer.hear_end(end);
-            if let Some((table, policy)) = explainer.closed() {
-                tell_closing(rt, table, policy);
-            }
-            (status, Some(files))
-        }
-        Err(unasked) => (refuse(rt, unasked), None),
+    let mut explainer = Explainer::new(rt, invocation);
+    let (end, files) = serve(rt, invocation.request, opener, &mut explainer, out);
+    let status = tell(rt, end);
+    explainer.hear_end(end);
+    if let Some((table, policy)) = explainer.closed() {
+        tell_closing(rt, table, policy);
     }
+    (status, files)
+}
+
+/// Runs a script by a worker for each core, as [`answer`] does what is asked for. What it promises holds if it returns, since
+/// workers wait for each other's calls; so it is apart from all else, which always returns.
+fn answer_split<R, F, O, W>(
+    rt: &R,
+    run: SplitRun<'_>,
+    opener: O,
+    out: &mut Watched<W>,
+) -> (u8, Files<F>)
+where
+    R: Eprint + AllocGlobal + Threads + Wait + Sync,
+    F: Read + Drop,
+    O: Fn(&str) -> io::Result<F> + Drop,
+    W: Write,
+    requires opener { O.IsAlwaysCallable opener }
+    requires out { failed_of out.old ≡ false }
+    ensures served { IsStatusOf (ServesSplit (FnReturnsAt O.Fn opener) F.remaining (written W.contents out.old out.new) run.entry result.1) result.0 }
+    ensures exit { result.0 ≤ 2 }
+{
+    let mut explainer = Explainer::new(rt, run.invocation());
+    let (end, files) = serve_split(rt, run, opener, &mut explainer, out);
+    let status = tell(rt, end);
+    explainer.hear_end(end);
+    (status, files)
 }
 
 /// Does what was asked for, on the files that it names; gives them back.
@@ -267,6 +289,41 @@ where
         &mut table,
         &mut policy,
         &mut script,
+        listener,
+        out,
+    );
+    (end, Files::Three(table, policy, script))
+}
+
+/// Runs the script of this name on the table and the policy of these names, by a worker for each core.
+fn serve_split<R, F, O, L, W>(
+    rt: &R,
+    run: SplitRun<'_>,
+    opener: O,
+    listener: &mut L,
+    out: &mut Watched<W>,
+) -> (End, Files<F>)
+where
+    R: AllocGlobal + Threads + Wait + Sync,
+    F: Read + Drop,
+    O: Fn(&str) -> io::Result<F> + Drop,
+    L: Listener,
+    W: Write,
+    requires opener { O.IsAlwaysCallable opener }
+    requires out { failed_of out.old ≡ false }
+    ensures served { ServesSplit (FnReturnsAt O.Fn opener) F.remaining (written W.contents out.old out.new) run.entry result.1 result.0 }
+    ensures exit { status_of result.0 ≤ 2 }
+{
+    let mut table = open_result(opener(run.table));
+    let mut policy = open_result(opener(run.policy));
+    let mut script = open_result(opener(run.script));
+    let end = run_split(
+        rt,
+        rt.alloc(),
+        &mut table,
+        &mut policy,
+        &mut script,
+        &Open,
         listener,
         out,
     );

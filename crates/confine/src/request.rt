@@ -1,5 +1,5 @@
 ghost use Rattle.std.specs.Prelude.{◌≤◌, IfOk, IfSome};
-ghost use Rattle.confine.specs.Requests.{IsWithinLimits};
+ghost use Rattle.confine.specs.Requests.{IsWithinLimits, OnInTurn};
 
 use crate::help;
 use clap::error::ErrorKind;
@@ -8,6 +8,39 @@ use report::{File, OnAccept, OnClose};
 use std::alloc::{AllocError, Global};
 
 /// What a command line asks for.
+#[derive(Clone, Copy)]
+pub enum CommandLine<'a> {
+    /// What is done without waiting for anything.
+    InTurn(Invocation<'a>),
+    /// A run by workers, which wait for each other.
+    Split(SplitRun<'a>),
+}
+
+/// A run of a script by a worker for each core, with the names of the files.
+#[derive(Clone, Copy)]
+pub struct SplitRun<'a> {
+    pub table: &'a str,
+    pub policy: &'a str,
+    pub script: &'a str,
+    /// Whether a person is told on standard error what is found.
+    pub explains: bool,
+}
+
+impl<'a> SplitRun<'a> {
+    /// The same run, in turn.
+    pub fn invocation(self) -> Invocation<'a> {
+        Invocation {
+            request: Request::Run {
+                table: self.table,
+                policy: self.policy,
+                script: self.script,
+            },
+            explains: self.explains,
+        }
+    }
+}
+
+/// What is to be done, and how it is told.
 #[derive(Clone, Copy)]
 pub struct Invocation<'a> {
     pub request: Request<'a>,
@@ -97,26 +130,37 @@ const COUNTS: [&str; 16] = [
 ];
 
 /// Reads the command line; an `Err` is for its user, and so is a request for help.
-pub fn read_request<'a>(alloc: Global, words: &'a [String]) -> Result<Invocation<'a>, Error>
-    ensures { IfOk result (λ invocation. IsWithinLimits invocation.request) }
+pub fn read_request<'a>(alloc: Global, words: &'a [String]) -> Result<CommandLine<'a>, Error>
+    ensures { IfOk result (λ line. OnInTurn line IsWithinLimits) }
 {
     let mut command = command(alloc)?;
     let matches = command.try_get_matches_from_mut(words)?;
-    match invocation_of(&matches) {
-        Some(invocation) => Ok(invocation),
+    match line_of(&matches) {
+        Some(line) => Ok(line),
         None => Err(command.error(ErrorKind::MissingSubcommand, "a command is missing")?),
     }
 }
 
 // What the subcommand asks for, and how.
-fn invocation_of<'a>(matches: &ArgMatches<'a>) -> Option<Invocation<'a>>
-    ensures { IfSome result (λ invocation. IsWithinLimits invocation.request) }
+fn line_of<'a>(matches: &ArgMatches<'a>) -> Option<CommandLine<'a>>
+    ensures { IfSome result (λ line. OnInTurn line IsWithinLimits) }
 {
     let (name, found) = matches.subcommand()?;
-    Some(Invocation {
-        request: request_of(name, found)?,
-        explains: found.get_flag("explain"),
-    })
+    let request = request_of(name, found)?;
+    let explains = found.get_flag("explain");
+    match request {
+        Request::Run {
+            table,
+            policy,
+            script,
+        } if found.get_flag("split") => Some(CommandLine::Split(SplitRun {
+            table,
+            policy,
+            script,
+            explains,
+        })),
+        request => Some(CommandLine::InTurn(Invocation { request, explains })),
+    }
 }
 
 // What the subcommand of this name asks for.
@@ -218,7 +262,13 @@ fn verify_command<'a>(alloc: Global) -> Result<Command<'a>, AllocError> {
 
 fn run_command<'a>(alloc: Global) -> Result<Command<'a>, AllocError> {
     let script = word(alloc, "script", "SCRIPT", help::SCRIPT);
-    on_system(alloc, "run", help::ABOUT_RUN, help::EXAMPLE_RUN)?.arg(script)
+    let split = Arg::new(alloc, "split")
+        .long("split")
+        .help(help::SPLIT)
+        .action(ArgAction::SetTrue);
+    on_system(alloc, "run", help::ABOUT_RUN, help::EXAMPLE_RUN)?
+        .arg(script)?
+        .arg(split)
 }
 
 fn replay_command<'a>(alloc: Global) -> Result<Command<'a>, AllocError> {

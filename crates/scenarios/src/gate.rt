@@ -85,12 +85,24 @@ impl Gate for Meeting {
     }
 }
 
+impl Meeting {
+    fn new() -> Meeting {
+        Meeting {
+            arrived: AtomicU64::new(0),
+            gave_up: AtomicU64::new(0),
+        }
+    }
+
+    /// Both workers arrived, and neither gave up.
+    fn took_place(&self, rt: &impl Abort) {
+        assert_eq!(rt; self.arrived.load(Ordering::SeqCst), 2);
+        assert_eq!(rt; self.gave_up.load(Ordering::SeqCst), 0);
+    }
+}
+
 #[test]
 fn gate_check(rt: HostRuntime) {
-    let meeting = Meeting {
-        arrived: AtomicU64::new(0),
-        gave_up: AtomicU64::new(0),
-    };
+    let meeting = Meeting::new();
     let mut table = Watched::new(TABLE.as_bytes());
     let mut policy = Watched::new(POLICY.as_bytes());
     let mut out = Watched::new(Vec::new(rt.alloc()));
@@ -105,8 +117,71 @@ fn gate_check(rt: HostRuntime) {
         &mut Silence,
         &mut out,
     );
-    assert_eq!(rt; meeting.arrived.load(Ordering::SeqCst), 2);
-    assert_eq!(rt; meeting.gave_up.load(Ordering::SeqCst), 0);
+    meeting.took_place(&rt);
+    assert_eq!(rt; end, End::Status(0));
+}
+
+const TWO_CORES: &str = "\
+confine-table 1
+label a
+label b
+cnode ca a 0x1000 1
+cnode cb b 0x1040 1
+tcb ta a 0x2000 ready
+tcb tb b 0x2400 ready
+notification n b 0x3000
+context xa a 0x4000 1 10 10
+context xb b 0x4100 0 10 10
+cap ca.0 n w 4
+cap cb.0 n r 0
+cap ta.root ca 63 0x0
+cap tb.root cb 63 0x0
+bind ta xa
+bind tb xb
+end
+";
+
+const FROM_A_TO_B: &str = "\
+confine-policy 1
+edge a reset b
+edge a notify b
+edge a space a
+edge a derive a
+edge a runs a
+edge b reset b
+edge b await b
+edge b space b
+edge b derive b
+edge b runs b
+end
+";
+
+const SIGNAL_AND_POLLS: &str = "\
+confine-script 1
+1 2 signal 0
+0 3 poll 0
+0 3 poll 0
+end
+";
+
+#[test]
+fn gate_split(rt: HostRuntime) {
+    let meeting = Meeting::new();
+    let mut table = Watched::new(TWO_CORES.as_bytes());
+    let mut policy = Watched::new(FROM_A_TO_B.as_bytes());
+    let mut script = Watched::new(SIGNAL_AND_POLLS.as_bytes());
+    let mut out = Watched::new(Vec::new(rt.alloc()));
+    let end = report::run_split(
+        &rt,
+        rt.alloc(),
+        &mut table,
+        &mut policy,
+        &mut script,
+        &meeting,
+        &mut Silence,
+        &mut out,
+    );
+    meeting.took_place(&rt);
     assert_eq!(rt; end, End::Status(0));
 }
 
