@@ -9,6 +9,7 @@ pub mod OwnSlots
 pub mod Raises
 pub mod Hangs
 pub mod Leavings
+pub mod NamedOnce
 pub mod GoingSlots
 pub mod Thinnings
 pub mod TreeAfter

@@ -1,3 +1,4 @@
+pub mod Descendants
 pub mod Moving
 pub mod OwnSlots
 pub mod Raising

@@ -3,12 +3,14 @@
 //! Each call takes no memory, and is told as a change of the pairs of child and parent.
 #![tactic(auto)]
 
+mod descendants;
 mod leaving;
 mod raising;
 mod removing;
 mod slots;
 mod tree;
 
+pub use descendants::{descendants_are_named_once, next_descendant};
 pub use leaving::leave_tree;
 pub use removing::remove_node;
-pub use tree::{descends, insert_child, move_node, next_descendant};
+pub use tree::{descends, insert_child, move_node};

@@ -1,9 +1,8 @@
-ghost use Rattle.std.specs.Prelude.{Some, ◌≡◌, ◌≢◌, ◌↔◌, IfSome, IsTrue, IsSome};
+ghost use Rattle.std.specs.Prelude.{Some, ◌≡◌, ◌≢◌, ◌↔◌, IsTrue, IsSome};
 ghost use Rattle.base.specs.declared.ids.SlotRef.{SlotRef as Slot};
 ghost use Rattle.machine.specs.Machine.{cap_of, has_slot, parent_of, with_parent};
 ghost use Rattle.machine.specs.Tree.{IsAlone, with_exchanged};
 ghost use Rattle.machine.specs.WellFormed.{Descends};
-ghost use Rattle.objects.specs.Walks.{IsBehind};
 ghost use Rattle.derivation.specs.Moving.{StandsNoLower, handed_over, lifted};
 
 use base::SlotRef;
@@ -79,17 +78,4 @@ pub fn descends(state: &State, slot: SlotRef, above: SlotRef) -> bool
         at = parent;
     }
     false
-}
-
-/// The slot that comes behind `last` in a walk through all that descends from `above`; the first of
-/// the walk where no `last` is named.
-///
-/// From no slot on, and given its last answer, it comes to each slot once, while the tree stays. That
-/// the order is one and the same from call to call is no part of the contract. A call takes time in
-/// the length of the way up, and a whole walk in the number of slots that it comes to.
-pub fn next_descendant(state: &State, above: SlotRef, last: Option<SlotRef>) -> Option<SlotRef>
-    requires { IfSome last (λ last. Descends state.now last above) }
-    ensures { IsBehind state.now above last result }
-{
-    state.next_descendant(above, last)
 }

@@ -2,11 +2,12 @@ ghost use Rattle.std.specs.Prelude.{◌≡◌};
 ghost use Rattle.machine.specs.Machine.{words_of};
 ghost use Rattle.machine.specs.Makes.{Makes};
 ghost use Rattle.machine.specs.Step.Words.{in_frame, read_of, word_in, write_of};
+ghost use Rattle.machine.specs.WellFormed.{IsWellFormed};
 
 use base::{Cause, ObjId, Rights};
 use bitflags::Flags;
 use cspace::{find_frame, permit};
-use machine::{Answer, Made};
+use machine::{Answer, Made, calls_keep_machines_well_formed};
 use objects::State;
 
 /// Refuses an index past the 512 words of a frame.
@@ -44,15 +45,9 @@ pub fn read_word(state: &State, caller: ObjId, address: u64, index: u64) -> Resu
     Ok(Made::Done(Answer::Word(word(state, id, index))))
 }
 
-/// Writes the word of 64 bits at an index of the frame at an address. (confine's own, as
-/// [`read_word`].)
-///
-/// # Errors
-///
-/// Those of [`find_frame`], an invalid capability where the right Write is missing, and then a range
-/// error where the index isn't below 512.
+// Does what the row of a write says.
 #[tactic(auto, unfolding(machine::specs::Step::Words::write_of))]
-pub fn write_word(
+fn make_write_word(
     state: &mut State,
     caller: ObjId,
     address: u64,
@@ -66,4 +61,27 @@ pub fn write_word(
     in_frame(index)?;
     state.set_word(id, index, word);
     Ok(Made::Done(Answer::Nothing))
+}
+
+/// Writes the word of 64 bits at an index of the frame at an address. (confine's own, as
+/// [`read_word`].)
+///
+/// # Errors
+///
+/// Those of [`find_frame`], an invalid capability where the right Write is missing, and then a range
+/// error where the index isn't below 512.
+pub fn write_word(
+    state: &mut State,
+    caller: ObjId,
+    address: u64,
+    index: u64,
+    word: u64,
+) -> Result<Made, Cause>
+    requires well_formed { IsWellFormed state.old }
+    ensures made { Makes state.old state.new result (write_of state.old caller address index word) }
+    ensures well_formed { IsWellFormed state.new }
+{
+    // A law, so that the state stays well formed.
+    calls_keep_machines_well_formed();
+    make_write_word(state, caller, address, index, word)
 }

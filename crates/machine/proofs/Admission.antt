@@ -10,13 +10,8 @@ use Rattle.machine.specs.declared.thread.RunState.TheVariants as state
 use Rattle.machine.specs.declared.thread.Tcb.{Tcb}
 use Rattle.machine.specs.Machine.{Machine, object_of}
 use Rattle.machine.specs.Step.{admitted, is_ready, running_share, thread_in}
+pub use Rattle.machine.specs.WellFormed.{IsCaller}
 use Rattle.machine.proofs.Conditions.{both_done}
-
--- a caller is a thread that is there and ready
-pub record IsCaller (m : Machine) (caller : ObjId) : Type 0 where
-  pub thread : Tcb
-  pub there : object_of m caller ≡ Some (o.Tcb thread)
-  pub ready : thread.state ≡ state.Ready
 
 thread_there :
     (object : Option Object) (thread : Tcb) → thread_in object ≡ Ok thread → object ≡ Some (o.Tcb thread)

@@ -280,6 +280,7 @@ module _ (m next : Machine) (slot source : SlotRef) (held new : Cap) (formed : I
         links = links_same m next fills.objects formed.links;
         numbers =
             numbers_same m next fills.objects (λ q cap e. (q, cap, cap_after q cap e, refl)) one_now descent_now formed.numbers;
+        settled = fills.objects.going ∙ formed.settled;
       }
 
 pub derives_formed :

@@ -1,11 +1,13 @@
 -- Each step keeps a well-formed machine well formed.
 use Rattle.std.proofs.Common.{◌≡◌, ℕ, ◌⊎◌, inl, inr, List, [], ◌∷◌, ◌++◌, refl, sym, ap, subst, ◌∙◌}
-use Rattle.std.specs.Prelude.{Bool, Some, None, option_map, if◌then◌else◌}
+use Rattle.std.specs.Prelude.{Bool, Some, None, Result, Ok, Err, option_map, if◌then◌else◌}
+use Rattle.base.specs.declared.refusal.Cause.{Cause}
 use Rattle.base.specs.declared.ids.ObjId.{ObjId}
 use Rattle.base.specs.declared.ids.SlotRef.{SlotRef}
 use Rattle.machine.specs.declared.call.Call.{Call}
 use Rattle.machine.specs.declared.call.Call.TheVariants as call
 use Rattle.machine.specs.declared.call.Event.{Event}
+use Rattle.machine.specs.declared.call.Made.{Made}
 use Rattle.machine.specs.declared.call.Outcome.{Outcome}
 use Rattle.machine.specs.declared.cap.Cap.{Cap}
 use Rattle.machine.specs.declared.object.Notification.{Notification}
@@ -19,16 +21,17 @@ use Rattle.machine.specs.declared.thread.Tcb.{Tcb}
 use Rattle.machine.specs.Below.{is_below}
 use Rattle.machine.specs.Machine.{Machine, cap_of, object_of, queue_of, same_id, same_slot, with_object, with_queue}
 use Rattle.machine.specs.Objects.{kind_of_object}
+use Rattle.machine.specs.Makes.{Makes}
 use Rattle.machine.specs.Removal.{removed}
 use Rattle.machine.specs.Run.{Run}
-use Rattle.machine.specs.Step.{Step}
+use Rattle.machine.specs.Step.{ChangesCaller, Step, call_of}
 use Rattle.machine.specs.WellFormed.{IsThread, IsWellFormed, WaitsAtKind}
 use Rattle.machine.proofs.Admission.{IsCaller}
 use Rattle.machine.proofs.ContextsFormed.{bind_formed, configure_formed, unbind_formed}
 use Rattle.machine.proofs.FillsFormed.{derives_formed}
 use Rattle.machine.proofs.MessageRows.{endpoint_call_formed, fetch_formed, receive_formed, reply_formed, send_formed}
 use Rattle.machine.proofs.MovesFormed.{move_formed}
-use Rattle.machine.proofs.Inversion.{CallDone, EventDone, step_done}
+use Rattle.machine.proofs.Inversion.{CallDone, EventDone, call_done, step_done}
 use Rattle.machine.proofs.JoinLinks.{join_moves}
 use Rattle.machine.proofs.LookUps.{object_of-with_object, object_of-with_queue, queue_of-with_object}
 use Rattle.machine.proofs.Outlines.{Steady, queue_steady, steady_formed, steady_steady, thread_steady}
@@ -168,19 +171,19 @@ removal_formed m caller address chosen next formed done = by_case done.after whe
   by_case (inr some) = subst IsWellFormed (sym some.2) (removed_formed m (chosen done.slot) formed)
 
 call_formed :
-    (m : Machine) (caller : ObjId) (which : Call) (next : Machine) → IsWellFormed m → IsCaller m caller
+    (m : Machine) (caller : ObjId) (which : Call) (next : Machine) → IsWellFormed m → (ChangesCaller which → IsCaller m caller)
     → CallDone m caller which next → IsWellFormed next
 call_formed m caller (call.Signal address) next formed is = signal_formed m caller address next formed
 call_formed m caller (call.Poll address) next formed is = poll_formed m caller address next formed
-call_formed m caller (call.Wait address) next formed is = wait_formed m caller address next formed is
+call_formed m caller (call.Wait address) next formed is = wait_formed m caller address next formed (is tt)
 call_formed m caller (call.Send address words capability) next formed is =
-    send_formed m caller address words capability next formed is
+    send_formed m caller address words capability next formed (is tt)
 call_formed m caller (call.Call address words capability) next formed is =
-    endpoint_call_formed m caller address words capability next formed is
+    endpoint_call_formed m caller address words capability next formed (is tt)
 call_formed m caller (call.Receive address reply slot) next formed is =
-    receive_formed m caller address reply slot next formed is
+    receive_formed m caller address reply slot next formed (is tt)
 call_formed m caller (call.Reply address words) next formed is = reply_formed m caller address words next formed
-call_formed m caller call.Fetch next formed is = fetch_formed m caller next formed is
+call_formed m caller call.Fetch next formed is = fetch_formed m caller next formed (is tt)
 call_formed m caller (call.Copy to from rights) next formed is = derives_formed m caller to from next formed
 call_formed m caller (call.Mint to from rights gift) next formed is = derives_formed m caller to from next formed
 call_formed m caller (call.Move to from) next formed is = move_formed m caller to from next formed
@@ -199,12 +202,20 @@ call_formed m caller (call.Configure control context budget period) next formed 
 call_formed m caller (call.Bind context thread) next formed is = bind_formed m caller context thread next formed
 call_formed m caller (call.Unbind context) next formed is = unbind_formed m caller context next formed
 
+-- so does a call's code that does what its row says
+pub makes_formed :
+    (m next : Machine) (caller : ObjId) (which : Call) (result : Result Made Cause) → IsWellFormed m
+    → (ChangesCaller which → IsCaller m caller) → Makes m next result (call_of m caller which) → IsWellFormed next
+makes_formed m next caller which (Ok made) formed is makes =
+    call_formed m caller which next formed is (call_done m caller which made next formed is makes)
+makes_formed m next caller which (Err cause) formed is makes = subst IsWellFormed (sym makes.1) formed
+
 pub step_formed :
     (m : Machine) (event : Event) (outcome : Outcome) (next : Machine) → IsWellFormed m → Step m event outcome next
     → IsWellFormed next
 step_formed m event outcome next formed step = by_case (step_done m event outcome next formed step) where
   by_case : EventDone m event next ⊎ (next ≡ m) → IsWellFormed next
-  by_case (inl done) = call_formed m event.thread event.call next formed done.caller done.done
+  by_case (inl done) = call_formed m event.thread event.call next formed (λ _. done.caller) done.done
   by_case (inr same) = subst IsWellFormed (sym same) formed
 
 pub run_formed :

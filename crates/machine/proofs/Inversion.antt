@@ -10,7 +10,7 @@ use Rattle.machine.specs.declared.call.Made.{Made}
 use Rattle.machine.specs.declared.call.Outcome.{Outcome}
 use Rattle.machine.specs.Below.{is_below}
 use Rattle.machine.specs.Machine.{Machine, same_slot}
-use Rattle.machine.specs.Step.{Step, step_of, settled, made_by, call_of, admitted}
+use Rattle.machine.specs.Step.{ChangesCaller, Step, step_of, settled, made_by, call_of, admitted}
 use Rattle.machine.specs.Step.Step.{ends, lacks}
 use Rattle.machine.specs.WellFormed.{IsWellFormed}
 use Rattle.machine.proofs.Admission.{IsCaller, admits}
@@ -56,12 +56,12 @@ CallDone m caller (call.Configure control context budget period) next = Configur
 CallDone m caller (call.Bind context thread) next = BindDone m caller context thread next
 CallDone m caller (call.Unbind context) next = UnbindDone m caller context next
 
-call_done :
-    (m : Machine) (caller : ObjId) (which : Call) (made : Made) (next : Machine) → IsWellFormed m → IsCaller m caller
-    → call_of m caller which ≡ Ok (made, next) → CallDone m caller which next
+pub call_done :
+    (m : Machine) (caller : ObjId) (which : Call) (made : Made) (next : Machine) → IsWellFormed m
+    → (ChangesCaller which → IsCaller m caller) → call_of m caller which ≡ Ok (made, next) → CallDone m caller which next
 call_done m caller (call.Signal address) made next formed is = signal_done m caller address made next formed
 call_done m caller (call.Poll address) made next formed is = poll_done m caller address made next formed
-call_done m caller (call.Wait address) made next formed is = wait_done m caller address made next formed is
+call_done m caller (call.Wait address) made next formed is = wait_done m caller address made next formed (is tt)
 call_done m caller (call.Send address words capability) made next formed is =
     send_done m caller address words capability made next formed
 call_done m caller (call.Call address words capability) made next formed is =
@@ -101,7 +101,7 @@ unfolding made_by
 event_done m event made next formed e =
     let admission = both_done (admitted m event.core event.thread) _ (made, next) e in
     let is = admits m event.core event.thread admission.0 admission.1 in
-    record { caller = is; done = call_done m event.thread event.call made next formed is admission.2 }
+    record { caller = is; done = call_done m event.thread event.call made next formed (λ _. is) admission.2 }
 
 -- an event was made, or nothing changed
 pub step_done :

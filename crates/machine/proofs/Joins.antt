@@ -271,4 +271,5 @@ module _ (m next : Machine) (thread : ObjId) (old new : Tcb) (joined : IsJoined 
         caps = rest_caps m next joined.rest;
         parents = rest_parents m next joined.rest;
         number = joined.rest.next;
+        going = joined.rest.going;
       }

@@ -753,4 +753,4 @@ module _ (m next : Machine) (source : Source) (mark : ℕ) (object : Object) (de
       }
 
   pub made_formed : IsWellFormed next
-  made_formed = record { slots = slots_made; parts = parts_made; links = links_made; numbers = numbers_made }
+  made_formed = record { slots = slots_made; parts = parts_made; links = links_made; numbers = numbers_made; settled = makes.going ∙ formed.settled }

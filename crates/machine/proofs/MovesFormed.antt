@@ -156,6 +156,7 @@ module _ (m next : Machine) (source target : SlotRef) (held : Cap) (formed : IsW
         links = links_same m next moves.objects formed.links;
         numbers =
             numbers_same m next moves.objects (λ q cap e. (other q, cap, cap_now q cap e, refl)) one_now descent_now formed.numbers;
+        settled = moves.objects.going ∙ formed.settled;
       }
 
 pub move_formed :

@@ -18,7 +18,7 @@ use Rattle.machine.specs.WellFormed.{kind_of, Descends, IsRanged, IsThread, IsWe
 use Rattle.machine.specs.WellFormed.{NumbersFit, PartsFit, SlotsFit}
 use Rattle.machine.proofs.LookUps.{one_id, object_of-with_object, object_of-with_queue, queue_of-with_object, queue_of-with_queue}
 use Rattle.machine.proofs.LookUps.{words_of-with_object, words_of-with_queue, cap_of-with_object, cap_of-with_queue}
-use Rattle.machine.proofs.LookUps.{parent_of-with_object, parent_of-with_queue, number_of-with_object, number_of-with_queue}
+use Rattle.machine.proofs.LookUps.{parent_of-with_object, parent_of-with_queue, number_of-with_object, number_of-with_queue, going-with_object, going-with_queue}
 
 -- an object without what threads, notifications, replies and contexts hold for a time
 abbrev pub outline : Object → Object
@@ -36,6 +36,7 @@ pub record Steady (m next : Machine) : Type 0 where
   pub caps : (slot : SlotRef) → cap_of next slot ≡ cap_of m slot
   pub parents : (slot : SlotRef) → parent_of next slot ≡ parent_of m slot
   pub number : next.next ≡ m.next
+  pub going : next.going ≡ m.going
 
 -- what shows the same as something that is there is there too
 pub shown_there :
@@ -70,6 +71,7 @@ object_steady m id old new was same =
       caps = cap_of-with_object m id new;
       parents = parent_of-with_object m id new;
       number = number_of-with_object m id new;
+      going = going-with_object m id new;
     }
 
 -- a queue that is there becomes another
@@ -83,6 +85,7 @@ queue_steady m id old threads was =
       caps = cap_of-with_queue m id threads;
       parents = parent_of-with_queue m id threads;
       number = number_of-with_queue m id threads;
+      going = going-with_queue m id threads;
     }
   where
     at : (q : ObjId) (tie : Bool) → same_id q id ≡ tie
@@ -107,6 +110,7 @@ steady_steady m mid next one two =
       caps = λ slot. two.caps slot ∙ one.caps slot;
       parents = λ slot. two.parents slot ∙ one.parents slot;
       number = two.number ∙ one.number;
+      going = two.going ∙ one.going;
     }
 
 kind_in : (object : Object) → kind_of_object (outline object) ≡ kind_of_object object
@@ -372,4 +376,5 @@ steady_formed m next steady links formed =
       parts = parts_kept m next steady formed.parts;
       links = links;
       numbers = numbers_kept m next steady formed.numbers;
+      settled = steady.going ∙ formed.settled;
     }

@@ -226,4 +226,5 @@ module _ (m next : Machine) (thread : ObjId) (new : Tcb) (released : IsReleased 
           caps = rest_caps m next released.rest;
           parents = rest_parents m next released.rest;
           number = released.rest.next;
+          going = released.rest.going;
         }

@@ -22,7 +22,7 @@ use Rattle.machine.specs.Finalising.{staying_in, tcb_after, unbound}
 use Rattle.machine.specs.Machine.{Machine, object_of, queue_of}
 use Rattle.machine.specs.Removal.{removed, vanishes}
 use Rattle.machine.specs.WellFormed.{IsReceivingWith, IsSending, IsThread, IsWellFormed, LinksAgree, WaitsAt}
-use Rattle.machine.proofs.RemovalLooks.{queue_of-removed}
+use Rattle.machine.proofs.RemovalLooks.{going-removed, queue_of-removed}
 use Rattle.machine.proofs.RemovalNumbers.{numbers_fit}
 use Rattle.machine.proofs.RemovalSlots.{kind_now, parts_fit, queue_was, slots_fit}
 use Rattle.machine.proofs.RemovalStays.{object_was}
@@ -296,4 +296,5 @@ module _ (m : Machine) (chosen : SlotRef → Bool) (formed : IsWellFormed m) whe
         parts = parts_fit m chosen formed;
         links = links_agree;
         numbers = numbers_fit m chosen formed;
+        settled = going-removed m chosen;
       }

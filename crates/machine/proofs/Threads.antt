@@ -8,7 +8,7 @@ use Rattle.machine.specs.declared.thread.Tcb.{Tcb}
 use Rattle.machine.specs.Changes.{with_tcb}
 use Rattle.machine.specs.Machine.{Machine, object_of, queue_of, with_object}
 use Rattle.machine.specs.Step.{admitted}
-use Rattle.machine.specs.WellFormed.{IsThread, IsWellFormed}
+use Rattle.machine.specs.WellFormed.{IsCaller, IsThread, IsWellFormed}
 use Rattle.machine.proofs.Admission.{admits}
 use Rattle.machine.proofs.Ids.{at_itself}
 use Rattle.machine.proofs.LookUps.{object_of-with_object, queue_of-with_object}
@@ -28,9 +28,15 @@ pub queue_with_tcb :
     (m : Machine) (id : ObjId) (old new : Tcb) → IsThread m id old → (q : ObjId) → queue_of (with_tcb m id new) q ≡ queue_of m q
 queue_with_tcb m id old new there q = rw (with_tcb_there m id old new there) (queue_of-with_object m id (o.Tcb new) q)
 
+-- a ready thread is in no queue
+pub ready_caller_waits_nowhere :
+    (m : Machine) (caller : ObjId) → IsWellFormed m → IsCaller m caller → (id : ObjId) (threads : List ObjId)
+    → queue_of m id ≡ Some threads → ¬ (Contains threads caller)
+ready_caller_waits_nowhere m caller formed is = ready_waits_nowhere m caller is.thread formed.links is.there is.ready
+
 -- a thread that may call is in no queue
 pub caller_waits_nowhere :
     (m : Machine) (core : ℕ) (caller : ObjId) (share : Share) → IsWellFormed m → admitted m core caller ≡ Ok share
     → (id : ObjId) (threads : List ObjId) → queue_of m id ≡ Some threads → ¬ (Contains threads caller)
 caller_waits_nowhere m core caller share formed e =
-    let is = admits m core caller share e in ready_waits_nowhere m caller is.thread formed.links is.there is.ready
+    ready_caller_waits_nowhere m caller formed (admits m core caller share e)

@@ -30,6 +30,7 @@ words_steady m id old words was same =
       caps = λ slot. refl;
       parents = λ slot. refl;
       number = refl;
+      going = refl;
     }
 
 links_with_words : (m : Machine) (id : ObjId) (words : List ℕ) → LinksAgree m → LinksAgree (with_words m id words)

@@ -134,6 +134,15 @@ settled m (Err cause) = (Refused (refusal_of cause), m)
 unfoldable pub step_of : Machine → Event → Outcome × Machine
 step_of m event = settled m (made_by m event)
 
+-- the calls that change the thread that makes them: it may come to wait, or its inbox is emptied
+abbrev pub ChangesCaller : Call → Type 0
+ChangesCaller (call.Wait _) = Unit {0}
+ChangesCaller (call.Send _ _ _) = Unit {0}
+ChangesCaller (call.Call _ _ _) = Unit {0}
+ChangesCaller (call.Receive _ _ _) = Unit {0}
+ChangesCaller call.Fetch = Unit {0}
+ChangesCaller _ = ⊥
+
 -- whether a call takes memory
 abbrev pub takes_memory : Call → Bool
 takes_memory (call.Signal _) = Bool.false

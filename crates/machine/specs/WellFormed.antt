@@ -1,6 +1,6 @@
 -- Well-formed machines: what slots, the parts of objects, the links between objects, and numbers and ranges keep, for all nine kinds
 -- (seL4 manual, "Capability Spaces", "Capability Derivation Tree", "Untyped Memory" and "Scheduling Contexts").
-use Rattle.std.specs.Prelude.{◌≡◌, ◌≢◌, ℕ, ◌<◌, ◌≤◌, ◌⊎◌, List, length, Option, Some, Contains, AllPairs, option_map}
+use Rattle.std.specs.Prelude.{◌≡◌, ◌≢◌, ℕ, ◌<◌, ◌≤◌, ◌⊎◌, List, [], length, Option, Some, Contains, AllPairs, option_map}
 use Rattle.base.specs.declared.ids.ObjId.{ObjId}
 use Rattle.base.specs.declared.ids.SlotRef.{SlotRef}
 use Rattle.base.specs.declared.limits.TheConstants.{ADDRESS_END}
@@ -85,6 +85,12 @@ IsReceivingWith _ id = ⊥
 -- the thread of that number, if it is one
 abbrev pub IsThread : Machine → ObjId → Tcb → Type 0
 IsThread m id thread = object_of m id ≡ Some (o.Tcb thread)
+
+-- who may make a call, on whichever core: a thread that is ready
+pub record IsCaller (m : Machine) (caller : ObjId) : Type 0 where
+  pub thread : Tcb
+  pub there : IsThread m caller thread
+  pub ready : thread.state ≡ state.Ready
 
 -- a run state that waits at nothing and names nothing
 abbrev pub IsIdle : RunState → Type 0
@@ -200,3 +206,5 @@ pub record IsWellFormed (m : Machine) : Type 0 where
   pub parts : PartsFit m
   pub links : LinksAgree m
   pub numbers : NumbersFit m
+  -- no removal is under way
+  pub settled : m.going ≡ []

@@ -13,7 +13,6 @@ mod message_laws;
 mod object;
 mod radix;
 mod removal_laws;
-mod row_laws;
 mod slot_address;
 mod spelling;
 mod step_laws;
@@ -24,7 +23,10 @@ pub use authority_laws::{authority_grows_with_capabilities, rights_alone_decide_
 pub use call::{Answer, Call, CapData, Event, Log, Made, Outcome, Unmade};
 pub use cap::{Badged, Cap, Detail, Guard};
 pub use layout::{Binding, Filled, Initial, Pair};
-pub use message_laws::{blocks_keep_machines_well_formed, releases_keep_machines_well_formed};
+pub use message_laws::{
+    arrivals_keep_machines_well_formed, blocks_keep_machines_well_formed,
+    releases_keep_machines_well_formed,
+};
 pub use object::{
     CNode, Context, Control, Endpoint, Frame, MemoryKind, Notification, Object, ObjectKind, Reply,
     ReplyState, Share, Untyped,
@@ -36,11 +38,10 @@ pub use removal_laws::{
     orphans_come_to_their_nearest_ancestor, removals_keep_machines_well_formed,
     vanished_objects_are_finalised, what_goes_is_the_least_closed_set,
 };
-pub use row_laws::messages_keep_machines_well_formed;
 pub use slot_address::{Ends, SlotAddress};
 pub use step_laws::{
-    calls_are_refused_by_conditions, retypes_keep_machines_well_formed,
-    steps_keep_machines_well_formed, steps_of_one_event_agree,
+    calls_are_refused_by_conditions, calls_keep_machines_well_formed,
+    retypes_keep_machines_well_formed, steps_keep_machines_well_formed, steps_of_one_event_agree,
 };
 pub use thread::{Inbox, Message, Receiving, RunState, Sending, Tcb};
 pub use thread_laws::cleared_root_slots_can_be_filled;

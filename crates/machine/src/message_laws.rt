@@ -1,5 +1,5 @@
 ghost use Rattle.base.specs.declared.ids.ObjId.{ObjId as Number};
-ghost use Rattle.std.specs.Prelude.{◌≡◌, Some};
+ghost use Rattle.std.specs.Prelude.{◌≡◌, Option, Some};
 ghost use Rattle.machine.specs.declared.object.Object.TheVariants as o;
 ghost use Rattle.machine.specs.declared.object.ObjectKind.{ObjectKind as Kind};
 ghost use Rattle.machine.specs.declared.object.ObjectKind.TheVariants as kind;
@@ -16,6 +16,9 @@ ghost use Rattle.machine.specs.Step.Fetch.{emptied};
 ghost use Rattle.machine.specs.Step.Receive.{awaiting_message};
 ghost use Rattle.machine.specs.WellFormed.{IsAlike, IsFree, IsIdle, IsReceivingWith, IsThread, IsWellFormed};
 ghost use Rattle.machine.specs.WellFormed.{WaitsAt, WaitsAtKind, kind_of};
+ghost use Rattle.machine.specs.declared.slot_address.SlotAddress.{SlotAddress as Slot};
+ghost use Rattle.machine.specs.declared.thread.Sending.{Sending as Sends};
+ghost use Rattle.machine.specs.Step.Deliver.{arrival_of, with_arrival};
 
 /// A law: a thread that leaves its queue and its reply keeps a well-formed machine well formed,
 /// whether it is then ready, halted or aborted, or has a message. A reply whose thread is halted is
@@ -64,4 +67,11 @@ pub fn blocks_keep_machines_well_formed()
         → IsIdle tcb.state
         → IsFree m id
         → IsWellFormed (with_called m thread id) }
+{}
+
+/// A law: a capability that arrives with a message keeps a well-formed machine well formed.
+pub fn arrivals_keep_machines_well_formed()
+    ensures { (m : Machine) (sender : Number) (sending : Sends) (receiver : Number) (slot : Option Slot)
+        → IsWellFormed m
+        → IsWellFormed (with_arrival m (arrival_of m sender sending receiver slot)) }
 {}

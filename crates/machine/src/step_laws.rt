@@ -1,19 +1,22 @@
 ghost use Rattle.base.specs.declared.ids.ObjId.{ObjId as Number};
-ghost use Rattle.std.specs.Prelude.{◌≡◌, ◌≢◌, ◌⊎◌, ℕ, List, All, Ok};
+ghost use Rattle.std.specs.Prelude.{◌≡◌, ◌≢◌, ◌⊎◌, ℕ, List, All, Ok, Result};
 ghost use Rattle.std.specs.List.{zip};
 ghost use Rattle.base.specs.declared.refusal.Misuse.{Misuse as Wrong};
 ghost use Rattle.base.specs.Refusals.{misuse_refusal};
+ghost use Rattle.base.specs.declared.refusal.Cause.{Cause as Why};
+ghost use Rattle.machine.specs.declared.call.Call.{Call as Calls};
 ghost use Rattle.machine.specs.declared.call.Event.{Event as Occurs};
 ghost use Rattle.machine.specs.declared.call.Made.{Made as Comes};
 ghost use Rattle.machine.specs.declared.call.Outcome.{Outcome as Ended};
 ghost use Rattle.machine.specs.declared.call.Outcome.TheVariants.{Refused};
 ghost use Rattle.machine.specs.declared.object.MemoryKind.{MemoryKind as Kind};
 ghost use Rattle.machine.specs.Machine.{Machine};
+ghost use Rattle.machine.specs.Makes.{Makes};
 ghost use Rattle.machine.specs.Outcomes.{IsRefused};
 ghost use Rattle.machine.specs.Run.{Run};
-ghost use Rattle.machine.specs.Step.{LacksMemory, MayEnd, Step};
+ghost use Rattle.machine.specs.Step.{ChangesCaller, LacksMemory, MayEnd, Step, call_of};
 ghost use Rattle.machine.specs.Step.Retype.{retype_of};
-ghost use Rattle.machine.specs.WellFormed.{IsWellFormed};
+ghost use Rattle.machine.specs.WellFormed.{IsCaller, IsWellFormed};
 
 /// A law: two steps of one event from one machine agree, unless one of them lacked memory. A refused
 /// step leaves the machine as it was.
@@ -52,6 +55,16 @@ pub fn steps_keep_machines_well_formed()
         → IsWellFormed first
         → Run first events outcomes last
         → IsWellFormed last }
+{}
+
+/// A law: a call keeps a well-formed machine well formed, also by itself, before its thread is admitted. One that changes the thread
+/// that makes it does where that is ready.
+pub fn calls_keep_machines_well_formed()
+    ensures { (m next : Machine) (caller : Number) (which : Calls) (result : Result Comes Why)
+        → IsWellFormed m
+        → (ChangesCaller which → IsCaller m caller)
+        → Makes m next result (call_of m caller which)
+        → IsWellFormed next }
 {}
 
 /// A law: a retype that is made keeps a well-formed machine well formed.

@@ -19,5 +19,4 @@ pub mod Removed
 pub mod SlotLemmas
 pub mod StateLemmas
 pub mod TreeState
-pub mod Walking
 pub mod Ways

@@ -9,4 +9,3 @@ pub mod Queues
 pub mod Radices
 pub mod State
 pub mod Waiting
-pub mod Walks

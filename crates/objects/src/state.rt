@@ -56,7 +56,6 @@ impl State {
     ghost use Rattle.machine.specs.Counts.{objects_in, slots_in, threads_in, caps_to};
     ghost use Rattle.machine.specs.Objects.{slot_count, thread_count};
     ghost use Rattle.objects.specs.Waiting.{WaitsNowhere, WaitsThere};
-    ghost use Rattle.objects.specs.Walks.{IsBehind};
     ghost use Rattle.machine.specs.Changes.{first_waiting, with_pending, with_tcb, with_reply, with_context, with_waiting, without_first};
     ghost use Rattle.machine.specs.Changes.{with_going, with_none_going, with_watermark, with_word, without_object, without_waiting};
 
@@ -298,30 +297,6 @@ impl State {
         ensures none { IfNone result ((child : Slot) → parent_of self.now child ≢ Some slot) }
     {
         self.store.first_child(slot)
-    }
-
-    /// The slot that comes behind `last` in a walk through all that descends from `above`; the first
-    /// of the walk where no `last` is named. The walk comes to each slot once, before what descends
-    /// from it.
-    ///
-    /// It takes time in the length of the way up, but a whole walk takes time in the number of slots.
-    pub fn next_descendant(&self, above: SlotRef, last: Option<SlotRef>) -> Option<SlotRef>
-        requires { IfSome last (λ last. Descends self.now last above) }
-        ensures { IsBehind self.now above last result }
-    {
-        let from = last.unwrap_or(above);
-        if let Some(child) = self.store.first_child(from) {
-            return Some(child);
-        }
-        let mut at = from;
-        while at != above {
-            let links = self.store.links(at);
-            if let Some(sibling) = links.next {
-                return Some(sibling);
-            }
-            at = links.parent?;
-        }
-        None
     }
 
     /// Makes `slot`, which has no parent, a child of `parent` in the derivation tree (seL4 manual,

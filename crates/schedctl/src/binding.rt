@@ -2,10 +2,11 @@ ghost use Rattle.std.specs.Prelude.{◌≡◌};
 ghost use Rattle.machine.specs.Machine.{object_of};
 ghost use Rattle.machine.specs.Makes.{Makes};
 ghost use Rattle.machine.specs.Step.Bind.{bind_of, context_under, thread_on, unbind_of, unlinked, with_bound, without_thread};
+ghost use Rattle.machine.specs.WellFormed.{IsWellFormed};
 
 use base::{Cause, ObjId};
 use cspace::{find_context, find_tcb};
-use machine::{Answer, Context, Made, Object, Tcb};
+use machine::{Answer, Context, Made, Object, Tcb, calls_keep_machines_well_formed};
 use objects::State;
 
 /// The thread that runs on a scheduling context.
@@ -69,15 +70,9 @@ fn unbind_thread(state: &mut State, thread: Option<ObjId>)
     }
 }
 
-/// Has the thread at the address `thread` run on the scheduling context at the address `context` (seL4
-/// manual, seL4_SchedContext_Bind). The context may not be configured yet.
-///
-/// # Errors
-///
-/// Those of [`find_context`] and then those of [`find_tcb`]; an illegal operation where a thread runs
-/// on the context already, or the thread on a context.
+// Does what the row of a bind says.
 #[tactic(auto, unfolding(machine::specs::Step::Bind::bind_of))]
-pub fn bind(state: &mut State, caller: ObjId, context: u64, thread: u64) -> Result<Made, Cause>
+fn make_bind(state: &mut State, caller: ObjId, context: u64, thread: u64) -> Result<Made, Cause>
     ensures { Makes state.old state.new result (bind_of state.old caller context thread) }
 {
     let id = find_context(state, caller, context)?;
@@ -88,18 +83,46 @@ pub fn bind(state: &mut State, caller: ObjId, context: u64, thread: u64) -> Resu
     Ok(Made::Done(Answer::Nothing))
 }
 
-/// Unbinds the thread that runs on the scheduling context at an address (seL4 manual,
-/// seL4_SchedContext_Unbind). Where none does, nothing changes.
+/// Has the thread at the address `thread` run on the scheduling context at the address `context` (seL4
+/// manual, seL4_SchedContext_Bind). The context may not be configured yet.
 ///
 /// # Errors
 ///
-/// Those of [`find_context`].
+/// Those of [`find_context`] and then those of [`find_tcb`]; an illegal operation where a thread runs
+/// on the context already, or the thread on a context.
+pub fn bind(state: &mut State, caller: ObjId, context: u64, thread: u64) -> Result<Made, Cause>
+    requires well_formed { IsWellFormed state.old }
+    ensures made { Makes state.old state.new result (bind_of state.old caller context thread) }
+    ensures well_formed { IsWellFormed state.new }
+{
+    // A law, so that the state stays well formed.
+    calls_keep_machines_well_formed();
+    make_bind(state, caller, context, thread)
+}
+
+// Does what the row of an unbind says.
 #[tactic(auto, unfolding(machine::specs::Step::Bind::unbind_of))]
-pub fn unbind(state: &mut State, caller: ObjId, address: u64) -> Result<Made, Cause>
+fn make_unbind(state: &mut State, caller: ObjId, address: u64) -> Result<Made, Cause>
     ensures { Makes state.old state.new result (unbind_of state.old caller address) }
 {
     let id = find_context(state, caller, address)?;
     let thread = thread_on(state, id);
     unbind_thread(state, thread);
     Ok(Made::Done(Answer::Nothing))
+}
+
+/// Unbinds the thread that runs on the scheduling context at an address (seL4 manual,
+/// seL4_SchedContext_Unbind). Where none does, nothing changes.
+///
+/// # Errors
+///
+/// Those of [`find_context`].
+pub fn unbind(state: &mut State, caller: ObjId, address: u64) -> Result<Made, Cause>
+    requires well_formed { IsWellFormed state.old }
+    ensures made { Makes state.old state.new result (unbind_of state.old caller address) }
+    ensures well_formed { IsWellFormed state.new }
+{
+    // A law, so that the state stays well formed.
+    calls_keep_machines_well_formed();
+    make_unbind(state, caller, address)
 }

@@ -2,10 +2,11 @@ ghost use Rattle.std.specs.Prelude.{◌≡◌};
 ghost use Rattle.machine.specs.Machine.{object_of};
 ghost use Rattle.machine.specs.Makes.{Makes};
 ghost use Rattle.machine.specs.Step.Configure.{configure_of, core_in, in_limits, with_share};
+ghost use Rattle.machine.specs.WellFormed.{IsWellFormed};
 
 use base::{Cause, CoreNo, MAX_PERIOD, ObjId};
 use cspace::{find_context, find_control};
-use machine::{Answer, Context, Made, Object, Share};
+use machine::{Answer, Context, Made, Object, Share, calls_keep_machines_well_formed};
 use objects::State;
 
 /// Refuses a budget below 1 or past its period, and a period past [`MAX_PERIOD`].
@@ -43,16 +44,9 @@ fn give_share(state: &mut State, id: ObjId, share: Share)
     }
 }
 
-/// Gives the scheduling context at an address a budget and a period, in microseconds, on the core of
-/// the control at the address `control` (seL4 manual, seL4_SchedControl_ConfigureFlags). What it had
-/// before is lost; the thread that runs on it stays.
-///
-/// # Errors
-///
-/// Those of [`find_control`] and then those of [`find_context`]; and a range error unless
-/// `1 <= budget <= period <= MAX_PERIOD`.
+// Does what the row of a configuring says.
 #[tactic(auto, unfolding(machine::specs::Step::Configure::configure_of))]
-pub fn configure(
+fn make_configure(
     state: &mut State,
     caller: ObjId,
     control: u64,
@@ -72,4 +66,29 @@ pub fn configure(
     };
     give_share(state, id, share);
     Ok(Made::Done(Answer::Nothing))
+}
+
+/// Gives the scheduling context at an address a budget and a period, in microseconds, on the core of
+/// the control at the address `control` (seL4 manual, seL4_SchedControl_ConfigureFlags). What it had
+/// before is lost; the thread that runs on it stays.
+///
+/// # Errors
+///
+/// Those of [`find_control`] and then those of [`find_context`]; and a range error unless
+/// `1 <= budget <= period <= MAX_PERIOD`.
+pub fn configure(
+    state: &mut State,
+    caller: ObjId,
+    control: u64,
+    address: u64,
+    budget: u64,
+    period: u64,
+) -> Result<Made, Cause>
+    requires well_formed { IsWellFormed state.old }
+    ensures made { Makes state.old state.new result (configure_of state.old caller control address budget period) }
+    ensures well_formed { IsWellFormed state.new }
+{
+    // A law, so that the state stays well formed.
+    calls_keep_machines_well_formed();
+    make_configure(state, caller, control, address, budget, period)
 }

@@ -6,7 +6,7 @@ ghost use Rattle.machine.specs.WellFormed.{IsWellFormed};
 
 use base::{Cause, ObjId};
 use cspace::find_tcb;
-use machine::{Answer, Made, Object, RunState};
+use machine::{Answer, Made, Object, RunState, calls_keep_machines_well_formed};
 use objects::State;
 use replies::abort;
 
@@ -25,19 +25,41 @@ fn let_run(state: &mut State, thread: ObjId)
     }
 }
 
+// Does what the row of a suspend says.
+#[tactic(auto, unfolding(machine::specs::Step::Suspend::suspend_of))]
+fn make_suspend(state: &mut State, caller: ObjId, address: u64) -> Result<Made, Cause>
+    requires { IsWellFormed state.old }
+    ensures { Makes state.old state.new result (suspend_of state.old caller address) }
+{
+    let (_, thread) = find_tcb(state, caller, address)?;
+    replies::suspend(state, thread);
+    Ok(Made::Done(Answer::Nothing))
+}
+
 /// Suspends the thread at an address: it leaves its queue and its reply, can't run until it is resumed,
 /// and has nothing to fetch (seL4 manual, seL4_TCB_Suspend).
 ///
 /// # Errors
 ///
 /// Those of [`find_tcb`].
-#[tactic(auto, unfolding(machine::specs::Step::Suspend::suspend_of))]
 pub fn suspend(state: &mut State, caller: ObjId, address: u64) -> Result<Made, Cause>
+    requires well_formed { IsWellFormed state.old }
+    ensures made { Makes state.old state.new result (suspend_of state.old caller address) }
+    ensures well_formed { IsWellFormed state.new }
+{
+    // A law, so that the state stays well formed.
+    calls_keep_machines_well_formed();
+    make_suspend(state, caller, address)
+}
+
+// Does what the row of a resume says.
+#[tactic(auto, unfolding(machine::specs::Step::Suspend::resume_of))]
+fn make_resume(state: &mut State, caller: ObjId, address: u64) -> Result<Made, Cause>
     requires { IsWellFormed state.old }
-    ensures { Makes state.old state.new result (suspend_of state.old caller address) }
+    ensures { Makes state.old state.new result (resume_of state.old caller address) }
 {
     let (_, thread) = find_tcb(state, caller, address)?;
-    replies::suspend(state, thread);
+    let_run(state, thread);
     Ok(Made::Done(Answer::Nothing))
 }
 
@@ -48,12 +70,12 @@ pub fn suspend(state: &mut State, caller: ObjId, address: u64) -> Result<Made, C
 /// # Errors
 ///
 /// Those of [`find_tcb`].
-#[tactic(auto, unfolding(machine::specs::Step::Suspend::resume_of))]
 pub fn resume(state: &mut State, caller: ObjId, address: u64) -> Result<Made, Cause>
-    requires { IsWellFormed state.old }
-    ensures { Makes state.old state.new result (resume_of state.old caller address) }
+    requires well_formed { IsWellFormed state.old }
+    ensures made { Makes state.old state.new result (resume_of state.old caller address) }
+    ensures well_formed { IsWellFormed state.new }
 {
-    let (_, thread) = find_tcb(state, caller, address)?;
-    let_run(state, thread);
-    Ok(Made::Done(Answer::Nothing))
+    // A law, so that the state stays well formed.
+    calls_keep_machines_well_formed();
+    make_resume(state, caller, address)
 }

@@ -9,7 +9,9 @@ ghost use Rattle.machine.specs.WellFormed.{IsWellFormed};
 use base::{Cause, ObjId, SlotRef};
 use cnodeops::derive;
 use cspace::{find_cap, find_tcb};
-use machine::{Answer, Detail, Ends, Made, cleared_root_slots_can_be_filled};
+use machine::{
+    Answer, Detail, Ends, Made, calls_keep_machines_well_formed, cleared_root_slots_can_be_filled,
+};
 use objects::State;
 use removal::remove;
 
@@ -73,6 +75,17 @@ fn fill_root(state: &mut State, thread: ObjId, tcb: SlotRef, node: SlotRef)
     }
 }
 
+// Does what the row of a clearing of a space says.
+#[tactic(auto, unfolding(machine::specs::Step::Space::clear_space_of))]
+fn make_clear_space(state: &mut State, caller: ObjId, address: u64) -> Result<Made, Cause>
+    requires { IsWellFormed state.old }
+    ensures { Makes state.old state.new result (clear_space_of state.old caller address) }
+{
+    let (_, thread) = find_tcb(state, caller, address)?;
+    clear_root(state, thread);
+    Ok(Made::Done(Answer::Nothing))
+}
+
 /// Removes the capability in the root slot of the thread at an address, if it is filled, and all that
 /// can't stay without it: the thread's look-ups fail from then on (confine's own, a part of seL4's
 /// seL4_TCB_SetSpace).
@@ -80,13 +93,28 @@ fn fill_root(state: &mut State, thread: ObjId, tcb: SlotRef, node: SlotRef)
 /// # Errors
 ///
 /// Those of [`find_tcb`].
-#[tactic(auto, unfolding(machine::specs::Step::Space::clear_space_of))]
 pub fn clear_space(state: &mut State, caller: ObjId, address: u64) -> Result<Made, Cause>
-    requires { IsWellFormed state.old }
-    ensures { Makes state.old state.new result (clear_space_of state.old caller address) }
+    requires well_formed { IsWellFormed state.old }
+    ensures made { Makes state.old state.new result (clear_space_of state.old caller address) }
+    ensures well_formed { IsWellFormed state.new }
 {
-    let (_, thread) = find_tcb(state, caller, address)?;
+    // A law, so that the state stays well formed.
+    calls_keep_machines_well_formed();
+    make_clear_space(state, caller, address)
+}
+
+// Does what the row of a setting of a space says.
+#[tactic(auto, unfolding(machine::specs::Step::Space::set_space_of))]
+fn make_set_space(state: &mut State, caller: ObjId, address: u64, space: u64) -> Result<Made, Cause>
+    requires { IsWellFormed state.old }
+    ensures { Makes state.old state.new result (set_space_of state.old caller address space) }
+{
+    // A law, so that the root slot can be filled.
+    cleared_root_slots_can_be_filled();
+    let (tcb, thread) = find_tcb(state, caller, address)?;
+    let node = find_node(state, caller, space)?;
     clear_root(state, thread);
+    fill_root(state, thread, tcb, node);
     Ok(Made::Done(Answer::Nothing))
 }
 
@@ -99,16 +127,12 @@ pub fn clear_space(state: &mut State, caller: ObjId, address: u64) -> Result<Mad
 ///
 /// Those of [`find_tcb`] and then those of [`find_cap`]; and an invalid capability where that at
 /// `space` is no CNode's.
-#[tactic(auto, unfolding(machine::specs::Step::Space::set_space_of))]
 pub fn set_space(state: &mut State, caller: ObjId, address: u64, space: u64) -> Result<Made, Cause>
-    requires { IsWellFormed state.old }
-    ensures { Makes state.old state.new result (set_space_of state.old caller address space) }
+    requires well_formed { IsWellFormed state.old }
+    ensures made { Makes state.old state.new result (set_space_of state.old caller address space) }
+    ensures well_formed { IsWellFormed state.new }
 {
-    // A law, so that the root slot can be filled.
-    cleared_root_slots_can_be_filled();
-    let (tcb, thread) = find_tcb(state, caller, address)?;
-    let node = find_node(state, caller, space)?;
-    clear_root(state, thread);
-    fill_root(state, thread, tcb, node);
-    Ok(Made::Done(Answer::Nothing))
+    // A law, so that the state stays well formed.
+    calls_keep_machines_well_formed();
+    make_set_space(state, caller, address, space)
 }

@@ -6,7 +6,7 @@ use base::{Cause, ObjId};
 use cnodeops::{copyable, derive, target, vacant};
 use cspace::{find_cap, permit};
 use machine::{
-    Ends, Message, Receiving, Sending, SlotAddress, messages_keep_machines_well_formed,
+    Ends, Message, Receiving, Sending, SlotAddress, arrivals_keep_machines_well_formed,
     releases_keep_machines_well_formed,
 };
 use objects::State;
@@ -51,7 +51,7 @@ pub fn arrive(
     ensures well_formed { IsWellFormed state.new }
 {
     // A law, so that the state stays well formed.
-    messages_keep_machines_well_formed();
+    arrivals_keep_machines_well_formed();
     match arrival(state, sender, sending, receiver, slot) {
         Ok(ends) => {
             derive(state, ends, ends.held.detail);

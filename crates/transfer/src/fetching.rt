@@ -2,9 +2,10 @@ ghost use Rattle.std.specs.Prelude.{◌≡◌};
 ghost use Rattle.machine.specs.Machine.{object_of};
 ghost use Rattle.machine.specs.Makes.{Makes};
 ghost use Rattle.machine.specs.Step.Fetch.{emptied, fetch_of, fetched, fetched_in};
+ghost use Rattle.machine.specs.WellFormed.{IsCaller, IsWellFormed};
 
 use base::{Cause, ObjId};
-use machine::{Answer, Inbox, Made, Object, Tcb};
+use machine::{Answer, Inbox, Made, Object, Tcb, calls_keep_machines_well_formed};
 use objects::State;
 
 /// What an inbox answers.
@@ -43,6 +44,16 @@ fn empty_inbox(state: &mut State, thread: ObjId)
     }
 }
 
+// Does what the row of a fetch says.
+#[tactic(auto, unfolding(machine::specs::Step::Fetch::fetch_of))]
+fn make_fetch(state: &mut State, caller: ObjId) -> Result<Made, Cause>
+    ensures { Makes state.old state.new result (fetch_of state.old caller) }
+{
+    let answer = fetched_in(state, caller)?;
+    empty_inbox(state, caller);
+    Ok(Made::Done(answer))
+}
+
 /// Takes what the caller was given while it waited and has not fetched yet: a message, the word of a
 /// notification, or that what it waited for went away. Its inbox is empty then. (confine's own: seL4
 /// puts these into the thread's registers.)
@@ -50,11 +61,13 @@ fn empty_inbox(state: &mut State, thread: ObjId)
 /// # Errors
 ///
 /// An illegal operation where the inbox is empty.
-#[tactic(auto, unfolding(machine::specs::Step::Fetch::fetch_of))]
 pub fn fetch(state: &mut State, caller: ObjId) -> Result<Made, Cause>
-    ensures { Makes state.old state.new result (fetch_of state.old caller) }
+    requires well_formed { IsWellFormed state.old }
+    requires caller { IsCaller state.old caller }
+    ensures made { Makes state.old state.new result (fetch_of state.old caller) }
+    ensures well_formed { IsWellFormed state.new }
 {
-    let answer = fetched_in(state, caller)?;
-    empty_inbox(state, caller);
-    Ok(Made::Done(answer))
+    // A law, so that the state stays well formed.
+    calls_keep_machines_well_formed();
+    make_fetch(state, caller)
 }

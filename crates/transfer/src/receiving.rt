@@ -3,7 +3,7 @@ ghost use Rattle.base.specs.declared.ids.ObjId.{ObjId as Id};
 ghost use Rattle.machine.specs.Makes.{Makes};
 ghost use Rattle.machine.specs.Releasing.{IsInItsQueue};
 ghost use Rattle.machine.specs.Step.Receive.{awaiting_message, find_named_reply, receive_of, received, with_reply_ended};
-ghost use Rattle.machine.specs.WellFormed.{IsWellFormed};
+ghost use Rattle.machine.specs.WellFormed.{IsCaller, IsWellFormed};
 ghost use Rattle.objects.specs.Waiting.{WaitsNowhere};
 
 use crate::arrivals::{arrive, message};
@@ -12,7 +12,10 @@ use crate::releases::release;
 use base::{Cause, ObjId, Rights};
 use bitflags::Flags;
 use cspace::{find_endpoint, find_reply, permit};
-use machine::{Answer, Made, Receiving, RunState, SlotAddress, releases_keep_machines_well_formed};
+use machine::{
+    Answer, Made, Receiving, RunState, SlotAddress, calls_keep_machines_well_formed,
+    releases_keep_machines_well_formed,
+};
 use objects::State;
 use queues::block;
 use replies::{unlink, wait_with};
@@ -83,20 +86,9 @@ fn receive_or_wait(state: &mut State, caller: ObjId, receiving: Receiving) -> Ma
     }
 }
 
-/// Receives a message through the endpoint at an address: that of the thread that waits first to send;
-/// where none does, the caller waits for one (seL4 manual, "Endpoints", "Reply objects" and
-/// seL4_Recv).
-///
-/// Through the reply at the address `reply`, if one is given, a call is answered; the thread that it
-/// held until then is halted first. The message's capability, if one arrives, is put into `slot`, an
-/// empty one; where none is given, or it isn't there or is filled, the message comes without it.
-///
-/// # Errors
-///
-/// Those of [`find_endpoint`], an invalid capability where the right Read is missing, and then those of
-/// [`find_reply`].
+// Does what the row of a receive says.
 #[tactic(auto, unfolding(machine::specs::Step::Receive::receive_of))]
-pub fn receive(
+fn make_receive(
     state: &mut State,
     caller: ObjId,
     address: u64,
@@ -117,4 +109,33 @@ pub fn receive(
         slot,
     };
     Ok(receive_or_wait(state, caller, receiving))
+}
+
+/// Receives a message through the endpoint at an address: that of the thread that waits first to send;
+/// where none does, the caller waits for one (seL4 manual, "Endpoints", "Reply objects" and
+/// seL4_Recv).
+///
+/// Through the reply at the address `reply`, if one is given, a call is answered; the thread that it
+/// held until then is halted first. The message's capability, if one arrives, is put into `slot`, an
+/// empty one; where none is given, or it isn't there or is filled, the message comes without it.
+///
+/// # Errors
+///
+/// Those of [`find_endpoint`], an invalid capability where the right Read is missing, and then those of
+/// [`find_reply`].
+pub fn receive(
+    state: &mut State,
+    caller: ObjId,
+    address: u64,
+    reply: Option<u64>,
+    slot: Option<SlotAddress>,
+) -> Result<Made, Cause>
+    requires well_formed { IsWellFormed state.old }
+    requires caller { IsCaller state.old caller }
+    ensures made { Makes state.old state.new result (receive_of state.old caller address reply slot) }
+    ensures well_formed { IsWellFormed state.new }
+{
+    // A law, so that the state stays well formed.
+    calls_keep_machines_well_formed();
+    make_receive(state, caller, address, reply, slot)
 }

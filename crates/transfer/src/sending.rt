@@ -2,7 +2,7 @@ ghost use Rattle.std.specs.Prelude.{◌≡◌};
 ghost use Rattle.machine.specs.Makes.{Makes};
 ghost use Rattle.machine.specs.Step.Deliver.{first_at, receiver_in, sending_by};
 ghost use Rattle.machine.specs.Step.Send.{called_or_waits, endpoint_call_of, send_of, sent_or_waits};
-ghost use Rattle.machine.specs.WellFormed.{IsWellFormed};
+ghost use Rattle.machine.specs.WellFormed.{IsCaller, IsWellFormed};
 ghost use Rattle.objects.specs.Waiting.{WaitsNowhere};
 
 use crate::arrivals::deliver;
@@ -11,7 +11,7 @@ use crate::releases::{answer_through, link_or_halt};
 use base::{Cause, ObjId, Rights};
 use bitflags::Flags;
 use cspace::{find_endpoint, permit};
-use machine::{Answer, Badged, Made, RunState, Sending};
+use machine::{Answer, Badged, Made, RunState, Sending, calls_keep_machines_well_formed};
 use objects::State;
 use queues::block;
 
@@ -56,18 +56,9 @@ fn send_or_wait(state: &mut State, caller: ObjId, sending: Sending) -> Made
     }
 }
 
-/// Sends a message through the endpoint at an address: the thread that waits first to receive gets it;
-/// where none does, the caller waits for one (seL4 manual, "Endpoints" and seL4_Send).
-///
-/// At most one capability goes with it, that at the address `capability` when the message is received:
-/// it arrives where the capability to the endpoint has the right Grant, it isn't untyped memory's, and
-/// the receiver gave an empty slot. The message goes without it otherwise.
-///
-/// # Errors
-///
-/// Those of [`find_endpoint`], and an invalid capability where the right Write is missing.
+// Does what the row of a send says.
 #[tactic(auto, unfolding(machine::specs::Step::Send::send_of))]
-pub fn send(
+fn make_send(
     state: &mut State,
     caller: ObjId,
     address: u64,
@@ -82,6 +73,33 @@ pub fn send(
     permit(end.rights.contains(Rights::WRITE))?;
     let sending = sending_by(endpoint, end, false, words, capability);
     Ok(send_or_wait(state, caller, sending))
+}
+
+/// Sends a message through the endpoint at an address: the thread that waits first to receive gets it;
+/// where none does, the caller waits for one (seL4 manual, "Endpoints" and seL4_Send).
+///
+/// At most one capability goes with it, that at the address `capability` when the message is received:
+/// it arrives where the capability to the endpoint has the right Grant, it isn't untyped memory's, and
+/// the receiver gave an empty slot. The message goes without it otherwise.
+///
+/// # Errors
+///
+/// Those of [`find_endpoint`], and an invalid capability where the right Write is missing.
+pub fn send(
+    state: &mut State,
+    caller: ObjId,
+    address: u64,
+    words: [u64; 4],
+    capability: Option<u64>,
+) -> Result<Made, Cause>
+    requires well_formed { IsWellFormed state.old }
+    requires caller { IsCaller state.old caller }
+    ensures made { Makes state.old state.new result (send_of state.old caller address words capability) }
+    ensures well_formed { IsWellFormed state.new }
+{
+    // A law, so that the state stays well formed.
+    calls_keep_machines_well_formed();
+    make_send(state, caller, address, words, capability)
 }
 
 /// Gives a call to the thread that waits first to receive, and has the caller wait for the answer; or
@@ -101,17 +119,9 @@ fn call_or_wait(state: &mut State, caller: ObjId, sending: Sending)
     }
 }
 
-/// Sends a message as [`send`] does, and has the caller wait for the answer, through the reply that the
-/// receiver named (seL4 manual, "Endpoints", "Reply objects" and seL4_Call).
-///
-/// Where the receiver named none, or the capability to the endpoint has neither the right Grant nor
-/// GrantReply, the caller is halted once its message is received.
-///
-/// # Errors
-///
-/// Those of [`send`].
+// Does what the row of a call says.
 #[tactic(auto, unfolding(machine::specs::Step::Send::endpoint_call_of))]
-pub fn call(
+fn make_call(
     state: &mut State,
     caller: ObjId,
     address: u64,
@@ -127,4 +137,30 @@ pub fn call(
     let sending = sending_by(endpoint, end, true, words, capability);
     call_or_wait(state, caller, sending);
     Ok(Made::Blocked)
+}
+
+/// Sends a message as [`send`] does, and has the caller wait for the answer, through the reply that the
+/// receiver named (seL4 manual, "Endpoints", "Reply objects" and seL4_Call).
+///
+/// Where the receiver named none, or the capability to the endpoint has neither the right Grant nor
+/// GrantReply, the caller is halted once its message is received.
+///
+/// # Errors
+///
+/// Those of [`send`].
+pub fn call(
+    state: &mut State,
+    caller: ObjId,
+    address: u64,
+    words: [u64; 4],
+    capability: Option<u64>,
+) -> Result<Made, Cause>
+    requires well_formed { IsWellFormed state.old }
+    requires caller { IsCaller state.old caller }
+    ensures made { Makes state.old state.new result (endpoint_call_of state.old caller address words capability) }
+    ensures well_formed { IsWellFormed state.new }
+{
+    // A law, so that the state stays well formed.
+    calls_keep_machines_well_formed();
+    make_call(state, caller, address, words, capability)
 }

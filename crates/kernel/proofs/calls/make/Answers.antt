@@ -1,5 +1,6 @@
--- A thread that is admitted waits nowhere.
+-- A thread that is admitted is ready, and waits nowhere.
 use Rattle.std.proofs.Common.{sym}
+use Rattle.machine.proofs.Admission.{admits}
 use Rattle.machine.proofs.Threads.{caller_waits_nowhere}
 use Rattle.kernel.proofs.calls.make.Goals as goal
 
@@ -8,17 +9,18 @@ wait-requires c =
     caller_waits_nowhere c.args.state.now c.args.event.core c.args.event.thread c.in_ok-admit.field-0 c.requires.formed
     (sym (c.in_ok-admit.ensures {u = tt}))
 
-pub send-requires-clause-free : goal.send-requires-clause-free
-send-requires-clause-free c =
-    caller_waits_nowhere c.args.state.now c.args.event.core c.args.event.thread c.in_ok-admit.field-0 c.requires.formed
-    (sym (c.in_ok-admit.ensures {u = tt}))
+pub send-requires-clause-caller : goal.send-requires-clause-caller
+send-requires-clause-caller c =
+    admits c.args.state.now c.args.event.core c.args.event.thread c.in_ok-admit.field-0 (sym (c.in_ok-admit.ensures {u = tt}))
 
-pub call-requires-clause-free : goal.call-requires-clause-free
-call-requires-clause-free c =
-    caller_waits_nowhere c.args.state.now c.args.event.core c.args.event.thread c.in_ok-admit.field-0 c.requires.formed
-    (sym (c.in_ok-admit.ensures {u = tt}))
+pub call-requires-clause-caller : goal.call-requires-clause-caller
+call-requires-clause-caller c =
+    admits c.args.state.now c.args.event.core c.args.event.thread c.in_ok-admit.field-0 (sym (c.in_ok-admit.ensures {u = tt}))
 
-pub receive-requires-clause-free : goal.receive-requires-clause-free
-receive-requires-clause-free c =
-    caller_waits_nowhere c.args.state.now c.args.event.core c.args.event.thread c.in_ok-admit.field-0 c.requires.formed
-    (sym (c.in_ok-admit.ensures {u = tt}))
+pub receive-requires-clause-caller : goal.receive-requires-clause-caller
+receive-requires-clause-caller c =
+    admits c.args.state.now c.args.event.core c.args.event.thread c.in_ok-admit.field-0 (sym (c.in_ok-admit.ensures {u = tt}))
+
+pub fetch-requires-clause-caller : goal.fetch-requires-clause-caller
+fetch-requires-clause-caller c =
+    admits c.args.state.now c.args.event.core c.args.event.thread c.in_ok-admit.field-0 (sym (c.in_ok-admit.ensures {u = tt}))

@@ -15,6 +15,7 @@ returns-clause-well_formed c =
       parts = boot-parts t m boot;
       links = boot-links t m lawful boot;
       numbers = boot-numbers t m lawful boot;
+      settled = boot.going;
     }
 
 pub returns-clause-ranked : goal.returns-clause-ranked

@@ -1,5 +1,11 @@
--- The caller still waits nowhere once the reply's holder is halted.
+use Rattle.machine.specs.declared.call.Call.TheVariants as call
+use Rattle.machine.proofs.Threads.{ready_caller_waits_nowhere}
 use Rattle.transfer.proofs.receiving.receive.Goals as goal
 
-pub receive_or_wait-requires-clause-free : goal.receive_or_wait-requires-clause-free
-receive_or_wait-requires-clause-free c = c.end_reply.ensures.free c.args.caller c.requires.free
+pub make_receive-requires-clause-free : goal.make_receive-requires-clause-free
+make_receive-requires-clause-free c = ready_caller_waits_nowhere c.args.state.now c.args.caller c.requires.well_formed c.requires.caller
+
+pub returns-clause-well_formed : goal.returns-clause-well_formed
+returns-clause-well_formed c =
+    c.calls_keep_machines_well_formed.ensures c.args.state.now c.make_receive.new.state c.args.caller (call.Receive c.args.address c.args.reply c.args.slot) c.make_receive.result c.requires.well_formed
+    (λ _. c.requires.caller) c.make_receive.ensures

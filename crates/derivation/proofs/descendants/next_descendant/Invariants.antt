@@ -1,0 +1,9 @@
+-- No slot of a lower holder is one.
+use Rattle.std.specs.Prelude.{◌<◌}
+use Rattle.base.specs.declared.ids.SlotRef.{SlotRef}
+use Rattle.machine.specs.WellFormed.{Descends}
+use Rattle.derivation.specs.Descendants.{IsBehind}
+use Rattle.derivation.proofs.descendants.next_descendant.Given as goal
+
+abbrev pub invariant-loop-holder : goal.invariant-loop-holder
+invariant-loop-holder l = (q : SlotRef) → q.holder.0 < l.holder → Descends l.fn.state q l.fn.above → ¬ (IsBehind l.fn.last q)

@@ -1,0 +1,10 @@
+-- No slot of a lower index is one.
+use Rattle.std.specs.Prelude.{◌≡◌, ◌<◌}
+use Rattle.base.specs.declared.ids.SlotRef.{SlotRef}
+use Rattle.machine.specs.WellFormed.{Descends}
+use Rattle.derivation.specs.Descendants.{IsBehind}
+use Rattle.derivation.proofs.descendants.next_of.Given as goal
+
+abbrev pub invariant-loop-index : goal.invariant-loop-index
+invariant-loop-index l =
+    (q : SlotRef) → q.holder ≡ l.fn.holder → q.index < l.index → Descends l.fn.state q l.fn.above → ¬ (IsBehind l.fn.last q)

@@ -1,0 +1,7 @@
+use Rattle.machine.specs.declared.call.Call.TheVariants as call
+use Rattle.threads.proofs.spaces.clear_space.Goals as goal
+
+pub returns-clause-well_formed : goal.returns-clause-well_formed
+returns-clause-well_formed c =
+    c.calls_keep_machines_well_formed.ensures c.args.state.now c.make_clear_space.new.state c.args.caller (call.ClearSpace c.args.address) c.make_clear_space.result c.requires.well_formed
+    (λ no. absurd no) c.make_clear_space.ensures
