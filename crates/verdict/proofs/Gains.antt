@@ -1,5 +1,5 @@
 -- What grows doesn't shrink.
-use Rattle.std.proofs.Common.{◌≡◌, ◌≢◌, ◌≤◌, ◌<◌, ◌⊎◌, inl, inr, List, Some, None, length, sym, ap, ◌∙◌, arith}
+use Rattle.std.proofs.Common.{◌≡◌, ◌≢◌, ◌≤◌, ◌<◌, ◌⊎◌, inl, inr, List, Some, None, length, sym, ap, subst, ◌∙◌, arith}
 use Rattle.std.proofs.lemmas.Option.{none-some, same_Some}
 use Rattle.base.specs.declared.ids.ObjId.{ObjId}
 use Rattle.base.specs.declared.ids.SlotRef.{SlotRef}
@@ -8,14 +8,19 @@ use Rattle.machine.specs.declared.object.Context.{Context}
 use Rattle.machine.specs.declared.object.Notification.{Notification}
 use Rattle.machine.specs.declared.object.Object.{Object}
 use Rattle.machine.specs.declared.object.Object.TheVariants as o
+use Rattle.machine.specs.declared.object.Reply.{Reply}
+use Rattle.machine.specs.declared.object.ReplyState.TheVariants as reply
+use Rattle.machine.specs.declared.object.Untyped.{Untyped}
 use Rattle.machine.specs.declared.thread.Inbox.TheVariants as inbox
+use Rattle.machine.specs.declared.thread.RunState.{RunState}
+use Rattle.machine.specs.declared.thread.RunState.TheVariants as state
 use Rattle.machine.specs.declared.thread.Tcb.{Tcb}
 use Rattle.machine.specs.Machine.{Machine, object_of, queue_of, words_of, cap_of}
-use Rattle.verdict.specs.Shrinks.{HasLess, IsPart, Lessens, LosesLink, Shrinks, Stops}
+use Rattle.verdict.specs.Shrinks.{HasLess, IsBlocked, IsPart, Lessens, LosesLink, Shrinks, Stops}
 use Rattle.verdict.specs.Shrinks.IsPart.{ended, stayed, left}
 use Rattle.verdict.specs.Shrinks.Lessens.{as_it_was, released, freed, unbound}
 use Rattle.verdict.specs.Shrinks.Stops.{goes_on, aborted, halted}
-use Rattle.verdict.proofs.Shrinking.{same_context, same_tcb}
+use Rattle.verdict.proofs.Shrinking.{same_context, same_reply, same_tcb}
 
 same_notification : (a b : Notification) → o.Notification a ≡ o.Notification b → a ≡ b
 same_notification a b e = cc
@@ -135,3 +140,98 @@ pub made_grows :
     → Shrinks m next id → ⊥
 made_grows m next id object absent there shrinks =
     let less = left_over m next id object there shrinks in none-some less.old (sym absent ∙ less.was)
+
+-- a reply that comes to hold a thread
+
+reply_lessens : (old new : Reply) → Lessens (o.Reply old) (o.Reply new) → (new.state ≡ old.state) ⊎ (new.state ≡ reply.Free)
+reply_lessens old new (as_it_was same) = inl (ap (λ (x : Reply). x.state) (same_reply new old same))
+reply_lessens old new (released was is x y address stops context) = cc
+reply_lessens old new (freed was is x y address free) = inr (ap (λ (x : Reply). x.state) (same_reply new is y) ∙ free)
+reply_lessens old new (unbound was is x y address share thread) = cc
+
+pub holding_grows :
+    (m next : Machine) (id : ObjId) (old new : Reply) → object_of m id ≡ Some (o.Reply old)
+    → object_of next id ≡ Some (o.Reply new) → new.state ≢ old.state → new.state ≢ reply.Free → Shrinks m next id → ⊥
+holding_grows m next id old new was is differ held shrinks =
+    by (reply_lessens old new (lessened m next id (o.Reply old) (o.Reply new) was is shrinks))
+  where
+    by : (new.state ≡ old.state) ⊎ (new.state ≡ reply.Free) → ⊥
+    by (inl same) = differ same
+    by (inr free) = held free
+
+-- a context that gains a thread
+
+thread_lessens : (old new : Context) → Lessens (o.Context old) (o.Context new) → LosesLink old.thread new.thread
+thread_lessens old new (as_it_was same) = inl (ap (λ (x : Context). x.thread) (same_context new old same))
+thread_lessens old new (released was is x y address stops context) = cc
+thread_lessens old new (freed was is x y address free) = cc
+thread_lessens old new (unbound was is x y address share thread) =
+    inr (ap (λ (x : Context). x.thread) (same_context new is y) ∙ thread)
+
+pub runner_grows :
+    (m next : Machine) (id thread : ObjId) (old new : Context) → object_of m id ≡ Some (o.Context old)
+    → object_of next id ≡ Some (o.Context new) → new.thread ≡ Some thread → old.thread ≢ Some thread → Shrinks m next id → ⊥
+runner_grows m next id thread old new was is gets differ shrinks =
+    by (thread_lessens old new (lessened m next id (o.Context old) (o.Context new) was is shrinks))
+  where
+    by : LosesLink old.thread new.thread → ⊥
+    by (inl same) = differ (sym same ∙ gets)
+    by (inr gone) = none-some thread (sym gone ∙ gets)
+
+-- memory of which more is taken
+
+same_untyped : (a b : Untyped) → o.Untyped a ≡ o.Untyped b → a ≡ b
+same_untyped a b e = cc
+
+mark_lessens : (old new : Untyped) → Lessens (o.Untyped old) (o.Untyped new) → new.watermark ≡ old.watermark
+mark_lessens old new (as_it_was same) = ap (λ (x : Untyped). x.watermark) (same_untyped new old same)
+mark_lessens old new (released was is x y address stops context) = cc
+mark_lessens old new (freed was is x y address free) = cc
+mark_lessens old new (unbound was is x y address share thread) = cc
+
+pub mark_grows :
+    (m next : Machine) (id : ObjId) (old new : Untyped) → object_of m id ≡ Some (o.Untyped old)
+    → object_of next id ≡ Some (o.Untyped new) → new.watermark ≢ old.watermark → Shrinks m next id → ⊥
+mark_grows m next id old new was is differ shrinks =
+    differ (mark_lessens old new (lessened m next id (o.Untyped old) (o.Untyped new) was is shrinks))
+
+-- a thread whose run state changes, though it wasn't blocked, or that comes to wait
+
+abbrev Rests : RunState → Type 0
+Rests run = (run ≡ state.Ready) ⊎ (run ≡ state.Inactive)
+
+state_stops : (old new : Tcb) → Stops old new → (new.state ≡ old.state) ⊎ (IsBlocked old.state × Rests new.state)
+state_stops old new (goes_on same kept) = inl same
+state_stops old new (aborted blocked ready emptied) = inr (blocked, inl ready)
+state_stops old new (halted blocked inactive kept) = inr (blocked, inr inactive)
+
+state_lessens : (old new : Tcb) → Lessens (o.Tcb old) (o.Tcb new) → (new.state ≡ old.state) ⊎ (IsBlocked old.state × Rests new.state)
+state_lessens old new (as_it_was same) = inl (ap (λ (x : Tcb). x.state) (same_tcb new old same))
+state_lessens old new (released was is x y address stops context) =
+    rw (same_tcb old was x, same_tcb new is y) (state_stops was is stops)
+state_lessens old new (freed was is x y address free) = cc
+state_lessens old new (unbound was is x y address share thread) = cc
+
+pub state_grows :
+    (m next : Machine) (id : ObjId) (old new : Tcb) → object_of m id ≡ Some (o.Tcb old) → object_of next id ≡ Some (o.Tcb new)
+    → new.state ≢ old.state → ¬ (IsBlocked old.state) → Shrinks m next id → ⊥
+state_grows m next id old new was is differ free shrinks =
+    by (state_lessens old new (lessened m next id (o.Tcb old) (o.Tcb new) was is shrinks))
+  where
+    by : (new.state ≡ old.state) ⊎ (IsBlocked old.state × Rests new.state) → ⊥
+    by (inl same) = differ same
+    by (inr stops) = free stops.0
+
+no_rest : (run : RunState) → IsBlocked run → Rests run → ⊥
+no_rest run blocked (inl ready) = subst IsBlocked ready blocked
+no_rest run blocked (inr inactive) = subst IsBlocked inactive blocked
+
+pub wait_grows :
+    (m next : Machine) (id : ObjId) (old new : Tcb) → object_of m id ≡ Some (o.Tcb old) → object_of next id ≡ Some (o.Tcb new)
+    → new.state ≢ old.state → IsBlocked new.state → Shrinks m next id → ⊥
+wait_grows m next id old new was is differ waits shrinks =
+    by (state_lessens old new (lessened m next id (o.Tcb old) (o.Tcb new) was is shrinks))
+  where
+    by : (new.state ≡ old.state) ⊎ (IsBlocked old.state × Rests new.state) → ⊥
+    by (inl same) = differ same
+    by (inr stops) = no_rest new.state waits stops.1

@@ -27,6 +27,7 @@ pub mod Runs
 pub mod AtBoot
 pub mod Gains
 pub mod Losses
+pub mod LinkReasons
 pub mod Reasons
 pub mod TestPolicies
 pub mod TestTables

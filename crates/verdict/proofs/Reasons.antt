@@ -6,20 +6,20 @@ use Rattle.base.specs.declared.ids.ObjId.{ObjId}
 use Rattle.base.specs.declared.kind.Kind.TheVariants as authority
 use Rattle.machine.specs.declared.object.ObjectKind.TheVariants as kind
 use Rattle.machine.specs.Authority.{label_of}
-use Rattle.machine.specs.Authority.HasAuthority.{by_cap, by_root, by_pair, by_link}
+use Rattle.machine.specs.Authority.HasAuthority.{by_cap, by_root, by_pair}
 use Rattle.machine.specs.Boot.{IsBoot}
 use Rattle.machine.specs.Layout.{initial_of, declared_label}
-use Rattle.machine.specs.Machine.{Machine, object_of, with_object, with_cap, with_parent}
+use Rattle.machine.specs.Machine.{Machine, object_of, with_cap, with_parent}
 use Rattle.machine.specs.Objects.{kind_of_object}
 use Rattle.machine.specs.WellFormed.{kind_of}
-use Rattle.machine.proofs.LookUps.{object_of-with_object, object_of-with_cap, object_of-with_parent, cap_of-with_cap, parent_of-with_parent}
+use Rattle.machine.proofs.LookUps.{object_of-with_cap, object_of-with_parent, cap_of-with_cap, parent_of-with_parent}
 use Rattle.policy.specs.Policy.{allows}
 use Rattle.table.specs.Rules.{kind_at}
 use Rattle.verdict.specs.Confined.{IsConfined}
 use Rattle.table.proofs.AtBoot.{boot_kind, boot_label}
 use Rattle.table.proofs.BootState.{boot_state, boot_state_is}
 use Rattle.verdict.proofs.ObjectLabels.{same_label}
-use Rattle.verdict.proofs.SmallSystem.{id, slot, thread, space_cap, signal_cap, signalling}
+use Rattle.verdict.proofs.SmallSystem.{id, slot, space_cap, signal_cap, signalling}
 use Rattle.verdict.proofs.Unsafe.{edges, confined}
 
 abbrev pub m : Machine
@@ -40,7 +40,7 @@ unfolding signalling initial_of kind_at
 thread_kind = boot_kind signalling m boot (id 1)
 
 -- an object that stays has its label
-label_there : (n : Machine) (q : ObjId) → object_of n q ≡ object_of m q → label_of signalling n q ≡ declared_label signalling q
+pub label_there : (n : Machine) (q : ObjId) → object_of n q ≡ object_of m q → label_of signalling n q ≡ declared_label signalling q
 label_there n q same = same_label signalling m n q same ∙ boot_label signalling m boot q
 
 -- with one change the state isn't confined
@@ -75,12 +75,3 @@ pair_counts all =
     let source = label_there n (id 1) (there (id 1)) in
     let target = label_there n (id 0) (there (id 0)) in
     false≢true (all 0 authority.Derive 1 (by_pair (slot 0 0) (slot 1 0) derived source target))
-
-pub link_counts : ¬ IsConfined signalling (allows edges) (with_object m (id 1) (thread (Some (id 0))))
-unfolding signalling initial_of declared_label label_of allows
-link_counts all =
-    let n : Machine = with_object m (id 1) (thread (Some (id 0))) in
-    let there = object_of-with_object m (id 1) (thread (Some (id 0))) in
-    let source : label_of signalling n (id 1) ≡ Some 0 = rw (there (id 1)) refl in
-    let target = label_there n (id 0) (there (id 0)) in
-    false≢true (all 0 authority.Runs 1 (by_link (id 1) (id 0) (thread (Some (id 0))) (there (id 1)) refl source target))

@@ -17,7 +17,7 @@ use Rattle.verdict.specs.Shrinks.Stops.{goes_on, aborted, halted}
 pub same_tcb : (a b : Tcb) → o.Tcb a ≡ o.Tcb b → a ≡ b
 same_tcb a b e = cc
 
-same_reply : (a b : Reply) → o.Reply a ≡ o.Reply b → a ≡ b
+pub same_reply : (a b : Reply) → o.Reply a ≡ o.Reply b → a ≡ b
 same_reply a b e = cc
 
 pub same_context : (a b : Context) → o.Context a ≡ o.Context b → a ≡ b

@@ -8,10 +8,11 @@ use Rattle.machine.specs.declared.call.Call.TheVariants.{Signal}
 use Rattle.machine.specs.declared.call.Event.{Event}
 use Rattle.machine.specs.declared.call.Outcome.TheVariants.{Done}
 use Rattle.machine.specs.declared.cap.Badged.{Badged}
+use Rattle.machine.specs.declared.object.Object.{Object}
 use Rattle.machine.specs.Authority.{label_of}
 use Rattle.machine.specs.Boot.{IsBoot}
 use Rattle.machine.specs.Layout.{Layout}
-use Rattle.machine.specs.Machine.{Machine}
+use Rattle.machine.specs.Machine.{Machine, with_object}
 use Rattle.machine.specs.Step.{Step}
 use Rattle.machine.specs.Step.Find.{find_notification}
 use Rattle.policy.specs.Domain.{EdgeTest}
@@ -55,3 +56,13 @@ pub record UnsafeWithout (rule : Rule) : Type 0 where
   pub others : (other : Rule) → other ≢ rule → Obeys (allows edges) other
   pub confined : (boot : Machine) → IsBoot t boot → IsConfined t (allows edges) boot
   pub unsafe : ¬ IsSafe t (allows edges)
+
+-- in some system a state lies in a policy where an object has the lesser content, and doesn't where it has the greater, and nothing
+-- else differs
+pub record TakesOut (lesser greater : Object) : Type 0 where
+  pub t : Layout
+  pub allowed : EdgeTest
+  pub m : Machine
+  pub id : ObjId
+  pub within : IsConfined t allowed (with_object m id lesser)
+  pub out : ¬ (IsConfined t allowed (with_object m id greater))

@@ -15,8 +15,11 @@ ghost use Rattle.machine.specs.declared.object.Object.TheVariants as o;
 ghost use Rattle.machine.specs.declared.object.ObjectKind.TheVariants as kind;
 ghost use Rattle.machine.specs.declared.object.Reply.{Reply};
 ghost use Rattle.machine.specs.declared.object.ReplyState.TheVariants as answers;
+ghost use Rattle.machine.specs.declared.object.Untyped.{Untyped};
 ghost use Rattle.machine.specs.declared.thread.Inbox.TheVariants as inbox;
+ghost use Rattle.machine.specs.declared.thread.Receiving.{Receiving as Receives};
 ghost use Rattle.machine.specs.declared.thread.RunState.TheVariants as run;
+ghost use Rattle.machine.specs.declared.thread.Sending.{Sending as Sends};
 ghost use Rattle.machine.specs.declared.thread.Tcb.{Tcb};
 ghost use Rattle.machine.specs.Authority.{label_of};
 ghost use Rattle.machine.specs.Boot.{IsBoot};
@@ -35,16 +38,17 @@ ghost use Rattle.verdict.specs.declared.denial.Denial.{Denial};
 ghost use Rattle.verdict.specs.Allowed.{IsAllowedStep};
 ghost use Rattle.verdict.specs.Budgets.{KeepsBudgets};
 ghost use Rattle.verdict.specs.Confined.{IsConfined};
-ghost use Rattle.verdict.specs.Counterexamples.{UnallowedSignal, UnsafeWithout};
+ghost use Rattle.verdict.specs.Counterexamples.{TakesOut, UnallowedSignal, UnsafeWithout};
 ghost use Rattle.verdict.specs.Rules.{Excess, Exceeds};
-ghost use Rattle.verdict.specs.Shrinks.{Shrinks};
+ghost use Rattle.verdict.specs.Shrinks.{IsBlocked, Shrinks};
 ghost use Rattle.verdict.specs.Sources.{of_machine};
 ghost use Rattle.verdict.specs.System.{System, IsVerdict};
 ghost use Rattle.verdict.specs.Verdict.{Breaks, IsAccepted, IsLeastBroken, IsOutside, excess_of};
 
 /// A law: an object doesn't shrink whose pending word, or whose core, budget or period changes; at
-/// which more threads wait than before; which gets a capability, a message, a word or a context; whose
-/// memory changes; or which is made.
+/// which more threads wait than before; which gets a capability, a message, a word, a context or a
+/// thread; whose memory changes, or of which more is taken; a thread whose run state changes though it
+/// wasn't blocked, or that comes to wait; a reply that comes to hold a thread; or what is made.
 pub fn gains_are_no_shrinking()
     ensures word { (m next : Machine) (id : Id) (old new : Notification)
         → object_of m id ≡ Some (o.Notification old)
@@ -79,6 +83,35 @@ pub fn gains_are_no_shrinking()
         → new.context ≡ Some context
         → old.context ≢ Some context
         → ¬ Shrinks m next id }
+    ensures runner { (m next : Machine) (id thread : Id) (old new : Context)
+        → object_of m id ≡ Some (o.Context old)
+        → object_of next id ≡ Some (o.Context new)
+        → new.thread ≡ Some thread
+        → old.thread ≢ Some thread
+        → ¬ Shrinks m next id }
+    ensures holding { (m next : Machine) (id : Id) (old new : Reply)
+        → object_of m id ≡ Some (o.Reply old)
+        → object_of next id ≡ Some (o.Reply new)
+        → new.state ≢ old.state
+        → new.state ≢ answers.Free
+        → ¬ Shrinks m next id }
+    ensures state { (m next : Machine) (id : Id) (old new : Tcb)
+        → object_of m id ≡ Some (o.Tcb old)
+        → object_of next id ≡ Some (o.Tcb new)
+        → new.state ≢ old.state
+        → ¬ IsBlocked old.state
+        → ¬ Shrinks m next id }
+    ensures wait { (m next : Machine) (id : Id) (old new : Tcb)
+        → object_of m id ≡ Some (o.Tcb old)
+        → object_of next id ≡ Some (o.Tcb new)
+        → new.state ≢ old.state
+        → IsBlocked new.state
+        → ¬ Shrinks m next id }
+    ensures watermark { (m next : Machine) (id : Id) (old new : Untyped)
+        → object_of m id ≡ Some (o.Untyped old)
+        → object_of next id ≡ Some (o.Untyped new)
+        → new.watermark ≢ old.watermark
+        → ¬ Shrinks m next id }
     ensures memory { (m next : Machine) (id : Id) (object : Object)
         → object_of next id ≡ Some object
         → words_of next id ≢ words_of m id
@@ -90,8 +123,10 @@ pub fn gains_are_no_shrinking()
 {}
 
 /// A law: each reason of authority counts. There is a confined state that isn't confined any more once
-/// a slot of a CNode, a thread's root slot, the derivation tree, or an object's link is changed, and
-/// nothing else.
+/// a slot of a CNode, a thread's root slot or the derivation tree is changed, and nothing else; and one
+/// for each link of an object that gives authority: a thread runs on a context; is a sender, may grant,
+/// or calls; is a receiver, or names a reply; waits for a notification; and a reply holds a thread that
+/// waits with it, or has called through it.
 pub fn each_reason_of_authority_counts()
     ensures capability { (t : Layout) × (allowed : EdgeTest) × (m : Machine) × (slot : Slot) × (held : Cap)
         × (kind_of m slot.holder ≡ Some kind.CNode)
@@ -104,9 +139,29 @@ pub fn each_reason_of_authority_counts()
     ensures pair { (t : Layout) × (allowed : EdgeTest) × (m : Machine) × (slot : Slot) × (parent : Slot)
         × IsConfined t allowed m
         × ¬ IsConfined t allowed (with_parent m slot parent) }
-    ensures link { (t : Layout) × (allowed : EdgeTest) × (m : Machine) × (id : Id) × (object : Object)
-        × IsConfined t allowed m
-        × ¬ IsConfined t allowed (with_object m id object) }
+    ensures runs { (thread : Tcb) × (context : Id)
+        × TakesOut (o.Tcb (record thread { context = None })) (o.Tcb (record thread { context = Some context })) }
+    ensures send { (thread : Tcb) × (sending : Sends)
+        × TakesOut (o.Tcb (record thread { state = run.Ready }))
+        (o.Tcb (record thread { state = run.Sending (record sending { grant = false; is_call = false }) })) }
+    ensures grant { (thread : Tcb) × (sending : Sends)
+        × TakesOut (o.Tcb (record thread { state = run.Sending (record sending { grant = false }) }))
+        (o.Tcb (record thread { state = run.Sending (record sending { grant = true }) })) }
+    ensures call { (thread : Tcb) × (sending : Sends)
+        × TakesOut (o.Tcb (record thread { state = run.Sending (record sending { is_call = false }) }))
+        (o.Tcb (record thread { state = run.Sending (record sending { is_call = true }) })) }
+    ensures receive { (thread : Tcb) × (receiving : Receives)
+        × TakesOut (o.Tcb (record thread { state = run.Ready }))
+        (o.Tcb (record thread { state = run.Receiving (record receiving { reply = None }) })) }
+    ensures reply { (thread : Tcb) × (receiving : Receives) × (named : Id)
+        × TakesOut (o.Tcb (record thread { state = run.Receiving (record receiving { reply = None }) }))
+        (o.Tcb (record thread { state = run.Receiving (record receiving { reply = Some named }) })) }
+    ensures awaits { (thread : Tcb) × (notification : Id)
+        × TakesOut (o.Tcb (record thread { state = run.Ready })) (o.Tcb (record thread { state = run.Waiting notification })) }
+    ensures waiting { (answer : Reply) × (thread : Id)
+        × TakesOut (o.Reply (record answer { state = answers.Free })) (o.Reply (record answer { state = answers.Waiting thread })) }
+    ensures called { (answer : Reply) × (thread : Id)
+        × TakesOut (o.Reply (record answer { state = answers.Free })) (o.Reply (record answer { state = answers.Called thread })) }
 {}
 
 /// A law: a signal needs authority. No step is allowed that changes the word of a notification on

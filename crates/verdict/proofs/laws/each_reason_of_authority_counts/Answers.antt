@@ -1,8 +1,9 @@
 -- Reason by reason.
 use Rattle.std.specs.Prelude.{Some}
 use Rattle.policy.specs.Policy.{allows}
-use Rattle.verdict.proofs.Reasons.{m, within, node_kind, thread_kind, capability_counts, root_counts, pair_counts, link_counts}
-use Rattle.verdict.proofs.SmallSystem.{id, slot, thread, space_cap, signal_cap, signalling}
+use Rattle.verdict.proofs.LinkReasons as by
+use Rattle.verdict.proofs.Reasons.{m, within, node_kind, thread_kind, capability_counts, root_counts, pair_counts}
+use Rattle.verdict.proofs.SmallSystem.{id, slot, space_cap, signal_cap, signalling}
 use Rattle.verdict.proofs.Unsafe.{edges}
 use Rattle.verdict.proofs.laws.each_reason_of_authority_counts.Goals as goal
 
@@ -16,5 +17,29 @@ returns-clause-root c = (signalling, allows edges, m, slot 1 0, signal_cap, thre
 pub returns-clause-pair : goal.returns-clause-pair
 returns-clause-pair c = (signalling, allows edges, m, slot 0 0, slot 1 0, within, pair_counts)
 
-pub returns-clause-link : goal.returns-clause-link
-returns-clause-link c = (signalling, allows edges, m, id 1, thread (Some (id 0)), within, link_counts)
+pub returns-clause-runs : goal.returns-clause-runs
+returns-clause-runs c = (by.thread, id 0, by.runs_counts)
+
+pub returns-clause-send : goal.returns-clause-send
+returns-clause-send c = (by.thread, by.sending, by.send_counts)
+
+pub returns-clause-grant : goal.returns-clause-grant
+returns-clause-grant c = (by.thread, by.sending, by.grant_counts)
+
+pub returns-clause-call : goal.returns-clause-call
+returns-clause-call c = (by.thread, by.sending, by.call_counts)
+
+pub returns-clause-receive : goal.returns-clause-receive
+returns-clause-receive c = (by.thread, by.receiving, by.receive_counts)
+
+pub returns-clause-reply : goal.returns-clause-reply
+returns-clause-reply c = (by.thread, by.receiving, id 0, by.reply_counts)
+
+pub returns-clause-awaits : goal.returns-clause-awaits
+returns-clause-awaits c = (by.thread, id 2, by.await_counts)
+
+pub returns-clause-waiting : goal.returns-clause-waiting
+returns-clause-waiting c = (by.answer, id 0, by.waiting_counts)
+
+pub returns-clause-called : goal.returns-clause-called
+returns-clause-called c = (by.answer, id 0, by.called_counts)

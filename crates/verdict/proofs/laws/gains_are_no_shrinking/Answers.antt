@@ -1,5 +1,6 @@
 -- What grows doesn't shrink.
-use Rattle.verdict.proofs.Gains.{budget_grows, capability_grows, context_grows, inbox_grows, made_grows, memory_grows, queue_grows, word_grows}
+use Rattle.verdict.proofs.Gains.{budget_grows, capability_grows, context_grows, holding_grows, inbox_grows, made_grows, mark_grows, memory_grows, queue_grows}
+use Rattle.verdict.proofs.Gains.{runner_grows, state_grows, wait_grows, word_grows}
 use Rattle.verdict.proofs.laws.gains_are_no_shrinking.Goals as goal
 
 pub returns-clause-word : goal.returns-clause-word
@@ -25,3 +26,18 @@ returns-clause-memory c = memory_grows
 
 pub returns-clause-made : goal.returns-clause-made
 returns-clause-made c = made_grows
+
+pub returns-clause-runner : goal.returns-clause-runner
+returns-clause-runner c = runner_grows
+
+pub returns-clause-holding : goal.returns-clause-holding
+returns-clause-holding c = holding_grows
+
+pub returns-clause-state : goal.returns-clause-state
+returns-clause-state c = state_grows
+
+pub returns-clause-wait : goal.returns-clause-wait
+returns-clause-wait c = wait_grows
+
+pub returns-clause-watermark : goal.returns-clause-watermark
+returns-clause-watermark c = mark_grows
