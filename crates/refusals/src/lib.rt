@@ -26,6 +26,8 @@ mod logs;
 #[cfg(test)]
 mod memory;
 #[cfg(test)]
+mod openings;
+#[cfg(test)]
 mod readers;
 #[cfg(test)]
 mod replays;

@@ -1,0 +1,7 @@
+-- Which seats a kernel may be given (confine's own).
+use Rattle.std.specs.Prelude.{◌≡◌}
+use Rattle.cores.specs.Seats.{Known, Ticket, IsOf}
+
+-- a seat with the kernel's number is one of its own
+abbrev pub IsFit : Ticket → Known → Type 0
+IsFit t seat = seat.name ≡ t.name → IsOf t seat

@@ -1,0 +1,129 @@
+//! What a kernel leaves that was closed: its log is a run, and its state the one at the end.
+ghost use Rattle.std.specs.Prelude.{IfOk};
+ghost use Rattle.machine.specs.WellFormed.{IsWellFormed};
+
+use crate::callers::{Ended, Running, closed};
+use crate::memory::{lend, made};
+use crate::same::are_same;
+use crate::systems::System;
+use cores::Naming;
+use evtext::{read_log, write_log};
+use kernel::{boot, run};
+use machine::{Event, Outcome};
+use objects::State;
+use report::{End, Silence, Watched, replay};
+use std::process::Abort;
+use std::test::Fail;
+use std::thread::Threads;
+use table::Table;
+
+type Entry = (Event, Outcome);
+
+/// How many entries are on the core of this number.
+pub fn entries_on(log: &[Entry], core: u8) -> usize {
+    log.iter()
+        .filter(|entry: &&Entry| -> bool { entry.0.core.number() == core })
+        .count()
+}
+
+// The engine writes this report of the log.
+fn is_replayed_as<R: Abort + AllocGlobal>(rt: &R, system: &System, log: &[u8], report: &str) {
+    let mut table = Watched::new(system.table.as_bytes());
+    let mut policy = Watched::new(system.policy.as_bytes());
+    let mut log = Watched::new(log);
+    let mut out = Watched::new(Vec::new(rt.alloc()));
+    let end = replay(
+        rt.alloc(),
+        &mut table,
+        &mut policy,
+        &mut log,
+        &mut Silence,
+        &mut out,
+    );
+    let written = out.into_inner();
+    assert_eq!(rt; end, End::Status(0));
+    assert_eq!(rt; written.as_slice(), report.as_bytes());
+}
+
+fn is_read_back<R: Abort + AllocGlobal>(rt: &R, log: &[Entry], text: &[u8]) -> Result<(), Fail> {
+    let back = made(read_log(rt.alloc(), text))?;
+    assert_eq!(rt; back.as_slice(), log);
+    Ok(())
+}
+
+// The log's text is read back, and the engine reports this of it.
+fn has_text<R: Abort + AllocGlobal>(
+    rt: &R,
+    system: &System,
+    ended: &Ended,
+    report: &str,
+) -> Result<(), Fail> {
+    let text = made(write_log(rt.alloc(), &ended.log))?;
+    is_read_back(rt, &ended.log, &text)?;
+    is_replayed_as(rt, system, &text, report);
+    Ok(())
+}
+
+fn events_of<R: AllocGlobal>(rt: &R, log: &[Entry]) -> Result<Vec<Event>, Fail> {
+    let mut events = Vec::new(rt.alloc());
+    for (event, _) in log {
+        made(events.push(*event))?;
+    }
+    Ok(events)
+}
+
+fn outcomes_are(rt: &impl Abort, outcomes: &[Outcome], log: &[Entry]) {
+    assert_eq!(rt; outcomes.len(), log.len());
+    for (outcome, (_, logged)) in outcomes.iter().zip(log) {
+        assert_eq!(rt; outcome, logged);
+    }
+}
+
+// A run of the log's events on the boot state comes to the log's outcomes and to the state.
+fn is_run_on<R: Abort + AllocGlobal>(rt: &R, state: &mut State, ended: &Ended) -> Result<(), Fail>
+    requires { IsWellFormed state.old }
+{
+    let events = events_of(rt, &ended.log)?;
+    let mut outcomes = Vec::new(rt.alloc());
+    made(run(state, &events, &mut outcomes))?;
+    outcomes_are(rt, &outcomes, &ended.log);
+    are_same(rt, state, &ended.state);
+    Ok(())
+}
+
+fn booted<R: AllocGlobal>(rt: &R, table: &Table) -> Result<State, Fail>
+    ensures { IfOk result IsWellFormed }
+{
+    made(boot(rt.alloc(), table))
+}
+
+fn is_run<R: Abort + AllocGlobal>(rt: &R, table: &Table, ended: &Ended) -> Result<(), Fail> {
+    let mut state = booted(rt, table)?;
+    is_run_on(rt, &mut state, ended)
+}
+
+/// Asserts that the log is read back from its text, is that of a run with this state at its end, and that the engine of `replay`
+/// writes this report of it.
+pub fn is_legal<R: Abort + AllocGlobal>(
+    rt: &R,
+    system: &System,
+    table: &Table,
+    ended: &Ended,
+    report: &str,
+) -> Result<(), Fail> {
+    has_text(rt, system, ended, report)?;
+    is_run(rt, table, ended)
+}
+
+/// Closes the kernel with its callers, and asserts all that of what is left.
+pub fn ends_in<J: Naming + Send + Sync, R: Abort + AllocGlobal + Threads + Sync>(
+    rt: &R,
+    system: &System,
+    table: &Table,
+    running: Running<J>,
+    report: &str,
+) -> Result<(), Fail> {
+    lend(closed(rt, running), |ended: &Ended| {
+        is_legal(rt, system, table, ended, report)
+    })
+}

@@ -1,0 +1,216 @@
+//! Sizes of a log and numbers of seats at their limits, and seats that are odd.
+use crate::callers::{Caller, Ended, Running, closed_alone};
+use crate::legal::{ends_in, is_legal};
+use crate::memory::{lend, made};
+use crate::scenes::{Plan, Scene, carry_out, cores_of};
+use crate::systems::{ONE_HAS_THE_OTHER, TWO_CORES};
+use crate::two_cores::{DONE, POLL, SIGNAL, SIGNALLER, full};
+use base::{Cause, ObjId, Refusal};
+use cores::{Kernel, Naming, Opened};
+use machine::{Call, Outcome, SlotAddress};
+use std::process::Abort;
+use std::sync::Wait;
+use std::test::Fail;
+use std::thread::Threads;
+use table::Table;
+use verdict::Accepted;
+
+const CORES: [u64; 65] = [1; 65];
+
+/// How a kernel of this size and so many seats is refused: by the code, 0 where it is opened.
+fn code_of<R: AllocGlobal>(
+    rt: &R,
+    accepted: &Accepted<'_>,
+    size: usize,
+    cores: &[u64],
+) -> Result<u64, Fail> {
+    let cores = made(cores_of(rt.alloc(), cores))?;
+    match Opened::open(rt.alloc(), accepted, size, &cores, 0) {
+        Ok(opened) => {
+            drop(opened);
+            Ok(0)
+        }
+        Err(refusal) => Ok(refusal.code),
+    }
+}
+
+/// What is refused, and what isn't.
+pub fn refuse_sizes_and_seats<R: Abort + AllocGlobal>(
+    rt: &R,
+    accepted: &Accepted<'_>,
+) -> Result<(), Fail> {
+    for (size, seats, code) in [
+        (0, 1, 43),
+        (1, 1, 0),
+        (1_000_000, 1, 0),
+        (1_000_001, 1, 43),
+        (usize::MAX, 1, 43),
+        (1, 0, 46),
+        (1, 64, 0),
+        (1, 65, 46),
+        (0, 0, 43),
+        (0, 65, 43),
+    ] {
+        let cores = CORES.get(..seats).ok_or("so many cores")?;
+        assert_eq!(rt; code_of(rt, accepted, size, cores)?, code, "{size} {seats}");
+    }
+    Ok(())
+}
+
+#[test]
+fn sizes_and_seats(rt: HostRuntime) -> Result<(), Fail> {
+    carry_out(&rt, &TWO_CORES, &Plan::Limits)
+}
+
+fn all_signal<J: Naming, R: Abort + Wait>(rt: &R, kernel: &Kernel<J>, callers: &mut [Caller<J>]) {
+    for (number, caller) in callers.iter_mut().enumerate() {
+        assert_eq!(rt; caller.number(), number as u64);
+        assert_eq!(rt; caller.core().number(), 1);
+        let outcome = if number < 63 { DONE } else { full() };
+        assert_eq!(rt; caller.call(rt, kernel, SIGNALLER, SIGNAL), outcome);
+    }
+}
+
+/// 64 seats of one core, and a log of one entry less.
+pub fn play_one_core<J: Naming + Send + Sync, R: Abort + AllocGlobal + Threads + Wait + Sync>(
+    rt: &R,
+    table: &Table,
+    mut running: Running<J>,
+) -> Result<(), Fail> {
+    assert_eq!(rt; running.callers.len(), 64);
+    all_signal(rt, &running.kernel, running.callers.as_mut_slice());
+    ends_in(
+        rt,
+        &TWO_CORES,
+        table,
+        running,
+        "{\"entries\":63,\"state\":\"within\",\"verdict\":\"legal\"}\n",
+    )
+}
+
+#[test]
+fn many_seats_of_one_core(rt: HostRuntime) -> Result<(), Fail> {
+    let plan = Plan::Opening {
+        size: 63,
+        cores: &[1; 64],
+        scene: Scene::OneCore,
+    };
+    carry_out(&rt, &TWO_CORES, &plan)
+}
+
+fn refused(cause: Cause) -> Outcome {
+    Outcome::Refused(Refusal::from(cause))
+}
+
+fn is_refused<J: Naming, R: Abort + Wait>(rt: &R, kernel: &Kernel<J>, callers: &mut [Caller<J>]) {
+    for caller in callers {
+        assert_eq!(rt;
+            caller.call(rt, kernel, SIGNALLER, SIGNAL),
+            refused(Cause::WrongCore)
+        );
+        assert_eq!(rt;
+            caller.call(rt, kernel, ObjId(7), SIGNAL),
+            refused(Cause::NoSuchThread)
+        );
+    }
+}
+
+/// A seat of a core on which no thread runs. It is gone when the kernel is closed.
+pub fn play_no_thread<J: Naming + Send + Sync, R: Abort + AllocGlobal + Threads + Wait + Sync>(
+    rt: &R,
+    table: &Table,
+    running: Running<J>,
+) -> Result<(), Fail> {
+    let Running {
+        kernel,
+        mut callers,
+    } = running;
+    assert_eq!(rt; callers.len(), 1);
+    is_refused(rt, &kernel, callers.as_mut_slice());
+    drop(callers);
+    lend(closed_alone(rt.alloc(), kernel), |ended: &Ended| {
+        is_legal(
+            rt,
+            &TWO_CORES,
+            table,
+            ended,
+            "{\"entries\":2,\"state\":\"within\",\"verdict\":\"legal\"}\n",
+        )
+    })
+}
+
+#[test]
+fn a_core_without_a_thread(rt: HostRuntime) -> Result<(), Fail> {
+    let plan = Plan::Opening {
+        size: 10,
+        cores: &[5],
+        scene: Scene::NoThread,
+    };
+    carry_out(&rt, &TWO_CORES, &plan)
+}
+
+const ONE: ObjId = ObjId(1);
+
+const OTHER: ObjId = ObjId(2);
+
+fn removes_the_other<J: Naming, R: Abort + Wait>(
+    rt: &R,
+    kernel: &Kernel<J>,
+    first: &mut Caller<J>,
+    second: &mut Caller<J>,
+) {
+    let slot = SlotAddress {
+        root: 0,
+        index: 1,
+        depth: 64,
+    };
+    assert_eq!(rt;
+        second.call(rt, kernel, OTHER, POLL),
+        refused(Cause::InvalidCapability)
+    );
+    assert_eq!(rt; first.call(rt, kernel, ONE, Call::Delete { slot }), DONE);
+    assert_eq!(rt;
+        second.call(rt, kernel, OTHER, POLL),
+        refused(Cause::NoSuchThread)
+    );
+}
+
+fn one_removes_the_other<J: Naming, R: Abort + Wait>(
+    rt: &R,
+    kernel: &Kernel<J>,
+    callers: &mut [Caller<J>],
+) {
+    assert_eq!(rt; callers.len(), 2);
+    if let Some((first, others)) = callers.split_first_mut() {
+        for second in others {
+            removes_the_other(rt, kernel, first, second);
+        }
+    }
+}
+
+/// A thread that another removes between its calls, by seats of which one is gone by then.
+pub fn play_vanished<J: Naming + Send + Sync, R: Abort + AllocGlobal + Threads + Wait + Sync>(
+    rt: &R,
+    table: &Table,
+    mut running: Running<J>,
+) -> Result<(), Fail> {
+    running.callers.truncate(2);
+    one_removes_the_other(rt, &running.kernel, running.callers.as_mut_slice());
+    ends_in(
+        rt,
+        &ONE_HAS_THE_OTHER,
+        table,
+        running,
+        "{\"entries\":3,\"state\":\"within\",\"verdict\":\"legal\"}\n",
+    )
+}
+
+#[test]
+fn a_thread_and_a_seat_that_are_gone(rt: HostRuntime) -> Result<(), Fail> {
+    let plan = Plan::Opening {
+        size: 10,
+        cores: &[0, 1, 1],
+        scene: Scene::Vanished,
+    };
+    carry_out(&rt, &ONE_HAS_THE_OTHER, &plan)
+}

@@ -1,0 +1,23 @@
+//! What a test makes, and lends to the rest of it.
+ghost use Rattle.std.specs.Prelude.{◌≡◌, IfOk, Ok};
+
+use std::test::Fail;
+
+/// What a test needs, and has memory for.
+pub fn made<T, E: Drop>(answer: Result<T, E>) -> Result<T, Fail>
+    ensures { IfOk result (λ value. answer ≡ Ok value) }
+{
+    answer.map_err(|_| Fail::new("it isn't made"))
+}
+
+/// Lends a value. It is let go here, as one of any type: a function that lets go of a `Table` or a `State` by name has a step for
+/// each of its fields, at each way out.
+pub fn lend<T: Drop, F: FnOnce(&T) -> Result<(), Fail> + Drop>(
+    made: Result<T, Fail>,
+    test: F,
+) -> Result<(), Fail>
+    requires { F.IsAlwaysCallable test }
+{
+    let value = made?;
+    test(&value)
+}

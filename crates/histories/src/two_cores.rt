@@ -1,0 +1,130 @@
+//! A signal and two polls on two cores, and a kernel whose log is full.
+use crate::callers::{Caller, Running};
+use crate::legal::ends_in;
+use crate::scenes::{Plan, Scene, carry_out};
+use crate::systems::TWO_CORES;
+use base::{Misuse, ObjId, Refusal};
+use cores::{Kernel, Naming};
+use machine::{Answer, Call, Outcome};
+use std::process::Abort;
+use std::sync::Wait;
+use std::test::Fail;
+use std::thread::Threads;
+use table::Table;
+
+pub const DONE: Outcome = Outcome::Done(Answer::Nothing);
+
+pub const SIGNAL: Call = Call::Signal { address: 0 };
+
+pub const POLL: Call = Call::Poll { address: 0 };
+
+/// The thread that may signal, on core 1.
+pub const SIGNALLER: ObjId = ObjId(2);
+
+/// The thread that may poll, on core 0.
+pub const POLLER: ObjId = ObjId(3);
+
+/// The answer of a poll.
+pub fn word(word: u64) -> Outcome {
+    Outcome::Done(Answer::Word(word))
+}
+
+/// The answer of a kernel whose log is full.
+pub fn full() -> Outcome {
+    Outcome::Refused(Refusal::from(Misuse::LogFull))
+}
+
+/// One signals, they meet, and the other polls.
+fn call_and_meet<J: Naming, R: Abort + Wait>(
+    rt: &R,
+    kernel: &Kernel<J>,
+    first: &mut Caller<J>,
+    second: &mut Caller<J>,
+) {
+    assert_eq!(rt; first.call(rt, kernel, SIGNALLER, SIGNAL), DONE);
+    assert_eq!(rt; first.meet(kernel, second), Ok(()));
+    assert_eq!(rt; second.call(rt, kernel, POLLER, POLL), word(4));
+}
+
+/// The log has room for both polls: then each call finds it full.
+fn both_polls<J: Naming, R: Abort + Wait>(
+    rt: &R,
+    kernel: &Kernel<J>,
+    first: &mut Caller<J>,
+    second: &mut Caller<J>,
+) {
+    call_and_meet(rt, kernel, first, second);
+    assert_eq!(rt; second.call(rt, kernel, POLLER, POLL), word(0));
+    assert_eq!(rt; second.call(rt, kernel, POLLER, POLL), full());
+    assert_eq!(rt; first.call(rt, kernel, SIGNALLER, SIGNAL), full());
+    assert_eq!(rt; second.meet(kernel, first), Ok(()));
+}
+
+/// The log has room for one of the polls.
+fn one_poll<J: Naming, R: Abort + Wait>(
+    rt: &R,
+    kernel: &Kernel<J>,
+    first: &mut Caller<J>,
+    second: &mut Caller<J>,
+) {
+    call_and_meet(rt, kernel, first, second);
+    assert_eq!(rt; second.call(rt, kernel, POLLER, POLL), full());
+}
+
+fn make_calls<J: Naming, R: Abort + Wait>(
+    rt: &R,
+    size: usize,
+    kernel: &Kernel<J>,
+    callers: &mut [Caller<J>],
+) {
+    assert_eq!(rt; callers.len(), 2);
+    if let Some((first, others)) = callers.split_first_mut() {
+        for second in others {
+            if size == 3 {
+                both_polls(rt, kernel, first, second);
+            } else {
+                one_poll(rt, kernel, first, second);
+            }
+        }
+    }
+}
+
+// The engine's report of the log.
+fn report(size: usize) -> &'static str {
+    if size == 3 {
+        "{\"entries\":3,\"state\":\"within\",\"verdict\":\"legal\"}\n"
+    } else {
+        "{\"entries\":2,\"state\":\"within\",\"verdict\":\"legal\"}\n"
+    }
+}
+
+/// A signal and two polls, over a log of so many entries.
+pub fn play_signal_and_polls<
+    J: Naming + Send + Sync,
+    R: Abort + AllocGlobal + Threads + Wait + Sync,
+>(rt: &R, table: &Table, mut running: Running<J>, size: usize) -> Result<(), Fail> {
+    make_calls(rt, size, &running.kernel, running.callers.as_mut_slice());
+    ends_in(rt, &TWO_CORES, table, running, report(size))
+}
+
+fn signal_and_poll<R: Abort + AllocGlobal + Threads + Wait + Sync>(
+    rt: &R,
+    size: usize,
+) -> Result<(), Fail> {
+    let plan = Plan::Opening {
+        size,
+        cores: &[1, 0],
+        scene: Scene::SignalAndPolls { size },
+    };
+    carry_out(rt, &TWO_CORES, &plan)
+}
+
+#[test]
+fn a_signal_and_two_polls(rt: HostRuntime) -> Result<(), Fail> {
+    signal_and_poll(&rt, 3)
+}
+
+#[test]
+fn the_second_poll_finds_the_log_full(rt: HostRuntime) -> Result<(), Fail> {
+    signal_and_poll(&rt, 2)
+}
