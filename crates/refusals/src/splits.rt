@@ -98,3 +98,23 @@ fn engine_split_after_39(rt: HostRuntime) -> Result<(), Fail> {
 fn engine_split_after_34(rt: HostRuntime) -> Result<(), Fail> {
     splits(&rt, 34)
 }
+
+#[test]
+fn engine_split_after_29(rt: HostRuntime) -> Result<(), Fail> {
+    splits(&rt, 29)
+}
+
+#[test]
+fn engine_split_after_24(rt: HostRuntime) -> Result<(), Fail> {
+    splits(&rt, 24)
+}
+
+#[test]
+fn engine_split_after_19(rt: HostRuntime) -> Result<(), Fail> {
+    splits(&rt, 19)
+}
+
+#[test]
+fn engine_split_after_14(rt: HostRuntime) -> Result<(), Fail> {
+    splits(&rt, 14)
+}
