@@ -1,0 +1,100 @@
+"use strict";
+
+// The texts: a box for each, with line numbers, of which those in sight alone are drawn, and a mark on a line. Browsers edit a text of
+// many lines slowly, so a long one is kept beside its box, which shows its beginning.
+
+const LINE = 20; // the height of a line, as in page.css
+const MOST_LINES = 5000; // of a text that can be edited
+
+class Text {
+  constructor(name) {
+    this.box = element("div", { class: "text", id: `box-${name}` });
+    this.numbers = element("div", { class: "numbers", "aria-hidden": "true" });
+    this.mark = element("div", { class: "mark", hidden: "" });
+    this.area = element("textarea", {
+      id: name,
+      spellcheck: "false",
+      wrap: "off",
+      autocapitalize: "off",
+      autocomplete: "off",
+      "aria-label": name,
+    });
+    this.marked = 0; // the line, or 0
+    this.count = 1; // of lines
+    this.whole = null; // a long text
+    this.note = element("p", { class: "note small", hidden: "" });
+    this.box.append(element("div", { class: "editor" }, this.mark, this.numbers, this.area), this.note);
+    this.area.addEventListener("scroll", () => this.draw());
+    this.area.addEventListener("input", () => {
+      this.count = this.lines.length;
+      this.unmark();
+    });
+    new ResizeObserver(() => this.draw()).observe(this.area);
+  }
+
+  get text() {
+    return this.whole ?? this.area.value;
+  }
+
+  set text(text) {
+    const lines = text.split("\n");
+    const isLong = lines.length > MOST_LINES;
+    this.whole = isLong ? text : null;
+    this.area.readOnly = isLong;
+    this.area.value = isLong ? lines.slice(0, MOST_LINES).join("\n") : text;
+    this.note.hidden = !isLong;
+    this.note.textContent = `The first ${MOST_LINES} of ${lines.length - 1} lines: too many to be edited here.`;
+    this.area.scrollTop = 0;
+    this.count = Math.min(lines.length, MOST_LINES);
+    this.unmark();
+  }
+
+  get lines() {
+    return this.text.split("\n");
+  }
+
+  draw() {
+    const top = this.area.scrollTop;
+    const first = Math.floor(top / LINE);
+    const last = Math.min(first + Math.ceil(this.area.clientHeight / LINE) + 1, this.count);
+    const numbers = [];
+    for (let at = first; at < last; at++) numbers.push(at + 1);
+    this.numbers.textContent = numbers.join("\n");
+    this.numbers.style.transform = `translateY(${first * LINE - top}px)`;
+    this.mark.hidden = this.marked === 0;
+    this.mark.style.transform = `translateY(${(this.marked - 1) * LINE - top}px)`;
+  }
+
+  // Marks a line, counted from 1, and brings it into sight, unless it isn't shown.
+  markLine(line) {
+    if (line > this.count) return;
+    this.marked = line;
+    const top = (line - 1) * LINE;
+    const seen = this.area.clientHeight;
+    if (top < this.area.scrollTop || top + 3 * LINE > this.area.scrollTop + seen) {
+      this.area.scrollTop = Math.max(0, top - seen / 2);
+    }
+    this.draw();
+  }
+
+  unmark() {
+    this.marked = 0;
+    this.draw();
+  }
+
+  // Puts the cursor at a line's beginning.
+  go(line) {
+    const at = this.lines.slice(0, line - 1).reduce((sum, text) => sum + text.length + 1, 0);
+    this.area.focus();
+    this.area.setSelectionRange(at, at);
+    this.markLine(line);
+  }
+}
+
+// An element with attributes and children.
+function element(name, attributes = {}, ...children) {
+  const made = document.createElement(name);
+  for (const [key, value] of Object.entries(attributes)) made.setAttribute(key, value);
+  made.append(...children);
+  return made;
+}
