@@ -1,0 +1,223 @@
+"""The commands: what each writes, and its status, as docs/FORMATS.md has them; authority, certificates, verdicts and last states."""
+import json
+
+import kernel
+import policies
+import texts
+from policies import AWAIT, CALL, CONTEXT, CONTROL, DERIVE, GRANT, HOLDS, NOTIFY, READ, RECEIVE, REPLY, RESET, RUNS, SCHEDCONTROL, SEND
+from policies import SPACE, WRITE
+from texts import KINDS, Fault
+
+FILES = {
+    "check": ["table", "policy"], "verify": ["table", "policy", "certificate"], "run": ["table", "policy", "script"],
+    "replay": ["table", "policy", "log"], "close": ["table", "policy"], "why": ["table", "policy"],
+}
+
+
+# Authority.
+
+def cap_kinds(kind, rights):
+    """What a capability in a slot of a CNode gives."""
+    w, r = "w" in rights, "r" in rights
+    given = {
+        "untyped": [(CONTROL, True)], "cnode": [(CONTROL, True)], "tcb": [(CONTROL, True)],
+        "endpoint": [(RESET, True), (SEND, w), (RECEIVE, r), (GRANT, w and "g" in rights), (CALL, w and ("g" in rights or "y" in rights))],
+        "notification": [(RESET, True), (NOTIFY, w), (AWAIT, r)],
+        "frame": [(RESET, True), (READ, r), (WRITE, w)],
+        "reply": [(REPLY, True)], "context": [(CONTEXT, True)], "control": [(SCHEDCONTROL, True)],
+    }[kind]
+    return [k for k, given_so in given if given_so]
+
+
+def label_of(table, state, number):
+    if number < len(table.objects):
+        return table.objects[number].label
+    address = state.objects[number].address
+    for item in table.objects:
+        if item.kind == "untyped" and item.address <= address < item.address + item.size:
+            return item.label
+
+
+def authority(table, state):
+    """Each edge that a state gives, as (rule, order of the place, place in names, edge)."""
+    label = {number: label_of(table, state, number) for number in state.objects}
+    named = {number: table.objects[number].name if number < len(table.objects) else f"#{number}" for number in state.objects}
+    objects = state.objects
+
+    def slot_name(slot):
+        return f"{named[slot[0]]}.{'root' if objects[slot[0]].kind == 'tcb' else slot[1]}"
+
+    for slot, cap in state.caps.items():
+        a, b = label[slot[0]], label[cap.object]
+        if objects[slot[0]].kind == "tcb":
+            yield "A2", slot, [slot_name(slot), "space", table.labels[b]], (a, SPACE, b)
+        else:
+            for k in cap_kinds(objects[cap.object].kind, cap.rights):
+                yield "A1", (slot, k), [slot_name(slot), KINDS[k], table.labels[b]], (a, k, b)
+    for child, parent in state.parents.items():
+        yield "A3", child, [slot_name(parent), slot_name(child)], (label[parent[0]], DERIVE, label[child[0]])
+    for number, item in objects.items():
+        if item.kind == "tcb" and item.context is not None:
+            yield "A4", number, [named[number], named[item.context]], (label[number], RUNS, label[item.context])
+        if item.kind == "reply" and item.use != "free":
+            yield "A5", number, [named[number], named[item.thread]], (label[number], HOLDS, label[item.thread])
+        if item.kind == "tcb" and item.state in kernel.WAITING:
+            kept = [(AWAIT, item.at)]
+            if item.state == "sends":
+                message = item.message
+                kept = [(SEND, item.at)] + [(GRANT, item.at)] * message.grant + [(CALL, item.at)] * (message.calls and message.answered)
+            elif item.state == "receives":
+                kept = [(RECEIVE, item.at)] + [(REPLY, item.reply)] * (item.reply is not None)
+            for k, at in kept:
+                yield "A6", (number, k), [named[number], KINDS[k], table.labels[label[at]]], (label[number], k, label[at])
+
+
+def outside(table, policy, state):
+    """Rule and place of the first of A1 to A6 that a state breaks, or None."""
+    broken = [(rule, order, place) for rule, order, place, edge in authority(table, state) if edge not in policy]
+    return min(broken, default=None)
+
+
+def denial(table, policy):
+    """Rule and place, or None where the table is accepted."""
+    broken = policies.first_broken(policy, len(table.labels))
+    if broken:
+        rule, place = broken
+        return rule, policies.rule_names(rule, place, table)
+    broken = outside(table, policy, kernel.boot(table))
+    return (broken[0], broken[2]) if broken else None
+
+
+def certificate(table):
+    """The lines of the right certificate."""
+    state = kernel.boot(table)
+    label = [table.labels[item.label] for item in table.objects]
+    sections = {"cap": {}, "space": {}, "derive": {}, "runs": {}}
+    for rule, order, place, _ in authority(table, state):
+        if rule == "A1":
+            slot, kind = order
+            labels = label[slot[0]], label[state.caps[slot].object]
+            sections["cap"].setdefault(slot, [place[0], labels[0], [], labels[1]])[2].append(kind)
+        elif rule == "A2":
+            sections["space"][order] = [place[0], label[order[0]], label[state.caps[order].object]]
+        elif rule == "A3":
+            sections["derive"][order] = [*place, label[state.parents[order][0]], label[order[0]]]
+        elif rule == "A4":
+            sections["runs"][order] = [*place, label[order], label[table.bindings[order]]]
+    for line in sections["cap"].values():
+        line[2] = ",".join(KINDS[kind] for kind in sorted(line[2]))
+    return [" ".join([word, *line]) for word, lines in sections.items() for _, line in sorted(lines.items())]
+
+
+# Commands. Each answers the status and what is written on standard output.
+
+def report(**keys):
+    return json.dumps(keys, separators=(",", ":"), sort_keys=True) + "\n"
+
+
+def judged(table, policy, then):
+    broken = denial(table, policy)
+    if broken:
+        return 1, report(rule=broken[0], place=broken[1], verdict="deny")
+    return then()
+
+
+def check(table, policy, certified=False):
+    def accepted():
+        if certified:
+            return 0, texts.text_of("confine-cert 1", certificate(table))
+        count, names = len(table.labels), table.labels
+        full = {names[a]: [names[l] for l in sorted(policies.full(policy, a))] for a in range(count)}
+        cut = {names[a]: [names[l] for l in sorted(policies.cut_paths(policy, a))] for a in range(count)}
+        return 0, report(caps=len(table.caps), full=full, cut=cut, verdict="accept")
+
+    return judged(table, policy, accepted)
+
+
+def verify(table, policy, lines):
+    def accepted():
+        right = certificate(table)
+        for number in range(max(len(right), len(lines))):
+            if right[number : number + 1] != lines[number : number + 1]:
+                return 1, report(rule="C1", place=[str(number + 1)], verdict="deny")
+        return 0, report(verdict="accept")
+
+    return judged(table, policy, accepted)
+
+
+def run(table, policy, events):
+    def accepted():
+        state = kernel.boot(table)
+        return 0, texts.text_of("confine-log 1", [f"{event.text} = {kernel.step(state, event)}" for event in events])
+
+    return judged(table, policy, accepted)
+
+
+def replay(table, policy, entries):
+    state = kernel.boot(table)
+    for number, (event, outcome) in enumerate(entries, 1):
+        if event.call == "retype" and outcome == "refused 40 0":
+            legal = could_be_done(table, entries[:number])
+        else:
+            legal = kernel.step(state, event) == outcome
+        if not legal:
+            return 1, report(entry=number, verdict="illegal")
+    broken = outside(table, policy, state)
+    if broken:
+        return 1, report(entries=len(entries), state="outside", rule=broken[0], place=broken[2], verdict="legal")
+    return 0, report(entries=len(entries), state="within", verdict="legal")
+
+
+def could_be_done(table, entries):
+    """Whether the retype at the end of these entries could be done: it is, in another state to which the entries before it lead."""
+    state = kernel.boot(table)
+    for event, outcome in entries[:-1]:
+        if outcome != "refused 40 0":
+            kernel.step(state, event)
+    return kernel.step(state, entries[-1][0]).startswith("done")
+
+
+def close(table, policy, missing=False):
+    named = policy or set()
+    asked = {edge for _, _, _, edge in authority(table, kernel.boot(table))}
+    edges = policies.close(named | asked, len(table.labels))
+    if missing:
+        lines = [texts.edge_line(edge, table) + "\n" for edge in sorted(edges - named)]
+        return int(bool(lines)), "".join(lines)
+    return 0, texts.text_of("confine-policy 1", [texts.edge_line(edge, table) for edge in sorted(edges)])
+
+
+def why(table, policy, a, b):
+    how, edges = policies.why(policy, table.labels.index(a), table.labels.index(b))
+    return int(how != "full"), "".join(f"{line}\n" for line in [how, *(texts.edge_line(edge, table) for edge in edges)])
+
+
+def read(file, text, table):
+    return {
+        "table": lambda: texts.read_table(text), "policy": lambda: texts.read_policy(text, table),
+        "certificate": lambda: texts.read_certificate(text, table),
+        "script": lambda: texts.read_script(text), "log": lambda: texts.read_log(text),
+    }[file]()
+
+
+def answer(command, given, options=()):
+    """Status, standard output and standard error of a command. `given` has the bytes of its files, or None where one can't be read;
+    `options` are `--cert` and `--missing`, or the two labels of `why`."""
+    values = []
+    for file, text in zip(FILES[command], given):
+        if text is None:
+            return 2, "", f"confine: cannot read {file}\n"
+        try:
+            values.append(read(file, text, values[0] if values else None))
+        except Fault as fault:
+            return 2, report(fault=fault.number, file=file, line=fault.line), ""
+    if command == "why":
+        for operand, label in zip("AB", options):
+            if label not in values[0].labels:
+                return 2, "", f"confine: {operand} is no label of the table\n"
+        return *why(*values, *options), ""
+    if command == "close":
+        return *close(values[0], values[1] if len(values) > 1 else None, "--missing" in options), ""
+    if command == "check":
+        return *check(*values, "--cert" in options), ""
+    return *{"verify": verify, "run": run, "replay": replay}[command](*values), ""
