@@ -328,15 +328,15 @@ def text_of(header, lines):
 
 # Scripts and logs. An event has its core, thread, call and operands; its outcome is kept as it is spelled, since a value has one spelling.
 
-D3 = [dec, dec, dec]
+TRIPLE = [dec, dec, dec]
 CALLS = {
     "signal": [dec], "poll": [dec], "wait": [dec],
     "send": [dec] * 5 + [dash_or(dec)], "call": [dec] * 5 + [dash_or(dec)],
-    "recv": [dec, dash_or(dec), *D3], "reply": [dec] * 5, "fetch": [],
-    "copy": [*D3, *D3, rights], "mint": [*D3, *D3, rights], "move": [*D3, *D3],
-    "delete": D3, "revoke": D3,
+    "recv": [dec, dash_or(dec), *TRIPLE], "reply": [dec] * 5, "fetch": [],
+    "copy": [*TRIPLE, *TRIPLE, rights], "mint": [*TRIPLE, *TRIPLE, rights], "move": [*TRIPLE, *TRIPLE],
+    "delete": TRIPLE, "revoke": TRIPLE,
     "retype": [dec, one_of(*MADE), dec, dec, dec, dec],
-    "read": [dec, dec], "write": D3,
+    "read": [dec, dec], "write": TRIPLE,
     "setspace": [dec, dec], "clearspace": [dec], "suspend": [dec], "resume": [dec],
     "configure": [dec] * 4, "bind": [dec, dec], "unbind": [dec],
 }
