@@ -35,6 +35,3 @@ pub const MAX_PERIOD: u64 = 3_600_000_000;
 
 /// How many events a script may have, and how many entries a log.
 pub const MAX_EVENTS: usize = 1_000_000;
-
-/// The most seats that a kernel on several cores has.
-pub const MAX_SEATS: usize = 64;
