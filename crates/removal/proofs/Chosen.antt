@@ -2,7 +2,6 @@
 use Rattle.std.proofs.Common.{◌≡◌, true, ap, subst, ◌∙◌}
 use Rattle.std.specs.Prelude.{None}
 use Rattle.base.specs.declared.ids.SlotRef.{SlotRef}
-use Rattle.derivation.specs.Removing.{parent_without}
 use Rattle.machine.specs.Changes.{with_none_going}
 use Rattle.machine.specs.Gone.{given}
 use Rattle.machine.specs.Machine.{Machine, cap_of, parent_of, same_slot}
@@ -34,9 +33,3 @@ module _
       same_caps (emptied (with_none_going m) slot) apart left q
       ∙ subst (λ (s : SlotRef). cap_of (emptied (with_none_going m) slot) s ≡ None) (one_slot slot q same)
       (emptied_there (with_none_going m) slot)
-
-pub parents_kept :
-    (m next : Machine) (slot : SlotRef) → next ≡ record m { caps = next.caps; going = next.going } → (q : SlotRef)
-    → parent_without next slot q ≡ parent_without m slot q
-unfolding parent_of
-parents_kept m next slot same q = ap (λ (n : Machine). parent_without n slot q) same

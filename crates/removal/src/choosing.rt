@@ -10,19 +10,20 @@ use base::SlotRef;
 use derivation::remove_node;
 use objects::State;
 
-// Empties a slot, which leaves the derivation tree. Its children come under its parent, if it has one.
+// Takes a slot out of the derivation tree, and empties it. Its children come under its parent, if it has
+// one.
 fn take_out(state: &mut State, slot: SlotRef)
     requires { AreGoing state.old }
     ensures rest { state.new ≡ record (emptied state.old slot) { parents = state.new.parents } }
     ensures parents { (q : Slot) → parent_of state.new q ≡ parent_without state.old slot q }
     ensures going { AreGoing state.new }
 {
-    empty_slot(state, slot);
     remove_node(state, slot);
+    empty_slot(state, slot);
 }
 
-/// Empties a slot, which leaves the derivation tree, and each slot that goes with it. These others keep
-/// their places in the tree.
+/// Takes a slot out of the derivation tree, and empties it and each slot that goes with it. These others
+/// keep their places in the tree.
 pub(crate) fn empty_all_with(state: &mut State, slot: SlotRef)
     ensures emptied { AreEmptied state.old (same_slot slot) state.new }
     ensures parents { (q : Slot) → parent_of state.new q ≡ parent_without state.old slot q }
@@ -33,8 +34,8 @@ pub(crate) fn empty_all_with(state: &mut State, slot: SlotRef)
     cascade(state);
 }
 
-/// Empties all slots that descend from one, which leave the derivation tree, and each slot that goes
-/// with them. These others keep their places in the tree.
+/// Takes all slots that descend from one out of the derivation tree, and empties them and each slot that
+/// goes with them. These others keep their places in the tree.
 ///
 /// Each that descends comes under `above` at most once before it is taken out.
 pub(crate) fn empty_all_below(state: &mut State, above: SlotRef)
