@@ -1,12 +1,16 @@
 -- The slots of the objects that are going are raised, and leave the tree, object by object.
-use Rattle.std.proofs.Common.{◌≡◌, ℕ, zero, suc, ◌+◌, ◌≤◌, Bool, false, ◌||◌, ◌⊎◌, inl, inr, List, [], ◌∷◌, length, drop, drop-cons, add-one, refl, sym, ap, ◌∙◌, arith}
-use Rattle.std.specs.Prelude.{Some, None, slice_get}
+use Rattle.std.proofs.Common.{◌≡◌, ℕ, zero, suc, ◌+◌, ◌≤◌, Bool, true, false, ◌&&◌, ◌||◌, ◌⊎◌, inl, inr, List, [], ◌∷◌, length, drop, drop-cons, add-one, refl, sym, ap, ◌∙◌, arith}
+use Rattle.std.specs.Prelude.{Contains, IsSome, IsTrue, Option, Some, None, slice_get}
+use Rattle.std.specs.Option.{is_none, is_some}
 use Rattle.std.proofs.lemmas.Bool.{false≢true}
 use Rattle.std.proofs.lemmas.Option.{get_or_from_slice_get, slice_get_cases, slice_get_within}
 use Rattle.base.specs.declared.ids.ObjId.{ObjId}
 use Rattle.base.specs.declared.ids.SlotRef.{SlotRef}
-use Rattle.machine.specs.Machine.{Machine, object_of, parent_of}
+use Rattle.machine.specs.declared.cap.Cap.{Cap}
+use Rattle.machine.specs.Machine.{Machine, cap_of, has_slot, object_of, parent_of}
 use Rattle.machine.specs.Orphans.{Nearest}
+use Rattle.machine.proofs.Ids.{itself}
+use Rattle.objects.specs.Pairs.{AreFilledOrGoing, IsFilledOrGoing}
 use Rattle.derivation.specs.OwnSlots.{is_going_slot, is_slot_among, is_slot_of}
 use Rattle.derivation.specs.Raising.{AreRaised, AreRaisedFrom, is_empty}
 use Rattle.derivation.specs.Removing.{HaveLeft}
@@ -14,6 +18,7 @@ use Rattle.derivation.proofs.Ancestors.{parents_led, same_ways}
 use Rattle.derivation.proofs.Hangs.{nothing_raised}
 use Rattle.derivation.proofs.Leavings.{left_alike, left_more, none_left}
 use Rattle.derivation.proofs.Raises.{raised_from_alike, raised_more}
+use Rattle.derivation.proofs.TreeAfter.{going_listed, listed_any}
 
 -- where only pairs of the tree have changed the same slots are there, of the same objects
 pub slot_of_same :
@@ -93,6 +98,27 @@ module _ (first m : Machine) (ids : List ObjId) (i : ℕ) (past : length ids ≤
 
   pub left_all : HaveLeft m m (is_slot_among first (drop i ids))
   left_all = left_alike m m (λ _. false) (is_slot_among first (drop i ids)) (λ q. sym (none_rest q)) (none_left m)
+
+-- where the slots of the objects that are going are empty, no others that have children are
+module _ (m : Machine) (paired : AreFilledOrGoing m)
+    (above : (slot parent : SlotRef) → parent_of m slot ≡ Some parent → IsTrue (has_slot m parent))
+    (hollow : (slot parent : SlotRef) → parent_of m slot ≡ Some parent → Contains m.going parent.holder → cap_of m parent ≡ None) where
+  pub empties_are_going : (low slot : SlotRef) → parent_of m low ≡ Some slot → is_empty m slot ≡ is_going_slot m slot
+  empties_are_going low slot at = by_place (paired.above low slot at) where
+    filled : IsSome (cap_of m slot) → (b : Bool) → is_going_slot m slot ≡ b → is_empty m slot ≡ b
+    filled some true is = let none = hollow low slot at (going_listed m slot is) in absurd (false≢true (ap is_some (sym none) ∙ some))
+    filled some false is = by_cap (cap_of m slot) some where
+      by_cap : (o : Option Cap) → IsSome o → is_none o ≡ false
+      by_cap None none = absurd (false≢true none)
+      by_cap (Some held) one = refl
+
+    by_place : IsFilledOrGoing m slot → is_empty m slot ≡ is_going_slot m slot
+    by_place (inl some) = filled some (is_going_slot m slot) refl
+    by_place (inr listed) =
+        ap is_none (hollow low slot at listed)
+        ∙ sym
+        (listed_any (λ id. is_slot_of m id slot) m.going slot.holder listed
+        (ap (λ tie. tie && has_slot m slot) (itself slot.holder) ∙ above low slot at))
 
 -- slots that are empty come up, and then leave
 module _ (old mid new : Machine) (these : SlotRef → Bool) (raised : SlotRef → Type 0)

@@ -5,13 +5,16 @@ use Rattle.std.proofs.lemmas.Bool.{false≢true}
 use Rattle.std.specs.FinMap.{entries, get-entries, get-from_entries}
 use Rattle.std.specs.FinMap.Entries.{find}
 use Rattle.base.specs.declared.ids.ObjId.{ObjId}
+use Rattle.std.proofs.lemmas.Option.{same_Some}
 use Rattle.base.specs.declared.ids.SlotRef.{SlotRef}
 use Rattle.machine.specs.declared.cap.Cap.{Cap}
 use Rattle.machine.specs.Machine.{Machine, object_of, queue_of, words_of, cap_of, parent_of, same_slot, slot_cmp}
 use Rattle.machine.specs.Machine.{has_slot, with_parent, without_parent}
 use Rattle.machine.specs.Tree.{IsAlone, exchange, under, with_exchanged}
-use Rattle.machine.proofs.Exchange.{parent_of-with_exchanged, slot_itself}
+use Rattle.machine.proofs.Exchange.{exchange_twice, parent_of-with_exchanged, slot_itself}
 use Rattle.machine.proofs.LookUps.{object_of-with_parent, one_slot, parent_of-with_parent, same_machine, slot_total}
+use Rattle.objects.specs.Pairs.{IsFilledOrGoing}
+use Rattle.objects.proofs.PairLemmas.{place-with_parent, place-without_parent}
 use Rattle.derivation.specs.Moving.{handed_over, in_place, lifted}
 use Rattle.derivation.proofs.Pairs.{apart_slots, parent_of-without_parent}
 
@@ -210,3 +213,31 @@ slot_filled m slot in_slots filled = by_cap (cap_of m slot) refl filled where
   by_cap : (o : Option Cap) → cap_of m slot ≡ o → IsSome o → IsTrue (has_slot m slot)
   by_cap None is some = absurd (false≢true some)
   by_cap (Some held) is some = in_slots slot held is
+
+-- where slots are filled or going they stay so
+pub place_lifted : (m : Machine) (from to q : SlotRef) → IsFilledOrGoing m q → IsFilledOrGoing (lifted m from to) q
+unfolding lifted
+place_lifted m from to q so = by_parent (parent_of m from) where
+  by_parent : (parent : Option SlotRef) → IsFilledOrGoing (under (without_parent m from) to parent) q
+  by_parent None = place-without_parent m from q so
+  by_parent (Some parent) = place-with_parent (without_parent m from) to parent q (place-without_parent m from q so)
+
+-- a slot that has changed places with one in no pair is in none
+pub exchanged_alone : (m : Machine) (from to : SlotRef) → IsAlone m to → IsAlone (with_exchanged m from to) from
+exchanged_alone m from to alone =
+    record {
+      root = parent_of-with_exchanged m from to from ∙ ap (λ s. option_map (exchange from to) (parent_of m s)) turned ∙ ap (option_map (exchange from to)) alone.root;
+      leaf =
+          λ child at.
+          by_parent (exchange from to child) (parent_of m (exchange from to child)) refl
+          (sym (parent_of-with_exchanged m from to child) ∙ at);
+    } where
+      turned : exchange from to from ≡ to
+      turned = ap (λ tie. if tie then to else if same_slot from to then from else from) (slot_itself from)
+
+      by_parent : (q : SlotRef) (o : Option SlotRef) → parent_of m q ≡ o → option_map (exchange from to) o ≡ Some from → ⊥
+      by_parent q None is at = (let impossible : None ≡ Some from = at in cc)
+      by_parent q (Some parent) is at =
+          alone.leaf q
+          (is
+          ∙ ap Some (sym (exchange_twice from to parent) ∙ ap (exchange from to) (same_Some (exchange from to parent) from at) ∙ turned))

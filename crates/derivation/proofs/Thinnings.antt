@@ -1,23 +1,20 @@
 -- A derivation tree that slots are leaving stays so by each step of a removal, and once they are alone it is what the removal makes.
-use Rattle.std.proofs.Common.{◌≡◌, ◌≢◌, Bool, true, false, ◌⊎◌, inl, inr, refl, sym, ap, subst, ◌∙◌}
+use Rattle.std.proofs.Common.{◌≡◌, ◌≢◌, Bool, true, false, inl, refl, sym, ap, subst, ◌∙◌}
 use Rattle.std.specs.Prelude.{Option, Some, None, filter, if◌then◌else◌}
 use Rattle.std.specs.FinMap.{values}
-use Rattle.std.specs.Option.{is_none}
 use Rattle.std.proofs.lemmas.Bool.{false≢true}
 use Rattle.base.specs.declared.ids.SlotRef.{SlotRef}
-use Rattle.machine.specs.declared.cap.Cap.{Cap}
-use Rattle.machine.specs.Machine.{Machine, cap_of, parent_of, same_slot, without_parent}
+use Rattle.machine.specs.Machine.{Machine, parent_of, same_slot, without_parent}
 use Rattle.machine.specs.Orphans.{Nearest, climbs, no_ancestor, survives, without_nodes}
-use Rattle.machine.specs.Removal.{cap_after, parent_after}
+use Rattle.machine.specs.Removal.{parent_after}
 use Rattle.machine.specs.Tree.{IsAlone}
 use Rattle.machine.specs.WellFormed.{Descends, child, further}
 use Rattle.machine.proofs.LookUps.{one_slot}
 use Rattle.machine.proofs.OrphanLemmas.{climbed, nearest_stays}
 use Rattle.machine.proofs.RemovalStays.{further_on}
-use Rattle.derivation.specs.Raising.{AreRaised, is_empty}
 use Rattle.derivation.specs.Removing.{HasParents, HaveLeft, parent_without}
 use Rattle.derivation.specs.Thinning.{IsThinned}
-use Rattle.derivation.proofs.Ancestors.{only_nearest, parents_kept, same_ways}
+use Rattle.derivation.proofs.Ancestors.{only_nearest, parents_kept}
 use Rattle.derivation.proofs.Leavings.{leaf_left, node_left}
 
 -- at first nothing has left
@@ -92,55 +89,6 @@ module _ (m : Machine) (gone : SlotRef → Bool) (now : Machine) (thin : IsThinn
       → IsThinned m gone (without_parent now slot)
   thinned_by_leaf slot goes leaf =
       thinned_where_left (without_parent now slot) (λ q. same_slot q slot) (leaf_left now slot leaf) (going_itself slot goes)
-
-  -- where the slots that go have been emptied, of filled ones alone
-  module _ (filled : (slot parent : SlotRef) → parent_of m slot ≡ Some parent → (held : Cap) × (cap_of m parent ≡ Some held))
-      (emptied : (q : SlotRef) → cap_of now q ≡ cap_after m gone q) where
-    parent_at_first : {low slot : SlotRef} → Descends m low slot → (q : SlotRef) × (parent_of m q ≡ Some slot)
-    parent_at_first (child {slot} at) = (slot, at)
-    parent_at_first (further at rest) = parent_at_first rest
-
-    none_held : (slot : SlotRef) (b : Bool) (held : Cap) → cap_of m slot ≡ Some held → is_none (if b then None else cap_of m slot) ≡ b
-    none_held slot true held is = refl
-    none_held slot false held is = ap is_none is
-
-    -- a parent is empty if it goes
-    pub empty_goes : (low slot : SlotRef) → parent_of now low ≡ Some slot → is_empty now slot ≡ gone slot
-    empty_goes low slot at =
-        let over = parent_at_first (thin.joins low slot at) in
-        let had = filled over.0 slot over.1 in
-        ap is_none (emptied slot) ∙ none_held slot (gone slot) had.0 had.1
-
-    -- so the first filled one is the first that stays
-    pub filled_stays :
-        (low : SlotRef) (to : Option SlotRef) → Nearest (parent_of now) (is_empty now) (parent_of now low) to
-        → Nearest (parent_of now) gone (parent_of now low) to
-    filled_stays low to way = same_ways (parent_of now) (is_empty now) gone empty_goes low way refl
-
-    module _ (next : Machine) (raised : SlotRef → Type 0) (up : AreRaised now next raised) where
-      each_up : (q : SlotRef) → (parent_of next q ≡ parent_of now q) ⊎ Nearest (parent_of now) gone (parent_of now q) (parent_of next q)
-      each_up q =
-          elim (up.others q) [ inl same ↦ inl same | inr is ↦ inr (filled_stays q (parent_of next q) (up.up q is)) ]
-
-      joins_where_raised : (slot parent : SlotRef) → parent_of next slot ≡ Some parent → Descends m slot parent
-      joins_where_raised slot parent at =
-          elim (each_up slot) [
-            | inl same ↦ thin.joins slot parent (sym same ∙ at)
-            | inr way ↦
-                descends_at_first
-                (climbed now gone slot (subst (λ (to : Option SlotRef). Nearest (parent_of now) gone (parent_of now slot) to) at way)
-                refl)
-          ]
-
-      -- where some of them come below their first filled ancestor
-      pub thinned_where_raised : IsThinned m gone next
-      thinned_where_raised =
-          record {
-            nearest =
-                λ slot to stays way.
-                parents_kept gone (parent_of now) (parent_of next) each_up slot to (thin.nearest slot to stays way);
-            joins = joins_where_raised;
-          }
 
   -- once all that go are alone, each slot has the parent that the removal gives it
   module _ (acyclic : (slot : SlotRef) → ¬ (Descends m slot slot)) (alone : (slot : SlotRef) → gone slot ≡ true → IsAlone now slot) where

@@ -1,6 +1,6 @@
--- Where each slot that goes with the chosen ones has been emptied, and the objects that vanish are going, the slots of these are what
--- still goes in the tree, and once they have left it is the tree after the removal.
-use Rattle.std.proofs.Common.{◌≡◌, ℕ, zero, suc, ◌<◌, Bool, true, false, ◌&&◌, ◌||◌, ◌⊎◌, inl, inr, List, [], ◌∷◌, length, refl, sym, ap, ◌∙◌, arith}
+-- Where the objects that vanish are going, and the chosen slots have left the tree, the slots of these objects are what still goes in it,
+-- and once they have left it is the tree after the removal.
+use Rattle.std.proofs.Common.{◌≡◌, ℕ, zero, suc, ◌<◌, Bool, true, false, ◌&&◌, ◌||◌, ◌⊎◌, inl, inr, List, [], ◌∷◌, length, refl, sym, ap, subst, ◌∙◌, arith}
 use Rattle.std.specs.Prelude.{Option, Some, None, Contains, IsTrue, ◌↔◌, nat_lt, slice_index_or}
 use Rattle.std.specs.List.{list_any}
 use Rattle.std.proofs.lemmas.Bool.{false≢true}
@@ -8,12 +8,11 @@ use Rattle.std.proofs.lemmas.Bool.Decides.{nat_tests}
 use Rattle.std.proofs.lemmas.List.Elements.{Contains-append_left, Contains-append_right, Contains-push}
 use Rattle.base.specs.declared.ids.ObjId.{ObjId}
 use Rattle.base.specs.declared.ids.SlotRef.{SlotRef}
-use Rattle.machine.specs.declared.cap.Cap.{Cap}
 use Rattle.machine.specs.declared.object.Object.{Object}
 use Rattle.machine.specs.declared.object.Object.TheVariants as o
 use Rattle.machine.specs.Gone.{IsGone, given, gone_of, has_slots, with_last}
-use Rattle.machine.specs.Machine.{Machine, cap_of, has_slot, object_of, parent_of, same_id}
-use Rattle.machine.specs.Removal.{cap_after, parent_after, vanishes}
+use Rattle.machine.specs.Machine.{Machine, has_slot, object_of, parent_of, same_id}
+use Rattle.machine.specs.Removal.{parent_after, vanishes}
 use Rattle.machine.specs.Tree.{IsAlone}
 use Rattle.machine.specs.WellFormed.{Descends}
 use Rattle.machine.proofs.GoneLemmas.{gone_decided, gone_least, losing_decided}
@@ -21,11 +20,10 @@ use Rattle.machine.proofs.Ids.{itself}
 use Rattle.machine.proofs.LookUps.{one_id}
 use Rattle.machine.proofs.RoundLemmas.{both_pass, or_second}
 use Rattle.derivation.specs.OwnSlots.{is_going_slot, is_slot_of}
-use Rattle.derivation.specs.Raising.{is_empty}
 use Rattle.derivation.specs.Removing.{HaveLeft}
 use Rattle.derivation.specs.Thinning.{IsThinned}
 use Rattle.derivation.proofs.Leavings.{alone_where_left, left_alone}
-use Rattle.derivation.proofs.Thinnings.{empty_goes, thinned_out, thinned_where_left}
+use Rattle.derivation.proofs.Thinnings.{thinned_out, thinned_where_left}
 
 -- a test finds an element of a list that passes, if there is one
 pub any_listed :
@@ -51,6 +49,20 @@ listed_any test (first ∷ ids) id there passes = by_place there.0 there.1 there
       → (test first || list_any test ids) ≡ true
   by_place zero less at later = ap (λ b. b || list_any test ids) (ap test at ∙ passes)
   by_place (suc k) less at later = or_second (test first) (list_any test ids) (later (k, omega arith, at) passes)
+
+-- a slot of an object that is going is there, and its holder is listed
+module _ (m : Machine) (slot : SlotRef) (is : is_going_slot m slot ≡ true) where
+  found : (id : ObjId) × Contains m.going id × (is_slot_of m id slot ≡ true)
+  found = any_listed (λ id. is_slot_of m id slot) m.going is
+
+  parts : (same_id slot.holder found.0 ≡ true) × (has_slot m slot ≡ true)
+  parts = both_pass (same_id slot.holder found.0) (has_slot m slot) found.2
+
+  going_there : has_slot m slot ≡ true
+  going_there = parts.1
+
+  pub going_listed : Contains m.going slot.holder
+  going_listed = subst (λ (id : ObjId). Contains m.going id) (sym (one_id slot.holder found.0 parts.0)) found.1
 
 -- an object that has a slot has slots
 none_less : (a : ℕ) → nat_lt a 0 ≡ true → ⊥
@@ -95,9 +107,7 @@ goes_by m chosen (with_last {slot} holder last final there own all) =
     }))
 
 module _ (m now : Machine) (chosen : SlotRef → Bool) (acyclic : (slot : SlotRef) → ¬ (Descends m slot slot))
-    (filled : (slot parent : SlotRef) → parent_of m slot ≡ Some parent → (held : Cap) × (cap_of m parent ≡ Some held))
-    (thin : IsThinned m (gone_of m chosen) now) (emptied : (slot : SlotRef) → cap_of now slot ≡ cap_after m (gone_of m chosen) slot)
-    (objects : (id : ObjId) → object_of now id ≡ object_of m id)
+    (thin : IsThinned m (gone_of m chosen) now) (objects : (id : ObjId) → object_of now id ≡ object_of m id)
     (going : (id : ObjId) → Contains now.going id ↔ (vanishes m chosen id ≡ true))
     (alone : (slot : SlotRef) → chosen slot ≡ true → IsAlone now slot)
     (below : (slot parent : SlotRef) → parent_of now slot ≡ Some parent → IsTrue (has_slot now slot))
@@ -105,13 +115,9 @@ module _ (m now : Machine) (chosen : SlotRef → Bool) (acyclic : (slot : SlotRe
   -- the slots of the objects that are going go
   pub going_slot_goes : (slot : SlotRef) → is_going_slot now slot ≡ true → gone_of m chosen slot ≡ true
   going_slot_goes slot is =
-      let found = any_listed (λ id. is_slot_of now id slot) now.going is in
-      let parts = both_pass (same_id slot.holder found.0) (has_slot now slot) found.2 in
-      let own : slot.holder ≡ found.0 = one_id slot.holder found.0 parts.0 in
       (gone_least m chosen).closed.closes slot
-      (ap has_slots (sym (objects slot.holder)) ∙ holds_slots now slot parts.1)
-      ((losing_decided m (gone_of m chosen) slot.holder).0
-      (ap (vanishes m chosen) own ∙ (going found.0).0 found.1))
+      (ap has_slots (sym (objects slot.holder)) ∙ holds_slots now slot (going_there now slot is))
+      ((losing_decided m (gone_of m chosen) slot.holder).0 ((going slot.holder).0 (going_listed now slot is)))
 
   -- and what else goes is in no pair
   pub there_or_alone :
@@ -129,21 +135,6 @@ module _ (m now : Machine) (chosen : SlotRef → Bool) (acyclic : (slot : SlotRe
         | inl is ↦ inr (alone slot is)
         | inr gone ↦ there_or_alone slot (has_slot now slot) refl gone
       ]
-
-  parent_going :
-      (low slot : SlotRef) → parent_of now low ≡ Some slot → (goes is : Bool) → gone_of m chosen slot ≡ goes
-      → is_going_slot now slot ≡ is → goes ≡ is
-  parent_going low slot at true true e f = refl
-  parent_going low slot at false false e f = refl
-  parent_going low slot at false true e f = sym e ∙ going_slot_goes slot f
-  parent_going low slot at true false e f =
-      elim (goes_or_alone slot e) [ inl is ↦ sym is ∙ f | inr free ↦ absurd (free.leaf low at) ]
-
-  -- so above slots what is empty is one of theirs
-  pub empties_are_going : (low slot : SlotRef) → parent_of now low ≡ Some slot → is_empty now slot ≡ is_going_slot now slot
-  empties_are_going low slot at =
-      empty_goes m (gone_of m chosen) now thin filled emptied low slot at
-      ∙ parent_going low slot at (gone_of m chosen slot) (is_going_slot now slot) refl refl
 
   -- and once they have left, each slot has the parent that the removal gives it
   module _ (next : Machine) (left : HaveLeft now next (is_going_slot now)) where

@@ -1,21 +1,22 @@
-ghost use Rattle.std.specs.Prelude.{◌≡◌, Some};
+ghost use Rattle.std.specs.Prelude.{◌≡◌, Some, None, Contains};
 ghost use Rattle.base.specs.declared.ids.SlotRef.{SlotRef as Slot};
-ghost use Rattle.machine.specs.Machine.{parent_of};
+ghost use Rattle.machine.specs.Machine.{cap_of, parent_of};
 ghost use Rattle.derivation.specs.OwnSlots.{is_going_slot};
-ghost use Rattle.derivation.specs.Raising.{AreRaisedFrom, is_empty};
+ghost use Rattle.derivation.specs.Raising.{AreRaisedFrom};
 ghost use Rattle.derivation.specs.Removing.{HaveLeft};
 
 use crate::raising::raise_slots_of;
 use crate::removing::remove_slots_of;
 use objects::State;
 
-/// Takes each slot of the objects that are going out of the tree. Of the slots that have children, these
-/// are empty and no others. It takes time in the number of these slots and of their children.
+/// Takes each slot of the objects that are going out of the tree. Those of them that have children are
+/// empty. It takes time in the number of these slots and of their children.
 pub fn leave_tree(state: &mut State)
     requires { (slot parent : Slot) → parent_of state.old slot ≡ Some parent
-        → is_empty state.old parent ≡ is_going_slot state.old parent }
+        → Contains state.old.going parent.holder → cap_of state.old parent ≡ None }
     ensures { HaveLeft state.old state.new (is_going_slot state.old) }
 {
+    state.keeps_a_forest();
     // Each that is raised first hands its children on once, to one that stays.
     raise_going(state);
     remove_going(state);

@@ -4,6 +4,7 @@ ghost use Rattle.machine.specs.Machine.{cap_of, has_slot, parent_of, with_parent
 ghost use Rattle.machine.specs.Tree.{IsAlone, with_exchanged};
 ghost use Rattle.machine.specs.WellFormed.{Descends};
 ghost use Rattle.derivation.specs.Moving.{StandsNoLower, handed_over, lifted};
+ghost use Rattle.objects.specs.Pairs.{IsFilledOrGoing};
 
 use base::SlotRef;
 use objects::State;
@@ -25,7 +26,6 @@ pub fn insert_child(state: &mut State, slot: SlotRef, parent: SlotRef)
 /// Gives the place of `from` in the tree to `to`, which is in no pair: its parent, and its
 /// children. It takes time in the number of children.
 pub fn move_node(state: &mut State, from: SlotRef, to: SlotRef)
-    requires source { IsSome (cap_of state.old from) }
     requires target { IsSome (cap_of state.old to) }
     requires alone { IsAlone state.old to }
     ensures { state.new ≡ with_exchanged state.old from to }
@@ -38,6 +38,7 @@ pub fn move_node(state: &mut State, from: SlotRef, to: SlotRef)
 // Takes `from` away from its parent, if it has one, and makes `to` the parent's child in its place.
 fn lift(state: &mut State, from: SlotRef, to: SlotRef)
     requires target { IsTrue (has_slot state.old to) }
+    requires filled { IsFilledOrGoing state.old to }
     requires alone { IsAlone state.old to }
     ensures value { state.new ≡ lifted state.old from to }
     ensures place { StandsNoLower state.new to from }
@@ -53,6 +54,7 @@ fn lift(state: &mut State, from: SlotRef, to: SlotRef)
 // Makes the children of `from` those of `to`.
 pub(crate) fn hand_over(state: &mut State, from: SlotRef, to: SlotRef)
     requires target { IsTrue (has_slot state.old to) }
+    requires filled { IsFilledOrGoing state.old to }
     requires apart { (child : Slot) → parent_of state.old child ≡ Some from → from ≢ to }
     requires place { StandsNoLower state.old to from }
     ensures { state.new ≡ handed_over state.old from to }

@@ -23,17 +23,19 @@ use Rattle.objects.specs.declared.state.State.TheInside.{Inside}
 use Rattle.objects.specs.Counts.{counts_in, one_more, AreOfNumbers}
 use Rattle.objects.specs.Entries.{caps_in, entry_of, new_entry, replace_in, set_caps_in, set_word_in}
 use Rattle.objects.specs.Family.{with_slot}
+use Rattle.objects.specs.Pairs.{AreFilledOrGoing, MayEmpty}
 use Rattle.objects.specs.Radices.{HasRadix}
 use Rattle.objects.specs.State.{machine_of, IsConsistent, IsCounted, IsSound, IsTallied}
 use Rattle.objects.proofs.CapBounds.{held_there}
 use Rattle.objects.proofs.CapsKept.{CapsKept, caps-set, caps-with_entry, caps-with_slot}
 use Rattle.objects.proofs.ChangeLemmas.{bulk}
-use Rattle.objects.proofs.ConsistentLemmas.{after, added_gives, caps_give, caps_same, empty_gives, found_there, none_of, replace_gives}
+use Rattle.objects.proofs.ConsistentLemmas.{after, added_gives, all_added_gives, caps_give, caps_same, empty_gives, found_there, none_of, replace_gives}
 use Rattle.objects.proofs.ConsistentLemmas.{vacant_number, with_added, with_all_added, with_all_is, with_changed, IsConsistent-added}
 use Rattle.objects.proofs.ConsistentLemmas.{IsConsistent-all_added, IsConsistent-changed, IsConsistent-empty, IsConsistent-replace, word_gives}
 use Rattle.objects.proofs.CountLemmas.{counts-empty, counts-with_cap, counts-with_new, counts-with_object, counts-with_word, counts-without_cap}
 use Rattle.objects.proofs.CountLemmas.{few_slots, few_threads}
 use Rattle.objects.proofs.SlotLemmas.{changes_slot}
+use Rattle.objects.proofs.PairLemmas.{paired-all_new, paired-empty, paired-with_cap, paired-with_object, paired-with_word, paired-without_cap}
 use Rattle.objects.proofs.StateLemmas.{next-machine_of, object_at, present_kept, tells-machine_of}
 use Rattle.objects.proofs.TreeState.{put_cap_gives, take_cap_gives, IsConsistent-cap_set}
 
@@ -52,13 +54,14 @@ counted_after s t counted counts next m gives same =
 pub sound_after :
     (s t : Inside) → IsSound s → IsConsistent t → t.counts ≡ s.counts → t.next ≡ s.next → t.going ≡ s.going → CapsKept s.store t.store
     → (m : Machine) → machine_of t ≡ m → counts_in m ≡ counts_in (machine_of s) → ((id : ObjId) → caps_to m id ≡ caps_to (machine_of s) id)
-    → IsSound t
-sound_after s t sound consistent counts next going kept m gives same caps =
+    → AreFilledOrGoing m → IsSound t
+sound_after s t sound consistent counts next going kept m gives same caps paired =
     record {
       consistent = consistent;
       counted = counted_after s t sound.counted counts next m gives same;
       tallied = λ id. kept id ∙ sound.tallied id ∙ sym (caps id) ∙ ap (λ n. caps_to n id) (sym gives);
       roomy = rw (counts, going) sound.roomy;
+      paired = subst AreFilledOrGoing (sym gives) paired;
     }
 
 -- a capability comes or goes
@@ -76,8 +79,8 @@ module _ (s : Inside) (slot : SlotRef) (held : Cap) (filling : Option Cap) (caps
   cap_set_sound :
       IsSound s → IsConsistent slots_set → (m : Machine) → machine_of slots_set ≡ m → counts_in m ≡ counts_in (machine_of s)
       → IsSome (entry_of s.store held.object) → caps ≡ caps_to m held.object
-      → ((id : ObjId) → id ≢ held.object → caps_to m id ≡ caps_to (machine_of s) id) → IsSound cap_set
-  cap_set_sound sound consistent m gives same there here others =
+      → ((id : ObjId) → id ≢ held.object → caps_to m id ≡ caps_to (machine_of s) id) → AreFilledOrGoing m → IsSound cap_set
+  cap_set_sound sound consistent m gives same there here others paired =
       record {
         consistent =
             IsConsistent-changed slots_set consistent held.object (set_caps_in caps) (λ e is sized. sized) (λ e. refl) (λ e. refl);
@@ -91,6 +94,7 @@ module _ (s : Inside) (slot : SlotRef) (held : Cap) (filling : Option Cap) (caps
             (λ apart. others id apart ∙ sym (sound.tallied id) ∙ sym (caps-with_slot s.store slot set id)))
             ∙ ap (λ n. caps_to n id) (sym machine_now);
         roomy = sound.roomy;
+        paired = subst AreFilledOrGoing (sym machine_now) paired;
       }
     where
       machine_now : machine_of cap_set ≡ m
@@ -116,17 +120,19 @@ sound_put s sound slot held caps has vacant there count =
     (put_cap_gives s sound.consistent slot held has) (counts-with_cap m slot held) (found_there s held.object there)
     (let now = more held.object in let one = one_for_its_own held in omega (arith, now, one, count))
     (λ id apart. let now = more id in let none = none_for_others id held (λ same. apart (sym same)) in omega (arith, now, none))
+    (paired-with_cap m slot held sound.paired)
 
 pub sound_take :
     (s : Inside) → IsSound s → (slot : SlotRef) (held : Cap) (caps : ℕ) → cap_of (machine_of s) slot ≡ Some held → caps ≡ caps_to (machine_of s) held.object - 1
-    → IsSound (cap_set s slot held None caps)
-sound_take s sound slot held caps filled count =
+    → MayEmpty (machine_of s) slot → IsSound (cap_set s slot held None caps)
+sound_take s sound slot held caps filled count may =
     let m : Machine = machine_of s in
     let less = caps_to-without_cap m slot held filled in
     cap_set_sound s slot held None caps sound (IsConsistent-cap_set s sound.consistent slot None) (without_cap m slot)
     (take_cap_gives s sound.consistent slot) (counts-without_cap m slot) (held_there s sound slot held filled)
     (let now = less held.object in let one = one_for_its_own held in omega (arith, now, one, count))
     (λ id apart. let now = less id in let none = none_for_others id held (λ same. apart (sym same)) in omega (arith, now, none))
+    (paired-without_cap m slot may sound.paired)
 
 -- no objects
 pub sound_empty :
@@ -145,6 +151,7 @@ sound_empty s none next counts going =
           ap caps_in (none_of s none id) ∙ sym (caps_to-empty id)
           ∙ ap (λ m. caps_to m id) (sym (empty_gives s none next going));
       roomy = rw counts (omega arith);
+      paired = subst AreFilledOrGoing (sym (empty_gives s none next going)) paired-empty;
     }
 
 -- a new object
@@ -211,6 +218,9 @@ sound_all_added s sound objects room radices roomy =
           subst IsTallied (sym (with_all_is s objects _ refl))
           (all_tallied s sound.consistent sound.tallied objects room radices);
       roomy = let more = counted_more s.counts objects in omega (arith, more, roomy);
+      paired =
+          subst AreFilledOrGoing (sym (all_added_gives s sound.consistent objects room radices))
+          (paired-all_new (machine_of s) objects sound.paired);
     }
   where
     counted_more : (counts : Counts) (objects : List Object) → (fold one_more counts objects).objects ≡ counts.objects + length objects
@@ -228,6 +238,7 @@ sound_replace s sound id object radix some slots threads =
     (IsConsistent-replace s sound.consistent id object radix slots) refl refl
     refl (caps-with_entry s.store id (replace_in object) (λ e. refl)) _ (replace_gives s sound.consistent id object some)
     (by_object (object_of (machine_of s) id) refl some slots threads) (caps_to-with_object (machine_of s) id object)
+    (paired-with_object (machine_of s) id object sound.paired)
   where
     by_object :
         (o : Option Object) → object_of (machine_of s) id ≡ o → IsSome o → IfSome o (λ old. slot_count object ≡ slot_count old)
@@ -257,6 +268,7 @@ sound_word s sound id index word =
     (IsConsistent-changed s sound.consistent id (set_word_in index word) (λ e is sized. sized) (λ e. refl) (λ e. refl)) refl refl refl
     (caps-with_entry s.store id (set_word_in index word) (λ e. refl)) _ (word_gives s id index word)
     (counts-with_word (machine_of s) id index word) (caps_to-with_word (machine_of s) id index word)
+    (paired-with_word (machine_of s) id index word sound.paired)
 
 -- those that are going are others
 
@@ -273,21 +285,20 @@ module _ (s : Inside) (going : Vec ObjId) where
   found_counts = refl
 
   -- there is room for no fewer
-  pub sound_room : IsSound s → vec_capacity s.going ≤ vec_capacity going → IsSound with_found
-  sound_room sound grown =
+  pub sound_going :
+      IsSound s → vec_capacity s.going ≤ vec_capacity going → (m : Machine) → machine_of with_found ≡ m → AreFilledOrGoing m → IsSound with_found
+  sound_going sound grown m gives paired =
       record {
         consistent = consistent_found sound.consistent;
         counted = counted_after s with_found sound.counted refl refl (machine_of with_found) refl found_counts;
         tallied = λ id. sound.tallied id ∙ sym (found_caps id);
         roomy = let room = sound.roomy in omega (arith, room, grown);
+        paired = subst AreFilledOrGoing (sym gives) paired;
       }
     where
       consistent_found : IsConsistent s → IsConsistent with_found
       consistent_found c =
           record { fresh = c.fresh; bounded = c.bounded; sized = c.sized; queued = c.queued; kin = c.kin }
-
-  pub sound_going : IsSound s → vec_capacity going ≡ vec_capacity s.going → IsSound with_found
-  sound_going sound same = sound_room sound (let room = sound.roomy in omega (arith, same))
 
   pub going_gives : (ids : List ObjId) → going.items ≡ ids → machine_of with_found ≡ record (machine_of s) { going = ids }
   unfolding machine_of
@@ -296,3 +307,6 @@ module _ (s : Inside) (going : Vec ObjId) where
   pub room_gives : going.items ≡ s.going.items → machine_of with_found ≡ machine_of s
   unfolding machine_of
   room_gives same = ap (λ found. record (machine_of s) { going = found }) same
+
+  pub sound_room : IsSound s → vec_capacity s.going ≤ vec_capacity going → going.items ≡ s.going.items → IsSound with_found
+  sound_room sound grown same = sound_going sound grown (machine_of s) (room_gives same) sound.paired

@@ -25,6 +25,7 @@ use Rattle.objects.specs.Counts.{counts_in, one_less, one_more}
 use Rattle.objects.specs.Entries.{caps_in, entry_of, slot_at}
 use Rattle.objects.specs.Family.{cap_in, parent_in, links_of, links_at, AreKin}
 use Rattle.objects.specs.Links.{ends_of, standing_of, queue_in, AreQueued}
+use Rattle.objects.specs.Pairs.{AreFilledOrGoing}
 use Rattle.objects.specs.Queues.{walk, AreQueues}
 use Rattle.objects.specs.State.{machine_of, IsConsistent, IsCounted, IsSound, IsTallied}
 use Rattle.objects.specs.Waiting.{WaitsNowhere}
@@ -33,6 +34,7 @@ use Rattle.objects.proofs.CountLemmas.{counts-without_object, less_one_more}
 use Rattle.objects.proofs.EntryLemmas.{some-none}
 use Rattle.objects.proofs.Families.{same_kin}
 use Rattle.objects.proofs.LinkLemmas.{stands_nowhere}
+use Rattle.objects.proofs.PairLemmas.{paired-without_object}
 use Rattle.objects.proofs.QueueLemmas.{cases_id}
 use Rattle.objects.proofs.TreeState.{parent_is}
 use Rattle.objects.proofs.StateLemmas.{Tells, tells-machine_of, going-machine_of, next-machine_of, same_from_tells, object_at, words_at}
@@ -256,6 +258,7 @@ module _ (s : Inside) (sound : IsSound s) (id : ObjId) (unheld : caps_to (machin
           counted = counted_after is;
           tallied = tallied_after;
           roomy = let room = sound.roomy in omega (arith, room);
+          paired = subst AreFilledOrGoing (sym removed_gives) (paired-without_object m id sound.paired);
         }
 
 -- an object that is there is counted

@@ -4,6 +4,7 @@ pub mod Entries
 pub mod Family
 pub mod Forest
 pub mod Links
+pub mod Pairs
 pub mod Places
 pub mod Queues
 pub mod Radices

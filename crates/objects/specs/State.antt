@@ -15,6 +15,7 @@ use Rattle.objects.specs.Entries.{caps_in, entry_of, slot_at}
 use Rattle.objects.specs.Family.{cap_in, parent_in, AreKin}
 use Rattle.machine.specs.Finite.{tabulate}
 use Rattle.objects.specs.Links.{queue_in, AreQueued}
+use Rattle.objects.specs.Pairs.{AreFilledOrGoing}
 use Rattle.objects.specs.Radices.{HasRadix}
 
 -- the slots of an object
@@ -72,3 +73,4 @@ pub record IsSound (s : Inside) : Type 0 where
   pub counted : IsCounted s
   pub tallied : IsTallied s
   pub roomy : IsRoomy s
+  pub paired : AreFilledOrGoing (machine_of s)

@@ -55,6 +55,7 @@ impl State {
     ghost use Rattle.machine.specs.WellFormed.{Descends};
     ghost use Rattle.machine.specs.Counts.{objects_in, slots_in, threads_in, caps_to};
     ghost use Rattle.machine.specs.Objects.{slot_count, thread_count};
+    ghost use Rattle.objects.specs.Pairs.{AreFilled, AreFilledOrGoing, IsFilledOrGoing, MayEmpty};
     ghost use Rattle.objects.specs.Waiting.{WaitsNowhere, WaitsThere};
     ghost use Rattle.machine.specs.Changes.{first_waiting, with_pending, with_tcb, with_reply, with_context, with_waiting, without_first};
     ghost use Rattle.machine.specs.Changes.{with_going, with_none_going, with_watermark, with_word, without_object, without_waiting};
@@ -250,8 +251,10 @@ impl State {
         self.store.set_caps(cap.object, count + 1);
     }
 
-    /// Empties the slot. It keeps its place in the derivation tree.
+    /// Empties the slot, which is in no pair of the derivation tree, or whose holder is going: then it keeps
+    /// its place there.
     pub fn take_cap(&mut self, slot: SlotRef)
+        requires { MayEmpty self.old slot }
         ensures { self.new ≡ without_cap self.old slot }
     {
         if let Some(cap) = self.cap(slot) {
@@ -284,8 +287,10 @@ impl State {
         self.going.push_reserved(id);
     }
 
-    /// Forgets which objects have lost their last capability.
+    /// Forgets which objects have lost their last capability. No pair of the derivation tree has an empty
+    /// slot.
     pub fn clear_going(&mut self)
+        requires { AreFilled self.old }
         ensures { self.new ≡ with_none_going self.old }
     {
         self.going.clear();
@@ -301,10 +306,12 @@ impl State {
 
     /// Makes `slot`, which has no parent, a child of `parent` in the derivation tree (seL4 manual,
     /// "Capability Derivation Tree"). The slot keeps its children, so the parent may not descend from
-    /// it. Either may be empty, as slots are whose capabilities a removal has taken.
+    /// it. Each of the two is filled, or its holder is going.
     pub fn attach(&mut self, slot: SlotRef, parent: SlotRef)
         requires below { IsTrue (has_slot self.old slot) }
         requires above { IsTrue (has_slot self.old parent) }
+        requires low { IsFilledOrGoing self.old slot }
+        requires high { IsFilledOrGoing self.old parent }
         requires root { parent_of self.old slot ≡ None }
         requires ranked { IsRanked (with_parent self.old slot parent) }
         ensures { self.new ≡ with_parent self.old slot parent }
@@ -319,10 +326,12 @@ impl State {
         self.store.detach(slot);
     }
 
-    /// Pairs of the derivation tree join slots that are there, and no slot descends from itself.
+    /// Pairs of the derivation tree join slots that are there, each of which is filled, or its holder is
+    /// going; and no slot descends from itself.
     pub fn keeps_a_forest(&self)
         ensures below { (slot parent : Slot) → parent_of self.now slot ≡ Some parent → IsTrue (has_slot self.now slot) }
         ensures above { (slot parent : Slot) → parent_of self.now slot ≡ Some parent → IsTrue (has_slot self.now parent) }
+        ensures paired { AreFilledOrGoing self.now }
         ensures ranked { IsRanked self.now }
         ensures acyclic { (slot : Slot) → ¬ Descends self.now slot slot }
     {

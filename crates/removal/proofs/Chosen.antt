@@ -1,4 +1,4 @@
--- Where one slot is chosen, it is emptied and leaves the tree, a removal is under way from which all else follows.
+-- Where one slot is chosen, it leaves the tree and is emptied, a removal is under way from which all else follows.
 use Rattle.std.proofs.Common.{◌≡◌, true, ap, subst, ◌∙◌}
 use Rattle.std.specs.Prelude.{None}
 use Rattle.base.specs.declared.ids.SlotRef.{SlotRef}

@@ -1,14 +1,16 @@
 -- Objects to which nothing holds go one after another.
-use Rattle.std.proofs.Common.{◌≡◌, ◌≤◌, ℕ, zero, suc, ◌+◌, Bool, true, false, cond, List, [], ◌∷◌, length, refl, sym, ap, ◌∙◌, arith, take}
-use Rattle.std.specs.Prelude.{Option, Some, None, Contains, slice_get, option_and_then, ◌||◌}
+use Rattle.std.proofs.Common.{◌≡◌, ◌≤◌, ℕ, zero, suc, ◌+◌, Bool, true, false, cond, List, [], ◌∷◌, length, inl, inr, refl, sym, ap, subst, ◌∙◌, arith, take}
+use Rattle.std.specs.Prelude.{Option, Some, None, IsSome, Contains, slice_get, option_and_then, ◌||◌}
 use Rattle.std.specs.List.{list_any}
 use Rattle.std.proofs.lemmas.Option.{get_or_from_slice_get, same_Some, slice_get_within}
 use Rattle.base.specs.declared.ids.ObjId.{ObjId}
 use Rattle.base.specs.declared.ids.SlotRef.{SlotRef}
+use Rattle.machine.specs.declared.cap.Cap.{Cap}
 use Rattle.machine.specs.Changes.{first_waiting, with_none_going, without_object}
 use Rattle.machine.specs.Machine.{Machine, object_of, queue_of, words_of, cap_of, parent_of, same_id}
 use Rattle.machine.proofs.ObjectGone.{caps_to-without_object, cap_of-without_object, next-without_object}
 use Rattle.machine.proofs.ObjectGone.{object_of-without_object, parent_of-without_object, queue_of-without_object, words_of-without_object}
+use Rattle.objects.specs.Pairs.{AreFilled, AreFilledOrGoing, IsFilledOrGoing}
 use Rattle.removal.specs.Dropping.{IsCutOff, dropped, without_objects}
 
 -- nobody comes to wait at an object where another goes
@@ -119,6 +121,31 @@ parent_of-without_objects m (first ∷ ids) slot =
 pub next-without_objects : (m : Machine) (ids : List ObjId) → (without_objects m ids).next ≡ m.next
 next-without_objects m [] = refl
 next-without_objects m (first ∷ ids) = next-without_objects (without_object m first) ids ∙ next-without_object m first
+
+-- where nothing holds to what is going, all pairs are of filled slots, also once it has gone
+
+pub filled_beside_cut_off : (m : Machine) → AreFilledOrGoing m → ((id : ObjId) → Contains m.going id → IsCutOff m id) → AreFilled m
+filled_beside_cut_off m paired cut =
+    record {
+      below = λ slot parent at. by_low slot parent at (paired.below slot parent at);
+      above = λ slot parent at. by_high slot parent at (paired.above slot parent at);
+    } where
+      by_low : (slot parent : SlotRef) → parent_of m slot ≡ Some parent → IsFilledOrGoing m slot → IsSome (cap_of m slot)
+      by_low slot parent at (inl filled) = filled
+      by_low slot parent at (inr listed) = (let root = ((cut slot.holder listed).alone slot refl).root in cc)
+
+      by_high : (slot parent : SlotRef) → parent_of m slot ≡ Some parent → IsFilledOrGoing m parent → IsSome (cap_of m parent)
+      by_high slot parent at (inl filled) = filled
+      by_high slot parent at (inr listed) = absurd (((cut parent.holder listed).alone parent refl).leaf slot at)
+
+pub filled_without : (m : Machine) (ids : List ObjId) → AreFilled m → AreFilled (without_objects m ids)
+filled_without m ids filled =
+    record {
+      below = λ slot parent at. some slot (filled.below slot parent (sym (parent_of-without_objects m ids slot) ∙ at));
+      above = λ slot parent at. some parent (filled.above slot parent (sym (parent_of-without_objects m ids slot) ∙ at));
+    } where
+      some : (slot : SlotRef) → IsSome (cap_of m slot) → IsSome (cap_of (without_objects m ids) slot)
+      some slot is = subst (λ (o : Option Cap). IsSome o) (sym (cap_of-without_objects m ids slot)) is
 
 -- beside the objects that were going, and what is going, a machine is as it was
 pub record IsWithout (m : Machine) (ids : List ObjId) (next : Machine) : Type 0 where

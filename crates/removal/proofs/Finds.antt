@@ -1,6 +1,6 @@
 -- Where chosen slots have left the tree and all that goes with them is empty, all that goes has been found.
 use Rattle.std.proofs.Common.{◌≡◌, Bool, true, false, cond, refl, sym, ap, subst, ◌∙◌}
-use Rattle.std.specs.Prelude.{Option, Some, None, if◌then◌else◌}
+use Rattle.std.specs.Prelude.{Option, Some, None, is_some, if◌then◌else◌}
 use Rattle.std.proofs.lemmas.Bool.{false≢true}
 use Rattle.base.specs.declared.ids.SlotRef.{SlotRef}
 use Rattle.machine.specs.Below.{is_below}
@@ -12,6 +12,7 @@ use Rattle.machine.proofs.BelowLemmas.{below_decided}
 use Rattle.machine.proofs.Exchange.{slot_itself}
 use Rattle.machine.proofs.GoneLemmas.{gone_least}
 use Rattle.machine.proofs.LookUps.{one_slot}
+use Rattle.objects.specs.Pairs.{AreFilled}
 use Rattle.derivation.specs.Removing.{HasParents, HaveLeft, parent_without}
 use Rattle.derivation.proofs.Leavings.{left_alike, left_alone, node_left}
 use Rattle.derivation.proofs.Thinnings.{thinned_alike, thinned_at_first, thinned_where_left}
@@ -47,6 +48,14 @@ finds m chosen now formed emptied going left =
             root = sym (tree_of m now slot) ∙ free.root;
             leaf = λ child at. free.leaf child (tree_of m now child ∙ at);
           };
+    }
+
+-- before it all pairs are of filled slots
+pub formed_filled : (m : Machine) → IsWellFormed m → AreFilled m
+formed_filled m formed =
+    record {
+      below = λ slot parent at. ap is_some (formed.slots.child_filled slot parent at).1;
+      above = λ slot parent at. ap is_some (formed.slots.parent_filled slot parent at).1;
     }
 
 -- one slot has left the tree

@@ -20,10 +20,9 @@ use Rattle.machine.proofs.Ids.{itself}
 use Rattle.machine.proofs.LookUps.{one_id, same_machine}
 use Rattle.machine.proofs.RemovalLooks.{cap_of-removed, going-removed, next-removed, object_of-removed, parent_of-removed, queue_of-removed, words_of-removed}
 use Rattle.derivation.specs.OwnSlots.{is_going_slot}
-use Rattle.derivation.specs.Raising.{is_empty}
 use Rattle.derivation.specs.Removing.{HaveLeft}
 use Rattle.derivation.proofs.Leavings.{alone_where_left, left_alone}
-use Rattle.derivation.proofs.TreeAfter.{any_listed, empties_are_going, listed_any, there_or_alone, tree_after}
+use Rattle.derivation.proofs.TreeAfter.{any_listed, listed_any, there_or_alone, tree_after}
 use Rattle.finalising.specs.Pass.{IsFinalised}
 use Rattle.removal.specs.Dropping.{IsCutOff, dropped}
 use Rattle.removal.specs.Sweeping.{IsFound}
@@ -65,12 +64,6 @@ module _
   unfolding object_of
   objects_now id = ap (λ (n : Machine). object_of n id) found.emptied.rest
 
-  -- what is empty above slots is theirs
-  pub empties_go : (low slot : SlotRef) → parent_of now low ≡ Some slot → is_empty now slot ≡ is_going_slot now slot
-  empties_go =
-      empties_are_going m now chosen found.formed.slots.acyclic (λ low slot is. found.formed.slots.parent_filled low slot is)
-      found.thinned found.emptied.caps objects_now found.emptied.going found.alone below above
-
   -- who goes is listed
   listed_now : (id : ObjId) → list_any (same_id id) now.going ≡ vanished id
   listed_now id =
@@ -92,8 +85,7 @@ module _
     going_alone : (slot : SlotRef) → Contains now.going slot.holder → IsAlone tree slot
     going_alone slot listed =
         elim
-        (there_or_alone m now chosen found.formed.slots.acyclic (λ low high is. found.formed.slots.parent_filled low high is)
-        found.thinned found.emptied.caps objects_now found.emptied.going found.alone below above slot (has_slot now slot) refl
+        (there_or_alone m now chosen found.formed.slots.acyclic found.thinned objects_now found.emptied.going found.alone below above slot (has_slot now slot) refl
         ((found.emptied.going slot.holder).0 listed)) [
           | inl own ↦ left_alone now tree (is_going_slot now) left slot own
           | inr free ↦ alone_where_left now tree (is_going_slot now) left slot free
@@ -199,8 +191,7 @@ module _
           (λ slot. looks.caps slot ∙ caps_last slot ∙ found.emptied.caps slot ∙ sym (cap_of-removed m chosen slot))
           (λ slot.
           looks.parents slot ∙ parents_last slot
-          ∙ tree_after m now chosen found.formed.slots.acyclic (λ low high is. found.formed.slots.parent_filled low high is)
-          found.thinned found.emptied.caps objects_now found.emptied.going found.alone below above tree left slot
+          ∙ tree_after m now chosen found.formed.slots.acyclic found.thinned objects_now found.emptied.going found.alone below above tree left slot
           ∙ sym (parent_of-removed m chosen slot))
           (looks.number ∙ ends.rest.next ∙ ap (λ (n : Machine). n.next) beside ∙ sym (next-removed m chosen))
           (looks.going ∙ sym (going-removed m chosen))

@@ -2,8 +2,8 @@
 use Rattle.std.proofs.Common.{◌≡◌, ◌<◌, ◌≤◌, ◌+◌, ℕ, zero, suc, Bool, true, false, cond, [], ◌∷◌, refl, sym, ap, subst, ◌∙◌, arith}
 use Rattle.std.proofs.Common.{inl, inr, eqb-true}
 use Rattle.std.proofs.lemmas.Bool.{eqb-false, false≢true, ltb-true}
-use Rattle.std.specs.Prelude.{Option, Some, None, IsTrue, is_some, not, ◌⊎◌, ◌==◌, slice_get}
-use Rattle.std.proofs.lemmas.Option.{get_or_from_slice_get, same_Some, slice_get_within}
+use Rattle.std.specs.Prelude.{Option, Some, None, Contains, IsTrue, is_some, not, ◌⊎◌, ◌==◌, slice_get}
+use Rattle.std.proofs.lemmas.Option.{get_or_from_slice_get, same_Some, slice_get-get_or, slice_get_within}
 use Rattle.base.specs.declared.ids.ObjId.{ObjId}
 use Rattle.base.specs.declared.ids.SlotRef.{SlotRef}
 use Rattle.machine.specs.declared.cap.Cap.{Cap}
@@ -17,6 +17,7 @@ use Rattle.machine.specs.Objects.{slot_count}
 use Rattle.machine.specs.Removal.{cap_after}
 use Rattle.machine.proofs.CapCounts.{all_lost, caps_to-none}
 use Rattle.removal.specs.UnderWay.{IsUnderWay, noted, emptied, emptied_below, slots_of, slots_at}
+use Rattle.removal.proofs.Dropped.{listed_at}
 use Rattle.removal.proofs.Emptying.{cap_of-with_going, emptied_here, emptied_way, get_front, stays_empty}
 
 -- what has slots is a CNode or a thread
@@ -209,3 +210,9 @@ module _ (m : Machine) (chosen : SlotRef → Bool) (now : Machine) (looked : ℕ
 
 pub stays_emptied : (m : Machine) (slot q : SlotRef) → cap_of m q ≡ None → cap_of (emptied m slot) q ≡ None
 stays_emptied m slot = (emptied_leaves m slot).empty
+
+-- what is going stays so
+pub listed_on : (m : Machine) (slot : SlotRef) (id : ObjId) → Contains m.going id → Contains (emptied m slot).going id
+listed_on m slot id listed =
+    let there : slice_get m.going listed.0 ≡ Some id = slice_get-get_or m.going listed.0 id listed.1 ∙ ap Some listed.2 in
+    listed_at (emptied m slot).going listed.0 id ((emptied_leaves m slot).still listed.0 id there)

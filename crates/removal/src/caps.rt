@@ -1,16 +1,18 @@
-ghost use Rattle.std.specs.Prelude.{◌≡◌, ℕ, Bool, true, Some, None};
+ghost use Rattle.std.specs.Prelude.{◌≡◌, ℕ, Bool, true, Some, None, Contains};
 ghost use Rattle.base.specs.declared.ids.SlotRef.{SlotRef as Slot};
 ghost use Rattle.machine.specs.Machine.{Machine, cap_of};
+ghost use Rattle.objects.specs.Pairs.{MayEmpty};
 ghost use Rattle.removal.specs.UnderWay.{AreEmptied, AreGoing, IsUnderWay, emptied, emptied_below, slots_at};
 
 use base::{ObjId, SlotRef};
 use objects::State;
 
-/// Empties a slot, which keeps its place in the derivation tree. Its object is going if that was its
-/// last capability.
+/// Empties a slot, which is in no pair of the derivation tree, or whose holder is going: then it keeps its
+/// place there. Its object is going if that was its last capability.
 #[tactic(auto, unfolding(crate::specs::UnderWay::emptied))]
 pub(crate) fn empty_slot(state: &mut State, slot: SlotRef)
-    requires { AreGoing state.old }
+    requires going { AreGoing state.old }
+    requires place { MayEmpty state.old slot }
     ensures value { state.new ≡ emptied state.old slot }
     ensures going { AreGoing state.new }
 {
@@ -33,9 +35,10 @@ fn slot_count(state: &State, id: ObjId) -> u64
     }
 }
 
-// Empties each slot of the object, one after another.
+// Empties each slot of the object, which is going, one after another.
 fn empty_slots_of(state: &mut State, id: ObjId)
-    requires { AreGoing state.old }
+    requires going { AreGoing state.old }
+    requires listed { Contains state.old.going id }
     ensures value { state.new ≡ emptied_below state.old id (slots_at state.old id) }
     ensures hollow { (slot : Slot) → slot.holder ≡ id → cap_of state.new slot ≡ None }
     ensures going { AreGoing state.new }

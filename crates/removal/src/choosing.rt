@@ -3,6 +3,7 @@ ghost use Rattle.base.specs.declared.ids.SlotRef.{SlotRef as Slot};
 ghost use Rattle.derivation.specs.Removing.{parent_without};
 ghost use Rattle.machine.specs.Below.{is_below};
 ghost use Rattle.machine.specs.Machine.{parent_of, same_slot};
+ghost use Rattle.objects.specs.Pairs.{AreFilled};
 ghost use Rattle.removal.specs.UnderWay.{AreEmptied, AreGoing, emptied};
 
 use crate::caps::{cascade, empty_slot};
@@ -18,6 +19,7 @@ fn take_out(state: &mut State, slot: SlotRef)
     ensures parents { (q : Slot) → parent_of state.new q ≡ parent_without state.old slot q }
     ensures going { AreGoing state.new }
 {
+    state.keeps_a_forest();
     remove_node(state, slot);
     empty_slot(state, slot);
 }
@@ -25,6 +27,7 @@ fn take_out(state: &mut State, slot: SlotRef)
 /// Takes a slot out of the derivation tree, and empties it and each slot that goes with it. These others
 /// keep their places in the tree.
 pub(crate) fn empty_all_with(state: &mut State, slot: SlotRef)
+    requires { AreFilled state.old }
     ensures emptied { AreEmptied state.old (same_slot slot) state.new }
     ensures parents { (q : Slot) → parent_of state.new q ≡ parent_without state.old slot q }
     ensures going { AreGoing state.new }
@@ -39,6 +42,7 @@ pub(crate) fn empty_all_with(state: &mut State, slot: SlotRef)
 ///
 /// Each that descends comes under `above` at most once before it is taken out.
 pub(crate) fn empty_all_below(state: &mut State, above: SlotRef)
+    requires { AreFilled state.old }
     ensures emptied { AreEmptied state.old (is_below state.old above) state.new }
     ensures parents { (q : Slot) → parent_of state.new q ≡ (if is_below state.old above q then None else parent_of state.old q) }
     ensures going { AreGoing state.new }

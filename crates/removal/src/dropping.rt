@@ -10,6 +10,7 @@ pub(crate) fn drop_going(state: &mut State)
     requires { (id : Id) → Contains state.old.going id → IsCutOff state.old id }
     ensures { state.new ≡ dropped state.old }
 {
+    state.keeps_a_forest();
     remove_going(state);
     state.clear_going();
 }

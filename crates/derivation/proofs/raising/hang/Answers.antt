@@ -4,6 +4,7 @@ use Rattle.std.specs.Prelude.{Option, Some, None}
 use Rattle.base.specs.declared.ids.SlotRef.{SlotRef}
 use Rattle.machine.specs.Machine.{with_parent}
 use Rattle.machine.specs.Tree.{IsRanked}
+use Rattle.objects.proofs.PairLemmas.{place-without_parent}
 use Rattle.derivation.specs.Raising.{parent_hung}
 use Rattle.derivation.specs.Removing.{HasParents}
 use Rattle.derivation.proofs.Hangs.{below_named, high_end, hung_below, hung_root, low_end, ranked_hung}
@@ -22,6 +23,19 @@ attach-requires-clause-above c =
     let low = high_end c.args.state.now (below_named c.args.state.now c.args.slot c.requires c.in-Some.is) in
     rw c.detach.ensures
     (slot_without_parent c.args.state.now c.args.slot c.in-Some.heir (c.keeps_a_forest.ensures.above low.0 c.in-Some.heir low.1))
+
+pub attach-requires-clause-low : goal.attach-requires-clause-low
+attach-requires-clause-low c =
+    let up = low_end c.args.state.now (below_named c.args.state.now c.args.slot c.requires c.in-Some.is) in
+    rw c.detach.ensures
+    (place-without_parent c.args.state.now c.args.slot c.args.slot (c.keeps_a_forest.ensures.paired.below c.args.slot up.0 up.1))
+
+pub attach-requires-clause-high : goal.attach-requires-clause-high
+attach-requires-clause-high c =
+    let low = high_end c.args.state.now (below_named c.args.state.now c.args.slot c.requires c.in-Some.is) in
+    rw c.detach.ensures
+    (place-without_parent c.args.state.now c.args.slot c.in-Some.heir
+    (c.keeps_a_forest.ensures.paired.above low.0 c.in-Some.heir low.1))
 
 pub attach-requires-clause-root : goal.attach-requires-clause-root
 attach-requires-clause-root c = rw c.detach.ensures (taken_from_parent c.args.state.now c.args.slot)

@@ -9,6 +9,10 @@ pub hand_over-requires-clause-target : goal.hand_over-requires-clause-target
 hand_over-requires-clause-target c =
     c.keeps_a_forest.ensures.above c.args.slot c.in-Some.parent (c.requires c.in-Some.parent c.in-Some.is)
 
+pub hand_over-requires-clause-filled : goal.hand_over-requires-clause-filled
+hand_over-requires-clause-filled c =
+    c.keeps_a_forest.ensures.paired.above c.args.slot c.in-Some.parent (c.requires c.in-Some.parent c.in-Some.is)
+
 pub hand_over-requires-clause-apart : goal.hand_over-requires-clause-apart
 hand_over-requires-clause-apart c = λ child is.
     above_apart c.args.state.now c.keeps_a_forest.ensures.ranked c.args.slot c.in-Some.parent

@@ -3,6 +3,7 @@ use Rattle.std.proofs.Common.{◌<◌, sym, ap, ◌∙◌, subst}
 use Rattle.std.specs.FinMap.{keys}
 use Rattle.machine.specs.Machine.{with_parent, without_parent}
 use Rattle.machine.specs.Tree.{IsRanked}
+use Rattle.objects.proofs.PairLemmas.{place-with_parent, place-without_parent}
 use Rattle.derivation.specs.Moving.{StandsNoLower, handed_over}
 use Rattle.derivation.proofs.Children.{among_first, children_among, one_less, still_apart}
 use Rattle.derivation.proofs.Moves.{handed_over-none, handed_over-step, slot_with_parent, slot_without_parent}
@@ -19,6 +20,16 @@ attach-requires-clause-below c =
 pub attach-requires-clause-above : goal.attach-requires-clause-above
 attach-requires-clause-above c =
     rw c.detach.ensures (slot_without_parent c.loop-child.state c.in-Some.child c.args.to c.loop-child.invariant.target)
+
+pub attach-requires-clause-low : goal.attach-requires-clause-low
+attach-requires-clause-low c =
+    rw c.detach.ensures
+    (place-without_parent c.loop-child.state c.in-Some.child c.in-Some.child
+    (c.keeps_a_forest.ensures.paired.below c.in-Some.child c.args.from c.in-Some.ensures.some))
+
+pub attach-requires-clause-high : goal.attach-requires-clause-high
+attach-requires-clause-high c =
+    rw c.detach.ensures (place-without_parent c.loop-child.state c.in-Some.child c.args.to c.loop-child.invariant.filled)
 
 pub attach-requires-clause-root : goal.attach-requires-clause-root
 attach-requires-clause-root c = rw c.detach.ensures (taken_from_parent c.loop-child.state c.in-Some.child)
@@ -52,6 +63,10 @@ loop-child-preserved c =
           rw now
           (slot_with_parent (without_parent c.loop-child.state c.in-Some.child) c.in-Some.child c.args.to c.args.to
           (slot_without_parent c.loop-child.state c.in-Some.child c.args.to c.loop-child.invariant.target));
+      filled =
+          rw now
+          (place-with_parent (without_parent c.loop-child.state c.in-Some.child) c.in-Some.child c.args.to c.args.to
+          (place-without_parent c.loop-child.state c.in-Some.child c.args.to c.loop-child.invariant.filled));
       same =
           ap (λ m. handed_over m c.args.from c.args.to) now
           ∙ handed_over-step c.loop-child.state c.args.from c.args.to c.in-Some.child c.in-Some.ensures.some

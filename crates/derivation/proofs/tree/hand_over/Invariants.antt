@@ -3,6 +3,7 @@ use Rattle.std.proofs.Common.{◌≡◌}
 use Rattle.std.specs.Prelude.{IsTrue}
 use Rattle.std.specs.FinMap.{keys}
 use Rattle.machine.specs.Machine.{has_slot}
+use Rattle.objects.specs.Pairs.{IsFilledOrGoing}
 use Rattle.derivation.specs.Moving.{StandsNoLower, handed_over}
 use Rattle.derivation.proofs.Children.{children_among}
 use Rattle.derivation.proofs.tree.hand_over.Given as goal
@@ -10,6 +11,7 @@ use Rattle.derivation.proofs.tree.hand_over.Given as goal
 abbrev pub invariant-loop-child : goal.invariant-loop-child
 invariant-loop-child l = record {
   target : IsTrue (has_slot l.state l.to);
+  filled : IsFilledOrGoing l.state l.to;
   same : handed_over l.state l.from l.to ≡ handed_over l.fn.state l.from l.to;
   place : StandsNoLower l.state l.to l.from;
 }

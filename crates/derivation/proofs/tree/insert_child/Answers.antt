@@ -1,3 +1,4 @@
+use Rattle.std.proofs.Common.{inl}
 use Rattle.derivation.proofs.Moves.{slot_filled}
 use Rattle.derivation.proofs.Ranks.{ranked_insert}
 use Rattle.derivation.proofs.tree.insert_child.Goals as goal
@@ -7,6 +8,12 @@ attach-requires-clause-below c = slot_filled c.args.state.now c.args.slot c.caps
 
 pub attach-requires-clause-above : goal.attach-requires-clause-above
 attach-requires-clause-above c = slot_filled c.args.state.now c.args.parent c.caps_are_in_slots.ensures c.requires.above
+
+pub attach-requires-clause-low : goal.attach-requires-clause-low
+attach-requires-clause-low c = inl c.requires.below
+
+pub attach-requires-clause-high : goal.attach-requires-clause-high
+attach-requires-clause-high c = inl c.requires.above
 
 pub attach-requires-clause-ranked : goal.attach-requires-clause-ranked
 attach-requires-clause-ranked c =

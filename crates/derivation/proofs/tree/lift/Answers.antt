@@ -2,6 +2,7 @@
 use Rattle.std.proofs.Common.{sym, ap, ◌∙◌, subst}
 use Rattle.machine.specs.Machine.{with_parent}
 use Rattle.machine.specs.Tree.{IsRanked}
+use Rattle.objects.proofs.PairLemmas.{place-without_parent}
 use Rattle.derivation.specs.Moving.{StandsNoLower}
 use Rattle.derivation.proofs.Pairs.{root_without_parent}
 use Rattle.derivation.proofs.Moves.{lifted-none, lifted-some, slot_without_parent}
@@ -17,6 +18,15 @@ attach-requires-clause-above c =
     rw c.detach.ensures
     (slot_without_parent c.args.state.now c.args.from c.in-Some.parent
     (c.keeps_a_forest.ensures.above c.args.from c.in-Some.parent (sym c.in-Some.ensures)))
+
+pub attach-requires-clause-low : goal.attach-requires-clause-low
+attach-requires-clause-low c = rw c.detach.ensures (place-without_parent c.args.state.now c.args.from c.args.to c.requires.filled)
+
+pub attach-requires-clause-high : goal.attach-requires-clause-high
+attach-requires-clause-high c =
+    rw c.detach.ensures
+    (place-without_parent c.args.state.now c.args.from c.in-Some.parent
+    (c.keeps_a_forest.ensures.paired.above c.args.from c.in-Some.parent (sym c.in-Some.ensures)))
 
 pub attach-requires-clause-root : goal.attach-requires-clause-root
 attach-requires-clause-root c =

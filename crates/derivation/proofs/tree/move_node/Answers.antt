@@ -1,12 +1,19 @@
 -- The two steps make the exchange.
-use Rattle.std.proofs.Common.{sym, ap, ◌∙◌}
+use Rattle.std.proofs.Common.{inl, sym, ap, ◌∙◌}
 use Rattle.machine.specs.Machine.{parent_of}
 use Rattle.derivation.specs.Moving.{handed_over}
-use Rattle.derivation.proofs.Moves.{apart_lifted, slot_filled, slot_lifted, taken_over}
+use Rattle.derivation.proofs.Moves.{apart_lifted, place_lifted, slot_filled, slot_lifted, taken_over}
 use Rattle.derivation.proofs.tree.move_node.Goals as goal
 
 pub lift-requires-clause-target : goal.lift-requires-clause-target
 lift-requires-clause-target c = slot_filled c.args.state.now c.args.to c.caps_are_in_slots.ensures c.requires.target
+
+pub lift-requires-clause-filled : goal.lift-requires-clause-filled
+lift-requires-clause-filled c = inl c.requires.target
+
+pub hand_over-requires-clause-filled : goal.hand_over-requires-clause-filled
+hand_over-requires-clause-filled c =
+    rw c.lift.ensures.value (place_lifted c.args.state.now c.args.from c.args.to c.args.to (inl c.requires.target))
 
 pub hand_over-requires-clause-target : goal.hand_over-requires-clause-target
 hand_over-requires-clause-target c =

@@ -2,11 +2,15 @@
 use Rattle.std.proofs.Common.{sym, ap, ◌∙◌, arith}
 use Rattle.std.specs.Prelude.{slice_get}
 use Rattle.removal.proofs.Cascading.{cascade_ended, cascade_more, none_past_all}
+use Rattle.removal.proofs.Dropped.{listed_at}
 use Rattle.removal.proofs.caps.cascade.Goals as goal
 
 pub returns-in_default-clause-emptied : goal.returns-in_default-clause-emptied
 returns-in_default-clause-emptied c =
     cascade_ended c.args.state.now c.loop-next.state c.loop-next.next c.loop-next.invariant (sym c.going.ensures ∙ c.in_default.is)
+
+pub empty_slots_of-requires-clause-listed : goal.empty_slots_of-requires-clause-listed
+empty_slots_of-requires-clause-listed c = listed_at _ c.loop-next.next c.in-Some.id (sym c.in-Some.ensures)
 
 pub loop-next-preserved : goal.loop-next-preserved
 loop-next-preserved c =

@@ -1,12 +1,32 @@
 -- Each slot that there is has been emptied.
-use Rattle.std.proofs.Common.{◌≡◌, sym, ap, subst, ◌∙◌, arith}
-use Rattle.std.specs.Prelude.{Some, None, IsTrue}
+use Rattle.std.proofs.Common.{◌≡◌, inr, refl, sym, ap, subst, ◌∙◌, arith}
+use Rattle.std.specs.Prelude.{Some, None, IsTrue, Contains}
 use Rattle.base.specs.declared.ids.SlotRef.{SlotRef}
 use Rattle.machine.specs.declared.cap.Cap.{Cap}
 use Rattle.machine.specs.Machine.{Machine, cap_of, has_slot}
-use Rattle.removal.specs.UnderWay.{emptied_below, slots_at}
-use Rattle.removal.proofs.Turns.{all_hollow}
+use Rattle.removal.specs.UnderWay.{emptied, emptied_below, slots_at}
+use Rattle.removal.proofs.Cascading.{below_more}
+use Rattle.removal.proofs.Turns.{all_hollow, listed_on}
 use Rattle.removal.proofs.caps.empty_slots_of.Goals as goal
+
+pub empty_slot-requires-clause-place : goal.empty_slot-requires-clause-place
+empty_slot-requires-clause-place c = inr c.loop-index.invariant.listed
+
+pub loop-index-init : goal.loop-index-init
+loop-index-init c = record { emptied = refl; going = c.requires.going; listed = c.requires.listed }
+
+pub loop-index-preserved : goal.loop-index-preserved
+loop-index-preserved c =
+    let slot : SlotRef = record { holder = c.args.id; index = c.loop-index.index } in
+    record {
+      emptied =
+          c.empty_slot.ensures.value ∙ ap (λ (m : Machine). emptied m slot) c.loop-index.invariant.emptied
+          ∙ sym (below_more c.args.state.now c.args.id c.loop-index.index);
+      going = c.empty_slot.ensures.going;
+      listed =
+          subst (λ (m : Machine). Contains m.going c.args.id) (sym c.empty_slot.ensures.value)
+          (listed_on c.loop-index.state slot c.args.id c.loop-index.invariant.listed);
+    }
 
 pub returns-clause-hollow : goal.returns-clause-hollow
 returns-clause-hollow c =

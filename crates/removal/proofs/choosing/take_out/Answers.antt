@@ -1,12 +1,22 @@
 -- A slot that has left the tree is emptied as it would have been there.
-use Rattle.std.proofs.Common.{ap, ◌∙◌}
-use Rattle.machine.specs.Machine.{Machine, parent_of}
+use Rattle.std.proofs.Common.{inl, ap, ◌∙◌}
+use Rattle.machine.specs.Machine.{Machine, parent_of, same_slot}
+use Rattle.machine.specs.WellFormed.{child}
+use Rattle.machine.proofs.Exchange.{slot_itself}
+use Rattle.derivation.proofs.Leavings.{left_alone, node_left}
 use Rattle.removal.proofs.Beside.{going_stays}
 use Rattle.removal.proofs.EmptiedLooks.{emptied_apart, parents-emptied}
 use Rattle.removal.proofs.choosing.take_out.Goals as goal
 
-pub empty_slot-requires : goal.empty_slot-requires
-empty_slot-requires c = going_stays c.args.state.now c.remove_node.new.state c.remove_node.ensures.rest c.requires
+pub empty_slot-requires-clause-going : goal.empty_slot-requires-clause-going
+empty_slot-requires-clause-going c = going_stays c.args.state.now c.remove_node.new.state c.remove_node.ensures.rest c.requires
+
+pub empty_slot-requires-clause-place : goal.empty_slot-requires-clause-place
+empty_slot-requires-clause-place c =
+    let left =
+    node_left c.args.state.now c.remove_node.new.state c.args.slot (λ at. c.keeps_a_forest.ensures.acyclic c.args.slot (child at))
+    c.remove_node.ensures in
+    inl (left_alone c.args.state.now c.remove_node.new.state (λ q. same_slot q c.args.slot) left c.args.slot (slot_itself c.args.slot))
 
 pub returns-clause-rest : goal.returns-clause-rest
 returns-clause-rest c =

@@ -1,6 +1,9 @@
 use Rattle.machine.specs.Machine.{same_slot}
-use Rattle.removal.proofs.Finds.{one_found}
+use Rattle.removal.proofs.Finds.{one_found, formed_filled}
 use Rattle.removal.proofs.removing.remove.Goals as goal
+
+pub empty_all_with-requires : goal.empty_all_with-requires
+empty_all_with-requires c = formed_filled c.args.state.now c.requires
 
 pub sweep-requires : goal.sweep-requires
 sweep-requires c =

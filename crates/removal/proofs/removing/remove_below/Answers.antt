@@ -1,6 +1,9 @@
 use Rattle.machine.specs.Below.{is_below}
-use Rattle.removal.proofs.Finds.{below_found}
+use Rattle.removal.proofs.Finds.{below_found, formed_filled}
 use Rattle.removal.proofs.removing.remove_below.Goals as goal
+
+pub empty_all_below-requires : goal.empty_all_below-requires
+empty_all_below-requires c = formed_filled c.args.state.now c.requires
 
 pub sweep-requires : goal.sweep-requires
 sweep-requires c =

@@ -1,12 +1,10 @@
 -- Each pass finds what the one before left.
 use Rattle.std.proofs.Common.{◌∙◌}
-use Rattle.removal.proofs.Swept.{all_removed, empties_go, going_cut_off, links_agree}
+use Rattle.removal.proofs.Swept.{all_removed, going_cut_off, links_agree}
 use Rattle.removal.proofs.sweeping.sweep.Goals as goal
 
 pub leave_tree-requires : goal.leave_tree-requires
-leave_tree-requires c =
-    empties_go c.requires.0 c.requires.1 c.args.state.now c.requires.2 c.keeps_a_forest.ensures.below
-    c.keeps_a_forest.ensures.above
+leave_tree-requires c = λ slot parent at listed. c.requires.2.emptied.hollow parent listed
 
 pub finalise-requires : goal.finalise-requires
 finalise-requires c =

@@ -3,6 +3,7 @@ use Rattle.machine.specs.Changes.{with_going}
 use Rattle.machine.specs.Counts.{objects_in}
 use Rattle.objects.specs.State.{machine_of}
 use Rattle.objects.proofs.CountedStates.{going_gives, sound_going}
+use Rattle.objects.proofs.PairLemmas.{paired-with_going}
 use Rattle.objects.proofs.StateLemmas.{going-machine_of}
 use Rattle.objects.proofs.state.State.add_going.Goals as goal
 
@@ -17,7 +18,13 @@ push_reserved-requires c =
     omega (arith, room, listed, exact, roomy, whole)
 
 pub invariant_of-self : goal.invariant_of-self
-invariant_of-self c = sound_going c.self.inside _ c.self.invariant c.push_reserved.ensures.capacity
+unfolding with_going
+invariant_of-self c =
+    let room = c.push_reserved.ensures.capacity in
+    sound_going c.self.inside _ c.self.invariant (omega (arith, room)) _
+    (going_gives c.self.inside _ _
+    (c.push_reserved.ensures.items ∙ ap (λ going. going ++ c.args.id ∷ []) (sym (going-machine_of c.self.inside))))
+    (paired-with_going _ c.args.id c.self.invariant.paired)
 
 pub returns : goal.returns
 unfolding with_going

@@ -10,7 +10,7 @@ use Rattle.objects.proofs.CountedStates.{room_gives, sound_all_added, sound_room
 use Rattle.objects.proofs.state.State.add_objects.Goals as goal
 
 pub invariant_of-self : goal.invariant_of-self
-invariant_of-self c = sound_room c.self.inside c.reserve.new.self c.self.invariant c.in_err-reserve.ensures.capacity
+invariant_of-self c = sound_room c.self.inside c.reserve.new.self c.self.invariant c.in_err-reserve.ensures.capacity c.in_err-reserve.ensures.items
 
 pub returns-in_err-reserve-clause-err : goal.returns-in_err-reserve-clause-err
 returns-in_err-reserve-clause-err c =
@@ -23,7 +23,7 @@ add_all-requires c = rw (← next-machine_of c.self.inside, c.self.view_is) c.re
 pub invariant_of-self-in_err-add_all : goal.invariant_of-self-in_err-add_all
 invariant_of-self-in_err-add_all c =
     rw c.in_err-add_all.ensures.err
-    (sound_room c.self.inside c.reserve.new.self c.self.invariant c.in_ok-reserve.ensures.capacity)
+    (sound_room c.self.inside c.reserve.new.self c.self.invariant c.in_ok-reserve.ensures.capacity c.in_ok-reserve.ensures.items)
 
 pub returns-in_err-add_all-clause-err : goal.returns-in_err-add_all-clause-err
 returns-in_err-add_all-clause-err c =
@@ -39,7 +39,7 @@ invariant_of-self-2 c =
     let roomy : s.counts.objects + length c.args.objects.now ≤ vec_capacity c.reserve.new.self = omega (arith, left) in
     rw (c.in_ok-add_all.ensures.ok, c.with_all-self-inside.ensures)
     (sound_all_added (record s { going = c.reserve.new.self })
-    (sound_room s c.reserve.new.self c.self.invariant c.in_ok-reserve.ensures.capacity) c.args.objects.now room
+    (sound_room s c.reserve.new.self c.self.invariant c.in_ok-reserve.ensures.capacity c.in_ok-reserve.ensures.items) c.args.objects.now room
     c.in_ok-add_all.ensures.radices roomy)
 
 pub returns-clause-ok : goal.returns-clause-ok
@@ -48,6 +48,6 @@ returns-clause-ok c =
     let room : s.next + length c.args.objects.now ≤ 2 ^ 48 = rw (← next-machine_of s, c.self.view_is) c.requires in
     rw (c.in_ok-add_all.ensures.ok, c.with_all-self-inside.ensures, ← c.self.view_is)
     (all_added_gives (record s { going = c.reserve.new.self })
-    (sound_room s c.reserve.new.self c.self.invariant c.in_ok-reserve.ensures.capacity).consistent c.args.objects.now room
+    (sound_room s c.reserve.new.self c.self.invariant c.in_ok-reserve.ensures.capacity c.in_ok-reserve.ensures.items).consistent c.args.objects.now room
     c.in_ok-add_all.ensures.radices
     ∙ ap (λ m. fold with_new m c.args.objects.now) (room_gives s c.reserve.new.self c.in_ok-reserve.ensures.items))

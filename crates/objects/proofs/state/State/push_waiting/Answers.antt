@@ -4,6 +4,7 @@ use Rattle.objects.proofs.CountLemmas.{counts-with_waiting}
 use Rattle.machine.proofs.CapCounts.{caps_to-with_waiting}
 use Rattle.objects.proofs.CapsKept.{caps-pushed}
 use Rattle.objects.proofs.CountedStates.{sound_after}
+use Rattle.objects.proofs.PairLemmas.{paired-with_waiting}
 use Rattle.objects.proofs.state.State.push_waiting.Goals as goal
 
 pub invariant_of-self : goal.invariant_of-self
@@ -15,7 +16,8 @@ invariant_of-self c =
     (caps-pushed c.self.inside.store c.args.id c.args.thread _) _
     (push_gives c.self.inside c.self.invariant.consistent c.args.id c.args.thread (rw c.self.view_is c.requires.present)
     (rw c.self.view_is c.requires.free))
-    (counts-with_waiting _ c.args.id c.args.thread) (caps_to-with_waiting _ c.args.id c.args.thread))
+    (counts-with_waiting _ c.args.id c.args.thread) (caps_to-with_waiting _ c.args.id c.args.thread)
+    (paired-with_waiting _ c.args.id c.args.thread c.self.invariant.paired))
 
 pub returns : goal.returns
 returns c =

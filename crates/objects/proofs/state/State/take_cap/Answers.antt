@@ -15,7 +15,7 @@ invariant_of-self c =
     rw (c.set_caps.ensures, c.set_cap.ensures)
     (sound_take c.self.inside c.self.invariant c.args.slot c.in-Some.cap _
     (rw c.self.view_is (sym c.cap.ensures ∙ c.in-Some.is))
-    (rw (c.cap_count-count.ensures.value, ← c.self.view_is) refl))
+    (rw (c.cap_count-count.ensures.value, ← c.self.view_is) refl) (rw c.self.view_is c.requires))
 
 pub returns-in-Some : goal.returns-in-Some
 returns-in-Some c =

@@ -4,6 +4,7 @@ use Rattle.objects.proofs.CountLemmas.{counts-without_waiting}
 use Rattle.machine.proofs.CapCounts.{caps_to-without_waiting}
 use Rattle.objects.proofs.CapsKept.{caps-quitted}
 use Rattle.objects.proofs.CountedStates.{sound_after}
+use Rattle.objects.proofs.PairLemmas.{paired-without_waiting}
 use Rattle.objects.proofs.state.State.take_waiting.Goals as goal
 
 pub invariant_of-self : goal.invariant_of-self
@@ -13,7 +14,8 @@ invariant_of-self c =
     (IsConsistent-quitted c.self.inside c.self.invariant.consistent c.args.id c.args.thread (rw c.self.view_is c.requires)) refl refl refl
     (caps-quitted c.self.inside.store c.args.id c.args.thread _) _
     (quit_gives c.self.inside c.self.invariant.consistent c.args.id c.args.thread (rw c.self.view_is c.requires))
-    (counts-without_waiting _ c.args.id c.args.thread) (caps_to-without_waiting _ c.args.id c.args.thread))
+    (counts-without_waiting _ c.args.id c.args.thread) (caps_to-without_waiting _ c.args.id c.args.thread)
+    (paired-without_waiting _ c.args.id c.args.thread c.self.invariant.paired))
 
 pub returns : goal.returns
 returns c =

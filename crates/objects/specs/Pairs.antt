@@ -1,0 +1,24 @@
+-- Which slots the pairs of the derivation tree join (seL4 manual, "Capability Derivation Tree"; that a slot keeps its place after it was
+-- emptied, as long as its holder is going, is confine's own).
+use Rattle.std.specs.Prelude.{◌≡◌, ◌⊎◌, Some, IsSome, Contains}
+use Rattle.base.specs.declared.ids.SlotRef.{SlotRef}
+use Rattle.machine.specs.Machine.{Machine, cap_of, parent_of}
+use Rattle.machine.specs.Tree.{IsAlone}
+
+-- a slot is filled, or its holder has lost its last capability in a removal that is under way
+abbrev pub IsFilledOrGoing : Machine → SlotRef → Type 0
+IsFilledOrGoing m slot = IsSome (cap_of m slot) ⊎ Contains m.going slot.holder
+
+-- so it is with both slots of each pair
+pub record AreFilledOrGoing (m : Machine) : Type 0 where
+  pub below : (slot parent : SlotRef) → parent_of m slot ≡ Some parent → IsFilledOrGoing m slot
+  pub above : (slot parent : SlotRef) → parent_of m slot ≡ Some parent → IsFilledOrGoing m parent
+
+-- both slots of each pair are filled
+pub record AreFilled (m : Machine) : Type 0 where
+  pub below : (slot parent : SlotRef) → parent_of m slot ≡ Some parent → IsSome (cap_of m slot)
+  pub above : (slot parent : SlotRef) → parent_of m slot ≡ Some parent → IsSome (cap_of m parent)
+
+-- a slot may lose its capability: it is in no pair, or its holder is going
+abbrev pub MayEmpty : Machine → SlotRef → Type 0
+MayEmpty m slot = IsAlone m slot ⊎ Contains m.going slot.holder
