@@ -60,7 +60,7 @@ not-missed p (y ∷ ys) (suc k) x within at passes missed =
       by_test further false missed = further missed
 
 -- the one element that passes is found
-find-only :
+pub find-only :
     {X : Type 0} (p : X → Bool) (xs : List X) (x : X) → Contains xs x → p x ≡ true
     → ((y : X) → Contains xs y → p y ≡ true → y ≡ x) → find p xs ≡ Some x
 find-only {X} p xs x has passes only = by_found (find p xs) refl where
@@ -155,7 +155,7 @@ at_boot t m id object lawful boot present =
     subst P (sym declared.is) (at_boot-bound t id declared.initial.object (declared-law t id object lawful declared).blank)
 
 -- a capability that the table puts into a slot is in its list
-in_slot :
+pub in_slot :
     (t : Layout) (slot : SlotRef) (held : Cap) → initial_cap t slot ≡ Some held
     → Contains t.caps (record { slot = slot; cap = held })
 unfolding initial_cap

@@ -23,7 +23,7 @@ use Rattle.table.proofs.BootParts.{declared-present, cap-law, pair-law}
 use Rattle.table.proofs.BootTree.{boot-acyclic}
 
 -- a detail that fits an object is of the object's kind
-kind-detail : (object : Object) (detail : Detail) → IsDetailOf object detail → kind_of_object object ≡ kind_of_detail detail
+pub kind-detail : (object : Object) (detail : Detail) → IsDetailOf object detail → kind_of_object object ≡ kind_of_detail detail
 kind-detail (o.Untyped _) d.Untyped fits = refl
 kind-detail (o.CNode _) (d.CNode _) fits = refl
 kind-detail (o.Tcb _) d.Tcb fits = refl

@@ -25,5 +25,6 @@ pub mod CapRemoved
 pub mod BindingRemoved
 pub mod BuiltUp
 pub mod Lookups
+mod NoUntyped
 pub mod AtBoot
 pub mod BootState

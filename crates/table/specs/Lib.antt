@@ -1,6 +1,7 @@
 pub mod Names
 pub mod Placement
 pub mod Tree
+pub mod UntypedPairs
 pub mod Rules
 pub mod Building
 pub mod Inventory
