@@ -1,7 +1,6 @@
 ghost use Rattle.std.specs.Prelude.{◌≡◌};
 ghost use Rattle.base.specs.declared.ids.ObjId.{ObjId as Id};
 ghost use Rattle.machine.specs.Makes.{Makes};
-ghost use Rattle.machine.specs.Releasing.{IsInItsQueue};
 ghost use Rattle.machine.specs.Step.Receive.{awaiting_message, find_named_reply, receive_of, received, with_reply_ended};
 ghost use Rattle.machine.specs.WellFormed.{IsCaller, IsWellFormed};
 ghost use Rattle.objects.specs.Waiting.{WaitsNowhere};

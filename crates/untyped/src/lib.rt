@@ -12,9 +12,4 @@ mod placing;
 mod retyping;
 mod room;
 
-pub use conditions::{a_few, all_vacant, in_node, sized};
-pub use finding::{Source, find_taker, find_untyped};
-pub use limits::within_limits;
-pub use making::{new_cap, new_object};
 pub use retyping::{retype, retype_refusal};
-pub use room::{begun, new_size, roomy};
