@@ -1,6 +1,7 @@
 -- What copying, minting and moving a capability need of the slots that the call names, and what these calls keep.
 use Rattle.std.proofs.Common.{◌≡◌, ◌≢◌, Bool, true, false, refl, sym, ap, subst, ◌∙◌}
-use Rattle.std.specs.Prelude.{Option, Some, None, Ok, IsTrue, IsSome, option_map, if◌then◌else◌}
+use Rattle.std.specs.Prelude.{Option, Some, None, Ok, IsTrue, IsSome, nat_lt, option_map, if◌then◌else◌}
+use Rattle.std.proofs.lemmas.Bool.{false≢true, ltb-true}
 use Rattle.base.specs.declared.ids.ObjId.{ObjId}
 use Rattle.base.specs.declared.ids.SlotRef.{SlotRef}
 use Rattle.base.specs.declared.rights.Rights.{Rights}
@@ -11,23 +12,24 @@ use Rattle.machine.specs.declared.cap.Cap.{Cap}
 use Rattle.machine.specs.declared.cap.Detail.{Detail}
 use Rattle.machine.specs.declared.object.Object.{Object}
 use Rattle.machine.specs.declared.object.Object.TheVariants as o
+use Rattle.machine.specs.declared.object.ObjectKind.TheVariants as kind
 use Rattle.machine.specs.declared.slot_address.Ends.{Ends}
 use Rattle.machine.specs.declared.slot_address.SlotAddress.{SlotAddress}
 use Rattle.machine.specs.Capabilities.{kind_of_detail}
 use Rattle.machine.specs.Machine.{Machine, cap_of, has_slot, object_of, parent_of, same_slot, with_cap}
-use Rattle.machine.specs.Objects.{kind_of_object}
+use Rattle.machine.specs.Objects.{kind_of_object, slot_count}
 use Rattle.machine.specs.Step.Copy.{copy_of, copyable, masked}
 use Rattle.machine.specs.Step.Mint.{mint_of, minted}
 use Rattle.machine.specs.Step.Move.{move_of}
 use Rattle.machine.specs.Step.Target.{ends_of}
-use Rattle.machine.specs.Tree.{IsAlone, parent_of_copy, with_copy, with_moved}
-use Rattle.machine.specs.WellFormed.{IsWellFormed}
+use Rattle.machine.specs.Tree.{IsAlone, copied, parent_of_copy, with_copy, with_moved}
+use Rattle.machine.specs.WellFormed.{IsWellFormed, kind_of}
 use Rattle.machine.proofs.Exchange.{slot_itself}
-use Rattle.machine.proofs.FillsFormed.{derives_formed}
+use Rattle.machine.proofs.FillsFormed.{Takes, derives_formed, fills_formed}
 use Rattle.machine.proofs.LedSlots.{led_slot, node_slot}
 use Rattle.machine.proofs.LookUps.{cap_of-with_cap, parent_of-with_cap}
 use Rattle.machine.proofs.MovesFormed.{move_formed}
-use Rattle.machine.proofs.SlotRows.{copy_done, empty_alone, ends_found, mint_done, move_done}
+use Rattle.machine.proofs.SlotRows.{copy_done, empty_alone, ends_found, mint_done, move_done, with_copy_fills}
 
 -- the slot that a call names as its target is there
 pub target_there :
@@ -122,7 +124,37 @@ filled_alone m slot held formed empty =
         let none : None ≡ Some was.0 = sym empty ∙ was.1 in
         cc
 
--- a copy keeps machines well formed
+-- a slot that is there takes what a capability says, a root slot that of a CNode's
+takes :
+    (m : Machine) (slot : SlotRef) (detail : Detail) → IsTrue (has_slot m slot)
+    → (kind_of m slot.holder ≡ Some kind.Tcb → kind_of_detail detail ≡ kind.CNode) → Takes m slot detail
+takes m slot detail there root = by_object (object_of m slot.holder) refl there where
+  within : Option Object → Bool
+  within None = false
+  within (Some object) = nat_lt slot.index (slot_count object)
+
+  by_object : (o : Option Object) → object_of m slot.holder ≡ o → IsTrue (within o) → Takes m slot detail
+  by_object None is has = absurd (false≢true has)
+  by_object (Some object) is has = record {
+    object = object;
+    there = is;
+    within = ltb-true slot.index (slot_count object) has;
+    root = λ tcb. root (ap (option_map kind_of_object) is ∙ ap (λ k. Some k) tcb);
+  }
+
+-- a copy of the same kind that isn't untyped memory's keeps machines well formed
+pub derived_formed :
+    (m : Machine) (ends : Ends) (detail : Detail) → IsWellFormed m → IsTrue (has_slot m ends.target)
+    → cap_of m ends.target ≡ None → cap_of m ends.source ≡ Some ends.held
+    → kind_of_detail detail ≡ kind_of_detail ends.held.detail → kind_of_detail ends.held.detail ≢ kind.Untyped
+    → (kind_of m ends.target.holder ≡ Some kind.Tcb → kind_of_detail detail ≡ kind.CNode)
+    → IsWellFormed (with_copy m ends.target ends.source ends.held detail)
+derived_formed m ends detail formed there empty full alike typed root =
+    fills_formed m (with_copy m ends.target ends.source ends.held detail) ends.target ends.source ends.held
+    (copied ends.held detail) formed (with_copy_fills m ends.target ends.source ends.held detail formed empty)
+    (takes m ends.target detail there root) empty full refl alike typed
+
+-- a copy by a call keeps machines well formed
 pub copied_formed :
     (m : Machine) (caller : ObjId) (to from : SlotAddress) (mask : Rights) (ends : Ends) → IsWellFormed m
     → ends_of m caller to from ≡ Ok ends → copyable ends.held.detail ≡ Ok tt

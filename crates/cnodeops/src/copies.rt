@@ -1,8 +1,10 @@
-ghost use Rattle.std.specs.Prelude.{◌≡◌, IsTrue, Some, None};
+ghost use Rattle.std.specs.Prelude.{◌≡◌, ◌≢◌, IsTrue, Some, None};
+ghost use Rattle.machine.specs.declared.object.ObjectKind.TheVariants as kind;
+ghost use Rattle.machine.specs.Capabilities.{kind_of_detail};
 ghost use Rattle.machine.specs.Machine.{cap_of, has_slot, parent_of};
 ghost use Rattle.machine.specs.Step.Copy.{copyable, masked};
 ghost use Rattle.machine.specs.Tree.{copied, parent_of_copy, with_copy};
-ghost use Rattle.machine.specs.WellFormed.{IsWellFormed};
+ghost use Rattle.machine.specs.WellFormed.{IsWellFormed, kind_of};
 
 use base::{Cause, Rights, SlotRef};
 use bitflags::Flags;
@@ -65,9 +67,25 @@ fn parent_of_copy(state: &State, slot: SlotRef, source: &Cap) -> Option<SlotRef>
 /// source's parent, if it has one (seL4 manual, "Capability Derivation Tree").
 ///
 /// No memory is taken. Whether the kind may be copied, and what a copy may say, is the caller's to see
-/// to.
-#[tactic(auto, unfolding(machine::specs::Tree::with_copy))]
+/// to: of the same kind, which isn't untyped memory, and in a root slot of a CNode, it leaves the state
+/// well formed.
 pub fn derive(state: &mut State, ends: Ends, detail: Detail)
+    requires well_formed { IsWellFormed state.old }
+    requires there { IsTrue (has_slot state.old ends.target) }
+    requires vacant { cap_of state.old ends.target ≡ None }
+    requires filled { cap_of state.old ends.source ≡ Some ends.held }
+    ensures copy { state.new ≡ with_copy state.old ends.target ends.source ends.held detail }
+    ensures well_formed { kind_of_detail detail ≡ kind_of_detail ends.held.detail
+        → kind_of_detail ends.held.detail ≢ kind.Untyped
+        → (kind_of state.old ends.target.holder ≡ Some kind.Tcb → kind_of_detail detail ≡ kind.CNode)
+        → IsWellFormed state.new }
+{
+    add_copy(state, ends, detail);
+}
+
+// Fills the target, and joins it to the parent of a copy.
+#[tactic(auto, unfolding(machine::specs::Tree::with_copy))]
+fn add_copy(state: &mut State, ends: Ends, detail: Detail)
     requires well_formed { IsWellFormed state.old }
     requires there { IsTrue (has_slot state.old ends.target) }
     requires vacant { cap_of state.old ends.target ≡ None }

@@ -1,5 +1,6 @@
 ghost use Rattle.std.specs.Prelude.{◌≡◌};
 ghost use Rattle.machine.specs.Releasing.{with_idle_context, with_unbound};
+ghost use Rattle.machine.specs.WellFormed.{IsWellFormed};
 
 use base::ObjId;
 use machine::{Context, Object, Tcb};
@@ -21,8 +22,16 @@ fn idle(state: &mut State, id: ObjId)
 
 /// Takes its scheduling context from a thread, and the thread from the context. Does nothing where
 /// there is no such thread, or it has no context.
-#[tactic(auto, unfolding(machine::specs::Releasing::with_unbound))]
 pub fn unbind(state: &mut State, thread: ObjId)
+    ensures unbound { state.new ≡ with_unbound state.old thread }
+    ensures well_formed { IsWellFormed state.old → IsWellFormed state.new }
+{
+    part(state, thread);
+}
+
+// Cuts the link between a thread and its scheduling context at both ends.
+#[tactic(auto, unfolding(machine::specs::Releasing::with_unbound))]
+fn part(state: &mut State, thread: ObjId)
     ensures { state.new ≡ with_unbound state.old thread }
 {
     if let Some(&Object::Tcb(tcb)) = state.object(thread) {

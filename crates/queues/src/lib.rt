@@ -1,14 +1,19 @@
 //! The queues of threads at endpoints and notifications, first in, first out.
 #![tactic(auto)]
 
-ghost use Rattle.std.specs.Prelude.{◌≡◌, None, IsSome};
+ghost use Rattle.std.specs.Prelude.{◌≡◌, None, Some, IsSome};
+ghost use Rattle.base.specs.declared.ids.ObjId.{ObjId as Id};
+ghost use Rattle.machine.specs.declared.object.ObjectKind.{ObjectKind as Kind};
+ghost use Rattle.machine.specs.declared.thread.Tcb.{Tcb as Thread};
 ghost use Rattle.machine.specs.Machine.{object_of};
 ghost use Rattle.machine.specs.Changes.{first_waiting, with_waiting, without_first, without_waiting};
 ghost use Rattle.machine.specs.Releasing.{with_blocked};
+ghost use Rattle.machine.specs.WellFormed.{IsAlike, IsIdle, IsReceivingWith, IsThread, IsWellFormed};
+ghost use Rattle.machine.specs.WellFormed.{WaitsAt, WaitsAtKind, kind_of};
 ghost use Rattle.objects.specs.Waiting.{WaitsNowhere, WaitsThere};
 
 use base::ObjId;
-use machine::{Object, RunState, Tcb};
+use machine::{Object, RunState, Tcb, blocks_keep_machines_well_formed};
 use objects::State;
 
 /// Puts a thread behind those that wait at an object. Does nothing where there is no such object.
@@ -22,8 +27,28 @@ pub fn push_last(state: &mut State, id: ObjId, thread: ObjId)
 
 /// Has a thread wait at an object in a run state, after those that wait there (seL4 manual, "Threads
 /// and Execution"). Does nothing where there is no such thread.
-#[tactic(auto, unfolding(machine::specs::Releasing::with_blocked))]
 pub fn block(state: &mut State, thread: ObjId, id: ObjId, run: RunState)
+    requires { WaitsNowhere state.old thread }
+    ensures blocked { state.new ≡ with_blocked state.old thread id run }
+    ensures well_formed { (tcb : Thread) (at : Kind)
+        → IsWellFormed state.old
+        → IsThread state.old thread tcb
+        → IsIdle tcb.state
+        → kind_of state.old id ≡ Some at
+        → WaitsAt run id
+        → WaitsAtKind run at
+        → ((named : Id) → ¬ (IsReceivingWith run named))
+        → IsAlike state.old id run
+        → IsWellFormed state.new }
+{
+    // A law, so that the state stays well formed.
+    blocks_keep_machines_well_formed();
+    wait_at(state, thread, id, run);
+}
+
+// Gives a thread a run state, and puts it behind those that wait at an object.
+#[tactic(auto, unfolding(machine::specs::Releasing::with_blocked))]
+fn wait_at(state: &mut State, thread: ObjId, id: ObjId, run: RunState)
     requires { WaitsNowhere state.old thread }
     ensures { state.new ≡ with_blocked state.old thread id run }
 {

@@ -7,14 +7,18 @@ ghost use Rattle.machine.specs.WellFormed.{IsWellFormed};
 use crate::choosing::{empty_all_below, empty_all_with};
 use crate::sweeping::sweep;
 use base::SlotRef;
+use machine::removals_keep_machines_well_formed;
 use objects::State;
 
 /// Empties a slot, and removes all that can't stay without it (seL4 manual, "Deletion, Revocation, and
 /// Recycling"). It takes time in what goes and what is linked to that.
 pub fn remove(state: &mut State, slot: SlotRef)
     requires { IsWellFormed state.old }
-    ensures { state.new ≡ removed state.old (same_slot slot) }
+    ensures changes { state.new ≡ removed state.old (same_slot slot) }
+    ensures well_formed { IsWellFormed state.new }
 {
+    // A law, so that the state stays well formed.
+    removals_keep_machines_well_formed();
     empty_all_with(state, slot);
     sweep(state);
 }

@@ -1,14 +1,21 @@
-ghost use Rattle.std.specs.Prelude.{◌≡◌};
+ghost use Rattle.std.specs.Prelude.{◌≡◌, Some};
 ghost use Rattle.base.specs.declared.ids.ObjId.{ObjId as Id};
+ghost use Rattle.machine.specs.declared.object.ObjectKind.TheVariants as kind;
 ghost use Rattle.machine.specs.declared.object.ReplyState.TheVariants.{Waiting};
+ghost use Rattle.machine.specs.declared.thread.RunState.TheVariants as run;
 ghost use Rattle.machine.specs.declared.thread.Tcb.{Tcb as Thread};
 ghost use Rattle.machine.specs.Releasing.{IsInItsQueue, with_called, with_free, with_holder_halted, with_holding};
-ghost use Rattle.machine.specs.WellFormed.{IsFree, IsIdle, IsThread, IsWellFormed};
+ghost use Rattle.machine.specs.Step.Receive.{awaiting_message};
+ghost use Rattle.machine.specs.WellFormed.{IsAlike, IsFree, IsIdle, IsThread, IsWellFormed, kind_of};
+ghost use Rattle.objects.specs.Waiting.{WaitsNowhere};
 
 use crate::release::halt;
 use base::ObjId;
-use machine::{Object, Reply, ReplyState, RunState, Tcb, blocks_keep_machines_well_formed};
+use machine::{
+    Object, Receiving, Reply, ReplyState, RunState, Tcb, blocks_keep_machines_well_formed,
+};
 use objects::State;
+use queues::block;
 
 /// Says whom the reply holds. No thread is changed.
 #[tactic(auto, unfolding(machine::specs::Releasing::with_holding))]
@@ -32,13 +39,48 @@ pub(crate) fn free(state: &mut State, id: ObjId)
     hold(state, id, ReplyState::Free);
 }
 
-/// Has the reply wait with a thread that waits for a message (seL4 manual, "Reply objects"). The thread
-/// isn't changed: its run state has to name the reply. Does nothing where there is no reply of that
-/// number.
-pub fn wait_with(state: &mut State, id: ObjId, thread: ObjId)
+// Has the reply wait with a thread that waits for a message. The thread isn't changed: its run state has
+// to name the reply. Does nothing where there is no reply of that number.
+fn wait_with(state: &mut State, id: ObjId, thread: ObjId)
     ensures { state.new ≡ with_holding state.old id (Waiting thread) }
 {
     hold(state, id, ReplyState::Waiting(thread));
+}
+
+// Has a thread wait for a message, and the reply that it names with it.
+fn wait_for_message(state: &mut State, thread: ObjId, receiving: Receiving)
+    requires { WaitsNowhere state.old thread }
+    ensures { state.new ≡ awaiting_message state.old thread receiving }
+{
+    block(
+        state,
+        thread,
+        receiving.endpoint,
+        RunState::Receiving(receiving),
+    );
+    if let Some(id) = receiving.reply {
+        wait_with(state, id, thread);
+    }
+}
+
+/// Has a thread wait at an endpoint for a message, behind those that wait there, and the reply that it
+/// names, if it names one, wait with it (seL4 manual, "Endpoints" and "Reply objects"). Whom the reply
+/// held before isn't changed: it has to be free, and the thread ready or inactive.
+pub fn await_message(state: &mut State, thread: ObjId, receiving: Receiving)
+    requires { WaitsNowhere state.old thread }
+    ensures awaiting { state.new ≡ awaiting_message state.old thread receiving }
+    ensures well_formed { (tcb : Thread)
+        → IsWellFormed state.old
+        → IsThread state.old thread tcb
+        → IsIdle tcb.state
+        → kind_of state.old receiving.endpoint ≡ Some kind.Endpoint
+        → IsAlike state.old receiving.endpoint (run.Receiving receiving)
+        → ((id : Id) → receiving.reply ≡ Some id → IsFree state.old id)
+        → IsWellFormed state.new }
+{
+    // A law, so that the state stays well formed.
+    blocks_keep_machines_well_formed();
+    wait_for_message(state, thread, receiving);
 }
 
 /// Says of a thread and a reply that each waits with the other for an answer.
@@ -74,10 +116,9 @@ pub fn link(state: &mut State, thread: ObjId, id: ObjId)
     tie(state, thread, id);
 }
 
-/// Halts the thread that the reply holds, if it holds one; that frees it, so that both ends agree (seL4
-/// manual, "Reply objects"). Does nothing where there is no reply of that number.
+// Halts the thread that the reply holds.
 #[tactic(auto, unfolding(machine::specs::Releasing::with_holder_halted))]
-pub fn unlink(state: &mut State, id: ObjId)
+fn halt_holder(state: &mut State, id: ObjId)
     requires { (thread : Id) → IsInItsQueue state.old thread }
     ensures { state.new ≡ with_holder_halted state.old id }
 {
@@ -87,4 +128,14 @@ pub fn unlink(state: &mut State, id: ObjId)
             ReplyState::Free => {}
         }
     }
+}
+
+/// Halts the thread that the reply holds, if it holds one; that frees it, so that both ends agree (seL4
+/// manual, "Reply objects"). Does nothing where there is no reply of that number.
+pub fn unlink(state: &mut State, id: ObjId)
+    requires { (thread : Id) → IsInItsQueue state.old thread }
+    ensures unlinked { state.new ≡ with_holder_halted state.old id }
+    ensures well_formed { IsWellFormed state.old → IsWellFormed state.new }
+{
+    halt_holder(state, id);
 }

@@ -7,5 +7,5 @@ mod holding;
 mod release;
 
 pub use answering::reply;
-pub use holding::{link, unlink, wait_with};
+pub use holding::{await_message, link, unlink};
 pub use release::{abort, give, halt, resume, suspend};

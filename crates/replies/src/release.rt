@@ -1,8 +1,8 @@
-ghost use Rattle.std.specs.Prelude.{◌≡◌};
+ghost use Rattle.std.specs.Prelude.{◌≡◌, unwrap_or};
 ghost use Rattle.base.specs.declared.ids.ObjId.{ObjId as Id};
-ghost use Rattle.machine.specs.WellFormed.{WaitsAt};
+ghost use Rattle.machine.specs.WellFormed.{IsWellFormed, WaitsAt};
 ghost use Rattle.machine.specs.Releasing.{IsInItsQueue, unblocked, with_aborted, with_given, with_halted, with_ready};
-ghost use Rattle.machine.specs.Releasing.{with_suspended};
+ghost use Rattle.machine.specs.Releasing.{with_released, with_suspended};
 ghost use Rattle.objects.specs.Waiting.{WaitsThere};
 
 use crate::holding::free;
@@ -30,90 +30,75 @@ fn unblock(state: &mut State, thread: ObjId, run: RunState)
     }
 }
 
-/// Has a thread leave its queue and its reply, and run no more (seL4 manual, "Threads and
-/// Execution"). It keeps its inbox. Does nothing where there is no such thread.
+// Has a thread leave its queue and its reply, with a run state, and an inbox if one is given. Does
+// nothing where there is no such thread.
 #[tactic(auto, unfolding(machine::specs::Releasing::with_released))]
-pub fn halt(state: &mut State, thread: ObjId)
+fn leave(state: &mut State, thread: ObjId, run: RunState, inbox: Option<Inbox>)
     requires { IsInItsQueue state.old thread }
-    ensures { state.new ≡ with_halted state.old thread }
+    ensures { state.new ≡ with_released state.old thread (λ tcb. record tcb { state = run; inbox = unwrap_or inbox tcb.inbox }) }
 {
     if let Some(&Object::Tcb(tcb)) = state.object(thread) {
         unblock(state, thread, tcb.state);
-        let halted = Tcb {
-            state: RunState::Inactive,
+        let left = Tcb {
+            state: run,
+            inbox: inbox.unwrap_or(tcb.inbox),
             ..tcb
         };
-        state.set_tcb(thread, halted);
+        state.set_tcb(thread, left);
     }
+}
+
+/// Has a thread leave its queue and its reply, and run no more (seL4 manual, "Threads and
+/// Execution"). It keeps its inbox. Does nothing where there is no such thread.
+pub fn halt(state: &mut State, thread: ObjId)
+    requires { IsInItsQueue state.old thread }
+    ensures halted { state.new ≡ with_halted state.old thread }
+    ensures well_formed { IsWellFormed state.old → IsWellFormed state.new }
+{
+    leave(state, thread, RunState::Inactive, None);
 }
 
 /// Has a thread leave its queue and its reply, and go on; its inbox says that what it waited for
 /// went away. Does nothing where there is no such thread.
-#[tactic(auto, unfolding(machine::specs::Releasing::with_released))]
 pub fn abort(state: &mut State, thread: ObjId)
     requires { IsInItsQueue state.old thread }
-    ensures { state.new ≡ with_aborted state.old thread }
+    ensures aborted { state.new ≡ with_aborted state.old thread }
+    ensures well_formed { IsWellFormed state.old → IsWellFormed state.new }
 {
-    if let Some(&Object::Tcb(tcb)) = state.object(thread) {
-        unblock(state, thread, tcb.state);
-        let aborted = Tcb {
-            state: RunState::Ready,
-            inbox: Inbox::Aborted,
-            ..tcb
-        };
-        state.set_tcb(thread, aborted);
-    }
+    leave(state, thread, RunState::Ready, Some(Inbox::Aborted));
 }
 
 /// Has a thread leave its queue and its reply, and go on (seL4 manual, "Threads and Execution"). It
 /// keeps its inbox. Does nothing where there is no such thread.
-#[tactic(auto, unfolding(machine::specs::Releasing::with_released))]
 pub fn resume(state: &mut State, thread: ObjId)
     requires { IsInItsQueue state.old thread }
-    ensures { state.new ≡ with_ready state.old thread }
+    ensures ready { state.new ≡ with_ready state.old thread }
+    ensures well_formed { IsWellFormed state.old → IsWellFormed state.new }
 {
-    if let Some(&Object::Tcb(tcb)) = state.object(thread) {
-        unblock(state, thread, tcb.state);
-        let ready = Tcb {
-            state: RunState::Ready,
-            ..tcb
-        };
-        state.set_tcb(thread, ready);
-    }
+    leave(state, thread, RunState::Ready, None);
 }
 
 /// Has a thread leave its queue and its reply, and run no more until it is resumed (seL4 manual,
 /// "Threads and Execution"). What was in its inbox is lost. Does nothing where there is no such thread.
-#[tactic(auto, unfolding(machine::specs::Releasing::with_released))]
 pub fn suspend(state: &mut State, thread: ObjId)
     requires { IsInItsQueue state.old thread }
-    ensures { state.new ≡ with_suspended state.old thread }
+    ensures suspended { state.new ≡ with_suspended state.old thread }
+    ensures well_formed { IsWellFormed state.old → IsWellFormed state.new }
 {
-    if let Some(&Object::Tcb(tcb)) = state.object(thread) {
-        unblock(state, thread, tcb.state);
-        let suspended = Tcb {
-            state: RunState::Inactive,
-            inbox: Inbox::Empty,
-            ..tcb
-        };
-        state.set_tcb(thread, suspended);
-    }
+    leave(state, thread, RunState::Inactive, Some(Inbox::Empty));
 }
 
 /// Has a thread leave its queue and its reply, and go on with a message (seL4 manual, "Endpoints").
 /// What was in its inbox is lost. Does nothing where there is no such thread.
-#[tactic(auto, unfolding(machine::specs::Releasing::with_released))]
 pub fn give(state: &mut State, thread: ObjId, message: Message)
     requires { IsInItsQueue state.old thread }
-    ensures { state.new ≡ with_given state.old thread message }
+    ensures given { state.new ≡ with_given state.old thread message }
+    ensures well_formed { IsWellFormed state.old → IsWellFormed state.new }
 {
-    if let Some(&Object::Tcb(tcb)) = state.object(thread) {
-        unblock(state, thread, tcb.state);
-        let given = Tcb {
-            state: RunState::Ready,
-            inbox: Inbox::Message(message),
-            ..tcb
-        };
-        state.set_tcb(thread, given);
-    }
+    leave(
+        state,
+        thread,
+        RunState::Ready,
+        Some(Inbox::Message(message)),
+    );
 }

@@ -1,7 +1,7 @@
 ghost use Rattle.std.specs.Prelude.{◌≡◌};
 ghost use Rattle.base.specs.declared.ids.ObjId.{ObjId as Id};
 ghost use Rattle.machine.specs.Makes.{Makes};
-ghost use Rattle.machine.specs.Step.Receive.{awaiting_message, find_named_reply, receive_of, received, with_reply_ended};
+ghost use Rattle.machine.specs.Step.Receive.{find_named_reply, receive_of, received, with_reply_ended};
 ghost use Rattle.machine.specs.WellFormed.{IsCaller, IsWellFormed};
 ghost use Rattle.objects.specs.Waiting.{WaitsNowhere};
 
@@ -12,12 +12,11 @@ use base::{Cause, ObjId, Rights};
 use bitflags::Flags;
 use cspace::{find_endpoint, find_reply, permit};
 use machine::{
-    Answer, Made, Receiving, RunState, SlotAddress, calls_keep_machines_well_formed,
+    Answer, Made, Receiving, SlotAddress, calls_keep_machines_well_formed,
     releases_keep_machines_well_formed,
 };
 use objects::State;
-use queues::block;
-use replies::{unlink, wait_with};
+use replies::{await_message, unlink};
 
 /// The reply at an address, if one is given.
 fn find_named_reply(
@@ -47,22 +46,6 @@ fn end_reply(state: &mut State, reply: Option<ObjId>)
     releases_keep_machines_well_formed();
     if let Some(id) = reply {
         unlink(state, id);
-    }
-}
-
-/// Has a thread wait for a message, and the reply that it names with it.
-fn await_message(state: &mut State, caller: ObjId, receiving: Receiving)
-    requires { WaitsNowhere state.old caller }
-    ensures { state.new ≡ awaiting_message state.old caller receiving }
-{
-    block(
-        state,
-        caller,
-        receiving.endpoint,
-        RunState::Receiving(receiving),
-    );
-    if let Some(id) = receiving.reply {
-        wait_with(state, id, caller);
     }
 }
 

@@ -1,30 +1,12 @@
--- The filled target is in no pair of the tree, and the parent of the copy is filled.
-use Rattle.std.proofs.Common.{sym, ◌∙◌}
-use Rattle.cnodeops.proofs.CopyLemmas.{filled_alone, filled_now, object_there, parent_apart, parent_still}
+-- A copy of the same kind fills a slot that takes it.
+use Rattle.std.proofs.Common.{sym, subst}
+use Rattle.machine.specs.Machine.{Machine}
+use Rattle.machine.specs.WellFormed.{IsWellFormed}
+use Rattle.cnodeops.proofs.CopyLemmas.{derived_formed}
 use Rattle.cnodeops.proofs.copies.derive.Goals as goal
 
-pub put_cap-requires-clause-object : goal.put_cap-requires-clause-object
-put_cap-requires-clause-object c =
-    rw c.copied.ensures
-    (object_there c.args.state.now c.args.ends.source c.args.ends.held c.requires.well_formed c.requires.filled)
-
-pub insert_child-requires-clause-below : goal.insert_child-requires-clause-below
-insert_child-requires-clause-below c = rw c.put_cap.ensures (filled_now c.args.state.now c.args.ends.target c.copied.result)
-
-pub insert_child-requires-clause-above : goal.insert_child-requires-clause-above
-insert_child-requires-clause-above c =
-    let ends = c.args.ends in
-    rw c.put_cap.ensures
-    (parent_still c.args.state.now ends.target ends.source c.in-Some.parent ends.held c.copied.result c.requires.well_formed
-    c.requires.filled (sym c.parent_of_copy-parent.ensures ∙ c.in-Some.is))
-
-pub insert_child-requires-clause-apart : goal.insert_child-requires-clause-apart
-insert_child-requires-clause-apart c =
-    let ends = c.args.ends in
-    parent_apart c.args.state.now ends.target ends.source c.in-Some.parent ends.held c.requires.well_formed c.requires.vacant
-    c.requires.filled (sym c.parent_of_copy-parent.ensures ∙ c.in-Some.is)
-
-pub insert_child-requires-clause-alone : goal.insert_child-requires-clause-alone
-insert_child-requires-clause-alone c =
-    rw c.put_cap.ensures
-    (filled_alone c.args.state.now c.args.ends.target c.copied.result c.requires.well_formed c.requires.vacant)
+pub returns-clause-well_formed : goal.returns-clause-well_formed
+returns-clause-well_formed c alike typed root =
+    subst (λ (m : Machine). IsWellFormed m) (sym c.add_copy.ensures)
+    (derived_formed c.args.state.now c.args.ends c.args.detail c.requires.well_formed c.requires.there c.requires.vacant c.requires.filled
+    alike typed root)

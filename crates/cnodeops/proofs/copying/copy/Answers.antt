@@ -20,5 +20,5 @@ returns-clause-well_formed c =
     let a = c.args in
     let found = sym (c.in_ok-ends.ensures {u = tt}) in
     let may = sym (c.in_ok-copyable.ensures {u = tt}) in
-    rw (c.derive.ensures, c.masked.ensures)
+    rw (c.derive.ensures.copy, c.masked.ensures)
     (copied_formed a.state.now a.caller a.to a.from a.rights c.in_ok-ends.ends c.requires.well_formed found may)

@@ -30,5 +30,5 @@ returns-clause-well_formed c =
     let masked = ap (minted (object_of a.state.now ends.held.object) a.given) c.masked.ensures in
     let new = sym (c.in_ok-detail.ensures {u = tt} ∙ given ∙ masked) in
     let formed = c.requires.well_formed in
-    rw c.derive.ensures
+    rw c.derive.ensures.copy
     (minted_formed a.state.now a.caller a.to a.from a.rights a.given ends c.in_ok-detail.detail formed found may new)

@@ -15,7 +15,7 @@ loop-thread-smaller c =
     first_aborted c.loop-thread.state c.loop-thread.invariant.agreed c.args.id c.in-Some.thread e in
     subst
     (λ (m : Machine). length (members (queue_of m c.args.id)) < length (members (queue_of c.loop-thread.state c.args.id)))
-    (sym c.abort.ensures) w.fewer
+    (sym c.abort.ensures.aborted) w.fewer
 
 pub loop-thread-preserved : goal.loop-thread-preserved
 loop-thread-preserved c =
@@ -23,8 +23,8 @@ loop-thread-preserved c =
     let w : FirstAborted c.loop-thread.state c.args.id c.in-Some.thread =
     first_aborted c.loop-thread.state c.loop-thread.invariant.agreed c.args.id c.in-Some.thread e in
     record {
-      agreed = subst (λ (m : Machine). LinksAgree m) (sym c.abort.ensures) w.agreed;
-      same = ap (λ (m : Machine). with_waiters_aborted m c.args.id) c.abort.ensures ∙ (w.same ∙ c.loop-thread.invariant.same);
+      agreed = subst (λ (m : Machine). LinksAgree m) (sym c.abort.ensures.aborted) w.agreed;
+      same = ap (λ (m : Machine). with_waiters_aborted m c.args.id) c.abort.ensures.aborted ∙ (w.same ∙ c.loop-thread.invariant.same);
     }
 
 pub returns : goal.returns

@@ -1,4 +1,6 @@
-use Rattle.machine.specs.Machine.{same_slot}
+use Rattle.std.proofs.Common.{◌≡◌, sym, subst}
+use Rattle.machine.specs.Machine.{Machine, same_slot}
+use Rattle.machine.specs.WellFormed.{IsWellFormed}
 use Rattle.removal.proofs.Finds.{one_found, formed_filled}
 use Rattle.removal.proofs.removing.remove.Goals as goal
 
@@ -13,8 +15,13 @@ sweep-requires c =
       one_found c.args.state.now c.args.slot c.empty_all_with.new.state c.requires e.emptied e.going e.parents,
     )
 
-pub returns : goal.returns
-returns c =
+pub returns-clause-changes : goal.returns-clause-changes
+returns-clause-changes c =
     let e = c.empty_all_with.ensures in
     c.sweep.ensures c.args.state.now (same_slot c.args.slot)
     (one_found c.args.state.now c.args.slot c.empty_all_with.new.state c.requires e.emptied e.going e.parents)
+
+pub returns-clause-well_formed : goal.returns-clause-well_formed
+returns-clause-well_formed c =
+    subst (λ (m : Machine). IsWellFormed m) (sym (returns-clause-changes c))
+    (c.removals_keep_machines_well_formed.ensures c.args.state.now (same_slot c.args.slot) c.requires)

@@ -1,0 +1,9 @@
+use Rattle.std.proofs.Common.{sym, subst}
+use Rattle.machine.specs.Machine.{Machine}
+use Rattle.machine.specs.WellFormed.{IsWellFormed}
+use Rattle.machine.proofs.MessageFormed.{suspended_formed}
+use Rattle.replies.proofs.release.suspend.Goals as goal
+
+pub returns-clause-well_formed : goal.returns-clause-well_formed
+returns-clause-well_formed c formed =
+    subst (λ (m : Machine). IsWellFormed m) (sym c.leave.ensures) (suspended_formed c.args.state.now c.args.thread formed)
