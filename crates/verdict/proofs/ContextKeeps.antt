@@ -301,26 +301,39 @@ module _
 pub may_configure :
     (t : Layout) (allowed : EdgeTest) (event : Event) (a : ℕ) (m : Machine) → IsSound t allowed m → IsClosed allowed
     → label_of t m event.thread ≡ Some a
-    → (control address : ℕ) → configures event.call ≡ Some control
+    → (control address : ℕ) → configures event.call ≡ Some (control, address)
     → (governs id : ObjId) → FindsControl m event.thread control governs → FindsContext m event.thread address id
     → MayConfigure t allowed m event id
 may_configure t allowed event a m sound closed mine control address configured governs id found finds =
     let to_control = control_reached t allowed event a m sound closed event.thread mine control governs found in
     let to = context_reached t allowed m event a m sound closed.subjects_agree event.thread address id mine finds in
     record {
-      address = control;
+      addresses = (control, address);
       configured = configured;
-      slot = found.slot;
-      left = found.finds.left;
-      held = found.held;
-      found = found.finds.ends;
-      filled = found.finds.holds;
-      control = ap kind_of_detail found.detail;
+      control = governs;
+      finds_control = record {
+        slot = found.slot;
+        left = found.finds.left;
+        held = found.held;
+        found = found.finds.ends;
+        filled = found.finds.holds;
+        is_of = ap kind_of_detail found.detail;
+        is_for = found.object;
+      };
+      finds_context = record {
+        slot = finds.slot;
+        left = finds.finds.left;
+        held = finds.held;
+        found = finds.finds.ends;
+        filled = finds.finds.holds;
+        is_of = ap kind_of_detail finds.detail;
+        is_for = finds.object;
+      };
       caller_label = a;
       control_label = to_control.label;
       context_label = to.label;
       calls = mine;
-      controls = ap (label_of t m) found.object ∙ to_control.labelled;
+      controls = to_control.labelled;
       labelled = to.labelled;
       may_schedule = to_control.edge authority.SchedControl refl refl;
       may_use = to.edge authority.Context refl refl;

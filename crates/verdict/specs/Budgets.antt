@@ -10,6 +10,7 @@ use Rattle.machine.specs.declared.call.Event.{Event}
 use Rattle.machine.specs.declared.cap.Cap.{Cap}
 use Rattle.machine.specs.declared.object.Context.{Context}
 use Rattle.machine.specs.declared.object.Object.TheVariants as o
+use Rattle.machine.specs.declared.object.ObjectKind.{ObjectKind}
 use Rattle.machine.specs.declared.object.ObjectKind.TheVariants as kind
 use Rattle.machine.specs.Authority.{label_of}
 use Rattle.machine.specs.Capabilities.{kind_of_detail}
@@ -18,26 +19,33 @@ use Rattle.machine.specs.Lookup.{lookup_of}
 use Rattle.machine.specs.Machine.{Machine, object_of, cap_of}
 use Rattle.policy.specs.Domain.{EdgeTest}
 
--- the address of the control's capability through which a call configures a context, if it is such a call
-abbrev pub configures : Call → Option ℕ
-configures (call.Configure control _ _ _) = Some control
+-- the addresses through which a call configures a context, if it is such a call: the control's, and the context's
+abbrev pub configures : Call → Option (ℕ × ℕ)
+configures (call.Configure control context _ _) = Some (control, context)
 configures _ = None
 
--- the call configures a context, through a control's capability, and the caller's label has the edges that this takes
-pub record MayConfigure (t : Layout) (allowed : EdgeTest) (m : Machine) (event : Event) (context : ObjId) : Type 0 where
-  pub address : ℕ
-  pub configured : configures event.call ≡ Some address
+-- a thread finds an object at an address, by a capability of this kind
+pub record Finds (m : Machine) (thread : ObjId) (address : ℕ) (of : ObjectKind) (object : ObjId) : Type 0 where
   pub slot : SlotRef
   pub left : ℕ
   pub held : Cap
-  pub found : lookup_of m event.thread address ≡ Ok (slot, left)
+  pub found : lookup_of m thread address ≡ Ok (slot, left)
   pub filled : cap_of m slot ≡ Some held
-  pub control : kind_of_detail held.detail ≡ kind.Control
+  pub is_of : kind_of_detail held.detail ≡ of
+  pub is_for : held.object ≡ object
+
+-- the call configures this context, through a control's capability, and the caller's label has the edges that this takes
+pub record MayConfigure (t : Layout) (allowed : EdgeTest) (m : Machine) (event : Event) (context : ObjId) : Type 0 where
+  pub addresses : ℕ × ℕ
+  pub configured : configures event.call ≡ Some addresses
+  pub control : ObjId
+  pub finds_control : Finds m event.thread addresses.0 kind.Control control
+  pub finds_context : Finds m event.thread addresses.1 kind.Context context
   pub caller_label : ℕ
   pub control_label : ℕ
   pub context_label : ℕ
   pub calls : label_of t m event.thread ≡ Some caller_label
-  pub controls : label_of t m held.object ≡ Some control_label
+  pub controls : label_of t m control ≡ Some control_label
   pub labelled : label_of t m context ≡ Some context_label
   pub may_schedule : allowed caller_label authority.SchedControl control_label ≡ true
   pub may_use : allowed caller_label authority.Context context_label ≡ true
