@@ -343,6 +343,12 @@ def made_and_removed(events):
     return round_of_ten * (events // len(round_of_ten))
 
 
+def made_and_deleted(events):
+    """So many events: an endpoint is made of all the memory, and deleted, again and again, so that the memory is used from its base on."""
+    pair = (retype(own(ALL_MEMORY), "endpoint", 0, FIRST_LARGE, 0, 1), delete(FIRST_LARGE, NODE_RADIX, 0))
+    return [pair[i % 2] for i in range(events)]
+
+
 def chain_of_memory(memory, bits, places):
     """The events by which untyped memory is made of all of the memory at that address, and of all of this the next, and so on.
 

@@ -1,0 +1,100 @@
+"""Counts the instructions that a program executes, by valgrind's callgrind: they are the same on every run, whatever else goes on."""
+import os
+import re
+import shutil
+import subprocess
+from dataclasses import dataclass
+
+import inputs
+
+# The scripts: moves to and fro, endpoints made and deleted, messages, signals and polls.
+MOVES = 200_000
+REMOVALS = 100_000
+MESSAGES = 150_000
+SIGNALS = 1_000_000
+
+COLLECTED = re.compile(rb"Collected : (\d+)")
+
+
+@dataclass
+class Counted:
+    """A call of the program, by its words, what it must print, and how many events or lines share its instructions."""
+
+    words: list
+    printed: bytes
+    count: int
+
+
+def counts_instructions():
+    return shutil.which("valgrind") is not None
+
+
+def instructions(words, out):
+    """How many instructions a call executes; what it prints goes into a file."""
+    called = ["valgrind", "--tool=callgrind", "--callgrind-out-file=/dev/null", *words]
+    with open(out, "wb") as file:
+        ran = subprocess.run(called, stdin=subprocess.DEVNULL, stdout=file, stderr=subprocess.PIPE)
+    found = COLLECTED.search(ran.stderr)
+    if found is None:
+        raise ValueError(f"valgrind counted nothing: {ran.stderr[-400:]!r}")
+    return int(found[1])
+
+
+def write_file(folder, name, text):
+    os.makedirs(folder, exist_ok=True)
+    path = os.path.join(folder, name)
+    with open(path, "w", encoding="ascii", newline="\n") as file:
+        file.write(text)
+    return path
+
+
+def write_counted(top):
+    """Writes all inputs below a folder, and gives the calls to be counted by what they do."""
+    moves = inputs.copies_and_moves(1, MOVES - 1)
+    removals = inputs.made_and_deleted(REMOVALS)
+    message_script, message_log = inputs.told(inputs.calls_awaited(MESSAGES))
+    runs = (
+        ("moves", inputs.MOVES_TABLE, inputs.table_policy(), inputs.script_of(moves), inputs.all_done(moves), MOVES),
+        ("removals", inputs.removal_table(), inputs.table_policy(), inputs.script_of(removals), inputs.all_done(removals), REMOVALS),
+        ("messages", inputs.MESSAGES_TABLE, inputs.table_policy(), message_script, message_log, MESSAGES),
+        ("signals and polls", inputs.TWO_CORES_TABLE, inputs.TWO_CORES_POLICY, inputs.script(SIGNALS), inputs.script_log(SIGNALS), SIGNALS),
+    )
+    calls = {}
+    for number, (what, table, policy, script, log, count) in enumerate(runs):
+        folder = os.path.join(top, f"counted-{number}")
+        files = [write_file(folder, name, text) for name, text in (("table", table), ("policy", policy), ("script", script))]
+        calls[what] = Counted(["run", *files], log.encode("ascii"), count)
+        if what == "messages":
+            legal = inputs.report({"entries": count, "state": "within", "verdict": "legal"})
+            calls["their replay"] = Counted(["replay", *files[:2], write_file(folder, "log", log)], legal.encode("ascii"), count)
+    table = inputs.check_table()
+    folder = os.path.join(top, "counted-check")
+    files = [write_file(folder, "table", table), write_file(folder, "policy", inputs.policy_of(inputs.every_edge()))]
+    words = ["check", *files, "--workers", "1"]
+    calls["lines checked"] = Counted(words, inputs.every_edge_report().encode("ascii"), table.count("\n"))
+    return calls
+
+
+def measure_counts(program, folder, limits):
+    """Counts the instructions of each call, prints a row each, and gives whether all answers are right and no count passes its limit."""
+    if not counts_instructions():
+        print("There is no valgrind: no instructions are counted.\n")
+        return True
+    columns = "{:>20} {:>10} {:>17} {:>10} {:>10}"
+    print(columns.format("what", "count", "instructions", "each", "limit"))
+    out = os.path.join(folder, "counted-out")
+    good = True
+    for what, call in write_counted(folder).items():
+        counted = instructions([program, *call.words], out)
+        with open(out, "rb") as file:
+            right = file.read() == call.printed
+        os.remove(out)
+        each = counted / call.count
+        within = each <= limits[what]
+        said = "" if within else "  OVER"
+        print(columns.format(what, f"{call.count:,}", f"{counted:,}", f"{each:,.0f}", f"{limits[what]:,}") + said, flush=True)
+        if not right:
+            print(f"WRONG: {what}: it printed something else")
+        good = good and right and within
+    print()
+    return good
