@@ -10,6 +10,7 @@ pub mod EntryLemmas
 pub mod Families
 pub mod Forests
 pub mod LinkLemmas
+pub mod NumberLemmas
 pub mod PairLemmas
 pub mod Passing
 pub mod PlaceLemmas

@@ -2,14 +2,11 @@
 -- number are these.
 use Rattle.std.proofs.Common.{◌≡◌, ◌≢◌, ℕ, Bool, true, false, cond, List, [], ◌∷◌, map, refl, sym, ap, subst}
 use Rattle.std.proofs.Common.{◌∙◌, ◌⊎◌, inl, inr}
-use Rattle.std.specs.Prelude.{Option, Some, None, nat_eq, is_some, IsSome, option_map, option_and_then, ◌||◌}
-use Rattle.std.specs.Cmp.{unsigned_tied}
+use Rattle.std.specs.Prelude.{Option, Some, None, nat_eq, is_some, IsSome, option_map, option_and_then, slice_get}
 use Rattle.std.specs.FinMap as finite
 use Rattle.std.specs.List.{list_any}
 use Rattle.std.specs.Map.{lookup}
 use Rattle.std.proofs.lemmas.Option.{same_Some}
-use Rattle.std.specs.HashMap as hash
-use Rattle.std.specs.HashMap.{HashMap}
 use Rattle.std.proofs.lemmas.Bool.{false_from_ne_true, eqb-true, cases_eq}
 use Rattle.slab.specs.Slab as slab
 use Rattle.slab.specs.Slab.{Slab}
@@ -18,10 +15,12 @@ use Rattle.base.specs.declared.ids.ObjId.{ObjId}
 use Rattle.machine.specs.Machine.{id_cmp, same_id}
 use Rattle.machine.proofs.LookUps.{id_total, id_apart}
 use Rattle.objects.specs.declared.entry.Entry.{Entry}
+use Rattle.objects.specs.declared.numbers.Places.{Places}
 use Rattle.objects.specs.declared.store.Store.TheInside.{Inside}
 use Rattle.objects.specs.Entries.{Entries, entry_of, with_entry}
-use Rattle.objects.specs.Places.{places_in, placed, entries_by_number, IsPlaced, changed_at, changed, with_placed, AddsEntry, RemovesEntry, SameEntries}
+use Rattle.objects.specs.Places.{from_either, numbers_in, places_in, placed, entries_by_number, IsPlaced, changed_at, changed, with_placed, AddsEntry, RemovesEntry, SameEntries}
 use Rattle.objects.proofs.EntryLemmas.{some-none, entry_of-with_entry}
+use Rattle.objects.proofs.NumberLemmas.{number_listed, unplaced}
 use Rattle.machine.proofs.FiniteLemmas.{by_key, get-tabulate}
 
 -- no two numbers share a place
@@ -85,17 +84,6 @@ placed-with_placed places entries apart id change q =
     changed_elsewhere entries change (places id.0) (places q.0)
     (λ place here there. differs (ap (λ n. record { 0 = n }) (apart q.0 id.0 place there here))))
 
-number_apart : (a b : ℕ) → a ≢ b → nat_eq a b ≡ false
-number_apart a b differs = false_from_ne_true _ (λ tie. differs (eqb-true a b tie))
-
--- the places of the other numbers stay
-pub places_stay :
-    {S : Type 0} (places places' : HashMap ℕ ℕ S) (number : ℕ) (place : Option ℕ)
-    → hash.Updates nat_eq places places' number place → (other : ℕ) → other ≢ number
-    → places_in places' other ≡ places_in places other
-places_stay places places' number place updates other differs =
-    updates.2 other (number_apart number other (λ same. differs (sym same)))
-
 -- an added entry is found under its number, and every other object has the entry that it had
 pub placed-added :
     (places places' : ℕ → Option ℕ) (entries entries' : Slab Entry) (id : ObjId) (entry : Entry)
@@ -127,30 +115,12 @@ placed-same places places' entries entries' same q =
       kept None = refl
       kept (Some place) = same.kept place
 
--- each number in use is listed
-
-same_number : (q : ObjId) (number : ℕ) → nat_eq q.0 number ≡ same_id q (record { 0 = number })
-same_number q number = sym (unsigned_tied q.0 number)
-
-abbrev numbered : ObjId → List (ℕ × ℕ) → Bool
-numbered q es = list_any (same_id q) (map (λ number. record { 0 = number }) (map (λ e. e.0) es))
-
-any-number : (q : ObjId) (es : List (ℕ × ℕ)) → is_some (lookup (nat_eq q.0) es) ≡ numbered q es
-any-number q [] = refl
-any-number q (e ∷ es) =
-    by_tie (nat_eq q.0 e.0) (any-number q es) ∙ ap (λ tie. tie || numbered q es) (same_number q e.0)
-  where
-    by_tie :
-        (tie : Bool) → is_some (lookup (nat_eq q.0) es) ≡ numbered q es
-        → is_some (cond tie (Some e.1) (lookup (nat_eq q.0) es)) ≡ (tie || numbered q es)
-    by_tie true rest = refl
-    by_tie false rest = rest
-
+-- an object with an entry is listed
 listed :
-    {S : Type 0} (places : HashMap ℕ ℕ S) (entries : Slab Entry) (q : ObjId) → IsSome (placed (places_in places) entries q)
-    → list_any (same_id q) (map (λ number. record { 0 = number }) (hash.keys places)) ≡ true
-listed places entries q some = sym (any-number q places.entries) ∙ there (places_in places q.0) some where
-  there : (o : Option ℕ) → IsSome (option_and_then (slab.get entries) o) → is_some o ≡ true
+    (places : Places) (entries : Slab Entry) (q : ObjId) → IsSome (placed (places_in places) entries q)
+    → list_any (same_id q) (map (λ number. record { 0 = number }) (numbers_in places)) ≡ true
+listed places entries q some = number_listed places q (there (places_in places q.0) some) where
+  there : (o : Option ℕ) → IsSome (option_and_then (slab.get entries) o) → IsSome o
   there None some = some
   there (Some place) some = refl
 
@@ -159,7 +129,7 @@ pub by_number : (s : Inside) (q : ObjId) → entry_of (entries_by_number s) q �
 unfolding entries_by_number
 by_number s q =
     get-tabulate id_total id_apart (placed (places_in s.places) s.entries)
-    (map (λ number. record { 0 = number }) (hash.keys s.places)) q
+    (map (λ number. record { 0 = number }) (numbers_in s.places)) q
     (listed s.places s.entries q)
 
 -- entries in which each object has the same are one
@@ -168,20 +138,19 @@ same_entries = finite.same_map id_total id_apart
 
 -- no entries
 
-pub IsPlaced-empty : (s : Inside) → s.places.entries ≡ [] → IsPlaced s
-IsPlaced-empty s none =
-    let unplaced : (a : ℕ) → places_in s.places a ≡ None =
-    λ a. ap (λ es. lookup (nat_eq a) es) none in
+pub IsPlaced-empty : (s : Inside) → s.places.early ≡ [] → s.places.late.entries ≡ [] → IsPlaced s
+IsPlaced-empty s early late =
+    let nowhere = unplaced s.places early late in
     record {
-      apart = λ a b place here there. (let nowhere = unplaced a in cc);
-      held = λ a place is. (let nowhere = unplaced a in cc);
+      apart = λ a b place here there. (let none = nowhere a in cc);
+      held = λ a place is. (let none = nowhere a in cc);
     }
 
-pub empty_by_number : (s : Inside) → s.places.entries ≡ [] → entries_by_number s ≡ finite.empty
-empty_by_number s none =
+pub empty_by_number : (s : Inside) → s.places.early ≡ [] → s.places.late.entries ≡ [] → entries_by_number s ≡ finite.empty
+empty_by_number s early late =
     same_entries _ _
     (λ q.
-    by_number s q ∙ ap (λ es. option_and_then (slab.get s.entries) (lookup (nat_eq q.0) es)) none
+    by_number s q ∙ ap (option_and_then (slab.get s.entries)) (unplaced s.places early late q.0)
     ∙ sym (finite.get-empty id_cmp q))
 
 -- one entry is another

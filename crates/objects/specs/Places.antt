@@ -1,18 +1,33 @@
--- Where the entry of an object is kept: a map from numbers to places, and the entries at these.
-use Rattle.std.specs.Prelude.{◌≡◌, ◌≢◌, ℕ, ◌≤◌, nat_eq, map, Option, Some, None, IsSome, option_and_then}
+-- Where the entry of an object is kept: a place for each number in use, and the entries at the places.
+use Rattle.std.specs.Prelude.{◌≡◌, ◌≢◌, ℕ, ◌≤◌, nat_eq, map, List, [], ◌∷◌, ◌++◌, Option, Some, None, IsSome, option_and_then, slice_get}
+use Rattle.std.proofs.Common.{suc}
 use Rattle.std.specs.HashMap as hash
-use Rattle.std.specs.HashMap.{HashMap}
 use Rattle.slab.specs.Slab as slab
 use Rattle.slab.specs.Slab.{Slab}
 use Rattle.base.specs.declared.ids.ObjId.{ObjId}
 use Rattle.objects.specs.declared.entry.Entry.{Entry}
+use Rattle.objects.specs.declared.numbers.Places.{Places}
 use Rattle.objects.specs.declared.store.Store.TheInside.{Inside}
 use Rattle.objects.specs.Entries.{Entries}
 use Rattle.machine.specs.Finite.{tabulate}
 
+-- what a table has of a number, and what a hash map has where the table is not for that number
+abbrev pub from_either : Option (Option ℕ) → Option ℕ → Option ℕ
+from_either None late = late
+from_either (Some place) late = place
+
 -- the place of each number in use
-abbrev pub places_in : {S : Type 0} → HashMap ℕ ℕ S → ℕ → Option ℕ
-places_in places number = hash.get nat_eq places number
+abbrev pub places_in : Places → ℕ → Option ℕ
+places_in places number = from_either (slice_get places.early number) (hash.get nat_eq places.late number)
+
+-- so many numbers from one on, as many as a list is long
+abbrev pub numbers_from : {X : Type 0} → ℕ → List X → List ℕ
+numbers_from number [] = []
+numbers_from number (x ∷ xs) = number ∷ numbers_from (suc number) xs
+
+-- the numbers that may be in use
+abbrev pub numbers_in : Places → List ℕ
+numbers_in places = numbers_from 0 places.early ++ hash.keys places.late
 
 -- the entry at an object's place
 abbrev pub placed : (ℕ → Option ℕ) → Slab Entry → ObjId → Option Entry
@@ -21,7 +36,7 @@ placed places entries id = option_and_then (slab.get entries) (places id.0)
 -- the entries by number
 unfoldable pub entries_by_number : Inside → Entries
 entries_by_number s =
-    tabulate (placed (places_in s.places) s.entries) (map (λ number. record { 0 = number }) (hash.keys s.places))
+    tabulate (placed (places_in s.places) s.entries) (map (λ number. record { 0 = number }) (numbers_in s.places))
 
 -- each number in use has a place of its own, and an entry is there
 pub record IsPlaced (s : Inside) : Type 0 where
@@ -62,5 +77,5 @@ pub record SameEntries (places places' : ℕ → Option ℕ) (entries entries' :
   pub kept : (place : ℕ) → slab.get entries' place ≡ slab.get entries place
 
 -- so many more entries can be added without memory
-abbrev pub HasRoom : {S : Type 0} → HashMap ℕ ℕ S → Slab Entry → ℕ → Type 0
-HasRoom places entries count = (count ≤ hash.spare places) × slab.HasRoomFor entries count
+abbrev pub HasRoom : Places → Slab Entry → ℕ → Type 0
+HasRoom places entries count = (count ≤ hash.spare places.late) × slab.HasRoomFor entries count

@@ -8,6 +8,7 @@
 mod counts;
 mod entry;
 mod links;
+mod numbers;
 mod places;
 mod slots;
 mod state;

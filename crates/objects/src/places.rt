@@ -1,4 +1,4 @@
-//! Where the entry of an object is kept: a hash map from numbers to places, and the entries at these.
+//! Where the entry of an object is kept: from numbers to places, and the entries at these.
 ghost use Rattle.std.specs.Prelude.{◌≡◌, ◌+◌, ℕ, option_copied, OnOk};
 ghost use Rattle.objects.specs.Entries.{set_slot_in, replace_in, set_ends_in, set_standing_in, set_word_in};
 ghost use Rattle.objects.specs.Entries.{set_caps_in};
@@ -6,97 +6,82 @@ ghost use Rattle.objects.specs.Places.{places_in, placed, with_placed, AddsEntry
 
 use crate::entry::Entry;
 use crate::links::{Ends, Standing};
+use crate::numbers::{Places, begin, make_room, place_of, set_place, take_place};
 use crate::slots::Slot;
 use base::{ObjId, SlotRef};
 use machine::Object;
 use slab::Slab;
-use std::alloc::AllocError;
-use std::collections::HashMap;
+use std::alloc::{AllocError, Global};
 
 /// The object's entry.
-pub fn entry<'a>(
-    places: &HashMap<u64, usize>,
-    entries: &'a Slab<Entry>,
-    id: ObjId,
-) -> Option<&'a Entry>
+pub fn entry<'a>(places: &Places, entries: &'a Slab<Entry>, id: ObjId) -> Option<&'a Entry>
     ensures { option_copied result ≡ placed (places_in places.now) entries.now id }
 {
-    let place = places.get(&id.0)?;
-    entries.get(*place)
+    let place = place_of(places, id.0)?;
+    entries.get(place)
 }
 
 /// Sets a slot of the holder, if both are present.
-pub fn set_slot(places: &HashMap<u64, usize>, entries: &mut Slab<Entry>, at: SlotRef, slot: Slot)
+pub fn set_slot(places: &Places, entries: &mut Slab<Entry>, at: SlotRef, slot: Slot)
     ensures { entries.new ≡ with_placed (places_in places.now) entries.old at.holder (set_slot_in at.index slot) }
 {
-    if let Some(place) = places.get(&at.holder.0) {
-        if let Some(entry) = entries.get_mut(*place) {
+    if let Some(place) = place_of(places, at.holder.0) {
+        if let Some(entry) = entries.get_mut(place) {
             entry.slots.set(at.index, slot);
         }
     }
 }
 
 /// Sets the object's content, if it is present.
-pub fn replace(places: &HashMap<u64, usize>, entries: &mut Slab<Entry>, id: ObjId, object: Object)
+pub fn replace(places: &Places, entries: &mut Slab<Entry>, id: ObjId, object: Object)
     ensures { entries.new ≡ with_placed (places_in places.now) entries.old id (replace_in object) }
 {
-    if let Some(place) = places.get(&id.0) {
-        if let Some(entry) = entries.get_mut(*place) {
+    if let Some(place) = place_of(places, id.0) {
+        if let Some(entry) = entries.get_mut(place) {
             entry.object = object;
         }
     }
 }
 
 /// Sets the ends of the queue at the object, if it is present.
-pub fn set_ends(places: &HashMap<u64, usize>, entries: &mut Slab<Entry>, id: ObjId, ends: Ends)
+pub fn set_ends(places: &Places, entries: &mut Slab<Entry>, id: ObjId, ends: Ends)
     ensures { entries.new ≡ with_placed (places_in places.now) entries.old id (set_ends_in ends) }
 {
-    if let Some(place) = places.get(&id.0) {
-        if let Some(entry) = entries.get_mut(*place) {
+    if let Some(place) = place_of(places, id.0) {
+        if let Some(entry) = entries.get_mut(place) {
             entry.ends = ends;
         }
     }
 }
 
 /// Says where the thread stands, if it is present.
-pub fn set_standing(
-    places: &HashMap<u64, usize>,
-    entries: &mut Slab<Entry>,
-    thread: ObjId,
-    standing: Standing,
-)
+pub fn set_standing(places: &Places, entries: &mut Slab<Entry>, thread: ObjId, standing: Standing)
     ensures { entries.new ≡ with_placed (places_in places.now) entries.old thread (set_standing_in standing) }
 {
-    if let Some(place) = places.get(&thread.0) {
-        if let Some(entry) = entries.get_mut(*place) {
+    if let Some(place) = place_of(places, thread.0) {
+        if let Some(entry) = entries.get_mut(place) {
             entry.standing = standing;
         }
     }
 }
 
 /// Sets a word of the object, if both are present.
-pub fn set_word(
-    places: &HashMap<u64, usize>,
-    entries: &mut Slab<Entry>,
-    id: ObjId,
-    index: u64,
-    word: u64,
-)
+pub fn set_word(places: &Places, entries: &mut Slab<Entry>, id: ObjId, index: u64, word: u64)
     ensures { entries.new ≡ with_placed (places_in places.now) entries.old id (set_word_in index word) }
 {
-    if let Some(place) = places.get(&id.0) {
-        if let Some(entry) = entries.get_mut(*place) {
+    if let Some(place) = place_of(places, id.0) {
+        if let Some(entry) = entries.get_mut(place) {
             entry.words.set(index, word);
         }
     }
 }
 
 /// Says how many capabilities there are for the object, if it is present.
-pub fn set_caps(places: &HashMap<u64, usize>, entries: &mut Slab<Entry>, id: ObjId, caps: u64)
+pub fn set_caps(places: &Places, entries: &mut Slab<Entry>, id: ObjId, caps: u64)
     ensures { entries.new ≡ with_placed (places_in places.now) entries.old id (set_caps_in caps) }
 {
-    if let Some(place) = places.get(&id.0) {
-        if let Some(entry) = entries.get_mut(*place) {
+    if let Some(place) = place_of(places, id.0) {
+        if let Some(entry) = entries.get_mut(place) {
             entry.caps = caps;
         }
     }
@@ -106,38 +91,34 @@ pub fn set_caps(places: &HashMap<u64, usize>, entries: &mut Slab<Entry>, id: Obj
 ///
 /// No entry has changed, even on an error.
 pub fn reserve(
-    places: &mut HashMap<u64, usize>,
+    alloc: Global,
+    places: &mut Places,
     entries: &mut Slab<Entry>,
     count: usize,
 ) -> Result<(), AllocError>
     ensures same { SameEntries (places_in places.old) (places_in places.new) entries.old entries.new }
     ensures room { OnOk result (HasRoom places.new entries.new count) }
 {
-    places.reserve(count)?;
+    begin(alloc, places)?;
+    make_room(places, count)?;
     entries.reserve(count)
 }
 
 /// Adds an entry under a number that is not in use. There is room for it.
-pub fn add_reserved(
-    places: &mut HashMap<u64, usize>,
-    entries: &mut Slab<Entry>,
-    number: u64,
-    entry: Entry,
-)
+pub fn add_reserved(places: &mut Places, entries: &mut Slab<Entry>, number: u64, entry: Entry)
     requires { HasRoom places.old entries.old 1 }
     ensures added { AddsEntry (places_in places.old) (places_in places.new) entries.old entries.new number entry }
     ensures room { (more : ℕ) → HasRoom places.old entries.old (more + 1) → HasRoom places.new entries.new more }
 {
     let place = entries.insert_reserved(entry);
-    let inserted: Result<_, _> = places.insert(number, place);
-    inserted.unwrap();
+    set_place(places, number, place);
 }
 
 /// Removes the entry of the number, if it is in use.
-pub fn remove(places: &mut HashMap<u64, usize>, entries: &mut Slab<Entry>, number: u64)
+pub fn remove(places: &mut Places, entries: &mut Slab<Entry>, number: u64)
     ensures { RemovesEntry (places_in places.old) (places_in places.new) entries.old entries.new number }
 {
-    if let Some(place) = places.remove(&number) {
+    if let Some(place) = take_place(places, number) {
         entries.try_remove(place);
     }
 }

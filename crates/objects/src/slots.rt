@@ -1,4 +1,4 @@
-ghost use Rattle.std.specs.Prelude.{◌≡◌, replicate, slice_get, IfOk};
+ghost use Rattle.std.specs.Prelude.{◌≡◌, replicate, slice_get, option_copied, IfOk};
 ghost use Rattle.objects.specs.Edits.{edited};
 ghost use Rattle.objects.specs.Entries.{empty_slot};
 
@@ -47,10 +47,10 @@ impl Slots {
     }
 
     /// The slot at the index.
-    pub fn get(&self, index: u64) -> Option<Slot>
-        ensures { result ≡ slice_get self.now index }
+    pub fn get(&self, index: u64) -> Option<&Slot>
+        ensures { option_copied result ≡ slice_get self.now index }
     {
-        self.items.get(index as usize).copied()
+        self.items.get(index as usize)
     }
 
     /// Sets the slot at the index, if there is one.

@@ -5,20 +5,20 @@ ghost use Rattle.objects.specs.Links.{end_after};
 
 use crate::entry::{Entry, new_entries};
 use crate::links::{Ends, Standing, TreeLinks};
+use crate::numbers::{Places, no_places};
 use crate::places;
 use crate::slots::Slot;
 use base::{ObjId, SlotRef};
 use machine::{Cap, Object};
 use slab::Slab;
 use std::alloc::{AllocError, Global};
-use std::collections::HashMap;
 use std::marker::Model;
 
 /// The entries of the objects, by number.
 #[derive(Drop)]
 pub struct Store {
     /// From the number of an object to the key of its entry.
-    places: HashMap<u64, usize>,
+    places: Places,
     entries: Slab<Entry>,
     alloc: Global,
 }
@@ -60,7 +60,7 @@ impl Store {
         ensures { result ≡ finite.empty }
     {
         Store {
-            places: HashMap::new(alloc),
+            places: no_places(alloc),
             entries: Slab::new(alloc),
             alloc,
         }
@@ -81,8 +81,8 @@ impl Store {
     }
 
     /// The slot, if it is there.
-    pub fn slot(&self, at: SlotRef) -> Option<Slot>
-        ensures { result ≡ slot_at (entry_of self.now) at }
+    pub fn slot(&self, at: SlotRef) -> Option<&Slot>
+        ensures { option_copied result ≡ slot_at (entry_of self.now) at }
     {
         self.entry(at.holder)?.slots.get(at.index)
     }
@@ -169,7 +169,7 @@ impl Store {
     pub fn set_cap(&mut self, at: SlotRef, cap: Option<Cap>)
         ensures { self.new ≡ with_slot self.old at (λ slot. record slot { cap = cap }) }
     {
-        if let Some(slot) = self.slot(at) {
+        if let Some(&slot) = self.slot(at) {
             self.set_slot(at, Slot { cap, ..slot });
         }
     }
@@ -179,7 +179,7 @@ impl Store {
         ensures { self.new ≡ with_links self.old at (λ l. record l { first = first }) }
     {
         if let Some(at) = at {
-            if let Some(slot) = self.slot(at) {
+            if let Some(&slot) = self.slot(at) {
                 let links = TreeLinks {
                     first,
                     ..slot.links
@@ -194,7 +194,7 @@ impl Store {
         ensures { self.new ≡ with_links self.old at (λ l. record l { next = next }) }
     {
         if let Some(at) = at {
-            if let Some(slot) = self.slot(at) {
+            if let Some(&slot) = self.slot(at) {
                 let links = TreeLinks { next, ..slot.links };
                 self.set_slot(at, Slot { links, ..slot });
             }
@@ -206,7 +206,7 @@ impl Store {
         ensures { self.new ≡ with_links self.old at (λ l. record l { previous = previous }) }
     {
         if let Some(at) = at {
-            if let Some(slot) = self.slot(at) {
+            if let Some(&slot) = self.slot(at) {
                 let links = TreeLinks {
                     previous,
                     ..slot.links
@@ -221,7 +221,7 @@ impl Store {
         ensures { self.new
             ≡ with_links self.old (Some at) (λ l. record l { parent = parent; next = next; previous = None }) }
     {
-        if let Some(slot) = self.slot(at) {
+        if let Some(&slot) = self.slot(at) {
             let links = TreeLinks {
                 parent,
                 next,
@@ -396,7 +396,7 @@ impl Store {
         ensures err { OnErr result (self.new ≡ self.old) }
     {
         let made = new_entries(self.alloc, objects)?;
-        places::reserve(&mut self.places, &mut self.entries, made.len())?;
+        places::reserve(self.alloc, &mut self.places, &mut self.entries, made.len())?;
         let mut number = first;
         for entry in made {
             places::add_reserved(&mut self.places, &mut self.entries, number, entry);

@@ -3,8 +3,8 @@ use Rattle.objects.proofs.store.Store.new.Goals as goal
 
 pub invariant_of-result : goal.invariant_of-result
 invariant_of-result c =
-    IsPlaced-empty (record { places = c.new.result; entries = c.new-2.result; alloc = c.args.alloc }) c.new.ensures.empty
+    IsPlaced-empty (record { places = c.no_places.result; entries = c.new.result; alloc = c.args.alloc }) c.no_places.ensures.early c.no_places.ensures.late
 
 pub returns : goal.returns
 returns c =
-    empty_by_number (record { places = c.new.result; entries = c.new-2.result; alloc = c.args.alloc }) c.new.ensures.empty
+    empty_by_number (record { places = c.no_places.result; entries = c.new.result; alloc = c.args.alloc }) c.no_places.ensures.early c.no_places.ensures.late

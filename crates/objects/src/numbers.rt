@@ -1,0 +1,149 @@
+//! From the number of an object to the place of its entry.
+ghost use Rattle.std.specs.Prelude.{◌≡◌, ◌≢◌, ◌+◌, ◌≤◌, ℕ, [], None, Some, replicate, slice_get, IfOk, IsTrue, OnOk};
+ghost use Rattle.std.specs.HashMap as hash;
+ghost use Rattle.objects.specs.Edits.{edited};
+ghost use Rattle.objects.specs.Places.{places_in};
+
+use base::MAX_OBJECTS;
+use std::alloc::{AllocError, Global};
+use std::collections::HashMap;
+use std::marker::Model;
+
+/// The place of each number from 0 on, for so many numbers; none of a number that isn't in use.
+#[derive(Drop)]
+pub struct Table {
+    items: Vec<Option<usize>>,
+}
+
+impl Model for Table {
+    ghost use Rattle.std.specs.Prelude.{List, Option, ℕ};
+
+    ghost Value = { List (Option ℕ) };
+
+    ghost view = { λ table. table.items.items };
+}
+
+impl Table {
+    ghost use Rattle.std.specs.Prelude.{[]};
+
+    /// For no numbers.
+    pub fn new(alloc: Global) -> Table
+        ensures { result ≡ [] }
+    {
+        Table {
+            items: Vec::new(alloc),
+        }
+    }
+
+    /// For so many numbers, none in use.
+    pub fn unused(alloc: Global, count: usize) -> Result<Table, AllocError>
+        ensures { IfOk result (λ table. table ≡ replicate count None) }
+    {
+        let mut items = Vec::new(alloc);
+        items.resize(count, None)?;
+        Ok(Table { items })
+    }
+
+    /// Whether it is for no numbers.
+    pub fn is_empty(&self) -> bool
+        ensures { IsTrue result → self.now ≡ [] }
+    {
+        self.items.is_empty()
+    }
+
+    /// The place of the number, if the table is for it.
+    pub fn get(&self, number: u64) -> Option<Option<usize>>
+        ensures { result ≡ slice_get self.now number }
+    {
+        self.items.get(number as usize).copied()
+    }
+
+    /// Sets the place of the number, if the table is for it.
+    pub fn set(&mut self, number: u64, place: Option<usize>)
+        ensures { self.new ≡ edited (λ _. place) self.old number }
+    {
+        if let Some(item) = self.items.get_mut(number as usize) {
+            *item = place;
+        }
+    }
+}
+
+/// The places of the numbers in use. The first numbers have a table, so that the objects of a table of capabilities are found at once;
+/// those after them are hashed.
+#[derive(Drop)]
+pub struct Places {
+    pub early: Table,
+    pub late: HashMap<u64, usize>,
+}
+
+/// No number is in use.
+pub fn no_places(alloc: Global) -> Places
+    ensures early { result.early ≡ [] }
+    ensures late { hash.IsEmpty result.late }
+{
+    Places {
+        early: Table::new(alloc),
+        late: HashMap::new(alloc),
+    }
+}
+
+/// The place of the number, if it is in use.
+pub fn place_of(places: &Places, number: u64) -> Option<usize>
+    ensures { result ≡ places_in places.now number }
+{
+    match places.early.get(number) {
+        Some(place) => place,
+        None => places.late.get(&number).copied(),
+    }
+}
+
+/// Makes the table of the first numbers, where no number was in use before.
+pub fn begin(alloc: Global, places: &mut Places) -> Result<(), AllocError>
+    ensures { (number : ℕ) → places_in places.new number ≡ places_in places.old number }
+{
+    if places.early.is_empty() && places.late.is_empty() {
+        places.early = Table::unused(alloc, MAX_OBJECTS)?;
+    }
+    Ok(())
+}
+
+/// Makes room for so many more numbers.
+///
+/// No place has changed, even on an error.
+pub fn make_room(places: &mut Places, count: usize) -> Result<(), AllocError>
+    ensures same { (number : ℕ) → places_in places.new number ≡ places_in places.old number }
+    ensures room { OnOk result (count ≤ hash.spare places.new.late) }
+{
+    places.late.reserve(count)
+}
+
+/// Sets the place of a number. There is room for it.
+pub fn set_place(places: &mut Places, number: u64, place: usize)
+    requires { 1 ≤ hash.spare places.old.late }
+    ensures placed { places_in places.new number ≡ Some place }
+    ensures stays { (other : ℕ) → other ≢ number → places_in places.new other ≡ places_in places.old other }
+    ensures room { hash.spare places.old.late ≤ hash.spare places.new.late + 1 }
+{
+    match places.early.get(number) {
+        Some(_) => places.early.set(number, Some(place)),
+        None => {
+            let inserted: Result<_, _> = places.late.insert(number, place);
+            inserted.unwrap();
+        }
+    }
+}
+
+/// Takes the place of a number away, if it is in use.
+pub fn take_place(places: &mut Places, number: u64) -> Option<usize>
+    ensures taken { result ≡ places_in places.old number }
+    ensures gone { places_in places.new number ≡ None }
+    ensures stays { (other : ℕ) → other ≢ number → places_in places.new other ≡ places_in places.old other }
+{
+    match places.early.get(number) {
+        Some(place) => {
+            places.early.set(number, None);
+            place
+        }
+        None => places.late.remove(&number),
+    }
+}
