@@ -1,15 +1,19 @@
 -- What decimal digits spell, and that a number has one decimal spelling.
-use Rattle.std.proofs.Common.{◌≡◌, ℕ, ◌<◌, ◌==◌, ◌^◌, Bool, true, false, not, cond, nat_lt, List, [], ◌∷◌, length, get_or, Option, Some, None, Result, Ok, Err, refl, sym, ap, subst, ◌∙◌, ltb-true, lt-ltb, lit<, zero, suc, arith, rules}
+use Rattle.std.proofs.Common.{◌≡◌, ℕ, ◌+◌, ◌-◌, ◌*◌, ◌<◌, ◌≤◌, ◌==◌, ◌&&◌, ◌^◌, Bool, true, false, not, cond, nat_lt, List, [], ◌∷◌, length, get_or, take, Option, Some, None, Result, Ok, Err, refl, sym, ap, subst, ◌∙◌, ltb-true, lt-ltb, lit<, zero, suc, arith, rules}
 use Rattle.std.specs.List.{list_all}
-use Rattle.std.specs.Char.{is_ascii_digit}
-use Rattle.std.specs.Str.{IsUtf8}
-use Rattle.std.specs.Str.Parse.{digits_value, ParsesUnsigned}
+use Rattle.std.specs.Char.{is_ascii_digit, digit_value}
+use Rattle.std.specs.Int.{IsInRange}
+use Rattle.std.specs.Str.Parse.{digits_value}
 use Rattle.std.specs.Result.{result_ok, OkIff}
 use Rattle.std.specs.Fmt.{decimal}
 use Rattle.std.proofs.lemmas.Bool.{and_parts, and_from, cond-true, cond_both, ne_eqb}
-use Rattle.std.proofs.lemmas.Str.{IsUtf8-from_ascii}
-use Rattle.std.proofs.lemmas.Str.Parse.{IsNumeralModel, numerals_by_value, parse_digits}
-use Rattle.std.proofs.lemmas.Fmt.{decimal-digits_value, digits_decimal, digits_value-decimal, first_decimal, decimal_nonempty, IsAscii-from_digits, decimal_digit}
+use Rattle.std.proofs.lemmas.Bool.Decides.{nat_tests}
+use Rattle.std.proofs.lemmas.Int.Digits.{digits_value_more}
+use Rattle.std.proofs.lemmas.List.{take_all}
+use Rattle.std.proofs.lemmas.List.Folds.{list_all_at, list_all_more}
+use Rattle.std.proofs.lemmas.Str.{digit_value_digit}
+use Rattle.std.proofs.lemmas.Str.Parse.{IsNumeralModel, numerals_by_value, digits_value-take-le}
+use Rattle.std.proofs.lemmas.Fmt.{decimal-digits_value, digits_decimal, digits_value-decimal, first_decimal, decimal_nonempty, decimal_digit}
 use Rattle.std.proofs.lemmas.Option.{none-some, cond_some}
 use Rattle.words.specs.Number.{dec_of, below_limit, is_decimal, has_no_leading_zero}
 
@@ -23,9 +27,8 @@ leading [] h = cc
 leading (d ∷ []) h = (omega arith, λ _. refl)
 leading (d ∷ e ∷ ds) h = (omega arith, λ zero. cc (ap (λ x. not (x == 48)) zero))
 
--- decimal digits are text
-pub decimal_is_text : (word : List ℕ) → is_decimal word ≡ true → IsUtf8 word
-decimal_is_text word h = IsUtf8-from_ascii word (IsAscii-from_digits word (own.to word (and_parts _ _ h).1))
+in_range : (b : ℕ) → is_ascii_digit b ≡ true → IsInRange 48 57 b
+in_range b test = grind (arith, nat_tests)
 
 -- what isn't decimal spells no number
 pub not_decimal : (word : List ℕ) → is_decimal word ≡ false → dec_of word ≡ None
@@ -41,15 +44,6 @@ pub by_result : {E : Type 0} (word : List ℕ) (n : ℕ) (r : Result ℕ E) → 
 by_result word n (Ok m) full h = ap (λ k. Some k) h.1 ∙ sym (limited n h.0.1)
 by_result word n (Err e) full refused =
     cond_both (nat_lt n (2 ^ 64)) (Some n) None (λ o. None ≡ o) (λ below. absurd (refused (full, ltb-true _ _ below))) (λ _. refl)
-
--- what `parse` reads in a decimal word is the number that it spells
-pub parsed : {E : Type 0} (word : List ℕ) (r : Result ℕ E) → is_decimal word ≡ true → ParsesUnsigned 64 10 word r
-    → result_ok r ≡ dec_of word
-unfolding dec_of
-parsed word r h read =
-    let digits = (and_parts _ _ h).1 in
-    let full = (leading word (and_parts _ _ h).0).0 in
-    by_result word _ r full (parse_digits own 64 word r read digits) ∙ sym (cond-true _ _ _ h)
 
 pub some_then : (b : Bool) (o : Option ℕ) (n : ℕ) → cond b o None ≡ Some n → (b ≡ true) × (o ≡ Some n)
 some_then true o n h = (refl, h)
@@ -84,5 +78,72 @@ dec_again n h =
     let test = and_from _ _ (no_leading_zero-decimal n h) (digits_decimal own n h) in
     cond-true _ _ _ test ∙ ap (λ m. below_limit m) (digits_value-decimal own n h) ∙ limited n h
 
--- what reading a decimal word needs
-pub ruleset decimal_laws = (not_decimal, decimal_is_text, parsed)
+-- a word is read digit by digit: the number so far is that of the digits so far
+
+-- what begins with a zero, and has more digits, spells no number
+pub zero_first : (word : List ℕ) → has_no_leading_zero word ≡ false → dec_of word ≡ None
+zero_first word h = not_decimal word (ap (λ t. t && list_all is_ascii_digit word) h)
+
+-- nor does what has another byte than a digit
+pub stray : (word : List ℕ) (i : ℕ) → i < length word → is_ascii_digit (get_or word i 0) ≡ false → dec_of word ≡ None
+stray word i within other =
+    not_decimal word
+    (ap (λ t. has_no_leading_zero word && t) (list_all_at is_ascii_digit word i 0 within other) ∙ and_false (has_no_leading_zero word))
+  where
+    and_false : (t : Bool) → (t && false) ≡ false
+    and_false true = refl
+    and_false false = refl
+
+next_value : (word : List ℕ) (i n digit : ℕ) → i < length word → n ≡ digits_value 10 (take i word)
+    → is_ascii_digit (get_or word i 0) ≡ true → digit ≡ get_or word i 0 - 48
+    → n * 10 + digit ≡ digits_value 10 (take (i + 1) word)
+next_value word i n digit within value test is =
+    let more = digits_value_more 10 word i within in
+    let one = digit_value_digit (get_or word i 0) (in_range _ test) in
+    let spelled : digit_value (get_or word i 0) ≡ digit = omega (arith, one, is) in
+    sym (more ∙ ap (λ d. digits_value 10 (take i word) * 10 + d) spelled ∙ ap (λ v. v * 10 + digit) (sym value))
+
+-- a number past the limit stays past it
+pub over : (word : List ℕ) (i n digit : ℕ) → i < length word → n ≡ digits_value 10 (take i word)
+    → is_ascii_digit (get_or word i 0) ≡ true → digit ≡ get_or word i 0 - 48 → below_limit (n * 10 + digit) ≡ None
+    → dec_of word ≡ None
+unfolding dec_of
+over word i n digit within value test is past =
+    let most = digits_value-take-le 10 word (i + 1) (omega arith) in
+    let next = next_value word i n digit within value test is in
+    by_test (is_decimal word) (past_limit _ _ (omega (arith, most, next)) past)
+  where
+    past_limit : (a b : ℕ) → a ≤ b → below_limit a ≡ None → below_limit b ≡ None
+    past_limit a b le none =
+        cond_both (nat_lt b (2 ^ 64)) (Some b) None (λ o. o ≡ None)
+        (λ below. absurd (none-some a (sym none ∙ limited a (omega (arith, ltb-true _ _ below, le))))) (λ _. refl)
+
+    by_test : (t : Bool) → below_limit (digits_value 10 word) ≡ None → cond t (below_limit (digits_value 10 word)) None ≡ None
+    by_test true none = none
+    by_test false none = refl
+
+-- a digit more
+pub digit_more : (word : List ℕ) (i n digit m : ℕ) → i < length word → n ≡ digits_value 10 (take i word)
+    → is_ascii_digit (get_or word i 0) ≡ true → digit ≡ get_or word i 0 - 48 → Some m ≡ below_limit (n * 10 + digit)
+    → m ≡ digits_value 10 (take (i + 1) word)
+digit_more word i n digit m within value test is some =
+    sym (cond_some _ _ _ (sym some)).1 ∙ next_value word i n digit within value test is
+
+pub small_more : (n m : ℕ) → Some m ≡ below_limit n → m < 2 ^ 64
+small_more n m some =
+    let small = cond_some _ _ _ (sym some) in
+    subst (λ k. k < 2 ^ 64) small.1 (ltb-true _ _ small.0)
+
+pub digits_more : (word : List ℕ) (i : ℕ) → i < length word → list_all is_ascii_digit (take i word) ≡ true
+    → is_ascii_digit (get_or word i 0) ≡ true → list_all is_ascii_digit (take (i + 1) word) ≡ true
+digits_more word i within all test = list_all_more is_ascii_digit word i 0 within ∙ and_from _ _ all test
+
+-- a word all of whose digits were read spells the number that was read
+pub read : (word : List ℕ) (i n : ℕ) → length word ≤ i → n < 2 ^ 64 → has_no_leading_zero word ≡ true
+    → n ≡ digits_value 10 (take i word) → list_all is_ascii_digit (take i word) ≡ true → Some n ≡ dec_of word
+unfolding dec_of
+read word i n whole small first value all =
+    let same = take_all i word whole in
+    let is : n ≡ digits_value 10 word = value ∙ ap (λ ds. digits_value 10 ds) same in
+    let test = and_from _ _ first (ap (λ ds. list_all is_ascii_digit ds) (sym same) ∙ all) in
+    sym (cond-true _ _ _ test ∙ ap (λ m. below_limit m) (sym is) ∙ limited n small)

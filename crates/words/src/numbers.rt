@@ -1,21 +1,32 @@
-ghost use Rattle.std.specs.Prelude.{◌≡◌, ◌≢◌, ◌↔◌, ◌^◌, ◌<◌, ℕ, List, Some};
+ghost use Rattle.std.specs.Prelude.{◌≡◌, ◌≢◌, ◌↔◌, ◌+◌, ◌*◌, ◌^◌, ◌<◌, ℕ, List, Some};
 ghost use Rattle.std.specs.Fmt.{decimal};
 ghost use Rattle.std.specs.List.{list_all};
-ghost use Rattle.std.specs.Char.{is_ascii_digit};
-ghost use Rattle.words.specs.Number.{dec_of, hex_of, hex_digits_of, hexadecimal, is_decimal, is_hexadecimal, is_hex_digit, has_no_leading_zero};
+ghost use Rattle.words.specs.Number.{below_limit, dec_of, hex_of, hex_digits_of, hexadecimal, is_hexadecimal, is_hex_digit, has_no_leading_zero};
 
 use std::str;
 
 /// The number that a word spells in decimal, where it is below 2^64.
-#[tactic(auto, using(crate::proofs::Decimals::decimal_laws))]
 pub fn decimal_of(word: &[u8]) -> Option<u64>
     ensures { result ≡ dec_of word.now }
 {
-    if !is_decimal(word) {
+    if !has_no_leading_zero(word) {
         return None;
     }
-    let text = str::from_utf8(word).ok()?;
-    text.parse().ok()
+    let mut number = 0;
+    for byte in word {
+        if !byte.is_ascii_digit() {
+            return None;
+        }
+        number = with_digit(number, *byte - b'0')?;
+    }
+    Some(number)
+}
+
+// The number with a digit more.
+fn with_digit(number: u64, digit: u8) -> Option<u64>
+    ensures { result ≡ below_limit (number * 10 + digit) }
+{
+    number.checked_mul(10)?.checked_add(digit as u64)
 }
 
 /// The number that a word spells in hexadecimal, as `0x1f`, where it is below 2^64.
@@ -37,12 +48,6 @@ fn hex_digits_of(digits: &[u8]) -> Option<u64>
     u64::from_str_radix(text, 16).ok()
 }
 
-fn is_decimal(word: &[u8]) -> bool
-    ensures { result ≡ is_decimal word.now }
-{
-    has_no_leading_zero(word) && all_digits(word)
-}
-
 fn is_hexadecimal(digits: &[u8]) -> bool
     ensures { result ≡ is_hexadecimal digits.now }
 {
@@ -57,12 +62,6 @@ fn has_no_leading_zero(digits: &[u8]) -> bool
         [_] => true,
         [first, ..] => *first != b'0',
     }
-}
-
-fn all_digits(word: &[u8]) -> bool
-    ensures { result ≡ list_all is_ascii_digit word.now }
-{
-    word.iter().all(|byte| byte.is_ascii_digit())
 }
 
 fn all_hex_digits(word: &[u8]) -> bool
