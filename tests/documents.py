@@ -7,7 +7,7 @@
   alone that `replay` is asked about;
 - one that begins with `confine-cert 1` is what `check --cert` prints of them, and the certificate from here on;
 - one that begins with `{"` is the report on them, with the change that `<!-- change: .. -->` tells, or several of these;
-- one that begins with `full`, `cut` or `none` is what `why` prints of the labels that `<!-- why: A B -->` tells, and one that
+- one that begins with `full`, `take` or `none` is what `why` prints of the labels that `<!-- why: A B -->` tells, and one that
   begins with `edge` what `close --missing` does, with that change; where the change ends with `closed`, it is asked by the policy that
   `close` then prints;
 - one that begins with `confine-policy 1` after `<!-- close: of the table -->` is what `close` prints of the table alone;
@@ -171,7 +171,7 @@ def examples_of(path):
             if closes:
                 yield where, files, text
             closes = False
-        elif form == "block" and re.match('{"|full\n|cut\n|none\n|edge ', text):
+        elif form == "block" and re.match('{"|full\n|take\n|none\n|edge ', text):
             text = in_one_line(text) if text.startswith("{") else text
             yield where, changed(files, change, text) | {"asked": asked}, text
             change = ""
@@ -188,14 +188,14 @@ def is_answered(answer, status, out):
         return (status, out) == (1, answer)
     if answer == "accepted\n":
         return status == 0 and out.startswith("confine-log 1\n")
-    if re.match("cut\n|none\n|edge ", answer):
+    if re.match("take\n|none\n|edge ", answer):
         return (status, out) == (1, answer)
     return out == answer and status == (2 if '"fault"' in answer else 1 if re.search(NOT_WELL, answer) else 0)
 
 
 def commands_of(answer, asked):
     """The commands that give such an answer."""
-    if re.match("full\n|cut\n|none\n", answer):
+    if re.match("full\n|take\n|none\n", answer):
         return [["why", "table", "policy", *asked]]
     if answer.startswith("denied by "):
         return [["check", "table", "policy", "--explain"]]

@@ -1,4 +1,4 @@
-"""Policies: the rules P1 to P7, the least closed policy, full and cut authority and their reasons, as docs/POLICY.md and
+"""Policies: the rules P1 to P7, the least closed policy, full and cut authority, what may be taken, and reasons, as docs/POLICY.md and
 docs/WRITING_POLICIES.md have them. A policy is a set of edges (label, kind, label), all by number; `count` is how many labels there are."""
 from texts import KINDS
 
@@ -6,6 +6,8 @@ CONTROL, RESET, SEND, RECEIVE, GRANT, CALL, NOTIFY, AWAIT, READ, WRITE, REPLY, C
 assert len(KINDS) == 17
 PLAIN = range(13)  # the kinds that aren't structural
 LINKS = (SEND, RECEIVE, AWAIT, REPLY, HOLDS, RUNS, SPACE)
+# From where capabilities are removed: kinds of edges, and whether a step goes either way.
+ONWARD = [((DERIVE,), False), ((*PLAIN, SPACE), False), (LINKS, True), (LINKS, True)]
 
 
 def asked(policy, count):
@@ -106,8 +108,12 @@ def full_reasons(policy, a):
 
 def cut_paths(policy, a):
     """For each label that a has cut authority on the first path to it: of those with the fewest edges the least."""
-    paths = {a: []}
-    for kinds, both in [((CONTROL,), False), ((DERIVE,), False), ((*PLAIN, SPACE), False), (LINKS, True), (LINKS, True)]:
+    return paths_on(policy, {a: []}, [((CONTROL,), False), *ONWARD])
+
+
+def paths_on(policy, paths, steps):
+    """The first path to each label that begins with one of these paths and goes on by steps each of which may be left out."""
+    for kinds, both in steps:
         longer = dict(paths)
         for edge in policy:
             for here, there in [(edge[0], edge[2]), (edge[2], edge[0])] if both else [(edge[0], edge[2])]:
@@ -116,6 +122,21 @@ def cut_paths(policy, a):
                     longer[there] = min(longer.get(there, path), path, key=rank)
         paths = longer
     return paths
+
+
+def take_ways(policy, a):
+    """Each way in which a may take from a label: from which, and its edges."""
+    for edge in edges_from(policy, a):
+        _, k, e = edge
+        for back in policy:
+            if k == CONTEXT and back[1:] == (RUNS, e):
+                yield back[0], [edge, back]
+            if k == REPLY and back[1:] == (REPLY, e):
+                for on in edges_from(policy, back[0]):
+                    if on[1] == RECEIVE:
+                        yield on[2], [edge, back, on]
+        if k == CONTROL:
+            yield from paths_on(policy, {e: [edge]}, ONWARD).items()
 
 
 def rank(edges):
@@ -131,5 +152,5 @@ def why(policy, a, l):
     reasons = [edges for on, edges in full_reasons(policy, a) if on == l]
     if reasons:
         return "full", min(reasons, key=rank)
-    paths = cut_paths(policy, a)
-    return ("cut", paths[l]) if l in paths else ("none", [])
+    ways = [edges for on, edges in take_ways(policy, a) if on == l]
+    return ("take", min(ways, key=rank)) if ways else ("none", [])

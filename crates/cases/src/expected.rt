@@ -10,7 +10,7 @@ use std::alloc::{AllocError, Global};
 const NO_PLACE: Wrong = Wrong("a rule has a place");
 
 /// The answer that these words say: `log`, `report`, `certificate`, `policy`, `each OUTCOME`, `accept`, ``writes
-/// `TEXT` ``, `full EDGES`, `cut EDGES`, `none`, `lacks EDGES`, `within N`, `outside N RULE PLACE`, `illegal K`,
+/// `TEXT` ``, `full EDGES`, `take EDGES`, `none`, `lacks EDGES`, `within N`, `outside N RULE PLACE`, `illegal K`,
 /// `deny RULE PLACE`, or a fault, which is in this file and line where they don't say another.
 pub fn expected(
     alloc: Global,
@@ -58,7 +58,7 @@ fn listed(alloc: Global, words: &str) -> Result<Option<Answer>, Wrong> {
     let (word, edges) = words.split_once(' ').unwrap_or((words, ""));
     let (heading, status) = match word {
         "full" => ("full\n", 0),
-        "cut" => ("cut\n", 1),
+        "take" => ("take\n", 1),
         "none" => ("none\n", 1),
         "lacks" => ("", if edges.is_empty() { 0 } else { 1 }),
         _ => return Ok(None),

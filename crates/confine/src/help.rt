@@ -426,13 +426,13 @@ So threads of `a` may change objects of `b`. And the other way round:
 
 confine why table policy b a
 
-There is cut authority alone, and it ends with status 1:
+It has no authority, and ends with status 1:
 
-cut
-edge a await b
+none
 
-Whoever deletes the bell takes away from objects of `a`, whose thread may wait at it. Of several
-reasons that with the fewest edges is told. Where there is no authority it prints `none`, and the
-status is 1. It is told of the policy: whether a table keeps to it, `confine check` tells.
+So no object of `a` is changed by threads of `b`. Where they may take away, and no more, it prints
+`take` and the edges by which they may, with status 1 too: the other's objects may vanish, or lose
+capabilities or links. Of several reasons that with the fewest edges is told. It is told of the
+policy: whether a table keeps to it, `confine check` tells.
 "
 );

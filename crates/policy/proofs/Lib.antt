@@ -16,8 +16,11 @@ pub mod Members
 pub mod Stepping
 pub mod FullSets
 pub mod CutSets
+pub mod TakeSets
+pub mod Taking
 pub mod WalkOrder
 pub mod Walking
 pub mod StepWalks
 pub mod FullWalks
-pub mod CutWalks
+pub mod PathWalks
+pub mod TakeWalks

@@ -9,6 +9,7 @@ pub mod Closing
 pub mod Settling
 pub mod Full
 pub mod Cut
+pub mod Take
 pub mod Reasons
 pub mod Search
 pub mod Sweep

@@ -1,15 +1,16 @@
--- Why a label has authority on another: the edges that a case of full authority or a path of cut authority names, in the order in
--- which it names them, and the reason that is told of several (the authority is that of `Full` and `Cut`; telling why is confine's own).
+-- Why a label has authority on another: the edges of a case of full authority, or of a way to take from it, in their order, and the
+-- reason that is told of several (the authority is that of `Full` and `Take`; telling why is confine's own).
 use Rattle.std.specs.Prelude.{◌≡◌, ℕ, List, [], ◌∷◌, ◌++◌, ◌⊎◌, length}
 use Rattle.std.proofs.Common.{inl, inr}
 use Rattle.base.specs.declared.edge.Edge.{Edge}
 use Rattle.base.specs.declared.kind.Kind.{Kind}
-use Rattle.base.specs.declared.kind.Kind.TheVariants.{Control, Send, Receive, Grant, Notify, Await, Reply, Derive, Holds}
+use Rattle.base.specs.declared.kind.Kind.TheVariants.{Control, Send, Receive, Grant, Notify, Await, Reply, Context, Derive, Runs, Holds}
 use Rattle.base.specs.Kinds.{kind_number}
-use Rattle.policy.specs.Cut.{IsBase, IsCut, IsNear, stays, along, against}
+use Rattle.policy.specs.Cut.{IsNear, stays, along, against}
 use Rattle.policy.specs.Domain.{EdgeTest}
 use Rattle.policy.specs.Full.{IsFull, own, modifies, sends, receives, notifies, links, grants, replies}
 use Rattle.policy.specs.Places.{IsLeast}
+use Rattle.policy.specs.Take.{MayRemoveNear, MayTake, unbinds, ends, removes}
 use Rattle.policy.specs.declared.why.Why.{Why}
 use Rattle.policy.specs.declared.why.Why.TheVariants as why
 
@@ -34,31 +35,38 @@ abbrev pub if_taken : {Stays Taken : Type 0} → Stays ⊎ Taken → (Taken → 
 if_taken (inl left) edge_of = []
 if_taken (inr taken) edge_of = edge_of taken ∷ []
 
--- the edges from a label to where it may remove capabilities
-abbrev pub base_edges : {test : EdgeTest} {a base : ℕ} → IsBase test a base → List Edge
-base_edges {test} {a} {base} based =
-    if_taken based.control (λ there. edge a Control based.controlled)
-    ++ if_taken based.derive (λ there. edge based.controlled Derive base)
-
 -- the edge of a step along a link, either way
 abbrev pub near_edges : {test : EdgeTest} {x y : ℕ} → IsNear test x y → List Edge
 near_edges (stays same) = []
 near_edges {test} {x} {y} (along kind is_link there) = edge x kind y ∷ []
 near_edges {test} {x} {y} (against kind is_link there) = edge y kind x ∷ []
 
--- the edges that a path of cut authority takes
-abbrev pub cut_edges : {test : EdgeTest} {a l : ℕ} → IsCut test a l → List Edge
-cut_edges path =
-    base_edges path.based ++ if_taken path.edge (λ held. edge path.base held.0 path.reached)
-    ++ near_edges path.one ++ near_edges path.two
+-- the edges from a label to where it may remove capabilities of others, and from there to whom these hold up
+abbrev pub remove_edges : {test : EdgeTest} {a l : ℕ} → MayRemoveNear test a l → List Edge
+remove_edges {test} {a} path =
+    edge a Control path.based.controlled
+    ∷ (if_taken path.based.derive (λ there. edge path.based.controlled Derive path.base)
+    ++ (if_taken path.edge (λ held. edge path.base held.0 path.reached)
+    ++ (near_edges path.one ++ near_edges path.two)))
+
+-- the edges by which a label may take from another
+abbrev pub take_edges : {test : EdgeTest} {a l : ℕ} → MayTake test a l → List Edge
+take_edges {test} {a} {l} (unbinds context used ran) = edge a Context context ∷ edge l Runs context ∷ []
+take_edges {test} {a} {l} (ends reply receiver used answered received) =
+    edge a Reply reply ∷ edge receiver Reply reply ∷ edge receiver Receive l ∷ []
+take_edges (removes path) = remove_edges path
 
 -- these are the edges of a case of full authority
 abbrev pub IsFullBy : EdgeTest → ℕ → ℕ → List Edge → Type 0
 IsFullBy test a l edges = (reason : IsFull test a l) × (full_edges reason ≡ edges)
 
--- these are the edges of a path of cut authority
-abbrev pub IsCutBy : EdgeTest → ℕ → ℕ → List Edge → Type 0
-IsCutBy test a l edges = (path : IsCut test a l) × (cut_edges path ≡ edges)
+-- these are the edges of a way in which a label removes capabilities of others
+abbrev pub IsRemoveBy : EdgeTest → ℕ → ℕ → List Edge → Type 0
+IsRemoveBy test a l edges = (path : MayRemoveNear test a l) × (remove_edges path ≡ edges)
+
+-- these are the edges of a way in which a label may take from another
+abbrev pub IsTakeBy : EdgeTest → ℕ → ℕ → List Edge → Type 0
+IsTakeBy test a l edges = (way : MayTake test a l) × (take_edges way ≡ edges)
 
 -- edges as numbers
 abbrev pub edge_numbers : List Edge → List ℕ
@@ -72,5 +80,5 @@ reason_place edges = length edges ∷ edge_numbers edges
 -- which authority a label has on another, and the first reason for it
 abbrev pub IsWhy : EdgeTest → ℕ → ℕ → Why → Type 0
 IsWhy test a l (why.Full edges) = IsLeast reason_place (IsFullBy test a l) edges.items
-IsWhy test a l (why.Cut edges) = (¬ IsFull test a l) × IsLeast reason_place (IsCutBy test a l) edges.items
-IsWhy test a l why.Nothing = (¬ IsFull test a l) × (¬ IsCut test a l)
+IsWhy test a l (why.Take edges) = (¬ IsFull test a l) × IsLeast reason_place (IsTakeBy test a l) edges.items
+IsWhy test a l why.Nothing = (¬ IsFull test a l) × (¬ MayTake test a l)

@@ -62,8 +62,8 @@ impl Policy {
         controlled.union(self.targets(controlled, &[Kind::Derive]))
     }
 
-    // The labels at most one step along a link away from a label of the set.
-    fn near(&self, labels: Labels) -> Labels
+    /// The labels at most one step along a link away from a label of the set.
+    pub(crate) fn near(&self, labels: Labels) -> Labels
         ensures { (other : ℕ) → (is_in result other ≡ true) ↔ IsNearSome (allows self.now) labels other }
     {
         labels

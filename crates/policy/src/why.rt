@@ -1,7 +1,7 @@
 ghost use Rattle.std.specs.Prelude.{◌≡◌, IfErr, IfOk};
 ghost use Rattle.base.specs.Refusals.{out_of_memory};
 ghost use Rattle.policy.specs.Policy.{allows};
-ghost use Rattle.policy.specs.Reasons.{IsCutBy, IsFullBy, IsWhy};
+ghost use Rattle.policy.specs.Reasons.{IsFullBy, IsRemoveBy, IsTakeBy, IsWhy};
 ghost use Rattle.policy.specs.Walks.{FindsWalk};
 
 use crate::Policy;
@@ -17,9 +17,9 @@ use std::alloc::Global;
 pub enum Why {
     /// Full authority: what its threads do may change the other's objects.
     Full(Vec<Edge>),
-    /// Cut authority alone: the other's objects may shrink when its threads delete capabilities.
-    Cut(Vec<Edge>),
-    /// No authority.
+    /// No full authority, but it may take: the other's objects may shrink by what its threads do.
+    Take(Vec<Edge>),
+    /// Neither: what its threads do changes nothing of the other's.
     Nothing,
 }
 
@@ -36,8 +36,8 @@ impl Policy {
         if let Some(edges) = self.full_reason(alloc, actor, object)? {
             return Ok(Why::Full(edges));
         }
-        match self.cut_reason(alloc, actor, object)? {
-            Some(edges) => Ok(Why::Cut(edges)),
+        match self.take_reason(alloc, actor, object)? {
+            Some(edges) => Ok(Why::Take(edges)),
             None => Ok(Why::Nothing),
         }
     }
@@ -76,14 +76,35 @@ impl Policy {
         Ok(lesser(one, other))
     }
 
-    // The least of the reasons for cut authority: a walk each of whose steps may be left out.
-    fn cut_reason(
+    // The least of the ways to take from another: two walks, and the ways to remove.
+    fn take_reason(
         &self,
         alloc: Global,
         actor: Label,
         object: Label,
     ) -> Result<Option<Vec<Edge>>, Refusal>
-        ensures least { IfOk result (FindsWalk (IsCutBy (allows self.now) actor object)) }
+        ensures least { IfOk result (FindsWalk (IsTakeBy (allows self.now) actor object)) }
+        ensures memory { IfErr result (λ refusal. refusal ≡ out_of_memory) }
+    {
+        let context = Step::along(&[Kind::Context]);
+        let runner = Step::against(&[Kind::Runs]);
+        let reply = Step::along(&[Kind::Reply]);
+        let holder = Step::against(&[Kind::Reply]);
+        let receive = Step::along(&[Kind::Receive]);
+        let unbinds = self.walk(alloc, &[context, runner], actor, object)?;
+        let ends = self.walk(alloc, &[reply, holder, receive], actor, object)?;
+        let removes = self.remove_reason(alloc, actor, object)?;
+        Ok(lesser(lesser(unbinds, ends), removes))
+    }
+
+    // The least of the ways to remove: a walk each of whose steps after the first may be left out.
+    fn remove_reason(
+        &self,
+        alloc: Global,
+        actor: Label,
+        object: Label,
+    ) -> Result<Option<Vec<Edge>>, Refusal>
+        ensures least { IfOk result (FindsWalk (IsRemoveBy (allows self.now) actor object)) }
         ensures memory { IfErr result (λ refusal. refusal ≡ out_of_memory) }
     {
         let control = Step::along(&[Kind::Control]);
@@ -91,10 +112,11 @@ impl Policy {
         let reach = Step::along(&HOLDING);
         let link = Step::either_way(&LINKS);
         let mut chain = Vec::new(alloc);
+        chain.push(control)?;
         self.part_walk(
             alloc,
             &mut chain,
-            &[control, derive, reach, link, link],
+            &[derive, reach, link, link],
             actor,
             object,
         )

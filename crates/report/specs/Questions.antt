@@ -29,13 +29,13 @@ unlabelled t actor object = first_absent (label_named t actor) (label_named t ob
 -- the lines that tell an authority: which it is, and the edges of the reason
 abbrev pub why_text : Layout → Why → List ℕ
 why_text t (why.Full edges) = codes "full\n" ++ edge_lines t edges.items
-why_text t (why.Cut edges) = codes "cut\n" ++ edge_lines t edges.items
+why_text t (why.Take edges) = codes "take\n" ++ edge_lines t edges.items
 why_text t why.Nothing = codes "none\n"
 
 -- 0 for full authority, else 1
 abbrev pub why_status : Why → ℕ
 why_status (why.Full edges) = 0
-why_status (why.Cut edges) = 1
+why_status (why.Take edges) = 1
 why_status why.Nothing = 1
 
 -- a text and a status tell which authority the label of one name has on that of another by a policy, and the first reason for it

@@ -14,7 +14,7 @@ use table::Table;
 
 /// Which authority a label has on another by a policy, and why.
 ///
-/// Writes `full` with status 0, or `cut` or `none` with status 1, each in a line of its own, and then the
+/// Writes `full` with status 0, or `take` or `none` with status 1, each in a line of its own, and then the
 /// edges of one reason, as the policy has them; or the report of the first fault, with status 2.
 pub fn why<T, P, L, O>(
     alloc: Global,
@@ -90,8 +90,8 @@ fn why_answer(alloc: Global, table: &Table, why: &Why) -> Result<Answer, Refusal
             status: 0,
             finding: None,
         }),
-        Why::Cut(edges) => Ok(Answer {
-            text: headed(alloc, "cut\n", table, edges)?,
+        Why::Take(edges) => Ok(Answer {
+            text: headed(alloc, "take\n", table, edges)?,
             status: 1,
             finding: None,
         }),

@@ -1,10 +1,10 @@
-use Rattle.std.proofs.Common.{[], ◌∷◌, subst}
+use Rattle.std.proofs.Common.{[], ◌∷◌, ◌++◌, ap, ◌∙◌, subst}
 use Rattle.std.proofs.lemmas.Result.{IfOk-weaker}
 use Rattle.policy.specs.Policy.{allows}
 use Rattle.policy.specs.Walks.{FindsWalk}
-use Rattle.policy.proofs.CutWalks.{cut_least}
+use Rattle.policy.proofs.TakeWalks.{remove_least}
 use Rattle.policy.proofs.Walking.{IsPartWalk}
-use Rattle.policy.proofs.policy.Policy.cut_reason.Goals as goal
+use Rattle.policy.proofs.policy.Policy.remove_reason.Goals as goal
 
 pub returns-clause-least : goal.returns-clause-least
 returns-clause-least c =
@@ -15,12 +15,13 @@ returns-clause-least c =
     let derive = c.along-derive.result in
     let reach = c.along-reach.result in
     let link = c.either_way-link.result in
+    let pushed = c.in_ok-push.ensures.items ∙ ap (λ ss. ss ++ control ∷ []) c.new-chain.ensures.items in
     IfOk-weaker c.part_walk.result _ _ (λ found finds.
-    cut_least test a l control derive reach link (record {
+    remove_least test a l control derive reach link (record {
       control_is = c.along-control.ensures;
       derive_is = c.along-derive.ensures;
       reach_is = c.along-reach.ensures;
       link_is = c.either_way-link.ensures;
     }) found
-    (subst (λ ss. FindsWalk (IsPartWalk test ss (control ∷ derive ∷ reach ∷ link ∷ link ∷ []) a l) found) c.new-chain.ensures.items finds))
+    (subst (λ ss. FindsWalk (IsPartWalk test ss (derive ∷ reach ∷ link ∷ link ∷ []) a l) found) pushed finds))
     c.part_walk.ensures.least
