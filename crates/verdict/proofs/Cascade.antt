@@ -26,9 +26,9 @@ use Rattle.machine.specs.Removal.{vanishes}
 use Rattle.machine.specs.WellFormed.{kind_of}
 use Rattle.machine.proofs.GoneLemmas.{gone_decided, losing_decided}
 use Rattle.policy.specs.Closed.{IsClosed}
-use Rattle.policy.specs.Cut.{IsBase, IsCut}
 use Rattle.policy.specs.Cut.IsNear.{stays, along}
 use Rattle.policy.specs.Domain.{EdgeTest}
+use Rattle.policy.specs.Take.{MayRemoveFrom, MayRemoveNear}
 use Rattle.verdict.specs.Invariant.{IsSound}
 use Rattle.verdict.specs.Removals.{MayRemove}
 use Rattle.verdict.proofs.Held.{held_of}
@@ -76,7 +76,7 @@ counted_kinds m id _ index at less = absurd (omega (arith, less))
 -- the holder of a slot has a label that is one subject with a base of the label a; a thread is the base's own, or the base controls it
 record IsLed (t : Layout) (allowed : EdgeTest) (a : ℕ) (m : Machine) (slot : SlotRef) : Type 0 where
   base : ℕ
-  based : IsBase allowed a base
+  based : MayRemoveFrom allowed a base
   label : ℕ
   labelled : label_of t m slot.holder ≡ Some label
   alike : (k : Kind) → is_structural k ≡ false → (to : ℕ) → allowed base k to ≡ allowed label k to
@@ -85,7 +85,7 @@ record IsLed (t : Layout) (allowed : EdgeTest) (a : ℕ) (m : Machine) (slot : S
 -- a base of the label a has a capability's authority over an object's label
 pub record IsUsed (t : Layout) (allowed : EdgeTest) (a : ℕ) (m : Machine) (id : ObjId) : Type 0 where
   pub base : ℕ
-  pub based : IsBase allowed a base
+  pub based : MayRemoveFrom allowed a base
   pub label : ℕ
   pub labelled : label_of t m id ≡ Some label
   pub kind : Kind
@@ -95,7 +95,7 @@ pub record IsUsed (t : Layout) (allowed : EdgeTest) (a : ℕ) (m : Machine) (id 
 -- an object is a CNode, the space of a thread that is a base's own, or that a base controls
 pub record IsSpace (t : Layout) (allowed : EdgeTest) (a : ℕ) (m : Machine) (id : ObjId) : Type 0 where
   pub base : ℕ
-  pub based : IsBase allowed a base
+  pub based : MayRemoveFrom allowed a base
   pub thread : ℕ
   pub control : (base ≡ thread) ⊎ (allowed base authority.Control thread ≡ true)
   pub is_node : kind_of m id ≡ Some kind.CNode
@@ -216,11 +216,11 @@ module _
     by_reach (inl used) = used
     by_reach (inr space) = absurd (other (let e = sym is ∙ space.is_node in cc))
 
-  pub vanished_cut : (id : ObjId) → vanishes m chosen id ≡ true → (label : ℕ) × (label_of t m id ≡ Some label) × IsCut allowed a label
+  pub vanished_cut : (id : ObjId) → vanishes m chosen id ≡ true → (label : ℕ) × (label_of t m id ≡ Some label) × MayRemoveNear allowed a label
   vanished_cut id gone = by_reach (vanished_reached id gone) where
     by_control :
         (space : IsSpace t allowed a m id) → (space.base ≡ space.thread) ⊎ (allowed space.base authority.Control space.thread ≡ true)
-        → IsCut allowed a space.label
+        → MayRemoveNear allowed a space.label
     by_control space (inl own) = record {
       base = space.base;
       based = space.based;
@@ -241,7 +241,7 @@ module _
     }
 
     by_reach :
-        IsUsed t allowed a m id ⊎ IsSpace t allowed a m id → (label : ℕ) × (label_of t m id ≡ Some label) × IsCut allowed a label
+        IsUsed t allowed a m id ⊎ IsSpace t allowed a m id → (label : ℕ) × (label_of t m id ≡ Some label) × MayRemoveNear allowed a label
     by_reach (inl used) = (
       used.label,
       used.labelled,

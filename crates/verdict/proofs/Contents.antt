@@ -1,5 +1,5 @@
--- Contents that a thread, a notification, a reply and a scheduling context may get in a step, and a change within full and within
--- cut authority.
+-- Contents that a thread, a notification, a reply and a scheduling context may get in a step, and a change within full authority, and
+-- one by which a label takes.
 use Rattle.std.proofs.Common.{◌≡◌, ℕ, ◌+◌, ◌⊎◌, inl, inr, true, List, Some, refl, sym, ap, ◌∙◌}
 use Rattle.base.specs.declared.ids.ObjId.{ObjId}
 use Rattle.base.specs.declared.kind.Kind.{Kind}
@@ -14,10 +14,10 @@ use Rattle.machine.specs.declared.thread.Tcb.{Tcb}
 use Rattle.machine.specs.Authority.{holds_thread, label_of, links}
 use Rattle.machine.specs.Layout.{Layout}
 use Rattle.machine.specs.Machine.{Machine, object_of, queue_of, with_object}
-use Rattle.policy.specs.Cut.{IsCut}
 use Rattle.policy.specs.Domain.{EdgeTest}
 use Rattle.policy.specs.Full.{IsFull}
-use Rattle.verdict.specs.Allowed.{MayChange}
+use Rattle.policy.specs.Take.{MayTake}
+use Rattle.verdict.specs.Bounded.{MayAffect}
 use Rattle.verdict.specs.Budgets.{MayConfigure}
 use Rattle.verdict.specs.Shrinks.{Lessens}
 use Rattle.verdict.proofs.Losses.{lessened}
@@ -27,16 +27,16 @@ use Rattle.verdict.proofs.TouchKeeps.{Fits}
 -- the label has full authority over the object's
 pub full :
     (t : Layout) (allowed : EdgeTest) (a : ℕ) (m next : Machine) (id : ObjId) (label : ℕ) → label_of t m id ≡ Some label
-    → IsFull allowed a label → MayChange t allowed a m next id
+    → IsFull allowed a label → MayAffect t allowed a m next id
 full t allowed a m next id label labelled has = record { label = label; labelled = inl labelled; may = inl has }
 
--- the label has cut authority over the object's, which only loses links
+-- the label may take from the object's, which only loses links
 pub loses_links :
     (t : Layout) (allowed : EdgeTest) (a : ℕ) (m : Machine) (id : ObjId) (label : ℕ) (old new : Object)
-    → label_of t m id ≡ Some label → IsCut allowed a label → object_of m id ≡ Some old → Lessens old new
-    → (threads : List ObjId) → queue_of m id ≡ Some threads → MayChange t allowed a m (with_object m id new) id
-loses_links t allowed a m id label old new labelled cut there less threads queue =
-    record { label = label; labelled = inl labelled; may = inr (cut, lessened m id old new threads there queue less) }
+    → label_of t m id ≡ Some label → MayTake allowed a label → object_of m id ≡ Some old → Lessens old new
+    → (threads : List ObjId) → queue_of m id ≡ Some threads → MayAffect t allowed a m (with_object m id new) id
+loses_links t allowed a m id label old new labelled take there less threads queue =
+    record { label = label; labelled = inl labelled; may = inr (take, lessened m id old new threads there queue less) }
 
 module _ (t : Layout) (allowed : EdgeTest) (began : Machine) (event : Event) (m : Machine) (id : ObjId) where
   -- a thread stays where it is, and each link was there or is in the policy

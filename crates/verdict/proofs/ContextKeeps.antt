@@ -27,10 +27,10 @@ use Rattle.machine.proofs.FoundObjects.{FindsContext, FindsControl, found_contex
 use Rattle.machine.proofs.Ids.{at_other, itself, one_or_two}
 use Rattle.machine.proofs.LookUps.{cap_of-with_object, object_of-with_object, one_id, queue_of-with_object, words_of-with_object}
 use Rattle.policy.specs.Closed.{IsClosed}
-use Rattle.policy.specs.Cut.{IsCut}
-use Rattle.policy.specs.Cut.IsNear.{against, stays}
 use Rattle.policy.specs.Domain.{EdgeTest}
 use Rattle.policy.specs.Full.IsFull.{modifies}
+use Rattle.policy.specs.Take.{MayTake}
+use Rattle.policy.specs.Take.MayTake.{unbinds}
 use Rattle.verdict.specs.Budgets.{MayConfigure, configures}
 use Rattle.verdict.specs.Invariant.{IsHeld, IsSound}
 use Rattle.verdict.specs.Shrinks.Lessens.{released}
@@ -251,16 +251,8 @@ module _
         sound.confined left.0 authority.Runs used.label
         (by_link thread id (o.Tcb tcb) there (ap (λ named. names_reply named id) on ∙ itself id) left.1 used.labelled)
 
-    may_lose : IsCut allowed a left.0
-    may_lose = record {
-      base = a;
-      based = record { controlled = a; control = inl refl; derive = inl refl };
-      reached = used.label;
-      edge = inr (authority.Context, inl refl, may_use address id finds);
-      near = left.0;
-      one = against authority.Runs refl ran;
-      two = stays refl;
-    }
+    may_lose : MayTake allowed a left.0
+    may_lose = unbinds used.label (may_use address id finds) ran
 
     links_kept :
         (end : ObjId) (k : Kind) → links (o.Tcb (runs_on tcb None)) k end ≡ true

@@ -13,16 +13,17 @@ use Rattle.machine.specs.Layout.{Layout}
 use Rattle.machine.specs.Machine.{Machine, object_of}
 use Rattle.machine.specs.Objects.{kind_of_object, address_of}
 use Rattle.policy.specs.Domain.{EdgeTest}
-use Rattle.verdict.specs.Allowed.{IsLabelled, MayChange, MayModify}
+use Rattle.verdict.specs.Allowed.{IsLabelled}
+use Rattle.verdict.specs.Bounded.{MayAffect, MayModifyOrTake}
 use Rattle.verdict.specs.Budgets.{MayConfigure}
 use Rattle.verdict.specs.Invariant.{IsHeld}
 use Rattle.verdict.specs.Shrinks.{IsSame}
 use Rattle.verdict.proofs.ObjectLabels.{same_label, label_stays, labelled_there}
 use Rattle.verdict.proofs.Shrinking.{same_context, same_same, same_shrinks, shrinks_same, shrinks_shrinks}
 
--- an object is as it was, or changed within the authority of a label
+-- an object is as it was, or changed within the bounds of a label
 abbrev pub Acts : Layout → EdgeTest → ℕ → Machine → Machine → ObjId → Type 0
-Acts t allowed a m next id = IsSame m next id ⊎ MayChange t allowed a m next id
+Acts t allowed a m next id = IsSame m next id ⊎ MayAffect t allowed a m next id
 
 -- a part of a step of a label's thread, which began at some machine
 pub record Keeps (t : Layout) (allowed : EdgeTest) (began : Machine) (event : Event) (a : ℕ) (m next : Machine) : Type 0 where
@@ -66,24 +67,24 @@ context_by_kind _ is = cc
 
 may_after :
     (allowed : EdgeTest) (a label : ℕ) (m mid next : Machine) (id : ObjId) → IsSame m mid id
-    → MayModify allowed a label mid next id → MayModify allowed a label m next id
+    → MayModifyOrTake allowed a label mid next id → MayModifyOrTake allowed a label m next id
 may_after allowed a label m mid next id same (inl full) = inl full
-may_after allowed a label m mid next id same (inr cut) = inr (cut.0, same_shrinks m mid next id same cut.1)
+may_after allowed a label m mid next id same (inr take) = inr (take.0, same_shrinks m mid next id same take.1)
 
 may_before :
-    (allowed : EdgeTest) (a label : ℕ) (m mid next : Machine) (id : ObjId) → MayModify allowed a label m mid id
-    → IsSame mid next id → MayModify allowed a label m next id
+    (allowed : EdgeTest) (a label : ℕ) (m mid next : Machine) (id : ObjId) → MayModifyOrTake allowed a label m mid id
+    → IsSame mid next id → MayModifyOrTake allowed a label m next id
 may_before allowed a label m mid next id (inl full) same = inl full
-may_before allowed a label m mid next id (inr cut) same = inr (cut.0, shrinks_same m mid next id cut.1 same)
+may_before allowed a label m mid next id (inr take) same = inr (take.0, shrinks_same m mid next id take.1 same)
 
 may_may :
     (allowed : EdgeTest) (a label other : ℕ) (m mid next : Machine) (id : ObjId) → other ≡ label
-    → MayModify allowed a label m mid id → MayModify allowed a other mid next id → MayModify allowed a label m next id
+    → MayModifyOrTake allowed a label m mid id → MayModifyOrTake allowed a other mid next id → MayModifyOrTake allowed a label m next id
 may_may allowed a label other m mid next id same (inl full) more = inl full
-may_may allowed a label other m mid next id same (inr cut) (inl full) =
-    subst (λ l. MayModify allowed a l m next id) same (inl full)
-may_may allowed a label other m mid next id same (inr cut) (inr also) =
-    inr (cut.0, shrinks_shrinks m mid next id cut.1 also.1)
+may_may allowed a label other m mid next id same (inr take) (inl full) =
+    subst (λ l. MayModifyOrTake allowed a l m next id) same (inl full)
+may_may allowed a label other m mid next id same (inr take) (inr also) =
+    inr (take.0, shrinks_shrinks m mid next id take.1 also.1)
 
 module _
     (t : Layout) (allowed : EdgeTest) (began : Machine) (event : Event) (a : ℕ) (m mid next : Machine) (held : IsHeld t allowed m)
@@ -118,7 +119,7 @@ module _
       (sym then ∙ label_stays t n after id old.0 new.0 old.1 new.1 (stays old.0 new.0 old.1 new.1).1 ∙ before)
 
   both_change :
-      (id : ObjId) → (one : MayChange t allowed a m mid id) → (two : MayChange t allowed a mid next id) → Acts t allowed a m next id
+      (id : ObjId) → (one : MayAffect t allowed a m mid id) → (two : MayAffect t allowed a mid next id) → Acts t allowed a m next id
   both_change id one two = by one.labelled two.labelled where
     there : IsLabelled t m next id one.label → two.label ≡ one.label → Acts t allowed a m next id
     there labelled same = inr (record {

@@ -10,6 +10,7 @@ pub mod ObjectLabels
 pub mod Reach
 pub mod Held
 pub mod Shrinking
+pub mod Bounds
 pub mod Keeps
 pub mod Steady
 pub mod TouchKeeps
@@ -24,6 +25,7 @@ pub mod ArrivalKeeps
 pub mod MessageParts
 pub mod MessageKeeps
 pub mod Runs
+pub mod Aparts
 pub mod AtBoot
 pub mod Gains
 pub mod Losses

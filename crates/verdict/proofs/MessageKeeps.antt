@@ -45,11 +45,11 @@ use Rattle.machine.proofs.ReceiveRow.{ReceiveDone}
 use Rattle.machine.proofs.ReplyRow.{Answers, ReplyDone}
 use Rattle.machine.proofs.SendRow.{EndpointCallDone, SendDone}
 use Rattle.policy.specs.Closed.{IsClosed, caller, server}
-use Rattle.policy.specs.Cut.{IsCut}
 use Rattle.policy.specs.Domain.{EdgeTest}
 use Rattle.policy.specs.Full.{IsFull}
 use Rattle.policy.specs.Full.IsFull.{modifies, own, receives, replies}
 use Rattle.policy.specs.Full.IsFull.{links as links_to}
+use Rattle.policy.specs.Take.{MayTake}
 use Rattle.verdict.specs.Invariant.{IsHeld, IsSound}
 use Rattle.verdict.proofs.ArrivalKeeps.{arrival_keeps}
 use Rattle.verdict.proofs.Held.{held_of}
@@ -323,7 +323,7 @@ module _
 
       end_full :
           (q : ObjId) (to : ℕ) → WaitsAt waits.tcb.state q → label_of t arrived q ≡ Some to
-          → IsFull allowed a to ⊎ IsCut allowed a to
+          → IsFull allowed a to ⊎ MayTake allowed a to
       end_full q to stays target =
           let same : id ≡ q = sym waits.at ∙ subst (λ run. WaitsAt run q) waits.state stays in
           let to_is =

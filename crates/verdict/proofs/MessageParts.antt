@@ -48,12 +48,12 @@ use Rattle.machine.proofs.LookUps.{object_of-with_object, object_of-with_queue, 
 use Rattle.machine.proofs.MessageRows.{arrived_there}
 use Rattle.machine.proofs.MessageRows.{delivered_is, halted_between}
 use Rattle.policy.specs.Closed.{IsClosed}
-use Rattle.policy.specs.Cut.{IsCut}
-use Rattle.policy.specs.Cut.IsNear.{along}
 use Rattle.policy.specs.Domain.{EdgeTest, SubjectsAgree}
 use Rattle.policy.specs.Full.{IsFull}
 use Rattle.policy.specs.Full.IsFull.{modifies, replies, sends}
 use Rattle.policy.specs.Full.IsFull.{links as links_to}
+use Rattle.policy.specs.Take.{MayTake}
+use Rattle.policy.specs.Take.MayTake.{ends}
 use Rattle.verdict.specs.Invariant.{IsHeld, IsSound}
 use Rattle.verdict.proofs.ArrivalKeeps.{arrival_keeps}
 use Rattle.verdict.proofs.Held.{held_of}
@@ -288,7 +288,7 @@ module _ (t : Layout) (allowed : EdgeTest) (began : Machine) (event : Event) (a 
         (has : IsFull allowed a l)
         (names : (id : ObjId) (to : ℕ) → Names tcb.state id → label_of t m id ≡ Some to → IsFull allowed a to)
         (waits : (id : ObjId) (to : ℕ) → WaitsAt tcb.state id → label_of t m id ≡ Some to
-        → IsFull allowed a to ⊎ IsCut allowed a to) where
+        → IsFull allowed a to ⊎ MayTake allowed a to) where
       halts : Does m (with_halted m thread)
       halts =
           released_keeps t allowed began event a m held thread tcb halted there refl refl tt l labelled has
@@ -346,31 +346,27 @@ module _ (t : Layout) (allowed : EdgeTest) (began : Machine) (event : Event) (a 
             modifies authority.Reply refl (ap (allowed a authority.Reply) to_is ∙ may_reply)
 
         -- the endpoint at which it waits only loses it
-        waits_cut :
-            (q : ObjId) (to : ℕ) → WaitsAt h.tcb.state q → label_of t m q ≡ Some to → IsFull allowed a to ⊎ IsCut allowed a to
-        waits_cut q to waits target = by_run h.tcb.state refl h.names waits where
-          by_run : (run : RunState) → h.tcb.state ≡ run → Names run id → WaitsAt run q → IsFull allowed a to ⊎ IsCut allowed a to
+        waits_taken :
+            (q : ObjId) (to : ℕ) → WaitsAt h.tcb.state q → label_of t m q ≡ Some to → IsFull allowed a to ⊎ MayTake allowed a to
+        waits_taken q to waits target = by_run h.tcb.state refl h.names waits where
+          by_run : (run : RunState) → h.tcb.state ≡ run → Names run id → WaitsAt run q → IsFull allowed a to ⊎ MayTake allowed a to
           by_run (state.Receiving receiving) is names at =
               let receives_there =
               thread_edge h.thread q h.tcb authority.Receive to_held.0 to h.there
               (ap (λ run. state_links run authority.Receive q) is ∙ ap (λ (i : ObjId). same_id i q) at ∙ itself q) to_held.1
               target in
-              inr (record {
-                base = a;
-                based = record { controlled = a; control = inl refl; derive = inl refl };
-                reached = r;
-                edge = inr (authority.Reply, inl refl, may_reply);
-                near = to_held.0;
-                one = along authority.Holds refl holds_it;
-                two = along authority.Receive refl receives_there;
-              })
+              let replies_with =
+              thread_edge h.thread id h.tcb authority.Reply to_held.0 r h.there
+              (ap (λ run. state_links run authority.Reply id) is ∙ ap (λ n. names_reply n id) names ∙ itself id) to_held.1
+              labelled in
+              inr (ends r to_held.0 may_reply replies_with receives_there)
           by_run (state.Called called) is names at = absurd at
           by_run _ is names at = absurd names
 
         holder_keeps : Does m (with_holder_halted m id)
         holder_keeps =
             subst (λ (n : Machine). Does m n) (sym h.changes)
-            (halts h.thread h.tcb h.there to_held.0 to_held.1 (replies r may_reply holds_it) names_full waits_cut)
+            (halts h.thread h.tcb h.there to_held.0 to_held.1 (replies r may_reply holds_it) names_full waits_taken)
 
       pub halt_keeps : Does m (with_holder_halted m id)
       halt_keeps = by_holder (holder_leaves m id sound.well_formed.links) where

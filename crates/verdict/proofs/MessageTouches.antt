@@ -28,10 +28,10 @@ use Rattle.machine.proofs.Ids.{at_itself, at_other, one_or_two}
 use Rattle.machine.proofs.Leaving.{Names, holding_is, released_there, tcb_is, without}
 use Rattle.machine.proofs.LookUps.{object_of-with_object, one_id}
 use Rattle.machine.proofs.LookUps.{object_of-with_queue, queue_of-with_queue, words_of-with_queue, cap_of-with_queue}
-use Rattle.policy.specs.Cut.{IsCut}
 use Rattle.policy.specs.Domain.{EdgeTest}
 use Rattle.policy.specs.Full.{IsFull}
 use Rattle.policy.specs.Full.IsFull.{own}
+use Rattle.policy.specs.Take.{MayTake}
 use Rattle.verdict.specs.Invariant.{IsHeld, IsSound}
 use Rattle.verdict.specs.Shrinks.Lessens.{as_it_was, freed}
 use Rattle.verdict.proofs.Contents.{full, loses_links, reply_fits, tcb_fits}
@@ -119,10 +119,10 @@ links_left :
 links_left old new same idle authority.Runs end e = ap (λ context. names_reply context end) (sym same) ∙ e
 links_left old new same idle k end e = absurd (idle_links new.state k end idle e)
 
--- a label has full authority over an object's, or cut authority, and the object has a queue, as each that is there
+-- a label has full authority over an object's, or may take from it, and the object has a queue, as each that is there
 abbrev pub MayLessen : EdgeTest → ℕ → Machine → ObjId → ℕ → Type 0
 MayLessen allowed a m id label =
-    IsFull allowed a label ⊎ (IsCut allowed a label × (threads : List ObjId) × (queue_of m id ≡ Some threads))
+    IsFull allowed a label ⊎ (MayTake allowed a label × (threads : List ObjId) × (queue_of m id ≡ Some threads))
 
 -- contents where threads leave queues and replies
 
@@ -217,14 +217,14 @@ module _
         → MayLessen allowed a m id label → Keeps t allowed began event a m (with_holding m id reply.Free)
     by_label old label there labelled (inl has) =
         holding_keeps id old reply.Free label there labelled has (λ thread to is. absurd (false≢true is))
-    by_label old label there labelled (inr cut) =
+    by_label old label there labelled (inr take) =
         let new : Reply = record old { state = reply.Free } in
         let next : Machine = with_object m id (o.Reply new) in
         subst (λ (n : Machine). Keeps t allowed began event a m n) (sym (holding_is m id old reply.Free there))
         (set_keeps t allowed began event a m id held (o.Reply old) (o.Reply new)
         (reply_fits t allowed began event m id old new there refl (λ end from to is. absurd (false≢true is)))
-        (loses_links t allowed a m id label (o.Reply old) (o.Reply new) labelled cut.0 there (freed old new refl refl refl refl)
-        cut.1 cut.2))
+        (loses_links t allowed a m id label (o.Reply old) (o.Reply new) labelled take.0 there (freed old new refl refl refl refl)
+        take.1 take.2))
 
     by_reply :
         ((old : Reply) × (object_of m id ≡ Some (o.Reply old))) ⊎ (with_holding m id reply.Free ≡ m)
@@ -237,7 +237,7 @@ module _
 
   -- a thread leaves a queue
   leaves_keeps :
-      (id thread : ObjId) → ((to : ℕ) → label_of t m id ≡ Some to → IsFull allowed a to ⊎ IsCut allowed a to)
+      (id thread : ObjId) → ((to : ℕ) → label_of t m id ≡ Some to → IsFull allowed a to ⊎ MayTake allowed a to)
       → Keeps t allowed began event a m (without_waiting m id thread)
   leaves_keeps id thread may = by_queue (leaves_or_stays m id thread) where
     by_content :
@@ -250,11 +250,11 @@ module _
         queue_keeps t allowed began event a m id held object rest there
         (elim (may label.0 label.1) [
           | inl has ↦ full t allowed a m (with_queue m id rest) id label.0 label.1 has
-          | inr cut ↦ record {
+          | inr take ↦ record {
             label = label.0;
             labelled = inl label.1;
             may = inr (
-              cut,
+              take,
               inr (record {
                 old = object;
                 new = object;
@@ -288,7 +288,7 @@ module _
   -- a thread that waits for a message leaves its queue, and the reply that it named, if it named one
   receiver_leaves :
       (endpoint : ObjId) (named : Option ObjId) (thread : ObjId)
-      → ((to : ℕ) → label_of t m endpoint ≡ Some to → IsFull allowed a to ⊎ IsCut allowed a to)
+      → ((to : ℕ) → label_of t m endpoint ≡ Some to → IsFull allowed a to ⊎ MayTake allowed a to)
       → ((id : ObjId) (to : ℕ) → named ≡ Some id → label_of t m id ≡ Some to → MayLessen allowed a m id to)
       → Keeps t allowed began event a m (with_named (without_waiting m endpoint thread) named reply.Free)
   receiver_leaves endpoint None thread at names = leaves_keeps t allowed began event a m held endpoint thread at
@@ -302,12 +302,12 @@ module _
     where
       still : (to : ℕ) → MayLessen allowed a m id to → MayLessen allowed a (without_waiting m endpoint thread) id to
       still to (inl has) = inl has
-      still to (inr cut) = let queue = queue_left m endpoint thread id cut.1 cut.2 in inr (cut.0, queue.0, queue.1)
+      still to (inr take) = let queue = queue_left m endpoint thread id take.1 take.2 in inr (take.0, queue.0, queue.1)
 
   unblocked_keeps :
       (thread : ObjId) (run : RunState)
       → ((id : ObjId) (to : ℕ) → Names run id → label_of t m id ≡ Some to → MayLessen allowed a m id to)
-      → ((id : ObjId) (to : ℕ) → WaitsAt run id → label_of t m id ≡ Some to → IsFull allowed a to ⊎ IsCut allowed a to)
+      → ((id : ObjId) (to : ℕ) → WaitsAt run id → label_of t m id ≡ Some to → IsFull allowed a to ⊎ MayTake allowed a to)
       → Keeps t allowed began event a m (unblocked m thread run)
   unblocked_keeps thread (state.Sending sending) names waits =
       leaves_keeps t allowed began event a m held sending.endpoint thread (λ to. waits sending.endpoint to refl)
@@ -324,7 +324,7 @@ module _
       → (change tcb).context ≡ tcb.context → IsIdle (change tcb).state
       → (label : ℕ) → label_of t m thread ≡ Some label → IsFull allowed a label
       → ((id : ObjId) (to : ℕ) → Names tcb.state id → label_of t m id ≡ Some to → MayLessen allowed a m id to)
-      → ((id : ObjId) (to : ℕ) → WaitsAt tcb.state id → label_of t m id ≡ Some to → IsFull allowed a to ⊎ IsCut allowed a to)
+      → ((id : ObjId) (to : ℕ) → WaitsAt tcb.state id → label_of t m id ≡ Some to → IsFull allowed a to ⊎ MayTake allowed a to)
       → Keeps t allowed began event a m (with_released m thread change)
   released_keeps thread tcb change there address context idle label labelled has names waits =
       let mid = unblocked m thread tcb.state in

@@ -42,7 +42,7 @@ module _
         ap (λ (s : SlotRef). label_of t m s.holder) (sym (one_slot slot other is)) ∙ mine.labelled,
         record {
           controlled = mine.label;
-          control = inr mine.controls;
+          control = mine.controls;
           derive = inl refl;
         },
       )
@@ -56,7 +56,7 @@ module _
         of.1,
         record {
           controlled = mine.label;
-          control = inr mine.controls;
+          control = mine.controls;
           derive =
               inr
               (descends_derive t m (same_slot slot) allowed sound closed ((below_decided m slot below).0 is) mine.label of.0 mine.labelled of.1);

@@ -1,4 +1,4 @@
--- What a removal changes is of labels that may be cut: what vanished, what was linked with that, the queues and replies that who was
+-- What a removal changes is of labels that the label may take from: what vanished, what was linked with that, the queues and replies that who was
 -- aborted or halted leaves, and the objects of the chosen slots.
 use Rattle.std.proofs.Common.{◌≡◌, ◌≢◌, ℕ, zero, suc, ◌<◌, ◌⊎◌, inl, inr, Bool, true, false, not, cond, List, [], ◌∷◌, refl, sym, ap, subst, ◌∙◌, arith}
 use Rattle.std.specs.Prelude.{Option, Some, None, Contains, filter, is_some, option_map, ◌&&◌, ◌||◌}
@@ -35,9 +35,10 @@ use Rattle.machine.proofs.RemovalLooks.{cap_of-removed}
 use Rattle.machine.proofs.RemovalTable.{finalised_there}
 use Rattle.machine.proofs.RoundLemmas.{both_pass}
 use Rattle.policy.specs.Closed.{IsClosed}
-use Rattle.policy.specs.Cut.{IsCut, IsNear, is_link}
+use Rattle.policy.specs.Cut.{IsNear, is_link}
 use Rattle.policy.specs.Cut.IsNear.{stays, along, against}
 use Rattle.policy.specs.Domain.{EdgeTest}
+use Rattle.policy.specs.Take.{MayRemoveNear}
 use Rattle.verdict.specs.Invariant.{IsSound}
 use Rattle.verdict.specs.Removals.{MayRemove}
 use Rattle.verdict.specs.Shrinks.{IsSame}
@@ -115,7 +116,7 @@ record IsBeside (t : Layout) (allowed : EdgeTest) (a : ℕ) (m : Machine) (label
 
 beside_near :
     (t : Layout) (allowed : EdgeTest) (a : ℕ) (m : Machine) (label other : ℕ) → IsBeside t allowed a m label
-    → IsNear allowed label other → IsCut allowed a other
+    → IsNear allowed label other → MayRemoveNear allowed a other
 beside_near t allowed a m label other beside near = record {
   base = beside.used.base;
   based = beside.used.based;
@@ -126,7 +127,7 @@ beside_near t allowed a m label other beside near = record {
   two = near;
 }
 
-beside_cut : (t : Layout) (allowed : EdgeTest) (a : ℕ) (m : Machine) (label : ℕ) → IsBeside t allowed a m label → IsCut allowed a label
+beside_cut : (t : Layout) (allowed : EdgeTest) (a : ℕ) (m : Machine) (label : ℕ) → IsBeside t allowed a m label → MayRemoveNear allowed a label
 beside_cut t allowed a m label beside = beside_near t allowed a m label label beside (stays refl)
 
 module _
@@ -206,11 +207,11 @@ module _
       by_halt true halts e = halted_beside tcb.state refl halts
       by_halt false isnt e = aborted_beside e
 
-    -- what a thread that leaves is linked with may be cut
-    leaver_cut : leaves m vanished thread ≡ true → (other : ℕ) → IsNear allowed label other → IsCut allowed a other
+    -- what a thread that leaves is linked with may be taken from
+    leaver_cut : leaves m vanished thread ≡ true → (other : ℕ) → IsNear allowed label other → MayRemoveNear allowed a other
     leaver_cut is other near = by_vanished (vanished thread) refl is where
       by_vanished :
-          (b : Bool) → vanished thread ≡ b → (b || is_released vanished (object_of m thread)) ≡ true → IsCut allowed a other
+          (b : Bool) → vanished thread ≡ b → (b || is_released vanished (object_of m thread)) ≡ true → MayRemoveNear allowed a other
       by_vanished true gone e =
           let its = used thread (o.Tcb tcb) at (λ e. cc) gone in
           beside_near t allowed a m label other
@@ -221,12 +222,12 @@ module _
   -- a thread that stays
   tcb_cut :
       (id : ObjId) (tcb : Tcb) (label : ℕ) → IsThread m id tcb → label_of t m id ≡ Some label
-      → (o.Tcb (tcb_after vanished tcb) ≡ o.Tcb tcb) ⊎ IsCut allowed a label
+      → (o.Tcb (tcb_after vanished tcb) ≡ o.Tcb tcb) ⊎ MayRemoveNear allowed a label
   tcb_cut id tcb label at labelled =
       by_ways (is_halted vanished tcb.state) (is_aborted vanished tcb.state) (leads_nowhere vanished tcb.context) refl refl refl where
         by_ways :
             (halts aborts loses : Bool) → is_halted vanished tcb.state ≡ halts → is_aborted vanished tcb.state ≡ aborts
-            → leads_nowhere vanished tcb.context ≡ loses → (o.Tcb (tcb_after vanished tcb) ≡ o.Tcb tcb) ⊎ IsCut allowed a label
+            → leads_nowhere vanished tcb.context ≡ loses → (o.Tcb (tcb_after vanished tcb) ≡ o.Tcb tcb) ⊎ MayRemoveNear allowed a label
         by_ways true aborts loses is also bound =
             inr (beside_cut t allowed a m label (halted_beside id tcb label at labelled tcb.state refl is))
         by_ways false true loses isnt is bound =
@@ -246,13 +247,13 @@ module _
   -- a reply that stays
   reply_cut :
       (id : ObjId) (holding : Reply) (label : ℕ) → object_of m id ≡ Some (o.Reply holding) → label_of t m id ≡ Some label
-      → (finalised m vanished (o.Reply holding) ≡ o.Reply holding) ⊎ IsCut allowed a label
+      → (finalised m vanished (o.Reply holding) ≡ o.Reply holding) ⊎ MayRemoveNear allowed a label
   reply_cut id holding label at labelled = by_state holding.state refl where
     -- whose thread leaves, or not
     held :
         (thread : ObjId) (tcb : Tcb) (its : ReplyState) → holding.state ≡ its → IsThread m thread tcb
         → links (o.Reply holding) authority.Holds thread ≡ true → (b : Bool) → leaves m vanished thread ≡ b
-        → (o.Reply (record holding { state = cond b reply.Free its }) ≡ o.Reply holding) ⊎ IsCut allowed a label
+        → (o.Reply (record holding { state = cond b reply.Free its }) ≡ o.Reply holding) ⊎ MayRemoveNear allowed a label
     held thread tcb its is there has false left = inl (ap (λ s. o.Reply (record holding { state = s })) (sym is))
     held thread tcb its is there has true left =
         let of = sound.of_table.labelled thread (o.Tcb tcb) there in
@@ -262,7 +263,7 @@ module _
 
     by_state :
         (its : ReplyState) → holding.state ≡ its
-        → (o.Reply (record holding { state = reply_after m vanished its }) ≡ o.Reply holding) ⊎ IsCut allowed a label
+        → (o.Reply (record holding { state = reply_after m vanished its }) ≡ o.Reply holding) ⊎ MayRemoveNear allowed a label
     by_state reply.Free is = inl (ap (λ s. o.Reply (record holding { state = s })) (sym is))
     by_state (reply.Waiting thread) is =
         let w =
@@ -278,11 +279,11 @@ module _
   -- a context that stays
   context_cut :
       (id : ObjId) (context : Context) (label : ℕ) → object_of m id ≡ Some (o.Context context) → label_of t m id ≡ Some label
-      → (finalised m vanished (o.Context context) ≡ o.Context context) ⊎ IsCut allowed a label
+      → (finalised m vanished (o.Context context) ≡ o.Context context) ⊎ MayRemoveNear allowed a label
   context_cut id context label at labelled = by_end (leads_nowhere vanished context.thread) refl where
     by_end :
         (b : Bool) → leads_nowhere vanished context.thread ≡ b
-        → (o.Context (record context { thread = cond b None context.thread }) ≡ o.Context context) ⊎ IsCut allowed a label
+        → (o.Context (record context { thread = cond b None context.thread }) ≡ o.Context context) ⊎ MayRemoveNear allowed a label
     by_end false bound = inl refl
     by_end true is =
         let lost = lost_link vanished context.thread is in
@@ -292,19 +293,19 @@ module _
         labelled (used lost.0 (o.Tcb w.0) w.1 (λ e. cc) lost.2)))
 
   module _ (id : ObjId) (object : Object) (label : ℕ) (at : object_of m id ≡ Some object) (labelled : label_of t m id ≡ Some label) where
-    content_cut : (finalised m vanished object ≡ object) ⊎ IsCut allowed a label
+    content_cut : (finalised m vanished object ≡ object) ⊎ MayRemoveNear allowed a label
     content_cut = by_kind object at where
-      by_kind : (it : Object) → object_of m id ≡ Some it → (finalised m vanished it ≡ it) ⊎ IsCut allowed a label
+      by_kind : (it : Object) → object_of m id ≡ Some it → (finalised m vanished it ≡ it) ⊎ MayRemoveNear allowed a label
       by_kind (o.Tcb tcb) is = tcb_cut id tcb label is labelled
       by_kind (o.Reply holding) is = reply_cut id holding label is labelled
       by_kind (o.Context context) is = context_cut id context label is labelled
       by_kind _ is = inl refl
 
-    queue_cut : (threads : List ObjId) → queue_of m id ≡ Some threads → (staying_in m vanished threads ≡ threads) ⊎ IsCut allowed a label
+    queue_cut : (threads : List ObjId) → queue_of m id ≡ Some threads → (staying_in m vanished threads ≡ threads) ⊎ MayRemoveNear allowed a label
     queue_cut threads queue = by_leaver (all_stay (leaves m vanished) threads) where
       by_leaver :
           (staying_in m vanished threads ≡ threads) ⊎ ((thread : ObjId) × Contains threads thread × (leaves m vanished thread ≡ true))
-          → (staying_in m vanished threads ≡ threads) ⊎ IsCut allowed a label
+          → (staying_in m vanished threads ≡ threads) ⊎ MayRemoveNear allowed a label
       by_leaver (inl same) = inl same
       by_leaver (inr found) =
           let w = sound.well_formed.links.queued id threads found.0 queue found.1 in
@@ -318,13 +319,13 @@ module _
 
     module _ (stays_there : vanished id ≡ false) where
       -- a filled slot that goes, of an object that stays, is one of those chosen
-      slot_cut : (index : ℕ) (held : Cap) → gone_of m chosen (slot_at index) ≡ true → cap_of m (slot_at index) ≡ Some held → IsCut allowed a label
+      slot_cut : (index : ℕ) (held : Cap) → gone_of m chosen (slot_at index) ≡ true → cap_of m (slot_at index) ≡ Some held → MayRemoveNear allowed a label
       slot_cut index held goes filled = by_reason ((gone_decided m chosen (slot_at index)).0 goes) refl where
-        by_reason : {slot : SlotRef} → IsGone m chosen slot → slot ≡ slot_at index → IsCut allowed a label
+        by_reason : {slot : SlotRef} → IsGone m chosen slot → slot ≡ slot_at index → MayRemoveNear allowed a label
         by_reason (given {slot} is) same =
             let base = may slot held is (ap (cap_of m) same ∙ filled) in
             let one : base.0 ≡ label = same_Some base.0 label (sym base.1 ∙ ap (λ (s : SlotRef). label_of t m s.holder) same ∙ labelled) in
-            subst (λ l. IsCut allowed a l) one (record {
+            subst (λ l. MayRemoveNear allowed a l) one (record {
               base = base.0;
               based = base.2;
               reached = base.0;
@@ -347,9 +348,9 @@ module _
       abbrev loses_at : ℕ → Bool
       loses_at index = gone_of m chosen (slot_at index) && is_some (cap_of m (slot_at index))
 
-      slots_cut : ((index : ℕ) → cap_of after (slot_at index) ≡ cap_of m (slot_at index)) ⊎ IsCut allowed a label
+      slots_cut : ((index : ℕ) → cap_of after (slot_at index) ≡ cap_of m (slot_at index)) ⊎ MayRemoveNear allowed a label
       slots_cut = by_search (any_below loses_at (slot_count object)) where
-        lost : (index : ℕ) (found : Option Cap) → cap_of m (slot_at index) ≡ found → gone_of m chosen (slot_at index) ≡ true → is_some found ≡ true → IsCut allowed a label
+        lost : (index : ℕ) (found : Option Cap) → cap_of m (slot_at index) ≡ found → gone_of m chosen (slot_at index) ≡ true → is_some found ≡ true → MayRemoveNear allowed a label
         lost index None is goes e = absurd (false≢true e)
         lost index (Some held) is goes e = slot_cut index held goes is
 
@@ -368,7 +369,7 @@ module _
 
         by_search :
             ((i : ℕ) × (loses_at i ≡ true)) ⊎ ((i : ℕ) → i < slot_count object → loses_at i ≡ false)
-            → ((index : ℕ) → cap_of after (slot_at index) ≡ cap_of m (slot_at index)) ⊎ IsCut allowed a label
+            → ((index : ℕ) → cap_of after (slot_at index) ≡ cap_of m (slot_at index)) ⊎ MayRemoveNear allowed a label
         by_search (inl found) =
             let both : (gone_of m chosen (slot_at found.0) ≡ true) × (is_some (cap_of m (slot_at found.0)) ≡ true) = both_pass _ _ found.1 in
             inr (lost found.0 (cap_of m (slot_at found.0)) refl both.0 both.1)
@@ -376,16 +377,16 @@ module _
             cap_of-removed m chosen (slot_at index)
             ∙ kept none index (gone_of m chosen (slot_at index)) (cap_of m (slot_at index)) refl refl)
 
-      -- an object that stays is as it was in each part, or its label may be cut
-      stays_or_cut : IsSame m after id ⊎ IsCut allowed a label
+      -- an object that stays is as it was in each part, or its label may be taken from
+      stays_or_cut : IsSame m after id ⊎ MayRemoveNear allowed a label
       stays_or_cut = by_content content_cut where
         queue : (threads : List ObjId) × (queue_of m id ≡ Some threads)
         queue = sound.well_formed.parts.queue id object at
 
         by_slots :
             finalised m vanished object ≡ object → staying_in m vanished queue.0 ≡ queue.0
-            → ((index : ℕ) → cap_of after (slot_at index) ≡ cap_of m (slot_at index)) ⊎ IsCut allowed a label
-            → IsSame m after id ⊎ IsCut allowed a label
+            → ((index : ℕ) → cap_of after (slot_at index) ≡ cap_of m (slot_at index)) ⊎ MayRemoveNear allowed a label
+            → IsSame m after id ⊎ MayRemoveNear allowed a label
         by_slots content waiting (inr cut) = inr cut
         by_slots content waiting (inl slots) = inl (record {
           content = finalised_there m chosen id object at stays_there ∙ ap Some content ∙ sym at;
@@ -395,20 +396,20 @@ module _
         })
 
         by_queue :
-            finalised m vanished object ≡ object → (staying_in m vanished queue.0 ≡ queue.0) ⊎ IsCut allowed a label
-            → IsSame m after id ⊎ IsCut allowed a label
+            finalised m vanished object ≡ object → (staying_in m vanished queue.0 ≡ queue.0) ⊎ MayRemoveNear allowed a label
+            → IsSame m after id ⊎ MayRemoveNear allowed a label
         by_queue content (inr cut) = inr cut
         by_queue content (inl waiting) = by_slots content waiting slots_cut
 
-        by_content : (finalised m vanished object ≡ object) ⊎ IsCut allowed a label → IsSame m after id ⊎ IsCut allowed a label
+        by_content : (finalised m vanished object ≡ object) ⊎ MayRemoveNear allowed a label → IsSame m after id ⊎ MayRemoveNear allowed a label
         by_content (inr cut) = inr cut
         by_content (inl content) = by_queue content (queue_cut queue.0 queue.1)
 
-  pub removed_cuts : (id : ObjId) → IsSame m (removed m chosen) id ⊎ ((label : ℕ) × (label_of t m id ≡ Some label) × IsCut allowed a label)
+  pub removed_cuts : (id : ObjId) → IsSame m (removed m chosen) id ⊎ ((label : ℕ) × (label_of t m id ≡ Some label) × MayRemoveNear allowed a label)
   removed_cuts id = by_object (object_of m id) refl where
     by_vanished :
         (b : Bool) (object : Object) → vanished id ≡ b → object_of m id ≡ Some object
-        → IsSame m (removed m chosen) id ⊎ ((label : ℕ) × (label_of t m id ≡ Some label) × IsCut allowed a label)
+        → IsSame m (removed m chosen) id ⊎ ((label : ℕ) × (label_of t m id ≡ Some label) × MayRemoveNear allowed a label)
     by_vanished true object gone at = inr (vanished_cut t allowed a m chosen sound closed may id gone)
     by_vanished false object there at =
         let of = sound.of_table.labelled id object at in
@@ -416,6 +417,6 @@ module _
 
     by_object :
         (found : Option Object) → object_of m id ≡ found
-        → IsSame m (removed m chosen) id ⊎ ((label : ℕ) × (label_of t m id ≡ Some label) × IsCut allowed a label)
+        → IsSame m (removed m chosen) id ⊎ ((label : ℕ) × (label_of t m id ≡ Some label) × MayRemoveNear allowed a label)
     by_object None absent = inl (absent_stays m chosen sound.well_formed id absent)
     by_object (Some object) at = by_vanished (vanished id) object refl at

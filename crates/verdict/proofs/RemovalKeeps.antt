@@ -1,5 +1,5 @@
 -- A removal keeps what a part of a call keeps: the machine stays within the policy, and what differs shrinks and is of labels that
--- may be cut.
+-- may be taken from.
 use Rattle.std.proofs.Common.{◌≡◌, ℕ, ◌⊎◌, inl, inr, Bool, Some, sym, ap, ◌∙◌, arith}
 use Rattle.std.proofs.lemmas.Option.{none-some, same_Some}
 use Rattle.base.specs.declared.ids.ObjId.{ObjId}
@@ -18,8 +18,9 @@ use Rattle.machine.proofs.RemovalLinks.{removed_formed}
 use Rattle.machine.proofs.RemovalLooks.{next-removed}
 use Rattle.machine.proofs.RemovalStays.{like_finalised, object_was}
 use Rattle.policy.specs.Closed.{IsClosed}
-use Rattle.policy.specs.Cut.{IsCut}
 use Rattle.policy.specs.Domain.{EdgeTest}
+use Rattle.policy.specs.Take.{MayRemoveNear}
+use Rattle.policy.specs.Take.MayTake.{removes}
 use Rattle.verdict.specs.Invariant.{IsSound}
 use Rattle.verdict.specs.Removals.{MayRemove}
 use Rattle.verdict.specs.Shrinks.{IsSame}
@@ -75,12 +76,12 @@ module _
     grows = let number = next-removed m chosen in omega (arith, number);
     budgets = λ id old new was is. inl (share_stays m chosen id old new was is);
   } where
-    by_change : (id : ObjId) → IsSame m after id ⊎ ((label : ℕ) × (label_of t m id ≡ Some label) × IsCut allowed a label) → Acts t allowed a m after id
+    by_change : (id : ObjId) → IsSame m after id ⊎ ((label : ℕ) × (label_of t m id ≡ Some label) × MayRemoveNear allowed a label) → Acts t allowed a m after id
     by_change id (inl same) = inl same
     by_change id (inr cut) =
         let there = labelled_there t m id cut.0 cut.1 in
         inr (record {
           label = cut.0;
           labelled = inl cut.1;
-          may = inr (cut.2, removed_shrinks m chosen sound.well_formed id there.0 there.1);
+          may = inr (removes cut.2, removed_shrinks m chosen sound.well_formed id there.0 there.1);
         })

@@ -19,11 +19,12 @@ use Rattle.machine.proofs.Admission.{IsCaller}
 use Rattle.machine.proofs.Inversion.{CallDone, EventDone, step_done}
 use Rattle.policy.specs.Closed.{IsClosed}
 use Rattle.policy.specs.Domain.{EdgeTest}
-use Rattle.verdict.specs.Allowed.{IsAllowedStep, IsModified}
+use Rattle.verdict.specs.Bounded.{IsAffected, IsBoundedStep}
 use Rattle.verdict.specs.Budgets.{KeepsBudgets, configures}
 use Rattle.verdict.specs.Invariant.{IsSound}
-use Rattle.verdict.specs.Safe.{IsReached, IsSafe}
+use Rattle.verdict.specs.Safe.{IsReached, IsSafe, KeepsBounds}
 use Rattle.verdict.specs.Shrinks.{IsSame}
+use Rattle.verdict.proofs.Bounds.{bounded_allowed}
 use Rattle.verdict.proofs.ContextKeeps.{bind_keeps, configure_keeps, may_configure, unbind_keeps}
 use Rattle.verdict.proofs.Keeps.{Acts, Keeps}
 use Rattle.verdict.proofs.MessageKeeps.{endpoint_call_keeps, fetch_keeps, receive_keeps, reply_keeps, send_keeps}
@@ -91,17 +92,17 @@ call_keeps t allowed event a m next sound closed (call.Bind context thread) by l
 call_keeps t allowed event a m next sound closed (call.Unbind context) by labelled is done =
     unbind_keeps t allowed event a m sound closed event.thread labelled next context done
 
--- a step is allowed and guards budgets, and keeps what belongs to the table and what is confined
+-- a step is bounded and guards budgets, and keeps what belongs to the table and what is confined
 record StepKeeps (t : Layout) (allowed : EdgeTest) (m : Machine) (event : Event) (next : Machine) : Type 0 where
   sound : IsSound t allowed next
-  integrity : IsAllowedStep t allowed m event next
+  bounds : IsBoundedStep t allowed m event next
   budgets : KeepsBudgets t allowed m event next
 
--- each change is within the authority of the caller's label
+-- each change is within the bounds of the caller's label
 by_caller :
     (t : Layout) (allowed : EdgeTest) (event : Event) (a : ℕ) (m next : Machine) (id : ObjId)
     → label_of t m event.thread ≡ Some a → Acts t allowed a m next id
-    → IsSame m next id ⊎ IsModified t allowed m next event.thread id
+    → IsSame m next id ⊎ IsAffected t allowed m next event.thread id
 by_caller t allowed event a m next id labelled (inl same) = inl same
 by_caller t allowed event a m next id labelled (inr may) = inr (record { caller = a; calls = labelled; may = may })
 
@@ -119,12 +120,12 @@ step_keeps t allowed m next sound closed event outcome step = by (step_done m ev
           of_table = keeps.held.of_table;
           confined = keeps.held.confined;
         };
-        integrity = λ id. by_caller t allowed event label.0 m next id label.1 (keeps.acts id);
+        bounds = λ id. by_caller t allowed event label.0 m next id label.1 (keeps.acts id);
         budgets = keeps.budgets;
       }
   by (inr same) = subst (λ (after : Machine). StepKeeps t allowed m event after) (sym same) (record {
     sound = sound;
-    integrity = λ id. inl (record { content = refl; queue = refl; words = refl; slots = λ index. refl });
+    bounds = λ id. inl (record { content = refl; queue = refl; words = refl; slots = λ index. refl });
     budgets = λ id old new was is.
         let same = same_context new old (same_Some (o.Context new) (o.Context old) (sym is ∙ was)) in
         inl (ap (λ (context : Context). context.share) same);
@@ -148,8 +149,8 @@ safe_from t allowed closed at_boot =
     record {
       labelled = λ m reached. (sound_at m reached).of_table.labelled;
       confined = λ m reached. (sound_at m reached).confined;
-      integrity = λ m next event outcome reached step.
-          (step_keeps t allowed m next (sound_at m reached) closed event outcome step).integrity;
+      integrity = λ m next event outcome reached step. bounded_allowed t allowed m next event (bounded m next event outcome reached step);
+      bounds = bounded;
       budgets = λ m next event outcome reached step. (step_keeps t allowed m next (sound_at m reached) closed event outcome step).budgets;
     }
   where
@@ -157,3 +158,6 @@ safe_from t allowed closed at_boot =
     sound_at m reached =
         run_sound t allowed closed reached.boot m reached.events reached.outcomes
         (at_boot reached.boot reached.booted) reached.run
+
+    bounded : KeepsBounds t allowed
+    bounded m next event outcome reached step = (step_keeps t allowed m next (sound_at m reached) closed event outcome step).bounds

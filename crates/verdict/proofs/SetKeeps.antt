@@ -9,14 +9,14 @@ use Rattle.machine.proofs.Ids.{at_itself, at_other}
 use Rattle.machine.proofs.LookUps.{object_of-with_object, queue_of-with_object, words_of-with_object, cap_of-with_object, parent_of-with_object, number_of-with_object}
 use Rattle.machine.proofs.LookUps.{object_of-with_queue, queue_of-with_queue, words_of-with_queue, cap_of-with_queue, parent_of-with_queue, number_of-with_queue}
 use Rattle.policy.specs.Domain.{EdgeTest}
-use Rattle.verdict.specs.Allowed.{MayChange}
+use Rattle.verdict.specs.Bounded.{MayAffect}
 use Rattle.verdict.specs.Invariant.{IsHeld}
 use Rattle.verdict.proofs.Keeps.{Keeps}
 use Rattle.verdict.proofs.TouchKeeps.{Fits, same_fits, touch_keeps}
 
 module _ (t : Layout) (allowed : EdgeTest) (began : Machine) (event : Event) (a : ℕ) (m : Machine) (id : ObjId) (held : IsHeld t allowed m) where
   pub set_keeps :
-      (old new : Object) → Fits t allowed began event m id old new → MayChange t allowed a m (with_object m id new) id
+      (old new : Object) → Fits t allowed began event m id old new → MayAffect t allowed a m (with_object m id new) id
       → Keeps t allowed began event a m (with_object m id new)
   set_keeps old new fits may =
       touch_keeps t allowed began event a m id old new (with_object m id new) held fits
@@ -32,7 +32,7 @@ module _ (t : Layout) (allowed : EdgeTest) (began : Machine) (event : Event) (a 
 
   pub queue_keeps :
       (object : Object) (threads : List ObjId) → object_of m id ≡ Some object
-      → MayChange t allowed a m (with_queue m id threads) id → Keeps t allowed began event a m (with_queue m id threads)
+      → MayAffect t allowed a m (with_queue m id threads) id → Keeps t allowed began event a m (with_queue m id threads)
   queue_keeps object threads there may =
       touch_keeps t allowed began event a m id object object (with_queue m id threads) held
       (same_fits t allowed began event m id object there)

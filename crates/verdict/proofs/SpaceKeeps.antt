@@ -54,7 +54,7 @@ module _
     may_clear other held is filled = (
       of_thread.label,
       ap (λ (s : SlotRef). label_of t m s.holder) (sym (one_slot (root_of thread) other is)) ∙ of_thread.labelled,
-      record { controlled = of_thread.label; control = inr controls; derive = inl refl },
+      record { controlled = of_thread.label; control = controls; derive = inl refl },
     )
 
     cleared : IsSound t allowed (without_root m thread) × Keeps t allowed m event a m (without_root m thread)

@@ -24,11 +24,13 @@ use Rattle.machine.proofs.Ids.{itself}
 use Rattle.machine.proofs.Leaving.{Names}
 use Rattle.machine.proofs.ThreadRow.{ResumeDone, SuspendDone}
 use Rattle.policy.specs.Closed.{IsClosed}
-use Rattle.policy.specs.Cut.{IsCut, IsNear}
+use Rattle.policy.specs.Cut.{IsNear}
 use Rattle.policy.specs.Cut.IsNear.{against, along, stays}
 use Rattle.policy.specs.Domain.{EdgeTest}
 use Rattle.policy.specs.Full.{IsFull}
 use Rattle.policy.specs.Full.IsFull.{modifies}
+use Rattle.policy.specs.Take.{MayTake}
+use Rattle.policy.specs.Take.MayTake.{removes}
 use Rattle.verdict.specs.Invariant.{IsSound}
 use Rattle.verdict.proofs.Held.{held_of}
 use Rattle.verdict.proofs.Keeps.{Keeps, unchanged}
@@ -63,16 +65,16 @@ module _
     may_control = to_thread.edge authority.Control refl refl
 
     -- what is linked with the thread may lose it
-    near_thread : (to : ℕ) → IsNear allowed to_thread.label to → IsCut allowed a to
-    near_thread to near = record {
+    near_thread : (to : ℕ) → IsNear allowed to_thread.label to → MayTake allowed a to
+    near_thread to near = removes (record {
       base = to_thread.label;
-      based = record { controlled = to_thread.label; control = inr may_control; derive = inl refl };
+      based = record { controlled = to_thread.label; control = may_control; derive = inl refl };
       reached = to_thread.label;
       edge = inl refl;
       near = to;
       one = near;
       two = stays refl;
-    }
+    })
 
     module _ (tcb : Tcb) (there : IsThread m thread tcb) where
       -- the reply that holds it
@@ -104,9 +106,9 @@ module _
 
       -- the object at which it waits
       waits_loses :
-          (id : ObjId) (to : ℕ) → WaitsAt tcb.state id → label_of t m id ≡ Some to → IsFull allowed a to ⊎ IsCut allowed a to
+          (id : ObjId) (to : ℕ) → WaitsAt tcb.state id → label_of t m id ≡ Some to → IsFull allowed a to ⊎ MayTake allowed a to
       waits_loses id to waits target = by_run tcb.state refl waits where
-        by_run : (run : RunState) → tcb.state ≡ run → WaitsAt run id → IsFull allowed a to ⊎ IsCut allowed a to
+        by_run : (run : RunState) → tcb.state ≡ run → WaitsAt run id → IsFull allowed a to ⊎ MayTake allowed a to
         by_run (state.Sending sending) is at =
             inr
             (near_thread to

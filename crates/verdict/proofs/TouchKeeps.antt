@@ -18,7 +18,7 @@ use Rattle.machine.specs.Machine.{Machine, object_of, queue_of, words_of, cap_of
 use Rattle.machine.specs.Objects.{kind_of_object, address_of, end_of}
 use Rattle.machine.proofs.Ids.{one_or_two}
 use Rattle.policy.specs.Domain.{EdgeTest}
-use Rattle.verdict.specs.Allowed.{MayChange}
+use Rattle.verdict.specs.Bounded.{MayAffect}
 use Rattle.verdict.specs.Budgets.{MayConfigure}
 use Rattle.verdict.specs.Invariant.{IsBare, IsHeld}
 use Rattle.verdict.specs.OfTable.{IsOfTable}
@@ -71,7 +71,7 @@ memory_by_kind _ is = cc
 module _
     (t : Layout) (allowed : EdgeTest) (began : Machine) (event : Event) (a : ℕ) (m : Machine) (id : ObjId) (old new : Object)
     (next : Machine) (held : IsHeld t allowed m) (fits : Fits t allowed began event m id old new) (touches : Touches m id next)
-    (here : object_of next id ≡ Some new) (may : MayChange t allowed a m next id) where
+    (here : object_of next id ≡ Some new) (may : MayAffect t allowed a m next id) where
   -- an object is as it was, or it is the one
   Seen : ObjId → Type 0
   Seen q = (object_of next q ≡ object_of m q) ⊎ (q ≡ id)
@@ -156,7 +156,7 @@ module _
 
   acts : (q : ObjId) → Acts t allowed a m next q
   acts q = elim (one_or_two q id) [
-    | inl same ↦ inr (subst (λ (x : ObjId). MayChange t allowed a m next x) (sym same) may)
+    | inl same ↦ inr (subst (λ (x : ObjId). MayAffect t allowed a m next x) (sym same) may)
     | inr apart ↦ inl (record {
       content = touches.contents q apart;
       queue = touches.queues q apart;

@@ -18,7 +18,7 @@ use Rattle.policy.specs.Closed.{IsClosed}
 use Rattle.policy.specs.Domain.{EdgeTest}
 use Rattle.policy.specs.Full.{IsFull}
 use Rattle.policy.specs.Full.IsFull.{modifies}
-use Rattle.verdict.specs.Allowed.{MayChange}
+use Rattle.verdict.specs.Bounded.{MayAffect}
 use Rattle.verdict.specs.Invariant.{IsHeld, IsSound}
 use Rattle.verdict.proofs.Contents.{full}
 use Rattle.verdict.proofs.Held.{held_of}
@@ -45,7 +45,7 @@ module _
     (t : Layout) (allowed : EdgeTest) (began : Machine) (event : Event) (a : ℕ) (m : Machine) (id : ObjId)
     (held : IsHeld t allowed m) where
   words_keep :
-      (object : Object) (words : List ℕ) → object_of m id ≡ Some object → MayChange t allowed a m (with_words m id words) id
+      (object : Object) (words : List ℕ) → object_of m id ≡ Some object → MayAffect t allowed a m (with_words m id words) id
       → Keeps t allowed began event a m (with_words m id words)
   unfolding object_of queue_of words_of cap_of parent_of with_words
   words_keep object words there may =

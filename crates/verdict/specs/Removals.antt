@@ -6,11 +6,11 @@ use Rattle.machine.specs.declared.cap.Cap.{Cap}
 use Rattle.machine.specs.Authority.{label_of}
 use Rattle.machine.specs.Layout.{Layout}
 use Rattle.machine.specs.Machine.{Machine, cap_of}
-use Rattle.policy.specs.Cut.{IsBase}
 use Rattle.policy.specs.Domain.{EdgeTest}
+use Rattle.policy.specs.Take.{MayRemoveFrom}
 
 -- each chosen slot that is filled is in an object of a label from which the label may remove capabilities
 abbrev pub MayRemove : Layout → EdgeTest → ℕ → Machine → (SlotRef → Bool) → Type 0
 MayRemove t allowed a m chosen =
     (slot : SlotRef) (held : Cap) → chosen slot ≡ true → cap_of m slot ≡ Some held
-    → (label : ℕ) × (label_of t m slot.holder ≡ Some label) × IsBase allowed a label
+    → (label : ℕ) × (label_of t m slot.holder ≡ Some label) × MayRemoveFrom allowed a label

@@ -13,6 +13,7 @@ use Rattle.machine.specs.Run.{Run}
 use Rattle.machine.specs.Step.{Step}
 use Rattle.policy.specs.Domain.{EdgeTest}
 use Rattle.verdict.specs.Allowed.{IsAllowedStep}
+use Rattle.verdict.specs.Bounded.{IsBoundedStep}
 use Rattle.verdict.specs.Budgets.{KeepsBudgets}
 use Rattle.verdict.specs.Confined.{IsConfined}
 
@@ -34,6 +35,13 @@ KeepsIntegrity t allowed =
     (m next : Machine) (event : Event) (outcome : Outcome) → IsReached t m → Step m event outcome next
     → IsAllowedStep t allowed m event next
 
+-- no step changes an object of a label on which its caller's label has no full authority, but for one that only shrinks, of a label
+-- from which the caller's may take
+abbrev pub KeepsBounds : Layout → EdgeTest → Type 0
+KeepsBounds t allowed =
+    (m next : Machine) (event : Event) (outcome : Outcome) → IsReached t m → Step m event outcome next
+    → IsBoundedStep t allowed m event next
+
 -- a context's configured budget or period changes only by a caller whose label has the policy's SchedControl edge
 abbrev pub GuardsBudgets : Layout → EdgeTest → Type 0
 GuardsBudgets t allowed =
@@ -50,4 +58,5 @@ pub record IsSafe (t : Layout) (allowed : EdgeTest) : Type 0 where
   pub labelled : LabelsObjects t
   pub confined : StaysConfined t allowed
   pub integrity : KeepsIntegrity t allowed
+  pub bounds : KeepsBounds t allowed
   pub budgets : GuardsBudgets t allowed

@@ -1,7 +1,7 @@
 ghost use Rattle.std.specs.Prelude.{◌≡◌, ◌≤◌, IfErr, IfOk};
 ghost use Rattle.base.specs.Refusals.{out_of_memory};
 ghost use Rattle.policy.specs.Policy.{allows};
-ghost use Rattle.verdict.specs.Safe.{LabelsObjects, StaysConfined, KeepsIntegrity, GuardsBudgets};
+ghost use Rattle.verdict.specs.Safe.{LabelsObjects, StaysConfined, KeepsIntegrity, KeepsBounds, GuardsBudgets};
 ghost use Rattle.verdict.specs.System.{IsVerdict};
 
 use crate::bindings::first_binding;
@@ -21,9 +21,10 @@ use table::Table;
 ///
 /// Where it accepts them, then after every list of kernel calls by any threads in any interleaving
 /// every capability lies within the policy; no step changes an object of a label on which its caller's
-/// label has no modifying authority; and a context's configured budget or period changes only by a
-/// caller whose label has the policy's SchedControl edge. Each object that is there then has a label,
-/// so that no authority goes unseen.
+/// label has no modifying authority, nor one of a label from which it may not take but by full
+/// authority; and a context's configured budget or period changes only by a caller whose label has the
+/// policy's SchedControl edge. Each object that is there then has a label, so that no authority goes
+/// unseen.
 ///
 /// # Errors
 ///
@@ -41,6 +42,7 @@ pub fn judge<'a, R: Threads + Sync, G: Gate + Sync>(
     ensures labelled { IfOk result (λ answer. IfOk answer (λ accepted. LabelsObjects table.now)) }
     ensures confined { IfOk result (λ answer. IfOk answer (λ accepted. StaysConfined table.now (allows policy.now))) }
     ensures integrity { IfOk result (λ answer. IfOk answer (λ accepted. KeepsIntegrity table.now (allows policy.now))) }
+    ensures bounds { IfOk result (λ answer. IfOk answer (λ accepted. KeepsBounds table.now (allows policy.now))) }
     ensures budgets { IfOk result (λ answer. IfOk answer (λ accepted. GuardsBudgets table.now (allows policy.now))) }
     ensures memory { IfErr result (λ refusal. refusal ≡ out_of_memory) }
 {

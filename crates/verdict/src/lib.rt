@@ -27,7 +27,7 @@ pub use laws::{
 };
 pub use making::what_is_made_stays_within_authority;
 pub use removing::{
-    a_removal_changes_what_may_be_cut, deletes_and_revokes_stay_within_authority,
+    a_removal_changes_what_may_be_taken, deletes_and_revokes_stay_within_authority,
     removals_stay_confined, removals_stay_within_authority, what_a_removal_changes_shrinks,
 };
-pub use safe::accepted_systems_are_safe;
+pub use safe::{accepted_systems_are_safe, accepted_systems_keep_labels_apart};

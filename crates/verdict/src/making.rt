@@ -8,14 +8,14 @@ ghost use Rattle.machine.specs.Machine.{Machine};
 ghost use Rattle.machine.specs.Step.Retype.{retype_of};
 ghost use Rattle.policy.specs.Closed.{IsClosed};
 ghost use Rattle.policy.specs.Domain.{EdgeTest};
-ghost use Rattle.verdict.specs.Allowed.{MayChange};
+ghost use Rattle.verdict.specs.Bounded.{MayAffect};
 ghost use Rattle.verdict.specs.Confined.{IsConfined};
 ghost use Rattle.verdict.specs.Invariant.{IsSound};
 ghost use Rattle.verdict.specs.OfTable.{IsOfTable};
 ghost use Rattle.verdict.specs.Shrinks.{IsSame};
 
 /// A law: where a thread makes objects of untyped memory, the machine stays within a closed policy, each
-/// object has a label, and no object changes or is made but within the authority of the thread's label.
+/// object has a label, and no object changes or is made but within the bounds of the thread's label.
 pub fn what_is_made_stays_within_authority()
     ensures confined { (t : Layout) (allowed : EdgeTest) (a : ℕ) (m next : Machine) (caller : Id) (untyped : ℕ) (of : MemoryKind)
         (bits to offset count : ℕ) (made : Made)
@@ -37,5 +37,5 @@ pub fn what_is_made_stays_within_authority()
         → IsClosed allowed
         → label_of t m caller ≡ Some a
         → retype_of m caller untyped of bits to offset count ≡ Ok (made, next)
-        → (id : Id) → IsSame m next id ⊎ MayChange t allowed a m next id }
+        → (id : Id) → IsSame m next id ⊎ MayAffect t allowed a m next id }
 {}

@@ -13,9 +13,9 @@ ghost use Rattle.machine.specs.Step.Delete.{delete_of};
 ghost use Rattle.machine.specs.Step.Revoke.{revoke_of};
 ghost use Rattle.machine.specs.WellFormed.{IsWellFormed};
 ghost use Rattle.policy.specs.Closed.{IsClosed};
-ghost use Rattle.policy.specs.Cut.{IsCut};
 ghost use Rattle.policy.specs.Domain.{EdgeTest};
-ghost use Rattle.verdict.specs.Allowed.{MayChange};
+ghost use Rattle.policy.specs.Take.{MayRemoveNear};
+ghost use Rattle.verdict.specs.Bounded.{MayAffect};
 ghost use Rattle.verdict.specs.Confined.{IsConfined};
 ghost use Rattle.verdict.specs.Invariant.{IsSound};
 ghost use Rattle.verdict.specs.OfTable.{IsOfTable};
@@ -41,18 +41,18 @@ pub fn what_a_removal_changes_shrinks()
 {}
 
 /// A law: where a label may remove the chosen slots' capabilities, each object is as it was, or is of a
-/// label that the label may cut.
-pub fn a_removal_changes_what_may_be_cut()
+/// label from which the label may take by a removal.
+pub fn a_removal_changes_what_may_be_taken()
     ensures { (t : Layout) (allowed : EdgeTest) (a : ℕ) (m : Machine) (chosen : Slot → Bool)
         → IsSound t allowed m
         → IsClosed allowed
         → MayRemove t allowed a m chosen
         → (id : Id)
-        → IsSame m (removed m chosen) id ⊎ ((label : ℕ) × (label_of t m id ≡ Some label) × IsCut allowed a label) }
+        → IsSame m (removed m chosen) id ⊎ ((label : ℕ) × (label_of t m id ≡ Some label) × MayRemoveNear allowed a label) }
 {}
 
 /// A law: where a label may remove the chosen slots' capabilities, the machine stays sound, and no
-/// object changes but within the authority of the label. Nothing comes to be, and contexts keep their
+/// object changes but within the bounds of the label. Nothing comes to be, and contexts keep their
 /// cores, budgets and periods.
 pub fn removals_stay_within_authority()
     ensures sound { (t : Layout) (allowed : EdgeTest) (m : Machine) (chosen : Slot → Bool)
@@ -63,7 +63,7 @@ pub fn removals_stay_within_authority()
         → IsSound t allowed m
         → IsClosed allowed
         → MayRemove t allowed a m chosen
-        → (id : Id) → IsSame m (removed m chosen) id ⊎ MayChange t allowed a m (removed m chosen) id }
+        → (id : Id) → IsSame m (removed m chosen) id ⊎ MayAffect t allowed a m (removed m chosen) id }
     ensures absent { (m : Machine) (chosen : Slot → Bool) (id : Id)
         → object_of m id ≡ None
         → object_of (removed m chosen) id ≡ None }
@@ -74,18 +74,18 @@ pub fn removals_stay_within_authority()
 {}
 
 /// A law: a delete and a revoke that are made keep the machine sound, and change no object but within the
-/// authority of the caller's label.
+/// bounds of the caller's label.
 pub fn deletes_and_revokes_stay_within_authority()
     ensures delete { (t : Layout) (allowed : EdgeTest) (a : ℕ) (m next : Machine) (caller : Id) (address : Place) (made : Made)
         → IsSound t allowed m
         → IsClosed allowed
         → label_of t m caller ≡ Some a
         → delete_of m caller address ≡ Ok (made, next)
-        → IsSound t allowed next × ((id : Id) → IsSame m next id ⊎ MayChange t allowed a m next id) }
+        → IsSound t allowed next × ((id : Id) → IsSame m next id ⊎ MayAffect t allowed a m next id) }
     ensures revoke { (t : Layout) (allowed : EdgeTest) (a : ℕ) (m next : Machine) (caller : Id) (address : Place) (made : Made)
         → IsSound t allowed m
         → IsClosed allowed
         → label_of t m caller ≡ Some a
         → revoke_of m caller address ≡ Ok (made, next)
-        → IsSound t allowed next × ((id : Id) → IsSame m next id ⊎ MayChange t allowed a m next id) }
+        → IsSound t allowed next × ((id : Id) → IsSame m next id ⊎ MayAffect t allowed a m next id) }
 {}
