@@ -1,3 +1,4 @@
 pub mod Devices
 pub mod Watched
+pub mod Bounded
 pub mod Opened

@@ -1,4 +1,4 @@
-use crate::{ReadError, Sink, Source, Watched, open_result};
+use crate::{Bounded, ReadError, Sink, Source, Watched, open_result};
 use std::io::{self, ErrorKind, Read, Write};
 
 const TEXT: &[u8] = b"confine-script 1\nend\n";
@@ -124,4 +124,41 @@ fn reads_what_was_opened(rt: HostRuntime) {
     }
     let mut none = open_result::<&[u8]>(Err(io::Error::from(ErrorKind::NotFound)));
     assert!(rt; matches!(none.read_whole(rt.alloc()), Err(ReadError::Failed)));
+}
+
+/// Gives as many bytes as it is asked for, and never ends.
+#[derive(Drop)]
+struct Endless;
+
+impl Read for Endless {
+    fn read(&mut self, buf: &mut [u8]) -> io::Result<usize> {
+        buf.fill(0);
+        Ok(buf.len())
+    }
+}
+
+#[test]
+fn reads_no_more_than_the_limit(rt: HostRuntime) {
+    for limit in 0..TEXT.len() as u64 + 2 {
+        let drip = Drip {
+            given: 0,
+            good: usize::MAX,
+            failure: ErrorKind::Other,
+            is_interrupted: false,
+        };
+        let mut source = Watched::new(Bounded::new(drip, limit));
+        match source.read_whole(rt.alloc()) {
+            Ok(bytes) => assert!(rt; limit >= TEXT.len() as u64 && bytes.as_slice() == TEXT),
+            Err(error) => {
+                assert!(rt; limit < TEXT.len() as u64, "of {limit}");
+                assert_eq!(rt; error, ReadError::Failed);
+            }
+        }
+    }
+}
+
+#[test]
+fn reads_what_never_ends_no_further(rt: HostRuntime) {
+    let mut source = Watched::new(Bounded::new(Endless, 100_000));
+    assert!(rt; matches!(source.read_whole(rt.alloc()), Err(ReadError::Failed)));
 }

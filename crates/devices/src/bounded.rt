@@ -1,0 +1,52 @@
+ghost use Rattle.std.specs.Prelude.{◌≡◌, IsErr, IfNone, IfOk, IfSome, OnErr};
+ghost use Rattle.std.specs.Io.{ReadsAtMost};
+ghost use Rattle.std.specs.Io.KnownBytes.{ReadConsumes};
+
+use std::io::{self, ErrorKind, Read};
+
+/// A reader of which so many bytes can be read. Once more were read it fails, as a device does: so of one that has more, or that
+/// never ends, nobody takes a beginning for the whole.
+#[derive(Drop)]
+pub struct Bounded<R> {
+    reader: R,
+    left: Option<u64>,
+}
+
+impl<R> Bounded<R> {
+    ghost use Rattle.devices.specs.Bounded.{bounded};
+
+    /// A reader of which `limit` bytes can be read.
+    pub fn new(reader: R, limit: u64) -> Bounded<R>
+        ensures { result ≡ bounded reader limit }
+    {
+        Bounded {
+            reader,
+            left: Some(limit),
+        }
+    }
+}
+
+impl<R: Read> Read for Bounded<R> {
+    ghost use Rattle.devices.specs.Bounded.{allowed_after, bytes_allowed, bytes_there};
+
+    ghost remaining = { bytes_there R.remaining };
+
+    fn read(&mut self, buf: &mut [u8]) -> io::Result<usize>
+        ensures bound { ReadsAtMost result buf.new }
+        ensures bytes { ReadConsumes (bytes_there R.remaining self.old) (bytes_there R.remaining self.new) result buf.new }
+        ensures counted { IfSome (bytes_allowed self.old) (λ left. IfOk result (λ n. bytes_allowed self.new ≡ allowed_after left n)) }
+        ensures unread { OnErr result (bytes_allowed self.new ≡ bytes_allowed self.old) }
+        ensures past { IfNone (bytes_allowed self.old) (IsErr result) }
+    {
+        match self.left {
+            None => Err(io::Error::from(ErrorKind::FileTooLarge)),
+            Some(left) => match self.reader.read(buf) {
+                Ok(count) => {
+                    self.left = left.checked_sub(count as u64);
+                    Ok(count)
+                }
+                Err(error) => Err(error),
+            },
+        }
+    }
+}
