@@ -1,11 +1,14 @@
 use crate::request::{Invocation, Request};
+use base::Refusal;
 use captext::{read_table, write_table};
-use explain::{Text, explain_closing, explain_denial, explain_fault, explain_outside};
+use explain::{explain_closing, explain_closing_command, explain_denial, explain_outside};
 use policy::Policy;
 use report::{End, Fault, File, Finding, Listener};
+use slips::{Text, explain_fault, explain_roots};
 use std::alloc::{AllocError, Global};
 use std::thread::Threads;
 use table::Table;
+use verdict::Denial;
 
 /// Tells a person on standard error what a command finds, if that was asked for. That standard error can't
 /// be written to, or that memory is refused to a sentence, changes nothing.
@@ -49,10 +52,13 @@ impl<'a, R: AllocGlobal + Eprint> Explainer<'a, R> {
 }
 
 impl<R: AllocGlobal + Eprint> Listener for Explainer<'_, R> {
-    fn hear_fault(&mut self, file: File, text: &[u8], fault: Fault) {
+    fn hear_fault(&mut self, file: File, text: &[u8], table: Option<&Table>, fault: Fault) {
         if self.invocation.explains {
             let name = self.invocation.request.name_of(file);
-            self.tell(explain_fault(self.rt.alloc(), text_of(file), name, text, fault));
+            let kind = text_of(file);
+            if let Ok(sentence) = fault_told(self.rt.alloc(), kind, name, text, table, fault) {
+                self.tell(Ok(sentence));
+            }
         }
     }
 
@@ -62,7 +68,9 @@ impl<R: AllocGlobal + Eprint> Listener for Explainer<'_, R> {
         }
         let alloc = self.rt.alloc();
         match (finding, self.invocation.request) {
-            (Some(Finding::Denied(denial)), _) => self.tell(explain_denial(alloc, table, denial)),
+            (Some(Finding::Denied(denial)), request) => {
+                self.tell(denial_told(alloc, table, denial, request));
+            }
             (Some(Finding::Outside(denial)), _) => self.tell(explain_outside(alloc, table, denial)),
             (Some(Finding::Illegal(entry)), request) => {
                 // The header is a line too.
@@ -72,9 +80,52 @@ impl<R: AllocGlobal + Eprint> Listener for Explainer<'_, R> {
                     "{name}:{line}: entry {entry} is no step of the system, which answers otherwise there: compare the log that `confine run` prints"
                 ));
             }
+            (None, Request::Check { .. }) => {
+                if let Ok(notes) = roots_told(alloc, table) {
+                    let _ = self.rt.eprint(notes);
+                }
+            }
             (None, Request::Close { .. }) => self.closed = copies(alloc, table, policy),
             (None, _) => {}
         }
+    }
+}
+
+/// The notes on roots that leave bits of an address unread.
+fn roots_told(alloc: Global, table: &Table) -> Result<String, Refusal> {
+    let text = write_table(alloc, table)?;
+    Ok(explain_roots(alloc, &text)?)
+}
+
+/// The sentence on a denial, and the command that mends it.
+fn denial_told(
+    alloc: Global,
+    table: &Table,
+    denial: &Denial,
+    request: Request<'_>,
+) -> Result<String, AllocError> {
+    let mut sentence = explain_denial(alloc, table, denial)?;
+    let (table, policy) = (request.name_of(File::Table), request.name_of(File::Policy));
+    let command = explain_closing_command(alloc, denial, table, policy)?;
+    sentence.push_str(&command)?;
+    Ok(sentence)
+}
+
+/// The sentence on a fault, by the text of the table.
+fn fault_told(
+    alloc: Global,
+    kind: Text,
+    name: &str,
+    text: &[u8],
+    table: Option<&Table>,
+    fault: Fault,
+) -> Result<String, Refusal> {
+    match table {
+        Some(table) => {
+            let declared = write_table(alloc, table)?;
+            Ok(explain_fault(alloc, kind, name, text, &declared, fault)?)
+        }
+        None => Ok(explain_fault(alloc, kind, name, text, b"", fault)?),
     }
 }
 

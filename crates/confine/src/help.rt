@@ -240,7 +240,8 @@ By rule A1 each capability keeps to the policy. With `--explain` standard error 
 which doesn't, and what may be done:
 
 denied by A1: slot 0 of `space` lets `a` await what is labelled `b`, and the policy has no such
-edge: add `edge a await b`, or give the capability fewer rights
+edge: add `edge a await b`, or give the capability fewer rights; `confine close table policy` writes
+the line in its place
 
 The edge belongs after the edge `notify`:
 

@@ -3,6 +3,7 @@ use crate::sentences::{EdgeLine, OtherWay, PlaceNames, Reason};
 use base::Edge;
 use policy::Broken;
 use std::alloc::{AllocError, Global};
+use std::fmt;
 use table::Table;
 use verdict::Denial;
 
@@ -60,6 +61,41 @@ pub fn explain_denial(alloc: Global, table: &Table, denial: &Denial) -> Result<S
             )
         }
         Asked::Nothing => format!(in alloc; "denied by {rule}: {reason}: {other}"),
+    }
+}
+
+/// The command that writes the line that a denial asks for in its place, after [`explain_denial`]'s sentence: of the files
+/// by these names. No line mends a certificate, and nothing is said.
+pub fn explain_closing_command(
+    alloc: Global,
+    denial: &Denial,
+    table: &str,
+    policy: &str,
+) -> Result<String, AllocError> {
+    match *denial {
+        Denial::Certificate { .. } => Ok(String::new(alloc)),
+        _ => {
+            let (table, policy) = (Pasted(table), Pasted(policy));
+            format!(in alloc; "; `confine close {table} {policy}` writes the line in its place")
+        }
+    }
+}
+
+/// A name of a file as a shell takes it: in quotes, where it has other characters than names mostly have.
+#[derive(Clone, Copy)]
+struct Pasted<'a>(&'a str);
+
+impl fmt::Display for Pasted<'_> {
+    fn fmt<W: fmt::Write>(&self, f: &mut fmt::Formatter<W>) -> fmt::Result {
+        let name = self.0;
+        let is_plain = name.as_bytes().iter().all(|byte| {
+            matches!(*byte, b'a'..=b'z' | b'A'..=b'Z' | b'0'..=b'9' | b'.' | b'_' | b'/' | b'-')
+        });
+        if is_plain {
+            f.write_str(name)
+        } else {
+            write!(f, "'{name}'")
+        }
     }
 }
 

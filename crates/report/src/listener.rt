@@ -17,8 +17,9 @@ pub enum Finding {
 
 /// Hears what a command finds, to tell a person of it. What is answered doesn't depend on it.
 pub trait Listener {
-    /// The text of a file has this fault. It isn't told of a fault that is want of memory.
-    fn hear_fault(&mut self, file: File, text: &[u8], fault: Fault);
+    /// The text of a file has this fault; `table` is what it was read by, if the table is another file.
+    /// It isn't told of a fault that is want of memory.
+    fn hear_fault(&mut self, file: File, text: &[u8], table: Option<&Table>, fault: Fault);
 
     /// The files were judged: what is found wrong, if anything is.
     fn hear_answer(&mut self, table: &Table, policy: &Policy, finding: Option<&Finding>);
@@ -29,7 +30,7 @@ pub trait Listener {
 pub struct Silence;
 
 impl Listener for Silence {
-    fn hear_fault(&mut self, _file: File, _text: &[u8], _fault: Fault) {}
+    fn hear_fault(&mut self, _file: File, _text: &[u8], _table: Option<&Table>, _fault: Fault) {}
 
     fn hear_answer(&mut self, _table: &Table, _policy: &Policy, _finding: Option<&Finding>) {}
 }

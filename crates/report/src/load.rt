@@ -59,14 +59,20 @@ fn read_file<S: Source>(alloc: Global, file: File, source: &mut S) -> Result<Vec
 }
 
 /// A text's fault, of which the listener hears, or the want of memory that stands in its place.
-fn stopped<L: Listener>(file: File, text: &[u8], fault: Fault, listener: &mut L) -> Stop
+fn stopped<L: Listener>(
+    file: File,
+    text: &[u8],
+    table: Option<&Table>,
+    fault: Fault,
+    listener: &mut L,
+) -> Stop
     ensures memory { fault ≡ no_memory → result ≡ Stop.NoMemory }
     ensures faulty { fault ≢ no_memory → result ≡ Stop.Faulty file fault }
 {
     if fault == Fault::MEMORY {
         Stop::NoMemory
     } else {
-        listener.hear_fault(file, text, fault);
+        listener.hear_fault(file, text, table, fault);
         Stop::Faulty(file, fault)
     }
 }
@@ -86,7 +92,7 @@ fn load_table<S: Source, L: Listener>(
     let bytes = read_file(alloc, File::Table, source)?;
     match read_table(alloc, &bytes) {
         Ok(table) => Ok(table),
-        Err(fault) => Err(stopped(File::Table, &bytes, fault, listener)),
+        Err(fault) => Err(stopped(File::Table, &bytes, None, fault, listener)),
     }
 }
 
@@ -106,7 +112,7 @@ fn load_policy<S: Source, L: Listener>(
     let bytes = read_file(alloc, File::Policy, source)?;
     match read_policy(alloc, &bytes, table) {
         Ok(policy) => Ok(policy),
-        Err(fault) => Err(stopped(File::Policy, &bytes, fault, listener)),
+        Err(fault) => Err(stopped(File::Policy, &bytes, Some(table), fault, listener)),
     }
 }
 
@@ -126,7 +132,7 @@ fn load_third<C: Command, S: Source, L: Listener>(
     let bytes = read_file(alloc, C::third_file(), source)?;
     match C::read_third(alloc, table, &bytes) {
         Ok(third) => Ok(third),
-        Err(fault) => Err(stopped(C::third_file(), &bytes, fault, listener)),
+        Err(fault) => Err(stopped(C::third_file(), &bytes, Some(table), fault, listener)),
     }
 }
 

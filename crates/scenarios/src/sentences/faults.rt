@@ -1,6 +1,6 @@
-use super::table;
+use super::{TABLE, table};
 use captext::{Fault, read_policy, read_table};
-use explain::{Text, explain_fault};
+use slips::{Text, explain_fault};
 use std::alloc::Global;
 use std::process::Abort;
 use std::test::Fail;
@@ -22,7 +22,7 @@ const TABLES: [Row; 17] = [
             number: 50,
             line: 1,
         },
-        told: "t:1: the line is missing: expected `confine-table 1` and a line feed",
+        told: "t:1: the line is missing: a table begins with `confine-table 1`",
     },
     Row {
         text: "confine-table 2\n",
@@ -30,7 +30,7 @@ const TABLES: [Row; 17] = [
             number: 50,
             line: 1,
         },
-        told: "t:1: `confine-table 2`: expected `confine-table 1` and a line feed",
+        told: "t:1: `confine-table 2`: a table begins with `confine-table 1`",
     },
     Row {
         text: "confine-table 1\nlabel App\n",
@@ -38,7 +38,7 @@ const TABLES: [Row; 17] = [
             number: 50,
             line: 2,
         },
-        told: "t:2: `label App`: expected `label NAME`, above the lines of objects",
+        told: "t:2: `label App`: names are written in small letters",
     },
     Row {
         text: "confine-table 1\nlabel a",
@@ -46,7 +46,7 @@ const TABLES: [Row; 17] = [
             number: 50,
             line: 2,
         },
-        told: "t:2: `label a`: expected a line feed at its end",
+        told: "t:2: `label a`: a line feed is missing at its end",
     },
     Row {
         text: "confine-table 1\nlabel aaaaaaaaaaaaaaaaaaaaaaaaaaaaaaaaaaaaaaaaaaaaaaaaaaaaaaaaaaaaaaaaaaaaaaaaaaaaaaaaaaaaaaaaaaaaaaaaaaaaaaaaaaaaaaaaaaaaaaaaaaaa\n",
@@ -54,7 +54,7 @@ const TABLES: [Row; 17] = [
             number: 50,
             line: 2,
         },
-        told: "t:2: `label aaaaaaaaaaaaaaaaaaaaaaaaaaaaaaaaaaaaaaaaaaaaaaaaaaaaaaaaaaaaaaaaaaaaaaaaaaaaaaaaaaaaaaaaaaaaaaaaaaaaaaaaaaaaaaaaaa..`: expected `label NAME`, above the lines of objects",
+        told: "t:2: `label aaaaaaaaaaaaaaaaaaaaaaaaaaaaaaaaaaaaaaaaaaaaaaaaaaaaaaaaaaaaaaaaaaaaaaaaaaaaaaaaaaaaaaaaaaaaaaaaaaaaaaaaaaaaaaaaaa..`: the name has 124 characters, more than 31",
     },
     Row {
         text: "confine-table 1\nend\nend\n",
@@ -62,7 +62,7 @@ const TABLES: [Row; 17] = [
             number: 50,
             line: 3,
         },
-        told: "t:3: `end`: expected nothing after the line `end`",
+        told: "t:3: `end`: nothing stands after the line `end`",
     },
     Row {
         text: "confine-table 1\nlabel a\n",
@@ -70,7 +70,7 @@ const TABLES: [Row; 17] = [
             number: 50,
             line: 3,
         },
-        told: "t:3: the line is missing: expected a line that begins with `label`, `untyped`, `cnode`, `tcb`, `endpoint`, `notification`, `reply`, `frame`, `context`, `control`, `cap`, `child`, `bind`, or `end`",
+        told: "t:3: the line is missing: the text ends without the line `end`",
     },
     Row {
         text: "confine-table 1\nlabel a\ncnode c a 0x1000 1\ncap c.0 c 62 0x0\n\tcap\u{e9}\n",
@@ -78,7 +78,7 @@ const TABLES: [Row; 17] = [
             number: 50,
             line: 5,
         },
-        told: "t:5: `\\x09cap\\xc3\\xa9`: expected a line that begins with `cap`, `child`, `bind`, or `end`",
+        told: "t:5: `\\x09cap\\xc3\\xa9`: words are parted by a space, and there are no tabs",
     },
     Row {
         text: "confine-table 1\nlabel a\ntcb t a 0x2000 running\n",
@@ -86,7 +86,7 @@ const TABLES: [Row; 17] = [
             number: 50,
             line: 3,
         },
-        told: "t:3: `tcb t a 0x2000 running`: expected `tcb NAME LABEL HEX ready` or `.. inactive`, below the labels and above the `cap` lines",
+        told: "t:3: `tcb t a 0x2000 running`: `running` is neither `ready` nor `inactive`",
     },
     Row {
         text: "confine-table 1\nlabel a\ntcb t b 0x2000 ready\n",
@@ -94,7 +94,7 @@ const TABLES: [Row; 17] = [
             number: 51,
             line: 3,
         },
-        told: "t:3: `tcb t b 0x2000 ready`: expected the name of a label that stands above",
+        told: "t:3: `tcb t b 0x2000 ready`: no label above is called `b`",
     },
     Row {
         text: "confine-table 1\nlabel a\ncnode c a 0x1000 1\ncap c.0 d\n",
@@ -102,7 +102,7 @@ const TABLES: [Row; 17] = [
             number: 51,
             line: 4,
         },
-        told: "t:4: `cap c.0 d`: expected names of objects that stand above",
+        told: "t:4: `cap c.0 d`: no object above is called `d`",
     },
     Row {
         text: "confine-table 1\nlabel a\nlabel a\n",
@@ -110,7 +110,7 @@ const TABLES: [Row; 17] = [
             number: 52,
             line: 3,
         },
-        told: "t:3: `label a`: expected a name that no label above has",
+        told: "t:3: `label a`: a label is called `a` already, in line 2",
     },
     Row {
         text: "confine-table 1\nlabel a\ncontrol k a 0\ncontrol j a 0\n",
@@ -118,7 +118,7 @@ const TABLES: [Row; 17] = [
             number: 52,
             line: 4,
         },
-        told: "t:4: `control j a 0`: expected a name that no object above has, and a core that no control above has",
+        told: "t:4: `control j a 0`: core 0 has a control already, in line 3",
     },
     Row {
         text: "confine-table 1\nlabel a\ntcb t a 0x2200 ready\n",
@@ -126,7 +126,7 @@ const TABLES: [Row; 17] = [
             number: 53,
             line: 3,
         },
-        told: "t:3: `tcb t a 0x2200 ready`: expected an address that is a multiple of 0x400, of memory that no object above has",
+        told: "t:3: `tcb t a 0x2200 ready`: the address 0x2200 is no multiple of the size, 0x400",
     },
     Row {
         text: "confine-table 1\nlabel a\ncnode c a 0x1000 13\n",
@@ -134,7 +134,7 @@ const TABLES: [Row; 17] = [
             number: 54,
             line: 3,
         },
-        told: "t:3: `cnode c a 0x1000 13`: expected a radix of 1 to 12, an end at 2^48 at most, and at most 4,096 objects and 65,536 slots",
+        told: "t:3: `cnode c a 0x1000 13`: the radix is 13, more than 12",
     },
     Row {
         text: "confine-table 1\nlabel a\ntcb t a 0x2000 ready\nbind t t\n",
@@ -142,7 +142,7 @@ const TABLES: [Row; 17] = [
             number: 55,
             line: 4,
         },
-        told: "t:4: `bind t t`: expected a thread, and then a context",
+        told: "t:4: `bind t t`: `t` is a thread, and no context",
     },
     Row {
         text: "confine-table 1\nlabel a\ncnode c a 0x1000 1\nchild c.0 c.1\nend\n",
@@ -150,7 +150,7 @@ const TABLES: [Row; 17] = [
             number: 56,
             line: 4,
         },
-        told: "t:4: `child c.0 c.1`: expected two filled slots with capabilities for one object, which isn't untyped memory; the parent original, with badge 0 or the child's badge; and no right of the child that the parent lacks",
+        told: "t:4: `child c.0 c.1`: the slot `c.0` is empty",
     },
 ];
 
@@ -162,7 +162,7 @@ const POLICIES: [Row; 5] = [
             number: 50,
             line: 1,
         },
-        told: "p:1: `confine-table 1`: expected `confine-policy 1` and a line feed",
+        told: "p:1: `confine-table 1`: this is the header of a table, in place of a policy's",
     },
     Row {
         text: "confine-policy 1\nedge app signal bell\n",
@@ -170,7 +170,7 @@ const POLICIES: [Row; 5] = [
             number: 50,
             line: 2,
         },
-        told: "p:2: `edge app signal bell`: expected `edge LABEL KIND LABEL`, after the edges above: by first label, then kind, then second label, all by number",
+        told: "p:2: `edge app signal bell`: `signal` is no kind of authority: the kinds are control, reset, send, receive, grant, call, notify, await, read, write, reply, context, schedcontrol, space, derive, runs, holds",
     },
     Row {
         text: "confine-policy 1\nlabel bell\n",
@@ -178,7 +178,7 @@ const POLICIES: [Row; 5] = [
             number: 50,
             line: 2,
         },
-        told: "p:2: `label bell`: expected `edge LABEL KIND LABEL`, or `end`",
+        told: "p:2: `label bell`: no line of a policy begins with `label`: here stands one of `edge`, or `end`",
     },
     Row {
         text: "confine-policy 1\nedge app reset ring\n",
@@ -186,7 +186,7 @@ const POLICIES: [Row; 5] = [
             number: 51,
             line: 2,
         },
-        told: "p:2: `edge app reset ring`: expected names of labels of the table",
+        told: "p:2: `edge app reset ring`: `ring` is an object, of line 6 of the table, and a label stands here",
     },
     Row {
         text: "confine-policy 1\nend",
@@ -194,7 +194,7 @@ const POLICIES: [Row; 5] = [
             number: 50,
             line: 2,
         },
-        told: "p:2: `end`: expected a line feed at its end",
+        told: "p:2: `end`: a line feed is missing at its end",
     },
 ];
 
@@ -206,7 +206,7 @@ const CERTIFICATES: [Row; 8] = [
             number: 50,
             line: 1,
         },
-        told: "f:1: `confine-certificate 1`: expected `confine-cert 1` and a line feed",
+        told: "f:1: `confine-certificate 1`: a certificate begins with `confine-cert 1`",
     },
     Row {
         text: "confine-cert 1\ncap space.0 app - bell\n",
@@ -214,7 +214,7 @@ const CERTIFICATES: [Row; 8] = [
             number: 50,
             line: 2,
         },
-        told: "f:2: `cap space.0 app - bell`: expected `cap SLOT LABEL KINDS LABEL`, its KINDS rising by number with commas between them",
+        told: "f:2: `cap space.0 app - bell`: `-` is no kind of authority: the kinds are control, reset, send, receive, grant, call, notify, await, read, write, reply, context, schedcontrol, space, derive, runs, holds",
     },
     Row {
         text: "confine-cert 1\nspace main app\n",
@@ -222,7 +222,7 @@ const CERTIFICATES: [Row; 8] = [
             number: 50,
             line: 2,
         },
-        told: "f:2: `space main app`: expected `space SLOT LABEL LABEL`",
+        told: "f:2: `space main app`: `main` is no slot: a dot and an index, or `.root`, follow the name",
     },
     Row {
         text: "confine-cert 1\ncap space.0 app reset ring\n",
@@ -230,7 +230,7 @@ const CERTIFICATES: [Row; 8] = [
             number: 51,
             line: 2,
         },
-        told: "f:2: `cap space.0 app reset ring`: expected names of objects and labels of the table",
+        told: "f:2: `cap space.0 app reset ring`: `ring` is an object, of line 6 of the table, and a label stands here",
     },
     Row {
         text: "confine-cert 1\ncap space.4 app reset bell\n",
@@ -238,7 +238,7 @@ const CERTIFICATES: [Row; 8] = [
             number: 54,
             line: 2,
         },
-        told: "f:2: `cap space.4 app reset bell`: expected an index below 2^radix of the CNode",
+        told: "f:2: `cap space.4 app reset bell`: the index 4 isn't below 4, the number of slots of `space`",
     },
     Row {
         text: "confine-cert 1\ncap main.root app space app\n",
@@ -246,7 +246,7 @@ const CERTIFICATES: [Row; 8] = [
             number: 55,
             line: 2,
         },
-        told: "f:2: `cap main.root app space app`: expected a slot `CNODE.DEC`",
+        told: "f:2: `cap main.root app space app`: a `cap` line has a CNode's slot, and `main.root` is a thread's root",
     },
     Row {
         text: "confine-cert 1\nspace space.0 app app\n",
@@ -254,7 +254,7 @@ const CERTIFICATES: [Row; 8] = [
             number: 55,
             line: 2,
         },
-        told: "f:2: `space space.0 app app`: expected a slot `THREAD.root`",
+        told: "f:2: `space space.0 app app`: a `space` line has a thread's root, and `space.0` is a CNode's slot",
     },
     Row {
         text: "confine-cert 1\nruns share main app bell\n",
@@ -262,7 +262,7 @@ const CERTIFICATES: [Row; 8] = [
             number: 55,
             line: 2,
         },
-        told: "f:2: `runs share main app bell`: expected a thread, and then a context",
+        told: "f:2: `runs share main app bell`: `share` is a context, and no thread",
     },
 ];
 
@@ -274,7 +274,7 @@ const SCRIPTS: [Row; 5] = [
             number: 50,
             line: 2,
         },
-        told: "f:2: `0 1 send 0 1 2 3 4`: expected `DEC DEC send DEC DEC DEC DEC DEC`, then DEC or `-`",
+        told: "f:2: `0 1 send 0 1 2 3 4`: a decimal number or `-` is missing: expected `DEC DEC send DEC DEC DEC DEC DEC`, then DEC or `-`",
     },
     Row {
         text: "confine-script 1\n0 main signal 0\n",
@@ -282,7 +282,7 @@ const SCRIPTS: [Row; 5] = [
             number: 50,
             line: 2,
         },
-        told: "f:2: `0 main signal 0`: expected `DEC DEC signal DEC`",
+        told: "f:2: `0 main signal 0`: `main` is no decimal number",
     },
     Row {
         text: "confine-script 1\n0 1 yield 0\n",
@@ -290,7 +290,7 @@ const SCRIPTS: [Row; 5] = [
             number: 50,
             line: 2,
         },
-        told: "f:2: `0 1 yield 0`: expected `DEC DEC CALL ..`, or `end`; CALL is one of signal, poll, wait, send, call, recv, reply, fetch, copy, mint, move, delete, revoke, retype, read, write, setspace, clearspace, suspend, resume, configure, bind, unbind",
+        told: "f:2: `0 1 yield 0`: `yield` is no call: calls are signal, poll, wait, send, call, recv, reply, fetch, copy, mint, move, delete, revoke, retype, read, write, setspace, clearspace, suspend, resume, configure, bind, unbind",
     },
     Row {
         text: "confine-script 1\n0 1 retype 0 control 0 0 0 1\n",
@@ -298,7 +298,7 @@ const SCRIPTS: [Row; 5] = [
             number: 50,
             line: 2,
         },
-        told: "f:2: `0 1 retype 0 control 0 0 0 1`: expected `DEC DEC retype DEC KIND DEC DEC DEC DEC`, its KIND one of objects but `control`",
+        told: "f:2: `0 1 retype 0 control 0 0 0 1`: `control` is no kind of object that is made: the kinds are untyped, cnode, tcb, endpoint, notification, reply, context, frame",
     },
     Row {
         text: "confine-script 1\n16 1 wait 0\n",
@@ -306,7 +306,7 @@ const SCRIPTS: [Row; 5] = [
             number: 54,
             line: 2,
         },
-        told: "f:2: `16 1 wait 0`: expected a core of 0 to 15, and at most 1,000,000 events",
+        told: "f:2: `16 1 wait 0`: the core is 16, more than 15",
     },
 ];
 
@@ -318,7 +318,8 @@ fn are_told<R: Abort + AllocGlobal>(
     rows: &[Row],
 ) -> Result<(), Fail> {
     for row in rows {
-        let told = explain_fault(rt.alloc(), kind, name, row.text.as_bytes(), row.fault)?;
+        let (text, table) = (row.text.as_bytes(), TABLE.as_bytes());
+        let told = explain_fault(rt.alloc(), kind, name, text, table, row.fault)?;
         assert_eq!(rt; told.as_str(), row.told);
     }
     Ok(())
@@ -361,7 +362,7 @@ fn tells_what_a_policy_should_have(rt: HostRuntime) -> Result<(), Fail> {
 fn tells_what_other_texts_should_have(rt: HostRuntime) -> Result<(), Fail> {
     are_told(&rt, Text::Certificate, "f", &CERTIFICATES)?;
     are_told(&rt, Text::Script, "f", &SCRIPTS)?;
-    let told = explain_fault(rt.alloc(), Text::Table, "t", b"", Fault::MEMORY)?;
+    let told = explain_fault(rt.alloc(), Text::Table, "t", b"", b"", Fault::MEMORY)?;
     assert_eq!(rt; told.as_str(), "t: no memory");
     Ok(())
 }

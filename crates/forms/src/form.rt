@@ -1,9 +1,76 @@
-//! The forms of lines, and what each kind of fault says was expected of a line.
-use crate::Text;
+//! The texts, and the forms of their lines.
+use crate::lines::{has_word, part, word};
+
+/// A text that is read.
+#[derive(Clone, Copy, PartialEq, Eq, Debug)]
+pub enum Text {
+    Table,
+    Policy,
+    Certificate,
+    Script,
+    Log,
+}
+
+impl Text {
+    /// All of them.
+    pub const ALL: [Text; 5] = [
+        Text::Table,
+        Text::Policy,
+        Text::Certificate,
+        Text::Script,
+        Text::Log,
+    ];
+
+    /// Its first line.
+    pub fn header(self) -> &'static str {
+        match self {
+            Text::Table => "confine-table 1",
+            Text::Policy => "confine-policy 1",
+            Text::Certificate => "confine-cert 1",
+            Text::Script => "confine-script 1",
+            Text::Log => "confine-log 1",
+        }
+    }
+
+    /// What it is called.
+    pub fn name(self) -> &'static str {
+        match self {
+            Text::Table => "table",
+            Text::Policy => "policy",
+            Text::Certificate => "certificate",
+            Text::Script => "script",
+            Text::Log => "log",
+        }
+    }
+
+    /// How many words of a line stand before the one by which its form is known.
+    pub fn words_before(self) -> u64 {
+        match self {
+            Text::Script | Text::Log => 2,
+            _ => 0,
+        }
+    }
+
+    /// Whether its lines have a form, which a log's share with a script's.
+    pub fn has(self, form: Form) -> bool {
+        form.text() == self || (self == Text::Log && form.text() == Text::Script)
+    }
+}
+
+/// The form by whose word a line of the text is known.
+pub fn form_of(kind: Text, line: &str) -> Option<Form> {
+    let word = word(line, kind.words_before())?;
+    for form in Form::ALL {
+        if kind.has(form) && form.word() == word {
+            return Some(form);
+        }
+    }
+    None
+}
 
 /// A form of the lines of a text.
 #[derive(Clone, Copy, PartialEq, Eq, Debug)]
-pub(crate) enum Form {
+pub enum Form {
     Label,
     Untyped,
     CNode,
@@ -49,7 +116,7 @@ pub(crate) enum Form {
 
 impl Form {
     /// All forms, those of a text in the order in which its lines may come.
-    pub(crate) const ALL: [Form; 41] = [
+    pub const ALL: [Form; 41] = [
         Form::Label,
         Form::Untyped,
         Form::CNode,
@@ -94,7 +161,7 @@ impl Form {
     ];
 
     /// The text that has such lines.
-    pub(crate) fn text(self) -> Text {
+    pub fn text(self) -> Text {
         match self {
             Form::Edge => Text::Policy,
             Form::CertifiedCap
@@ -129,7 +196,7 @@ impl Form {
     }
 
     /// The word by which it is known: the first of a line, and the third of a script's.
-    pub(crate) fn word(self) -> &'static str {
+    pub fn word(self) -> &'static str {
         match self {
             Form::Label => "label",
             Form::Untyped => "untyped",
@@ -174,7 +241,7 @@ impl Form {
     }
 
     /// The words of such a line, in backquotes.
-    pub(crate) fn words(self) -> &'static str {
+    pub fn words(self) -> &'static str {
         match self {
             Form::Label => "`label NAME`",
             Form::Untyped => "`untyped NAME LABEL HEX DEC`",
@@ -225,7 +292,7 @@ impl Form {
     }
 
     /// Which section of its text such lines are of. Sections come one after another.
-    pub(crate) fn section(self) -> u8 {
+    pub fn section(self) -> u8 {
         match self {
             Form::Cap => 2,
             Form::Child => 3,
@@ -243,97 +310,30 @@ impl Form {
         }
     }
 
-    /// Where such a line stands among the others.
-    pub(crate) fn place(self) -> &'static str {
+    /// The words that a line of it is to have, by what [`Wanted::of`](crate::wanted::Wanted::of) reads.
+    pub fn pattern(self, line: &str) -> &'static str {
         match self {
-            Form::Label => ", above the lines of objects",
-            Form::Cap =>
-                ", below the objects and above `child` and `bind`, its slot after those of the `cap` lines above",
-            Form::Child =>
-                ", below the `cap` lines and above `bind`, its second slot after those of the `child` lines above",
-            Form::Bind =>
-                ", at the end of the table, its thread after those of the `bind` lines above",
-            Form::Edge =>
-                ", after the edges above: by first label, then kind, then second label, all by number",
-            Form::CertifiedCap => ", its KINDS rising by number with commas between them",
-            Form::Retype => ", its KIND one of objects but `control`",
-            _ => match self.section() {
-                1 => ", below the labels and above the `cap` lines",
-                _ => "",
+            Form::Tcb => "tcb NAME LABEL HEX START",
+            Form::Context if has_word(line, 4, "-") => "context NAME LABEL HEX -",
+            Form::Context => "context NAME LABEL HEX DEC DEC DEC",
+            Form::Cap => match (word(line, 3), word(line, 4)) {
+                (None, _) => "cap SLOT NAME",
+                (Some(_), None) => "cap SLOT NAME TERM",
+                _ => "cap SLOT NAME TERM TERM",
             },
-        }
-    }
-
-    /// What its names are: 51.
-    pub(crate) fn known(self) -> &'static str {
-        match self {
-            Form::Cap | Form::Child | Form::Bind => "names of objects that stand above",
-            Form::Edge => "names of labels of the table",
-            Form::CertifiedCap
-            | Form::CertifiedSpace
-            | Form::CertifiedDerive
-            | Form::CertifiedRuns => "names of objects and labels of the table",
-            _ => "the name of a label that stands above",
-        }
-    }
-
-    /// What has to be new: 52.
-    pub(crate) fn fresh(self) -> &'static str {
-        match self {
-            Form::Label => "a name that no label above has",
-            Form::Control =>
-                "a name that no object above has, and a core that no control above has",
-            Form::Cap => "untyped memory that no slot above has a capability for",
-            Form::Bind => "a context that no thread above is bound to",
-            _ => "a name that no object above has",
-        }
-    }
-
-    /// Which objects fit: 55.
-    pub(crate) fn fitting(self) -> &'static str {
-        match self {
-            Form::Cap =>
-                "a slot `CNODE.DEC` or `THREAD.root`, a root for a CNode alone; and after the object DEC HEX for a CNode (guard), RIGHTS DEC for an endpoint or a notification (badge), RIGHTS for a frame, else nothing; of a notification or frame rights of `r` and `w` only",
-            Form::Child | Form::CertifiedDerive => "slots `CNODE.DEC` or `THREAD.root`",
-            Form::CertifiedCap => "a slot `CNODE.DEC`",
-            Form::CertifiedSpace => "a slot `THREAD.root`",
-            _ => "a thread, and then a context",
-        }
-    }
-
-    /// Which limits there are: 54.
-    pub(crate) fn limits(self) -> &'static str {
-        match self {
-            Form::Label => "at most 64 labels",
-            Form::Untyped => "4 to 47 bits, an end at 2^48 at most, and at most 4,096 objects",
-            Form::CNode =>
-                "a radix of 1 to 12, an end at 2^48 at most, and at most 4,096 objects and 65,536 slots",
-            Form::Tcb =>
-                "an end at 2^48 at most, and at most 4,096 objects, 1,024 threads and 65,536 slots",
-            Form::Context =>
-                "a core of 0 to 15, 1 <= budget <= period <= 3,600,000,000, an end at 2^48 at most, and at most 4,096 objects",
-            Form::Control => "a core of 0 to 15, and at most 4,096 objects",
-            Form::Cap =>
-                "an index below 2^radix of the CNode; and of a guard, with the radix at most 64 bits, and a value below 2^size",
-            Form::Child | Form::CertifiedCap | Form::CertifiedDerive =>
-                "an index below 2^radix of the CNode",
-            _ => match self.text() {
-                Text::Script => "a core of 0 to 15, and at most 1,000,000 events",
-                _ => "an end at 2^48 at most, and at most 4,096 objects",
+            Form::Send => "DEC DEC send DEC DEC DEC DEC DEC OPTIONAL",
+            Form::Call => "DEC DEC call DEC DEC DEC DEC DEC OPTIONAL",
+            Form::Receive if has_word(line, 5, "-") => "DEC DEC recv DEC OPTIONAL -",
+            Form::Receive => "DEC DEC recv DEC OPTIONAL DEC DEC DEC",
+            Form::Mint if has_word(line, 10, "guard") => {
+                "DEC DEC mint DEC DEC DEC DEC DEC DEC RIGHTS MINTING DEC DEC"
+            }
+            Form::Mint => "DEC DEC mint DEC DEC DEC DEC DEC DEC RIGHTS MINTING DEC",
+            Form::Retype => "DEC DEC retype DEC MATERIAL DEC DEC DEC DEC",
+            form => match part(form.words(), '`', 1) {
+                Some(pattern) => pattern,
+                None => "",
             },
-        }
-    }
-
-    /// Which multiple an object's address is: 53.
-    pub(crate) fn alignment(self) -> &'static str {
-        match self {
-            Form::Untyped => "2^bits",
-            Form::CNode => "2^(radix + 5)",
-            Form::Tcb => "0x400",
-            Form::Endpoint => "0x10",
-            Form::Notification | Form::Reply => "0x20",
-            Form::Context => "0x100",
-            _ => "0x1000",
         }
     }
 }

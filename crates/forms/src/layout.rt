@@ -1,0 +1,127 @@
+//! Whether a line is one of its text at all: 50.
+use crate::form::{Form, Text, form_of};
+use crate::lines::{Line, text_of, word};
+
+/// What is wrong with a line, whatever its words are.
+#[derive(Clone, Copy)]
+pub enum LayoutFlaw<'a> {
+    /// The header of another text.
+    HeaderOf(Text),
+    NoHeader,
+    NoLineFeed,
+    AfterEnd,
+    Blank,
+    Comment,
+    CarriageReturn,
+    Tab,
+    NoAscii,
+    SpaceFirst,
+    SpaceLast,
+    TwoSpaces,
+    Capitals(&'a str),
+    /// A word that begins no line of the text, and what may come after the line before.
+    Unknown(&'a str, Option<Form>),
+    NoCall,
+    NoOutcome,
+    UnknownCall(&'a str),
+    /// A line below one of a later section.
+    Below(Form, Form),
+}
+
+/// What is wrong with the first line.
+pub fn header_flaw(line: &str) -> LayoutFlaw<'_> {
+    for kind in Text::ALL {
+        if kind.header() == line {
+            return LayoutFlaw::HeaderOf(kind);
+        }
+    }
+    LayoutFlaw::NoHeader
+}
+
+/// What is wrong with the bytes of a line after the header, if anything is.
+pub fn bytes_flaw<'a>(line: Line<'a>, before: &str) -> Option<LayoutFlaw<'a>> {
+    if !line.has_line_feed {
+        return Some(LayoutFlaw::NoLineFeed);
+    }
+    if before == "end" {
+        return Some(LayoutFlaw::AfterEnd);
+    }
+    let bytes = line.bytes;
+    if bytes.is_empty() {
+        return Some(LayoutFlaw::Blank);
+    }
+    if bytes.first() == Some(&b'#') || bytes.first() == Some(&b';') || bytes.starts_with(b"//") {
+        return Some(LayoutFlaw::Comment);
+    }
+    if bytes.last() == Some(&b'\r') {
+        return Some(LayoutFlaw::CarriageReturn);
+    }
+    if bytes.iter().any(|byte| *byte == b'\t') {
+        return Some(LayoutFlaw::Tab);
+    }
+    if bytes.iter().any(|byte| !matches!(*byte, b' '..=b'~')) {
+        return Some(LayoutFlaw::NoAscii);
+    }
+    spaces_flaw(bytes)
+}
+
+// Whether words are parted by one space each.
+fn spaces_flaw<'a>(bytes: &[u8]) -> Option<LayoutFlaw<'a>> {
+    if bytes.first() == Some(&b' ') {
+        return Some(LayoutFlaw::SpaceFirst);
+    }
+    if bytes.last() == Some(&b' ') {
+        return Some(LayoutFlaw::SpaceLast);
+    }
+    let mut before = b'-';
+    for byte in bytes {
+        if *byte == b' ' && before == b' ' {
+            return Some(LayoutFlaw::TwoSpaces);
+        }
+        before = *byte;
+    }
+    None
+}
+
+/// What is wrong with a line that has no form.
+pub fn formless_flaw<'a>(kind: Text, line: &'a str, before: &str) -> LayoutFlaw<'a> {
+    let Some(first) = word(line, kind.words_before()) else {
+        return LayoutFlaw::NoCall;
+    };
+    if first
+        .as_bytes()
+        .iter()
+        .any(|byte| matches!(*byte, b'A'..=b'Z'))
+    {
+        return LayoutFlaw::Capitals(first);
+    }
+    match kind {
+        Text::Script | Text::Log => LayoutFlaw::UnknownCall(first),
+        _ => LayoutFlaw::Unknown(first, form_of(kind, before)),
+    }
+}
+
+/// What is wrong with the section in which a line stands, if anything is.
+pub fn section_flaw<'a>(kind: Text, form: Form, before: &str) -> Option<LayoutFlaw<'a>> {
+    let last = form_of(kind, before)?;
+    if form.section() < last.section() {
+        Some(LayoutFlaw::Below(form, last))
+    } else {
+        None
+    }
+}
+
+/// The words of the line before one.
+pub fn before_of(line: Option<Line<'_>>) -> &str {
+    match line {
+        Some(line) => text_of(line.bytes),
+        None => "",
+    }
+}
+
+/// What is wrong with the layout of a line of a text.
+#[derive(Clone, Copy)]
+pub struct OfLayout<'a> {
+    pub kind: Text,
+    pub flaw: LayoutFlaw<'a>,
+}

@@ -1,0 +1,19 @@
+//! The forms of the lines of all texts, and what is said of a line that isn't spelled as its form has it.
+#![tactic(auto)]
+
+mod form;
+mod layout;
+mod lines;
+mod outcomes;
+mod shapes;
+mod telling;
+mod wanted;
+
+pub use form::{Form, Text, form_of};
+pub use layout::{
+    LayoutFlaw, OfLayout, before_of, bytes_flaw, formless_flaw, header_flaw, section_flaw,
+};
+pub use lines::{Line, Lines, Shown, has_word, line_at, part, text_of, word};
+pub use outcomes::{OutcomeFlaw, outcome_flaw};
+pub use shapes::shape_flaw;
+pub use wanted::{Wanted, WordFlaw, decimal, hexadecimal, kind_number, right_number};

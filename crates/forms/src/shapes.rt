@@ -1,0 +1,26 @@
+//! Whether the words of a line are those of its form: 50.
+use crate::form::Form;
+use crate::lines::{part, word};
+use crate::wanted::{MOST, Wanted, WordFlaw, word_flaw};
+
+/// What is wrong with the words of a line, if anything is.
+pub fn shape_flaw(form: Form, line: &str) -> Option<WordFlaw<'_>> {
+    pattern_flaw(form.pattern(line), line)
+}
+
+/// The first word that isn't as the pattern has it, is missing or is too many.
+pub fn pattern_flaw<'a>(pattern: &str, line: &'a str) -> Option<WordFlaw<'a>> {
+    for index in 0..MOST {
+        match (part(pattern, ' ', index), word(line, index)) {
+            (Some(keyword), Some(found)) => {
+                if let Some(flaw) = word_flaw(Wanted::of(keyword), found) {
+                    return Some(flaw);
+                }
+            }
+            (Some(keyword), None) => return Some(WordFlaw::Missing(Wanted::of(keyword))),
+            (None, Some(found)) => return Some(WordFlaw::TooMany(found)),
+            (None, None) => return None,
+        }
+    }
+    None
+}

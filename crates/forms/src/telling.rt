@@ -1,0 +1,99 @@
+//! What is said of the layout of a line, and of an outcome.
+use crate::form::{Form, Text};
+use crate::layout::{LayoutFlaw, OfLayout};
+use crate::outcomes::OutcomeFlaw;
+use std::fmt;
+
+impl fmt::Display for OfLayout<'_> {
+    fn fmt<W: fmt::Write>(&self, f: &mut fmt::Formatter<W>) -> fmt::Result {
+        match self.flaw {
+            LayoutFlaw::HeaderOf(other) => {
+                let (name, wanted) = (other.name(), self.kind.name());
+                write!(
+                    f,
+                    "this is the header of a {name}, in place of a {wanted}'s"
+                )
+            }
+            LayoutFlaw::NoHeader => {
+                let (name, header) = (self.kind.name(), self.kind.header());
+                write!(f, "a {name} begins with `{header}`")
+            }
+            LayoutFlaw::Capitals(word) => write!(f, "`{word}` is to be in small letters"),
+            LayoutFlaw::NoCall => f.write_str("core, thread and call are missing"),
+            LayoutFlaw::NoOutcome => f.write_str("` = ` and an outcome are missing"),
+            LayoutFlaw::UnknownCall(word) => {
+                write!(f, "`{word}` is no call: calls are ")?;
+                words_of(f, Text::Script, 0, ", ")
+            }
+            LayoutFlaw::Unknown(word, before) => {
+                let name = self.kind.name();
+                write!(
+                    f,
+                    "no line of a {name} begins with `{word}`: here stands one of `"
+                )?;
+                let section = match before {
+                    Some(form) => form.section(),
+                    None => 0,
+                };
+                words_of(f, self.kind, section, "`, `")?;
+                f.write_str("`, or `end`")
+            }
+            LayoutFlaw::Below(form, above) => {
+                let (word, above) = (form.word(), above.word());
+                write!(f, "no `{word}` line stands below a `{above}` line")
+            }
+            flaw => f.write_str(plain(flaw)),
+        }
+    }
+}
+
+// What is wrong with a line, where nothing of it is named.
+fn plain(flaw: LayoutFlaw<'_>) -> &'static str {
+    match flaw {
+        LayoutFlaw::NoLineFeed => "a line feed is missing at its end",
+        LayoutFlaw::AfterEnd => "nothing stands after the line `end`",
+        LayoutFlaw::Blank => "there are no blank lines",
+        LayoutFlaw::Comment => "there are no comments",
+        LayoutFlaw::CarriageReturn => "lines end with a line feed alone, without a CR",
+        LayoutFlaw::Tab => "words are parted by a space, and there are no tabs",
+        LayoutFlaw::NoAscii => "a text is printable ASCII",
+        LayoutFlaw::SpaceFirst => "no space stands at the beginning of a line",
+        LayoutFlaw::SpaceLast => "no space stands at the end of a line",
+        LayoutFlaw::TwoSpaces => "words are parted by one space",
+        _ => "",
+    }
+}
+
+// The words of the lines that a text has from a section on.
+fn words_of<W: fmt::Write>(
+    f: &mut fmt::Formatter<W>,
+    kind: Text,
+    section: u8,
+    separator: &str,
+) -> fmt::Result {
+    let mut between = "";
+    for form in Form::ALL {
+        if kind.has(form) && form.section() >= section {
+            f.write_str(between)?;
+            f.write_str(form.word())?;
+            between = separator;
+        }
+    }
+    Ok(())
+}
+
+impl fmt::Display for OutcomeFlaw<'_> {
+    fn fmt<W: fmt::Write>(&self, f: &mut fmt::Formatter<W>) -> fmt::Result {
+        match *self {
+            OutcomeFlaw::Unknown(word) => write!(
+                f,
+                "`{word}` begins no outcome: that is `done ..`, `blocked` or `refused CODE DETAIL`"
+            ),
+            OutcomeFlaw::NoAnswer(word) => write!(
+                f,
+                "`{word}` doesn't follow `done`: that is nothing, `aborted`, `word`, `count` or `msg`"
+            ),
+            OutcomeFlaw::Words(flaw) => write!(f, "{flaw}"),
+        }
+    }
+}

@@ -1,0 +1,534 @@
+//! The words of lines: which are wanted, and why one isn't right.
+use crate::lines::part;
+use std::fmt;
+
+/// A word that a form wants.
+#[derive(Clone, Copy, PartialEq, Eq, Debug)]
+pub enum Wanted {
+    Name,
+    Decimal,
+    Address,
+    Slot,
+    Rights,
+    /// `ready` or `inactive`.
+    Start,
+    Kind,
+    Kinds,
+    /// The kind of objects that a retype makes.
+    Material,
+    /// DEC or `-`.
+    Optional,
+    /// `badge` or `guard`.
+    Minting,
+    /// RIGHTS, DEC or HEX.
+    Term,
+    /// How many capabilities came along.
+    Came,
+    /// A word by which the form was chosen.
+    Fixed,
+}
+
+impl Wanted {
+    /// What a word of a pattern stands for.
+    pub fn of(keyword: &str) -> Wanted {
+        match keyword {
+            "NAME" | "LABEL" => Wanted::Name,
+            "DEC" => Wanted::Decimal,
+            "HEX" => Wanted::Address,
+            "SLOT" => Wanted::Slot,
+            "RIGHTS" => Wanted::Rights,
+            "START" => Wanted::Start,
+            "KIND" => Wanted::Kind,
+            "KINDS" => Wanted::Kinds,
+            "MATERIAL" => Wanted::Material,
+            "OPTIONAL" => Wanted::Optional,
+            "MINTING" => Wanted::Minting,
+            "TERM" => Wanted::Term,
+            "CAME" => Wanted::Came,
+            _ => Wanted::Fixed,
+        }
+    }
+
+    /// Its name, where it is missing.
+    fn name(self) -> &'static str {
+        match self {
+            Wanted::Name => "a name",
+            Wanted::Decimal => "a decimal number",
+            Wanted::Address => "an address",
+            Wanted::Slot => "a slot",
+            Wanted::Rights => "RIGHTS",
+            Wanted::Start => "`ready` or `inactive`",
+            Wanted::Kind => "a kind of authority",
+            Wanted::Kinds => "kinds of authority",
+            Wanted::Material => "a kind of object",
+            Wanted::Optional => "a decimal number or `-`",
+            Wanted::Minting => "`badge` or `guard`",
+            Wanted::Term => "RIGHTS, DEC or HEX",
+            Wanted::Came => "0 or 1",
+            Wanted::Fixed => "a word",
+        }
+    }
+}
+
+/// Why a word isn't as it is wanted.
+#[derive(Clone, Copy)]
+pub enum WordFlaw<'a> {
+    Missing(Wanted),
+    TooMany(&'a str),
+    Name(&'a str, NameFlaw),
+    Number(&'a str, NumberFlaw),
+    /// A slot without a dot.
+    NoDot(&'a str),
+    /// What follows the dot of a slot is no index.
+    NoIndex(&'a str),
+    NoRight(&'a str, char),
+    RightTwice(char),
+    RightsFall,
+    NoStart(&'a str),
+    NoKind(&'a str),
+    KindTwice(&'a str),
+    KindsFall(&'a str, &'a str),
+    NoMaterial(&'a str),
+    NoMinting(&'a str),
+    NoCame(&'a str),
+}
+
+/// Why a word is no name.
+#[derive(Clone, Copy)]
+pub enum NameFlaw {
+    Slot,
+    Capital,
+    First,
+    Long,
+    Character,
+}
+
+/// Why a word is no number.
+#[derive(Clone, Copy)]
+pub enum NumberFlaw {
+    Hexadecimal,
+    Sign,
+    Zeros,
+    Large,
+    NoDecimal,
+    NoPrefix,
+    CapitalInAddress,
+    CapitalInNumber,
+    NoHexadecimal,
+}
+
+/// The kinds of authority, by their numbers.
+pub const KINDS: [&str; 17] = [
+    "control",
+    "reset",
+    "send",
+    "receive",
+    "grant",
+    "call",
+    "notify",
+    "await",
+    "read",
+    "write",
+    "reply",
+    "context",
+    "schedcontrol",
+    "space",
+    "derive",
+    "runs",
+    "holds",
+];
+
+/// The kinds of objects that a retype makes.
+const MATERIALS: [&str; 8] = [
+    "untyped",
+    "cnode",
+    "tcb",
+    "endpoint",
+    "notification",
+    "reply",
+    "context",
+    "frame",
+];
+
+/// The number of a kind.
+pub fn kind_number(word: &str) -> Option<usize> {
+    KINDS.iter().position(|kind| *kind == word)
+}
+
+/// The longest name.
+const LONGEST: usize = 31;
+
+/// Why a word isn't the one that is wanted, if it isn't.
+pub fn word_flaw(wanted: Wanted, word: &str) -> Option<WordFlaw<'_>> {
+    match wanted {
+        Wanted::Name => Some(WordFlaw::Name(word, name_flaw(word)?)),
+        Wanted::Decimal => decimal_flaw(word),
+        Wanted::Optional => optional_flaw(word),
+        Wanted::Address => Some(WordFlaw::Number(word, address_flaw(word)?)),
+        Wanted::Slot => slot_flaw(word),
+        Wanted::Rights => rights_flaw(word),
+        Wanted::Term => term_flaw(word),
+        Wanted::Kind => kind_flaw(word),
+        Wanted::Kinds => kinds_flaw(word),
+        _ => choice_flaw(wanted, word),
+    }
+}
+
+// A word that is one of a few.
+fn choice_flaw(wanted: Wanted, word: &str) -> Option<WordFlaw<'_>> {
+    match (wanted, word) {
+        (Wanted::Start, "ready" | "inactive")
+        | (Wanted::Minting, "badge" | "guard")
+        | (Wanted::Came, "0" | "1") => None,
+        (Wanted::Start, _) => Some(WordFlaw::NoStart(word)),
+        (Wanted::Minting, _) => Some(WordFlaw::NoMinting(word)),
+        (Wanted::Came, _) => Some(WordFlaw::NoCame(word)),
+        (Wanted::Material, _) if MATERIALS.iter().position(|kind| *kind == word).is_none() => {
+            Some(WordFlaw::NoMaterial(word))
+        }
+        _ => None,
+    }
+}
+
+fn name_flaw(word: &str) -> Option<NameFlaw> {
+    let bytes = word.as_bytes();
+    let Some(first) = bytes.first() else {
+        return Some(NameFlaw::First);
+    };
+    if bytes.iter().any(|byte| *byte == b'.') {
+        return Some(NameFlaw::Slot);
+    }
+    if bytes.iter().any(|byte| is_capital(*byte)) {
+        return Some(NameFlaw::Capital);
+    }
+    if !is_small(*first) {
+        return Some(NameFlaw::First);
+    }
+    if bytes.iter().any(|byte| !is_of_names(*byte)) {
+        return Some(NameFlaw::Character);
+    }
+    if bytes.len() > LONGEST {
+        return Some(NameFlaw::Long);
+    }
+    None
+}
+
+fn is_capital(byte: u8) -> bool {
+    matches!(byte, b'A'..=b'Z')
+}
+
+fn is_small(byte: u8) -> bool {
+    matches!(byte, b'a'..=b'z')
+}
+
+fn is_digit(byte: u8) -> bool {
+    matches!(byte, b'0'..=b'9')
+}
+
+fn is_of_names(byte: u8) -> bool {
+    is_small(byte) || is_digit(byte) || byte == b'_'
+}
+
+/// A decimal number, if the word is one.
+pub fn decimal(word: &str) -> Option<u64> {
+    if word.is_empty() || has_other_than_digits(word) || has_zeros(word) {
+        return None;
+    }
+    number_of(word, 10)
+}
+
+/// A hexadecimal number, if the word is one.
+pub fn hexadecimal(word: &str) -> Option<u64> {
+    let digits = word.strip_prefix("0x")?;
+    if digits.is_empty() || has_zeros(digits) {
+        return None;
+    }
+    number_of(digits, 16)
+}
+
+fn number_of(digits: &str, radix: u64) -> Option<u64> {
+    let mut number = 0u64;
+    for byte in digits.as_bytes() {
+        let digit = match *byte {
+            b'0'..=b'9' => *byte - b'0',
+            b'a'..=b'f' => *byte - b'a' + 10,
+            _ => return None,
+        };
+        number = number.checked_mul(radix)?.checked_add(digit as u64)?;
+    }
+    Some(number)
+}
+
+fn has_other_than_digits(word: &str) -> bool {
+    word.as_bytes().iter().any(|byte| !is_digit(*byte))
+}
+
+fn has_zeros(digits: &str) -> bool {
+    digits.len() > 1 && digits.starts_with('0')
+}
+
+fn decimal_flaw(word: &str) -> Option<WordFlaw<'_>> {
+    if decimal(word).is_some() {
+        return None;
+    }
+    let flaw = if word.starts_with("0x") || word.starts_with("0X") {
+        NumberFlaw::Hexadecimal
+    } else if (word.starts_with('+') || word.starts_with('-')) && word.len() > 1 {
+        NumberFlaw::Sign
+    } else if word.is_empty() || has_other_than_digits(word) {
+        NumberFlaw::NoDecimal
+    } else if has_zeros(word) {
+        NumberFlaw::Zeros
+    } else {
+        NumberFlaw::Large
+    };
+    Some(WordFlaw::Number(word, flaw))
+}
+
+fn optional_flaw(word: &str) -> Option<WordFlaw<'_>> {
+    if word == "-" {
+        None
+    } else {
+        decimal_flaw(word)
+    }
+}
+
+fn address_flaw(word: &str) -> Option<NumberFlaw> {
+    match hexadecimal_flaw(word)? {
+        NumberFlaw::CapitalInNumber => Some(NumberFlaw::CapitalInAddress),
+        flaw => Some(flaw),
+    }
+}
+
+fn hexadecimal_flaw(word: &str) -> Option<NumberFlaw> {
+    if hexadecimal(word).is_some() {
+        return None;
+    }
+    if word.as_bytes().iter().any(|byte| is_capital(*byte)) {
+        return Some(NumberFlaw::CapitalInNumber);
+    }
+    let Some(digits) = word.strip_prefix("0x") else {
+        return Some(NumberFlaw::NoPrefix);
+    };
+    let is_odd = |byte: &u8| !(is_digit(*byte) || matches!(*byte, b'a'..=b'f'));
+    if digits.is_empty() || digits.as_bytes().iter().any(is_odd) {
+        Some(NumberFlaw::NoHexadecimal)
+    } else if has_zeros(digits) {
+        Some(NumberFlaw::Zeros)
+    } else {
+        Some(NumberFlaw::Large)
+    }
+}
+
+fn slot_flaw(word: &str) -> Option<WordFlaw<'_>> {
+    let Some((name, place)) = word.split_once('.') else {
+        return Some(WordFlaw::NoDot(word));
+    };
+    if let Some(flaw) = name_flaw(name) {
+        return Some(WordFlaw::Name(name, flaw));
+    }
+    if place == "root" {
+        return None;
+    }
+    match decimal_flaw(place)? {
+        WordFlaw::Number(_, NumberFlaw::NoDecimal) => Some(WordFlaw::NoIndex(word)),
+        flaw => Some(flaw),
+    }
+}
+
+/// The letters of rights, in their order.
+const RIGHTS: &str = "rwgy";
+
+/// The number of a right.
+pub fn right_number(letter: u8) -> Option<usize> {
+    RIGHTS.as_bytes().iter().position(|right| *right == letter)
+}
+
+fn rights_flaw(word: &str) -> Option<WordFlaw<'_>> {
+    if word == "-" {
+        return None;
+    }
+    let mut last = None;
+    for letter in word.as_bytes() {
+        let Some(number) = right_number(*letter) else {
+            return Some(WordFlaw::NoRight(word, *letter as char));
+        };
+        match last {
+            Some(before) if number == before => {
+                return Some(WordFlaw::RightTwice(*letter as char));
+            }
+            Some(before) if number < before => return Some(WordFlaw::RightsFall),
+            _ => last = Some(number),
+        }
+    }
+    None
+}
+
+fn term_flaw(word: &str) -> Option<WordFlaw<'_>> {
+    if word.starts_with("0x") || word.starts_with("0X") {
+        return Some(WordFlaw::Number(word, hexadecimal_flaw(word)?));
+    }
+    match word.as_bytes().first() {
+        Some(b'0'..=b'9') => decimal_flaw(word),
+        _ => rights_flaw(word),
+    }
+}
+
+fn kind_flaw(word: &str) -> Option<WordFlaw<'_>> {
+    match kind_number(word) {
+        Some(_) => None,
+        None => Some(WordFlaw::NoKind(word)),
+    }
+}
+
+/// How many words of a list or a line are looked at.
+pub const MOST: u64 = 32;
+
+fn kinds_flaw(word: &str) -> Option<WordFlaw<'_>> {
+    let mut last = None;
+    for index in 0..MOST {
+        let Some(kind) = part(word, ',', index) else {
+            return None;
+        };
+        let Some(number) = kind_number(kind) else {
+            return Some(WordFlaw::NoKind(kind));
+        };
+        match last {
+            Some((before, _)) if number == before => return Some(WordFlaw::KindTwice(kind)),
+            Some((before, name)) if number < before => return Some(WordFlaw::KindsFall(kind, name)),
+            _ => last = Some((number, kind)),
+        }
+    }
+    None
+}
+
+impl fmt::Display for WordFlaw<'_> {
+    fn fmt<W: fmt::Write>(&self, f: &mut fmt::Formatter<W>) -> fmt::Result {
+        match *self {
+            WordFlaw::Missing(wanted) => {
+                let name = wanted.name();
+                write!(f, "{name} is missing")
+            }
+            WordFlaw::TooMany(word) => write!(f, "`{word}` is a word too many"),
+            WordFlaw::Name(word, flaw) => write!(f, "{}", NoName { word, flaw }),
+            WordFlaw::Number(word, flaw) => write!(f, "{}", NoNumber { word, flaw }),
+            WordFlaw::NoDot(word) => write!(
+                f,
+                "`{word}` is no slot: a dot and an index, or `.root`, follow the name"
+            ),
+            WordFlaw::NoIndex(word) => write!(
+                f,
+                "`{word}` is no slot: after the dot stands an index in decimal, or `root`"
+            ),
+            WordFlaw::NoRight(word, letter) => write!(
+                f,
+                "`{letter}` in `{word}` is no right: rights are some of `rwgy`, or `-`"
+            ),
+            WordFlaw::RightTwice(letter) => write!(f, "the right `{letter}` stands twice"),
+            WordFlaw::RightsFall => f.write_str("rights stand in the order rwgy"),
+            WordFlaw::NoCame(word) => write!(
+                f,
+                "`{word}` is neither 1, where a capability came along, nor 0"
+            ),
+            flaw => write!(f, "{}", NoChoice { flaw }),
+        }
+    }
+}
+
+/// A word that is none of those from which one is to be chosen.
+#[derive(Clone, Copy)]
+struct NoChoice<'a> {
+    flaw: WordFlaw<'a>,
+}
+
+impl fmt::Display for NoChoice<'_> {
+    fn fmt<W: fmt::Write>(&self, f: &mut fmt::Formatter<W>) -> fmt::Result {
+        match self.flaw {
+            WordFlaw::NoStart(word) => write!(f, "`{word}` is neither `ready` nor `inactive`"),
+            WordFlaw::NoMinting(word) => write!(f, "`{word}` is neither `badge` nor `guard`"),
+            WordFlaw::NoKind("") => f.write_str("a comma stands between two kinds alone"),
+            WordFlaw::NoKind(word) => {
+                write!(f, "`{word}` is no kind of authority: the kinds are ")?;
+                one_of(f, &KINDS)
+            }
+            WordFlaw::KindTwice(word) => write!(f, "the kind `{word}` stands twice"),
+            WordFlaw::KindsFall(word, before) => {
+                write!(
+                    f,
+                    "kinds rise by their number, and `{word}` comes before `{before}`"
+                )
+            }
+            WordFlaw::NoMaterial(word) => {
+                write!(
+                    f,
+                    "`{word}` is no kind of object that is made: the kinds are "
+                )?;
+                one_of(f, &MATERIALS)
+            }
+            _ => Ok(()),
+        }
+    }
+}
+
+// Words with commas between them.
+fn one_of<W: fmt::Write>(f: &mut fmt::Formatter<W>, words: &[&str]) -> fmt::Result {
+    let mut separator = "";
+    for word in words {
+        f.write_str(separator)?;
+        f.write_str(word)?;
+        separator = ", ";
+    }
+    Ok(())
+}
+
+/// A word that is no name.
+#[derive(Clone, Copy)]
+struct NoName<'a> {
+    word: &'a str,
+    flaw: NameFlaw,
+}
+
+impl fmt::Display for NoName<'_> {
+    fn fmt<W: fmt::Write>(&self, f: &mut fmt::Formatter<W>) -> fmt::Result {
+        let word = self.word;
+        match self.flaw {
+            NameFlaw::Slot => write!(f, "`{word}` is a slot, and a name stands here"),
+            NameFlaw::Capital => f.write_str("names are written in small letters"),
+            NameFlaw::First => f.write_str("a name begins with a small letter"),
+            NameFlaw::Long => {
+                let length = word.len();
+                write!(f, "the name has {length} characters, more than 31")
+            }
+            NameFlaw::Character => write!(
+                f,
+                "`{word}` is no name: a name has small letters, digits and `_` alone"
+            ),
+        }
+    }
+}
+
+/// A word that is no number.
+#[derive(Clone, Copy)]
+struct NoNumber<'a> {
+    word: &'a str,
+    flaw: NumberFlaw,
+}
+
+impl fmt::Display for NoNumber<'_> {
+    fn fmt<W: fmt::Write>(&self, f: &mut fmt::Formatter<W>) -> fmt::Result {
+        let word = self.word;
+        match self.flaw {
+            NumberFlaw::Hexadecimal => write!(f, "`{word}` is to be a decimal number"),
+            NumberFlaw::Sign => write!(f, "`{word}` has a sign, and numbers have none"),
+            NumberFlaw::Zeros => write!(f, "`{word}` has a leading zero, and numbers have none"),
+            NumberFlaw::Large => write!(f, "`{word}` isn't below 2^64"),
+            NumberFlaw::NoDecimal => write!(f, "`{word}` is no decimal number"),
+            NumberFlaw::NoPrefix => write!(f, "`{word}` is no address: addresses begin with `0x`"),
+            NumberFlaw::CapitalInAddress => f.write_str("addresses are written in small letters"),
+            NumberFlaw::CapitalInNumber => {
+                f.write_str("hexadecimal numbers are written in small letters")
+            }
+            NumberFlaw::NoHexadecimal => write!(f, "`{word}` is no hexadecimal number"),
+        }
+    }
+}

@@ -1,0 +1,168 @@
+//! What a table declares, by its lines.
+use forms::{Form, Lines, Text, decimal, form_of, has_word, hexadecimal, text_of, word};
+
+/// The lines of a table, or those of them that stand above one.
+#[derive(Clone, Copy)]
+pub(crate) struct Declared<'a> {
+    pub text: &'a [u8],
+    /// The number of the line above which they stand.
+    pub end: u64,
+}
+
+/// What a line is sought for.
+#[derive(Clone, Copy)]
+pub(crate) enum Sought<'a> {
+    Label(&'a str),
+    Object(&'a str),
+    /// Any object.
+    Objects,
+    /// The capability in a slot.
+    Cap(&'a str),
+    /// A capability for an object.
+    CapFor(&'a str),
+    /// The parent of the slot.
+    Child(&'a str),
+    /// What a context is bound to.
+    Bound(&'a str),
+    /// The control of a core.
+    Control(&'a str),
+    /// Any line of the form.
+    Form(Form),
+}
+
+/// A line that was found, with its number.
+#[derive(Clone, Copy)]
+pub(crate) struct Row<'a> {
+    pub line: u64,
+    pub text: &'a str,
+}
+
+/// An object, as its line declares it.
+#[derive(Clone, Copy)]
+pub(crate) struct Object<'a> {
+    pub form: Form,
+    pub row: Row<'a>,
+}
+
+impl<'a> Row<'a> {
+    /// The word of this number; empty, if there is none.
+    pub fn word(self, number: u64) -> &'a str {
+        match word(self.text, number) {
+            Some(word) => word,
+            None => "",
+        }
+    }
+}
+
+impl<'a> Declared<'a> {
+    /// The first line that is sought.
+    pub fn row(self, sought: Sought<'_>) -> Option<Row<'a>> {
+        let mut lines = Lines::new(self.text);
+        for line in 1..self.end {
+            let text = text_of(lines.next_line()?);
+            if is_sought(sought, text) {
+                return Some(Row { line, text });
+            }
+        }
+        None
+    }
+
+    /// How many lines are sought.
+    pub fn count(self, sought: Sought<'_>) -> u64 {
+        let mut count = 0u64;
+        let mut lines = Lines::new(self.text);
+        for _ in 1..self.end {
+            let Some(bytes) = lines.next_line() else {
+                return count;
+            };
+            if is_sought(sought, text_of(bytes)) {
+                count = count.saturating_add(1);
+            }
+        }
+        count
+    }
+
+    /// The object of this name.
+    pub fn object(self, name: &str) -> Option<Object<'a>> {
+        let row = self.row(Sought::Object(name))?;
+        let form = form_of(Text::Table, row.text)?;
+        Some(Object { form, row })
+    }
+
+    /// The number of the object of this name: objects follow the labels.
+    pub fn number_of(self, name: &str) -> Option<u64> {
+        let row = self.row(Sought::Object(name))?;
+        let labels = self.count(Sought::Form(Form::Label));
+        Some(row.line.saturating_sub(labels).saturating_sub(2))
+    }
+
+    /// The number of the label of this name: labels stand first.
+    pub fn label(self, name: &str) -> Option<u64> {
+        let row = self.row(Sought::Label(name))?;
+        Some(row.line.saturating_sub(2))
+    }
+
+    /// How many slots the objects have.
+    pub fn slots(self) -> u64 {
+        let mut count = 0u64;
+        let mut lines = Lines::new(self.text);
+        for _ in 1..self.end {
+            let Some(bytes) = lines.next_line() else {
+                return count;
+            };
+            count = count.saturating_add(slots_of(text_of(bytes)));
+        }
+        count
+    }
+}
+
+/// How many slots a line's object has, if it declares one.
+pub(crate) fn slots_of(line: &str) -> u64 {
+    match form_of(Text::Table, line) {
+        Some(Form::CNode) => match radix_of(line) {
+            Some(radix) => power(radix),
+            None => 0,
+        },
+        Some(Form::Tcb) => 1,
+        _ => 0,
+    }
+}
+
+/// The radix in the line of a CNode.
+pub(crate) fn radix_of(line: &str) -> Option<u64> {
+    decimal(word(line, 4)?)
+}
+
+/// 2 to this power, or a number that is larger than all that are compared with it.
+pub(crate) fn power(exponent: u64) -> u64 {
+    let mut power = 1u64;
+    for _ in 0..exponent {
+        power = power.saturating_mul(2);
+        if power == u64::MAX {
+            return power;
+        }
+    }
+    power
+}
+
+/// The address in the line of an object.
+pub(crate) fn address_of(line: &str) -> Option<u64> {
+    hexadecimal(word(line, 3)?)
+}
+
+fn is_sought(sought: Sought<'_>, line: &str) -> bool {
+    let Some(form) = form_of(Text::Table, line) else {
+        return false;
+    };
+    match sought {
+        Sought::Label(name) => form == Form::Label && has_word(line, 1, name),
+        Sought::Object(name) => form.section() == 1 && has_word(line, 1, name),
+        Sought::Objects => form.section() == 1,
+        Sought::Cap(slot) => form == Form::Cap && has_word(line, 1, slot),
+        Sought::CapFor(name) => form == Form::Cap && has_word(line, 2, name),
+        Sought::Child(slot) => form == Form::Child && has_word(line, 2, slot),
+        Sought::Bound(context) => form == Form::Bind && has_word(line, 2, context),
+        Sought::Control(core) => form == Form::Control && has_word(line, 3, core),
+        Sought::Form(wanted) => form == wanted,
+    }
+}

@@ -1,0 +1,67 @@
+//! Whether the edges of a policy rise: 50.
+use crate::declared::{Declared, Row};
+use forms::kind_number;
+
+/// An edge that doesn't come after the one before.
+#[derive(Clone, Copy)]
+pub(crate) enum EdgeFlaw<'a> {
+    /// The same edge.
+    Twice(u64),
+    /// Labels with their numbers, and the line before.
+    Labels(Numbered<'a>, Numbered<'a>, u64),
+    Kinds(Numbered<'a>, Numbered<'a>, u64),
+}
+
+/// A word with its number.
+#[derive(Clone, Copy)]
+pub(crate) struct Numbered<'a> {
+    pub word: &'a str,
+    pub number: u64,
+}
+
+/// Whether an edge is above the one before.
+pub(crate) fn edge_flaw<'a>(
+    declared: Declared<'_>,
+    row: Row<'a>,
+    before: Row<'a>,
+) -> Option<EdgeFlaw<'a>> {
+    let line = before.line;
+    let (here, last) = (
+        label_of(declared, row.word(1))?,
+        label_of(declared, before.word(1))?,
+    );
+    if here.number != last.number {
+        return fallen(here, last, EdgeFlaw::Labels(here, last, line));
+    }
+    let (here, last) = (kind_of(row.word(2))?, kind_of(before.word(2))?);
+    if here.number != last.number {
+        return fallen(here, last, EdgeFlaw::Kinds(here, last, line));
+    }
+    let (here, last) = (
+        label_of(declared, row.word(3))?,
+        label_of(declared, before.word(3))?,
+    );
+    if here.number == last.number {
+        return Some(EdgeFlaw::Twice(line));
+    }
+    fallen(here, last, EdgeFlaw::Labels(here, last, line))
+}
+
+// The flaw, where the number of a line's word is lower than that of the line before.
+fn fallen<'a>(here: Numbered<'a>, last: Numbered<'a>, flaw: EdgeFlaw<'a>) -> Option<EdgeFlaw<'a>> {
+    if here.number < last.number {
+        Some(flaw)
+    } else {
+        None
+    }
+}
+
+fn label_of<'a>(declared: Declared<'_>, word: &'a str) -> Option<Numbered<'a>> {
+    let number = declared.label(word)?;
+    Some(Numbered { word, number })
+}
+
+fn kind_of(word: &str) -> Option<Numbered<'_>> {
+    let number = kind_number(word)? as u64;
+    Some(Numbered { word, number })
+}

@@ -1,0 +1,351 @@
+//! What is said of a line that doesn't meet a condition.
+use crate::caps::{KindFlaw, SlotFlaw};
+use crate::edges::EdgeFlaw;
+use crate::limits::LimitFlaw;
+use crate::memory::PlacedFlaw;
+use crate::names::{KnownFlaw, TwiceFlaw};
+use crate::order::{OrderFlaw, Ranked};
+use crate::tree::TreeFlaw;
+use forms::{Form, LayoutFlaw, OfLayout, OutcomeFlaw, Text, WordFlaw};
+use std::fmt;
+
+/// The condition that a line doesn't meet.
+#[derive(Clone, Copy)]
+pub(crate) enum Flaw<'a> {
+    /// The text ends before it.
+    NoLine(Text, u64),
+    Layout(Text, LayoutFlaw<'a>),
+    Word(Form, WordFlaw<'a>),
+    Outcome(OutcomeFlaw<'a>),
+    Order(OrderFlaw<'a>),
+    Edge(EdgeFlaw<'a>),
+    Known(KnownFlaw<'a>),
+    Twice(TwiceFlaw<'a>),
+    Placed(PlacedFlaw<'a>),
+    Limit(LimitFlaw),
+    Slot(SlotFlaw<'a>),
+    Kind(KindFlaw<'a>),
+    Tree(TreeFlaw<'a>),
+    /// None of these.
+    Other(Form),
+}
+
+impl fmt::Display for Flaw<'_> {
+    fn fmt<W: fmt::Write>(&self, f: &mut fmt::Formatter<W>) -> fmt::Result {
+        match *self {
+            Flaw::NoLine(kind, 1) => {
+                let (name, header) = (kind.name(), kind.header());
+                write!(f, "a {name} begins with `{header}`")
+            }
+            Flaw::NoLine(_, _) => f.write_str("the text ends without the line `end`"),
+            Flaw::Layout(kind, flaw) => write!(f, "{}", OfLayout { kind, flaw }),
+            Flaw::Word(form, flaw) => match flaw {
+                WordFlaw::Missing(_) | WordFlaw::TooMany(_) => {
+                    let words = form.words();
+                    write!(f, "{flaw}: expected {words}")
+                }
+                _ => write!(f, "{flaw}"),
+            },
+            Flaw::Outcome(flaw) => write!(f, "{flaw}"),
+            Flaw::Order(flaw) => write!(f, "{flaw}"),
+            Flaw::Edge(flaw) => write!(f, "{flaw}"),
+            Flaw::Known(flaw) => write!(f, "{flaw}"),
+            Flaw::Twice(flaw) => write!(f, "{flaw}"),
+            Flaw::Placed(flaw) => write!(f, "{flaw}"),
+            Flaw::Limit(flaw) => write!(f, "{flaw}"),
+            Flaw::Slot(flaw) => write!(f, "{flaw}"),
+            Flaw::Kind(flaw) => write!(f, "{flaw}"),
+            Flaw::Tree(flaw) => write!(f, "{flaw}"),
+            Flaw::Other(form) => {
+                let words = form.words();
+                write!(f, "expected {words}")
+            }
+        }
+    }
+}
+
+impl fmt::Display for OrderFlaw<'_> {
+    fn fmt<W: fmt::Write>(&self, f: &mut fmt::Formatter<W>) -> fmt::Result {
+        let (what, line) = (self.what, self.line);
+        let (word, earlier) = (self.here.word, self.before.word);
+        if word == earlier {
+            return write!(f, "{what} rise, and `{word}` stands in line {line} already");
+        }
+        let numbers = Numbers {
+            here: self.here,
+            before: self.before,
+        };
+        write!(
+            f,
+            "{what} rise, and `{word}` doesn't come after `{earlier}` of line {line}{numbers}"
+        )
+    }
+}
+
+/// The numbers of two objects, where they differ; else that a root has an index too.
+#[derive(Clone, Copy)]
+struct Numbers<'a> {
+    here: Ranked<'a>,
+    before: Ranked<'a>,
+}
+
+impl fmt::Display for Numbers<'_> {
+    fn fmt<W: fmt::Write>(&self, f: &mut fmt::Formatter<W>) -> fmt::Result {
+        let (one, two) = (self.here, self.before);
+        if one.number != two.number {
+            let (name, number) = (one.name, one.number);
+            write!(f, ": `{name}` is object {number}, ")?;
+            let (name, number) = (two.name, two.number);
+            return write!(f, "and `{name}` object {number}");
+        }
+        if one.index == two.index {
+            return f.write_str(": a root has index 0");
+        }
+        Ok(())
+    }
+}
+
+impl fmt::Display for EdgeFlaw<'_> {
+    fn fmt<W: fmt::Write>(&self, f: &mut fmt::Formatter<W>) -> fmt::Result {
+        let (what, here, before, line) = match *self {
+            EdgeFlaw::Twice(line) => return write!(f, "the same edge stands in line {line}"),
+            EdgeFlaw::Labels(here, before, line) => ("label", here, before, line),
+            EdgeFlaw::Kinds(here, before, line) => ("kind", here, before, line),
+        };
+        let (word, number) = (here.word, here.number);
+        write!(
+            f,
+            "edges rise, and the {what} `{word}` has number {number}, "
+        )?;
+        let (word, number) = (before.word, before.number);
+        write!(f, "`{word}` of line {line} number {number}")
+    }
+}
+
+impl fmt::Display for KnownFlaw<'_> {
+    fn fmt<W: fmt::Write>(&self, f: &mut fmt::Formatter<W>) -> fmt::Result {
+        match *self {
+            KnownFlaw::NoLabel(name, Text::Table) => {
+                write!(f, "no label above is called `{name}`")
+            }
+            KnownFlaw::NoLabel(name, _) => write!(f, "the table has no label `{name}`"),
+            KnownFlaw::ObjectForLabel(name, line) => write!(
+                f,
+                "`{name}` is an object, of line {line} of the table, and a label stands here"
+            ),
+            KnownFlaw::NoObject(name, Text::Table) => {
+                write!(f, "no object above is called `{name}`")
+            }
+            KnownFlaw::NoObject(name, _) => write!(f, "the table has no object `{name}`"),
+            KnownFlaw::LabelForObject(name, line) => write!(
+                f,
+                "`{name}` is a label, of line {line} of the table, and an object stands here"
+            ),
+        }
+    }
+}
+
+impl fmt::Display for TwiceFlaw<'_> {
+    fn fmt<W: fmt::Write>(&self, f: &mut fmt::Formatter<W>) -> fmt::Result {
+        match *self {
+            TwiceFlaw::Label(name, line) => {
+                write!(f, "a label is called `{name}` already, in line {line}")
+            }
+            TwiceFlaw::Object(name, line) => {
+                write!(f, "an object is called `{name}` already, in line {line}")
+            }
+            TwiceFlaw::Control(core, line) => {
+                write!(f, "core {core} has a control already, in line {line}")
+            }
+            TwiceFlaw::Untyped(name, line) => write!(
+                f,
+                "`{name}` is untyped memory, and has its one capability already, in line {line}"
+            ),
+            TwiceFlaw::Bound(name, line) => {
+                write!(f, "the context `{name}` is bound already, in line {line}")
+            }
+        }
+    }
+}
+
+impl fmt::Display for PlacedFlaw<'_> {
+    fn fmt<W: fmt::Write>(&self, f: &mut fmt::Formatter<W>) -> fmt::Result {
+        match *self {
+            PlacedFlaw::Misaligned(address, size) => write!(
+                f,
+                "the address {address:#x} is no multiple of the size, {size:#x}"
+            ),
+            PlacedFlaw::Meets(row, range) => {
+                let (name, line) = (row.word(1), row.line);
+                let (first, last) = (range.first, range.last);
+                write!(f, "this range meets that of `{name}`, line {line}: ")?;
+                write!(f, "{first:#x} to {last:#x}")
+            }
+        }
+    }
+}
+
+impl fmt::Display for LimitFlaw {
+    fn fmt<W: fmt::Write>(&self, f: &mut fmt::Formatter<W>) -> fmt::Result {
+        match *self {
+            LimitFlaw::Radix(0) => f.write_str("the radix is 0, less than 1"),
+            LimitFlaw::Radix(radix) => write!(f, "the radix is {radix}, more than 12"),
+            LimitFlaw::Bits(bits) if bits < 4 => write!(f, "the bits are {bits}, less than 4"),
+            LimitFlaw::Bits(bits) => write!(f, "the bits are {bits}, more than 47"),
+            LimitFlaw::Core(core) => write!(f, "the core is {core}, more than 15"),
+            LimitFlaw::Budget => f.write_str("the budget is 0, less than 1"),
+            LimitFlaw::Share(budget, period) => {
+                write!(
+                    f,
+                    "the budget is {budget}, more than the period of {period}"
+                )
+            }
+            LimitFlaw::Period(period) => {
+                write!(
+                    f,
+                    "the period is {period}, more than an hour, 3,600,000,000"
+                )
+            }
+            LimitFlaw::Slots(slots) => write!(
+                f,
+                "with it there are {slots} slots, more than 65,536"
+            ),
+            LimitFlaw::End => f.write_str("the object ends past 2^48"),
+            LimitFlaw::Labels => f.write_str("there are more than 64 labels"),
+            LimitFlaw::Objects => f.write_str("there are more than 4,096 objects"),
+            LimitFlaw::Threads => f.write_str("there are more than 1,024 threads"),
+            LimitFlaw::Events => f.write_str("there are more than 1,000,000 events"),
+        }
+    }
+}
+
+impl fmt::Display for SlotFlaw<'_> {
+    fn fmt<W: fmt::Write>(&self, f: &mut fmt::Formatter<W>) -> fmt::Result {
+        match *self {
+            SlotFlaw::Index(index, name, slots) => write!(
+                f,
+                "the index {index} isn't below {slots}, the number of slots of `{name}`"
+            ),
+            SlotFlaw::Bits(bits) => write!(f, "guard and radix are {bits} bits, more than 64"),
+            SlotFlaw::Guard(value, size) => {
+                write!(
+                    f,
+                    "the guard's value {value} takes more than its {size} bits"
+                )
+            }
+        }
+    }
+}
+
+/// What an object of a form is.
+pub(crate) fn noun(form: Form) -> &'static str {
+    match form {
+        Form::Untyped => "untyped memory",
+        Form::CNode => "a CNode",
+        Form::Tcb => "a thread",
+        Form::Endpoint => "an endpoint",
+        Form::Notification => "a notification",
+        Form::Reply => "a reply",
+        Form::Frame => "a frame",
+        Form::Context => "a context",
+        _ => "a control",
+    }
+}
+
+// What a capability's line has after the object of a form.
+fn terms(form: Form) -> &'static str {
+    match form {
+        Form::CNode => "its guard's size and value stand after its name, as `62 0x0`",
+        Form::Endpoint => "rights and a badge stand after its name, as `wg 1`",
+        Form::Notification => "rights and a badge stand after its name, as `rw 1`",
+        Form::Frame => "rights alone stand after its name, as `rw`",
+        _ => "nothing stands after its name",
+    }
+}
+
+// Which slots an object of a form has.
+fn slots(form: Form) -> &'static str {
+    match form {
+        Form::CNode => "whose slots have an index",
+        Form::Tcb => "whose one slot is its root",
+        _ => "which has no slots",
+    }
+}
+
+impl fmt::Display for KindFlaw<'_> {
+    fn fmt<W: fmt::Write>(&self, f: &mut fmt::Formatter<W>) -> fmt::Result {
+        match *self {
+            KindFlaw::Slot(slot, form) => {
+                let (noun, slots) = (noun(form), slots(form));
+                write!(f, "there is no `{slot}`: it would be of {noun}, {slots}")
+            }
+            KindFlaw::Root(name, form) => {
+                let noun = noun(form);
+                write!(f, "a root is a CNode's, and `{name}` is {noun}")
+            }
+            KindFlaw::Terms(name, form) => {
+                let (noun, terms) = (noun(form), terms(form));
+                write!(f, "`{name}` is {noun}: {terms}")
+            }
+            KindFlaw::Rights(name, form) => {
+                let noun = noun(form);
+                write!(
+                    f,
+                    "`{name}` is {noun}: its rights are some of `r` and `w` alone"
+                )
+            }
+            KindFlaw::NoThread(name, form) => {
+                let noun = noun(form);
+                write!(f, "`{name}` is {noun}, and no thread")
+            }
+            KindFlaw::NoContext(name, form) => {
+                let noun = noun(form);
+                write!(f, "`{name}` is {noun}, and no context")
+            }
+            KindFlaw::SlotOf(slot, Form::CNode) => {
+                write!(
+                    f,
+                    "a `space` line has a thread's root, and `{slot}` is a CNode's slot"
+                )
+            }
+            KindFlaw::SlotOf(slot, _) => {
+                write!(
+                    f,
+                    "a `cap` line has a CNode's slot, and `{slot}` is a thread's root"
+                )
+            }
+        }
+    }
+}
+
+impl fmt::Display for TreeFlaw<'_> {
+    fn fmt<W: fmt::Write>(&self, f: &mut fmt::Formatter<W>) -> fmt::Result {
+        match *self {
+            TreeFlaw::Empty(slot) => write!(f, "the slot `{slot}` is empty"),
+            TreeFlaw::Objects(parent, child) => {
+                write!(
+                    f,
+                    "the parent is for `{parent}`, and the child for `{child}`"
+                )
+            }
+            TreeFlaw::Untyped(name) => write!(
+                f,
+                "`{name}` is untyped memory, whose capability is nobody's parent and nobody's child"
+            ),
+            TreeFlaw::Copied(slot, source, line) => write!(
+                f,
+                "the parent `{slot}` isn't original: it has the badge of its own parent `{source}`, line {line}"
+            ),
+            TreeFlaw::Badges(parent, child) => write!(
+                f,
+                "the parent's badge is {parent}, neither 0 nor the child's, {child}"
+            ),
+            TreeFlaw::Right(right) => {
+                write!(
+                    f,
+                    "the child has the right `{right}`, and the parent hasn't"
+                )
+            }
+        }
+    }
+}

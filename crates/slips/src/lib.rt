@@ -1,0 +1,18 @@
+//! Words on a line of a text: which condition it doesn't meet, or which bits of an address a root doesn't read.
+#![tactic(auto)]
+
+mod caps;
+mod declared;
+mod edges;
+mod faults;
+mod flaws;
+mod limits;
+mod memory;
+mod names;
+mod order;
+mod roots;
+mod tree;
+
+pub use faults::explain_fault;
+pub use forms::Text;
+pub use roots::explain_roots;

@@ -1,0 +1,113 @@
+//! Whether numbers are within limits: 54.
+use crate::declared::{Declared, Row, Sought, address_of, slots_of};
+use crate::memory::size_of;
+use forms::{Form, Text, decimal};
+
+/// A number past its limit.
+#[derive(Clone, Copy)]
+pub(crate) enum LimitFlaw {
+    Radix(u64),
+    Bits(u64),
+    Core(u64),
+    Budget,
+    /// A budget above its period.
+    Share(u64, u64),
+    Period(u64),
+    End,
+    Labels,
+    Objects,
+    Threads,
+    /// How many slots there would be.
+    Slots(u64),
+    Events,
+}
+
+/// What is past its limit in a line that declares a label or an object, or tells an event.
+pub(crate) fn limit_flaw(
+    declared: Declared<'_>,
+    kind: Text,
+    form: Form,
+    row: Row<'_>,
+) -> Option<LimitFlaw> {
+    match kind {
+        Text::Script | Text::Log => Some(match core_flaw(decimal(row.word(0))?) {
+            Some(flaw) => flaw,
+            None => LimitFlaw::Events,
+        }),
+        _ if form == Form::Label => Some(LimitFlaw::Labels),
+        _ => match own_flaw(form, row) {
+            Some(flaw) => Some(flaw),
+            None => object_flaw(declared, form, row),
+        },
+    }
+}
+
+fn core_flaw(core: u64) -> Option<LimitFlaw> {
+    if core > 15 {
+        Some(LimitFlaw::Core(core))
+    } else {
+        None
+    }
+}
+
+// What is past a limit of the object's kind.
+fn own_flaw(form: Form, row: Row<'_>) -> Option<LimitFlaw> {
+    match form {
+        Form::CNode => {
+            let radix = decimal(row.word(4))?;
+            if radix < 1 || radix > 12 {
+                return Some(LimitFlaw::Radix(radix));
+            }
+            None
+        }
+        Form::Untyped => {
+            let bits = decimal(row.word(4))?;
+            if bits < 4 || bits > 47 {
+                return Some(LimitFlaw::Bits(bits));
+            }
+            None
+        }
+        Form::Control => core_flaw(decimal(row.word(3))?),
+        Form::Context => share_flaw(row),
+        _ => None,
+    }
+}
+
+fn share_flaw(row: Row<'_>) -> Option<LimitFlaw> {
+    let core = decimal(row.word(4))?;
+    let budget = decimal(row.word(5))?;
+    let period = decimal(row.word(6))?;
+    if core > 15 {
+        return Some(LimitFlaw::Core(core));
+    }
+    if budget == 0 {
+        return Some(LimitFlaw::Budget);
+    }
+    if budget > period {
+        return Some(LimitFlaw::Share(budget, period));
+    }
+    if period > 3_600_000_000 {
+        return Some(LimitFlaw::Period(period));
+    }
+    None
+}
+
+// What is past a limit of all objects together.
+fn object_flaw(declared: Declared<'_>, form: Form, row: Row<'_>) -> Option<LimitFlaw> {
+    if let (Some(address), Some(size)) = (address_of(row.text), size_of(form, row.text)) {
+        if address.saturating_add(size) > 0x1_0000_0000_0000 {
+            return Some(LimitFlaw::End);
+        }
+    }
+    if declared.count(Sought::Objects) >= 4096 {
+        return Some(LimitFlaw::Objects);
+    }
+    if form == Form::Tcb && declared.count(Sought::Form(Form::Tcb)) >= 1024 {
+        return Some(LimitFlaw::Threads);
+    }
+    let slots = declared.slots().saturating_add(slots_of(row.text));
+    if slots > 65_536 {
+        return Some(LimitFlaw::Slots(slots));
+    }
+    None
+}

@@ -1,0 +1,118 @@
+//! Whether names are known, 51, and new, 52.
+use crate::declared::{Declared, Row, Sought};
+use forms::{Form, Text};
+
+/// A name that isn't known, or isn't new.
+#[derive(Clone, Copy)]
+pub(crate) enum KnownFlaw<'a> {
+    NoLabel(&'a str, Text),
+    /// An object's name where a label's is wanted, and the object's line in the table.
+    ObjectForLabel(&'a str, u64),
+    NoObject(&'a str, Text),
+    LabelForObject(&'a str, u64),
+}
+
+/// Something that is given twice, and the line that has it first.
+#[derive(Clone, Copy)]
+pub(crate) enum TwiceFlaw<'a> {
+    Label(&'a str, u64),
+    Object(&'a str, u64),
+    Control(&'a str, u64),
+    Untyped(&'a str, u64),
+    Bound(&'a str, u64),
+}
+
+/// The first name of a line that isn't known.
+pub(crate) fn known_flaw<'a>(
+    declared: Declared<'_>,
+    kind: Text,
+    form: Form,
+    row: Row<'a>,
+) -> Option<KnownFlaw<'a>> {
+    let mut at = 1u64;
+    for role in roles(form).as_bytes() {
+        let flaw = match *role {
+            b'L' => label_flaw(declared, kind, row.word(at)),
+            b'O' => object_flaw(declared, kind, row.word(at)),
+            _ => None,
+        };
+        if flaw.is_some() {
+            return flaw;
+        }
+        at = at.saturating_add(1);
+    }
+    None
+}
+
+// What the words after the first of a line name: L a label, O an object.
+fn roles(form: Form) -> &'static str {
+    match form {
+        Form::Cap | Form::Child | Form::Bind => "OO",
+        Form::Edge => "L-L",
+        Form::CertifiedCap => "OL-L",
+        Form::CertifiedSpace => "OLL",
+        Form::CertifiedDerive | Form::CertifiedRuns => "OOLL",
+        _ => "-L",
+    }
+}
+
+fn label_flaw<'a>(declared: Declared<'_>, kind: Text, name: &'a str) -> Option<KnownFlaw<'a>> {
+    if declared.row(Sought::Label(name)).is_some() {
+        return None;
+    }
+    match declared.row(Sought::Object(name)) {
+        Some(object) => Some(KnownFlaw::ObjectForLabel(name, object.line)),
+        None => Some(KnownFlaw::NoLabel(name, kind)),
+    }
+}
+
+// Of a slot its holder's name.
+fn object_flaw<'a>(declared: Declared<'_>, kind: Text, word: &'a str) -> Option<KnownFlaw<'a>> {
+    let name = holder_of(word);
+    if declared.row(Sought::Object(name)).is_some() {
+        return None;
+    }
+    match declared.row(Sought::Label(name)) {
+        Some(label) => Some(KnownFlaw::LabelForObject(name, label.line)),
+        None => Some(KnownFlaw::NoObject(name, kind)),
+    }
+}
+
+/// The name of a slot's holder.
+pub(crate) fn holder_of(word: &str) -> &str {
+    match word.split_once('.') {
+        Some((name, _)) => name,
+        None => word,
+    }
+}
+
+/// What a line of a table gives a second time.
+pub(crate) fn twice_flaw<'a>(
+    declared: Declared<'_>,
+    form: Form,
+    row: Row<'a>,
+) -> Option<TwiceFlaw<'a>> {
+    let (one, two) = (row.word(1), row.word(2));
+    match form {
+        Form::Label => {
+            let first = declared.row(Sought::Label(one))?;
+            Some(TwiceFlaw::Label(one, first.line))
+        }
+        Form::Cap => {
+            let first = declared.row(Sought::CapFor(two))?;
+            Some(TwiceFlaw::Untyped(two, first.line))
+        }
+        Form::Bind => {
+            let first = declared.row(Sought::Bound(two))?;
+            Some(TwiceFlaw::Bound(two, first.line))
+        }
+        _ => match declared.row(Sought::Object(one)) {
+            Some(first) => Some(TwiceFlaw::Object(one, first.line)),
+            None => {
+                let core = row.word(3);
+                let first = declared.row(Sought::Control(core))?;
+                Some(TwiceFlaw::Control(core, first.line))
+            }
+        },
+    }
+}

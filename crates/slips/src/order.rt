@@ -1,0 +1,83 @@
+//! Whether lines rise: 50.
+use crate::declared::{Declared, Row};
+use forms::{Form, Lines, Text, decimal, form_of, text_of};
+
+/// A line that doesn't come after an earlier one: what is compared, and the number of that line.
+#[derive(Clone, Copy)]
+pub(crate) struct OrderFlaw<'a> {
+    pub what: &'static str,
+    pub here: Ranked<'a>,
+    pub before: Ranked<'a>,
+    pub line: u64,
+}
+
+/// A word with the number and the index by which it is compared.
+#[derive(Clone, Copy)]
+pub(crate) struct Ranked<'a> {
+    pub word: &'a str,
+    /// The object's name.
+    pub name: &'a str,
+    pub number: u64,
+    pub index: u64,
+}
+
+/// Whether a line of a table is above the last one of its form.
+pub(crate) fn order_flaw<'a>(
+    declared: Declared<'a>,
+    form: Form,
+    row: Row<'a>,
+) -> Option<OrderFlaw<'a>> {
+    let at = match form {
+        Form::Cap | Form::Bind => 1,
+        Form::Child => 2,
+        _ => return None,
+    };
+    let last = last_row(declared, form)?;
+    let here = rank_of(declared, row.word(at))?;
+    let before = rank_of(declared, last.word(at))?;
+    if (here.number, here.index) > (before.number, before.index) {
+        return None;
+    }
+    Some(OrderFlaw {
+        what: what_rises(form),
+        here,
+        before,
+        line: last.line,
+    })
+}
+
+// By what lines of the form rise.
+fn what_rises(form: Form) -> &'static str {
+    match form {
+        Form::Bind => "threads",
+        _ => "slots",
+    }
+}
+
+// The last line of the form.
+fn last_row<'a>(declared: Declared<'a>, form: Form) -> Option<Row<'a>> {
+    let mut last = None;
+    let mut lines = Lines::new(declared.text);
+    for line in 1..declared.end {
+        let text = text_of(lines.next_line()?);
+        if form_of(Text::Table, text) == Some(form) {
+            last = Some(Row { line, text });
+        }
+    }
+    last
+}
+
+// By what a slot or an object is compared.
+fn rank_of<'a>(declared: Declared<'_>, word: &'a str) -> Option<Ranked<'a>> {
+    let (name, index) = match word.split_once('.') {
+        Some((name, "root")) => (name, 0),
+        Some((name, index)) => (name, decimal(index)?),
+        None => (word, 0),
+    };
+    Some(Ranked {
+        word,
+        name,
+        number: declared.number_of(name)?,
+        index,
+    })
+}

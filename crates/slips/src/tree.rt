@@ -1,0 +1,83 @@
+//! Whether a pair of the derivation tree keeps its rules: 56.
+use crate::declared::{Declared, Row, Sought};
+use forms::{Form, decimal, right_number};
+
+/// The rule that a pair of the derivation tree breaks.
+#[derive(Clone, Copy)]
+pub(crate) enum TreeFlaw<'a> {
+    Empty(&'a str),
+    /// The objects of the parent and of the child.
+    Objects(&'a str, &'a str),
+    /// The capability for untyped memory, as parent or child.
+    Untyped(&'a str),
+    /// The parent, its own parent, and the line that says so.
+    Copied(&'a str, &'a str, u64),
+    /// The badges of the parent and of the child.
+    Badges(u64, u64),
+    /// A right that the parent lacks.
+    Right(char),
+}
+
+/// Which rule a `child` line of a whole table breaks.
+pub(crate) fn tree_flaw<'a>(table: Declared<'a>, row: Row<'a>) -> Option<TreeFlaw<'a>> {
+    let (one, two) = (row.word(1), row.word(2));
+    let Some(parent) = table.row(Sought::Cap(one)) else {
+        return Some(TreeFlaw::Empty(one));
+    };
+    let Some(child) = table.row(Sought::Cap(two)) else {
+        return Some(TreeFlaw::Empty(two));
+    };
+    if parent.word(2) != child.word(2) {
+        return Some(TreeFlaw::Objects(parent.word(2), child.word(2)));
+    }
+    if table.object(parent.word(2))?.form == Form::Untyped {
+        return Some(TreeFlaw::Untyped(parent.word(2)));
+    }
+    if let Some(flaw) = copied_flaw(table, parent) {
+        return Some(flaw);
+    }
+    let (above, below) = (badge_of(table, parent), badge_of(table, child));
+    if above != 0 && above != below {
+        return Some(TreeFlaw::Badges(above, below));
+    }
+    right_flaw(table, parent, child)
+}
+
+// Whether a parent isn't original: its badge is that of its own parent.
+fn copied_flaw<'a>(table: Declared<'a>, parent: Row<'a>) -> Option<TreeFlaw<'a>> {
+    let pair = table.row(Sought::Child(parent.word(1)))?;
+    let source = table.row(Sought::Cap(pair.word(1)))?;
+    if badge_of(table, source) != badge_of(table, parent) {
+        return None;
+    }
+    Some(TreeFlaw::Copied(parent.word(1), pair.word(1), pair.line))
+}
+
+// The badge of a capability; of a kind without badges it is 0.
+fn badge_of(table: Declared<'_>, cap: Row<'_>) -> u64 {
+    match table.object(cap.word(2)) {
+        Some(object) if matches!(object.form, Form::Endpoint | Form::Notification) => {
+            match decimal(cap.word(4)) {
+                Some(badge) => badge,
+                None => 0,
+            }
+        }
+        _ => 0,
+    }
+}
+
+// The first right of a child that the parent lacks.
+fn right_flaw<'a>(table: Declared<'_>, parent: Row<'_>, child: Row<'_>) -> Option<TreeFlaw<'a>> {
+    match table.object(parent.word(2))?.form {
+        Form::Endpoint | Form::Notification | Form::Frame => {}
+        _ => return None,
+    }
+    let has = parent.word(3).as_bytes();
+    for letter in child.word(3).as_bytes() {
+        let is_lacking = !has.iter().any(|right| *right == *letter);
+        if right_number(*letter).is_some() && is_lacking {
+            return Some(TreeFlaw::Right(*letter as char));
+        }
+    }
+    None
+}
