@@ -10,7 +10,7 @@ use std::marker::Model;
 
 /// The kernel's state.
 ///
-/// A look-up or a change of one object finds it by a hash of its number, however many there are.
+/// A look-up or a change of one object finds it by its number in the same time, however many there are.
 #[derive(Drop)]
 pub struct State {
     store: Store,
