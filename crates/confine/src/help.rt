@@ -128,6 +128,8 @@ pub const EXPLAIN: &str =
 
 pub const WORKERS: &str = "Threads that look over the slots side by side, 1 to 16";
 
+pub const WRONG_WORKERS: &str = "'--workers <N>' takes a decimal number from 1 to 16";
+
 pub const CERT: &str = "Writes the certificate of an accepted table in place of the report";
 
 pub const SPLIT: &str =

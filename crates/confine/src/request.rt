@@ -137,7 +137,13 @@ pub fn read_request<'a>(alloc: Global, words: &'a [String]) -> Result<CommandLin
     let matches = command.try_get_matches_from_mut(words)?;
     match line_of(&matches) {
         Some(line) => Ok(line),
-        None => Err(command.error(ErrorKind::MissingSubcommand, "a command is missing")?),
+        None => {
+            let (kind, message) = match matches.subcommand() {
+                Some(_) => (ErrorKind::InvalidValue, help::WRONG_WORKERS),
+                None => (ErrorKind::MissingSubcommand, "a command is missing"),
+            };
+            Err(command.error(kind, message)?)
+        }
     }
 }
 
@@ -242,9 +248,7 @@ fn check_command<'a>(alloc: Global) -> Result<Command<'a>, AllocError> {
         .long("workers")
         .value_name("N")
         .help(help::WORKERS)
-        .value_parser(COUNTS.as_slice())
         .allow_negative_numbers(true)
-        .hide_possible_values(true)
         .default_value("1");
     let cert = Arg::new(alloc, "cert")
         .long("cert")
