@@ -28,10 +28,10 @@ use std::io::{Read, Write};
 use std::process::ExitCode;
 use std::sync::Wait;
 use std::thread::Threads;
-use std::{env, fs, io};
+use std::{env, io};
 
 fn main(rt: HostRuntime) -> ExitCode {
-    let opener = |path: &str| fs::open(&rt, path);
+    let opener = |path: &str| files::open(&rt, path);
     let words = words(&rt);
     let mut out = Watched::new(io::writer(&rt));
     let status = match asked(rt.alloc(), &words) {
