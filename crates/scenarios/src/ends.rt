@@ -1,10 +1,11 @@
 //! How a command ends whose devices fail: its message, its status, and what it has written by then.
 use crate::failing::{Given, Page};
 use crate::session::{Command, Ending, Files, ending_of};
-use report::File;
+use report::{File, OnAccept};
 use std::alloc::Global;
 use std::io::ErrorKind;
 use std::process::Abort;
+use std::sync::Wait;
 use std::test::Fail;
 use std::thread::Threads;
 
@@ -59,6 +60,37 @@ confine-log 1
 end
 ";
 
+/// A script of one core, so that a run by workers has one log.
+const POLLS: &str = "\
+confine-script 1
+0 3 poll 0
+0 3 poll 0
+end
+";
+
+const LOG_OF_POLLS: &str = "\
+confine-log 1
+0 3 poll 0 = done word 0
+0 3 poll 0 = done word 0
+end
+";
+
+const CERTIFICATE: &str = "\
+confine-cert 1
+cap ca.0 a reset,notify b
+cap cb.0 b reset,await b
+space ta.root a a
+space tb.root b b
+runs ta xa a a
+runs tb xb b b
+end
+";
+
+const REPORT: &str =
+    "{\"caps\":4,\"cut\":{\"a\":[\"a\",\"b\"],\"b\":[\"b\"]},\"full\":{\"a\":[\"a\",\"b\"],\"b\":[\"b\"]},\"verdict\":\"accept\"}\n";
+
+const VERIFIED: &str = "{\"verdict\":\"accept\"}\n";
+
 const LEAST: &str = "confine-policy 1\nedge a context a\nedge a runs a\nend\n";
 
 const REASON: &str = "full\nedge a notify b\n";
@@ -71,11 +103,16 @@ const OUTSIDE: &str =
 const DENIAL: &str =
     "{\"place\":[\"ca.0\",\"reset\",\"b\"],\"rule\":\"A1\",\"verdict\":\"deny\"}\n";
 
+/// That a certificate lacks its first line.
+const NOT_THE_CERTIFICATE: &str = "{\"place\":[\"1\"],\"rule\":\"C1\",\"verdict\":\"deny\"}\n";
+
 const FAULTY_TABLE: &str = "{\"fault\":50,\"file\":\"table\",\"line\":1}\n";
 
 const FAULTY_POLICY: &str = "{\"fault\":50,\"file\":\"policy\",\"line\":1}\n";
 
 const FAULTY_SCRIPT: &str = "{\"fault\":50,\"file\":\"script\",\"line\":1}\n";
+
+const FAULTY_CERTIFICATE: &str = "{\"fault\":50,\"file\":\"certificate\",\"line\":1}\n";
 
 const FAULTY_LOG: &str = "{\"fault\":50,\"file\":\"log\",\"line\":1}\n";
 
@@ -85,10 +122,26 @@ const NO_POLICY: &str = "confine: cannot read policy";
 
 const NO_SCRIPT: &str = "confine: cannot read script";
 
+const NO_CERTIFICATE: &str = "confine: cannot read certificate";
+
 const NO_LOG: &str = "confine: cannot read log";
 
 /// The files that each command reads, with what is told where one can't be read.
-const MESSAGES: [(Command, File, &str); 10] = [
+const MESSAGES: [(Command, File, &str); 20] = [
+    (Command::Check(OnAccept::Report), File::Table, NO_TABLE),
+    (Command::Check(OnAccept::Report), File::Policy, NO_POLICY),
+    (Command::Check(OnAccept::Certificate), File::Table, NO_TABLE),
+    (
+        Command::Check(OnAccept::Certificate),
+        File::Policy,
+        NO_POLICY,
+    ),
+    (Command::Verify, File::Table, NO_TABLE),
+    (Command::Verify, File::Policy, NO_POLICY),
+    (Command::Verify, File::Certificate, NO_CERTIFICATE),
+    (Command::Split, File::Table, NO_TABLE),
+    (Command::Split, File::Policy, NO_POLICY),
+    (Command::Split, File::Script, NO_SCRIPT),
     (Command::Run, File::Table, NO_TABLE),
     (Command::Run, File::Policy, NO_POLICY),
     (Command::Run, File::Script, NO_SCRIPT),
@@ -105,6 +158,8 @@ const MESSAGES: [(Command, File, &str); 10] = [
 fn files_for(command: Command) -> Files<'static> {
     let third = match command {
         Command::Replay => LOG,
+        Command::Verify => CERTIFICATE,
+        Command::Split => POLLS,
         _ => SCRIPT,
     };
     Files {
@@ -139,9 +194,59 @@ fn to_close() -> Files<'static> {
     }
 }
 
-/// Files of each kind of answer, with the status and the answer.
-fn answers() -> [(Files<'static>, u8, &'static str); 10] {
+/// A command's files, with the status and the answer.
+type Answered = (Files<'static>, u8, &'static str);
+
+/// Files of each kind of answer of `check` and `verify`.
+fn answers_of_checks() -> [Answered; 8] {
+    let report = files_for(Command::Check(OnAccept::Report));
+    let certificate = files_for(Command::Check(OnAccept::Certificate));
+    let to_verify = files_for(Command::Verify);
+    let other = Given::text("confine-cert 1\nend\n");
+    [
+        (report, 0, REPORT),
+        (report.with(File::Policy, empty_policy()), 1, DENIAL),
+        (report.with(File::Policy, faulty()), 2, FAULTY_POLICY),
+        (certificate, 0, CERTIFICATE),
+        (certificate.with(File::Policy, empty_policy()), 1, DENIAL),
+        (to_verify, 0, VERIFIED),
+        (
+            to_verify.with(File::Certificate, other),
+            1,
+            NOT_THE_CERTIFICATE,
+        ),
+        (
+            to_verify.with(File::Certificate, faulty()),
+            2,
+            FAULTY_CERTIFICATE,
+        ),
+    ]
+}
+
+/// Files of each kind of answer of `run`.
+fn answers_of_runs() -> [Answered; 5] {
     let files = files_for(Command::Run);
+    [
+        (files, 0, LOG),
+        (files.with(File::Policy, empty_policy()), 1, DENIAL),
+        (files.with(File::Table, faulty()), 2, FAULTY_TABLE),
+        (files.with(File::Policy, faulty()), 2, FAULTY_POLICY),
+        (files.with(File::Script, faulty()), 2, FAULTY_SCRIPT),
+    ]
+}
+
+/// Files of each kind of answer of `run --split`.
+fn answers_of_splits() -> [Answered; 3] {
+    let files = files_for(Command::Split);
+    [
+        (files, 0, LOG_OF_POLLS),
+        (files.with(File::Policy, empty_policy()), 1, DENIAL),
+        (files.with(File::Script, faulty()), 2, FAULTY_SCRIPT),
+    ]
+}
+
+/// Files of each kind of answer of the other commands.
+fn answers_of_others() -> [Answered; 5] {
     let to_replay = files_for(Command::Replay);
     [
         (to_close(), 0, LEAST),
@@ -149,11 +254,6 @@ fn answers() -> [(Files<'static>, u8, &'static str); 10] {
         (to_replay, 0, LEGAL),
         (to_replay.with(File::Policy, empty_policy()), 1, OUTSIDE),
         (to_replay.with(File::Log, faulty()), 2, FAULTY_LOG),
-        (files, 0, LOG),
-        (files.with(File::Policy, empty_policy()), 1, DENIAL),
-        (files.with(File::Table, faulty()), 2, FAULTY_TABLE),
-        (files.with(File::Policy, faulty()), 2, FAULTY_POLICY),
-        (files.with(File::Script, faulty()), 2, FAULTY_SCRIPT),
     ]
 }
 
@@ -171,7 +271,7 @@ fn ends<R: Abort>(
 }
 
 /// Carries out the command on the files, and sees how that ends.
-fn command_ends<R: Abort + AllocGlobal + Threads + Sync>(
+fn command_ends<R: Abort + AllocGlobal + Threads + Wait + Sync>(
     rt: &R,
     files: Files<'_>,
     end: (Option<&str>, u8, &str),
@@ -218,7 +318,7 @@ fn read_up_to(file: File) -> [bool; 3] {
 }
 
 /// A file that fails after so many bytes can't be read, and those after it aren't asked.
-fn fails_after<R: Abort + AllocGlobal + Threads + Sync>(
+fn fails_after<R: Abort + AllocGlobal + Threads + Wait + Sync>(
     rt: &R,
     (command, file, message): (Command, File, &str),
     given: Given<'_>,
@@ -289,7 +389,7 @@ fn a_read_without_memory_blames_no_file(rt: HostRuntime) -> Result<(), Fail> {
 }
 
 /// A page with room for so many bytes can't be written whole.
-fn overflows<R: Abort + AllocGlobal + Threads + Sync>(
+fn overflows<R: Abort + AllocGlobal + Threads + Wait + Sync>(
     rt: &R,
     files: Files<'_>,
     page: Page,
@@ -307,9 +407,12 @@ fn overflows<R: Abort + AllocGlobal + Threads + Sync>(
     Ok(())
 }
 
-#[test]
-fn an_answer_that_cannot_be_written_is_no_answer(rt: HostRuntime) -> Result<(), Fail> {
-    for (files, _, answer) in answers() {
+/// Whatever room a page has that is too small for the answer, the command can't write it.
+fn none_is_written<R: Abort + AllocGlobal + Threads + Wait + Sync>(
+    rt: &R,
+    answers: &[Answered],
+) -> Result<(), Fail> {
+    for (files, _, answer) in answers {
         for (most, failure) in [(usize::MAX, Some(ErrorKind::StorageFull)), (1, None)] {
             for room in 0..answer.len() {
                 let page = Page {
@@ -318,11 +421,31 @@ fn an_answer_that_cannot_be_written_is_no_answer(rt: HostRuntime) -> Result<(), 
                     failure,
                     ..Page::new(rt.alloc())
                 };
-                overflows(&rt, files, page, answer)?;
+                overflows(rt, *files, page, answer)?;
             }
         }
     }
     Ok(())
+}
+
+#[test]
+fn a_verdict_that_cannot_be_written_is_no_answer(rt: HostRuntime) -> Result<(), Fail> {
+    none_is_written(&rt, &answers_of_checks())
+}
+
+#[test]
+fn a_run_that_cannot_be_written_is_no_answer(rt: HostRuntime) -> Result<(), Fail> {
+    none_is_written(&rt, &answers_of_runs())
+}
+
+#[test]
+fn a_run_by_workers_that_cannot_be_written_is_no_answer(rt: HostRuntime) -> Result<(), Fail> {
+    none_is_written(&rt, &answers_of_splits())
+}
+
+#[test]
+fn an_answer_that_cannot_be_written_is_no_answer(rt: HostRuntime) -> Result<(), Fail> {
+    none_is_written(&rt, &answers_of_others())
 }
 
 /// How many bytes the files give a read, and the page takes a write, at most.
@@ -338,19 +461,30 @@ const AMOUNTS: [(usize, usize); 9] = [
     (usize::MAX, 7),
 ];
 
-#[test]
-fn how_many_bytes_a_device_moves_changes_no_answer(rt: HostRuntime) -> Result<(), Fail> {
+/// The commands give these answers, whatever the devices move.
+fn all_are_given<R: Abort + AllocGlobal + Threads + Wait + Sync>(
+    rt: &R,
+    answers: &[Answered],
+) -> Result<(), Fail> {
     for (reads, writes) in AMOUNTS {
-        for (files, status, answer) in answers() {
+        for (files, status, answer) in answers {
             // There is room for the answer and no more.
             let page = Page {
                 most: writes,
                 room: answer.len(),
                 ..Page::new(rt.alloc())
             };
-            let ending = ending_of(&rt, files.at_most(reads), page)?;
-            ends(&rt, &ending, (None, status, answer), 0);
+            let ending = ending_of(rt, files.at_most(reads), page)?;
+            ends(rt, &ending, (None, *status, *answer), 0);
         }
     }
     Ok(())
+}
+
+#[test]
+fn how_many_bytes_a_device_moves_changes_no_answer(rt: HostRuntime) -> Result<(), Fail> {
+    all_are_given(&rt, &answers_of_checks())?;
+    all_are_given(&rt, &answers_of_runs())?;
+    all_are_given(&rt, &answers_of_splits())?;
+    all_are_given(&rt, &answers_of_others())
 }

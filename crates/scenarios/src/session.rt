@@ -2,21 +2,28 @@
 ghost use Rattle.std.specs.Prelude.{◌≡◌, false};
 
 use crate::failing::{Given, Page};
-use report::{End, File, OnClose, Silence, Sink, Source, Watched, close, replay, run, why};
+use report::{
+    End, File, OnAccept, OnClose, Open, Silence, Sink, Source, Watched, check, close, replay, run,
+    run_split, verify, why,
+};
 use std::alloc::AllocGlobal;
+use std::sync::Wait;
 use std::test::Fail;
 use std::thread::Threads;
 
 /// What is asked of the files.
 #[derive(Clone, Copy)]
 pub enum Command {
+    Check(OnAccept),
+    Verify,
     Run,
+    Split,
     Replay,
     Close,
     Why,
 }
 
-/// A command and its files. The third is the script of a run or the log of a replay, and for these alone.
+/// A command and its files. The third is the script of a run, the log of a replay or a certificate, where the command reads one.
 #[derive(Clone, Copy)]
 pub struct Files<'a> {
     pub command: Command,
@@ -82,7 +89,7 @@ fn carry_out<R, T, P, S, O>(
     out: &mut O,
 ) -> End
 where
-    R: AllocGlobal + Threads + Sync,
+    R: AllocGlobal + Threads + Wait + Sync,
     T: Source,
     P: Source,
     S: Source,
@@ -93,6 +100,28 @@ where
     requires out { O.failed out.old ≡ false }
 {
     match command {
+        Command::Check(on_accept) => check(
+            rt,
+            rt.alloc(),
+            table,
+            policy,
+            on_accept,
+            1,
+            &Open,
+            &mut Silence,
+            out,
+        ),
+        Command::Verify => verify(rt, rt.alloc(), table, policy, third, &mut Silence, out),
+        Command::Split => run_split(
+            rt,
+            rt.alloc(),
+            table,
+            policy,
+            third,
+            &Open,
+            &mut Silence,
+            out,
+        ),
         Command::Run => run(rt, rt.alloc(), table, policy, third, &mut Silence, out),
         Command::Replay => replay(rt.alloc(), table, policy, third, &mut Silence, out),
         Command::Close => close(
@@ -108,7 +137,7 @@ where
 }
 
 /// A command that reads these files and writes onto this page.
-pub fn ending_of<R: Threads + Sync + AllocGlobal>(
+pub fn ending_of<R: AllocGlobal + Threads + Wait + Sync>(
     rt: &R,
     files: Files<'_>,
     page: Page,
