@@ -1,6 +1,6 @@
 //! `labels::authority` and `labels::slot_edges`.
 use crate::bell::{self, SLOT, table_edges};
-use crate::memory::{NO_MEMORY, answered, are, lend};
+use crate::memory::{NO_MEMORY, are, tries};
 use crate::tables::with_table;
 use labels::{authority, slot_edges};
 use std::process::Abort;
@@ -9,8 +9,12 @@ use table::Table;
 
 fn lists_the_authority<R: Abort + AllocGlobal>(rt: &R, table: &Table) -> Result<(), Fail> {
     let expected = table_edges()?;
-    let edges = answered(rt, authority(rt.alloc(), table), NO_MEMORY);
-    lend(edges, |edges| are(rt, edges, &expected))
+    tries(
+        rt,
+        NO_MEMORY,
+        || authority(rt.alloc(), table),
+        |edges| are(rt, edges, &expected),
+    )
 }
 
 fn lists_authority<R: Abort + AllocGlobal>(rt: &R, count: u64) -> Result<(), Fail> {
@@ -34,8 +38,12 @@ fn authority_after_75(rt: HostRuntime) -> Result<(), Fail> {
 
 fn lists_the_edges_of_a_slot<R: Abort + AllocGlobal>(rt: &R, table: &Table) -> Result<(), Fail> {
     let expected = bell::slot_edges()?;
-    let edges = answered(rt, slot_edges(rt.alloc(), table, SLOT), NO_MEMORY);
-    lend(edges, |edges| are(rt, edges, &expected))
+    tries(
+        rt,
+        NO_MEMORY,
+        || slot_edges(rt.alloc(), table, SLOT),
+        |edges| are(rt, edges, &expected),
+    )
 }
 
 fn lists_edges_of_a_slot<R: Abort + AllocGlobal>(rt: &R, count: u64) -> Result<(), Fail> {

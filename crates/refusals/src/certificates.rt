@@ -1,6 +1,6 @@
 //! `certificate::make`, `certificate::read`, `certificate::write` and `certificate::verify`.
 use crate::bell::{CERTIFICATE, POLICY, certificate_lines};
-use crate::memory::{NO_MEMORY, UNREAD, answered, are, lend, prepared};
+use crate::memory::{NO_MEMORY, UNREAD, are, lend, prepared, tries};
 use crate::tables::with_table;
 use captext::read_policy;
 use certificate::{Certificate, NotAccepted, make, read, verify, write};
@@ -16,8 +16,12 @@ pub fn is_the_certificate(rt: &impl Abort, certificate: &Certificate) -> Result<
 }
 
 fn makes_the_certificate<R: Abort + AllocGlobal>(rt: &R, table: &Table) -> Result<(), Fail> {
-    let made = answered(rt, make(rt.alloc(), table), NO_MEMORY);
-    lend(made, |certificate| is_the_certificate(rt, certificate))
+    tries(
+        rt,
+        NO_MEMORY,
+        || make(rt.alloc(), table),
+        |certificate| is_the_certificate(rt, certificate),
+    )
 }
 
 fn makes_a_certificate<R: Abort + AllocGlobal>(rt: &R, count: u64) -> Result<(), Fail> {
@@ -35,8 +39,12 @@ fn make_certificate_after_80(rt: HostRuntime) -> Result<(), Fail> {
 }
 
 fn reads_the_certificate<R: Abort + AllocGlobal>(rt: &R, table: &Table) -> Result<(), Fail> {
-    let read = answered(rt, read(rt.alloc(), CERTIFICATE.as_bytes(), table), UNREAD);
-    lend(read, |certificate| is_the_certificate(rt, certificate))
+    tries(
+        rt,
+        UNREAD,
+        || read(rt.alloc(), CERTIFICATE.as_bytes(), table),
+        |certificate| is_the_certificate(rt, certificate),
+    )
 }
 
 fn reads_a_certificate<R: Abort + AllocGlobal>(rt: &R, count: u64) -> Result<(), Fail> {
@@ -63,8 +71,12 @@ fn writes<R: Abort + AllocGlobal>(
     certificate: &Certificate,
     table: &Table,
 ) -> Result<(), Fail> {
-    let text = answered(rt, write(rt.alloc(), certificate, table), NO_MEMORY);
-    lend(text, |text| are(rt, text, CERTIFICATE.as_bytes()))
+    tries(
+        rt,
+        NO_MEMORY,
+        || write(rt.alloc(), certificate, table),
+        |text| are(rt, text, CERTIFICATE.as_bytes()),
+    )
 }
 
 fn writes_the_certificate<R: Abort + AllocGlobal>(rt: &R, table: &Table) -> Result<(), Fail> {
@@ -93,9 +105,12 @@ fn verifies<R: Abort + AllocGlobal + Threads + Sync>(
     policy: &Policy,
     certificate: &Certificate,
 ) -> Result<(), Fail> {
-    let answer = verify(rt, rt.alloc(), table, policy, certificate);
-    answered(rt, answer, NotAccepted::NoMemory)?;
-    Ok(())
+    tries(
+        rt,
+        NotAccepted::NoMemory,
+        || verify(rt, rt.alloc(), table, policy, certificate),
+        |_| Ok(()),
+    )
 }
 
 fn verifies_with<R: Abort + AllocGlobal + Threads + Sync>(

@@ -1,8 +1,7 @@
-//! The engines of `check`, for a report, for a certificate and for a denial, and of `verify`.
+//! The engines of `check`, for a report, for a certificate, for a denial and for a fault, and of `verify`.
 use crate::bell::{CERTIFICATE, POLICY, TABLE};
-use crate::engine::{DENIAL, EMPTY_POLICY, has_ended};
-use crate::memory::{prepared, spend};
-use report::{OnAccept, Open, Silence, Watched, check, verify};
+use crate::engine::{Answer, DENIAL, EMPTY_POLICY, FAULTY, answers};
+use report::{End, OnAccept, Open, Silence, Watched, check, verify};
 use std::process::Abort;
 use std::test::Fail;
 use std::thread::Threads;
@@ -10,20 +9,13 @@ use std::thread::Threads;
 const REPORT: &str =
     "{\"caps\":2,\"cut\":{\"a\":[\"a\"]},\"full\":{\"a\":[\"a\"]},\"verdict\":\"accept\"}\n";
 
-const VERIFIED: &str = "{\"verdict\":\"accept\"}\n";
-
-/// Runs the engine of `check`, which is to write this answer and to end with this status, onto a page
-/// with room for it.
-fn answers_check<R: Abort + AllocGlobal + Threads + Sync>(
+/// Runs the engine of `check` onto a page.
+fn check_onto<R: AllocGlobal + Threads + Sync>(
     rt: &R,
-    count: u64,
     policy: &str,
     on_accept: OnAccept,
-    status: u8,
-    answer: &str,
-) -> Result<(), Fail> {
-    spend(rt.alloc(), count)?;
-    let page = prepared(Vec::with_capacity(rt.alloc(), answer.len()))?;
+    page: Vec<u8>,
+) -> (End, Vec<u8>) {
     let mut table = Watched::new(TABLE.as_bytes());
     let mut policy = Watched::new(policy.as_bytes());
     let mut out = Watched::new(page);
@@ -38,11 +30,13 @@ fn answers_check<R: Abort + AllocGlobal + Threads + Sync>(
         &mut Silence,
         &mut out,
     );
-    has_ended(rt, end, status, &out.into_inner(), answer)
+    (end, out.into_inner())
 }
 
 fn reports<R: Abort + AllocGlobal + Threads + Sync>(rt: &R, count: u64) -> Result<(), Fail> {
-    answers_check(rt, count, POLICY, OnAccept::Report, 0, REPORT)
+    answers(rt, count, Answer::new(0, REPORT), |page| {
+        check_onto(rt, POLICY, OnAccept::Report, page)
+    })
 }
 
 #[test]
@@ -96,32 +90,9 @@ fn engine_check_report_after_54(rt: HostRuntime) -> Result<(), Fail> {
 }
 
 fn certifies<R: Abort + AllocGlobal + Threads + Sync>(rt: &R, count: u64) -> Result<(), Fail> {
-    answers_check(rt, count, POLICY, OnAccept::Certificate, 0, CERTIFICATE)
-}
-
-#[test]
-fn engine_check_certificate_after_99(rt: HostRuntime) -> Result<(), Fail> {
-    certifies(&rt, 99)
-}
-
-#[test]
-fn engine_check_certificate_after_94(rt: HostRuntime) -> Result<(), Fail> {
-    certifies(&rt, 94)
-}
-
-#[test]
-fn engine_check_certificate_after_89(rt: HostRuntime) -> Result<(), Fail> {
-    certifies(&rt, 89)
-}
-
-#[test]
-fn engine_check_certificate_after_84(rt: HostRuntime) -> Result<(), Fail> {
-    certifies(&rt, 84)
-}
-
-#[test]
-fn engine_check_certificate_after_79(rt: HostRuntime) -> Result<(), Fail> {
-    certifies(&rt, 79)
+    answers(rt, count, Answer::new(0, CERTIFICATE), |page| {
+        check_onto(rt, POLICY, OnAccept::Certificate, page)
+    })
 }
 
 #[test]
@@ -140,37 +111,9 @@ fn engine_check_certificate_after_64(rt: HostRuntime) -> Result<(), Fail> {
 }
 
 fn denies<R: Abort + AllocGlobal + Threads + Sync>(rt: &R, count: u64) -> Result<(), Fail> {
-    answers_check(rt, count, EMPTY_POLICY, OnAccept::Report, 1, DENIAL)
-}
-
-#[test]
-fn engine_check_denial_after_99(rt: HostRuntime) -> Result<(), Fail> {
-    denies(&rt, 99)
-}
-
-#[test]
-fn engine_check_denial_after_94(rt: HostRuntime) -> Result<(), Fail> {
-    denies(&rt, 94)
-}
-
-#[test]
-fn engine_check_denial_after_89(rt: HostRuntime) -> Result<(), Fail> {
-    denies(&rt, 89)
-}
-
-#[test]
-fn engine_check_denial_after_84(rt: HostRuntime) -> Result<(), Fail> {
-    denies(&rt, 84)
-}
-
-#[test]
-fn engine_check_denial_after_79(rt: HostRuntime) -> Result<(), Fail> {
-    denies(&rt, 79)
-}
-
-#[test]
-fn engine_check_denial_after_74(rt: HostRuntime) -> Result<(), Fail> {
-    denies(&rt, 74)
+    answers(rt, count, Answer::new(1, DENIAL), |page| {
+        check_onto(rt, EMPTY_POLICY, OnAccept::Report, page)
+    })
 }
 
 #[test]
@@ -188,13 +131,47 @@ fn engine_check_denial_after_59(rt: HostRuntime) -> Result<(), Fail> {
     denies(&rt, 59)
 }
 
-/// Runs the engine of `verify` in the same way.
-fn verifies<R: Abort + AllocGlobal + Threads + Sync>(rt: &R, count: u64) -> Result<(), Fail> {
-    spend(rt.alloc(), count)?;
-    let page = prepared(Vec::with_capacity(rt.alloc(), VERIFIED.len()))?;
+const FAULTY_POLICY: &str = "{\"fault\":50,\"file\":\"policy\",\"line\":1}\n";
+
+fn tells_a_fault<R: Abort + AllocGlobal + Threads + Sync>(rt: &R, count: u64) -> Result<(), Fail> {
+    answers(rt, count, Answer::new(2, FAULTY_POLICY), |page| {
+        check_onto(rt, FAULTY, OnAccept::Report, page)
+    })
+}
+
+#[test]
+fn engine_fault_policy_after_84(rt: HostRuntime) -> Result<(), Fail> {
+    tells_a_fault(&rt, 84)
+}
+
+#[test]
+fn engine_fault_policy_after_79(rt: HostRuntime) -> Result<(), Fail> {
+    tells_a_fault(&rt, 79)
+}
+
+#[test]
+fn engine_fault_policy_after_74(rt: HostRuntime) -> Result<(), Fail> {
+    tells_a_fault(&rt, 74)
+}
+
+const VERIFIED: &str = "{\"verdict\":\"accept\"}\n";
+
+/// A certificate that lacks the first line of the right one.
+const OTHER: &str = "confine-cert 1\nend\n";
+
+const PARTED: &str = "{\"place\":[\"1\"],\"rule\":\"C1\",\"verdict\":\"deny\"}\n";
+
+const FAULTY_CERTIFICATE: &str = "{\"fault\":50,\"file\":\"certificate\",\"line\":1}\n";
+
+/// Runs the engine of `verify` onto a page.
+fn verify_onto<R: AllocGlobal + Threads + Sync>(
+    rt: &R,
+    certificate: &str,
+    page: Vec<u8>,
+) -> (End, Vec<u8>) {
     let mut table = Watched::new(TABLE.as_bytes());
     let mut policy = Watched::new(POLICY.as_bytes());
-    let mut certificate = Watched::new(CERTIFICATE.as_bytes());
+    let mut certificate = Watched::new(certificate.as_bytes());
     let mut out = Watched::new(page);
     let end = verify(
         rt,
@@ -205,7 +182,13 @@ fn verifies<R: Abort + AllocGlobal + Threads + Sync>(rt: &R, count: u64) -> Resu
         &mut Silence,
         &mut out,
     );
-    has_ended(rt, end, 0, &out.into_inner(), VERIFIED)
+    (end, out.into_inner())
+}
+
+fn verifies<R: Abort + AllocGlobal + Threads + Sync>(rt: &R, count: u64) -> Result<(), Fail> {
+    answers(rt, count, Answer::new(0, VERIFIED), |page| {
+        verify_onto(rt, CERTIFICATE, page)
+    })
 }
 
 #[test]
@@ -246,4 +229,52 @@ fn engine_verify_after_69(rt: HostRuntime) -> Result<(), Fail> {
 #[test]
 fn engine_verify_after_64(rt: HostRuntime) -> Result<(), Fail> {
     verifies(&rt, 64)
+}
+
+fn tells_where_it_parts<R: Abort + AllocGlobal + Threads + Sync>(
+    rt: &R,
+    count: u64,
+) -> Result<(), Fail> {
+    answers(rt, count, Answer::new(1, PARTED), |page| {
+        verify_onto(rt, OTHER, page)
+    })
+}
+
+#[test]
+fn engine_verify_denial_after_64(rt: HostRuntime) -> Result<(), Fail> {
+    tells_where_it_parts(&rt, 64)
+}
+
+#[test]
+fn engine_verify_denial_after_59(rt: HostRuntime) -> Result<(), Fail> {
+    tells_where_it_parts(&rt, 59)
+}
+
+#[test]
+fn engine_verify_denial_after_54(rt: HostRuntime) -> Result<(), Fail> {
+    tells_where_it_parts(&rt, 54)
+}
+
+fn tells_a_fault_of_a_certificate<R: Abort + AllocGlobal + Threads + Sync>(
+    rt: &R,
+    count: u64,
+) -> Result<(), Fail> {
+    answers(rt, count, Answer::new(2, FAULTY_CERTIFICATE), |page| {
+        verify_onto(rt, FAULTY, page)
+    })
+}
+
+#[test]
+fn engine_fault_certificate_after_74(rt: HostRuntime) -> Result<(), Fail> {
+    tells_a_fault_of_a_certificate(&rt, 74)
+}
+
+#[test]
+fn engine_fault_certificate_after_69(rt: HostRuntime) -> Result<(), Fail> {
+    tells_a_fault_of_a_certificate(&rt, 69)
+}
+
+#[test]
+fn engine_fault_certificate_after_64(rt: HostRuntime) -> Result<(), Fail> {
+    tells_a_fault_of_a_certificate(&rt, 64)
 }

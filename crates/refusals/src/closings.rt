@@ -1,20 +1,27 @@
 //! `policy::close`, the engine of `close` for a table alone and for what a policy lacks, and the engine of `why`.
 use crate::bell::{POLICY, TABLE, edges};
 use crate::edges::has_edges;
-use crate::engine::{EMPTY_POLICY, has_ended};
-use crate::memory::{NO_MEMORY, answered, lend, prepared, spend};
+use crate::engine::{Answer, EMPTY_POLICY, answers};
+use crate::memory::{NO_MEMORY, lend, spend, tries};
 use policy::Policy;
-use report::{OnClose, Silence, Watched, close, start, why};
+use report::{End, OnClose, Silence, Watched, close, start, why};
 use std::process::Abort;
 use std::test::Fail;
 
 /// Closes a policy without an edge, with all edges of the system.
+fn closes_the<R: Abort + AllocGlobal>(rt: &R, empty: &Policy) -> Result<(), Fail> {
+    let edges = edges()?;
+    tries(
+        rt,
+        NO_MEMORY,
+        || policy::close(rt.alloc(), empty, &edges),
+        |closed| has_edges(rt, closed, &edges),
+    )
+}
+
 fn closes<R: Abort + AllocGlobal>(rt: &R, count: u64) -> Result<(), Fail> {
     spend(rt.alloc(), count)?;
-    let edges = edges()?;
-    let empty = Policy::new(rt.alloc());
-    let closed = answered(rt, policy::close(rt.alloc(), &empty, &edges), NO_MEMORY);
-    lend(closed, |closed| has_edges(rt, closed, &edges))
+    lend(Ok(Policy::new(rt.alloc())), |empty| closes_the(rt, empty))
 }
 
 #[test]
@@ -22,10 +29,8 @@ fn close_after_100(rt: HostRuntime) -> Result<(), Fail> {
     closes(&rt, 100)
 }
 
-/// Runs the engine, which is to write the policy of the system, onto a page with room for it.
-fn starts<R: Abort + AllocGlobal>(rt: &R, count: u64) -> Result<(), Fail> {
-    spend(rt.alloc(), count)?;
-    let page = prepared(Vec::with_capacity(rt.alloc(), POLICY.len()))?;
+/// Runs the engine of `close` for a table alone onto a page.
+fn start_onto<R: AllocGlobal>(rt: &R, page: Vec<u8>) -> (End, Vec<u8>) {
     let mut table = Watched::new(TABLE.as_bytes());
     let mut out = Watched::new(page);
     let end = start(
@@ -35,7 +40,13 @@ fn starts<R: Abort + AllocGlobal>(rt: &R, count: u64) -> Result<(), Fail> {
         &mut Silence,
         &mut out,
     );
-    has_ended(rt, end, 0, &out.into_inner(), POLICY)
+    (end, out.into_inner())
+}
+
+fn starts<R: Abort + AllocGlobal>(rt: &R, count: u64) -> Result<(), Fail> {
+    answers(rt, count, Answer::new(0, POLICY), |page| {
+        start_onto(rt, page)
+    })
 }
 
 #[test]
@@ -88,10 +99,8 @@ edge a derive a
 edge a runs a
 ";
 
-/// Runs the engine, which is to write what a policy without an edge lacks.
-fn tells_missing<R: Abort + AllocGlobal>(rt: &R, count: u64) -> Result<(), Fail> {
-    spend(rt.alloc(), count)?;
-    let page = prepared(Vec::with_capacity(rt.alloc(), LINES.len()))?;
+/// Runs the engine that tells what a policy without an edge lacks onto a page.
+fn close_onto<R: AllocGlobal>(rt: &R, page: Vec<u8>) -> (End, Vec<u8>) {
     let mut table = Watched::new(TABLE.as_bytes());
     let mut policy = Watched::new(EMPTY_POLICY.as_bytes());
     let mut out = Watched::new(page);
@@ -103,7 +112,13 @@ fn tells_missing<R: Abort + AllocGlobal>(rt: &R, count: u64) -> Result<(), Fail>
         &mut Silence,
         &mut out,
     );
-    has_ended(rt, end, 1, &out.into_inner(), LINES)
+    (end, out.into_inner())
+}
+
+fn tells_missing<R: Abort + AllocGlobal>(rt: &R, count: u64) -> Result<(), Fail> {
+    answers(rt, count, Answer::new(1, LINES), |page| {
+        close_onto(rt, page)
+    })
 }
 
 #[test]
@@ -146,10 +161,8 @@ fn engine_missing_after_64(rt: HostRuntime) -> Result<(), Fail> {
     tells_missing(&rt, 64)
 }
 
-/// Runs the engine, which is to tell that a label has full authority on itself.
-fn tells_why<R: Abort + AllocGlobal>(rt: &R, count: u64) -> Result<(), Fail> {
-    spend(rt.alloc(), count)?;
-    let page = prepared(Vec::with_capacity(rt.alloc(), 5))?;
+/// Runs the engine that tells whether a label has full authority on itself onto a page.
+fn why_onto<R: AllocGlobal>(rt: &R, page: Vec<u8>) -> (End, Vec<u8>) {
     let mut table = Watched::new(TABLE.as_bytes());
     let mut policy = Watched::new(POLICY.as_bytes());
     let mut out = Watched::new(page);
@@ -162,7 +175,13 @@ fn tells_why<R: Abort + AllocGlobal>(rt: &R, count: u64) -> Result<(), Fail> {
         &mut Silence,
         &mut out,
     );
-    has_ended(rt, end, 0, &out.into_inner(), "full\n")
+    (end, out.into_inner())
+}
+
+fn tells_why<R: Abort + AllocGlobal>(rt: &R, count: u64) -> Result<(), Fail> {
+    answers(rt, count, Answer::new(0, "full\n"), |page| {
+        why_onto(rt, page)
+    })
 }
 
 #[test]

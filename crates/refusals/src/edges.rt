@@ -1,6 +1,6 @@
 //! `policy::Policy::add` and `policy::Policy::edges`.
 use crate::bell::edges;
-use crate::memory::{NO_MEMORY, answered, are, lend, prepared, spend};
+use crate::memory::{NO_MEMORY, again, are, lend_mut, prepared, refused, spend, tries};
 use base::Edge;
 use policy::Policy;
 use std::process::Abort;
@@ -15,15 +15,19 @@ pub fn has_edges(rt: &impl Abort, policy: &Policy, rising: &[Edge]) -> Result<()
     Ok(())
 }
 
-/// Adds the first of these edges to a policy of the others: an edge that is refused isn't in it.
+/// Adds the first of these edges to a policy of the others: an edge that is refused isn't in it, and comes in the second time.
 fn adds_the_first(rt: &impl Abort, policy: &mut Policy, rising: &[Edge]) -> Result<(), Fail> {
     let (first, others) = rising.split_first().ok_or("edges")?;
-    let answer = policy.add(*first);
-    if answer.is_err() {
-        has_edges(rt, policy, others)?;
+    match policy.add(*first) {
+        Ok(()) => has_edges(rt, policy, rising),
+        Err(error) => {
+            assert_eq!(rt; error, NO_MEMORY);
+            has_edges(rt, policy, others)?;
+            again(policy.add(*first))?;
+            has_edges(rt, policy, rising)?;
+            Err(refused())
+        }
     }
-    answered(rt, answer, NO_MEMORY)?;
-    has_edges(rt, policy, rising)
 }
 
 /// Adds six edges, the last one first, so that each goes before those that are there.
@@ -38,8 +42,7 @@ fn adds_edges_to(rt: &impl Abort, policy: &mut Policy) -> Result<(), Fail> {
 
 fn adds_edges<R: Abort + AllocGlobal>(rt: &R, count: u64) -> Result<(), Fail> {
     spend(rt.alloc(), count)?;
-    let mut policy = Policy::new(rt.alloc());
-    adds_edges_to(rt, &mut policy)
+    lend_mut(Policy::new(rt.alloc()), |policy| adds_edges_to(rt, policy))
 }
 
 #[test]
@@ -49,17 +52,26 @@ fn add_after_100(rt: HostRuntime) -> Result<(), Fail> {
 
 fn lists_the_edges<R: Abort + AllocGlobal>(rt: &R, policy: &Policy) -> Result<(), Fail> {
     let expected = edges()?;
-    let listed = answered(rt, policy.edges(rt.alloc()), NO_MEMORY);
-    lend(listed, |listed| are(rt, listed, &expected))
+    tries(
+        rt,
+        NO_MEMORY,
+        || policy.edges(rt.alloc()),
+        |listed| are(rt, listed, &expected),
+    )
+}
+
+fn fills_and_lists<R: Abort + AllocGlobal>(rt: &R, policy: &mut Policy) -> Result<(), Fail> {
+    for edge in &edges()? {
+        prepared(policy.add(*edge))?;
+    }
+    lists_the_edges(rt, policy)
 }
 
 fn lists_edges<R: Abort + AllocGlobal>(rt: &R, count: u64) -> Result<(), Fail> {
     spend(rt.alloc(), count)?;
-    let mut policy = Policy::new(rt.alloc());
-    for edge in &edges()? {
-        prepared(policy.add(*edge))?;
-    }
-    lists_the_edges(rt, &policy)
+    lend_mut(Policy::new(rt.alloc()), |policy| {
+        fills_and_lists(rt, policy)
+    })
 }
 
 #[test]

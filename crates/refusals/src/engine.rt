@@ -1,4 +1,4 @@
-//! The engine of `run`, for a log, for a denial and for a fault.
+//! How an engine answers that may be refused memory; the engine of `run`, for a log, for a denial and for a fault.
 use crate::bell::{LOG, POLICY, SCRIPT, TABLE};
 use crate::memory::{are, prepared, refused, spend};
 use report::{End, Silence, Watched, run};
@@ -12,25 +12,101 @@ pub const EMPTY_POLICY: &str = "confine-policy 1\nend\n";
 pub const DENIAL: &str =
     "{\"place\":[\"c.0\",\"reset\",\"a\"],\"rule\":\"A1\",\"verdict\":\"deny\"}\n";
 
-/// A table whose second line is no line of a table.
+/// A text whose second line is no line of a table.
 const FAULTY_TABLE: &str = "confine-table 1\nlabel\nend\n";
 
 const FAULT: &str = "{\"fault\":50,\"file\":\"table\",\"line\":2}\n";
 
-/// Runs the engine, which is to write this answer and to end with this status, onto a page with room for it.
-fn answers<R: Abort + AllocGlobal + Threads + Sync>(
+/// A text that any file is faulty with, at line 1.
+pub const FAULTY: &str = "end\n";
+
+/// What an engine is to answer: its status, what it writes, and what it may write in place of this where it is refused memory and goes on.
+#[derive(Clone, Copy)]
+pub struct Answer<'a> {
+    pub status: u8,
+    pub text: &'a str,
+    pub without_memory: Option<&'a str>,
+}
+
+impl<'a> Answer<'a> {
+    /// One that is written as it is, or not at all.
+    pub fn new(status: u8, text: &'a str) -> Answer<'a> {
+        Answer {
+            status,
+            text,
+            without_memory: None,
+        }
+    }
+}
+
+/// Whether an engine was refused memory: then it has written nothing, or what it may write without. Else it has answered.
+fn was_refused(
+    rt: &impl Abort,
+    end: End,
+    written: &[u8],
+    answer: Answer<'_>,
+) -> Result<bool, Fail> {
+    if end == End::NoMemory {
+        assert_eq!(rt; written.len(), 0);
+        return Ok(true);
+    }
+    assert_eq!(rt; end, End::Status(answer.status));
+    if let Some(text) = answer.without_memory {
+        if written == text.as_bytes() {
+            return Ok(true);
+        }
+    }
+    are(rt, written, answer.text.as_bytes())?;
+    Ok(false)
+}
+
+/// Runs an engine onto a page with room for its answer.
+fn is_refused<R: Abort + AllocGlobal, F: Fn(Vec<u8>) -> (End, Vec<u8>) + Drop>(
+    rt: &R,
+    answer: Answer<'_>,
+    engine: &F,
+) -> Result<bool, Fail>
+    requires { F.IsAlwaysCallable engine.now }
+{
+    match prepared(Vec::with_capacity(rt.alloc(), answer.text.len())) {
+        Ok(page) => {
+            let (end, written) = engine(page);
+            let result = was_refused(rt, end, &written, answer);
+            drop(written);
+            result
+        }
+        Err(fail) => Err(fail),
+    }
+}
+
+/// Runs an engine after so many allocations. One that is refused memory is run again, and has to answer then.
+pub fn answers<R: Abort + AllocGlobal, F: Fn(Vec<u8>) -> (End, Vec<u8>) + Drop>(
     rt: &R,
     count: u64,
+    answer: Answer<'_>,
+    engine: F,
+) -> Result<(), Fail>
+    requires { F.IsAlwaysCallable engine }
+{
+    spend(rt.alloc(), count)?;
+    if is_refused(rt, answer, &engine)? {
+        assert!(rt; !is_refused(rt, answer, &engine)?);
+        return Err(refused());
+    }
+    Ok(())
+}
+
+/// Runs the engine of `run` onto a page.
+pub fn run_onto<R: AllocGlobal + Threads + Sync>(
+    rt: &R,
     table: &str,
     policy: &str,
-    status: u8,
-    answer: &str,
-) -> Result<(), Fail> {
-    spend(rt.alloc(), count)?;
-    let page = prepared(Vec::with_capacity(rt.alloc(), answer.len()))?;
+    script: &str,
+    page: Vec<u8>,
+) -> (End, Vec<u8>) {
     let mut table = Watched::new(table.as_bytes());
     let mut policy = Watched::new(policy.as_bytes());
-    let mut script = Watched::new(SCRIPT.as_bytes());
+    let mut script = Watched::new(script.as_bytes());
     let mut out = Watched::new(page);
     let end = run(
         rt,
@@ -41,27 +117,13 @@ fn answers<R: Abort + AllocGlobal + Threads + Sync>(
         &mut Silence,
         &mut out,
     );
-    has_ended(rt, end, status, &out.into_inner(), answer)
-}
-
-/// An engine that is refused memory has written nothing.
-pub fn has_ended(
-    rt: &impl Abort,
-    end: End,
-    status: u8,
-    written: &[u8],
-    answer: &str,
-) -> Result<(), Fail> {
-    if end == End::NoMemory {
-        assert_eq!(rt; written.len(), 0);
-        return Err(refused());
-    }
-    assert_eq!(rt; end, End::Status(status));
-    are(rt, written, answer.as_bytes())
+    (end, out.into_inner())
 }
 
 fn logs<R: Abort + AllocGlobal + Threads + Sync>(rt: &R, count: u64) -> Result<(), Fail> {
-    answers(rt, count, TABLE, POLICY, 0, LOG)
+    answers(rt, count, Answer::new(0, LOG), |page| {
+        run_onto(rt, TABLE, POLICY, SCRIPT, page)
+    })
 }
 
 #[test]
@@ -115,42 +177,9 @@ fn engine_log_after_54(rt: HostRuntime) -> Result<(), Fail> {
 }
 
 fn denies<R: Abort + AllocGlobal + Threads + Sync>(rt: &R, count: u64) -> Result<(), Fail> {
-    answers(rt, count, TABLE, EMPTY_POLICY, 1, DENIAL)
-}
-
-#[test]
-fn engine_denial_after_99(rt: HostRuntime) -> Result<(), Fail> {
-    denies(&rt, 99)
-}
-
-#[test]
-fn engine_denial_after_94(rt: HostRuntime) -> Result<(), Fail> {
-    denies(&rt, 94)
-}
-
-#[test]
-fn engine_denial_after_89(rt: HostRuntime) -> Result<(), Fail> {
-    denies(&rt, 89)
-}
-
-#[test]
-fn engine_denial_after_84(rt: HostRuntime) -> Result<(), Fail> {
-    denies(&rt, 84)
-}
-
-#[test]
-fn engine_denial_after_79(rt: HostRuntime) -> Result<(), Fail> {
-    denies(&rt, 79)
-}
-
-#[test]
-fn engine_denial_after_74(rt: HostRuntime) -> Result<(), Fail> {
-    denies(&rt, 74)
-}
-
-#[test]
-fn engine_denial_after_69(rt: HostRuntime) -> Result<(), Fail> {
-    denies(&rt, 69)
+    answers(rt, count, Answer::new(1, DENIAL), |page| {
+        run_onto(rt, TABLE, EMPTY_POLICY, SCRIPT, page)
+    })
 }
 
 #[test]
@@ -169,7 +198,9 @@ fn engine_denial_after_54(rt: HostRuntime) -> Result<(), Fail> {
 }
 
 fn tells_a_fault<R: Abort + AllocGlobal + Threads + Sync>(rt: &R, count: u64) -> Result<(), Fail> {
-    answers(rt, count, FAULTY_TABLE, POLICY, 2, FAULT)
+    answers(rt, count, Answer::new(2, FAULT), |page| {
+        run_onto(rt, FAULTY_TABLE, POLICY, SCRIPT, page)
+    })
 }
 
 #[test]
@@ -180,4 +211,30 @@ fn engine_fault_after_99(rt: HostRuntime) -> Result<(), Fail> {
 #[test]
 fn engine_fault_after_94(rt: HostRuntime) -> Result<(), Fail> {
     tells_a_fault(&rt, 94)
+}
+
+const FAULTY_SCRIPT: &str = "{\"fault\":50,\"file\":\"script\",\"line\":1}\n";
+
+fn tells_a_fault_of_a_script<R: Abort + AllocGlobal + Threads + Sync>(
+    rt: &R,
+    count: u64,
+) -> Result<(), Fail> {
+    answers(rt, count, Answer::new(2, FAULTY_SCRIPT), |page| {
+        run_onto(rt, TABLE, POLICY, FAULTY, page)
+    })
+}
+
+#[test]
+fn engine_fault_script_after_74(rt: HostRuntime) -> Result<(), Fail> {
+    tells_a_fault_of_a_script(&rt, 74)
+}
+
+#[test]
+fn engine_fault_script_after_69(rt: HostRuntime) -> Result<(), Fail> {
+    tells_a_fault_of_a_script(&rt, 69)
+}
+
+#[test]
+fn engine_fault_script_after_64(rt: HostRuntime) -> Result<(), Fail> {
+    tells_a_fault_of_a_script(&rt, 64)
 }

@@ -1,4 +1,4 @@
-//! Allocations of a test's own, and how a test ends that met a refusal.
+//! Allocations of a test's own, a call that may be refused memory, and how a test ends where it was.
 ghost use Rattle.std.specs.Prelude.{◌≡◌, IfOk, Ok};
 
 use base::Refusal;
@@ -32,34 +32,63 @@ pub fn spend(alloc: Global, count: u64) -> Result<(), Fail> {
 pub fn prepared<T, E: Drop>(made: Result<T, E>) -> Result<T, Fail>
     ensures { IfOk result (λ value. made ≡ Ok value) }
 {
-    made.map_err(|_| Fail::new("refused before the call"))
+    match made {
+        Ok(value) => Ok(value),
+        Err(_) => Err(Fail::new("refused before the call")),
+    }
 }
 
-/// What a call answered. One that was refused memory has to have said so by this error.
-pub fn answered<T, E: PartialEq + Debug + Drop>(
-    rt: &impl Abort,
-    answer: Result<T, E>,
-    no_memory: E,
-) -> Result<T, Fail> {
-    match answer {
-        Ok(value) => Ok(value),
+/// Makes a call, whose value has to pass a test. One that is refused memory has to say so by this error; it is made again
+/// then, and has to have its value. What it gave is let go here, as a value of any type: a function that lets go of a
+/// `Table` by name has a step for each of its fields, at each way out.
+pub fn tries<T, E, C, F>(rt: &impl Abort, no_memory: E, call: C, test: F) -> Result<(), Fail>
+where
+    T: Drop,
+    E: PartialEq + Debug + Drop,
+    C: Fn() -> Result<T, E> + Drop,
+    F: Fn(&T) -> Result<(), Fail> + Drop,
+    requires call { C.IsAlwaysCallable call }
+    requires test { F.IsAlwaysCallable test }
+{
+    match call() {
+        Ok(value) => test(&value),
         Err(error) => {
             assert_eq!(rt; error, no_memory);
+            lend(again(call()), test)?;
             Err(refused())
         }
     }
 }
 
-/// Lends what was made to the rest of a test. It is let go here, as a value of any type: a function that
-/// lets go of a `Table` by name has a step for each of its fields, at each way out.
-pub fn lend<T: Drop, F: FnOnce(&T) -> Result<(), Fail> + Drop>(
+/// What a call answered that was made again.
+pub fn again<T, E: Drop>(answer: Result<T, E>) -> Result<T, Fail> {
+    match answer {
+        Ok(value) => Ok(value),
+        Err(_) => Err(Fail::new("refused a second time")),
+    }
+}
+
+/// Lends what was made to the rest of a test. It is let go here, as in [`tries`].
+pub fn lend<T: Drop, F: Fn(&T) -> Result<(), Fail> + Drop>(
     made: Result<T, Fail>,
     test: F,
 ) -> Result<(), Fail>
     requires { F.IsAlwaysCallable test }
 {
-    let value = made?;
-    test(&value)
+    match made {
+        Ok(value) => test(&value),
+        Err(fail) => Err(fail),
+    }
+}
+
+/// Lends a value to a test that changes it, as [`lend`].
+pub fn lend_mut<T: Drop, F: Fn(&mut T) -> Result<(), Fail> + Drop>(
+    mut value: T,
+    test: F,
+) -> Result<(), Fail>
+    requires { F.IsAlwaysCallable test }
+{
+    test(&mut value)
 }
 
 /// Asserts that these items are the expected ones.

@@ -1,6 +1,6 @@
 //! `cores::Opened::open`.
 use crate::bell::{POLICY, core};
-use crate::memory::{NO_MEMORY, answered, lend, prepared};
+use crate::memory::{NO_MEMORY, lend, prepared, tries};
 use crate::tables::with_table;
 use captext::read_policy;
 use cores::Opened;
@@ -15,15 +15,15 @@ use verdict::{Accepted, judge};
 /// Opens a kernel with a seat.
 fn opens_for<R: Abort + AllocGlobal>(rt: &R, accepted: &Accepted<'_>) -> Result<(), Fail> {
     let cores = [core()?];
-    let opened = answered(
+    tries(
         rt,
-        Opened::open(rt.alloc(), accepted, 2, &cores, 1),
         NO_MEMORY,
-    );
-    lend(opened, |(_, seats)| {
-        assert_eq!(rt; seats.len(), 1);
-        Ok(())
-    })
+        || Opened::open(rt.alloc(), accepted, 2, &cores, 1),
+        |(_, seats)| {
+            assert_eq!(rt; seats.len(), 1);
+            Ok(())
+        },
+    )
 }
 
 fn opens_with<R: Abort + AllocGlobal + Threads + Sync>(
@@ -31,11 +31,11 @@ fn opens_with<R: Abort + AllocGlobal + Threads + Sync>(
     table: &Table,
     policy: &Policy,
 ) -> Result<(), Fail> {
-    let verdict = prepared(judge(rt, rt.alloc(), table, policy, 1, &Open))?;
-    match verdict {
-        Ok(accepted) => opens_for(rt, &accepted),
+    let verdict = prepared(judge(rt, rt.alloc(), table, policy, 1, &Open));
+    lend(verdict, |verdict| match verdict {
+        Ok(accepted) => opens_for(rt, accepted),
         Err(_) => Err(Fail::new("denied")),
-    }
+    })
 }
 
 fn opens_the<R: Abort + AllocGlobal + Threads + Sync>(rt: &R, table: &Table) -> Result<(), Fail> {

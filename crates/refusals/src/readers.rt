@@ -1,6 +1,6 @@
 //! `evtext::read_script` and `read_log`.
 use crate::bell::{DONE, LOG, SCRIPT, WORD, events};
-use crate::memory::{UNREAD, answered, are, lend, spend};
+use crate::memory::{UNREAD, are, spend, tries};
 use evtext::{read_log, read_script};
 use std::process::Abort;
 use std::test::Fail;
@@ -8,8 +8,12 @@ use std::test::Fail;
 fn reads_the_script<R: Abort + AllocGlobal>(rt: &R, count: u64) -> Result<(), Fail> {
     spend(rt.alloc(), count)?;
     let events = events()?;
-    let read = answered(rt, read_script(rt.alloc(), SCRIPT.as_bytes()), UNREAD);
-    lend(read, |read| are(rt, read, &events))
+    tries(
+        rt,
+        UNREAD,
+        || read_script(rt.alloc(), SCRIPT.as_bytes()),
+        |read| are(rt, read, &events),
+    )
 }
 
 #[test]
@@ -20,8 +24,12 @@ fn read_script_after_100(rt: HostRuntime) -> Result<(), Fail> {
 fn reads_the_log<R: Abort + AllocGlobal>(rt: &R, count: u64) -> Result<(), Fail> {
     spend(rt.alloc(), count)?;
     let [signal, poll] = events()?;
-    let read = answered(rt, read_log(rt.alloc(), LOG.as_bytes()), UNREAD);
-    lend(read, |read| are(rt, read, &[(signal, DONE), (poll, WORD)]))
+    tries(
+        rt,
+        UNREAD,
+        || read_log(rt.alloc(), LOG.as_bytes()),
+        |read| are(rt, read, &[(signal, DONE), (poll, WORD)]),
+    )
 }
 
 #[test]

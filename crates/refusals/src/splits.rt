@@ -1,17 +1,14 @@
 //! The engine of a run that is split among workers.
 use crate::bell::{LOG, POLICY, SCRIPT, TABLE};
-use crate::engine::has_ended;
-use crate::memory::{prepared, spend};
-use report::{Open, Silence, Watched, run_split};
+use crate::engine::{Answer, answers};
+use report::{End, Open, Silence, Watched, run_split};
 use std::process::Abort;
 use std::sync::Wait;
 use std::test::Fail;
 use std::thread::Threads;
 
-/// Runs the engine, which is to write the log, onto a page with room for it. All calls are one core's, so there is one log.
-fn splits<R: Abort + AllocGlobal + Threads + Wait + Sync>(rt: &R, count: u64) -> Result<(), Fail> {
-    spend(rt.alloc(), count)?;
-    let page = prepared(Vec::with_capacity(rt.alloc(), LOG.len()))?;
+/// Runs the engine onto a page.
+fn split_onto<R: AllocGlobal + Threads + Wait + Sync>(rt: &R, page: Vec<u8>) -> (End, Vec<u8>) {
     let mut table = Watched::new(TABLE.as_bytes());
     let mut policy = Watched::new(POLICY.as_bytes());
     let mut script = Watched::new(SCRIPT.as_bytes());
@@ -26,7 +23,12 @@ fn splits<R: Abort + AllocGlobal + Threads + Wait + Sync>(rt: &R, count: u64) ->
         &mut Silence,
         &mut out,
     );
-    has_ended(rt, end, 0, &out.into_inner(), LOG)
+    (end, out.into_inner())
+}
+
+/// All calls are one core's, so there is one log.
+fn splits<R: Abort + AllocGlobal + Threads + Wait + Sync>(rt: &R, count: u64) -> Result<(), Fail> {
+    answers(rt, count, Answer::new(0, LOG), |page| split_onto(rt, page))
 }
 
 #[test]

@@ -3,9 +3,8 @@ ghost use Rattle.std.specs.Prelude.{IfOk};
 ghost use Rattle.machine.specs.WellFormed.{IsWellFormed};
 
 use crate::bell::{DONE, WORD, events, is_booted};
-use crate::memory::{NO_MEMORY, answered, are, lend, prepared};
+use crate::memory::{NO_MEMORY, again, are, prepared, refused, tries};
 use crate::tables::with_table;
-use base::Refusal;
 use kernel::{boot, run};
 use machine::Outcome;
 use objects::State;
@@ -14,8 +13,12 @@ use std::test::Fail;
 use table::Table;
 
 fn boots_the<R: Abort + AllocGlobal>(rt: &R, table: &Table) -> Result<(), Fail> {
-    let state = answered(rt, boot(rt.alloc(), table), NO_MEMORY);
-    lend(state, |state| is_booted(rt, state))
+    tries(
+        rt,
+        NO_MEMORY,
+        || boot(rt.alloc(), table),
+        |state| is_booted(rt, state),
+    )
 }
 
 fn boots<R: Abort + AllocGlobal>(rt: &R, count: u64) -> Result<(), Fail> {
@@ -42,28 +45,31 @@ fn boot_after_70(rt: HostRuntime) -> Result<(), Fail> {
     boots(&rt, 70)
 }
 
-/// A run of the script's events on the boot state: one that is refused has made no step.
-fn has_run(
-    rt: &impl Abort,
-    answer: Result<(), Refusal>,
-    state: &State,
-    outcomes: &[Outcome],
-) -> Result<(), Fail> {
-    if answer.is_err() {
-        assert_eq!(rt; outcomes.len(), 0);
-        is_booted(rt, state)?;
+/// A run of the script's events on the boot state: one that is refused has made no step, and is made the second time.
+fn runs_into(rt: &impl Abort, state: &mut State, outcomes: &mut Vec<Outcome>) -> Result<(), Fail>
+    requires { IsWellFormed state.old }
+{
+    let events = events()?;
+    match run(state, &events, outcomes) {
+        Ok(()) => are(rt, outcomes, &[DONE, WORD]),
+        Err(error) => {
+            assert_eq!(rt; error, NO_MEMORY);
+            assert_eq!(rt; outcomes.len(), 0);
+            is_booted(rt, state)?;
+            again(run(state, &events, outcomes))?;
+            are(rt, outcomes, &[DONE, WORD])?;
+            Err(refused())
+        }
     }
-    answered(rt, answer, NO_MEMORY)?;
-    are(rt, outcomes, &[DONE, WORD])
 }
 
 fn runs_on<R: Abort + AllocGlobal>(rt: &R, state: &mut State) -> Result<(), Fail>
     requires { IsWellFormed state.old }
 {
-    let events = events()?;
     let mut outcomes = Vec::new(rt.alloc());
-    let answer = run(state, &events, &mut outcomes);
-    has_run(rt, answer, state, &outcomes)
+    let result = runs_into(rt, state, &mut outcomes);
+    drop(outcomes);
+    result
 }
 
 /// The boot state of a table.
@@ -74,8 +80,14 @@ pub fn booted<R: Abort + AllocGlobal>(rt: &R, table: &Table) -> Result<State, Fa
 }
 
 fn runs_after_boot<R: Abort + AllocGlobal>(rt: &R, table: &Table) -> Result<(), Fail> {
-    let mut state = booted(rt, table)?;
-    runs_on(rt, &mut state)
+    match booted(rt, table) {
+        Ok(mut state) => {
+            let result = runs_on(rt, &mut state);
+            drop(state);
+            result
+        }
+        Err(fail) => Err(fail),
+    }
 }
 
 fn runs<R: Abort + AllocGlobal>(rt: &R, count: u64) -> Result<(), Fail> {

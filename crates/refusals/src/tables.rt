@@ -1,7 +1,7 @@
 //! `captext::read_table` and `captext::read_policy`.
 use crate::bell::{POLICY, TABLE, edges, is_the_system};
 use crate::edges::has_edges;
-use crate::memory::{UNREAD, answered, lend, prepared, spend};
+use crate::memory::{UNREAD, lend, prepared, spend, tries};
 use captext::{read_policy, read_table};
 use std::process::Abort;
 use std::test::Fail;
@@ -9,8 +9,12 @@ use table::Table;
 
 fn reads_the_table<R: Abort + AllocGlobal>(rt: &R, count: u64) -> Result<(), Fail> {
     spend(rt.alloc(), count)?;
-    let read = answered(rt, read_table(rt.alloc(), TABLE.as_bytes()), UNREAD);
-    lend(read, |table| is_the_system(rt, table))
+    tries(
+        rt,
+        UNREAD,
+        || read_table(rt.alloc(), TABLE.as_bytes()),
+        |table| is_the_system(rt, table),
+    )
 }
 
 #[test]
@@ -40,16 +44,16 @@ fn read_table_after_80(rt: HostRuntime) -> Result<(), Fail> {
 
 fn reads_the_policy_for<R: Abort + AllocGlobal>(rt: &R, table: &Table) -> Result<(), Fail> {
     let edges = edges()?;
-    let read = answered(
+    tries(
         rt,
-        read_policy(rt.alloc(), POLICY.as_bytes(), table),
         UNREAD,
-    );
-    lend(read, |policy| has_edges(rt, policy, &edges))
+        || read_policy(rt.alloc(), POLICY.as_bytes(), table),
+        |policy| has_edges(rt, policy, &edges),
+    )
 }
 
 /// Makes so many allocations, and lends the system's table to the rest of a test.
-pub fn with_table<R: Abort + AllocGlobal, F: FnOnce(&Table) -> Result<(), Fail> + Drop>(
+pub fn with_table<R: Abort + AllocGlobal, F: Fn(&Table) -> Result<(), Fail> + Drop>(
     rt: &R,
     count: u64,
     test: F,

@@ -1,7 +1,7 @@
 //! `verdict::judge` and `checker::check`.
 use crate::bell::POLICY;
 use crate::certificates::is_the_certificate;
-use crate::memory::{NO_MEMORY, answered, lend, prepared};
+use crate::memory::{NO_MEMORY, lend, prepared, tries};
 use crate::tables::with_table;
 use captext::read_policy;
 use checker::{CheckError, Verdict, check};
@@ -13,15 +13,25 @@ use std::thread::Threads;
 use table::Table;
 use verdict::judge;
 
-fn accepts_the<R: Abort + AllocGlobal + Threads + Sync>(rt: &R, table: &Table) -> Result<(), Fail> {
-    let policy = prepared(read_policy(rt.alloc(), POLICY.as_bytes(), table))?;
-    let answer = answered(
+fn accepts_with<R: Abort + AllocGlobal + Threads + Sync>(
+    rt: &R,
+    table: &Table,
+    policy: &Policy,
+) -> Result<(), Fail> {
+    tries(
         rt,
-        judge(rt, rt.alloc(), table, &policy, 1, &Open),
         NO_MEMORY,
-    )?;
-    assert!(rt; answer.is_ok());
-    Ok(())
+        || judge(rt, rt.alloc(), table, policy, 1, &Open),
+        |verdict| {
+            assert!(rt; verdict.is_ok());
+            Ok(())
+        },
+    )
+}
+
+fn accepts_the<R: Abort + AllocGlobal + Threads + Sync>(rt: &R, table: &Table) -> Result<(), Fail> {
+    let policy = prepared(read_policy(rt.alloc(), POLICY.as_bytes(), table));
+    lend(policy, |policy| accepts_with(rt, table, policy))
 }
 
 fn accepts<R: Abort + AllocGlobal + Threads + Sync>(rt: &R, count: u64) -> Result<(), Fail> {
@@ -29,13 +39,13 @@ fn accepts<R: Abort + AllocGlobal + Threads + Sync>(rt: &R, count: u64) -> Resul
 }
 
 #[test]
-fn judge_after_80(rt: HostRuntime) -> Result<(), Fail> {
-    accepts(&rt, 80)
+fn judge_after_85(rt: HostRuntime) -> Result<(), Fail> {
+    accepts(&rt, 85)
 }
 
 #[test]
-fn judge_after_85(rt: HostRuntime) -> Result<(), Fail> {
-    accepts(&rt, 85)
+fn judge_after_80(rt: HostRuntime) -> Result<(), Fail> {
+    accepts(&rt, 80)
 }
 
 #[test]
@@ -60,9 +70,12 @@ fn checks_with<R: Abort + AllocGlobal + Threads + Sync>(
     table: &Table,
     policy: &Policy,
 ) -> Result<(), Fail> {
-    let answer = check(rt, rt.alloc(), table, policy, 1, &Open);
-    let verdict = answered(rt, answer, CheckError::NoMemory);
-    lend(verdict, |verdict| is_accepted(rt, verdict))
+    tries(
+        rt,
+        CheckError::NoMemory,
+        || check(rt, rt.alloc(), table, policy, 1, &Open),
+        |verdict| is_accepted(rt, verdict),
+    )
 }
 
 fn checks_the<R: Abort + AllocGlobal + Threads + Sync>(rt: &R, table: &Table) -> Result<(), Fail> {

@@ -1,6 +1,6 @@
 //! `captext::write_table`, `captext::write_policy` and `evtext::write_script`: what was read is written as it was.
 use crate::bell::{POLICY, SCRIPT, TABLE, events};
-use crate::memory::{NO_MEMORY, answered, are, lend, prepared, spend};
+use crate::memory::{NO_MEMORY, are, lend, prepared, spend, tries};
 use crate::tables::with_table;
 use captext::{read_policy, write_policy, write_table};
 use evtext::write_script;
@@ -10,8 +10,12 @@ use std::test::Fail;
 use table::Table;
 
 fn writes_the_table<R: Abort + AllocGlobal>(rt: &R, table: &Table) -> Result<(), Fail> {
-    let text = answered(rt, write_table(rt.alloc(), table), NO_MEMORY);
-    lend(text, |text| are(rt, text, TABLE.as_bytes()))
+    tries(
+        rt,
+        NO_MEMORY,
+        || write_table(rt.alloc(), table),
+        |text| are(rt, text, TABLE.as_bytes()),
+    )
 }
 
 fn writes_a_table<R: Abort + AllocGlobal>(rt: &R, count: u64) -> Result<(), Fail> {
@@ -38,8 +42,12 @@ fn writes_the_policy<R: Abort + AllocGlobal>(
     policy: &Policy,
     table: &Table,
 ) -> Result<(), Fail> {
-    let text = answered(rt, write_policy(rt.alloc(), policy, table), NO_MEMORY);
-    lend(text, |text| are(rt, text, POLICY.as_bytes()))
+    tries(
+        rt,
+        NO_MEMORY,
+        || write_policy(rt.alloc(), policy, table),
+        |text| are(rt, text, POLICY.as_bytes()),
+    )
 }
 
 fn writes_the_policy_for<R: Abort + AllocGlobal>(rt: &R, table: &Table) -> Result<(), Fail> {
@@ -64,8 +72,12 @@ fn write_policy_after_75(rt: HostRuntime) -> Result<(), Fail> {
 fn writes_a_script<R: Abort + AllocGlobal>(rt: &R, count: u64) -> Result<(), Fail> {
     spend(rt.alloc(), count)?;
     let events = events()?;
-    let text = answered(rt, write_script(rt.alloc(), &events), NO_MEMORY);
-    lend(text, |text| are(rt, text, SCRIPT.as_bytes()))
+    tries(
+        rt,
+        NO_MEMORY,
+        || write_script(rt.alloc(), &events),
+        |text| are(rt, text, SCRIPT.as_bytes()),
+    )
 }
 
 #[test]
