@@ -1,7 +1,7 @@
 ghost use Rattle.std.specs.Prelude.{◌≡◌, ◌↔◌, IfOk, IfNone, IfSome, IsTrue};
 ghost use Rattle.certificate.specs.Verified.{DiffersFirst, IsVerified};
 ghost use Rattle.policy.specs.Policy.{allows};
-ghost use Rattle.verdict.specs.Safe.{LabelsObjects, StaysConfined, KeepsIntegrity, GuardsBudgets};
+ghost use Rattle.verdict.specs.Safe.{LabelsObjects, StaysConfined, KeepsIntegrity, KeepsBounds, GuardsBudgets};
 
 use crate::line::{Certificate, Line};
 use crate::making::make;
@@ -42,6 +42,7 @@ pub fn verify<'a, R: Threads + Sync>(
     ensures labelled { IfOk result (λ accepted. LabelsObjects table.now) }
     ensures confined { IfOk result (λ accepted. StaysConfined table.now (allows policy.now)) }
     ensures integrity { IfOk result (λ accepted. KeepsIntegrity table.now (allows policy.now)) }
+    ensures bounds { IfOk result (λ accepted. KeepsBounds table.now (allows policy.now)) }
     ensures budgets { IfOk result (λ accepted. GuardsBudgets table.now (allows policy.now)) }
 {
     let accepted = match judge(rt, alloc, table, policy, 1, &Open) {

@@ -1,7 +1,7 @@
 ghost use Rattle.std.specs.Prelude.{◌≡◌, ◌≤◌, ◌↔◌, Err, IfOk};
 ghost use Rattle.checker.specs.Check.{IfAccepted, IsCheck, error_refusal};
 ghost use Rattle.policy.specs.Policy.{allows};
-ghost use Rattle.verdict.specs.Safe.{GuardsBudgets, KeepsIntegrity, LabelsObjects, StaysConfined};
+ghost use Rattle.verdict.specs.Safe.{GuardsBudgets, KeepsBounds, KeepsIntegrity, LabelsObjects, StaysConfined};
 
 use base::{Misuse, Refusal};
 use certificate::{Certificate, make};
@@ -46,9 +46,10 @@ impl From<CheckError> for Refusal {
 ///
 /// Where they are accepted, then after every list of kernel calls by any threads in any interleaving
 /// every capability lies within the policy; no step changes an object of a label on which its caller's
-/// label has no modifying authority; and a context's configured budget or period changes only by a
-/// caller whose label has the policy's SchedControl edge. Each object that is there then has a label,
-/// so that no authority goes unseen.
+/// label has no modifying authority, nor one of a label from which it may not take but by full
+/// authority; and a context's configured budget or period changes only by a caller whose label has the
+/// policy's SchedControl edge. Each object that is there then has a label, so that no authority goes
+/// unseen.
 ///
 /// # Errors
 ///
@@ -65,6 +66,7 @@ pub fn check<'a, R: Threads + Sync, G: Gate + Sync>(
     ensures labelled { IfOk result (λ verdict. IfAccepted verdict (LabelsObjects table.now)) }
     ensures confined { IfOk result (λ verdict. IfAccepted verdict (StaysConfined table.now (allows policy.now))) }
     ensures integrity { IfOk result (λ verdict. IfAccepted verdict (KeepsIntegrity table.now (allows policy.now))) }
+    ensures bounds { IfOk result (λ verdict. IfAccepted verdict (KeepsBounds table.now (allows policy.now))) }
     ensures budgets { IfOk result (λ verdict. IfAccepted verdict (GuardsBudgets table.now (allows policy.now))) }
     ensures workers { (result ≡ Err CheckError.WorkerCount) ↔ ¬ ((1 ≤ workers) × (workers ≤ 16)) }
 {
