@@ -1,9 +1,11 @@
 use crate::request::{Invocation, Request};
 use base::Refusal;
 use captext::{read_table, write_table};
-use explain::{explain_closing, explain_closing_command, explain_denial, explain_outside};
+use explain::{
+    explain_closing, explain_closing_command, explain_denial, explain_outside, explain_unlabelled,
+};
 use policy::Policy;
-use report::{End, Fault, File, Finding, Listener};
+use report::{Asked, End, Fault, File, Finding, Listener};
 use slips::{Text, explain_fault, explain_roots};
 use std::alloc::{AllocError, Global};
 use std::thread::Threads;
@@ -87,6 +89,13 @@ impl<R: AllocGlobal + Eprint> Listener for Explainer<'_, R> {
             }
             (None, Request::Close { .. }) => self.closed = copies(alloc, table, policy),
             (None, _) => {}
+        }
+    }
+
+    fn hear_unlabelled(&mut self, table: &Table, asked: Asked) {
+        if self.invocation.explains {
+            let word = self.invocation.request.word_of(asked);
+            self.tell(explain_unlabelled(self.rt.alloc(), table, word));
         }
     }
 }

@@ -4,7 +4,7 @@ ghost use Rattle.confine.specs.Requests.{IsWithinLimits, OnInTurn};
 use crate::help;
 use clap::error::ErrorKind;
 use clap::{Arg, ArgAction, ArgMatches, Command, Error};
-use report::{File, OnAccept, OnClose};
+use report::{Asked, File, OnAccept, OnClose};
 use std::alloc::{AllocError, Global};
 
 /// What a command line asks for.
@@ -119,6 +119,15 @@ impl<'a> Request<'a> {
             (File::Certificate, Request::Verify { certificate, .. }) => certificate,
             (File::Script, Request::Run { script, .. }) => script,
             (File::Log, Request::Replay { log, .. }) => log,
+            _ => "",
+        }
+    }
+
+    /// The word for a label that it asks about; none, which is an empty word, where it asks about none.
+    pub fn word_of(&self, asked: Asked) -> &'a str {
+        match (asked, *self) {
+            (Asked::Actor, Request::Why { actor, .. }) => actor,
+            (Asked::Object, Request::Why { object, .. }) => object,
             _ => "",
         }
     }

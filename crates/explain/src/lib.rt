@@ -1,11 +1,14 @@
-//! Words to a person: why a table and a policy are denied, and what may be done.
+//! Words to a person: why a table and a policy are denied, and what may be done, and that a word is no
+//! label.
 #![tactic(auto)]
 
 mod asked;
 mod closing;
 mod denials;
+mod labels;
 mod sentences;
 
 pub use asked::{an_asked_edge_is_missing, asked_edge};
 pub use closing::explain_closing;
 pub use denials::{explain_closing_command, explain_denial, explain_outside};
+pub use labels::explain_unlabelled;

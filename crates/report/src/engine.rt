@@ -51,14 +51,20 @@ where
     write(out, answer)
 }
 
-/// Has the listener hear of an answer to what was loaded, if there is one.
+/// Has the listener hear of an answer to what was loaded, if there is one, or which label it lacks.
 fn announce<X: Drop, L: Listener>(
     listener: &mut L,
     loaded: &Result<Loaded<X>, Stop>,
     answer: &Result<Answer, Unanswered>,
 ) {
-    if let (Ok(loaded), Ok(answer)) = (loaded, answer) {
-        listener.hear_answer(&loaded.table, &loaded.policy, answer.finding.as_ref());
+    match (loaded, answer) {
+        (Ok(loaded), Ok(answer)) => {
+            listener.hear_answer(&loaded.table, &loaded.policy, answer.finding.as_ref());
+        }
+        (Ok(loaded), Err(Unanswered::NoLabel(asked))) => {
+            listener.hear_unlabelled(&loaded.table, *asked);
+        }
+        _ => {}
     }
 }
 

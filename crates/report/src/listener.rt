@@ -1,4 +1,4 @@
-use crate::File;
+use crate::{Asked, File};
 use captext::Fault;
 use policy::Policy;
 use table::Table;
@@ -23,6 +23,9 @@ pub trait Listener {
 
     /// The files were judged: what is found wrong, if anything is.
     fn hear_answer(&mut self, table: &Table, policy: &Policy, finding: Option<&Finding>);
+
+    /// The table lacks a label that is asked about.
+    fn hear_unlabelled(&mut self, table: &Table, asked: Asked);
 }
 
 /// Nobody listens.
@@ -33,4 +36,6 @@ impl Listener for Silence {
     fn hear_fault(&mut self, _file: File, _text: &[u8], _table: Option<&Table>, _fault: Fault) {}
 
     fn hear_answer(&mut self, _table: &Table, _policy: &Policy, _finding: Option<&Finding>) {}
+
+    fn hear_unlabelled(&mut self, _table: &Table, _asked: Asked) {}
 }
