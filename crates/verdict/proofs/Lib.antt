@@ -26,6 +26,7 @@ pub mod MessageParts
 pub mod MessageKeeps
 pub mod Runs
 pub mod Aparts
+pub mod Extents
 pub mod AtBoot
 pub mod Gains
 pub mod Losses

@@ -8,6 +8,11 @@ use Rattle.machine.specs.Authority.{label_of}
 use Rattle.machine.specs.Layout.{Layout}
 use Rattle.machine.specs.Machine.{Machine}
 use Rattle.machine.specs.Step.{Step}
+use Rattle.policy.specs.Domain.{EdgeTest}
+use Rattle.policy.specs.Full.{IsFull}
+use Rattle.policy.specs.Take.{MayTake}
+use Rattle.verdict.specs.declared.extent.Extent.{Extent}
+use Rattle.verdict.specs.declared.extent.Extent.TheVariants as extent
 use Rattle.verdict.specs.Allowed.{IsLabelled}
 use Rattle.verdict.specs.Safe.{IsReached}
 use Rattle.verdict.specs.Shrinks.{IsSame, Shrinks}
@@ -25,3 +30,15 @@ NeverChanges t a l = AtEachStep t a l IsSame
 -- each object of the other's stays as it is, or shrinks
 abbrev pub OnlyTakes : Layout → ℕ → ℕ → Type 0
 OnlyTakes t a l = AtEachStep t a l (λ m next id. IsSame m next id ⊎ Shrinks m next id)
+
+-- the authority of a label on another goes so far by a policy, and no further
+abbrev pub GoesTo : EdgeTest → ℕ → ℕ → Extent → Type 0
+GoesTo test a l extent.Full = IsFull test a l
+GoesTo test a l extent.Take = (¬ IsFull test a l) × MayTake test a l
+GoesTo test a l extent.Nothing = (¬ IsFull test a l) × (¬ MayTake test a l)
+
+-- what no step of the one label's threads does to the objects of the other
+abbrev pub KeepsTo : Layout → ℕ → ℕ → Extent → Type 0
+KeepsTo t a l extent.Full = Unit {0}
+KeepsTo t a l extent.Take = OnlyTakes t a l
+KeepsTo t a l extent.Nothing = NeverChanges t a l

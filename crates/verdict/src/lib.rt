@@ -7,6 +7,7 @@ mod bindings;
 mod check;
 mod denial;
 mod excess;
+mod extent;
 mod laws;
 mod making;
 mod removing;
@@ -17,6 +18,7 @@ pub use accepted::Accepted;
 pub use check::judge;
 pub use denial::Denial;
 pub use excess::outside;
+pub use extent::Extent;
 pub use laws::{
     a_budget_needs_authority, a_signal_needs_authority, a_system_has_one_verdict,
     a_verdict_is_on_the_boot_state, confined_states_have_nothing_outside, cuts_follow_paths,

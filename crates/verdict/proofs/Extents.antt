@@ -1,0 +1,15 @@
+-- What an accepted system keeps, by how far a label's authority on another goes.
+use Rattle.std.proofs.Common.{ℕ}
+use Rattle.machine.specs.Layout.{Layout}
+use Rattle.policy.specs.Domain.{EdgeTest}
+use Rattle.verdict.specs.declared.extent.Extent.{Extent}
+use Rattle.verdict.specs.declared.extent.Extent.TheVariants as extent
+use Rattle.verdict.specs.Apart.{GoesTo, KeepsTo}
+use Rattle.verdict.specs.Safe.{KeepsBounds}
+use Rattle.verdict.proofs.Aparts.{never_changes, only_takes}
+
+pub kept_to :
+    (t : Layout) (allowed : EdgeTest) (a l : ℕ) (far : Extent) → KeepsBounds t allowed → GoesTo allowed a l far → KeepsTo t a l far
+kept_to t allowed a l extent.Full bounds goes = tt
+kept_to t allowed a l extent.Take bounds goes = only_takes t allowed a l bounds goes.0
+kept_to t allowed a l extent.Nothing bounds goes = never_changes t allowed a l bounds goes.0 goes.1
