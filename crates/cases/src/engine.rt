@@ -15,6 +15,8 @@ pub enum Command<'a> {
     Close,
     /// A closing that tells what is missing.
     Missing,
+    /// A closing that tells what is there without need.
+    Surplus,
     /// Why one label has authority on another.
     Why(&'a str, &'a str),
 }
@@ -34,6 +36,7 @@ impl<'a> Command<'a> {
             "verify" => Some(Command::Verify),
             "close" => Some(Command::Close),
             "missing" => Some(Command::Missing),
+            "surplus" => Some(Command::Surplus),
             _ => None,
         }
     }
@@ -98,28 +101,14 @@ pub fn answer_to<R: Threads + Sync>(
             &mut Silence,
             &mut out,
         ),
-        Command::Close => {
-            let wanted = OnClose::Policy;
-            close(
-                alloc,
-                &mut table,
-                &mut policy,
-                wanted,
-                &mut Silence,
-                &mut out,
-            )
-        }
-        Command::Missing => {
-            let wanted = OnClose::Missing;
-            close(
-                alloc,
-                &mut table,
-                &mut policy,
-                wanted,
-                &mut Silence,
-                &mut out,
-            )
-        }
+        Command::Close | Command::Missing | Command::Surplus => close(
+            alloc,
+            &mut table,
+            &mut policy,
+            wanted_of(command),
+            &mut Silence,
+            &mut out,
+        ),
         Command::Why(actor, object) => {
             why(
                 alloc,
@@ -163,5 +152,14 @@ pub fn answer_to<R: Threads + Sync>(
     Answer {
         status: end.status(),
         text: out.into_inner(),
+    }
+}
+
+/// What a closing is to write.
+fn wanted_of(command: Command<'_>) -> OnClose {
+    match command {
+        Command::Missing => OnClose::Missing,
+        Command::Surplus => OnClose::Surplus,
+        _ => OnClose::Policy,
     }
 }

@@ -5,7 +5,7 @@ use explain::{
     explain_closing, explain_closing_command, explain_denial, explain_outside, explain_unlabelled,
 };
 use policy::Policy;
-use report::{Asked, End, Fault, File, Finding, Listener};
+use report::{Asked, End, Fault, File, Finding, Listener, OnClose};
 use slips::{Text, explain_fault, explain_roots};
 use std::alloc::{AllocError, Global};
 use std::thread::Threads;
@@ -87,7 +87,13 @@ impl<R: AllocGlobal + Eprint> Listener for Explainer<'_, R> {
                     let _ = self.rt.eprint(notes);
                 }
             }
-            (None, Request::Close { .. }) => self.closed = copies(alloc, table, policy),
+            (
+                None,
+                Request::Close {
+                    on_close: OnClose::Policy | OnClose::Missing,
+                    ..
+                },
+            ) => self.closed = copies(alloc, table, policy),
             (None, _) => {}
         }
     }

@@ -121,7 +121,7 @@ are those of a script, each with ` = ` and an outcome:
   blocked
   refused CODE DETAIL";
 
-pub const VERSION: &str = "0.11.0";
+pub const VERSION: &str = "0.12.0";
 
 pub const EXPLAIN: &str =
     "Tells in sentences, on standard error, what is denied or faulty, and a way out";
@@ -137,6 +137,9 @@ pub const SPLIT: &str =
 
 pub const MISSING: &str =
     "Writes the lines alone that POLICY lacks; the status is 1 where there are any";
+
+pub const SURPLUS: &str =
+    "Writes the lines of POLICY alone that nothing asks for; the status as with --missing";
 
 pub const ACTOR: &str = "The label that acts, by its name in the table";
 
@@ -411,6 +414,14 @@ confine close table policy --missing
 It prints the lines that are to be added, each where it belongs, and ends with status 1:
 
 edge a reset b
+
+And what a policy has that is asked for neither by the table nor by a rule is told by `--surplus`:
+
+confine close table policy --surplus
+
+Since nobody may read `ring` any more, it prints a line that may go, and ends with status 1:
+
+edge a await b
 "
 );
 

@@ -215,6 +215,8 @@ fn request_of<'a>(name: &str, found: &ArgMatches<'a>) -> Option<Request<'a>>
             policy,
             on_close: if found.get_flag("missing") {
                 OnClose::Missing
+            } else if found.get_flag("surplus") {
+                OnClose::Surplus
             } else {
                 OnClose::Policy
             },
@@ -294,13 +296,19 @@ fn close_command<'a>(alloc: Global) -> Result<Command<'a>, AllocError> {
         .long("missing")
         .help(help::MISSING)
         .action(ArgAction::SetTrue);
+    let surplus = Arg::new(alloc, "surplus")
+        .long("surplus")
+        .help(help::SURPLUS)
+        .conflicts_with("missing")?
+        .action(ArgAction::SetTrue);
     Command::new(alloc, "close")
         .about(help::ABOUT_CLOSE)
         .after_help(help::EXAMPLE_CLOSE)
         .arg(explain(alloc))?
         .arg(word(alloc, "table", "TABLE", help::TABLE))?
         .arg(word(alloc, "policy", "POLICY", help::POLICY_TO_CLOSE).required(false))?
-        .arg(missing)
+        .arg(missing)?
+        .arg(surplus)
 }
 
 fn why_command<'a>(alloc: Global) -> Result<Command<'a>, AllocError> {

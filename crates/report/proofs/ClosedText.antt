@@ -15,7 +15,7 @@ use Rattle.machine.specs.Machine.{Machine}
 use Rattle.policy.specs.Closed.{IsClosed}
 use Rattle.policy.specs.Closing.{IsLeastClosed, IsWithin}
 use Rattle.policy.specs.Policy.{allows}
-use Rattle.report.specs.Closings.{Closes, IsAuthorityOf, IsClosing, missing_edges, missing_status}
+use Rattle.report.specs.Closings.{Closes, IsAuthorityOf, IsClosing, IsInEachPolicyFor, missing_edges, missing_status}
 use Rattle.report.specs.declared.closing.OnClose.TheVariants as on_close
 use Rattle.report.specs.declared.command.Answer.{Answer}
 use Rattle.report.proofs.ClosedLabels.{either_within, least_within, listed_within, within_listed}
@@ -29,67 +29,97 @@ same_answer true other there back = sym (there refl)
 same_answer false true there back = back refl
 same_answer false false there back = refl
 
--- what is told, of a table whose boot state has this authority
-module _ (t : Layout) (boot : Machine) (booted : IsBoot t boot) (edges authority policy : List Edge)
-    (of_boot : IsAuthorityOf t authority) (least : IsLeastClosed (edges ++ authority) policy)
-    (joins : (from : ℕ) (kind : Kind) (to : ℕ) → HasAuthority t boot from kind to → (from < length t.labels) × (to < length t.labels))
+-- which tables and policies are accepted
+abbrev pub AcceptedAsClosed : Layout → List Edge → Type 0
+AcceptedAsClosed t p = IsAccepted t (allows p) ↔ (IsClosed (allows p) × ((m : Machine) → IsBoot t m → IsConfined t (allows p) m))
+
+-- the least closed policy that has some edges and the authority of the boot state
+pub is_closing : (t : Layout) (edges authority policy : List Edge) → IsAuthorityOf t authority → IsLeastClosed (edges ++ authority) policy
+    → AcceptedAsClosed t policy → IsClosing t edges policy
+is_closing t edges authority policy of_boot least accepted =
+    record { authority = authority; of_boot = of_boot; least = least; accepted = accepted.1 (least.closed, confines) }
   where
     -- all authority of the boot state is in the policy
     confines : (m : Machine) → IsBoot t m → IsConfined t (allows policy) m
     confines m at from kind to has =
         least.has from kind to (allows_after edges authority from kind to ((of_boot m from kind to at).1 has))
 
-    -- its edges join labels of the table, if the given ones do
-    joins_labels : AllByRecursion (IsEdgeOf t) edges → AllByRecursion (IsEdgeOf t) policy
-    joins_labels each =
-        within_listed t policy
-        (least_within (length t.labels) (edges ++ authority) policy least
-        (either_within (length t.labels) edges authority (listed_within t edges each)
-        (λ from kind to e. joins from kind to ((of_boot boot from kind to booted).0 e))))
+-- nothing is lacked
+nothing_at : (missing : List Edge) → missing_status missing ≡ 0 → missing ≡ []
+nothing_at [] e = refl
+nothing_at (edge ∷ missing) e = cc
 
-    -- which tables and policies are accepted
-    abbrev AcceptedAsClosed : List Edge → Type 0
-    AcceptedAsClosed p =
-        IsAccepted t (allows p) ↔ (IsClosed (allows p) × ((m : Machine) → IsBoot t m → IsConfined t (allows p) m))
+-- what is told, of a table with this boot state
+module _ (t : Layout) (boot : Machine) (booted : IsBoot t boot) where
+  -- its edges join labels of the table, if the given ones do
+  joins_labels :
+      (edges policy : List Edge)
+      → ((from : ℕ) (kind : Kind) (to : ℕ) → HasAuthority t boot from kind to → (from < length t.labels) × (to < length t.labels))
+      → IsClosing t edges policy → AllByRecursion (IsEdgeOf t) edges → AllByRecursion (IsEdgeOf t) policy
+  joins_labels edges policy joins closing each =
+      within_listed t policy
+      (least_within (length t.labels) (edges ++ closing.authority) policy closing.least
+      (either_within (length t.labels) edges closing.authority (listed_within t edges each)
+      (λ from kind to e. joins from kind to ((closing.of_boot boot from kind to booted).0 e))))
 
-    is_closing : AcceptedAsClosed policy → IsClosing t edges policy
-    is_closing accepted =
-        record { authority = authority; of_boot = of_boot; least = least; accepted = accepted.1 (least.closed, confines) }
+  pub policy_told :
+      (edges policy : List Edge)
+      → ((from : ℕ) (kind : Kind) (to : ℕ) → HasAuthority t boot from kind to → (from < length t.labels) × (to < length t.labels))
+      → IsClosing t edges policy
+      → (text : List ℕ) → text ≡ policy_text t policy → (AllByRecursion (IsEdgeOf t) policy → read_policy_of t text ≡ Ok policy)
+      → Closes on_close.Policy t edges text 0
+  policy_told edges policy joins closing text told read =
+      (policy, closing, (told, (λ is. read (joins_labels edges policy joins closing is.1)), refl))
 
-    pub policy_told :
-        (text : List ℕ) → text ≡ policy_text t policy → (AllByRecursion (IsEdgeOf t) policy → read_policy_of t text ≡ Ok policy)
-        → AcceptedAsClosed policy → Closes on_close.Policy t edges text 0
-    policy_told text told read accepted =
-        (policy, is_closing accepted, (told, (λ is. read (joins_labels is.1)), refl))
+  -- the given edges are all there is, exactly if the table keeps to them
+  same_if_within : (edges policy : List Edge) → IsClosing t edges policy → IsWithin (allows policy) (allows edges) → allows policy ≡ allows edges
+  same_if_within edges policy closing within = λ i from kind to. same_answer _ _ (within from kind to)
+      (λ e. closing.least.has from kind to (allows_before edges closing.authority from kind to e)) i
 
-    -- the given edges are all there is, exactly if the table keeps to them
-    same_if_within : IsWithin (allows policy) (allows edges) → allows policy ≡ allows edges
-    same_if_within within = λ i from kind to. same_answer _ _ (within from kind to)
-        (λ e. least.has from kind to (allows_before edges authority from kind to e)) i
+  pub nothing_missing :
+      (edges policy : List Edge) → IsClosing t edges policy → (status : ℕ) → status ≡ missing_status (missing_edges edges policy)
+      → AcceptedAsClosed t edges → (status ≡ 0) ↔ IsAccepted t (allows edges)
+  nothing_missing edges policy closing status is accepted = (
+    (λ zero. subst (λ test. IsAccepted t test) (same_if_within edges policy closing (within_if_none (allows edges) policy (nothing_at _ (sym is ∙ zero)))) closing.accepted),
+    (λ kept. is ∙ ap missing_status (none_if_within (allows edges) policy (closing.least.least (allows edges) (accepted.0 kept).0 (given kept)))),
+  ) where
+    given : IsAccepted t (allows edges) → IsWithin (allows (edges ++ closing.authority)) (allows edges)
+    given kept from kind to e = elim (or_cases _ _ (sym (allows-append edges closing.authority from kind to) ∙ e)) [
+      | inl here ↦ here
+      | inr there ↦ (accepted.0 kept).1 boot booted from kind to ((closing.of_boot boot from kind to booted).0 there)
+    ]
 
-    pub nothing_missing :
-        (status : ℕ) → status ≡ missing_status (missing_edges edges policy) → AcceptedAsClosed policy → AcceptedAsClosed edges
-        → (status ≡ 0) ↔ IsAccepted t (allows edges)
-    nothing_missing status is closed_accepted accepted = (
-      (λ zero. subst (λ test. IsAccepted t test) (same_if_within (within_if_none (allows edges) policy (none_at _ (sym is ∙ zero)))) (is_closing closed_accepted).accepted),
-      (λ kept. is ∙ ap missing_status (none_if_within (allows edges) policy (least.least (allows edges) (accepted.0 kept).0 (given kept)))),
-    ) where
-      none_at : (missing : List Edge) → missing_status missing ≡ 0 → missing ≡ []
-      none_at [] e = refl
-      none_at (edge ∷ missing) e = cc
+  pub missing_told :
+      {E : Type 0} (result : Result Answer E) (edges policy : List Edge) → IsClosing t edges policy
+      → IfOk result (λ answer. answer.text.items ≡ edge_lines t (missing_edges edges policy))
+      → IfOk result (λ answer. answer.status ≡ missing_status (missing_edges edges policy))
+      → AcceptedAsClosed t edges
+      → IfOk result (λ answer. Closes on_close.Missing t edges answer.text.items answer.status)
+  missing_told (Ok answer) edges policy closing text status accepted =
+      (policy, closing, (text, status, nothing_missing edges policy closing answer.status status accepted))
+  missing_told (Err error) edges policy closing text status accepted = tt
 
-      given : IsAccepted t (allows edges) → IsWithin (allows (edges ++ authority)) (allows edges)
-      given kept from kind to e = elim (or_cases _ _ (sym (allows-append edges authority from kind to) ∙ e)) [
-        | inl here ↦ here
-        | inr there ↦ (accepted.0 kept).1 boot booted from kind to ((of_boot boot from kind to booted).0 there)
-      ]
+  -- the least policy for the table alone is within each to which the table keeps
+  least_in_each : (least : List Edge) → IsClosing t [] least → ((p : List Edge) → AcceptedAsClosed t p) → IsInEachPolicyFor t least
+  least_in_each least alone accepted policy kept =
+      let parts = (accepted policy).0 kept in
+      alone.least.least (allows policy) parts.0 (λ from kind to e. parts.1 boot booted from kind to ((alone.of_boot boot from kind to booted).0 e))
 
-    pub missing_told :
-        {E : Type 0} (result : Result Answer E)
-        → IfOk result (λ answer. answer.text.items ≡ edge_lines t (missing_edges edges policy))
-        → IfOk result (λ answer. answer.status ≡ missing_status (missing_edges edges policy))
-        → AcceptedAsClosed policy → AcceptedAsClosed edges
-        → IfOk result (λ answer. Closes on_close.Missing t edges answer.text.items answer.status)
-    missing_told (Ok answer) text status closed_accepted accepted =
-        (policy, is_closing closed_accepted, (text, status, nothing_missing answer.status status closed_accepted accepted))
-    missing_told (Err error) text status closed_accepted accepted = tt
+  nothing_surplus :
+      (edges least : List Edge) → IsClosing t [] least → (status : ℕ) → status ≡ missing_status (missing_edges least edges)
+      → ((p : List Edge) → AcceptedAsClosed t p) → (status ≡ 0) ↔ IsInEachPolicyFor t edges
+  nothing_surplus edges least alone status is accepted = (
+    (λ zero policy kept from kind to e.
+        least_in_each least alone accepted policy kept from kind to (within_if_none (allows least) edges (nothing_at _ (sym is ∙ zero)) from kind to e)),
+    (λ each. is ∙ ap missing_status (none_if_within (allows least) edges (each least alone.accepted))),
+  )
+
+  pub surplus_told :
+      {E : Type 0} (result : Result Answer E) (edges least : List Edge) → IsClosing t [] least
+      → IfOk result (λ answer. answer.text.items ≡ edge_lines t (missing_edges least edges))
+      → IfOk result (λ answer. answer.status ≡ missing_status (missing_edges least edges))
+      → ((p : List Edge) → AcceptedAsClosed t p)
+      → IfOk result (λ answer. Closes on_close.Surplus t edges answer.text.items answer.status)
+  surplus_told (Ok answer) edges least alone text status accepted =
+      (least, alone, (text, status, nothing_surplus edges least alone answer.status status accepted))
+  surplus_told (Err error) edges least alone text status accepted = tt

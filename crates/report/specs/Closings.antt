@@ -9,11 +9,11 @@ use Rattle.machine.specs.Authority.{HasAuthority}
 use Rattle.machine.specs.Boot.{IsBoot}
 use Rattle.machine.specs.Layout.{Layout}
 use Rattle.machine.specs.Machine.{Machine}
-use Rattle.policy.specs.Closing.{IsLeastClosed}
+use Rattle.policy.specs.Closing.{IsLeastClosed, IsWithin}
 use Rattle.policy.specs.Policy.{allows}
+use Rattle.report.specs.Alone.{IsAlone}
 use Rattle.report.specs.Answers.{no_file, no_label, read_nothing}
 use Rattle.report.specs.Commands.{Input, IsCarriedOut, Output}
-use Rattle.report.specs.declared.closing.Known.{Known}
 use Rattle.report.specs.declared.closing.OnClose.{OnClose}
 use Rattle.report.specs.declared.closing.OnClose.TheVariants as on_close
 use Rattle.report.specs.declared.end.End.{End}
@@ -33,6 +33,10 @@ pub record IsClosing (t : Layout) (edges policy : List Edge) : Type 0 where
   pub least : IsLeastClosed (edges ++ authority) policy
   pub accepted : IsAccepted t (allows policy)
 
+-- every policy to which the table keeps has these edges
+abbrev pub IsInEachPolicyFor : Layout → List Edge → Type 0
+IsInEachPolicyFor t edges = (policy : List Edge) → IsAccepted t (allows policy) → IsWithin (allows edges) (allows policy)
+
 -- the edges of a policy that another lacks
 abbrev pub missing_edges : List Edge → List Edge → List Edge
 missing_edges edges policy = filter (λ edge. not (allows edges edge.from edge.kind edge.to)) policy
@@ -42,27 +46,35 @@ abbrev pub missing_status : List Edge → ℕ
 missing_status [] = 0
 missing_status (edge ∷ edges) = 1
 
+-- the edges over which a policy is closed: the given ones; or none, where it is asked which of these the table and the rules don't ask for
+abbrev pub kept_edges : OnClose → List Edge → List Edge
+kept_edges on_close.Policy edges = edges
+kept_edges on_close.Missing edges = edges
+kept_edges on_close.Surplus edges = []
+
 -- a text and a status tell what is asked for of the least policy over some edges: its whole text; or the lines of what is missing,
--- with status 0 exactly where the table keeps to the given edges
+-- with status 0 exactly where the table keeps to the given edges; or the lines of the given edges that it lacks, with status 0 exactly
+-- where each of these is in every policy to which the table keeps
 abbrev pub TellsClosing : OnClose → Layout → List Edge → List Edge → List ℕ → ℕ → Type 0
 TellsClosing on_close.Policy t edges policy text status =
     (text ≡ policy_text t policy) × (IsPolicyOf t edges → read_policy_of t text ≡ Ok policy) × (status ≡ 0)
 TellsClosing on_close.Missing t edges policy text status =
     (text ≡ edge_lines t (missing_edges edges policy)) × (status ≡ missing_status (missing_edges edges policy))
     × ((status ≡ 0) ↔ IsAccepted t (allows edges))
+TellsClosing on_close.Surplus t edges policy text status =
+    (text ≡ edge_lines t (missing_edges policy edges)) × (status ≡ missing_status (missing_edges policy edges))
+    × ((status ≡ 0) ↔ IsInEachPolicyFor t edges)
 
 -- the answer to a table and a policy that is to be closed over it
 abbrev pub Closes : OnClose → Layout → List Edge → List ℕ → ℕ → Type 0
-Closes written t edges text status = (policy : List Edge) × IsClosing t edges policy × TellsClosing written t edges policy text status
+Closes written t edges text status =
+    (policy : List Edge) × IsClosing t (kept_edges written edges) policy × TellsClosing written t edges policy text status
 
 -- a policy was closed over a table
 abbrev pub IsClosedOver : {T P O : Type 0} → OnClose → Input T → Input P → Output O → End → Type 0
 IsClosedOver written table policy out end =
     IsCarriedOut file.Policy read_nothing no_label (λ t edges none. Closes written t edges) table policy no_file out end
 
--- a policy was made for a table alone: one without an edge, whose source can't fail, was closed over it
-pub record IsStarted {T O : Type 0} (written : OnClose) (table : Input T) (out : Output O) (end : End) : Type 0 where
-  pub policy : Input Known
-  pub bytes : policy.bytes ≡ Some (codes "confine-policy 1\nend\n")
-  pub is_sound : policy.failed ≡ false
-  pub carried_out : IsClosedOver written table policy out end
+-- a policy was made for a table alone: one without an edge was closed over it
+abbrev pub IsStarted : {T O : Type 0} → OnClose → Input T → Output O → End → Type 0
+IsStarted written table out end = IsAlone (λ policy. IsClosedOver written table policy out end)

@@ -5,15 +5,15 @@ ghost use Rattle.report.specs.Closings as closings;
 ghost use Rattle.report.specs.Commands.{input, output};
 
 use crate::command::{Answer, NoMemory};
+use crate::known::no_policy;
 use crate::question::{Question, answer_question};
-use crate::{Asked, End, Listener, ReadError, Sink, Source};
+use crate::{Asked, End, Listener, Sink, Source};
 use base::{Edge, Refusal};
 use captext::{write_edges, write_policy};
 use kernel::each_table_has_one_boot_state;
 use labels::{authority, boot_authority_joins_labels_of_its_table};
 use policy::Policy;
 use std::alloc::Global;
-use std::io::Read;
 use table::Table;
 use verdict::a_verdict_is_on_the_boot_state;
 
@@ -25,10 +25,13 @@ pub enum OnClose {
     /// The lines of those of its edges that the given policy lacks: with status 0 where there are none,
     /// and so the table keeps to the given policy, and 1 where there are some.
     Missing,
+    /// The lines of those edges of the given policy that the least one for the table alone lacks: with
+    /// status 0 where there are none, and 1 where there are some.
+    Surplus,
 }
 
 /// Closes a policy over a table: finds the least policy that has the policy's edges and to which the
-/// table keeps.
+/// table keeps; for [`OnClose::Surplus`] the least one to which it keeps, whatever the policy has.
 ///
 /// Writes what is asked for; or the report of the first fault, with status 2.
 pub fn close<T, P, L, O>(
@@ -53,9 +56,6 @@ where
     answer_question(&Closing { on_close }, alloc, table, policy, listener, out)
 }
 
-// The text of a policy without an edge, whatever the labels are.
-const NO_EDGES: &[u8] = b"confine-policy 1\nend\n";
-
 /// Makes a policy for a table alone, as closing one without an edge does.
 pub fn start<T, L, O>(
     alloc: Global,
@@ -73,26 +73,7 @@ where
     ensures { closings.IsStarted on_close (input T.remaining T.failed table.old table.new)
         (output O.contents O.failed O.is_flushed out.old out.new) result }
 {
-    let mut policy = Known { bytes: NO_EDGES };
-    close(alloc, table, &mut policy, on_close, listener, out)
-}
-
-/// Bytes that are known beforehand: no device can fail.
-#[derive(Drop)]
-struct Known<'a> {
-    bytes: &'a [u8],
-}
-
-impl Source for Known<'_> {
-    ghost use Rattle.std.specs.Prelude.{Some, false};
-
-    ghost remaining = { λ known. Some known.bytes.now };
-
-    ghost failed = { λ _. false };
-
-    fn read(&mut self, buf: &mut [u8]) -> Result<usize, ReadError> {
-        Ok(self.bytes.read(buf)?)
-    }
+    close(alloc, table, &mut no_policy(), on_close, listener, out)
 }
 
 /// The command `close`.
@@ -117,8 +98,7 @@ impl Question for Closing {
     }
 }
 
-/// What is asked for of the least closed policy that has the edges of a policy and all authority of a
-/// table's boot state.
+/// What is asked for of the least policy.
 fn closed(
     alloc: Global,
     table: &Table,
@@ -128,34 +108,79 @@ fn closed(
     ensures right { IfOk result (λ answer. closings.Closes on_close table.now policy.now answer.text.items answer.status) }
     ensures exit { IfOk result (λ answer. answer.status ≤ 2) }
 {
-    // Laws about tables, their boot states, and verdicts on these.
-    a_verdict_is_on_the_boot_state();
-    each_table_has_one_boot_state();
-    boot_authority_joins_labels_of_its_table();
-    let _ = table.objects();
-    let edges = authority(alloc, table)?;
-    let closed = policy::close(alloc, policy, &edges)?;
     match on_close {
-        OnClose::Policy => Ok(Answer {
-            text: write_policy(alloc, &closed, table)?,
-            status: 0,
-            finding: None,
-        }),
-        OnClose::Missing => missing_answer(alloc, table, policy, &closed),
+        OnClose::Policy => whole_answer(alloc, table, policy),
+        OnClose::Missing => missing_answer(alloc, table, policy),
+        OnClose::Surplus => surplus_answer(alloc, table, policy),
     }
 }
 
-/// The lines of the edges that are missing, and whether there are any.
-fn missing_answer(
+/// The least policy that has a policy's edges and to which the table keeps.
+fn least(alloc: Global, table: &Table, policy: &Policy) -> Result<Policy, Refusal>
+    ensures { IfOk result (λ closed. closings.IsClosing table.now policy.now closed) }
+{
+    a_verdict_is_on_the_boot_state();
+    let _ = table.objects();
+    let edges = authority(alloc, table)?;
+    policy::close(alloc, policy, &edges)
+}
+
+/// The text of the least policy.
+fn whole_answer(alloc: Global, table: &Table, policy: &Policy) -> Result<Answer, Refusal>
+    ensures right { IfOk result (λ answer. closings.Closes OnClose.Policy table.now policy.now answer.text.items answer.status) }
+    ensures exit { IfOk result (λ answer. answer.status ≤ 2) }
+{
+    // Laws about tables and their boot states.
+    each_table_has_one_boot_state();
+    boot_authority_joins_labels_of_its_table();
+    let _ = table.objects();
+    let closed = least(alloc, table, policy)?;
+    Ok(Answer {
+        text: write_policy(alloc, &closed, table)?,
+        status: 0,
+        finding: None,
+    })
+}
+
+/// The lines of the edges that the policy lacks, and whether there are any.
+fn missing_answer(alloc: Global, table: &Table, policy: &Policy) -> Result<Answer, Refusal>
+    ensures right { IfOk result (λ answer. closings.Closes OnClose.Missing table.now policy.now answer.text.items answer.status) }
+    ensures exit { IfOk result (λ answer. answer.status ≤ 2) }
+{
+    // Laws about tables, their boot states, and verdicts on these.
+    a_verdict_is_on_the_boot_state();
+    each_table_has_one_boot_state();
+    let _ = table.objects();
+    let closed = least(alloc, table, policy)?;
+    lacked_answer(alloc, table, policy, &closed)
+}
+
+/// The lines of the edges that the policy has and the table and the rules don't ask for, and whether there
+/// are any.
+fn surplus_answer(alloc: Global, table: &Table, policy: &Policy) -> Result<Answer, Refusal>
+    ensures right { IfOk result (λ answer. closings.Closes OnClose.Surplus table.now policy.now answer.text.items answer.status) }
+    ensures exit { IfOk result (λ answer. answer.status ≤ 2) }
+{
+    // Laws about tables, their boot states, and verdicts on these.
+    a_verdict_is_on_the_boot_state();
+    each_table_has_one_boot_state();
+    let _ = table.objects();
+    let asked_for = least(alloc, table, &Policy::new(alloc))?;
+    lacked_answer(alloc, table, &asked_for, policy)
+}
+
+/// The lines of the edges of the second policy that the first lacks, and whether there are any.
+fn lacked_answer(
     alloc: Global,
     table: &Table,
     policy: &Policy,
-    closed: &Policy,
+    other: &Policy,
 ) -> Result<Answer, Refusal>
-    ensures text { IfOk result (λ answer. answer.text.items ≡ edge_lines table.now (closings.missing_edges policy.now closed.now)) }
-    ensures status { IfOk result (λ answer. answer.status ≡ closings.missing_status (closings.missing_edges policy.now closed.now)) }
+    ensures text { IfOk result (λ answer. answer.text.items ≡ edge_lines table.now (closings.missing_edges policy.now other.now)) }
+    ensures status { IfOk result (λ answer. answer.status ≡ closings.missing_status (closings.missing_edges policy.now other.now)) }
+    ensures exit { IfOk result (λ answer. answer.status ≤ 2) }
 {
-    let missing = missing_edges(alloc, policy, closed)?;
+    let missing = missing_edges(alloc, policy, other)?;
     Ok(Answer {
         text: write_edges(alloc, &missing, table)?,
         status: if missing.is_empty() { 0 } else { 1 },
@@ -164,10 +189,10 @@ fn missing_answer(
 }
 
 /// The edges of the second policy that the first lacks.
-fn missing_edges(alloc: Global, policy: &Policy, closed: &Policy) -> Result<Vec<Edge>, Refusal>
-    ensures { IfOk result (λ missing. missing.items ≡ closings.missing_edges policy.now closed.now) }
+fn missing_edges(alloc: Global, policy: &Policy, other: &Policy) -> Result<Vec<Edge>, Refusal>
+    ensures { IfOk result (λ missing. missing.items ≡ closings.missing_edges policy.now other.now) }
 {
-    let mut missing = closed.edges(alloc)?;
+    let mut missing = other.edges(alloc)?;
     missing.retain(|edge| !policy.has(*edge));
     Ok(missing)
 }

@@ -8,6 +8,7 @@ mod closing;
 mod command;
 mod end;
 mod engine;
+mod known;
 mod listener;
 mod load;
 mod question;

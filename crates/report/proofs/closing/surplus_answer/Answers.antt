@@ -1,0 +1,14 @@
+-- The least policy for the table alone is the least that has no edge given.
+use Rattle.std.proofs.Common.{subst}
+use Rattle.report.specs.Closings.{IsClosing}
+use Rattle.report.proofs.ClosedText.{surplus_told}
+use Rattle.report.proofs.closing.surplus_answer.Goals as goal
+
+pub returns-clause-right : goal.returns-clause-right
+returns-clause-right c =
+    let t = c.args.table.now in
+    let boot = c.each_table_has_one_boot_state.ensures.exists t in
+    surplus_told t boot.0 boot.1 c.lacked_answer.result c.args.policy.now c.in_ok-asked_for.asked_for
+    (subst (λ edges. IsClosing t edges c.in_ok-asked_for.asked_for) c.new.ensures c.in_ok-asked_for.ensures)
+    c.lacked_answer.ensures.text c.lacked_answer.ensures.status
+    (λ p. c.a_verdict_is_on_the_boot_state.ensures.accepted t p c.objects.ensures.lawful)
