@@ -1,5 +1,7 @@
 //! The commands of the program, over texts in memory.
-use report::{OnAccept, OnClose, Open, Silence, Watched, check, close, replay, run, verify, why};
+use report::{
+    OnAccept, OnClose, Open, Silence, Watched, check, close, list, replay, run, verify, why,
+};
 use std::alloc::Global;
 use std::thread::Threads;
 
@@ -17,6 +19,7 @@ pub enum Command<'a> {
     Missing,
     /// A closing that tells what is there without need.
     Surplus,
+    List,
     /// Why one label has authority on another.
     Why(&'a str, &'a str),
 }
@@ -37,6 +40,7 @@ impl<'a> Command<'a> {
             "close" => Some(Command::Close),
             "missing" => Some(Command::Missing),
             "surplus" => Some(Command::Surplus),
+            "list" => Some(Command::List),
             _ => None,
         }
     }
@@ -109,6 +113,7 @@ pub fn answer_to<R: Threads + Sync>(
             &mut Silence,
             &mut out,
         ),
+        Command::List => list(alloc, &mut table, &mut Silence, &mut out),
         Command::Why(actor, object) => {
             why(
                 alloc,

@@ -5,12 +5,14 @@ use Rattle.confine.specs.declared.files.Files.{Files}
 use Rattle.confine.specs.declared.files.Files.TheVariants.{One, Two, Three}
 use Rattle.confine.specs.declared.request.Request.{Request}
 use Rattle.confine.specs.declared.request.Request.TheVariants.{Check, Verify, Run, Replay, Close, Why}
+use Rattle.confine.specs.declared.request.Request.TheVariants as request
 use Rattle.confine.specs.declared.request.SplitRun.{SplitRun}
 use Rattle.devices.specs.Opened.{bytes_left, opened}
 use Rattle.devices.specs.Watched.{device_of, failed_of, is_flushed_of}
 use Rattle.devices.specs.declared.opened.Unopened.{Unopened}
 use Rattle.devices.specs.declared.watched.Watched.{Watched}
 use Rattle.either.specs.declared.Either.{Either}
+use Rattle.report.specs.Alone.{IsListed}
 use Rattle.report.specs.Answers.{IsChecked, IsRun, IsRunSplit, IsVerifiedWith}
 use Rattle.report.specs.Closings.{IsClosedOver, IsStarted}
 use Rattle.report.specs.Commands.{Input, Output, input, output}
@@ -68,6 +70,7 @@ Serves opens remaining out (Close table None on_close) files end = OnOne files (
     OnOpened opens remaining table.now t_left (λ t. IsStarted on_close t out end))
 Serves opens remaining out (Why table policy actor object) files end = OnTwo files (λ t_left p_left.
     OnOpened opens remaining table.now t_left (λ t. OnOpened opens remaining policy.now p_left (λ p. IsTold actor.now object.now t p out end)))
+Serves opens remaining out (request.List table) files end = OnOne files (λ t_left. OnOpened opens remaining table.now t_left (λ t. IsListed t out end))
 
 -- a script was run by workers, on the files of these names
 abbrev pub ServesSplit :

@@ -23,6 +23,9 @@ pub const ABOUT_CLOSE: &str =
 pub const ABOUT_WHY: &str =
     "Tells which authority a label has on another by a policy, and by which edges";
 
+pub const ABOUT_LIST: &str =
+    "Lists the objects of a table: by which number a script names each, its kind, name and label";
+
 // Clap indents what a file holds by twelve columns.
 pub const TABLE: &str = "\
 The objects, the capabilities and who holds them. Its lines, between `confine-table 1`
@@ -422,6 +425,23 @@ confine close table policy --surplus
 Since nobody may read `ring` any more, it prints a line that may go, and ends with status 1:
 
 edge a await b
+"
+);
+
+pub const EXAMPLE_LIST: &str = with_table!(
+    "a thread `main` may signal a bell and poll it.
+By which number does a script name that thread?",
+    "\
+confine list table
+
+It prints a line for each object: its number, its kind, its name and its label. It ends with status 0:
+
+0 cnode space a
+1 tcb main a
+2 notification ring b
+3 context share a
+
+So a line of a script in which `main` signals on core 0 begins with `0 1 signal`.
 "
 );
 

@@ -7,7 +7,7 @@ ghost use Rattle.devices.specs.Watched.{failed_of};
 ghost use Rattle.report.specs.Ends.{status_of};
 ghost use Rattle.confine.specs.Opening.{IsStatusOf, Serves, ServesSplit, written};
 ghost use Rattle.confine.specs.Requests.{IsWithinLimits, OnInTurn};
-ghost use Rattle.confine.specs.declared.request.Request.TheVariants.{Check, Verify, Run, Replay, Close, Why};
+ghost use Rattle.confine.specs.declared.request.Request.TheVariants.{Check, Verify, Run, Replay, Close, Why, List};
 
 mod explaining;
 mod files;
@@ -18,7 +18,7 @@ use clap::error::ErrorKind;
 use explaining::{Explainer, tell_closing};
 use files::Files;
 use report::{
-    End, Listener, OnAccept, OnClose, Open, Watched, check, close, open_result, replay, run,
+    End, Listener, OnAccept, OnClose, Open, Watched, check, close, list, open_result, replay, run,
     run_split, start, verify, why,
 };
 use request::{CommandLine, Invocation, Request, SplitRun, read_request};
@@ -178,6 +178,7 @@ where
             actor,
             object,
         } => serve_why(rt, table, policy, actor, object, opener, listener, out),
+        Request::List { table } => serve_list(rt, table, opener, listener, out),
     }
 }
 
@@ -430,6 +431,31 @@ where
         out,
     );
     (end, Files::Two(table, policy))
+}
+
+/// Lists the objects of the table of this name.
+fn serve_list<R, F, O, L, W>(
+    rt: &R,
+    table: &str,
+    opener: O,
+    listener: &mut L,
+    out: &mut Watched<W>,
+) -> (End, Files<F>)
+where
+    R: AllocGlobal,
+    F: Read + Drop,
+    O: Fn(&str) -> io::Result<F> + Drop,
+    L: Listener,
+    W: Write,
+    requires opener { O.IsAlwaysCallable opener }
+    requires out { failed_of out.old ≡ false }
+    ensures served { Serves (FnReturnsAt O.Fn opener) F.remaining (written W.contents out.old out.new)
+        (List table.entry) result.1 result.0 }
+    ensures exit { status_of result.0 ≤ 2 }
+{
+    let mut table = open_result(opener(table));
+    let end = list(rt.alloc(), &mut table, listener, out);
+    (end, Files::One(table))
 }
 
 /// Says on standard error why there is no answer, where there is none; gives the exit status. That

@@ -89,6 +89,10 @@ pub enum Request<'a> {
         actor: &'a str,
         object: &'a str,
     },
+    /// Lists the objects of a table.
+    List {
+        table: &'a str,
+    },
 }
 
 impl<'a> Request<'a> {
@@ -102,7 +106,8 @@ impl<'a> Request<'a> {
                 | Request::Run { table, .. }
                 | Request::Replay { table, .. }
                 | Request::Close { table, .. }
-                | Request::Why { table, .. },
+                | Request::Why { table, .. }
+                | Request::List { table },
             ) => table,
             (
                 File::Policy,
@@ -227,6 +232,7 @@ fn request_of<'a>(name: &str, found: &ArgMatches<'a>) -> Option<Request<'a>>
             actor: found.get_str("actor")?,
             object: found.get_str("object")?,
         }),
+        "list" => Some(Request::List { table }),
         _ => None,
     }
 }
@@ -251,7 +257,8 @@ fn command<'a>(alloc: Global) -> Result<Command<'a>, AllocError> {
         .subcommand(run_command(alloc)?)?
         .subcommand(replay_command(alloc)?)?
         .subcommand(close_command(alloc)?)?
-        .subcommand(why_command(alloc)?)
+        .subcommand(why_command(alloc)?)?
+        .subcommand(list_command(alloc)?)
 }
 
 fn check_command<'a>(alloc: Global) -> Result<Command<'a>, AllocError> {
@@ -317,6 +324,14 @@ fn why_command<'a>(alloc: Global) -> Result<Command<'a>, AllocError> {
     on_system(alloc, "why", help::ABOUT_WHY, help::EXAMPLE_WHY)?
         .arg(actor)?
         .arg(object)
+}
+
+fn list_command<'a>(alloc: Global) -> Result<Command<'a>, AllocError> {
+    Command::new(alloc, "list")
+        .about(help::ABOUT_LIST)
+        .after_help(help::EXAMPLE_LIST)
+        .arg(explain(alloc))?
+        .arg(word(alloc, "table", "TABLE", help::TABLE))
 }
 
 // A command whose first files are a table and a policy.
