@@ -24,7 +24,7 @@ pub const ABOUT_WHY: &str =
     "Tells which authority a label has on another by a policy, and by which edges";
 
 pub const ABOUT_LIST: &str =
-    "Lists the objects of a table: by which number a script names each, its kind, name and label";
+    "Lists the objects of a table: by which number a script names each, its kind, name, label";
 
 // Clap indents what a file holds by twelve columns.
 pub const TABLE: &str = "\
@@ -142,7 +142,7 @@ pub const MISSING: &str =
     "Writes the lines alone that POLICY lacks; the status is 1 where there are any";
 
 pub const SURPLUS: &str =
-    "Writes the lines of POLICY alone that nothing asks for; the status as with --missing";
+    "Writes the lines of POLICY alone that nothing asks for; status as with --missing";
 
 pub const ACTOR: &str = "The label that acts, by its name in the table";
 
@@ -434,7 +434,7 @@ By which number does a script name that thread?",
     "\
 confine list table
 
-It prints a line for each object: its number, its kind, its name and its label. It ends with status 0:
+It prints a line for each object, its number, kind, name and label, and ends with status 0:
 
 0 cnode space a
 1 tcb main a

@@ -5,10 +5,10 @@
 mod asked;
 mod closing;
 mod denials;
-mod labels;
 mod sentences;
+mod unlabelled;
 
 pub use asked::{an_asked_edge_is_missing, asked_edge};
 pub use closing::explain_closing;
 pub use denials::{explain_closing_command, explain_denial, explain_outside};
-pub use labels::explain_unlabelled;
+pub use unlabelled::explain_unlabelled;

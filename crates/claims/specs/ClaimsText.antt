@@ -1,0 +1,19 @@
+-- The text of claims for the labels of a table: a header, a line `none A B` or `take A B` for each claim, and `end` (confine's own).
+use Rattle.std.specs.Prelude.{ℕ, List, [], ◌∷◌, codes}
+use Rattle.captext.specs.PolicyText.{label_name}
+use Rattle.claims.specs.Claims.{most_word}
+use Rattle.claims.specs.declared.claim.Claim.{Claim}
+use Rattle.machine.specs.Layout.{Layout}
+use Rattle.words.specs.Reading.{list_text}
+use Rattle.words.specs.Text.{words_of}
+
+abbrev pub claims_header : List (List ℕ)
+claims_header = words_of (codes "confine-claims 1")
+
+-- the line of a claim
+abbrev pub claim_words : Layout → Claim → List (List ℕ)
+claim_words t claim = most_word claim.most ∷ label_name t claim.actor ∷ label_name t claim.object ∷ []
+
+-- the text of claims
+abbrev pub claims_text : Layout → List Claim → List ℕ
+claims_text t = list_text claims_header (claim_words t)
