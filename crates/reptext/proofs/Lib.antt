@@ -1,2 +1,3 @@
 mod LabelLists
 mod Names
+pub mod OneText

@@ -61,7 +61,7 @@ same_broken (broken.ReplyLacks _ _) (broken.ReplyLacks _ _) same =
     λ i. broken.ReplyLacks (ap (number 1) same i) (ap (number 3) same i)
 same_broken _ _ same = absurd (let rule = ap (number 0) same in omega (arith, rule))
 
-same_place : (d e : Denial) → place_of d ≡ place_of e → d ≡ e
+pub same_place : (d e : Denial) → place_of d ≡ place_of e → d ≡ e
 same_place (denial.Policy b) (denial.Policy c) same = ap denial.Policy (same_broken b c same)
 same_place (denial.Policy b) _ same = absurd (let rule = ap (number 0) same in let below = first_rules b in omega (arith, rule, below))
 same_place _ (denial.Policy b) same = absurd (let rule = ap (number 0) same in let below = first_rules b in omega (arith, rule, below))
