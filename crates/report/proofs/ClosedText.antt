@@ -14,30 +14,25 @@ use Rattle.machine.specs.Layout.{Layout}
 use Rattle.machine.specs.Machine.{Machine}
 use Rattle.policy.specs.Closed.{IsClosed}
 use Rattle.policy.specs.Closing.{IsLeastClosed, IsWithin}
-use Rattle.policy.specs.Policy.{allows}
+use Rattle.policy.specs.Policy.{IsRising, allows}
 use Rattle.report.specs.Closings.{Closes, IsAuthorityOf, IsClosing, IsInEachPolicyFor, missing_edges, missing_status}
 use Rattle.report.specs.declared.closing.OnClose.TheVariants as on_close
 use Rattle.report.specs.declared.command.Answer.{Answer}
 use Rattle.report.proofs.ClosedLabels.{either_within, least_within, listed_within, within_listed}
 use Rattle.report.proofs.Missing.{none_if_within, within_if_none}
+use Rattle.reptext.proofs.OneText.{same_answer}
 use Rattle.verdict.specs.Confined.{IsConfined}
 use Rattle.verdict.specs.Verdict.{IsAccepted}
-
--- two answers of which each is yes where the other is
-same_answer : (one other : Bool) → (one ≡ true → other ≡ true) → (other ≡ true → one ≡ true) → one ≡ other
-same_answer true other there back = sym (there refl)
-same_answer false true there back = back refl
-same_answer false false there back = refl
 
 -- which tables and policies are accepted
 abbrev pub AcceptedAsClosed : Layout → List Edge → Type 0
 AcceptedAsClosed t p = IsAccepted t (allows p) ↔ (IsClosed (allows p) × ((m : Machine) → IsBoot t m → IsConfined t (allows p) m))
 
 -- the least closed policy that has some edges and the authority of the boot state
-pub is_closing : (t : Layout) (edges authority policy : List Edge) → IsAuthorityOf t authority → IsLeastClosed (edges ++ authority) policy
-    → AcceptedAsClosed t policy → IsClosing t edges policy
-is_closing t edges authority policy of_boot least accepted =
-    record { authority = authority; of_boot = of_boot; least = least; accepted = accepted.1 (least.closed, confines) }
+pub is_closing : (t : Layout) (edges authority policy : List Edge) → IsAuthorityOf t authority → IsRising policy
+    → IsLeastClosed (edges ++ authority) policy → AcceptedAsClosed t policy → IsClosing t edges policy
+is_closing t edges authority policy of_boot rising least accepted =
+    record { authority = authority; of_boot = of_boot; rising = rising; least = least; accepted = accepted.1 (least.closed, confines) }
   where
     -- all authority of the boot state is in the policy
     confines : (m : Machine) → IsBoot t m → IsConfined t (allows policy) m

@@ -3,3 +3,7 @@ mod Answered
 mod ClosedLabels
 mod Missing
 mod ClosedText
+mod OneAnswer
+mod OneReport
+mod OneLog
+mod OneClosing

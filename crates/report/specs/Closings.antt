@@ -10,7 +10,7 @@ use Rattle.machine.specs.Boot.{IsBoot}
 use Rattle.machine.specs.Layout.{Layout}
 use Rattle.machine.specs.Machine.{Machine}
 use Rattle.policy.specs.Closing.{IsLeastClosed, IsWithin}
-use Rattle.policy.specs.Policy.{allows}
+use Rattle.policy.specs.Policy.{IsRising, allows}
 use Rattle.report.specs.Alone.{IsAlone}
 use Rattle.report.specs.Answers.{no_file, no_label, read_nothing}
 use Rattle.report.specs.Commands.{Input, IsCarriedOut, Output}
@@ -26,10 +26,11 @@ IsAuthorityOf t edges =
     (boot : Machine) (from : ℕ) (kind : Kind) (to : ℕ) → IsBoot t boot
     → allows edges from kind to ≡ true ↔ HasAuthority t boot from kind to
 
--- the least closed policy that has these edges and all authority of the table's boot state; the table keeps to it
+-- the least closed policy that has these edges and all authority of the table's boot state, in the order of edges; the table keeps to it
 pub record IsClosing (t : Layout) (edges policy : List Edge) : Type 0 where
   pub authority : List Edge
   pub of_boot : IsAuthorityOf t authority
+  pub rising : IsRising policy
   pub least : IsLeastClosed (edges ++ authority) policy
   pub accepted : IsAccepted t (allows policy)
 

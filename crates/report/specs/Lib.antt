@@ -6,3 +6,4 @@ pub mod Replays
 pub mod Alone
 pub mod Closings
 pub mod Questions
+pub mod OneAnswer

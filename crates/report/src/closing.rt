@@ -122,7 +122,9 @@ fn least(alloc: Global, table: &Table, policy: &Policy) -> Result<Policy, Refusa
     a_verdict_is_on_the_boot_state();
     let _ = table.objects();
     let edges = authority(alloc, table)?;
-    policy::close(alloc, policy, &edges)
+    let closed = policy::close(alloc, policy, &edges)?;
+    closed.edges_rise();
+    Ok(closed)
 }
 
 /// The text of the least policy.

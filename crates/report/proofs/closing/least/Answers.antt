@@ -1,6 +1,5 @@
 -- The policy that was closed has the authority of the boot state.
 use Rattle.std.proofs.Common.{◌++◌, subst}
-use Rattle.std.proofs.lemmas.Result.{IfOk-weaker}
 use Rattle.policy.specs.Closing.{IsLeastClosed}
 use Rattle.report.proofs.ClosedText.{is_closing}
 use Rattle.report.proofs.closing.least.Goals as goal
@@ -9,10 +8,9 @@ pub returns : goal.returns
 returns c =
     let t = c.args.table.now in
     let edges = c.args.policy.now in
-    let authority = c.in_ok-edges.edges.items in
-    IfOk-weaker c.close.result _ _
-    (λ closed least. is_closing t edges authority closed
+    let closed = c.in_ok-closed.closed in
+    is_closing t edges c.in_ok-edges.edges.items closed
     (λ m from kind to booted. c.in_ok-edges.ensures.edges m from kind to booted)
-    (subst (λ kept. IsLeastClosed (edges ++ kept) closed) c.deref.ensures.value least)
-    (c.a_verdict_is_on_the_boot_state.ensures.accepted t closed c.objects.ensures.lawful))
-    c.close.ensures.least
+    c.edges_rise.ensures.rising
+    (subst (λ kept. IsLeastClosed (edges ++ kept) closed) c.deref.ensures.value c.in_ok-closed.ensures.least)
+    (c.a_verdict_is_on_the_boot_state.ensures.accepted t closed c.objects.ensures.lawful)

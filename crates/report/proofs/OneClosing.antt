@@ -1,0 +1,111 @@
+-- A policy has one closing over a table, and a label has one reason for its authority on another.
+use Rattle.std.proofs.Common.{◌≡◌, ℕ, Bool, true, List, [], ◌∷◌, ◌++◌, ◌||◌, length, get_or, refl, sym, ap, subst, ◌∙◌}
+use Rattle.std.specs.Prelude.{codes}
+use Rattle.std.proofs.lemmas.Option.{same_Some}
+use Rattle.base.specs.declared.edge.Edge.{Edge}
+use Rattle.base.specs.declared.kind.Kind.{Kind}
+use Rattle.base.specs.Kinds.{kind_number}
+use Rattle.captext.specs.PolicyText.{edge_lines, policy_text}
+use Rattle.labels.proofs.EdgeLists.{allows-append}
+use Rattle.machine.specs.Layout.{Layout}
+use Rattle.policy.proofs.ClosingGrowth.{least_of_same}
+use Rattle.policy.proofs.KindNumbers.{same_kind}
+use Rattle.policy.proofs.Members.{same_rising}
+use Rattle.policy.specs.Closing.{IsLeastClosed}
+use Rattle.policy.specs.Domain.{EdgeTest}
+use Rattle.policy.specs.Policy.{allows}
+use Rattle.policy.specs.Reasons.{IsTakeBy, IsFullBy, IsWhy, edge_numbers, reason_place}
+use Rattle.policy.specs.declared.why.Why.{Why}
+use Rattle.policy.specs.declared.why.Why.TheVariants as why
+use Rattle.report.proofs.OneAnswer.{JudgesOne}
+use Rattle.report.specs.Closings.{Closes, IsClosing, TellsClosing, kept_edges, missing_edges, missing_status}
+use Rattle.report.specs.Questions.{Tells, why_status, why_text}
+use Rattle.report.specs.declared.closing.OnClose.{OnClose}
+use Rattle.report.specs.declared.closing.OnClose.TheVariants as on_close
+use Rattle.reptext.proofs.OneText.{same_answer}
+use Rattle.table.proofs.BootState.{boot_state, boot_state_is}
+use Rattle.verdict.proofs.OneVerdict.{one_least}
+
+-- the closing of a policy
+
+module _ (t : Layout) (edges policy closed : List Edge) (is : IsClosing t edges policy) (also : IsClosing t edges closed) where
+  same_authority : (from : ℕ) (kind : Kind) (to : ℕ) → allows is.authority from kind to ≡ allows also.authority from kind to
+  same_authority from kind to =
+      let one = is.of_boot (boot_state t) from kind to (boot_state_is t) in
+      let other = also.of_boot (boot_state t) from kind to (boot_state_is t) in
+      same_answer _ _ (λ e. other.1 (one.0 e)) (λ e. one.1 (other.0 e))
+
+  same_start :
+      (from : ℕ) (kind : Kind) (to : ℕ) → allows (edges ++ is.authority) from kind to ≡ allows (edges ++ also.authority) from kind to
+  same_start from kind to =
+      allows-append edges is.authority from kind to ∙ ap (λ b. allows edges from kind to || b) (same_authority from kind to)
+      ∙ sym (allows-append edges also.authority from kind to)
+
+  least : IsLeastClosed (edges ++ is.authority) closed
+  least = least_of_same (edges ++ is.authority) (edges ++ also.authority) closed same_start also.least
+
+  closing_once : policy ≡ closed
+  closing_once =
+      same_rising policy closed is.rising also.rising
+      (λ edge.
+      same_answer _ _ (is.least.least (allows closed) least.closed least.has edge.from edge.kind edge.to)
+      (least.least (allows policy) is.least.closed is.least.has edge.from edge.kind edge.to))
+
+closing_told :
+    (written : OnClose) (t : Layout) (edges policy : List Edge) (text other : List ℕ) (status another : ℕ)
+    → TellsClosing written t edges policy text status → TellsClosing written t edges policy other another
+    → (text ≡ other) × (status ≡ another)
+closing_told on_close.Policy t edges policy text other status another is also = (is.0 ∙ sym also.0, is.2 ∙ sym also.2)
+closing_told on_close.Missing t edges policy text other status another is also = (is.0 ∙ sym also.0, is.1 ∙ sym also.1)
+closing_told on_close.Surplus t edges policy text other status another is also = (is.0 ∙ sym also.0, is.1 ∙ sym also.1)
+
+pub close_once : (written : OnClose) → JudgesOne (λ t edges (none : List ℕ). Closes written t edges)
+close_once written t edges none text other status another is also =
+    closing_told written t edges also.0 text other status another
+    (subst (λ policy. TellsClosing written t edges policy text status) (closing_once t (kept_edges written edges) is.0 also.0 is.1 also.1) is.2) also.2
+
+-- the reason for an authority
+
+numbers_once : (xs ys : List Edge) → edge_numbers xs ≡ edge_numbers ys → xs ≡ ys
+numbers_once [] [] same = refl
+numbers_once [] (y ∷ ys) same = cc
+numbers_once (x ∷ xs) [] same = cc
+numbers_once (x ∷ xs) (y ∷ ys) same =
+    let from : x.from ≡ y.from = cc in
+    let kind : kind_number x.kind ≡ kind_number y.kind = cc in
+    let to : x.to ≡ y.to = cc in
+    let rest : edge_numbers xs ≡ edge_numbers ys = cc in
+    λ i. record { from = from i; kind = same_kind x.kind y.kind kind i; to = to i } ∷ numbers_once xs ys rest i
+
+place_once : (xs ys : List Edge) → reason_place xs ≡ reason_place ys → xs ≡ ys
+place_once xs ys same = let numbers : edge_numbers xs ≡ edge_numbers ys = cc in numbers_once xs ys numbers
+
+module _ (t : Layout) (test : EdgeTest) (a l : ℕ) where
+  abbrev Same : Why → Why → Type 0
+  Same one other = (why_text t one ≡ why_text t other) × (why_status one ≡ why_status other)
+
+  why_once : (one other : Why) → IsWhy test a l one → IsWhy test a l other → Same one other
+  why_once (why.Full xs) (why.Full ys) is also =
+      let same = one_least reason_place (IsFullBy test a l) place_once xs.items ys.items is also in
+      (ap (λ edges. codes "full\n" ++ edge_lines t edges) same, refl)
+  why_once (why.Full xs) (why.Take ys) is also = absurd (also.0 is.has.0)
+  why_once (why.Full xs) why.Nothing is also = absurd (also.0 is.has.0)
+  why_once (why.Take xs) (why.Full ys) is also = absurd (is.0 also.has.0)
+  why_once (why.Take xs) (why.Take ys) is also =
+      let same = one_least reason_place (IsTakeBy test a l) place_once xs.items ys.items is.1 also.1 in
+      (ap (λ edges. codes "take\n" ++ edge_lines t edges) same, refl)
+  why_once (why.Take xs) why.Nothing is also = absurd (also.1 is.1.has.0)
+  why_once why.Nothing (why.Full ys) is also = absurd (is.0 also.has.0)
+  why_once why.Nothing (why.Take ys) is also = absurd (is.1 also.1.has.0)
+  why_once why.Nothing why.Nothing is also = (refl, refl)
+
+pub tell_once : (actor object : List ℕ) → JudgesOne (λ t edges (none : List ℕ). Tells actor object t edges)
+tell_once actor object t edges none text other status another is also =
+    let of_actor = same_Some _ _ (sym is.actor_named ∙ also.actor_named) in
+    let of_object = same_Some _ _ (sym is.object_named ∙ also.object_named) in
+    let same =
+    why_once t (allows edges) also.of_actor also.of_object is.authority also.authority
+    (subst (λ a. IsWhy (allows edges) a also.of_object is.authority) of_actor
+    (subst (λ l. IsWhy (allows edges) is.of_actor l is.authority) of_object is.is_why))
+    also.is_why in
+    (is.told ∙ same.0 ∙ sym also.told, is.exit ∙ same.1 ∙ sym also.exit)

@@ -1,0 +1,155 @@
+-- A script has one log where no call is refused memory, and a log has one report of its replay.
+use Rattle.std.proofs.Common.{◌≡◌, ℕ, ◌+◌, ◌⊎◌, inl, inr, List, [], ◌∷◌, All, length, Some, refl, sym, ap, subst, ◌∙◌}
+use Rattle.std.specs.List.{zip}
+use Rattle.std.proofs.lemmas.List.Elements.{All-head, All-tail}
+use Rattle.std.proofs.lemmas.Option.{none-some, same_Some}
+use Rattle.base.specs.declared.edge.Edge.{Edge}
+use Rattle.evtext.specs.Log.{log_text}
+use Rattle.kernel.proofs.LegalLemmas.{no_run, one_next, one_stop}
+use Rattle.kernel.specs.Legal.{Entry, IsLack, Leads, StopsAt}
+use Rattle.machine.proofs.Steps.{steps_agree}
+use Rattle.machine.specs.Boot.{IsBoot}
+use Rattle.machine.specs.Layout.{Layout}
+use Rattle.machine.specs.Machine.{Machine}
+use Rattle.machine.specs.Run.{Run}
+use Rattle.machine.specs.Step.{LacksMemory}
+use Rattle.machine.specs.WellFormed.{kind_of}
+use Rattle.machine.specs.declared.call.Event.{Event}
+use Rattle.machine.specs.declared.call.Outcome.{Outcome}
+use Rattle.policy.specs.Places.{ComesBefore, IsLeast}
+use Rattle.policy.specs.Policy.{allows}
+use Rattle.report.proofs.OneAnswer.{JudgesOne}
+use Rattle.report.proofs.OneReport.{verdict_once}
+use Rattle.report.specs.OneAnswer.{IsLogInMemory, RunsInMemory}
+use Rattle.report.specs.Replays.{IsFirstOutside, IsReplayedTo, Replays, within, outside, illegal}
+use Rattle.reptext.specs.Places.{place_names_by}
+use Rattle.reptext.specs.Reports.{illegal_data, line_of, outside_data}
+use Rattle.table.proofs.BootState.{boot_one}
+use Rattle.verdict.proofs.OneVerdict.{one_least, same_place}
+use Rattle.verdict.proofs.Outsides.{within_confined}
+use Rattle.verdict.specs.Confined.{IsConfined}
+use Rattle.verdict.specs.Rules.{Excess, Exceeds, excess_place}
+use Rattle.verdict.specs.Sources.{of_machine}
+use Rattle.verdict.specs.Verdict.{excess_of, place_of, rule_name}
+use Rattle.verdict.specs.declared.denial.Denial.{Denial}
+use Rattle.verdict.specs.declared.denial.Denial.TheVariants as denial
+
+-- the log of a run
+
+abbrev Unrefused : Entry → Type 0
+Unrefused entry = ¬ IsLack entry.0 entry.1
+
+run_once :
+    (events : List Event) (outcomes others : List Outcome) (m last after : Machine) → Run m events outcomes last
+    → Run m events others after → All Unrefused (zip events outcomes) → All Unrefused (zip events others) → outcomes ≡ others
+run_once [] [] [] m last after ran again free clear = refl
+run_once [] [] (p ∷ ps) m last after ran again free clear = absurd again
+run_once [] (o ∷ os) others m last after ran again free clear = absurd ran
+run_once (e ∷ es) [] others m last after ran again free clear = absurd ran
+run_once (e ∷ es) (o ∷ os) [] m last after ran again free clear = absurd again
+run_once (e ∷ es) (o ∷ os) (p ∷ ps) m last after ran again free clear =
+    by
+    (λ same.
+    run_once es os ps again.0 last after (subst (λ (n : Machine). Run n es os last) same ran.2) again.2
+    (All-tail Unrefused (e, o) (zip es os) free) (All-tail Unrefused (e, p) (zip es ps) clear))
+    (steps_agree m e o p ran.0 again.0 ran.1 again.1)
+  where
+    by :
+        (ran.0 ≡ again.0 → os ≡ ps) → ((o ≡ p) × (ran.0 ≡ again.0)) ⊎ (LacksMemory m e o ran.0 ⊎ LacksMemory m e p again.0)
+        → o ∷ os ≡ p ∷ ps
+    by rest (inl same) = λ i. same.0 i ∷ rest same.1 i
+    by rest (inr (inl lack)) = absurd (All-head Unrefused (e, o) (zip es os) free (lack.takes, lack.refused))
+    by rest (inr (inr lack)) = absurd (All-head Unrefused (e, p) (zip es ps) clear (lack.takes, lack.refused))
+
+log_once : (t : Layout) (events : List Event) (text other : List ℕ) → IsLogInMemory t events text → IsLogInMemory t events other → text ≡ other
+log_once t events text other is also =
+    let boot = boot_one t is.log.boot also.log.boot is.log.booted also.log.booted in
+    let outcomes =
+    run_once events is.log.outcomes also.log.outcomes also.log.boot is.log.last also.log.last
+    (subst (λ (m : Machine). Run m events is.log.outcomes is.log.last) boot is.log.ran) also.log.ran is.unrefused also.unrefused in
+    is.log.told ∙ ap (λ (os : List Outcome). log_text (zip events os)) outcomes ∙ sym also.log.told
+
+pub run_told_once : JudgesOne RunsInMemory
+run_told_once t edges events = verdict_once t edges (IsLogInMemory t events) (log_once t events)
+
+-- a replay
+
+led_once : (entries : List Entry) (m last after : Machine) → Leads m entries last → Leads m entries after → last ≡ after
+led_once [] m last after ran again = sym ran ∙ again
+led_once (e ∷ es) m last after ran again =
+    led_once es again.0 last after
+    (subst (λ (n : Machine). Leads n es last) (one_next m e.0 e.1 ran.0 again.0 ran.1 again.1) ran.2) again.2
+
+placed : (d : Denial) (place : Excess) → excess_of d ≡ Some place → place_of d ≡ excess_place place
+placed (denial.Policy broken) place is = absurd (none-some place is)
+placed (denial.Capability slot kind label) place is = ap excess_place (same_Some _ _ is)
+placed (denial.Root slot label) place is = ap excess_place (same_Some _ _ is)
+placed (denial.Pair child parent) place is = ap excess_place (same_Some _ _ is)
+placed (denial.Binding thread context) place is = ap excess_place (same_Some _ _ is)
+placed (denial.Holding reply thread) place is = ap excess_place (same_Some _ _ is)
+placed (denial.Recorded thread kind label) place is = ap excess_place (same_Some _ _ is)
+placed (denial.Certificate line) place is = absurd (none-some place is)
+
+module _ (t : Layout) (edges : List Edge) (entries : List Entry) where
+  -- a denial that tells where a machine's authority lies outside
+  abbrev TellsOutside : Machine → Denial → Type 0
+  TellsOutside m d = (place : Excess) × (excess_of d ≡ Some place) × Exceeds (of_machine t m) (allows edges) place
+
+  least_told : (m : Machine) (d : Denial) → IsFirstOutside t edges m d → IsLeast place_of (TellsOutside m) d
+  least_told m d is = record {
+    has = (is.0, is.1, is.2.has);
+    first = λ other tells before.
+        is.2.first tells.0 tells.2
+        (subst (λ (p : List ℕ). ComesBefore p (excess_place is.0)) (placed other tells.0 tells.1)
+        (subst (λ (p : List ℕ). ComesBefore (place_of other) p) (placed d is.0 is.1) before));
+  }
+
+  outside_once : (m : Machine) (d e : Denial) → IsFirstOutside t edges m d → IsFirstOutside t edges m e → d ≡ e
+  outside_once m d e is also = one_least place_of (TellsOutside m) same_place d e (least_told m d is) (least_told m e also)
+
+  one_last : (m n : Machine) → IsReplayedTo t entries m → IsReplayedTo t entries n → m ≡ n
+  one_last m n one two =
+      led_once entries two.0 m n (subst (λ (b : Machine). Leads b entries m) (boot_one t one.0 two.0 one.1 two.1) one.2) two.2
+
+  not_outside : (m n : Machine) (d : Denial) → IsReplayedTo t entries m → IsReplayedTo t entries n → IsConfined t (allows edges) m
+      → IsFirstOutside t edges n d → ⊥
+  not_outside m n d one two confined is =
+      within_confined t (allows edges) n (subst (λ (x : Machine). IsConfined t (allows edges) x) (one_last m n one two) confined)
+      is.0 is.2.has
+
+  not_illegal : (m : Machine) (boot : Machine) (at : ℕ) → IsReplayedTo t entries m → IsBoot t boot → StopsAt boot entries at → ⊥
+  not_illegal m boot at one booted stops =
+      no_run boot m entries at stops
+      (subst (λ (b : Machine). Leads b entries m) (boot_one t one.0 boot one.1 booted) one.2)
+
+  abbrev told_outside : Machine → Denial → List ℕ
+  told_outside m d = line_of (outside_data (length entries) (rule_name d) (place_names_by (kind_of m) t d))
+
+  pub replay_at_once :
+      (text other : List ℕ) (status another : ℕ) → Replays t edges entries text status → Replays t edges entries other another
+      → (text ≡ other) × (status ≡ another)
+  replay_at_once text other status another (within m one confined told zero) (within n two again says nil) =
+      (told ∙ sym says, zero ∙ sym nil)
+  replay_at_once text other status another (within m one confined told zero) (outside n e two first says exit) =
+      absurd (not_outside m n e one two confined first)
+  replay_at_once text other status another (within m one confined told zero) (illegal boot at booted stops says exit) =
+      absurd (not_illegal m boot at one booted stops)
+  replay_at_once text other status another (outside n e two first says exit) (within m one confined told zero) =
+      absurd (not_outside m n e one two confined first)
+  replay_at_once text other status another (outside m d one is told zero) (outside n e two also says exit) =
+      let last = one_last m n one two in
+      let denied = outside_once n d e (subst (λ (x : Machine). IsFirstOutside t edges x d) last is) also in
+      (told ∙ (λ i. told_outside (last i) (denied i)) ∙ sym says, zero ∙ sym exit)
+  replay_at_once text other status another (outside m d one is told zero) (illegal boot at booted stops says exit) =
+      absurd (not_illegal m boot at one booted stops)
+  replay_at_once text other status another (illegal boot at booted stops says exit) (within m one confined told zero) =
+      absurd (not_illegal m boot at one booted stops)
+  replay_at_once text other status another (illegal boot at booted stops says exit) (outside m d one is told zero) =
+      absurd (not_illegal m boot at one booted stops)
+  replay_at_once text other status another (illegal boot at booted stops told zero) (illegal begin to began ends says exit) =
+      let same =
+      one_stop begin entries at to (subst (λ (b : Machine). StopsAt b entries at) (boot_one t boot begin booted began) stops) ends in
+      (told ∙ ap (λ k. line_of (illegal_data (k + 1))) same ∙ sym says, zero ∙ sym exit)
+
+pub replay_once : JudgesOne Replays
+replay_once = replay_at_once

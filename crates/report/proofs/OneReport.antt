@@ -1,0 +1,89 @@
+-- A verdict is told by one text with one status: that of a check, and that of a certificate.
+use Rattle.std.proofs.Common.{◌≡◌, ℕ, ◌+◌, inl, inr, List, Result, Ok, Err, sym, ap, ◌∙◌}
+use Rattle.std.specs.Prelude.{slice_get}
+use Rattle.std.proofs.lemmas.Bool.{cases_order}
+use Rattle.base.specs.declared.edge.Edge.{Edge}
+use Rattle.certificate.specs.Right.{right_certificate}
+use Rattle.certificate.specs.Verified.{DiffersFirst, IsDenied, IsVerified}
+use Rattle.certificate.specs.declared.line.Line.{Line}
+use Rattle.certificate.specs.declared.verifying.NotAccepted.TheVariants as not_accepted
+use Rattle.machine.specs.Layout.{Layout}
+use Rattle.policy.specs.Policy.{allows}
+use Rattle.report.specs.Answers.{Answers, AnswersVerdict, Checks, TellsCheck, Verifies, accepted, denied}
+use Rattle.report.specs.declared.checking.OnAccept.{OnAccept}
+use Rattle.report.specs.declared.checking.OnAccept.TheVariants as on_accept
+use Rattle.report.proofs.OneAnswer.{JudgesOne}
+use Rattle.reptext.proofs.OneText.{report_once}
+use Rattle.reptext.specs.Places.{place_names}
+use Rattle.reptext.specs.Reports.{accept_data, denial_report, line_of}
+use Rattle.verdict.proofs.OneVerdict.{one_verdict}
+use Rattle.verdict.specs.System.{System}
+use Rattle.verdict.specs.Verdict.{IsAccepted, IsLeastBroken, rule_name}
+use Rattle.verdict.specs.declared.denial.Denial.{Denial}
+use Rattle.verdict.specs.declared.denial.Denial.TheVariants as denial
+
+-- an acceptance that is told by one text, and denials of which there is one, and none beside an acceptance
+module _
+    (t : Layout) (Accepted : Type 0) (Denied : Denial → Type 0) (Tells : List ℕ → Type 0)
+    (one : (d e : Denial) → Denied d → Denied e → d ≡ e) (never : (d : Denial) → Accepted → Denied d → ⊥)
+    (told : (text other : List ℕ) → Tells text → Tells other → text ≡ other) where
+  pub answers_once :
+      (text other : List ℕ) (status another : ℕ) → Answers t Accepted Denied Tells text status
+      → Answers t Accepted Denied Tells other another → (text ≡ other) × (status ≡ another)
+  answers_once text other status another (accepted is tells zero) (accepted also again nil) =
+      (told text other tells again, zero ∙ sym nil)
+  answers_once text other status another (accepted is tells zero) (denied d broken says exit) = absurd (never d is broken)
+  answers_once text other status another (denied d broken says exit) (accepted is tells zero) = absurd (never d is broken)
+  answers_once text other status another (denied d is says exit) (denied e also again out) =
+      (says ∙ ap (λ (d : Denial). denial_report (rule_name d) (place_names t d)) (one d e is also) ∙ sym again, exit ∙ sym out)
+
+one_denial :
+    (t : Layout) (edges : List Edge) (d e : Denial) → IsLeastBroken t (allows edges) d → IsLeastBroken t (allows edges) e → d ≡ e
+one_denial t edges d e is also =
+    let same : ◌≡◌ {A = Result System Denial} (Err d) (Err e) = one_verdict t edges (Err d) (Err e) is also in cc
+
+pub verdict_once :
+    (t : Layout) (edges : List Edge) (Tells : List ℕ → Type 0) → ((text other : List ℕ) → Tells text → Tells other → text ≡ other)
+    → (text other : List ℕ) (status another : ℕ) → AnswersVerdict t edges Tells text status
+    → AnswersVerdict t edges Tells other another → (text ≡ other) × (status ≡ another)
+verdict_once t edges Tells told =
+    answers_once t (IsAccepted t (allows edges)) (IsLeastBroken t (allows edges)) Tells (one_denial t edges)
+    (λ d none least. none d least.has) told
+
+-- a check
+
+check_told :
+    (written : OnAccept) (t : Layout) (edges : List Edge) (text other : List ℕ) → TellsCheck written t edges text
+    → TellsCheck written t edges other → text ≡ other
+check_told on_accept.Report t edges text other is also = report_once t edges text other is also
+check_told on_accept.Certificate t edges text other is also = is ∙ sym also
+
+pub check_once : (written : OnAccept) → JudgesOne (λ t edges (none : List ℕ). Checks written t edges)
+check_once written t edges none = verdict_once t edges (TellsCheck written t edges) (check_told written t edges)
+
+-- a certificate
+
+differ_once : (lines right : List Line) (m n : ℕ) → DiffersFirst m lines right → DiffersFirst n lines right → m ≡ n
+differ_once lines right m n one two = elim (cases_order one.before two.before) [
+  | inl same ↦ one.counted ∙ ap (λ k. k + 1) same ∙ sym two.counted
+  | inr (inl below) ↦ absurd (one.differ (two.agree one.before below))
+  | inr (inr above) ↦ absurd (two.differ (one.agree two.before above))
+]
+
+module _ (t : Layout) (edges : List Edge) (lines : List Line) where
+  denied_once : (d e : Denial) → IsDenied t edges lines d → IsDenied t edges lines e → d ≡ e
+  denied_once (denial.Certificate m) (denial.Certificate n) is also =
+      ap denial.Certificate (differ_once lines (right_certificate t) m n is.1 also.1)
+  denied_once (denial.Certificate m) e is also = absurd (is.0 e also.has)
+  denied_once d (denial.Certificate n) is also = absurd (also.0 d is.has)
+  denied_once d e is also = one_denial t edges d e is also
+
+  never_denied : (d : Denial) → IsVerified t edges lines (Ok (record { table = t; policy = edges })) → IsDenied t edges lines d → ⊥
+  never_denied (denial.Certificate m) is broken = broken.1.differ (ap (λ (ls : List Line). slice_get ls broken.1.before) is.1)
+  never_denied d is broken = is.0.1 d broken.has
+
+pub verify_once : JudgesOne Verifies
+verify_once t edges lines =
+    answers_once t (IsVerified t edges lines (Ok (record { table = t; policy = edges })))
+    (λ d. IsVerified t edges lines (Err (not_accepted.Denied d))) (λ text. text ≡ line_of accept_data) (denied_once t edges lines)
+    (never_denied t edges lines) (λ text other is also. is ∙ sym also)

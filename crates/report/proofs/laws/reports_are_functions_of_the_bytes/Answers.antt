@@ -1,0 +1,36 @@
+-- Command by command.
+use Rattle.certificate.specs.Reading.{read_certificate_of}
+use Rattle.evtext.specs.Log.{read_log_of}
+use Rattle.evtext.specs.Script.{read_script_of}
+use Rattle.report.specs.Answers.{Checks, Verifies, read_nothing}
+use Rattle.report.specs.Closings.{Closes}
+use Rattle.report.specs.OneAnswer.{RunsInMemory}
+use Rattle.report.specs.Questions.{Tells}
+use Rattle.report.specs.Replays.{Replays}
+use Rattle.reptext.specs.declared.file.File.TheVariants as file
+use Rattle.report.proofs.OneAnswer.{one_answer}
+use Rattle.report.proofs.OneClosing.{close_once, tell_once}
+use Rattle.report.proofs.OneLog.{replay_once, run_told_once}
+use Rattle.report.proofs.OneReport.{check_once, verify_once}
+use Rattle.report.proofs.laws.reports_are_functions_of_the_bytes.Goals as goal
+
+pub returns-clause-check : goal.returns-clause-check
+returns-clause-check c =
+    λ written. one_answer file.Policy read_nothing (λ t edges none. Checks written t edges) (check_once written)
+
+pub returns-clause-verify : goal.returns-clause-verify
+returns-clause-verify c = one_answer file.Certificate read_certificate_of Verifies verify_once
+
+pub returns-clause-replay : goal.returns-clause-replay
+returns-clause-replay c = one_answer file.Log (λ t. read_log_of) Replays replay_once
+
+pub returns-clause-close : goal.returns-clause-close
+returns-clause-close c =
+    λ written. one_answer file.Policy read_nothing (λ t edges none. Closes written t edges) (close_once written)
+
+pub returns-clause-why : goal.returns-clause-why
+returns-clause-why c =
+    λ actor object. one_answer file.Policy read_nothing (λ t edges none. Tells actor object t edges) (tell_once actor object)
+
+pub returns-clause-run : goal.returns-clause-run
+returns-clause-run c = one_answer file.Script (λ t. read_script_of) RunsInMemory run_told_once

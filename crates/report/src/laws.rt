@@ -1,0 +1,25 @@
+ghost use Rattle.std.specs.Prelude.{ℕ, List};
+ghost use Rattle.certificate.specs.Reading.{read_certificate_of};
+ghost use Rattle.evtext.specs.Log.{read_log_of};
+ghost use Rattle.evtext.specs.Script.{read_script_of};
+ghost use Rattle.report.specs.Answers.{Checks, Verifies, read_nothing};
+ghost use Rattle.report.specs.Closings.{Closes};
+ghost use Rattle.report.specs.OneAnswer.{HaveOneAnswer, RunsInMemory};
+ghost use Rattle.report.specs.Questions.{Tells};
+ghost use Rattle.report.specs.Replays.{Replays};
+ghost use Rattle.report.specs.declared.checking.OnAccept.{OnAccept};
+ghost use Rattle.report.specs.declared.closing.OnClose.{OnClose};
+ghost use Rattle.reptext.specs.declared.file.File.TheVariants as file;
+
+/// A law: a report is a function of the bytes of the files. What a command writes, and its status, are
+/// the same whenever and wherever it is carried out. So is the log of a run in which no call was refused
+/// memory. Of a split run this isn't so: its log is one of those that the cores' events may come to, each
+/// core's in their order.
+pub fn reports_are_functions_of_the_bytes()
+    ensures check { (written : OnAccept) → HaveOneAnswer file.Policy read_nothing (λ t edges none. Checks written t edges) }
+    ensures verify { HaveOneAnswer file.Certificate read_certificate_of Verifies }
+    ensures replay { HaveOneAnswer file.Log (λ t. read_log_of) Replays }
+    ensures close { (written : OnClose) → HaveOneAnswer file.Policy read_nothing (λ t edges none. Closes written t edges) }
+    ensures why { (actor object : List ℕ) → HaveOneAnswer file.Policy read_nothing (λ t edges none. Tells actor object t edges) }
+    ensures run { HaveOneAnswer file.Script (λ t. read_script_of) RunsInMemory }
+{}
