@@ -1,9 +1,10 @@
-ghost use Rattle.std.specs.Prelude.{◌≡◌, ◌++◌, [], false, IfOk};
+ghost use Rattle.std.specs.Prelude.{◌≡◌, ◌++◌, [], false, IfErr, IfOk};
+ghost use Rattle.base.specs.Refusals.{out_of_memory};
 ghost use Rattle.captext.specs.PolicyText.{edge_lines};
 ghost use Rattle.report.specs.Commands.{input, output};
 ghost use Rattle.report.specs.Questions as questions;
 
-use crate::command::{Answer, NoMemory};
+use crate::command::Answer;
 use crate::question::{Question, answer_question};
 use crate::{Asked, End, Listener, Sink, Source};
 use base::{Edge, Refusal};
@@ -64,7 +65,7 @@ impl Question for Authority<'_> {
         }
     }
 
-    fn judge(&self, alloc: Global, table: &Table, policy: &Policy) -> Result<Answer, NoMemory> {
+    fn judge(&self, alloc: Global, table: &Table, policy: &Policy) -> Result<Answer, Refusal> {
         match (
             table.label_named(self.actor),
             table.label_named(self.object),
@@ -83,6 +84,7 @@ impl Question for Authority<'_> {
 fn why_answer(alloc: Global, table: &Table, why: &Why) -> Result<Answer, Refusal>
     ensures text { IfOk result (λ answer. answer.text.items ≡ questions.why_text table.now why.now) }
     ensures status { IfOk result (λ answer. answer.status ≡ questions.why_status why.now) }
+    ensures memory { IfErr result (λ refusal. refusal ≡ out_of_memory) }
 {
     match why {
         Why::Full(edges) => Ok(Answer {
@@ -105,7 +107,8 @@ fn why_answer(alloc: Global, table: &Table, why: &Why) -> Result<Answer, Refusal
 
 /// A line, and the lines of edges.
 fn headed(alloc: Global, line: &str, table: &Table, edges: &[Edge]) -> Result<Vec<u8>, Refusal>
-    ensures { IfOk result (λ text. text.items ≡ line.now ++ edge_lines table.now edges.now) }
+    ensures text { IfOk result (λ text. text.items ≡ line.now ++ edge_lines table.now edges.now) }
+    ensures memory { IfErr result (λ refusal. refusal ≡ out_of_memory) }
 {
     let mut text = Vec::new(alloc);
     text.extend_from_slice(line.as_bytes())?;

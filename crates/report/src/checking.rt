@@ -1,12 +1,14 @@
-ghost use Rattle.std.specs.Prelude.{◌≡◌, ◌≤◌, false, IfOk};
+ghost use Rattle.std.specs.Prelude.{◌≡◌, ◌≤◌, false, IfErr, IfOk};
+ghost use Rattle.base.specs.Refusals.{out_of_memory};
 ghost use Rattle.checker.specs.Check.{IsCheck};
 ghost use Rattle.certificate.specs.Right.{right_certificate};
 ghost use Rattle.report.specs.Answers as answers;
 ghost use Rattle.report.specs.Commands.{input, output};
 
-use crate::command::{Answer, NoMemory, denied};
+use crate::command::{Answer, denied};
 use crate::question::{Question, answer_question};
 use crate::{Asked, End, Listener, Sink, Source};
+use base::Refusal;
 use checker::{Certificate, CheckError, Gate, Verdict};
 use policy::Policy;
 use reptext::check_report;
@@ -52,10 +54,11 @@ where
     ensures { answers.IsChecked on_accept (input T.remaining T.failed table.old table.new)
         (input P.remaining P.failed policy.old policy.new) (output O.contents O.failed O.is_flushed out.old out.new) result }
 {
-    let judge = |table: &Table, policy: &Policy| -> Result<Answer, NoMemory>
+    let judge = |table: &Table, policy: &Policy| -> Result<Answer, Refusal>
         requires workers { (1 ≤ workers) × (workers ≤ 16) }
         ensures right { IfOk result (λ answer. answers.Checks on_accept table.now policy.now answer.text.items answer.status) }
         ensures exit { IfOk result (λ answer. answer.status ≤ 2) }
+        ensures memory { IfErr result (λ refusal. refusal ≡ out_of_memory) }
     { judged(rt, alloc, table, policy, on_accept, workers, gate) };
     let question = Checking {
         on_accept,
@@ -71,13 +74,14 @@ struct Checking<'a, J> {
     judge: &'a J,
 }
 
-impl<J: Fn(&Table, &Policy) -> Result<Answer, NoMemory>> Question for Checking<'_, J> {
+impl<J: Fn(&Table, &Policy) -> Result<Answer, Refusal>> Question for Checking<'_, J> {
     ghost lacks = { λ _. answers.no_label };
 
     ghost may_judge = { λ check. J.IsAlwaysCallable check.judge.now
         × ((table policy : _) (answer : _) → J.post check.judge.now table policy answer
         → IfOk answer (λ answer. answers.Checks check.on_accept table.now policy.now answer.text.items answer.status)
-        × IfOk answer (λ answer. answer.status ≤ 2)) };
+        × IfOk answer (λ answer. answer.status ≤ 2)
+        × IfErr answer (λ refusal. refusal ≡ out_of_memory)) };
 
     ghost judges = { λ check. answers.Checks check.on_accept };
 
@@ -85,7 +89,7 @@ impl<J: Fn(&Table, &Policy) -> Result<Answer, NoMemory>> Question for Checking<'
         None
     }
 
-    fn judge(&self, _alloc: Global, table: &Table, policy: &Policy) -> Result<Answer, NoMemory> {
+    fn judge(&self, _alloc: Global, table: &Table, policy: &Policy) -> Result<Answer, Refusal> {
         (self.judge)(table, policy)
     }
 }
@@ -99,14 +103,15 @@ fn judged<R: Threads + Sync, G: Gate + Sync>(
     on_accept: OnAccept,
     workers: usize,
     gate: &G,
-) -> Result<Answer, NoMemory>
+) -> Result<Answer, Refusal>
     requires workers { (1 ≤ workers) × (workers ≤ 16) }
     ensures right { IfOk result (λ answer. answers.Checks on_accept table.now policy.now answer.text.items answer.status) }
     ensures exit { IfOk result (λ answer. answer.status ≤ 2) }
+    ensures memory { IfErr result (λ refusal. refusal ≡ out_of_memory) }
 {
     match checker::check(rt, alloc, table, policy, workers, gate) {
         Ok(verdict) => told(alloc, table, policy, on_accept, &verdict),
-        Err(CheckError::NoMemory) => Err(NoMemory),
+        Err(CheckError::NoMemory) => Err(Refusal::OUT_OF_MEMORY),
         // There are 1 to 16 workers.
         Err(CheckError::WorkerCount) => unreachable!(),
     }
@@ -119,10 +124,11 @@ fn told(
     policy: &Policy,
     on_accept: OnAccept,
     verdict: &Verdict<'_>,
-) -> Result<Answer, NoMemory>
+) -> Result<Answer, Refusal>
     requires { IsCheck table.now policy.now verdict.now }
     ensures right { IfOk result (λ answer. answers.Checks on_accept table.now policy.now answer.text.items answer.status) }
     ensures exit { IfOk result (λ answer. answer.status ≤ 2) }
+    ensures memory { IfErr result (λ refusal. refusal ≡ out_of_memory) }
 {
     match verdict {
         Verdict::Accept(_, certificate) => Ok(Answer {
@@ -141,9 +147,10 @@ fn accepted_text(
     policy: &Policy,
     on_accept: OnAccept,
     certificate: &Certificate,
-) -> Result<Vec<u8>, NoMemory>
+) -> Result<Vec<u8>, Refusal>
     requires { certificate.now ≡ right_certificate table.now }
-    ensures { IfOk result (λ text. answers.TellsCheck on_accept table.now policy.now text.items) }
+    ensures text { IfOk result (λ text. answers.TellsCheck on_accept table.now policy.now text.items) }
+    ensures memory { IfErr result (λ refusal. refusal ≡ out_of_memory) }
 {
     match on_accept {
         OnAccept::Report => Ok(check_report(alloc, table, policy)?),

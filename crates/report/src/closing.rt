@@ -1,10 +1,11 @@
-ghost use Rattle.std.specs.Prelude.{◌≡◌, ◌≤◌, false, IfOk};
+ghost use Rattle.std.specs.Prelude.{◌≡◌, ◌≤◌, false, IfErr, IfOk};
+ghost use Rattle.base.specs.Refusals.{out_of_memory};
 ghost use Rattle.captext.specs.PolicyText.{edge_lines};
 ghost use Rattle.report.specs.Answers as answers;
 ghost use Rattle.report.specs.Closings as closings;
 ghost use Rattle.report.specs.Commands.{input, output};
 
-use crate::command::{Answer, NoMemory};
+use crate::command::Answer;
 use crate::known::no_policy;
 use crate::question::{Question, answer_question};
 use crate::{Asked, End, Listener, Sink, Source};
@@ -93,8 +94,8 @@ impl Question for Closing {
         None
     }
 
-    fn judge(&self, alloc: Global, table: &Table, policy: &Policy) -> Result<Answer, NoMemory> {
-        Ok(closed(alloc, table, policy, self.on_close)?)
+    fn judge(&self, alloc: Global, table: &Table, policy: &Policy) -> Result<Answer, Refusal> {
+        closed(alloc, table, policy, self.on_close)
     }
 }
 
@@ -107,6 +108,7 @@ fn closed(
 ) -> Result<Answer, Refusal>
     ensures right { IfOk result (λ answer. closings.Closes on_close table.now policy.now answer.text.items answer.status) }
     ensures exit { IfOk result (λ answer. answer.status ≤ 2) }
+    ensures memory { IfErr result (λ refusal. refusal ≡ out_of_memory) }
 {
     match on_close {
         OnClose::Policy => whole_answer(alloc, table, policy),
@@ -117,7 +119,8 @@ fn closed(
 
 /// The least policy that has a policy's edges and to which the table keeps.
 fn least(alloc: Global, table: &Table, policy: &Policy) -> Result<Policy, Refusal>
-    ensures { IfOk result (λ closed. closings.IsClosing table.now policy.now closed) }
+    ensures closing { IfOk result (λ closed. closings.IsClosing table.now policy.now closed) }
+    ensures memory { IfErr result (λ refusal. refusal ≡ out_of_memory) }
 {
     a_verdict_is_on_the_boot_state();
     let _ = table.objects();
@@ -131,6 +134,7 @@ fn least(alloc: Global, table: &Table, policy: &Policy) -> Result<Policy, Refusa
 fn whole_answer(alloc: Global, table: &Table, policy: &Policy) -> Result<Answer, Refusal>
     ensures right { IfOk result (λ answer. closings.Closes OnClose.Policy table.now policy.now answer.text.items answer.status) }
     ensures exit { IfOk result (λ answer. answer.status ≤ 2) }
+    ensures memory { IfErr result (λ refusal. refusal ≡ out_of_memory) }
 {
     // Laws about tables and their boot states.
     each_table_has_one_boot_state();
@@ -148,6 +152,7 @@ fn whole_answer(alloc: Global, table: &Table, policy: &Policy) -> Result<Answer,
 fn missing_answer(alloc: Global, table: &Table, policy: &Policy) -> Result<Answer, Refusal>
     ensures right { IfOk result (λ answer. closings.Closes OnClose.Missing table.now policy.now answer.text.items answer.status) }
     ensures exit { IfOk result (λ answer. answer.status ≤ 2) }
+    ensures memory { IfErr result (λ refusal. refusal ≡ out_of_memory) }
 {
     // Laws about tables, their boot states, and verdicts on these.
     a_verdict_is_on_the_boot_state();
@@ -162,6 +167,7 @@ fn missing_answer(alloc: Global, table: &Table, policy: &Policy) -> Result<Answe
 fn surplus_answer(alloc: Global, table: &Table, policy: &Policy) -> Result<Answer, Refusal>
     ensures right { IfOk result (λ answer. closings.Closes OnClose.Surplus table.now policy.now answer.text.items answer.status) }
     ensures exit { IfOk result (λ answer. answer.status ≤ 2) }
+    ensures memory { IfErr result (λ refusal. refusal ≡ out_of_memory) }
 {
     // Laws about tables, their boot states, and verdicts on these.
     a_verdict_is_on_the_boot_state();
@@ -181,6 +187,7 @@ fn lacked_answer(
     ensures text { IfOk result (λ answer. answer.text.items ≡ edge_lines table.now (closings.missing_edges policy.now other.now)) }
     ensures status { IfOk result (λ answer. answer.status ≡ closings.missing_status (closings.missing_edges policy.now other.now)) }
     ensures exit { IfOk result (λ answer. answer.status ≤ 2) }
+    ensures memory { IfErr result (λ refusal. refusal ≡ out_of_memory) }
 {
     let missing = missing_edges(alloc, policy, other)?;
     Ok(Answer {
@@ -192,7 +199,8 @@ fn lacked_answer(
 
 /// The edges of the second policy that the first lacks.
 fn missing_edges(alloc: Global, policy: &Policy, other: &Policy) -> Result<Vec<Edge>, Refusal>
-    ensures { IfOk result (λ missing. missing.items ≡ closings.missing_edges policy.now other.now) }
+    ensures missing { IfOk result (λ missing. missing.items ≡ closings.missing_edges policy.now other.now) }
+    ensures memory { IfErr result (λ refusal. refusal ≡ out_of_memory) }
 {
     let mut missing = other.edges(alloc)?;
     missing.retain(|edge| !policy.has(*edge));

@@ -1,4 +1,5 @@
-ghost use Rattle.std.specs.Prelude.{◌≡◌, ◌≤◌, ℕ, List, IfOk, None, Option, Result};
+ghost use Rattle.std.specs.Prelude.{◌≡◌, ◌≤◌, ℕ, List, IfErr, IfOk, None, Option, Result};
+ghost use Rattle.base.specs.Refusals.{out_of_memory};
 ghost use Rattle.base.specs.declared.edge.Edge.{Edge};
 ghost use Rattle.machine.specs.Layout.{Layout};
 ghost use Rattle.reptext.specs.Places.{place_names};
@@ -24,23 +25,6 @@ pub(crate) struct Answer {
     pub text: Vec<u8>,
     pub status: u8,
     pub finding: Option<Finding>,
-}
-
-/// Memory was refused.
-#[derive(Clone, Copy)]
-pub(crate) struct NoMemory;
-
-impl From<AllocError> for NoMemory {
-    fn from(_error: AllocError) -> NoMemory {
-        NoMemory
-    }
-}
-
-/// The calls that a command makes are refused for want of memory alone.
-impl From<Refusal> for NoMemory {
-    fn from(_refusal: Refusal) -> NoMemory {
-        NoMemory
-    }
 }
 
 /// A command: its third file, and what it answers to what the files hold.
@@ -77,13 +61,14 @@ pub(crate) trait Command {
     fn unlabelled(&self, table: &Table) -> Option<Asked>
         ensures { result ≡ lacks self.now table.now };
 
-    /// The answer to a table, a policy and what the third file holds.
-    fn judge(&self, alloc: Global, loaded: &Loaded<Self::Third>) -> Result<Answer, NoMemory>
+    /// The answer to a table, a policy and what the third file holds. Nothing but memory is refused.
+    fn judge(&self, alloc: Global, loaded: &Loaded<Self::Third>) -> Result<Answer, Refusal>
         requires may { may_judge self.now }
         requires labels { lacks self.now loaded.now.table ≡ None }
         ensures right { IfOk result (λ answer.
             judges self.now loaded.now.table loaded.now.policy (held loaded.now.third) answer.text.items answer.status) }
-        ensures exit { IfOk result (λ answer. answer.status ≤ 2) };
+        ensures exit { IfOk result (λ answer. answer.status ≤ 2) }
+        ensures memory { IfErr result (λ refusal. refusal ≡ out_of_memory) };
 }
 
 /// The answer to a denial.

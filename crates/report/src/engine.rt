@@ -119,6 +119,7 @@ fn judged<C: Command>(
         Some(asked) => Err(Unanswered::NoLabel(asked)),
         None => match command.judge(alloc, loaded) {
             Ok(answer) => Ok(answer),
+            // Nothing but memory is refused.
             Err(_) => Err(Unanswered::NoMemory),
         },
     }

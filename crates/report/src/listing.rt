@@ -3,10 +3,11 @@ ghost use Rattle.report.specs.Alone as alone;
 ghost use Rattle.report.specs.Answers as answers;
 ghost use Rattle.report.specs.Commands.{input, output};
 
-use crate::command::{Answer, NoMemory};
+use crate::command::Answer;
 use crate::known::no_policy;
 use crate::question::{Question, answer_question};
 use crate::{Asked, End, Listener, Sink, Source};
+use base::Refusal;
 use policy::Policy;
 use std::alloc::Global;
 use table::Table;
@@ -44,7 +45,7 @@ impl Question for Listing {
         None
     }
 
-    fn judge(&self, alloc: Global, table: &Table, _policy: &Policy) -> Result<Answer, NoMemory> {
+    fn judge(&self, alloc: Global, table: &Table, _policy: &Policy) -> Result<Answer, Refusal> {
         Ok(Answer {
             text: write_objects(alloc, table)?,
             status: 0,

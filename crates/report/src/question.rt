@@ -1,4 +1,5 @@
-ghost use Rattle.std.specs.Prelude.{◌≡◌, ◌≤◌, ℕ, List, false, IfOk, None, Option};
+ghost use Rattle.std.specs.Prelude.{◌≡◌, ◌≤◌, ℕ, List, false, IfErr, IfOk, None, Option};
+ghost use Rattle.base.specs.Refusals.{out_of_memory};
 ghost use Rattle.base.specs.declared.edge.Edge.{Edge};
 ghost use Rattle.machine.specs.Layout.{Layout};
 ghost use Rattle.report.specs.Answers.{no_file, read_nothing};
@@ -6,10 +7,11 @@ ghost use Rattle.report.specs.Commands.{IsCarriedOut, input, output};
 ghost use Rattle.report.specs.declared.end.Asked.{Asked};
 ghost use Rattle.reptext.specs.declared.file.File.TheVariants as file;
 
-use crate::command::{Answer, Command, NoMemory};
+use crate::command::{Answer, Command};
 use crate::engine::carry_out;
 use crate::load::{Loaded, NoFile};
 use crate::{Asked, End, File, Listener, Sink, Source};
+use base::Refusal;
 use captext::Fault;
 use policy::Policy;
 use std::alloc::Global;
@@ -30,12 +32,13 @@ pub(crate) trait Question {
     fn unlabelled(&self, table: &Table) -> Option<Asked>
         ensures { result ≡ lacks self.now table.now };
 
-    /// The answer to a table and a policy.
-    fn judge(&self, alloc: Global, table: &Table, policy: &Policy) -> Result<Answer, NoMemory>
+    /// The answer to a table and a policy. Nothing but memory is refused.
+    fn judge(&self, alloc: Global, table: &Table, policy: &Policy) -> Result<Answer, Refusal>
         requires may { may_judge self.now }
         requires labels { lacks self.now table.now ≡ None }
         ensures right { IfOk result (λ answer. judges self.now table.now policy.now answer.text.items answer.status) }
-        ensures exit { IfOk result (λ answer. answer.status ≤ 2) };
+        ensures exit { IfOk result (λ answer. answer.status ≤ 2) }
+        ensures memory { IfErr result (λ refusal. refusal ≡ out_of_memory) };
 }
 
 /// Answers a question on its two files.
@@ -110,7 +113,7 @@ impl<Q: Question> Command for Asking<'_, Q> {
         self.question.unlabelled(table)
     }
 
-    fn judge(&self, alloc: Global, loaded: &Loaded<()>) -> Result<Answer, NoMemory> {
+    fn judge(&self, alloc: Global, loaded: &Loaded<()>) -> Result<Answer, Refusal> {
         self.question.judge(alloc, &loaded.table, &loaded.policy)
     }
 }

@@ -1,4 +1,5 @@
-ghost use Rattle.std.specs.Prelude.{◌≡◌, ◌≤◌, List, false, IfOk};
+ghost use Rattle.std.specs.Prelude.{◌≡◌, ◌≤◌, List, false, IfErr, IfOk};
+ghost use Rattle.base.specs.Refusals.{out_of_memory};
 ghost use Rattle.evtext.specs.Log.{read_log_of};
 ghost use Rattle.kernel.specs.Legal.{Entry};
 ghost use Rattle.machine.specs.Boot.{IsBoot};
@@ -8,10 +9,11 @@ ghost use Rattle.report.specs.Commands.{input, output};
 ghost use Rattle.report.specs.Replays as replays;
 ghost use Rattle.reptext.specs.declared.file.File.TheVariants as file;
 
-use crate::command::{Answer, Command, NoMemory};
+use crate::command::{Answer, Command};
 use crate::engine::carry_out;
 use crate::load::Loaded;
 use crate::{Asked, End, File, Finding, Listener, Sink, Source};
+use base::Refusal;
 use captext::Fault;
 use evtext::read_log;
 use kernel::boot;
@@ -86,7 +88,7 @@ impl Command for Replaying {
         None
     }
 
-    fn judge(&self, alloc: Global, loaded: &Loaded<Log>) -> Result<Answer, NoMemory> {
+    fn judge(&self, alloc: Global, loaded: &Loaded<Log>) -> Result<Answer, Refusal> {
         replayed(alloc, &loaded.table, &loaded.policy, &loaded.third)
     }
 }
@@ -97,9 +99,10 @@ fn replayed(
     table: &Table,
     policy: &Policy,
     entries: &[(Event, Outcome)],
-) -> Result<Answer, NoMemory>
+) -> Result<Answer, Refusal>
     ensures right { IfOk result (λ answer. replays.Replays table.now policy.now entries.now answer.text.items answer.status) }
     ensures exit { IfOk result (λ answer. answer.status ≤ 2) }
+    ensures memory { IfErr result (λ refusal. refusal ≡ out_of_memory) }
 {
     let mut state = boot(alloc, table)?;
     replayed_from(alloc, table, policy, entries, &mut state)
@@ -112,11 +115,12 @@ fn replayed_from(
     policy: &Policy,
     entries: &[(Event, Outcome)],
     state: &mut State,
-) -> Result<Answer, NoMemory>
+) -> Result<Answer, Refusal>
     requires boot { IsBoot table.now state.old }
     requires well_formed { IsWellFormed state.old }
     ensures right { IfOk result (λ answer. replays.Replays table.now policy.now entries.now answer.text.items answer.status) }
     ensures exit { IfOk result (λ answer. answer.status ≤ 2) }
+    ensures memory { IfErr result (λ refusal. refusal ≡ out_of_memory) }
 {
     if let Some(at) = kernel::replay(state, entries)? {
         return Ok(Answer {

@@ -1,4 +1,5 @@
-ghost use Rattle.std.specs.Prelude.{◌≡◌, List, false, IfOk};
+ghost use Rattle.std.specs.Prelude.{◌≡◌, List, false, IfErr, IfOk};
+ghost use Rattle.base.specs.Refusals.{out_of_memory};
 ghost use Rattle.evtext.specs.Script.{read_script_of};
 ghost use Rattle.machine.specs.declared.call.Event.{Event};
 ghost use Rattle.std.specs.Thread.{IsSync};
@@ -6,7 +7,7 @@ ghost use Rattle.report.specs.Answers as answers;
 ghost use Rattle.report.specs.Commands.{input, output};
 ghost use Rattle.reptext.specs.declared.file.File.TheVariants as file;
 
-use crate::command::{Answer, Command, NoMemory, denied};
+use crate::command::{Answer, Command, denied};
 use crate::engine::carry_out;
 use crate::load::Loaded;
 use crate::{Asked, End, File, Listener, Sink, Source};
@@ -87,7 +88,7 @@ impl<R: Threads + Sync> Command for Running<'_, R> {
         None
     }
 
-    fn judge(&self, alloc: Global, loaded: &Loaded<Vec<Event>>) -> Result<Answer, NoMemory> {
+    fn judge(&self, alloc: Global, loaded: &Loaded<Vec<Event>>) -> Result<Answer, Refusal> {
         match judge(self.rt, alloc, &loaded.table, &loaded.policy, 1, &Open)? {
             Ok(_) => Ok(Answer {
                 text: log_of_run(alloc, &loaded.table, &loaded.third)?,
@@ -101,7 +102,8 @@ impl<R: Threads + Sync> Command for Running<'_, R> {
 
 /// The text of the log of a run of the events from the boot state of the table.
 fn log_of_run(alloc: Global, table: &Table, events: &[Event]) -> Result<Vec<u8>, Refusal>
-    ensures { IfOk result (λ text. answers.IsLogOfRun table.now events.now text.items) }
+    ensures log { IfOk result (λ text. answers.IsLogOfRun table.now events.now text.items) }
+    ensures memory { IfErr result (λ refusal. refusal ≡ out_of_memory) }
 {
     let mut state = boot(alloc, table)?;
     let mut outcomes = Vec::new(alloc);

@@ -1,11 +1,12 @@
-ghost use Rattle.std.specs.Prelude.{◌≡◌, ◌≤◌, List, false, IfOk};
+ghost use Rattle.std.specs.Prelude.{◌≡◌, ◌≤◌, List, false, IfErr, IfOk};
+ghost use Rattle.base.specs.Refusals.{out_of_memory};
 ghost use Rattle.evtext.specs.Script.{read_script_of};
 ghost use Rattle.machine.specs.declared.call.Event.{Event};
 ghost use Rattle.report.specs.Answers as answers;
 ghost use Rattle.report.specs.Commands.{input, output};
 ghost use Rattle.reptext.specs.declared.file.File.TheVariants as file;
 
-use crate::command::{Answer, Command, NoMemory, denied};
+use crate::command::{Answer, Command, denied};
 use crate::engine::carry_out;
 use crate::load::Loaded;
 use crate::{Asked, End, File, Listener, Sink, Source};
@@ -54,9 +55,10 @@ where
         (input P.remaining P.failed policy.old policy.new) (input S.remaining S.failed script.old script.new)
         (output O.contents O.failed O.is_flushed out.old out.new) result }
 {
-    let judge = |loaded: &Loaded<Script>| -> Result<Answer, NoMemory>
+    let judge = |loaded: &Loaded<Script>| -> Result<Answer, Refusal>
         ensures right { IfOk result (λ answer. answers.RunsSplit loaded.now.table loaded.now.policy loaded.now.third answer.text.items answer.status) }
         ensures exit { IfOk result (λ answer. answer.status ≤ 2) }
+        ensures memory { IfErr result (λ refusal. refusal ≡ out_of_memory) }
     { judged(rt, alloc, loaded, gate) };
     let splitting = Splitting { judge: &judge };
     carry_out(&splitting, alloc, table, policy, script, listener, out)
@@ -86,7 +88,7 @@ struct Splitting<'a, J> {
     judge: &'a J,
 }
 
-impl<J: Fn(&Loaded<Script>) -> Result<Answer, NoMemory>> Command for Splitting<'_, J> {
+impl<J: Fn(&Loaded<Script>) -> Result<Answer, Refusal>> Command for Splitting<'_, J> {
     type Third = Script;
 
     ghost third_file = { file.Script };
@@ -102,7 +104,8 @@ impl<J: Fn(&Loaded<Script>) -> Result<Answer, NoMemory>> Command for Splitting<'
     ghost may_judge = { λ split. J.IsAlwaysCallable split.judge.now
         × ((loaded : _) (answer : _) → J.post split.judge.now loaded answer
         → IfOk answer (λ answer. answers.RunsSplit loaded.now.table loaded.now.policy loaded.now.third answer.text.items answer.status)
-        × IfOk answer (λ answer. answer.status ≤ 2)) };
+        × IfOk answer (λ answer. answer.status ≤ 2)
+        × IfErr answer (λ refusal. refusal ≡ out_of_memory)) };
 
     ghost judges = { λ split. answers.RunsSplit };
 
@@ -121,7 +124,7 @@ impl<J: Fn(&Loaded<Script>) -> Result<Answer, NoMemory>> Command for Splitting<'
         None
     }
 
-    fn judge(&self, _alloc: Global, loaded: &Loaded<Script>) -> Result<Answer, NoMemory> {
+    fn judge(&self, _alloc: Global, loaded: &Loaded<Script>) -> Result<Answer, Refusal> {
         (self.judge)(loaded)
     }
 }
@@ -132,9 +135,10 @@ fn judged<R: Threads + Wait + Sync, G: Gate + Sync>(
     alloc: Global,
     loaded: &Loaded<Script>,
     gate: &G,
-) -> Result<Answer, NoMemory>
+) -> Result<Answer, Refusal>
     ensures right { IfOk result (λ answer. answers.RunsSplit loaded.now.table loaded.now.policy loaded.now.third answer.text.items answer.status) }
     ensures exit { IfOk result (λ answer. answer.status ≤ 2) }
+    ensures memory { IfErr result (λ refusal. refusal ≡ out_of_memory) }
 {
     match judge(rt, alloc, &loaded.table, &loaded.policy, 1, &Open)? {
         Ok(accepted) => Ok(Answer {
@@ -154,7 +158,8 @@ fn log_of_split<R: Threads + Wait + Sync, G: Gate + Sync>(
     script: &Script,
     gate: &G,
 ) -> Result<Vec<u8>, Refusal>
-    ensures { IfOk result (λ text. answers.IsLogOfSplit accepted.now.table script.now text.items) }
+    ensures log { IfOk result (λ text. answers.IsLogOfSplit accepted.now.table script.now text.items) }
+    ensures memory { IfErr result (λ refusal. refusal ≡ out_of_memory) }
 {
     let log = split(rt, alloc, accepted, &script.events, gate)?;
     write_log(alloc, &log)

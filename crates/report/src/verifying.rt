@@ -6,10 +6,11 @@ ghost use Rattle.report.specs.Answers as answers;
 ghost use Rattle.report.specs.Commands.{input, output};
 ghost use Rattle.reptext.specs.declared.file.File.TheVariants as file;
 
-use crate::command::{Answer, Command, NoMemory, denied};
+use crate::command::{Answer, Command, denied};
 use crate::engine::carry_out;
 use crate::load::Loaded;
 use crate::{Asked, End, File, Listener, Sink, Source};
+use base::Refusal;
 use captext::Fault;
 use certificate::{Certificate, NotAccepted};
 use reptext::accept_report;
@@ -91,7 +92,7 @@ impl<R: Threads + Sync> Command for Verifying<'_, R> {
         None
     }
 
-    fn judge(&self, alloc: Global, loaded: &Loaded<Certificate>) -> Result<Answer, NoMemory> {
+    fn judge(&self, alloc: Global, loaded: &Loaded<Certificate>) -> Result<Answer, Refusal> {
         match certificate::verify(self.rt, alloc, &loaded.table, &loaded.policy, &loaded.third) {
             Ok(_) => Ok(Answer {
                 text: accept_report(alloc)?,
@@ -99,7 +100,7 @@ impl<R: Threads + Sync> Command for Verifying<'_, R> {
                 finding: None,
             }),
             Err(NotAccepted::Denied(denial)) => Ok(denied(alloc, &loaded.table, denial)?),
-            Err(NotAccepted::NoMemory) => Err(NoMemory),
+            Err(NotAccepted::NoMemory) => Err(Refusal::OUT_OF_MEMORY),
         }
     }
 }

@@ -4,8 +4,8 @@ use Rattle.policy.specs.Closing.{IsLeastClosed}
 use Rattle.report.proofs.ClosedText.{is_closing}
 use Rattle.report.proofs.closing.least.Goals as goal
 
-pub returns : goal.returns
-returns c =
+pub returns-clause-closing : goal.returns-clause-closing
+returns-clause-closing c =
     let t = c.args.table.now in
     let edges = c.args.policy.now in
     let closed = c.in_ok-closed.closed in

@@ -9,6 +9,6 @@ returns-clause-right c =
     let t = c.args.table.now in
     let boot = c.each_table_has_one_boot_state.ensures.exists t in
     surplus_told t boot.0 boot.1 c.lacked_answer.result c.args.policy.now c.in_ok-asked_for.asked_for
-    (subst (λ edges. IsClosing t edges c.in_ok-asked_for.asked_for) c.new.ensures c.in_ok-asked_for.ensures)
+    (subst (λ edges. IsClosing t edges c.in_ok-asked_for.asked_for) c.new.ensures c.in_ok-asked_for.ensures.closing)
     c.lacked_answer.ensures.text c.lacked_answer.ensures.status
     (λ p. c.a_verdict_is_on_the_boot_state.ensures.accepted t p c.objects.ensures.lawful)

@@ -4,8 +4,8 @@ use Rattle.std.proofs.lemmas.Result.{IfOk-weaker}
 use Rattle.evtext.specs.Log.{log_text}
 use Rattle.report.proofs.running.log_of_run.Goals as goal
 
-pub returns : goal.returns
-returns c =
+pub returns-clause-log : goal.returns-clause-log
+returns-clause-log c =
     let ran = c.in_ok-run.ensures.ran in
     let all = c.deref.ensures.value ∙ ran.1 ∙ ap (λ xs. xs ++ ran.0) c.new-outcomes.ensures.items in
     IfOk-weaker c.write_run.result _ _

@@ -3,8 +3,8 @@ use Rattle.std.proofs.lemmas.Result.{IfOk-weaker}
 use Rattle.split.specs.SplitRun.{IsSplitRun}
 use Rattle.report.proofs.splitting.log_of_split.Goals as goal
 
-pub returns : goal.returns
-returns g c =
+pub returns-clause-log : goal.returns-clause-log
+returns-clause-log g c =
     let ran = c.in_ok-log.ensures.split in
     let split = subst (λ events. IsSplitRun ran.0 events c.in_ok-log.log.items ran.1) (c.deref.ensures.value ∙ c.script.view_is) ran.3 in
     IfOk-weaker c.write_log.result _ _
