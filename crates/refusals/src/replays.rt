@@ -80,6 +80,11 @@ fn engine_replay_after_59(rt: HostRuntime) -> Result<(), Fail> {
     replays(&rt, 59)
 }
 
+#[test]
+fn engine_replay_after_54(rt: HostRuntime) -> Result<(), Fail> {
+    replays(&rt, 54)
+}
+
 fn ends_outside<R: Abort + AllocGlobal>(rt: &R, count: u64) -> Result<(), Fail> {
     answers(rt, count, Answer::new(1, OUTSIDE), |page| {
         replay_onto(rt, EMPTY_POLICY, LOG, page)
@@ -104,6 +109,11 @@ fn engine_replay_outside_after_54(rt: HostRuntime) -> Result<(), Fail> {
 #[test]
 fn engine_replay_outside_after_49(rt: HostRuntime) -> Result<(), Fail> {
     ends_outside(&rt, 49)
+}
+
+#[test]
+fn engine_replay_outside_after_44(rt: HostRuntime) -> Result<(), Fail> {
+    ends_outside(&rt, 44)
 }
 
 fn tells_a_fault<R: Abort + AllocGlobal>(rt: &R, count: u64) -> Result<(), Fail> {
