@@ -1,6 +1,6 @@
 -- No pair of a lawful table's derivation tree is for untyped memory: that has one capability at most, which would be its own parent,
 -- and so not original.
-use Rattle.std.proofs.Common.{◌≡◌, ◌≢◌, ◌==◌, ◌⊎◌, true, false, not, inl, inr, refl, sym, ap, ◌∙◌}
+use Rattle.std.proofs.Common.{◌≡◌, ◌≢◌, ◌==◌, true, not, inl, inr, sym, ap, ◌∙◌}
 use Rattle.std.specs.Prelude.{Some, Contains, option_map, slice_get}
 use Rattle.std.specs.Cmp.{tied_itself}
 use Rattle.std.specs.Option.{option_and_then}

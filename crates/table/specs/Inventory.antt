@@ -1,5 +1,5 @@
 -- The objects of a capability table with their names, and where each object lies (confine's own).
-use Rattle.std.specs.Prelude.{ℕ, List}
+use Rattle.std.specs.Prelude.{ℕ, ◌+◌, List, [], ◌∷◌}
 use Rattle.machine.specs.declared.layout.Initial.{Initial}
 use Rattle.machine.specs.declared.object.Object.{Object}
 use Rattle.machine.specs.Objects.{address_of, end_of}
@@ -10,6 +10,11 @@ pub record Inventory : Type 0 where
   pub names : List (List ℕ)
   pub objects : List Initial
 
--- the addresses of an object
-abbrev pub extent_of : Object → Extent
-extent_of object = record { start = address_of object; end = end_of object }
+-- the addresses of the object of a number
+abbrev pub extent_of : ℕ → Object → Extent
+extent_of number object = record { start = address_of object; end = end_of object; number = number }
+
+-- those of objects that are numbered from here on
+unfoldable pub extents_from : ℕ → List Initial → List Extent
+extents_from number [] = []
+extents_from number (initial ∷ objects) = extent_of number initial.object ∷ extents_from (number + 1) objects

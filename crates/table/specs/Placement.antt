@@ -1,5 +1,5 @@
 -- Where objects lie in memory: alignment, and which objects overlap (compare the seL4 manual, "Memory Allocation").
-use Rattle.std.specs.Prelude.{ℕ, ◌<◌, ◌≤◌, ◌^◌, ◌%◌, ◌==◌, ◌&&◌, Bool, true, nat_lt, List, Option, Some, None}
+use Rattle.std.specs.Prelude.{ℕ, ◌<◌, ◌≤◌, ◌^◌, ◌%◌, ◌==◌, ◌&&◌, Bool, true, nat_le, nat_lt, List, Option, Some, None}
 use Rattle.std.specs.List.{All, AllPairs}
 use Rattle.machine.specs.declared.object.Object.{Object}
 use Rattle.machine.specs.Objects.{address_of, end_of, size_bits}
@@ -27,6 +27,10 @@ is_aligned object = at_multiple (size_bits object) where
 -- whether some address is in both
 abbrev pub touches : Extent → Extent → Bool
 touches one other = nat_lt one.start other.end && nat_lt other.start one.end
+
+-- whether an address is in an extent
+abbrev pub holds : ℕ → Extent → Bool
+holds address extent = nat_le extent.start address && nat_lt address extent.end
 
 -- rising ranges of addresses, of which each ends before the next starts
 pub record AreApart (extents : List Extent) : Type 0 where

@@ -2,6 +2,7 @@ ghost use Rattle.std.specs.Prelude.{◌≡◌, ◌≤◌, ◌<◌, length, slice
 ghost use Rattle.std.specs.List.{list_any};
 ghost use Rattle.std.specs.Option.{option_copied};
 ghost use Rattle.machine.specs.Layout.{empty_layout, initial_of, bound_thread};
+ghost use Rattle.machine.specs.Authority.{label_at};
 ghost use Rattle.machine.specs.Objects.{end_of};
 ghost use Rattle.base.specs.declared.label.TheConstants.Label as LabelLimits;
 ghost use Rattle.base.specs.declared.limits.TheConstants.{MAX_OBJECTS};
@@ -150,6 +151,14 @@ impl Draft {
         ensures { result.now ≡ self.now.objects }
     {
         self.objects.as_slice()
+    }
+
+    /// The label of the untyped memory that holds an address.
+    #[tactic(auto, unfolding(machine::specs::Authority::label_at))]
+    pub fn label_at(&self, address: u64) -> Option<Label>
+        ensures { result ≡ label_at self.now address }
+    {
+        self.objects.label_at(address)
     }
 
     /// Whether one object more stays within the limits.

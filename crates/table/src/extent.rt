@@ -1,27 +1,29 @@
-ghost use Rattle.std.specs.Prelude.{◌≡◌, ◌≤◌, ◌<◌, ◌∷◌, false, length, nat_le, vec_len};
-ghost use Rattle.std.specs.List.{list_any};
+ghost use Rattle.std.specs.Prelude.{◌≡◌, ◌≤◌, ◌<◌, ◌∷◌, ⊤, false, true, length, nat_le, vec_len, MatchOption, Some};
+ghost use Rattle.std.specs.List.{All, Contains, list_any};
 ghost use Rattle.std.specs.List.Sorted.{IsPartitionPoint, IsPermutation};
 ghost use Rattle.std.specs.Vec.{vec_capacity};
 ghost use Rattle.machine.specs.Objects.{address_of, end_of, size_bits};
-ghost use Rattle.table.specs.Placement.{AreApart, touches};
+ghost use Rattle.table.specs.Placement.{AreApart, holds, touches};
 ghost use Rattle.table.specs.Placement as placement;
 
 use base::{ADDRESS_BITS, ADDRESS_END};
 use machine::Object;
 
-/// The addresses from `start` on and below `end`.
+/// The addresses from `start` on and below `end`, at which the object of this number lies.
 #[derive(Clone, Copy)]
 pub struct Extent {
     pub start: u64,
     pub end: u64,
+    pub number: u64,
 }
 
 impl Extent {
-    /// The addresses of an object.
-    pub fn of(object: &Object) -> Extent
+    /// The addresses of the object of a number.
+    pub fn of(number: u64, object: &Object) -> Extent
         requires { end_of object.now ≤ ADDRESS_END }
         ensures start { result.start ≡ address_of object.now }
         ensures end { result.end ≡ end_of object.now }
+        ensures number { result.number ≡ number }
         ensures upward { result.start ≤ result.end }
     {
         let start = object.address();
@@ -29,7 +31,7 @@ impl Extent {
             None => start,
             Some(bits) => start + (1 << bits),
         };
-        Extent { start, end }
+        Extent { start, end, number }
     }
 
     /// Whether some address is in both.
@@ -63,6 +65,30 @@ pub fn insert_within(rising: &mut Vec<Extent>, extent: Extent)
     if rising.insert(at, extent).is_err() {
         unreachable!()
     }
+}
+
+/// Of these extents, of which no two meet, the one that holds an address.
+pub fn holder(rising: &[Extent], address: u64) -> Option<Extent>
+    requires { AreApart rising.now }
+    ensures found { MatchOption result ⊤ (λ extent. Contains rising.now extent × (holds address extent ≡ true)) }
+    ensures alone { All (λ extent. holds address extent ≡ true → result ≡ Some extent) rising.now }
+{
+    // Of those that start at it or below, only the last can reach beyond it.
+    let count = count_up_to(rising, address);
+    if count > 0 && address < rising[count - 1].end {
+        Some(rising[count - 1])
+    } else {
+        None
+    }
+}
+
+/// How many of these rising extents start at an address or below it.
+fn count_up_to(rising: &[Extent], address: u64) -> usize
+    requires { AreApart rising.now }
+    ensures bound { result ≤ length rising.now }
+    ensures parted { IsPartitionPoint (λ other. other.start ≤ address) (λ other. address < other.start) rising.now result }
+{
+    rising.partition_point(|other| other.start <= address)
 }
 
 /// How many of these rising extents start below an address.

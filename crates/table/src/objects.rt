@@ -1,16 +1,18 @@
 ghost use Rattle.std.specs.Prelude.{◌≡◌, ◌≤◌, ◌<◌, ◌+◌, ◌++◌, ◌∷◌, [], length, true, slice_get, position, is_some, not};
-ghost use Rattle.std.specs.Prelude.{false, vec_len, OnOk, OnErr, if◌then◌else◌};
+ghost use Rattle.std.specs.Prelude.{false, find, option_map, vec_len, OnOk, OnErr, if◌then◌else◌};
 ghost use Rattle.std.specs.List.{list_any};
 ghost use Rattle.std.specs.Option.{option_copied};
 ghost use Rattle.std.specs.Str.{bytes_eq};
 ghost use Rattle.std.specs.Vec.{vec_capacity};
+ghost use Rattle.machine.specs.Authority.{has_memory_at};
 ghost use Rattle.machine.specs.Objects.{end_of, slot_count};
 ghost use Rattle.table.specs.Placement.{meets};
 ghost use Rattle.base.specs.declared.limits.TheConstants.{ADDRESS_END, MAX_SLOTS, MAX_THREADS};
 ghost use Rattle.table.specs.Rules.{is_tcb, slots_in, threads_in};
 
-use crate::extent::{Extent, insert_within, meets_any};
+use crate::extent::{Extent, holder, insert_within, meets_any};
 use crate::names::Names;
+use base::Label;
 use machine::{Initial, Object};
 use std::alloc::{AllocError, Global};
 use std::marker::Model;
@@ -27,9 +29,9 @@ pub struct Objects {
 }
 
 impl Model for Objects {
-    ghost use Rattle.std.specs.Prelude.{◌≡◌, length, map};
+    ghost use Rattle.std.specs.Prelude.{◌≡◌, length};
     ghost use Rattle.std.specs.List.Sorted.{IsPermutation};
-    ghost use Rattle.table.specs.Inventory.{Inventory, extent_of};
+    ghost use Rattle.table.specs.Inventory.{Inventory, extents_from};
     ghost use Rattle.table.specs.Placement.{AreApart};
     ghost use Rattle.table.specs.Rules.{slots_in, threads_in};
 
@@ -39,7 +41,7 @@ impl Model for Objects {
 
     ghost invariant = { λ o. record {
       named : length o.names ≡ length o.items.items;
-      extents : IsPermutation (map (λ initial. extent_of initial.object) o.items.items) o.extents.items;
+      extents : IsPermutation (extents_from 0 o.items.items) o.extents.items;
       apart : AreApart o.extents.items;
       slots : o.slots ≡ slots_in o.items.items;
       threads : o.threads ≡ threads_in o.items.items;
@@ -111,7 +113,22 @@ impl Objects {
         requires { end_of object.now ≤ ADDRESS_END }
         ensures { result ≡ not (list_any (λ initial. meets initial.object object.now) self.now.objects) }
     {
-        !meets_any(self.extents.as_slice(), &Extent::of(object))
+        !meets_any(
+            self.extents.as_slice(),
+            &Extent::of(self.items.len() as u64, object),
+        )
+    }
+
+    /// The label of the untyped memory that holds an address.
+    pub fn label_at(&self, address: u64) -> Option<Label>
+        ensures { result ≡ option_map (λ initial. initial.label) (find (has_memory_at address) self.now.objects) }
+    {
+        let extent = holder(self.extents.as_slice(), address)?;
+        let initial = self.items.get(extent.number as usize)?;
+        match initial.object {
+            Object::Untyped(_) => Some(initial.label),
+            _ => None,
+        }
     }
 
     /// Adds an object under a new name.
@@ -128,8 +145,11 @@ impl Objects {
         self.items.reserve(1)?;
         self.extents.reserve(1)?;
         self.names.add(name)?;
+        insert_within(
+            &mut self.extents,
+            Extent::of(self.items.len() as u64, &initial.object),
+        );
         push_within(&mut self.items, initial);
-        insert_within(&mut self.extents, Extent::of(&initial.object));
         self.slots += initial.object.slot_count();
         if let Object::Tcb(_) = initial.object {
             self.threads += 1;

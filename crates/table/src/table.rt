@@ -1,6 +1,7 @@
 ghost use Rattle.std.specs.Prelude.{◌≡◌, ◌<◌, AllPairs, length, slice_get, IfSome};
 ghost use Rattle.std.specs.List.{find};
 ghost use Rattle.std.specs.Option.{option_copied};
+ghost use Rattle.machine.specs.Authority.{label_at};
 ghost use Rattle.machine.specs.Layout.{initial_of, initial_cap, initial_parent, bound_context, bound_thread};
 ghost use Rattle.machine.specs.Machine.{same_id};
 ghost use Rattle.table.specs.Names.{label_named, object_named};
@@ -103,6 +104,13 @@ impl Table {
         ensures lawful { IsLawful self.now }
     {
         self.draft.objects()
+    }
+
+    /// The label of the untyped memory that holds an address.
+    pub fn label_at(&self, address: u64) -> Option<Label>
+        ensures { result ≡ label_at self.now address }
+    {
+        self.draft.label_at(address)
     }
 
     /// The filled slots, rising.

@@ -1,5 +1,5 @@
 -- The slots rise, so that which is found is the one.
-use Rattle.std.proofs.Common.{refl, sym, ap, ◌∙◌, option_map}
+use Rattle.std.proofs.Common.{sym, ap, ◌∙◌, option_map}
 use Rattle.std.proofs.lemmas.Bool.{ltb-true}
 use Rattle.std.specs.Cmp.{tied_itself}
 use Rattle.base.specs.declared.ids.SlotRef.{SlotRef}

@@ -1,8 +1,7 @@
 -- The first pair that breaks a rule is told, or there is none.
-use Rattle.std.proofs.Common.{◌≡◌, ℕ, ◌<◌, ◌≤◌, ◌⊎◌, inl, inr, true, [], get_or, sym, ap, ◌∙◌, arith}
+use Rattle.std.proofs.Common.{◌≡◌, ◌<◌, ◌≤◌, ◌⊎◌, inl, inr, true, [], get_or, sym, ap, ◌∙◌, arith}
 use Rattle.std.proofs.lemmas.Bool.{cases_lt}
 use Rattle.std.proofs.lemmas.List.{get_or_default}
-use Rattle.machine.specs.declared.layout.Pair.{Pair}
 use Rattle.table.specs.Tree.{is_kin, tree_of}
 use Rattle.table.proofs.TreeLemmas.{fault_here, fault_nowhere}
 use Rattle.table.proofs.tree.tree_fault.Goals as goal

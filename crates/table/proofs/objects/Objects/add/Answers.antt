@@ -25,7 +25,7 @@ pub invariant_of-self-in-Tcb : goal.invariant_of-self-in-Tcb
 invariant_of-self-in-Tcb c = record {
   named = grind (arith, common_steps);
   extents = extents_with c.args.initial c.of.result c.self.inside.items.items c.self.inside.extents.items
-      c.self.invariant.extents c.of.ensures.start c.of.ensures.end _ _ c.in_ok-reserve-2.ensures.items
+      c.self.invariant.extents c.of.ensures.start c.of.ensures.end (grind (arith, common_steps)) _ _ c.in_ok-reserve-2.ensures.items
       c.insert_within.ensures.items _ _ c.in_ok-reserve.ensures.items c.push_within.ensures;
   apart = c.insert_within.ensures.apart;
   slots = grind (arith, common_steps);
@@ -36,7 +36,7 @@ pub invariant_of-self-in_default : goal.invariant_of-self-in_default
 invariant_of-self-in_default c = record {
   named = grind (arith, common_steps);
   extents = extents_with c.args.initial c.of.result c.self.inside.items.items c.self.inside.extents.items
-      c.self.invariant.extents c.of.ensures.start c.of.ensures.end _ _ c.in_ok-reserve-2.ensures.items
+      c.self.invariant.extents c.of.ensures.start c.of.ensures.end (grind (arith, common_steps)) _ _ c.in_ok-reserve-2.ensures.items
       c.insert_within.ensures.items _ _ c.in_ok-reserve.ensures.items c.push_within.ensures;
   apart = c.insert_within.ensures.apart;
   slots = grind (arith, common_steps);

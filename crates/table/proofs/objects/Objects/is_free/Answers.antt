@@ -1,9 +1,9 @@
 -- The extents are those of the objects.
-use Rattle.std.proofs.Common.{◌∙◌, sym, ap, not, map, subst}
+use Rattle.std.proofs.Common.{◌∙◌, sym, ap, not, subst}
 use Rattle.std.specs.List.{list_any}
 use Rattle.std.specs.List.Sorted.{IsPermutation}
 use Rattle.table.proofs.ExtentLemmas.{meets_any-extents}
-use Rattle.table.specs.Inventory.{Inventory, extent_of}
+use Rattle.table.specs.Inventory.{Inventory, extents_from}
 use Rattle.table.specs.Placement.{meets}
 use Rattle.table.proofs.objects.Objects.is_free.Goals as goal
 
@@ -13,7 +13,7 @@ meets_any-requires c = rw c.as_slice.ensures.value c.self.invariant.apart
 pub returns : goal.returns
 returns c =
     let extents =
-    subst (λ extents. IsPermutation (map (λ initial. extent_of initial.object) c.self.inside.items.items) extents)
+    subst (λ extents. IsPermutation (extents_from 0 c.self.inside.items.items) extents)
     (sym c.as_slice.ensures.value) c.self.invariant.extents in
     let met =
     meets_any-extents c.of.result c.args.object.now c.as_slice.result.now c.self.inside.items.items extents c.of.ensures.start
