@@ -231,11 +231,12 @@ MOST_MADE = 16
 THREAD = NODES + 1
 
 
-def memory_table():
-    """A thread with untyped memory, and with CNodes that are empty."""
+def memory_table(others=0):
+    """A thread with untyped memory, and with CNodes that are empty; and before that memory so many pieces that nobody has."""
     lines = ["label a", f"cnode c a 0x10000 {ROOT_RADIX}"]
     lines.extend(f"cnode n{i} a {0x1000000 + i * 0x20000:#x} {NODE_RADIX}" for i in range(NODES))
     lines.extend(["tcb t a 0x4000 ready", "context x a 0x5000 0 10 10"])
+    lines.extend(f"untyped v{i} a {0x20000000 + i * 0x10:#x} 4" for i in range(others))
     lines.append(f"untyped u a {1 << (MEMORY_BITS + 4):#x} {MEMORY_BITS}")
     lines.extend(f"cap c.{FIRST_NODE + i} n{i} 0 0x0" for i in range(NODES))
     lines.extend([f"cap c.{ROOT} c {ROOT_GUARD} 0x0", f"cap c.{MEMORY} u", f"cap t.root c {ROOT_GUARD} 0x0", "bind t x"])
