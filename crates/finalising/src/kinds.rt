@@ -3,11 +3,11 @@ ghost use Rattle.machine.specs.WellFormed.{LinksAgree};
 ghost use Rattle.machine.specs.Releasing.{IsInItsQueue, with_halted, with_unbound};
 ghost use Rattle.finalising.specs.Finalised.{with_link_cut, with_links_cut, with_waiters_aborted};
 
-use crate::release::unbind;
 use base::ObjId;
 use machine::Object;
 use objects::State;
 use replies::{abort, halt};
+use schedctl::part;
 
 /// Aborts each thread that waits at the object.
 fn abort_waiters(state: &mut State, id: ObjId)
@@ -25,7 +25,7 @@ fn cut_thread(state: &mut State, id: ObjId)
     ensures { state.new ≡ with_unbound (with_halted state.old id) id }
 {
     halt(state, id);
-    unbind(state, id);
+    part(state, id);
 }
 
 // Unbinds the thread that runs on a scheduling context, if one does.
@@ -33,7 +33,7 @@ fn cut_context(state: &mut State, thread: Option<ObjId>)
     ensures { state.new ≡ with_link_cut state.old thread }
 {
     if let Some(thread) = thread {
-        unbind(state, thread);
+        part(state, thread);
     }
 }
 

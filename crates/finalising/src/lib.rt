@@ -4,7 +4,5 @@
 
 mod kinds;
 mod pass;
-mod release;
 
 pub use pass::finalise;
-pub use release::unbind;

@@ -12,7 +12,7 @@ use Rattle.machine.specs.declared.thread.Tcb.{Tcb}
 use Rattle.machine.specs.Changes.{with_context, with_tcb}
 use Rattle.machine.specs.Machine.{Machine, object_of, with_object}
 use Rattle.machine.specs.Releasing.{with_idle_context, with_unbound}
-use Rattle.machine.specs.Step.Bind.{context_under, thread_on, with_bound, without_thread}
+use Rattle.machine.specs.Step.Bind.{context_under, thread_on, with_bound, with_handed, without_thread}
 use Rattle.machine.specs.Step.Configure.{with_share}
 use Rattle.machine.specs.WellFormed.{IsThread, IsWellFormed}
 use Rattle.machine.proofs.ContextLinks.{binds_binds, binds_formed, object_binds}
@@ -257,6 +257,54 @@ with_unbound_formed m thread formed = by_content (object_of m thread) refl where
       (λ q its. same_Some q id (sym its ∙ is)) (λ q none. absurd (none-some q none)) (λ q none. absurd (none-some q none)))
 
   by_content : (content : Option Object) → object_of m thread ≡ content → IsWellFormed (with_unbound m thread)
+  by_content (Some (o.Tcb tcb)) e = by_link tcb tcb.context e refl
+  by_content None e = rw e formed
+  by_content (Some _) e = rw e formed
+
+-- a thread's scheduling context goes over to a thread that has none
+
+-- the context has no thread then, and the other thread none either
+module _ (m : Machine) (from id to : ObjId) (tcb : Tcb) (context : Context) (there : IsThread m from tcb)
+    (runs : tcb.context ≡ Some id) (its : object_of m id ≡ Some (o.Context context))
+    (free : context_under (object_of m to) ≡ None) where
+  abbrev between : Machine
+  between = with_unbound m from
+
+  between_is : between ≡ linked m from id tcb context None None there its
+  between_is = unbound_is m id from context tcb its there runs
+
+  its_between : object_of between id ≡ Some (o.Context (record context { thread = None }))
+  its_between = ap (λ (n : Machine). object_of n id) between_is ∙ its_now m from id tcb context None None there its
+
+  idle_between : thread_on (object_of between id) ≡ None
+  idle_between = ap thread_on its_between
+
+  to_apart : to ≢ from
+  to_apart same =
+      none-some id (sym free ∙ ap (λ (q : ObjId). context_under (object_of m q)) same ∙ ap context_under there ∙ runs)
+
+  free_between : context_under (object_of between to) ≡ None
+  free_between = by_id (one_or_two to id) where
+    by_id : (to ≡ id) ⊎ (to ≢ id) → context_under (object_of between to) ≡ None
+    by_id (inl same) = ap (λ (q : ObjId). context_under (object_of between q)) same ∙ ap context_under its_between
+    by_id (inr apart) =
+        ap (λ (n : Machine). context_under (object_of n to)) between_is
+        ∙ ap context_under (elsewhere m from id tcb context None None there its to to_apart apart)
+        ∙ free
+
+pub with_handed_formed :
+    (m : Machine) (from to : ObjId) → IsWellFormed m → context_under (object_of m to) ≡ None → IsWellFormed (with_handed m from to)
+unfolding with_handed
+with_handed_formed m from to formed free = by_content (object_of m from) refl where
+  by_link :
+      (tcb : Tcb) (link : Option ObjId) → IsThread m from tcb → tcb.context ≡ link → IsWellFormed (with_handed m from to)
+  by_link tcb None there is = rw (there, is) formed
+  by_link tcb (Some id) there is =
+      let w = formed.links.thread_context from id tcb there is in
+      rw (there, is) (with_bound_formed (with_unbound m from) id to (with_unbound_formed m from formed)
+      (idle_between m from id to tcb w.0 there is w.1 free) (free_between m from id to tcb w.0 there is w.1 free))
+
+  by_content : (content : Option Object) → object_of m from ≡ content → IsWellFormed (with_handed m from to)
   by_content (Some (o.Tcb tcb)) e = by_link tcb tcb.context e refl
   by_content None e = rw e formed
   by_content (Some _) e = rw e formed

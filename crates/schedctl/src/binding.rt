@@ -1,12 +1,13 @@
 ghost use Rattle.std.specs.Prelude.{◌≡◌};
 ghost use Rattle.machine.specs.Machine.{object_of};
 ghost use Rattle.machine.specs.Makes.{Makes};
-ghost use Rattle.machine.specs.Step.Bind.{bind_of, context_under, thread_on, unbind_of, unlinked, with_bound, without_thread};
+ghost use Rattle.machine.specs.Step.Bind.{bind_of, thread_on, unbind_of, unlinked, without_thread};
 ghost use Rattle.machine.specs.WellFormed.{IsWellFormed};
 
+use crate::links::{bind_to, context_under, part};
 use base::{Cause, ObjId};
 use cspace::{find_context, find_tcb};
-use machine::{Answer, Context, Made, Object, Tcb, calls_keep_machines_well_formed};
+use machine::{Answer, Made, Object, calls_keep_machines_well_formed};
 use objects::State;
 
 /// The thread that runs on a scheduling context.
@@ -15,16 +16,6 @@ fn thread_on(state: &State, id: ObjId) -> Option<ObjId>
 {
     match state.object(id) {
         Some(Object::Context(context)) => context.thread,
-        _ => None,
-    }
-}
-
-/// The scheduling context that a thread runs on.
-fn context_under(state: &State, thread: ObjId) -> Option<ObjId>
-    ensures { result ≡ context_under (object_of state.now thread) }
-{
-    match state.object(thread) {
-        Some(Object::Tcb(tcb)) => tcb.context,
         _ => None,
     }
 }
@@ -39,34 +30,12 @@ fn unlinked(link: Option<ObjId>) -> Result<(), Cause>
     }
 }
 
-/// Has a thread run on a scheduling context. Whatever ran on the context before, or the thread ran on,
-/// isn't changed: neither may be bound. Does nothing where one of them isn't there.
-#[tactic(auto, unfolding(machine::specs::Step::Bind::with_bound))]
-fn bind_to(state: &mut State, id: ObjId, thread: ObjId)
-    ensures { state.new ≡ with_bound state.old id thread }
-{
-    if let Some(&Object::Context(context)) = state.object(id) {
-        if let Some(&Object::Tcb(tcb)) = state.object(thread) {
-            let bound = Tcb {
-                context: Some(id),
-                ..tcb
-            };
-            let taken = Context {
-                thread: Some(thread),
-                ..context
-            };
-            state.set_tcb(thread, bound);
-            state.set_context(id, taken);
-        }
-    }
-}
-
 /// Unbinds the thread that runs on a scheduling context, if one does.
 fn unbind_thread(state: &mut State, thread: Option<ObjId>)
     ensures { state.new ≡ without_thread state.old thread }
 {
     if let Some(thread) = thread {
-        finalising::unbind(state, thread);
+        part(state, thread);
     }
 }
 

@@ -1,11 +1,17 @@
-//! Scheduling contexts: calls that configure, bind and unbind them.
+//! Scheduling contexts: calls that configure, bind and unbind them; and how one goes from thread to thread.
 //!
 //! Each call does its whole row of the kernel's step, from the row's first condition on, or leaves the
-//! state as it was. No memory is taken.
+//! state as it was; [`part`] and [`hand_over`] are changes that calls of other crates make. No memory is
+//! taken.
 #![tactic(auto)]
 
 mod binding;
 mod configuring;
+mod links;
 
 pub use binding::{bind, unbind};
 pub use configuring::configure;
+pub use links::{hand_over, part};
+
+#[cfg(test)]
+mod tests;

@@ -1,4 +1,5 @@
--- Bind and Unbind (seL4 manual, seL4_SchedContext_Bind, seL4_SchedContext_Unbind): a thread runs on a scheduling context, or no more.
+-- Bind and Unbind (seL4 manual, seL4_SchedContext_Bind, seL4_SchedContext_Unbind): a thread runs on a scheduling context, or no more;
+-- and a thread's context goes over to another thread.
 use Rattle.std.specs.Prelude.{ℕ, Option, Some, None, Result, Ok, Err}
 use Rattle.base.specs.declared.ids.ObjId.{ObjId}
 use Rattle.base.specs.declared.refusal.Cause.{Cause}
@@ -38,6 +39,13 @@ with_bound m id thread = by_contents (object_of m id) (object_of m thread) where
   by_contents (Some (o.Context context)) (Some (o.Tcb tcb)) =
       with_context (with_tcb m thread (record tcb { context = Some id })) id (record context { thread = Some thread })
   by_contents _ _ = m
+
+-- the scheduling context that a thread runs on is unbound from it, and bound to another thread
+unfoldable pub with_handed : Machine → ObjId → ObjId → Machine
+with_handed m from to = by_context (context_under (object_of m from)) where
+  by_context : Option ObjId → Machine
+  by_context None = m
+  by_context (Some id) = with_bound (with_unbound m from) id to
 
 unfoldable pub bind_of : Machine → ObjId → ℕ → ℕ → Result (Made × Machine) Cause
 bind_of m caller context address = do

@@ -2,8 +2,8 @@ use Rattle.std.proofs.Common.{sym, subst}
 use Rattle.machine.specs.Machine.{Machine}
 use Rattle.machine.specs.WellFormed.{IsWellFormed}
 use Rattle.machine.proofs.ContextsFormed.{with_unbound_formed}
-use Rattle.finalising.proofs.release.unbind.Goals as goal
+use Rattle.schedctl.proofs.links.part.Goals as goal
 
 pub returns-clause-well_formed : goal.returns-clause-well_formed
 returns-clause-well_formed c formed =
-    subst (λ (m : Machine). IsWellFormed m) (sym c.part.ensures) (with_unbound_formed c.args.state.now c.args.thread formed)
+    subst (λ (m : Machine). IsWellFormed m) (sym c.cut.ensures) (with_unbound_formed c.args.state.now c.args.thread formed)

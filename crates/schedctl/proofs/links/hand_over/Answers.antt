@@ -1,0 +1,10 @@
+use Rattle.std.proofs.Common.{sym, subst}
+use Rattle.machine.specs.Machine.{Machine}
+use Rattle.machine.specs.WellFormed.{IsWellFormed}
+use Rattle.machine.proofs.ContextsFormed.{with_handed_formed}
+use Rattle.schedctl.proofs.links.hand_over.Goals as goal
+
+pub returns-clause-well_formed : goal.returns-clause-well_formed
+returns-clause-well_formed c formed =
+    subst (λ (m : Machine). IsWellFormed m) (sym c.rebind.ensures)
+    (with_handed_formed c.args.state.now c.args.from c.args.to formed c.requires.free)
