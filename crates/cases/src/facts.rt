@@ -2,8 +2,8 @@
 //! for each of its slots.
 use base::{ObjId, SlotRef};
 use machine::{
-    CNode, Cap, Context, Control, Detail, Endpoint, Frame, Inbox, Notification, Object, Receiving,
-    Reply, ReplyState, RunState, Sending, Share, Tcb, Untyped,
+    CNode, Calling, Cap, Context, Control, Detail, Endpoint, Frame, Inbox, Notification, Object,
+    Receiving, Reply, ReplyState, RunState, Sending, Share, Tcb, Untyped,
 };
 use objects::State;
 use std::alloc::AllocError;
@@ -186,10 +186,29 @@ fn tell_run_state(text: &mut String, table: &Table, state: &RunState) -> Result<
             let notification = Name { table, id: *id };
             write!(text, "waits at {notification}")
         }
-        RunState::Called(id) => {
-            let reply = Name { table, id: *id };
-            write!(text, "called through {reply}")
+        RunState::Called(calling) => tell_calling(text, table, calling),
+    }
+}
+
+fn tell_calling(text: &mut String, table: &Table, calling: &Calling) -> Result<(), AllocError> {
+    let reply = Name {
+        table,
+        id: calling.reply,
+    };
+    write!(text, "called through {reply}")?;
+    match calling.lent {
+        Some(lent) => {
+            let context = Name {
+                table,
+                id: lent.context,
+            };
+            let borrower = Name {
+                table,
+                id: lent.borrower,
+            };
+            write!(text, ", lent {context} to {borrower}")
         }
+        None => Ok(()),
     }
 }
 

@@ -17,7 +17,7 @@ use Rattle.machine.specs.declared.thread.Tcb.{Tcb}
 use Rattle.machine.specs.Finalising.{IsHolding, link_after}
 use Rattle.machine.specs.Machine.{Machine, object_of, queue_of}
 use Rattle.machine.specs.Objects.{kind_of_object}
-use Rattle.machine.specs.WellFormed.{IsReceivingWith, IsSending, IsThread, LinksAgree, WaitsAt, WaitsAtKind, kind_of}
+use Rattle.machine.specs.WellFormed.{IsCallingThrough, IsReceivingWith, IsSending, IsThread, LinksAgree, WaitsAt, WaitsAtKind, kind_of}
 use Rattle.finalising.specs.Reached.{IsReached, Reach, and_aborted, and_halted, and_unbound, has_left, nobody, object_by, queue_by, state_by}
 use Rattle.machine.specs.Releasing.{reply_by, with_aborted, with_halted, with_unbound}
 use Rattle.machine.proofs.Filters.{filter_all}
@@ -168,7 +168,7 @@ module _ (old now : Machine) (reach : Reach) (reached : IsReached old reach now)
             (w.0, reply_kept id thread w.0 (reply.Waiting thread) was.3 refl w.1);
         called_reply =
             λ thread id tcb e called.
-            let was = blocked_was (λ run. run ≡ state.Called id) (λ h. cc) (λ h. cc) thread tcb e called in
+            let was = blocked_was (λ run. IsCallingThrough run id) (λ h. h) (λ h. h) thread tcb e called in
             let w = links.called_reply thread id was.0 was.1 was.2 in
             (w.0, reply_kept id thread w.0 (reply.Called thread) was.3 refl w.1);
         waiting_reply =
@@ -180,7 +180,7 @@ module _ (old now : Machine) (reach : Reach) (reached : IsReached old reach now)
             λ id thread address e.
             let was = reply_was id thread address (reply.Called thread) refl e in
             let w = links.reply_called id thread address was.0 in
-            still (λ run. run ≡ state.Called id) thread w.0 w.1 w.2 was.1;
+            still (λ run. IsCallingThrough run id) thread w.0 w.1 w.2 was.1;
         thread_context =
             λ thread id tcb e bound.
             let was = thread_was old now reach reached thread tcb e in

@@ -93,7 +93,7 @@ module _ (old : Machine) (links : LinksAgree old) where
 
         run_halted : (run : RunState) → is_halted (λ _. false) run ≡ false
         run_halted (state.Receiving receiving) = nothing_bound receiving.reply
-        run_halted (state.Called called) = refl
+        run_halted (state.Called calling) = refl
         run_halted _ = refl
 
         run_aborted : (run : RunState) → is_aborted (λ _. false) run ≡ false

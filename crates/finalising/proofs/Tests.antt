@@ -49,7 +49,7 @@ module _ (done : ObjId → Bool) (x : ObjId) where
 
   pub both_halted : (run : RunState) → is_halted (plus done x) run ≡ (is_halted done run || is_halted (alone x) run)
   both_halted (state.Receiving receiving) = both_links receiving.reply
-  both_halted (state.Called called) = refl
+  both_halted (state.Called calling) = refl
   both_halted _ = refl
 
   pub both_aborted : (run : RunState) → is_aborted (plus done x) run ≡ (is_aborted done run || is_aborted (alone x) run)
@@ -68,12 +68,12 @@ module _ (x : ObjId) where
 
   pub names_it : (run : RunState) → is_halted (alone x) run ≡ true → Names run x
   names_it (state.Receiving receiving) e = link_is receiving.reply e
-  names_it (state.Called called) e = one_id called x e
+  names_it (state.Called calling) e = one_id calling.reply x e
   names_it _ e = absurd (false≢true e)
 
   pub it_is_named : (run : RunState) → Names run x → is_halted (alone x) run ≡ true
   it_is_named (state.Receiving receiving) e = is_link receiving.reply e
-  it_is_named (state.Called called) e = ap (λ (c : ObjId). same_id c x) e ∙ itself x
+  it_is_named (state.Called calling) e = ap (λ (c : ObjId). same_id c x) e ∙ itself x
   it_is_named _ e = absurd e
 
   pub waits_there : (run : RunState) → is_aborted (alone x) run ≡ true → WaitsAt run x

@@ -9,14 +9,13 @@ use Rattle.machine.specs.declared.object.Object.TheVariants as o
 use Rattle.machine.specs.declared.object.Reply.{Reply}
 use Rattle.machine.specs.declared.object.ReplyState.{ReplyState}
 use Rattle.machine.specs.declared.object.ReplyState.TheVariants as reply
-use Rattle.machine.specs.declared.thread.RunState.{RunState}
-use Rattle.machine.specs.declared.thread.RunState.TheVariants as state
 use Rattle.machine.specs.declared.thread.Tcb.{Tcb}
 use Rattle.machine.specs.Finalising.{halted}
 use Rattle.machine.specs.Machine.{Machine, object_of}
 use Rattle.machine.specs.Releasing.{with_halted, with_holder_halted, with_released}
 use Rattle.machine.specs.Step.Receive.{with_reply_ended}
 use Rattle.machine.specs.WellFormed.{IsFree, IsIdle, IsReceivingWith, IsThread, IsWellFormed, LinksAgree}
+use Rattle.machine.proofs.HeldThreads.{calling_names, receiving_names}
 use Rattle.machine.proofs.Idle.{idle_names}
 use Rattle.machine.proofs.Leaving.{Names}
 use Rattle.machine.proofs.MessageFormed.{holder_halted_formed, holder_halted_free}
@@ -76,10 +75,6 @@ pub record HolderLeaves (m : Machine) (id : ObjId) : Type 0 where
   pub names : Names tcb.state id
   pub changes : with_holder_halted m id ≡ with_halted m thread
 
-receiving_named : (run : RunState) (id : ObjId) → IsReceivingWith run id → Names run id
-receiving_named (state.Receiving receiving) id e = e
-receiving_named _ id e = absurd e
-
 waiter_halted :
     (m : Machine) (id thread : ObjId) (holding : Reply) → object_of m id ≡ Some (o.Reply holding)
     → holding.state ≡ reply.Waiting thread → with_holder_halted m id ≡ with_halted m thread
@@ -114,7 +109,7 @@ holder_leaves m id links = by_content (object_of m id) refl where
         thread = thread;
         tcb = w.0;
         there = w.1;
-        names = receiving_named w.0.state id w.2;
+        names = receiving_names w.0.state id w.2;
         changes = waiter_halted m id thread holding e is;
       })
   by_state holding (reply.Called thread) e is =
@@ -125,7 +120,7 @@ holder_leaves m id links = by_content (object_of m id) refl where
         thread = thread;
         tcb = w.0;
         there = w.1;
-        names = subst (λ (run : RunState). Names run id) (sym w.2) refl;
+        names = calling_names w.0.state id w.2;
         changes = caller_halted m id thread holding e is;
       })
 

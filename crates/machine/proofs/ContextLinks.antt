@@ -10,7 +10,7 @@ use Rattle.machine.specs.declared.object.Reply.{Reply}
 use Rattle.machine.specs.declared.thread.RunState.{RunState}
 use Rattle.machine.specs.declared.thread.Tcb.{Tcb}
 use Rattle.machine.specs.Machine.{Machine, object_of, queue_of, with_object}
-use Rattle.machine.specs.WellFormed.{IsReceivingWith, IsSending, IsThread, IsWellFormed, LinksAgree, WaitsAt, WaitsAtKind}
+use Rattle.machine.specs.WellFormed.{IsCallingThrough, IsReceivingWith, IsSending, IsThread, IsWellFormed, LinksAgree, WaitsAt, WaitsAtKind}
 use Rattle.machine.proofs.LookUps.{object_of-with_object, queue_of-with_object}
 use Rattle.machine.proofs.Outlines.{Steady, object_steady, outline, same_kinds, shown_kept, shown_there, steady_formed}
 use Rattle.machine.proofs.Outlines.{steady_steady}
@@ -139,7 +139,9 @@ module _ (m next : Machine) (only : OnlyBinds m next) (links : LinksAgree m) whe
         called_reply =
             λ thread q tcb e called.
             let was = thread_was thread tcb e in
-            let w = links.called_reply thread q was.0 was.1 (was.2 ∙ called) in (w.0, reply_now q _ w.1);
+            let w =
+            links.called_reply thread q was.0 was.1 (subst (λ (run : RunState). IsCallingThrough run q) (sym was.2) called) in
+            (w.0, reply_now q _ w.1);
         waiting_reply =
             λ q thread address e.
             let w = links.waiting_reply q thread address (reply_was q _ e) in
@@ -148,7 +150,8 @@ module _ (m next : Machine) (only : OnlyBinds m next) (links : LinksAgree m) whe
         reply_called =
             λ q thread address e.
             let w = links.reply_called q thread address (reply_was q _ e) in
-            let now = thread_now thread w.0 w.1 in (now.0, now.1, now.2 ∙ w.2);
+            let now = thread_now thread w.0 w.1 in
+            (now.0, now.1, subst (λ (run : RunState). IsCallingThrough run q) (sym now.2) w.2);
         thread_context = binds.thread_context;
         context_thread = binds.context_thread;
       }

@@ -59,13 +59,13 @@ word_formed m id old new was same_address formed =
 
 -- who waits at a notification names no reply
 alone_at : (run : RunState) (at : ObjectKind) → at ≡ kind.Notification → WaitsAtKind run at → NamesNoReply run
-alone_at (state.Waiting notification) at is waits = record { not_with = λ id h. h; not_called = λ id same. cc }
+alone_at (state.Waiting notification) at is waits = record { not_with = λ id h. h; not_called = λ id h. h }
 alone_at (state.Sending sending) at is waits = absurd (subst (WaitsAtKind (state.Sending sending)) is waits)
 alone_at (state.Receiving receiving) at is waits = absurd (subst (WaitsAtKind (state.Receiving receiving)) is waits)
 alone_at _ at is waits = absurd waits
 
 ready_alone : NamesNoReply state.Ready
-ready_alone = record { not_with = λ id h. h; not_called = λ id same. cc }
+ready_alone = record { not_with = λ id h. h; not_called = λ id h. h }
 
 first_alone :
     (m : Machine) (id first : ObjId) (others : List ObjId) (notification : Notification) (thread : Tcb) → IsWellFormed m

@@ -11,13 +11,17 @@ use Rattle.machine.specs.declared.thread.RunState.TheVariants as state
 use Rattle.machine.specs.declared.thread.Tcb.{Tcb}
 use Rattle.machine.specs.Finalising.{IsHolding}
 use Rattle.machine.specs.Machine.{Machine, object_of, queue_of}
-use Rattle.machine.specs.WellFormed.{IsReceivingWith, IsThread, LinksAgree, WaitsAt}
+use Rattle.machine.specs.WellFormed.{IsCallingThrough, IsReceivingWith, IsThread, LinksAgree, WaitsAt}
 use Rattle.machine.proofs.Leaving.{HasLinks, Names}
 use Rattle.machine.proofs.RemovalTable.{one_thread}
 
-receiving_names : (run : RunState) (id : ObjId) → IsReceivingWith run id → Names run id
+pub receiving_names : (run : RunState) (id : ObjId) → IsReceivingWith run id → Names run id
 receiving_names (state.Receiving receiving) id e = e
 receiving_names _ id e = absurd e
+
+pub calling_names : (run : RunState) (id : ObjId) → IsCallingThrough run id → Names run id
+calling_names (state.Called calling) id e = e
+calling_names _ id e = absurd e
 
 module _ (m : Machine) (links : LinksAgree m) (thread : ObjId) (tcb : Tcb) (there : IsThread m thread tcb) where
   queued_at :
@@ -40,7 +44,7 @@ module _ (m : Machine) (links : LinksAgree m) (thread : ObjId) (tcb : Tcb) (ther
     by_state (reply.Called caller) at same =
         let w = links.reply_called id caller holding.address at in
         subst (λ (t : Tcb). Names t.state id) (one_thread m thread w.0 tcb (ap (object_of m) (sym same) ∙ w.1) there)
-        (subst (λ (run : RunState). Names run id) (sym w.2) refl)
+        (calling_names w.0.state id w.2)
     by_state reply.Free at same = absurd same
 
   holds_it :
@@ -53,8 +57,8 @@ module _ (m : Machine) (links : LinksAgree m) (thread : ObjId) (tcb : Tcb) (ther
     by_run (state.Receiving receiving) e named =
         let w = links.receiver_reply thread id tcb there (subst (λ (run : RunState). IsReceivingWith run id) (sym e) named) in
         (record { address = w.0; state = reply.Waiting thread }, w.1, refl)
-    by_run (state.Called called) e named =
-        let w = links.called_reply thread id tcb there (e ∙ ap (λ x. state.Called x) named) in
+    by_run (state.Called calling) e named =
+        let w = links.called_reply thread id tcb there (subst (λ (run : RunState). IsCallingThrough run id) (sym e) named) in
         (record { address = w.0; state = reply.Called thread }, w.1, refl)
     by_run _ e named = absurd named
 

@@ -10,7 +10,7 @@ use Rattle.machine.specs.declared.thread.Tcb.{Tcb}
 use Rattle.machine.specs.Finalising.{IsHolding}
 use Rattle.machine.specs.Machine.{Machine, object_of, queue_of}
 use Rattle.machine.specs.Releasing.{unblocked}
-use Rattle.machine.specs.WellFormed.{IsIdle, IsReceivingWith, IsThread, LinksAgree, WaitsAt}
+use Rattle.machine.specs.WellFormed.{IsCallingThrough, IsIdle, IsReceivingWith, IsThread, LinksAgree, WaitsAt}
 use Rattle.machine.proofs.HeldThreads.{links_of}
 use Rattle.machine.proofs.Leaving.{Names}
 
@@ -29,8 +29,10 @@ idle_receives state.Inactive idle id receives = receives
 idle_receives state.Ready idle id receives = receives
 idle_receives _ idle id receives = absurd idle
 
-pub idle_called : (run : RunState) → IsIdle run → (id : ObjId) → run ≢ state.Called id
-idle_called run idle id called = subst IsIdle called idle
+pub idle_called : (run : RunState) → IsIdle run → (id : ObjId) → ¬ (IsCallingThrough run id)
+idle_called state.Inactive idle id called = called
+idle_called state.Ready idle id called = called
+idle_called _ idle id called = absurd idle
 
 -- who is idle has nothing to leave
 pub idle_stays : (m : Machine) (thread : ObjId) (run : RunState) → IsIdle run → unblocked m thread run ≡ m

@@ -17,8 +17,8 @@ use Rattle.machine.specs.declared.thread.RunState.TheVariants as state
 use Rattle.machine.specs.declared.thread.Tcb.{Tcb}
 use Rattle.machine.specs.Finalising.{IsHolding}
 use Rattle.machine.specs.Machine.{Machine, object_of, queue_of}
-use Rattle.machine.specs.WellFormed.{IsAlike, IsIdle, IsReceivingWith, IsSending, IsThread, LinksAgree, WaitsAt, WaitsAtKind}
-use Rattle.machine.specs.WellFormed.{kind_of}
+use Rattle.machine.specs.WellFormed.{IsAlike, IsCallingThrough, IsIdle, IsReceivingWith, IsSending, IsThread, LinksAgree, WaitsAt}
+use Rattle.machine.specs.WellFormed.{WaitsAtKind, kind_of}
 use Rattle.machine.proofs.Idle.{idle_held_by_none, idle_in_none}
 use Rattle.machine.proofs.Ids.{one_or_two}
 use Rattle.machine.proofs.Joins.{IsJoined, hold_for, names_or_not, waits_or_not}
@@ -243,22 +243,22 @@ module _ (m next : Machine) (thread : ObjId) (old new : Tcb) (links : LinksAgree
   receiving_held _ id e = absurd e
 
   called_held :
-      (run : RunState) (id : ObjId) → run ≡ state.Called id → Names run id × (hold_for run thread ≡ reply.Called thread)
-  called_held run id e =
-      subst (λ (r : RunState). Names r id × (hold_for r thread ≡ reply.Called thread)) (sym e) (refl, refl)
+      (run : RunState) (id : ObjId) → IsCallingThrough run id → Names run id × (hold_for run thread ≡ reply.Called thread)
+  called_held (state.Called calling) id e = (e, refl)
+  called_held _ id e = absurd e
 
   held_receiving :
       (run : RunState) (id other : ObjId) → Names run id → reply.Waiting other ≡ hold_for run thread
       → IsReceivingWith run id × (other ≡ thread)
   held_receiving (state.Receiving receiving) id other names e = (names, cc)
-  held_receiving (state.Called called) id other names e = cc
+  held_receiving (state.Called calling) id other names e = cc
   held_receiving _ id other names e = absurd names
 
   held_called :
       (run : RunState) (id other : ObjId) → Names run id → reply.Called other ≡ hold_for run thread
-      → (run ≡ state.Called id) × (other ≡ thread)
+      → IsCallingThrough run id × (other ≡ thread)
   held_called (state.Receiving receiving) id other names e = cc
-  held_called (state.Called called) id other names e = (ap (λ x. state.Called x) names, cc)
+  held_called (state.Called calling) id other names e = (names, cc)
   held_called _ id other names e = absurd names
 
   receiver_reply_now :
@@ -277,10 +277,10 @@ module _ (m next : Machine) (thread : ObjId) (old new : Tcb) (links : LinksAgree
       (w.0, reply_now q other (record { address = w.0; state = reply.Waiting other }) refl w.1)
 
   called_reply_now :
-      (other q : ObjId) (tcb : Tcb) → IsThread next other tcb → tcb.state ≡ state.Called q → (other ≡ thread) ⊎ (other ≢ thread)
+      (other q : ObjId) (tcb : Tcb) → IsThread next other tcb → IsCallingThrough tcb.state q → (other ≡ thread) ⊎ (other ≢ thread)
       → (address : ℕ) × (object_of next q ≡ Some (o.Reply (record { address = address; state = reply.Called other })))
   called_reply_now other q tcb e called (inl here) =
-      let is = called_held new.state q (ap (λ (t : Tcb). t.state) (sym (is_new other tcb here e)) ∙ called) in
+      let is = called_held new.state q (subst (λ (t : Tcb). IsCallingThrough t.state q) (is_new other tcb here e) called) in
       let w = joined.named q is.0 in (
         w.0,
         w.2
@@ -313,12 +313,12 @@ module _ (m next : Machine) (thread : ObjId) (old new : Tcb) (links : LinksAgree
   reply_called_now :
       (q other : ObjId) (address : ℕ)
       → object_of next q ≡ Some (o.Reply (record { address = address; state = reply.Called other }))
-      → (tcb : Tcb) × IsThread next other tcb × (tcb.state ≡ state.Called q)
+      → (tcb : Tcb) × IsThread next other tcb × IsCallingThrough tcb.state q
   reply_called_now q other address e = by_case (reply_was q (record { address = address; state = reply.Called other }) e) where
     by_case :
         (object_of m q ≡ Some (o.Reply (record { address = address; state = reply.Called other })))
         ⊎ (Names new.state q × (reply.Called other ≡ hold_for new.state thread))
-        → (tcb : Tcb) × IsThread next other tcb × (tcb.state ≡ state.Called q)
+        → (tcb : Tcb) × IsThread next other tcb × IsCallingThrough tcb.state q
     by_case (inl at) =
         let w = links.reply_called q other address at in
         let apart =

@@ -8,6 +8,7 @@ use Rattle.machine.specs.declared.object.Object.{Object}
 use Rattle.machine.specs.declared.object.Object.TheVariants as o
 use Rattle.machine.specs.declared.object.ReplyState.{ReplyState}
 use Rattle.machine.specs.declared.object.ReplyState.TheVariants as reply
+use Rattle.machine.specs.declared.thread.Calling.{Calling}
 use Rattle.machine.specs.declared.thread.Inbox.TheVariants as inbox
 use Rattle.machine.specs.declared.thread.Receiving.{Receiving}
 use Rattle.machine.specs.declared.thread.RunState.{RunState}
@@ -60,7 +61,7 @@ names_or_not (state.Receiving receiving) q = by_reply receiving.reply refl where
   by_reply : (named : Option ObjId) → receiving.reply ≡ named → (receiving.reply ≡ Some q) ⊎ ¬ (receiving.reply ≡ Some q)
   by_reply None e = inr (λ f. none-some q (sym e ∙ f))
   by_reply (Some id) e = by_id id e (one_or_two id q)
-names_or_not (state.Called called) q = one_or_two called q
+names_or_not (state.Called calling) q = one_or_two calling.reply q
 names_or_not _ q = inr (λ names. names)
 
 pub waits_or_not : (run : RunState) (q : ObjId) → WaitsAt run q ⊎ ¬ (WaitsAt run q)
@@ -72,7 +73,7 @@ waits_or_not _ q = inr (λ waits. waits)
 -- a run state names one reply at most
 pub names_one : (run : RunState) (a b : ObjId) → Names run a → Names run b → a ≡ b
 names_one (state.Receiving receiving) a b p q = same_Some a b (sym p ∙ q)
-names_one (state.Called called) a b p q = sym p ∙ q
+names_one (state.Called calling) a b p q = sym p ∙ q
 names_one _ a b p q = absurd p
 
 -- a thread that names no reply
@@ -211,36 +212,36 @@ awaiting_joins m caller threads tcb receiving there waited free = by_reply recei
       blocked_with m caller receiving.endpoint threads tcb (state.Receiving receiving) there waited refl id w.0 w.1 e
 
 -- a thread comes to wait for an answer
-module _ (m : Machine) (thread id : ObjId) (tcb : Tcb) (address : ℕ) (there : IsThread m thread tcb)
-    (free : object_of m id ≡ Some (o.Reply (record { address = address; state = reply.Free }))) where
-  abbrev calling : Tcb
-  calling = record tcb { state = state.Called id }
+module _ (m : Machine) (thread : ObjId) (calling : Calling) (tcb : Tcb) (address : ℕ) (there : IsThread m thread tcb)
+    (free : object_of m calling.reply ≡ Some (o.Reply (record { address = address; state = reply.Free }))) where
+  abbrev called : Tcb
+  called = record tcb { state = state.Called calling }
 
   abbrev halfway : Machine
-  halfway = with_object m thread (o.Tcb calling)
+  halfway = with_object m thread (o.Tcb called)
 
-  sets : SetsObject m thread (o.Tcb calling) halfway
-  sets = object_of-with_object m thread (o.Tcb calling)
+  sets : SetsObject m thread (o.Tcb called) halfway
+  sets = object_of-with_object m thread (o.Tcb called)
 
-  reply_apart : id ≢ thread
+  reply_apart : calling.reply ≢ thread
   reply_apart same =
       let one : Some (o.Tcb tcb) ≡ Some (o.Reply (record { address = address; state = reply.Free })) =
       sym there ∙ ap (object_of m) (sym same) ∙ free in
       cc
 
-  called_is : with_called m thread id ≡ with_holding halfway id (reply.Called thread)
+  called_is : with_called m thread calling ≡ with_holding halfway calling.reply (reply.Called thread)
   unfolding with_called with_tcb
   called_is = rw (there, there) refl
 
-  pub called_joins : IsJoined m thread calling (with_called m thread id)
+  pub called_joins : IsJoined m thread called (with_called m thread calling)
   called_joins =
-      subst (λ (n : Machine). IsJoined m thread calling n)
+      subst (λ (n : Machine). IsJoined m thread called n)
       (sym (called_is
-      ∙ holding_is halfway id (record { address = address; state = reply.Free }) (reply.Called thread)
-      (set_elsewhere m halfway thread (o.Tcb calling) sets id reply_apart ∙ free)))
-      (joined_through m halfway thread id tcb calling address there free sets
-      (record { joins = λ q waits. absurd waits; elsewhere = λ q _. queue_of-with_object m thread (o.Tcb calling) q })
-      (rest-with_object m thread (o.Tcb calling)) refl)
+      ∙ holding_is halfway calling.reply (record { address = address; state = reply.Free }) (reply.Called thread)
+      (set_elsewhere m halfway thread (o.Tcb called) sets calling.reply reply_apart ∙ free)))
+      (joined_through m halfway thread calling.reply tcb called address there free sets
+      (record { joins = λ q waits. absurd waits; elsewhere = λ q _. queue_of-with_object m thread (o.Tcb called) q })
+      (rest-with_object m thread (o.Tcb called)) refl)
 
 -- all objects keep their outlines
 module _ (m next : Machine) (thread : ObjId) (old new : Tcb) (joined : IsJoined m thread new next) (was : IsThread m thread old)

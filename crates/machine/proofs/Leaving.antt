@@ -25,7 +25,7 @@ use Rattle.machine.proofs.LookUps.{object_of-with_object, object_of-with_queue, 
 -- whether a run state names a reply
 abbrev pub Names : RunState → ObjId → Type 0
 Names (state.Receiving receiving) id = receiving.reply ≡ Some id
-Names (state.Called called) id = called ≡ id
+Names (state.Called calling) id = calling.reply ≡ id
 Names _ id = ⊥
 
 -- the links of a thread that is in a run state agree at both ends
@@ -218,8 +218,8 @@ unblocked_objects m thread (state.Sending sending) links q =
     objects_unqueued m sending.endpoint thread q ∙ stay_object thread (object_of m q) (links.held q)
 unblocked_objects m thread (state.Waiting notification) links q =
     objects_unqueued m notification thread q ∙ stay_object thread (object_of m q) (links.held q)
-unblocked_objects m thread (state.Called id) links q =
-    let w = links.named id refl in leave_reply m id thread w.0 w.1 w.2 (λ x other e is. sym (links.held x other e is)) q
+unblocked_objects m thread (state.Called calling) links q =
+    let w = links.named calling.reply refl in leave_reply m calling.reply thread w.0 w.1 w.2 (λ x other e is. sym (links.held x other e is)) q
 unblocked_objects m thread (state.Receiving receiving) links q = by_reply receiving.reply refl where
   by_reply :
       (named : Option ObjId) → receiving.reply ≡ named
@@ -242,8 +242,8 @@ pub unblocked_queues :
     → (q : ObjId) → queue_of (unblocked m thread run) q ≡ option_map (without thread) (queue_of m q)
 unblocked_queues m thread (state.Sending sending) links q = leave_queue m sending.endpoint thread links.queued q
 unblocked_queues m thread (state.Waiting notification) links q = leave_queue m notification thread links.queued q
-unblocked_queues m thread (state.Called id) links q =
-    let w = links.named id refl in queues_freed m id w.0 w.1 q ∙ stay_queue thread (queue_of m q) (links.queued q)
+unblocked_queues m thread (state.Called calling) links q =
+    let w = links.named calling.reply refl in queues_freed m calling.reply w.0 w.1 q ∙ stay_queue thread (queue_of m q) (links.queued q)
 unblocked_queues m thread (state.Receiving receiving) links q = by_reply receiving.reply refl where
   by_reply :
       (named : Option ObjId) → receiving.reply ≡ named
@@ -259,7 +259,8 @@ unblocked_queues m thread state.Ready links q = stay_queue thread (queue_of m q)
 pub unblocked_rest : (m : Machine) (thread : ObjId) (run : RunState) → HasLinks m thread run → SameRest m (unblocked m thread run)
 unblocked_rest m thread (state.Sending sending) links = rest_unqueued m sending.endpoint thread
 unblocked_rest m thread (state.Waiting notification) links = rest_unqueued m notification thread
-unblocked_rest m thread (state.Called id) links = let w = links.named id refl in rest_freed m id w.0 w.1
+unblocked_rest m thread (state.Called calling) links =
+    let w = links.named calling.reply refl in rest_freed m calling.reply w.0 w.1
 unblocked_rest m thread (state.Receiving receiving) links = by_reply receiving.reply refl where
   by_reply : (named : Option ObjId) → receiving.reply ≡ named → SameRest m (with_named (without_waiting m receiving.endpoint thread) named reply.Free)
   by_reply None e = rest_unqueued m receiving.endpoint thread

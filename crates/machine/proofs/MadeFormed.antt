@@ -12,14 +12,13 @@ use Rattle.machine.specs.declared.object.ObjectKind.{ObjectKind}
 use Rattle.machine.specs.declared.object.ObjectKind.TheVariants as kind
 use Rattle.machine.specs.declared.object.Untyped.{Untyped}
 use Rattle.machine.specs.declared.thread.RunState.{RunState}
-use Rattle.machine.specs.declared.thread.RunState.TheVariants as state
 use Rattle.machine.specs.declared.thread.Tcb.{Tcb}
 use Rattle.machine.specs.Capabilities.{kind_of_detail}
 use Rattle.machine.specs.Machine.{Machine, object_of, queue_of, words_of, cap_of, parent_of}
 use Rattle.machine.specs.Memory.{Source}
 use Rattle.machine.specs.Objects.{kind_of_object, slot_count, word_count, address_of, end_of}
-use Rattle.machine.specs.WellFormed.{Descends, IsRanged, IsReceivingWith, IsSending, IsThread, IsWellFormed, LiesIn, LinksAgree}
-use Rattle.machine.specs.WellFormed.{Meets, NumbersFit, PartsFit, SlotsFit, WaitsAt, WaitsAtKind, kind_of}
+use Rattle.machine.specs.WellFormed.{Descends, IsCallingThrough, IsRanged, IsReceivingWith, IsSending, IsThread, IsWellFormed, LiesIn}
+use Rattle.machine.specs.WellFormed.{LinksAgree, Meets, NumbersFit, PartsFit, SlotsFit, WaitsAt, WaitsAtKind, kind_of}
 use Rattle.machine.specs.WellFormed.Descends.{child, further}
 use Rattle.machine.proofs.FilledSlots.{FillsUnder, cap_here, cap_stays, cap_was, child_filled, descent_stays, no_cycle}
 use Rattle.machine.proofs.FilledSlots.{not_filled, parent_filled, parent_here, parent_was}
@@ -367,8 +366,8 @@ module _ (m next : Machine) (source : Source) (mark : ℕ) (object : Object) (de
   receives_linked : (tcb : Tcb) (q : ObjId) → IsReceivingWith tcb.state q → ¬ (IsUnlinked (o.Tcb tcb))
   receives_linked tcb q receives none = subst (λ (run : RunState). IsReceivingWith run q) none.0 receives
 
-  called_linked : (tcb : Tcb) (q : ObjId) → tcb.state ≡ state.Called q → ¬ (IsUnlinked (o.Tcb tcb))
-  called_linked tcb q called none = let two : state.Inactive ≡ state.Called q = sym none.0 ∙ called in cc
+  called_linked : (tcb : Tcb) (q : ObjId) → IsCallingThrough tcb.state q → ¬ (IsUnlinked (o.Tcb tcb))
+  called_linked tcb q called none = subst (λ (run : RunState). IsCallingThrough run q) none.0 called
 
   runs_linked : (tcb : Tcb) (q : ObjId) → tcb.context ≡ Some q → ¬ (IsUnlinked (o.Tcb tcb))
   runs_linked tcb q runs none = let two : None ≡ Some q = sym none.1 ∙ runs in cc

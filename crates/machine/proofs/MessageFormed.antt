@@ -10,6 +10,7 @@ use Rattle.machine.specs.declared.object.ObjectKind.TheVariants as kind
 use Rattle.machine.specs.declared.object.Reply.{Reply}
 use Rattle.machine.specs.declared.object.ReplyState.{ReplyState}
 use Rattle.machine.specs.declared.object.ReplyState.TheVariants as reply
+use Rattle.machine.specs.declared.thread.Calling.{Calling}
 use Rattle.machine.specs.declared.thread.Inbox.TheVariants as inbox
 use Rattle.machine.specs.declared.thread.Message.{Message}
 use Rattle.machine.specs.declared.thread.Receiving.{Receiving}
@@ -175,7 +176,7 @@ names_none :
     (run : RunState) (id : ObjId) → WaitsAt run id → ((named : ObjId) → ¬ (IsReceivingWith run named)) → (q : ObjId)
     → ¬ (Names run q)
 names_none (state.Receiving receiving) id waits none q names = none q names
-names_none (state.Called called) id waits none q names = waits
+names_none (state.Called calling) id waits none q names = waits
 names_none _ id waits none q names = names
 
 pub blocked_formed :
@@ -199,9 +200,9 @@ awaiting_formed m caller tcb receiving formed there idle is alike free =
     (fits_at m receiving.endpoint (state.Receiving receiving) kind.Endpoint is refl tt alike)
 
 pub called_formed :
-    (m : Machine) (thread id : ObjId) (tcb : Tcb) → IsWellFormed m → IsThread m thread tcb → IsIdle tcb.state → IsFree m id
-    → IsWellFormed (with_called m thread id)
-called_formed m thread id tcb formed there idle free =
-    joined_formed m (with_called m thread id) thread tcb (state.Called id) formed there idle
-    (called_joins m thread id tcb free.0 there free.1)
+    (m : Machine) (thread : ObjId) (calling : Calling) (tcb : Tcb) → IsWellFormed m → IsThread m thread tcb → IsIdle tcb.state
+    → IsFree m calling.reply → IsWellFormed (with_called m thread calling)
+called_formed m thread calling tcb formed there idle free =
+    joined_formed m (with_called m thread calling) thread tcb (state.Called calling) formed there idle
+    (called_joins m thread calling tcb free.0 there free.1)
     (record { kind = λ q waits. absurd waits; alike = λ q waits. absurd waits })

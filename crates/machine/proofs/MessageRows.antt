@@ -53,7 +53,8 @@ pub linked_formed :
 linked_formed m thread tcb None formed there free = (halted_between m thread tcb formed there).0
 linked_formed m thread tcb (Some id) formed there free =
     let halts = halted_between m thread tcb formed there in
-    called_formed (with_halted m thread) thread id (halted tcb) halts.0 halts.1 halts.2 (halts.3 id (free id refl))
+    called_formed (with_halted m thread) thread (record { reply = id; lent = None }) (halted tcb) halts.0 halts.1 halts.2
+    (halts.3 id (free id refl))
 
 -- an answer goes through the reply that was named, or through none
 pub answers_through :

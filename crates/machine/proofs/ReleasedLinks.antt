@@ -9,11 +9,10 @@ use Rattle.machine.specs.declared.object.Object.TheVariants as o
 use Rattle.machine.specs.declared.object.ObjectKind.TheVariants as kind
 use Rattle.machine.specs.declared.object.Reply.{Reply}
 use Rattle.machine.specs.declared.object.ReplyState.TheVariants as reply
-use Rattle.machine.specs.declared.thread.RunState.TheVariants as state
 use Rattle.machine.specs.declared.thread.Tcb.{Tcb}
 use Rattle.machine.specs.Finalising.{IsHolding}
 use Rattle.machine.specs.Machine.{Machine, object_of, queue_of, same_id}
-use Rattle.machine.specs.WellFormed.{IsIdle, IsReceivingWith, IsSending, IsThread, LinksAgree, WaitsAt, kind_of}
+use Rattle.machine.specs.WellFormed.{IsCallingThrough, IsIdle, IsReceivingWith, IsSending, IsThread, LinksAgree, WaitsAt, kind_of}
 use Rattle.machine.proofs.Idle.{idle_called, idle_receives, idle_waits}
 use Rattle.machine.proofs.Ids.{one_or_two}
 use Rattle.machine.proofs.Leaving.{without}
@@ -50,9 +49,9 @@ module _ (m next : Machine) (thread : ObjId) (old new : Tcb) (links : LinksAgree
   receives_apart q id tcb e receives here =
       idle_receives new.state idle id (subst (λ (t : Tcb). IsReceivingWith t.state id) (is_new q tcb here e) receives)
 
-  called_apart : (q id : ObjId) (tcb : Tcb) → IsThread next q tcb → tcb.state ≡ state.Called id → q ≢ thread
+  called_apart : (q id : ObjId) (tcb : Tcb) → IsThread next q tcb → IsCallingThrough tcb.state id → q ≢ thread
   called_apart q id tcb e called here =
-      idle_called new.state idle id (ap (λ (t : Tcb). t.state) (sym (is_new q tcb here e)) ∙ called)
+      idle_called new.state idle id (subst (λ (t : Tcb). IsCallingThrough t.state id) (is_new q tcb here e) called)
 
   -- a reply that holds another thread is as it was
   reply_now :

@@ -21,12 +21,12 @@ use Rattle.machine.specs.Finalising.{aborted, finalised, halted, is_aborted, is_
 use Rattle.machine.specs.Finalising.{staying_in, tcb_after, unbound}
 use Rattle.machine.specs.Machine.{Machine, object_of, queue_of}
 use Rattle.machine.specs.Removal.{removed, vanishes}
-use Rattle.machine.specs.WellFormed.{IsReceivingWith, IsSending, IsThread, IsWellFormed, LinksAgree, WaitsAt}
+use Rattle.machine.specs.WellFormed.{IsCallingThrough, IsReceivingWith, IsSending, IsThread, IsWellFormed, LinksAgree, WaitsAt}
 use Rattle.machine.proofs.RemovalLooks.{going-removed, queue_of-removed}
 use Rattle.machine.proofs.RemovalNumbers.{numbers_fit}
 use Rattle.machine.proofs.RemovalSlots.{kind_now, parts_fit, queue_was, slots_fit}
 use Rattle.machine.proofs.RemovalStays.{object_was}
-use Rattle.machine.proofs.RemovalTable.{finalised_there, one_thread, queue_left, receiver_halted, reply_stays, waits_aborted}
+use Rattle.machine.proofs.RemovalTable.{calling_halted, finalised_there, one_thread, queue_left, receiver_halted, reply_stays, waits_aborted}
 
 neither : (a b : Bool) → (a || b) ≡ false → (a ≡ false) × (b ≡ false)
 neither true b e = absurd (false≢true (sym e))
@@ -243,9 +243,9 @@ module _ (m : Machine) (chosen : SlotRef → Bool) (formed : IsWellFormed m) whe
                   (doesnt_leave thread was.0 was.1 was.3),
             );
         called_reply = λ thread id tcb e called.
-            let was = blocked_was (λ run. run ≡ state.Called id) (λ h. cc) (λ h. cc) thread tcb e called in
+            let was = blocked_was (λ run. IsCallingThrough run id) (λ h. h) (λ h. h) thread tcb e called in
             let w = formed.links.called_reply thread id was.0 was.1 was.2 in
-            let stays = stays_by id (is_halted vanished was.0.state) was.3.not_halted (λ v. ap (is_halted vanished) was.2 ∙ v) in (
+            let stays = stays_by id (is_halted vanished was.0.state) was.3.not_halted (calling_halted vanished was.0.state id was.2) in (
               w.0,
               reply_stays m chosen id thread (record { address = w.0; state = reply.Called thread }) w.1 refl stays
                   ∙ ap (λ b. Some (o.Reply (record { address = w.0; state = cond b reply.Free (reply.Called thread) })))

@@ -19,7 +19,7 @@ use Rattle.machine.specs.Finalising.{IsHolding, is_halted, is_aborted, aborted, 
 use Rattle.machine.specs.Finalising.{has_links, reply_after, finalised, staying_in}
 use Rattle.machine.specs.Machine.{Machine, object_of, queue_of}
 use Rattle.machine.specs.Removal.{removed, vanishes}
-use Rattle.machine.specs.WellFormed.{IsThread, IsWellFormed, IsReceivingWith, WaitsAt}
+use Rattle.machine.specs.WellFormed.{IsCallingThrough, IsThread, IsWellFormed, IsReceivingWith, WaitsAt}
 use Rattle.machine.proofs.RemovalLooks.{object_of-removed, queue_of-removed}
 use Rattle.machine.proofs.RoundLemmas.{not_passes}
 
@@ -36,6 +36,12 @@ pub receiver_halted :
     → is_halted vanished run ≡ true
 receiver_halted vanished (state.Receiving receiving) id named gone = ap (leads_nowhere vanished) named ∙ gone
 receiver_halted vanished _ id named gone = absurd named
+
+pub calling_halted :
+    (vanished : ObjId → Bool) (run : RunState) (id : ObjId) → IsCallingThrough run id → vanished id ≡ true
+    → is_halted vanished run ≡ true
+calling_halted vanished (state.Called calling) id named gone = ap vanished named ∙ gone
+calling_halted vanished _ id named gone = absurd named
 
 -- the threads of one number are one
 pub one_thread : (m : Machine) (thread : ObjId) (one other : Tcb) → IsThread m thread one → IsThread m thread other → one ≡ other
@@ -103,7 +109,7 @@ module _ (m : Machine) (chosen : SlotRef → Bool) where
         by_state (reply.Called caller) at same =
             let is = formed.links.reply_called id caller holding.address at in
             let one : is.0 ≡ tcb = one_thread m thread is.0 tcb (ap (object_of m) (sym same) ∙ is.1) there in
-            subst (λ (t : Tcb). is_halted vanished t.state ≡ true) one (ap (is_halted vanished) is.2 ∙ gone)
+            subst (λ (t : Tcb). is_halted vanished t.state ≡ true) one (calling_halted vanished is.0.state id is.2 gone)
         by_state reply.Free at same = absurd same
 
   -- a reply that stays is free where the thread that it holds leaves, and else as it was

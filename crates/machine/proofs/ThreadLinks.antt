@@ -11,7 +11,7 @@ use Rattle.machine.specs.declared.thread.RunState.{RunState}
 use Rattle.machine.specs.declared.thread.RunState.TheVariants as state
 use Rattle.machine.specs.declared.thread.Tcb.{Tcb}
 use Rattle.machine.specs.Machine.{Machine, object_of, queue_of}
-use Rattle.machine.specs.WellFormed.{IsReceivingWith, IsSending, IsThread, LinksAgree, WaitsAt, WaitsAtKind, kind_of}
+use Rattle.machine.specs.WellFormed.{IsCallingThrough, IsReceivingWith, IsSending, IsThread, LinksAgree, WaitsAt, WaitsAtKind, kind_of}
 use Rattle.machine.proofs.Ids.{one_or_two}
 use Rattle.machine.proofs.Outlines.{Steady, same_kinds}
 use Rattle.machine.proofs.WordLinks.{SetsObject, set_there, set_elsewhere, other_before, other_after}
@@ -26,7 +26,7 @@ waits_at_one _ a b p q = absurd p
 -- a run state that names no reply and waits for none
 pub record NamesNoReply (run : RunState) : Type 0 where
   pub not_with : (id : ObjId) → ¬ (IsReceivingWith run id)
-  pub not_called : (id : ObjId) → run ≢ state.Called id
+  pub not_called : (id : ObjId) → ¬ (IsCallingThrough run id)
 
 -- who was in a queue and is no other thread, or the thread itself where it waits
 abbrev pub WasIn : ObjId → RunState → ObjId → List ObjId → ObjId → Type 0
@@ -76,13 +76,13 @@ module _ (m next : Machine) (thread : ObjId) (old new : Tcb) (was : IsThread m t
   named_after q id tcb e names here =
       still.not_with id (subst (λ (t : Tcb). IsReceivingWith t.state id) (is_new q tcb here e) names)
 
-  called_before : (q id : ObjId) (tcb : Tcb) → IsThread m q tcb → tcb.state ≡ state.Called id → q ≢ thread
+  called_before : (q id : ObjId) (tcb : Tcb) → IsThread m q tcb → IsCallingThrough tcb.state id → q ≢ thread
   called_before q id tcb e called here =
-      alone.not_called id (sym (ap (λ (t : Tcb). t.state) (is_old q tcb here e)) ∙ called)
+      alone.not_called id (subst (λ (t : Tcb). IsCallingThrough t.state id) (is_old q tcb here e) called)
 
-  called_after : (q id : ObjId) (tcb : Tcb) → IsThread next q tcb → tcb.state ≡ state.Called id → q ≢ thread
+  called_after : (q id : ObjId) (tcb : Tcb) → IsThread next q tcb → IsCallingThrough tcb.state id → q ≢ thread
   called_after q id tcb e called here =
-      still.not_called id (sym (ap (λ (t : Tcb). t.state) (is_new q tcb here e)) ∙ called)
+      still.not_called id (subst (λ (t : Tcb). IsCallingThrough t.state id) (is_new q tcb here e) called)
 
   queued_now :
       (q : ObjId) (threads : List ObjId) (other : ObjId) → queue_of next q ≡ Some threads → Contains threads other

@@ -25,7 +25,7 @@ link_after vanished link = if leads_nowhere vanished link then None else link
 -- whether the reply that a blocked thread named or called has vanished
 abbrev pub is_halted : (ObjId → Bool) → RunState → Bool
 is_halted vanished (state.Receiving receiving) = leads_nowhere vanished receiving.reply
-is_halted vanished (state.Called called) = vanished called
+is_halted vanished (state.Called calling) = vanished calling.reply
 is_halted vanished _ = false
 
 -- whether the object at which a thread waits has vanished

@@ -7,6 +7,7 @@ use Rattle.machine.specs.declared.object.Object.{Object}
 use Rattle.machine.specs.declared.object.Object.TheVariants as o
 use Rattle.machine.specs.declared.object.ReplyState.{ReplyState}
 use Rattle.machine.specs.declared.object.ReplyState.TheVariants as reply
+use Rattle.machine.specs.declared.thread.Calling.{Calling}
 use Rattle.machine.specs.declared.thread.Inbox.TheVariants as inbox
 use Rattle.machine.specs.declared.thread.Message.{Message}
 use Rattle.machine.specs.declared.thread.RunState.{RunState}
@@ -38,7 +39,7 @@ abbrev pub unblocked : Machine → ObjId → RunState → Machine
 unblocked m thread (state.Sending sending) = without_waiting m sending.endpoint thread
 unblocked m thread (state.Receiving receiving) = with_named (without_waiting m receiving.endpoint thread) receiving.reply reply.Free
 unblocked m thread (state.Waiting notification) = without_waiting m notification thread
-unblocked m thread (state.Called id) = with_free m id
+unblocked m thread (state.Called calling) = with_free m calling.reply
 unblocked m thread _ = m
 
 -- a thread leaves its queue and its reply, and changes
@@ -97,10 +98,11 @@ with_blocked m thread id run = by_content (object_of m thread) where
   by_content _ = m
 
 -- a thread waits for the answer to its call, through a reply that holds it
-unfoldable pub with_called : Machine → ObjId → ObjId → Machine
-with_called m thread id = by_content (object_of m thread) where
+unfoldable pub with_called : Machine → ObjId → Calling → Machine
+with_called m thread calling = by_content (object_of m thread) where
   by_content : Option Object → Machine
-  by_content (Some (o.Tcb tcb)) = with_holding (with_tcb m thread (record tcb { state = state.Called id })) id (reply.Called thread)
+  by_content (Some (o.Tcb tcb)) =
+      with_holding (with_tcb m thread (record tcb { state = state.Called calling })) calling.reply (reply.Called thread)
   by_content _ = m
 
 -- a scheduling context has no thread

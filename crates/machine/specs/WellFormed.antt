@@ -82,6 +82,11 @@ abbrev pub IsReceivingWith : RunState → ObjId → Type 0
 IsReceivingWith (state.Receiving receiving) id = receiving.reply ≡ Some id
 IsReceivingWith _ id = ⊥
 
+-- whether a run state waits for the answer through a reply
+abbrev pub IsCallingThrough : RunState → ObjId → Type 0
+IsCallingThrough (state.Called calling) id = calling.reply ≡ id
+IsCallingThrough _ id = ⊥
+
 -- the thread of that number, if it is one
 abbrev pub IsThread : Machine → ObjId → Tcb → Type 0
 IsThread m id thread = object_of m id ≡ Some (o.Tcb thread)
@@ -133,7 +138,7 @@ pub record LinksAgree (m : Machine) : Type 0 where
       → (address : ℕ) × (object_of m id ≡ Some (o.Reply (record { address = address; state = reply.Waiting thread })))
   -- the reply through which a thread waits for an answer has been called by it
   pub called_reply :
-      (thread id : ObjId) (tcb : Tcb) → IsThread m thread tcb → tcb.state ≡ state.Called id
+      (thread id : ObjId) (tcb : Tcb) → IsThread m thread tcb → IsCallingThrough tcb.state id
       → (address : ℕ) × (object_of m id ≡ Some (o.Reply (record { address = address; state = reply.Called thread })))
   pub waiting_reply :
       (id thread : ObjId) (address : ℕ)
@@ -142,7 +147,7 @@ pub record LinksAgree (m : Machine) : Type 0 where
   pub reply_called :
       (id thread : ObjId) (address : ℕ)
       → object_of m id ≡ Some (o.Reply (record { address = address; state = reply.Called thread }))
-      → (tcb : Tcb) × IsThread m thread tcb × (tcb.state ≡ state.Called id)
+      → (tcb : Tcb) × IsThread m thread tcb × IsCallingThrough tcb.state id
   -- a thread and its context
   pub thread_context :
       (thread id : ObjId) (tcb : Tcb) → IsThread m thread tcb → tcb.context ≡ Some id

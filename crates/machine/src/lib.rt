@@ -43,5 +43,5 @@ pub use step_laws::{
     calls_are_refused_by_conditions, calls_keep_machines_well_formed,
     retypes_keep_machines_well_formed, steps_keep_machines_well_formed, steps_of_one_event_agree,
 };
-pub use thread::{Inbox, Message, Receiving, RunState, Sending, Tcb};
+pub use thread::{Calling, Inbox, Lent, Message, Receiving, RunState, Sending, Tcb};
 pub use thread_laws::cleared_root_slots_can_be_filled;

@@ -4,6 +4,7 @@ ghost use Rattle.machine.specs.declared.object.Object.TheVariants as o;
 ghost use Rattle.machine.specs.declared.object.ObjectKind.{ObjectKind as Kind};
 ghost use Rattle.machine.specs.declared.object.ObjectKind.TheVariants as kind;
 ghost use Rattle.machine.specs.declared.object.Reply.{Reply as Holding};
+ghost use Rattle.machine.specs.declared.thread.Calling.{Calling as Calls};
 ghost use Rattle.machine.specs.declared.thread.Message.{Message as Given};
 ghost use Rattle.machine.specs.declared.thread.Receiving.{Receiving as Receives};
 ghost use Rattle.machine.specs.declared.thread.RunState.{RunState as State};
@@ -61,12 +62,12 @@ pub fn blocks_keep_machines_well_formed()
         → IsAlike m receiving.endpoint (state.Receiving receiving)
         → ((id : Number) → receiving.reply ≡ Some id → IsFree m id)
         → IsWellFormed (awaiting_message m caller receiving) }
-    ensures called { (m : Machine) (thread id : Number) (tcb : Thread)
+    ensures called { (m : Machine) (thread : Number) (calling : Calls) (tcb : Thread)
         → IsWellFormed m
         → IsThread m thread tcb
         → IsIdle tcb.state
-        → IsFree m id
-        → IsWellFormed (with_called m thread id) }
+        → IsFree m calling.reply
+        → IsWellFormed (with_called m thread calling) }
 {}
 
 /// A law: a capability that arrives with a message keeps a well-formed machine well formed.

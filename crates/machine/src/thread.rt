@@ -45,6 +45,21 @@ pub struct Receiving {
     pub slot: Option<SlotAddress>,
 }
 
+/// A scheduling context that a thread lent as it called, and the thread that it was lent to.
+#[derive(Clone, Copy, PartialEq, Eq, Debug)]
+pub struct Lent {
+    pub context: ObjId,
+    pub borrower: ObjId,
+}
+
+/// What is recorded of a thread that called and waits for the answer.
+#[derive(Clone, Copy, PartialEq, Eq, Debug)]
+pub struct Calling {
+    /// The reply object through which it is answered.
+    pub reply: ObjId,
+    pub lent: Option<Lent>,
+}
+
 /// Whether a thread can run, and what it waits for if it can't (seL4 manual, "Threads and
 /// Execution").
 #[derive(Clone, Copy, PartialEq, Eq, Debug)]
@@ -55,8 +70,8 @@ pub enum RunState {
     Receiving(Receiving),
     /// At a notification.
     Waiting(ObjId),
-    /// For the answer through a reply object.
-    Called(ObjId),
+    /// For the answer to its call.
+    Called(Calling),
 }
 
 /// A thread. Its one slot holds the CNode capability where the lookup of addresses begins.

@@ -12,7 +12,7 @@ ghost use Rattle.objects.specs.Waiting.{WaitsNowhere};
 use crate::release::halt;
 use base::ObjId;
 use machine::{
-    Object, Receiving, Reply, ReplyState, RunState, Tcb, blocks_keep_machines_well_formed,
+    Calling, Object, Receiving, Reply, ReplyState, RunState, Tcb, blocks_keep_machines_well_formed,
 };
 use objects::State;
 use queues::block;
@@ -85,16 +85,16 @@ pub fn await_message(state: &mut State, thread: ObjId, receiving: Receiving)
 
 /// Says of a thread and a reply that each waits with the other for an answer.
 #[tactic(auto, unfolding(machine::specs::Releasing::with_called))]
-fn tie(state: &mut State, thread: ObjId, id: ObjId)
-    ensures { state.new ≡ with_called state.old thread id }
+fn tie(state: &mut State, thread: ObjId, calling: Calling)
+    ensures { state.new ≡ with_called state.old thread calling }
 {
     if let Some(&Object::Tcb(tcb)) = state.object(thread) {
         let called = Tcb {
-            state: RunState::Called(id),
+            state: RunState::Called(calling),
             ..tcb
         };
         state.set_tcb(thread, called);
-        hold(state, id, ReplyState::Called(thread));
+        hold(state, calling.reply, ReplyState::Called(thread));
     }
 }
 
@@ -102,18 +102,18 @@ fn tie(state: &mut State, thread: ObjId, id: ObjId)
 /// "Reply objects"). Whom the reply held before isn't changed, nor is the queue in which the thread
 /// waited: the reply has to be free, and the thread ready or inactive. Does nothing where there is no
 /// such thread.
-pub fn link(state: &mut State, thread: ObjId, id: ObjId)
-    ensures called { state.new ≡ with_called state.old thread id }
+pub fn link(state: &mut State, thread: ObjId, calling: Calling)
+    ensures called { state.new ≡ with_called state.old thread calling }
     ensures well_formed { (tcb : Thread)
         → IsWellFormed state.old
         → IsThread state.old thread tcb
         → IsIdle tcb.state
-        → IsFree state.old id
+        → IsFree state.old calling.reply
         → IsWellFormed state.new }
 {
     // A law, so that the state stays well formed.
     blocks_keep_machines_well_formed();
-    tie(state, thread, id);
+    tie(state, thread, calling);
 }
 
 // Halts the thread that the reply holds.

@@ -25,7 +25,7 @@ fn unblock(state: &mut State, thread: ObjId, run: RunState)
             }
         }
         RunState::Waiting(notification) => take_out(state, notification, thread),
-        RunState::Called(reply) => free(state, reply),
+        RunState::Called(calling) => free(state, calling.reply),
         RunState::Inactive | RunState::Ready => {}
     }
 }

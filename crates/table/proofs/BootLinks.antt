@@ -1,5 +1,5 @@
 -- The links of a boot state agree: nobody waits, every reply is free, and the table's bindings join threads and contexts.
-use Rattle.std.proofs.Common.{◌≡◌, List, [], length, sym, ap, subst, ◌∙◌, refl, arith}
+use Rattle.std.proofs.Common.{◌≡◌, List, [], length, sym, ap, ◌∙◌, refl, arith}
 use Rattle.std.specs.Prelude.{Some, Contains}
 use Rattle.base.specs.declared.ids.ObjId.{ObjId}
 use Rattle.machine.specs.declared.layout.Initial.{Initial}
@@ -15,7 +15,7 @@ use Rattle.machine.specs.Boot.{IsBoot, bound, booted}
 use Rattle.machine.specs.Layout.{Layout, initial_of, bound_context, bound_thread}
 use Rattle.machine.specs.Machine.{Machine, object_of, queue_of}
 use Rattle.machine.specs.Objects.{kind_of_object}
-use Rattle.machine.specs.WellFormed.{LinksAgree, IsThread, WaitsAt, IsReceivingWith}
+use Rattle.machine.specs.WellFormed.{LinksAgree, IsCallingThrough, IsThread, WaitsAt, IsReceivingWith}
 use Rattle.table.specs.Rules.{IsLawful, IsAtRest}
 use Rattle.table.proofs.BootParts.{at_boot, map-some, declared-present, Binds, binds-thread, binds-context, binding-law}
 use Rattle.table.proofs.BootParts.{thread-bound, context-bound}
@@ -44,8 +44,10 @@ unreceiving run.Inactive id rests waits = waits
 unreceiving run.Ready id rests waits = waits
 unreceiving _ id rests waits = rests
 
-uncalled : (state : RunState) (id : ObjId) → IsAtRest state → state ≡ run.Called id → ⊥
-uncalled state id rests called = subst IsAtRest called rests
+uncalled : (state : RunState) (id : ObjId) → IsAtRest state → IsCallingThrough state id → ⊥
+uncalled run.Inactive id rests called = called
+uncalled run.Ready id rests called = called
+uncalled _ id rests called = rests
 
 -- a declared object of a kind
 

@@ -78,7 +78,7 @@ free_unblocked m other (state.Receiving receiving) thread free =
     free_named (without_waiting m receiving.endpoint other) receiving.reply reply.Free thread
     (free_without m receiving.endpoint other thread free)
 free_unblocked m other (state.Waiting notification) thread free = free_without m notification other thread free
-free_unblocked m other (state.Called id) thread free = free_named m (Some id) reply.Free thread free
+free_unblocked m other (state.Called calling) thread free = free_named m (Some calling.reply) reply.Free thread free
 free_unblocked m other state.Inactive thread free = free
 free_unblocked m other state.Ready thread free = free
 

@@ -3,7 +3,7 @@ ghost use Rattle.machine.specs.Releasing.{IsInItsQueue};
 ghost use Rattle.machine.specs.Step.Deliver.{answer_through, linked, sent};
 
 use base::ObjId;
-use machine::Sending;
+use machine::{Calling, Sending};
 use objects::State;
 use replies::{halt, link, resume};
 
@@ -22,7 +22,11 @@ pub fn link_or_halt(state: &mut State, caller: ObjId, reply: Option<ObjId>)
 {
     halt(state, caller);
     if let Some(id) = reply {
-        link(state, caller, id);
+        let calling = Calling {
+            reply: id,
+            lent: None,
+        };
+        link(state, caller, calling);
     }
 }
 

@@ -17,6 +17,7 @@ use Rattle.machine.specs.declared.object.ReplyState.TheVariants as reply
 use Rattle.machine.specs.declared.slot_address.SlotAddress.{SlotAddress}
 use Rattle.machine.specs.declared.thread.Message.{Message}
 use Rattle.machine.specs.declared.thread.Receiving.{Receiving}
+use Rattle.machine.specs.declared.thread.RunState.{RunState}
 use Rattle.machine.specs.declared.thread.RunState.TheVariants as state
 use Rattle.machine.specs.declared.thread.Sending.{Sending}
 use Rattle.machine.specs.declared.thread.Tcb.{Tcb}
@@ -28,13 +29,15 @@ use Rattle.machine.specs.Releasing.{given, ready, with_blocked, with_given, with
 use Rattle.machine.specs.Releasing.{with_ready}
 use Rattle.machine.specs.Step.Deliver.{answer_through, arrival_of, delivered, linked, sending_by, sent, with_arrival}
 use Rattle.machine.specs.Step.Receive.{awaiting_message, with_reply_ended}
-use Rattle.machine.specs.WellFormed.{IsAlike, IsReceivingWith, IsThread, IsWellFormed, WaitsAt}
+use Rattle.machine.specs.WellFormed.{IsAlike, IsCallingThrough, IsReceivingWith, IsThread, IsWellFormed, WaitsAt}
 use Rattle.machine.proofs.Admission.{IsCaller}
 use Rattle.machine.proofs.Arrival.{arrival_same}
 use Rattle.machine.proofs.EndpointRow.{IsEndOpen, IsReceiver, IsSender}
 use Rattle.machine.proofs.FetchRow.{FetchDone}
+use Rattle.machine.proofs.HeldThreads.{calling_names}
 use Rattle.machine.proofs.Idle.{idle_names, idle_waits}
 use Rattle.machine.proofs.Ids.{itself}
+use Rattle.machine.proofs.Joins.{names_one}
 use Rattle.machine.proofs.Leaving.{Names}
 use Rattle.machine.proofs.LookUps.{one_id}
 use Rattle.machine.proofs.MessageRows.{answers_through, caller_apart, caller_idle, delivered_formed}
@@ -60,6 +63,11 @@ use Rattle.verdict.proofs.MessageParts.{receiver_replies, reply_reached, same_ke
 use Rattle.verdict.proofs.MessageParts.{thread_label}
 use Rattle.verdict.proofs.MessageTouches.{blocked_keeps, emptied_keeps, holding_keeps, released_keeps, sound_after}
 use Rattle.verdict.proofs.ObjectLabels.{same_label}
+
+-- who waits for an answer is in no queue
+calling_waits : (run : RunState) (id q : ObjId) → IsCallingThrough run id → ¬ (WaitsAt run q)
+calling_waits (state.Called _) id q calls waits = waits
+calling_waits _ id q calls waits = absurd calls
 
 module _
     (t : Layout) (allowed : EdgeTest) (event : Event) (a : ℕ) (m : Machine) (sound : IsSound t allowed m)
@@ -452,10 +460,10 @@ module _
         to_reply.label l.0 there
         (itself called) to_reply.labelled l.1))
         (λ q to names target.
-        let same : done.id ≡ q = subst (λ run. Names run q) w.2 names in
+        let same = names_one w.0.state done.id q (calling_names w.0.state done.id w.2) names in
         let to_is = at_reached t allowed m event a m sound done.id q to_reply.label to to_reply.labelled same target in
         inl (modifies authority.Reply refl (ap (allowed a authority.Reply) to_is ∙ may_reply)))
-        (λ q to waits target. absurd (subst (λ run. WaitsAt run q) w.2 waits))
+        (λ q to waits target. absurd (calling_waits w.0.state done.id q w.2 waits))
 
     by_state : Answers m done.id words next → Makes m next
     by_state (inl w) = becomes _ w.3 (answer_keeps w.0 w.1 _ w.2)

@@ -36,7 +36,7 @@ use Rattle.machine.specs.Layout.{Layout}
 use Rattle.machine.specs.Machine.{Machine, object_of, queue_of, same_id}
 use Rattle.machine.specs.Releasing.{given, with_blocked, with_given, with_halted, with_holder_halted}
 use Rattle.machine.specs.Step.Deliver.{answer_through, arrival_of, delivered, linked, message_of, with_arrival}
-use Rattle.machine.specs.WellFormed.{IsFree, IsReceivingWith, IsThread, WaitsAt}
+use Rattle.machine.specs.WellFormed.{IsCallingThrough, IsFree, IsReceivingWith, IsThread, WaitsAt}
 use Rattle.machine.proofs.Arrival.{arrival_same}
 use Rattle.machine.proofs.Beside.{HolderLeaves, holder_leaves}
 use Rattle.machine.proofs.EndpointRow.{FindsReply, IsEndOpen, IsReceiver, IsSender}
@@ -310,7 +310,8 @@ module _ (t : Layout) (allowed : EdgeTest) (began : Machine) (event : Event) (a 
           let r = sound.of_table.labelled id (o.Reply was) before.1 in
           let allows = may id r.0 refl r.1 in
           keeps_keeps t allowed began event a m next (linked m thread (Some id)) held halts
-          (called_keeps t allowed began event a next halts.held thread (halted tcb) id is between.1 between.2 after.1 l
+          (called_keeps t allowed began event a next halts.held thread (halted tcb) (record { reply = id; lent = None }) is
+          between.1 between.2 after.1 l
           (label_kept m next thread (o.Tcb tcb) (o.Tcb (halted tcb)) halts there between.1 ∙ labelled) has r.0
           (label_kept m next id (o.Reply was) (o.Reply is) halts before.1 after.1 ∙ r.1) allows.0 allows.1)
 
@@ -329,15 +330,17 @@ module _ (t : Layout) (allowed : EdgeTest) (began : Machine) (event : Event) (a 
               (subst (λ run. IsReceivingWith run id) (sym is) names) in
               let answers : Reply = record { address = w.0; state = reply.Waiting h.thread } in
               holds_edge id h.thread answers r to_held.0 w.1 (itself h.thread) labelled to_held.1
-          by_run (state.Called called) is names =
-              let w = sound.well_formed.links.called_reply h.thread id h.tcb h.there (is ∙ ap state.Called names) in
+          by_run (state.Called calling) is names =
+              let w =
+              sound.well_formed.links.called_reply h.thread id h.tcb h.there
+              (subst (λ run. IsCallingThrough run id) (sym is) names) in
               let answers : Reply = record { address = w.0; state = reply.Called h.thread } in
               holds_edge id h.thread answers r to_held.0 w.1 (itself h.thread) labelled to_held.1
           by_run _ is names = absurd names
 
         named_one : (run : RunState) (q : ObjId) → Names run id → Names run q → id ≡ q
         named_one (state.Receiving receiving) q one two = same_Some id q (sym one ∙ two)
-        named_one (state.Called called) q one two = sym one ∙ two
+        named_one (state.Called calling) q one two = sym one ∙ two
         named_one _ q one two = absurd one
 
         names_full : (q : ObjId) (to : ℕ) → Names h.tcb.state q → label_of t m q ≡ Some to → IsFull allowed a to
@@ -360,7 +363,7 @@ module _ (t : Layout) (allowed : EdgeTest) (began : Machine) (event : Event) (a 
               (ap (λ run. state_links run authority.Reply id) is ∙ ap (λ n. names_reply n id) names ∙ itself id) to_held.1
               labelled in
               inr (ends r to_held.0 may_reply replies_with receives_there)
-          by_run (state.Called called) is names at = absurd at
+          by_run (state.Called calling) is names at = absurd at
           by_run _ is names at = absurd names
 
         holder_keeps : Does m (with_holder_halted m id)

@@ -13,6 +13,7 @@ use Rattle.machine.specs.declared.object.Object.TheVariants as o
 use Rattle.machine.specs.declared.object.Reply.{Reply}
 use Rattle.machine.specs.declared.object.ReplyState.{ReplyState}
 use Rattle.machine.specs.declared.object.ReplyState.TheVariants as reply
+use Rattle.machine.specs.declared.thread.Calling.{Calling}
 use Rattle.machine.specs.declared.thread.Inbox.TheVariants as inbox
 use Rattle.machine.specs.declared.thread.RunState.{RunState}
 use Rattle.machine.specs.declared.thread.RunState.TheVariants as state
@@ -91,14 +92,14 @@ blocked_is m thread id tcb run there =
     rw there (ap (λ (n : Machine). with_waiting n id thread) (tcb_is m thread tcb (record tcb { state = run }) there))
 
 called_is :
-    (m : Machine) (thread id : ObjId) (tcb : Tcb) → IsThread m thread tcb
-    → with_called m thread id
-    ≡ with_holding (with_object m thread (o.Tcb (record tcb { state = state.Called id }))) id (reply.Called thread)
+    (m : Machine) (thread : ObjId) (calling : Calling) (tcb : Tcb) → IsThread m thread tcb
+    → with_called m thread calling
+    ≡ with_holding (with_object m thread (o.Tcb (record tcb { state = state.Called calling }))) calling.reply (reply.Called thread)
 unfolding with_called
-called_is m thread id tcb there =
+called_is m thread calling tcb there =
     rw there
-    (ap (λ (n : Machine). with_holding n id (reply.Called thread))
-    (tcb_is m thread tcb (record tcb { state = state.Called id }) there))
+    (ap (λ (n : Machine). with_holding n calling.reply (reply.Called thread))
+    (tcb_is m thread tcb (record tcb { state = state.Called calling }) there))
 
 emptied_is :
     (m : Machine) (thread : ObjId) (tcb : Tcb) → IsThread m thread tcb
@@ -187,7 +188,7 @@ unblocked_thread m thread tcb (state.Receiving receiving) there = by_reply recei
   by_reply None = left
   by_reply (Some id) = freed_thread (without_waiting m receiving.endpoint thread) id thread tcb left
 unblocked_thread m thread tcb (state.Waiting notification) there = left_objects m notification thread thread ∙ there
-unblocked_thread m thread tcb (state.Called id) there = freed_thread m id thread tcb there
+unblocked_thread m thread tcb (state.Called calling) there = freed_thread m calling.reply thread tcb there
 unblocked_thread m thread tcb _ there = there
 
 module _
@@ -315,7 +316,8 @@ module _
       receiver_leaves receiving.endpoint receiving.reply thread (λ to. waits receiving.endpoint to refl) names
   unblocked_keeps thread (state.Waiting notification) names waits =
       leaves_keeps t allowed began event a m held notification thread (λ to. waits notification to refl)
-  unblocked_keeps thread (state.Called id) names waits = freed_keeps t allowed began event a m held id (λ to. names id to refl)
+  unblocked_keeps thread (state.Called calling) names waits =
+      freed_keeps t allowed began event a m held calling.reply (λ to. names calling.reply to refl)
   unblocked_keeps thread _ names waits = unchanged t allowed began event a m held
 
   -- a thread leaves its queue and its reply, and waits for nothing
@@ -387,13 +389,14 @@ module _
 
   -- a thread waits for the answer to its call, through a reply that holds it
   pub called_keeps :
-      (thread : ObjId) (tcb : Tcb) (id : ObjId) (old : Reply) → IsThread m thread tcb → IsIdle tcb.state
-      → object_of m id ≡ Some (o.Reply old)
+      (thread : ObjId) (tcb : Tcb) (calling : Calling) (old : Reply) → IsThread m thread tcb → IsIdle tcb.state
+      → object_of m calling.reply ≡ Some (o.Reply old)
       → (label : ℕ) → label_of t m thread ≡ Some label → IsFull allowed a label
-      → (holder : ℕ) → label_of t m id ≡ Some holder → IsFull allowed a holder
-      → allowed holder authority.Holds label ≡ true → Keeps t allowed began event a m (with_called m thread id)
-  called_keeps thread tcb id old there idle at label labelled has holder reply_labelled reply_has holds =
-      let calls : Tcb = record tcb { state = state.Called id } in
+      → (holder : ℕ) → label_of t m calling.reply ≡ Some holder → IsFull allowed a holder
+      → allowed holder authority.Holds label ≡ true → Keeps t allowed began event a m (with_called m thread calling)
+  called_keeps thread tcb calling old there idle at label labelled has holder reply_labelled reply_has holds =
+      let id = calling.reply in
+      let calls : Tcb = record tcb { state = state.Called calling } in
       let mid = with_object m thread (o.Tcb calls) in
       let set =
       set_keeps t allowed began event a m thread held (o.Tcb tcb) (o.Tcb calls)
@@ -405,7 +408,7 @@ module _
       let thread_label : label_of t mid thread ≡ label_of t m thread =
       label_stays t m mid thread (o.Tcb tcb) (o.Tcb calls) there
       (object_of-with_object m thread (o.Tcb calls) thread ∙ at_itself thread (Some (o.Tcb calls)) (object_of m thread)) refl in
-      subst (λ (n : Machine). Keeps t allowed began event a m n) (sym (called_is m thread id tcb there))
+      subst (λ (n : Machine). Keeps t allowed began event a m n) (sym (called_is m thread calling tcb there))
       (keeps_keeps t allowed began event a m mid (with_holding mid id (reply.Called thread)) held set
       (holding_keeps t allowed began event a mid set.held id old (reply.Called thread) holder (same ∙ at)
       (same_label t m mid id same ∙ reply_labelled) reply_has
@@ -415,7 +418,7 @@ module _
       ap (λ x. allowed holder authority.Holds x) to_is ∙ holds)))
     where
       links_kept :
-          (k : Kind) (end : ObjId) → links (o.Tcb (record tcb { state = state.Called id })) k end ≡ true
+          (k : Kind) (end : ObjId) → links (o.Tcb (record tcb { state = state.Called calling })) k end ≡ true
           → links (o.Tcb tcb) k end ≡ true
       links_kept authority.Runs end e = e
       links_kept _ end e = absurd (false≢true e)

@@ -27,7 +27,7 @@ use Rattle.machine.specs.Layout.{Layout}
 use Rattle.machine.specs.Machine.{Machine, object_of, queue_of, cap_of, same_id}
 use Rattle.machine.specs.Objects.{kind_of_object, slot_count}
 use Rattle.machine.specs.Removal.{removed, vanishes}
-use Rattle.machine.specs.WellFormed.{IsReceivingWith, IsThread, WaitsAt, WaitsAtKind}
+use Rattle.machine.specs.WellFormed.{IsCallingThrough, IsReceivingWith, IsThread, WaitsAt, WaitsAtKind}
 use Rattle.machine.proofs.GoneLemmas.{gone_decided, id_itself, losing_decided}
 use Rattle.machine.proofs.Queues.{first_in, other_in}
 use Rattle.machine.proofs.RemovalLinks.{queue_now}
@@ -184,8 +184,10 @@ module _
         linked_beside thread lost.0 (o.Tcb tcb) authority.Reply label at
         (ap (λ s. state_links s authority.Reply lost.0) is ∙ ap (λ link. names_reply link lost.0) lost.1 ∙ id_itself lost.0) refl labelled
         (used lost.0 _ answers.1 (λ e. cc) lost.2)
-    halted_beside (state.Called called) is gone =
-        let answers = sound.well_formed.links.called_reply thread called tcb at is in
+    halted_beside (state.Called calling) is gone =
+        let called = calling.reply in
+        let answers =
+        sound.well_formed.links.called_reply thread called tcb at (subst (λ (s : RunState). IsCallingThrough s called) (sym is) refl) in
         target_beside called thread _ authority.Holds label answers.1 (id_itself thread) refl labelled
         (used called _ answers.1 (λ e. cc) gone)
     halted_beside _ is gone = absurd (false≢true gone)

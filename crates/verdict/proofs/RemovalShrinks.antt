@@ -46,7 +46,7 @@ link_lost vanished link = by_end (leads_nowhere vanished link) where
 
 halted_blocked : (vanished : ObjId → Bool) (run : RunState) → is_halted vanished run ≡ true → IsBlocked run
 halted_blocked vanished (state.Receiving receiving) is = tt
-halted_blocked vanished (state.Called called) is = tt
+halted_blocked vanished (state.Called calling) is = tt
 halted_blocked vanished _ is = absurd (false≢true is)
 
 aborted_blocked : (vanished : ObjId → Bool) (run : RunState) → is_aborted vanished run ≡ true → IsBlocked run

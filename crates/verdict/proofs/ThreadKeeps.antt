@@ -18,7 +18,7 @@ use Rattle.machine.specs.Layout.{Layout}
 use Rattle.machine.specs.Machine.{Machine, object_of, same_id}
 use Rattle.machine.specs.Releasing.{ready, suspended, with_aborted, with_ready, with_released}
 use Rattle.machine.specs.Step.Suspend.{with_resumed}
-use Rattle.machine.specs.WellFormed.{IsIdle, IsReceivingWith, IsThread, WaitsAt}
+use Rattle.machine.specs.WellFormed.{IsCallingThrough, IsIdle, IsReceivingWith, IsThread, WaitsAt}
 use Rattle.machine.proofs.FoundObjects.{FindsThread, found_thread}
 use Rattle.machine.proofs.Ids.{itself}
 use Rattle.machine.proofs.Leaving.{Names}
@@ -52,7 +52,7 @@ resumes m thread tcb there = by_state tcb.state refl where
   by_state (state.Sending sending) is = is_aborted (rw there (rw is refl))
   by_state (state.Receiving receiving) is = is_aborted (rw there (rw is refl))
   by_state (state.Waiting notification) is = is_aborted (rw there (rw is refl))
-  by_state (state.Called id) is = is_aborted (rw there (rw is refl))
+  by_state (state.Called calling) is = is_aborted (rw there (rw is refl))
 
 module _
     (t : Layout) (allowed : EdgeTest) (event : Event) (a : ℕ) (m : Machine) (sound : IsSound t allowed m)
@@ -99,8 +99,10 @@ module _
             sound.well_formed.links.receiver_reply thread id tcb there
             (subst (λ run. IsReceivingWith run id) (sym is) named) in
             holder_loses id to (record { address = w.0; state = reply.Waiting thread }) w.1 (itself thread) target
-        by_run (state.Called called) is named =
-            let w = sound.well_formed.links.called_reply thread id tcb there (is ∙ ap state.Called named) in
+        by_run (state.Called calling) is named =
+            let w =
+            sound.well_formed.links.called_reply thread id tcb there
+            (subst (λ run. IsCallingThrough run id) (sym is) named) in
             holder_loses id to (record { address = w.0; state = reply.Called thread }) w.1 (itself thread) target
         by_run _ is named = absurd named
 

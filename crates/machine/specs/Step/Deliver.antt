@@ -98,7 +98,7 @@ answer_through sending reply = if sending.can_reply then reply else None
 
 -- a thread whose call was delivered waits for its answer, or can't run
 abbrev pub linked : Machine → ObjId → Option ObjId → Machine
-linked m caller (Some reply) = with_called (with_halted m caller) caller reply
+linked m caller (Some reply) = with_called (with_halted m caller) caller (record { reply = reply; lent = None })
 linked m caller None = with_halted m caller
 
 -- a thread whose message was delivered: one that called waits for the answer, and one that sent can run
