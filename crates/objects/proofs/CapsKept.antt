@@ -13,8 +13,8 @@ use Rattle.objects.specs.declared.links.Ends.{Ends}
 use Rattle.objects.specs.declared.links.Standing.{Standing}
 use Rattle.objects.specs.declared.links.TreeLinks.{TreeLinks}
 use Rattle.objects.specs.declared.slots.Slot.{Slot}
-use Rattle.objects.specs.Entries.{Entries, caps_in, entry_of, slot_at, with_entry, set_caps_in, set_ends_in, set_slot_in, set_standing_in}
-use Rattle.objects.specs.Family.{attached, changed_slot, detached, head_of, leaving, leaving_from, links_at, with_links, with_slot}
+use Rattle.objects.specs.Entries.{Entries, caps_in, entry_of, change_slot_in, with_entry, set_caps_in, set_ends_in, set_standing_in}
+use Rattle.objects.specs.Family.{attached, detached, head_of, leaving, leaving_from, links_at, with_links, with_slot}
 use Rattle.objects.specs.Links.{end_after, left, popped, pushed, quitted, relinked, standing_of, with_standing}
 use Rattle.objects.proofs.EntryLemmas.{entry_of-with_entry}
 
@@ -36,10 +36,7 @@ caps-with_entry entries id change keeps q =
 -- slots and the derivation tree
 
 pub caps-with_slot : (entries : Entries) (at : SlotRef) (change : Slot → Slot) → CapsKept entries (with_slot entries at change)
-caps-with_slot entries at change q = by_slot (slot_at (entry_of entries) at) where
-  by_slot : (o : Option Slot) → caps_in (entry_of (changed_slot entries at change o) q) ≡ caps_in (entry_of entries q)
-  by_slot None = refl
-  by_slot (Some slot) = caps-with_entry entries at.holder (set_slot_in at.index (change slot)) (λ e. refl) q
+caps-with_slot entries at change q = caps-with_entry entries at.holder (change_slot_in at.index change) (λ e. refl) q
 
 caps-with_links :
     (entries : Entries) (at : Option SlotRef) (change : TreeLinks → TreeLinks) → CapsKept entries (with_links entries at change)

@@ -1,9 +1,8 @@
 -- What a machine becomes when one entry is changed or added, or threads are linked otherwise.
 use Rattle.std.proofs.Common.{◌≡◌, ◌≢◌, ℕ, ◌+◌, List, [], replicate, Bool, true, false, cond, length, refl, sym, ap}
 use Rattle.std.proofs.Common.{subst, ◌∙◌}
-use Rattle.std.specs.Prelude.{Option, Some, None, IsSome, option_map, option_and_then, slice_get, slice_set}
+use Rattle.std.specs.Prelude.{Option, Some, None, option_map, option_and_then, slice_get, slice_set}
 use Rattle.std.specs.FinMap as finite
-use Rattle.std.proofs.lemmas.Bool.{false≢true}
 use Rattle.base.specs.declared.ids.ObjId.{ObjId}
 use Rattle.base.specs.declared.ids.SlotRef.{SlotRef}
 use Rattle.machine.specs.declared.object.Object.{Object}
@@ -18,7 +17,7 @@ use Rattle.objects.specs.declared.entry.Entry.{Entry}
 use Rattle.objects.specs.declared.links.Ends.{Ends}
 use Rattle.objects.specs.declared.links.Standing.{Standing}
 use Rattle.objects.specs.declared.slots.Slot.{Slot}
-use Rattle.objects.specs.Entries.{slot_at, set_caps_in, set_slot_in, set_word_in, replace_in, empty_slot, new_entry}
+use Rattle.objects.specs.Entries.{slot_at, change_slot_in, set_caps_in, set_word_in, replace_in, empty_slot, new_entry}
 use Rattle.objects.specs.Family.{cap_in, parent_in}
 use Rattle.objects.specs.Links.{ends_of, standing_of, queue_in, AreQueued}
 use Rattle.objects.specs.Queues.{walk, AreQueues}
@@ -74,35 +73,32 @@ module _ (old new : ObjId → Option Entry) (id : ObjId) (change : Entry → Ent
 
 -- one slot has changed
 
-module _ (old new : ObjId → Option Entry) (at : SlotRef) (slot : Slot) (changed : IsChanged old new at.holder (set_slot_in at.index slot)) where
+module _ (old new : ObjId → Option Entry) (at : SlotRef) (change : Slot → Slot)
+    (changed : IsChanged old new at.holder (change_slot_in at.index change)) where
   pub slot_other : (q : SlotRef) → q ≢ at → slot_at new q ≡ slot_at old q
   slot_other q apart = ap (option_and_then (λ e. slice_get e.slots q.index)) (changed q.holder) ∙ by_tie (same_id q.holder at.holder) refl where
     by_tie :
         (tie : Bool) → same_id q.holder at.holder ≡ tie
-        → option_and_then (λ e. slice_get e.slots q.index) (cond tie (option_map (set_slot_in at.index slot) (old q.holder)) (old q.holder))
+        → option_and_then (λ e. slice_get e.slots q.index) (cond tie (option_map (change_slot_in at.index change) (old q.holder)) (old q.holder))
         ≡ slot_at old q
     by_tie false e = refl
     by_tie true e =
         let holder : q.holder ≡ at.holder = same_from_tie id_total id_apart q.holder at.holder e in
-        kept_then (λ e. slice_get e.slots q.index) (set_slot_in at.index slot)
-        (λ e. slice_get_edited_other (λ _. slot) e.slots at.index q.index
+        kept_then (λ e. slice_get e.slots q.index) (change_slot_in at.index change)
+        (λ e. slice_get_edited_other change e.slots at.index q.index
         (λ same. apart (λ i. record { holder = holder i; index = same i })))
         true (old q.holder)
 
-  pub slot_here : IsSome (slot_at old at) → slot_at new at ≡ Some slot
-  slot_here there =
+  pub slot_here : slot_at new at ≡ option_map change (slot_at old at)
+  slot_here =
       ap (option_and_then (λ e. slice_get e.slots at.index)) (changed at.holder ∙ cond_here id_total id_apart at.holder _ _)
-      ∙ by_entry (old at.holder) there where
-        by_slot : (o : Option Slot) → IsSome o → option_map (λ _. slot) o ≡ Some slot
-        by_slot None some = absurd (false≢true some)
-        by_slot (Some other) some = refl
-
+      ∙ by_entry (old at.holder) where
         by_entry :
-            (o : Option Entry) → IsSome (option_and_then (λ e. slice_get e.slots at.index) o)
-            → option_and_then (λ e. slice_get e.slots at.index) (option_map (set_slot_in at.index slot) o) ≡ Some slot
-        by_entry None some = absurd (false≢true some)
-        by_entry (Some e) some =
-            slice_get_edited_same (λ _. slot) e.slots at.index ∙ by_slot (slice_get e.slots at.index) some
+            (o : Option Entry)
+            → option_and_then (λ e. slice_get e.slots at.index) (option_map (change_slot_in at.index change) o)
+            ≡ option_map change (option_and_then (λ e. slice_get e.slots at.index) o)
+        by_entry None = refl
+        by_entry (Some e) = slice_get_edited_same change e.slots at.index
 
 -- the links of an entry, and the rest of it
 

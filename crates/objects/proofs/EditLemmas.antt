@@ -1,6 +1,6 @@
 -- What a list edited at one place has at each place, and how an edit is a write.
-use Rattle.std.proofs.Common.{◌≡◌, ◌≢◌, ℕ, zero, suc, ◌<◌, List, [], ◌∷◌, length, set, refl, ap, arith}
-use Rattle.std.specs.Prelude.{option_map, slice_get}
+use Rattle.std.proofs.Common.{◌≡◌, ◌≢◌, ℕ, zero, suc, ◌<◌, List, [], ◌∷◌, length, set, refl, sym, ap, arith}
+use Rattle.std.specs.Prelude.{option_map, slice_get, slice_index_or}
 use Rattle.objects.specs.Edits.{edited}
 
 module _ {X : Type 0} (change : X → X) where
@@ -27,9 +27,10 @@ module _ {X : Type 0} (change : X → X) where
   slice_get_edited_other (x ∷ xs) (suc place) zero apart = refl
   slice_get_edited_other (x ∷ xs) (suc place) (suc at) apart = slice_get_edited_other xs place at (λ same. apart (ap suc same))
 
--- an edit that puts a value in place of what is there is a write
+-- an edit is a write of what is there, changed
 pub edited_within :
-    {X : Type 0} (x : X) (xs : List X) (place : ℕ) → place < length xs → edited (λ _. x) xs place ≡ set xs place x
-edited_within x [] place within = absurd (omega arith)
-edited_within x (y ∷ xs) zero within = refl
-edited_within x (y ∷ xs) (suc place) within = ap (λ ys. y ∷ ys) (edited_within x xs place (omega arith))
+    {X : Type 0} (change : X → X) (x : X) (xs : List X) (place : ℕ) → place < length xs → x ≡ slice_index_or xs place x
+    → edited change xs place ≡ set xs place (change x)
+edited_within change x [] place within is = absurd (omega arith)
+edited_within change x (y ∷ xs) zero within is = ap (λ z. change z ∷ xs) (sym is)
+edited_within change x (y ∷ xs) (suc place) within is = ap (λ ys. y ∷ ys) (edited_within change x xs place (omega arith) is)

@@ -1,6 +1,6 @@
 -- What the places of numbers are after the table of the first numbers, or the hash map of the others, has changed; and each number in use
 -- is listed.
-use Rattle.std.proofs.Common.{◌≡◌, ◌≢◌, ℕ, zero, suc, ◌+◌, Bool, true, false, cond, List, [], ◌∷◌, ◌++◌, map, length, replicate, arith, eq-eqb, refl, sym, ap, ◌∙◌}
+use Rattle.std.proofs.Common.{◌≡◌, ◌≢◌, ℕ, zero, suc, ◌+◌, Bool, true, false, cond, List, [], ◌∷◌, map, length, replicate, arith, eq-eqb, refl, sym, ap, ◌∙◌}
 use Rattle.std.specs.Prelude.{Option, Some, None, nat_eq, is_some, IsSome, option_map, slice_get, ◌||◌}
 use Rattle.std.specs.Cmp.{unsigned_tied}
 use Rattle.std.specs.HashMap as hash

@@ -1,13 +1,12 @@
 -- What is placed after a change: each object has the entry that it had, but for the one that was changed or added; and the entries by
 -- number are these.
-use Rattle.std.proofs.Common.{◌≡◌, ◌≢◌, ℕ, Bool, true, false, cond, List, [], ◌∷◌, map, refl, sym, ap, subst}
+use Rattle.std.proofs.Common.{◌≡◌, ◌≢◌, ℕ, true, cond, [], map, refl, sym, ap, subst}
 use Rattle.std.proofs.Common.{◌∙◌, ◌⊎◌, inl, inr}
-use Rattle.std.specs.Prelude.{Option, Some, None, nat_eq, is_some, IsSome, option_map, option_and_then, slice_get}
+use Rattle.std.specs.Prelude.{Option, Some, None, is_some, IsSome, option_map, option_and_then}
 use Rattle.std.specs.FinMap as finite
 use Rattle.std.specs.List.{list_any}
-use Rattle.std.specs.Map.{lookup}
 use Rattle.std.proofs.lemmas.Option.{same_Some}
-use Rattle.std.proofs.lemmas.Bool.{false_from_ne_true, eqb-true, cases_eq}
+use Rattle.std.proofs.lemmas.Bool.{cases_eq}
 use Rattle.slab.specs.Slab as slab
 use Rattle.slab.specs.Slab.{Slab}
 use Rattle.slab.proofs.SlabLemmas.{Updates-with_value}
@@ -18,7 +17,7 @@ use Rattle.objects.specs.declared.entry.Entry.{Entry}
 use Rattle.objects.specs.declared.numbers.Places.{Places}
 use Rattle.objects.specs.declared.store.Store.TheInside.{Inside}
 use Rattle.objects.specs.Entries.{Entries, entry_of, with_entry}
-use Rattle.objects.specs.Places.{from_either, numbers_in, places_in, placed, entries_by_number, IsPlaced, changed_at, changed, with_placed, AddsEntry, RemovesEntry, SameEntries}
+use Rattle.objects.specs.Places.{numbers_in, places_in, placed, entries_by_number, IsPlaced, changed_at, changed, with_placed, AddsEntry, RemovesEntry, SameEntries}
 use Rattle.objects.proofs.EntryLemmas.{some-none, entry_of-with_entry}
 use Rattle.objects.proofs.NumberLemmas.{number_listed, unplaced}
 use Rattle.machine.proofs.FiniteLemmas.{by_key, get-tabulate}

@@ -1,14 +1,14 @@
 -- What the entries tell of their slots after the capability or the links of one slot have changed.
 use Rattle.std.proofs.Common.{◌≡◌, ◌≢◌, ℕ, zero, suc, ◌<◌, List, [], ◌∷◌, length, arith, ◌⊎◌, inl, inr, refl, sym, ap, subst, ◌∙◌}
-use Rattle.std.specs.Prelude.{Option, Some, None, is_some, IsSome, option_map, slice_get}
+use Rattle.std.specs.Prelude.{Option, Some, None, IsSome, option_map, slice_get}
 use Rattle.std.proofs.lemmas.Bool.{false≢true, cases_eq}
 use Rattle.base.specs.declared.ids.SlotRef.{SlotRef}
 use Rattle.base.specs.declared.ids.ObjId.{ObjId}
 use Rattle.objects.specs.declared.entry.Entry.{Entry}
 use Rattle.objects.specs.declared.links.TreeLinks.{TreeLinks}
 use Rattle.objects.specs.declared.slots.Slot.{Slot}
-use Rattle.objects.specs.Entries.{Entries, entry_of, slot_at, set_slot_in}
-use Rattle.objects.specs.Family.{cap_in, links_of, links_at, changed_slot, with_slot, with_links}
+use Rattle.objects.specs.Entries.{Entries, entry_of, slot_at, change_slot_in}
+use Rattle.objects.specs.Family.{cap_in, links_of, links_at, with_slot, with_links}
 use Rattle.objects.proofs.ChangeLemmas.{part_kept, slot_here, slot_other, bulk}
 use Rattle.objects.proofs.EditLemmas.{length_edited}
 use Rattle.objects.proofs.EntryLemmas.{entry_of-with_entry}
@@ -67,27 +67,17 @@ pub record ChangesSlot (old new : Entries) (at : SlotRef) (change : Slot → Slo
 pub changes_slot :
     (entries : Entries) (at : SlotRef) (change : Slot → Slot)
     → ChangesSlot entries (with_slot entries at change) at change
-changes_slot entries at change = by_slot (slot_at (entry_of entries) at) refl where
-  by_slot :
-      (o : Option Slot) → slot_at (entry_of entries) at ≡ o
-      → ChangesSlot entries (changed_slot entries at change o) at change
-  by_slot None is =
-      record {
-        here = is ∙ sym (ap (option_map change) is);
-        other = λ q differs. refl;
-        alone = record { same = λ q. refl };
-      }
-  by_slot (Some slot) is =
-      let set : Entry → Entry = set_slot_in at.index (change slot) in
-      let changed = entry_of-with_entry entries at.holder set in
-      record {
-        here = slot_here _ _ at (change slot) changed (ap is_some is) ∙ sym (ap (option_map change) is);
-        other = slot_other _ _ at (change slot) changed;
-        alone = record {
-          same = part_kept _ _ at.holder set changed bulk
-              (λ e. λ i. (e.object, length_edited (λ _. change slot) e.slots at.index i, e.ends, e.standing, e.words));
-        };
-      }
+changes_slot entries at change =
+    let edit : Entry → Entry = change_slot_in at.index change in
+    let changed = entry_of-with_entry entries at.holder edit in
+    record {
+      here = slot_here _ _ at change changed;
+      other = slot_other _ _ at change changed;
+      alone = record {
+        same = part_kept _ _ at.holder edit changed bulk
+            (λ e. λ i. (e.object, length_edited change e.slots at.index i, e.ends, e.standing, e.words));
+      };
+    }
 
 -- the links of one slot, if one is named, are others
 pub record SetsLinks (old new : Entries) (at : Option SlotRef) (change : TreeLinks → TreeLinks) : Type 0 where

@@ -28,8 +28,8 @@ with_entry entries id change = put_some entries id (option_map change (entry_of 
 
 -- the changes to an entry
 
-abbrev pub set_slot_in : ℕ → Slot → Entry → Entry
-set_slot_in index slot entry = record entry { slots = edited (λ _. slot) entry.slots index }
+abbrev pub change_slot_in : ℕ → (Slot → Slot) → Entry → Entry
+change_slot_in index change entry = record entry { slots = edited change entry.slots index }
 
 abbrev pub replace_in : Object → Entry → Entry
 replace_in object entry = record entry { object = object }

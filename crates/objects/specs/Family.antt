@@ -7,7 +7,9 @@ use Rattle.machine.specs.declared.cap.Cap.{Cap}
 use Rattle.objects.specs.declared.entry.Entry.{Entry}
 use Rattle.objects.specs.declared.links.TreeLinks.{TreeLinks}
 use Rattle.objects.specs.declared.slots.Slot.{Slot}
-use Rattle.objects.specs.Entries.{Entries, entry_of, slot_at, with_entry, set_slot_in}
+use Rattle.objects.specs.declared.slots.SlotChange.{SlotChange}
+use Rattle.objects.specs.declared.slots.SlotChange.TheVariants as change
+use Rattle.objects.specs.Entries.{Entries, entry_of, slot_at, with_entry, change_slot_in}
 use Rattle.objects.specs.Forest.{Links, IsForest}
 
 -- what a slot holds, if it is there
@@ -39,13 +41,17 @@ by_links links =
 abbrev pub AreKin : (ObjId → Option Entry) → Type 0
 AreKin entry = IsForest (by_links (links_at entry))
 
--- the entries with a slot changed, if it is there
-abbrev pub changed_slot : Entries → SlotRef → (Slot → Slot) → Option Slot → Entries
-changed_slot entries at change None = entries
-changed_slot entries at change (Some slot) = with_entry entries at.holder (set_slot_in at.index (change slot))
+-- what a slot is after a change
+abbrev pub after : SlotChange → Slot → Slot
+after (change.Cap cap) slot = record slot { cap = cap }
+after (change.First first) slot = record slot { links = record slot.links { first = first } }
+after (change.Next next) slot = record slot { links = record slot.links { next = next } }
+after (change.Previous previous) slot = record slot { links = record slot.links { previous = previous } }
+after (change.Under parent next) slot = record slot { links = record slot.links { parent = parent; next = next; previous = None } }
 
+-- the entries with a slot changed, if it is there
 abbrev pub with_slot : Entries → SlotRef → (Slot → Slot) → Entries
-with_slot entries at change = changed_slot entries at change (slot_at (entry_of entries) at)
+with_slot entries at change = with_entry entries at.holder (change_slot_in at.index change)
 
 -- the entries with the links of a slot changed, if one is named
 abbrev pub with_links : Entries → Option SlotRef → (TreeLinks → TreeLinks) → Entries

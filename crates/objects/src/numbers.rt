@@ -1,5 +1,5 @@
 //! From the number of an object to the place of its entry.
-ghost use Rattle.std.specs.Prelude.{◌≡◌, ◌≢◌, ◌+◌, ◌≤◌, ℕ, [], None, Some, replicate, slice_get, IfOk, IsTrue, OnOk};
+ghost use Rattle.std.specs.Prelude.{◌≡◌, ◌≢◌, ◌+◌, ◌≤◌, ℕ, nat_eq, [], None, Some, replicate, slice_get, IfOk, IsTrue, OnOk};
 ghost use Rattle.std.specs.HashMap as hash;
 ghost use Rattle.objects.specs.Edits.{edited};
 ghost use Rattle.objects.specs.Places.{places_in};
@@ -88,13 +88,22 @@ pub fn no_places(alloc: Global) -> Places
 }
 
 /// The place of the number, if it is in use.
+#[inline]
 pub fn place_of(places: &Places, number: u64) -> Option<usize>
     ensures { result ≡ places_in places.now number }
 {
     match places.early.get(number) {
         Some(place) => place,
-        None => places.late.get(&number).copied(),
+        None => late_place_of(&places.late, number),
     }
+}
+
+// It stands apart, so that what finds an early one stays small.
+#[inline(never)]
+fn late_place_of(late: &HashMap<u64, usize>, number: u64) -> Option<usize>
+    ensures { result ≡ hash.get nat_eq late.now number }
+{
+    late.get(&number).copied()
 }
 
 /// Makes the table of the first numbers, where no number was in use before.

@@ -1,13 +1,14 @@
 //! Where the entry of an object is kept: from numbers to places, and the entries at these.
 ghost use Rattle.std.specs.Prelude.{◌≡◌, ◌+◌, ℕ, option_copied, OnOk};
-ghost use Rattle.objects.specs.Entries.{set_slot_in, replace_in, set_ends_in, set_standing_in, set_word_in};
+ghost use Rattle.objects.specs.Entries.{change_slot_in, replace_in, set_ends_in, set_standing_in, set_word_in};
 ghost use Rattle.objects.specs.Entries.{set_caps_in};
+ghost use Rattle.objects.specs.Family.{after};
 ghost use Rattle.objects.specs.Places.{places_in, placed, with_placed, AddsEntry, RemovesEntry, SameEntries, HasRoom};
 
 use crate::entry::Entry;
 use crate::links::{Ends, Standing};
 use crate::numbers::{Places, begin, make_room, place_of, set_place, take_place};
-use crate::slots::Slot;
+use crate::slots::SlotChange;
 use base::{ObjId, SlotRef};
 use machine::Object;
 use slab::Slab;
@@ -21,13 +22,15 @@ pub fn entry<'a>(places: &Places, entries: &'a Slab<Entry>, id: ObjId) -> Option
     entries.get(place)
 }
 
-/// Sets a slot of the holder, if both are present.
-pub fn set_slot(places: &Places, entries: &mut Slab<Entry>, at: SlotRef, slot: Slot)
-    ensures { entries.new ≡ with_placed (places_in places.now) entries.old at.holder (set_slot_in at.index slot) }
+/// Changes the slot, if it is there.
+#[inline]
+pub fn change_slot(places: &Places, entries: &mut Slab<Entry>, at: SlotRef, change: SlotChange)
+    ensures { entries.new
+        ≡ with_placed (places_in places.now) entries.old at.holder (change_slot_in at.index (after change)) }
 {
     if let Some(place) = place_of(places, at.holder.0) {
         if let Some(entry) = entries.get_mut(place) {
-            entry.slots.set(at.index, slot);
+            entry.slots.change(at.index, change);
         }
     }
 }

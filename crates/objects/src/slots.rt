@@ -1,8 +1,10 @@
 ghost use Rattle.std.specs.Prelude.{◌≡◌, replicate, slice_get, option_copied, IfOk};
 ghost use Rattle.objects.specs.Edits.{edited};
 ghost use Rattle.objects.specs.Entries.{empty_slot};
+ghost use Rattle.objects.specs.Family.{after};
 
 use crate::links::TreeLinks;
+use base::SlotRef;
 use machine::Cap;
 use std::alloc::{AllocError, Global};
 use std::marker::Model;
@@ -19,6 +21,39 @@ impl Slot {
         cap: None,
         links: TreeLinks::NONE,
     };
+
+    // Takes the change.
+    #[inline]
+    fn take(&mut self, change: SlotChange)
+        ensures { self.new ≡ after change self.old }
+    {
+        match change {
+            SlotChange::Cap(cap) => self.cap = cap,
+            SlotChange::First(first) => self.links.first = first,
+            SlotChange::Next(next) => self.links.next = next,
+            SlotChange::Previous(previous) => self.links.previous = previous,
+            SlotChange::Under(parent, next) => {
+                self.links.parent = parent;
+                self.links.next = next;
+                self.links.previous = None;
+            }
+        }
+    }
+}
+
+/// A change of a slot. It is made where the slot is, which is not copied.
+#[derive(Clone, Copy)]
+pub enum SlotChange {
+    /// What the slot holds.
+    Cap(Option<Cap>),
+    /// Its first child.
+    First(Option<SlotRef>),
+    /// Which sibling follows it.
+    Next(Option<SlotRef>),
+    /// Which sibling it follows.
+    Previous(Option<SlotRef>),
+    /// Its parent, and which sibling follows it. It follows none.
+    Under(Option<SlotRef>, Option<SlotRef>),
 }
 
 /// The slots of an object.
@@ -53,12 +88,13 @@ impl Slots {
         self.items.get(index as usize)
     }
 
-    /// Sets the slot at the index, if there is one.
-    pub fn set(&mut self, index: u64, slot: Slot)
-        ensures { self.new ≡ edited (λ _. slot) self.old index }
+    /// Changes the slot at the index, if there is one.
+    #[inline]
+    pub fn change(&mut self, index: u64, change: SlotChange)
+        ensures { self.new ≡ edited (after change) self.old index }
     {
-        if let Some(place) = self.items.get_mut(index as usize) {
-            *place = slot;
+        if let Some(slot) = self.items.get_mut(index as usize) {
+            slot.take(change);
         }
     }
 }

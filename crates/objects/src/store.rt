@@ -7,7 +7,7 @@ use crate::entry::{Entry, new_entries};
 use crate::links::{Ends, Standing, TreeLinks};
 use crate::numbers::{Places, no_places};
 use crate::places;
-use crate::slots::Slot;
+use crate::slots::{Slot, SlotChange};
 use base::{ObjId, SlotRef};
 use machine::{Cap, Object};
 use slab::Slab;
@@ -45,10 +45,10 @@ impl Model for Store {
 
 impl Store {
     ghost use Rattle.std.specs.FinMap as finite;
-    ghost use Rattle.objects.specs.Entries.{entry_of, slot_at, with_entry, set_slot_in, replace_in};
+    ghost use Rattle.objects.specs.Entries.{entry_of, slot_at, with_entry, replace_in};
     ghost use Rattle.objects.specs.Entries.{new_entry, with_more, set_ends_in, set_standing_in, set_word_in, set_caps_in};
     ghost use Rattle.objects.specs.Entries.{caps_in};
-    ghost use Rattle.objects.specs.Family.{cap_in, parent_in, links_at, with_slot, with_links, attached, leaving, detached};
+    ghost use Rattle.objects.specs.Family.{after, cap_in, parent_in, links_at, with_slot, with_links, attached, leaving, detached};
     ghost use Rattle.objects.specs.Links.{standing_of, with_standing, pushed, popped, quitted};
     ghost use Rattle.objects.specs.Radices.{HasRadix};
     ghost use Rattle.base.specs.declared.limits.TheConstants.{OBJECT_NUMBERS};
@@ -159,19 +159,18 @@ impl Store {
         }
     }
 
-    fn set_slot(&mut self, at: SlotRef, slot: Slot)
-        ensures { self.new ≡ with_entry self.old at.holder (set_slot_in at.index slot) }
+    #[inline]
+    fn change(&mut self, at: SlotRef, change: SlotChange)
+        ensures { self.new ≡ with_slot self.old at (after change) }
     {
-        places::set_slot(&self.places, &mut self.entries, at, slot);
+        places::change_slot(&self.places, &mut self.entries, at, change);
     }
 
     /// Says what the slot holds, if it is there.
     pub fn set_cap(&mut self, at: SlotRef, cap: Option<Cap>)
         ensures { self.new ≡ with_slot self.old at (λ slot. record slot { cap = cap }) }
     {
-        if let Some(&slot) = self.slot(at) {
-            self.set_slot(at, Slot { cap, ..slot });
-        }
+        self.change(at, SlotChange::Cap(cap));
     }
 
     // Says which the slot's first child is, if a slot is named.
@@ -179,13 +178,7 @@ impl Store {
         ensures { self.new ≡ with_links self.old at (λ l. record l { first = first }) }
     {
         if let Some(at) = at {
-            if let Some(&slot) = self.slot(at) {
-                let links = TreeLinks {
-                    first,
-                    ..slot.links
-                };
-                self.set_slot(at, Slot { links, ..slot });
-            }
+            self.change(at, SlotChange::First(first));
         }
     }
 
@@ -194,10 +187,7 @@ impl Store {
         ensures { self.new ≡ with_links self.old at (λ l. record l { next = next }) }
     {
         if let Some(at) = at {
-            if let Some(&slot) = self.slot(at) {
-                let links = TreeLinks { next, ..slot.links };
-                self.set_slot(at, Slot { links, ..slot });
-            }
+            self.change(at, SlotChange::Next(next));
         }
     }
 
@@ -206,13 +196,7 @@ impl Store {
         ensures { self.new ≡ with_links self.old at (λ l. record l { previous = previous }) }
     {
         if let Some(at) = at {
-            if let Some(&slot) = self.slot(at) {
-                let links = TreeLinks {
-                    previous,
-                    ..slot.links
-                };
-                self.set_slot(at, Slot { links, ..slot });
-            }
+            self.change(at, SlotChange::Previous(previous));
         }
     }
 
@@ -221,15 +205,7 @@ impl Store {
         ensures { self.new
             ≡ with_links self.old (Some at) (λ l. record l { parent = parent; next = next; previous = None }) }
     {
-        if let Some(&slot) = self.slot(at) {
-            let links = TreeLinks {
-                parent,
-                next,
-                previous: None,
-                ..slot.links
-            };
-            self.set_slot(at, Slot { links, ..slot });
-        }
+        self.change(at, SlotChange::Under(parent, next));
     }
 
     /// Puts a slot that has no parent before the children of another.

@@ -11,8 +11,8 @@ returns c =
       | in-Some w ↦
           rw (w.self-inside-is, ← c.self.view_is)
           (sym
-          (edited_within c.args.place c.self.inside.items.items c.args.number
-          (omega (arith, w.in-Some.ensures.variant.0 refl))))
+          (edited_within (λ _. c.args.place) w.in-Some.item.now c.self.inside.items.items c.args.number
+          (omega (arith, w.in-Some.ensures.variant.0 refl)) w.in-Some.ensures.value))
       | in_default w ↦
           rw (w.self-inside-is, ← c.self.view_is)
           (sym

@@ -1,18 +1,19 @@
--- A write through `get_mut` edits the one slot.
+-- A change through `get_mut` edits the one slot.
 use Rattle.std.proofs.Common.{refl, sym, arith}
 use Rattle.std.proofs.lemmas.Bool.{false≢true}
+use Rattle.objects.specs.Family.{after}
 use Rattle.objects.proofs.EditLemmas.{edited_past, edited_within}
-use Rattle.objects.proofs.slots.Slots.set.Goals as goal
-use Rattle.objects.proofs.slots.Slots.set.Goals.{in-Some, in_default}
+use Rattle.objects.proofs.slots.Slots.change.Goals as goal
+use Rattle.objects.proofs.slots.Slots.change.Goals.{in-Some, in_default}
 
 pub returns : goal.returns
 returns c =
     elim c.match-get_mut.branch [
       | in-Some w ↦
-          rw (w.self-inside-is, ← c.self.view_is)
+          rw (w.self-inside-is, w.take.ensures, ← c.self.view_is)
           (sym
-          (edited_within c.args.slot c.self.inside.items.items c.args.index
-          (omega (arith, w.in-Some.ensures.variant.0 refl))))
+          (edited_within (after c.args.change) w.in-Some.slot.now c.self.inside.items.items c.args.index
+          (omega (arith, w.in-Some.ensures.variant.0 refl)) w.in-Some.ensures.value))
       | in_default w ↦
           rw (w.self-inside-is, ← c.self.view_is)
           (sym
