@@ -15,7 +15,7 @@ use verdict::{Accepted, Denial, judge};
 /// Why a table, a policy and a certificate aren't accepted.
 #[derive(Clone, Copy, PartialEq, Eq, Debug)]
 pub enum NotAccepted {
-    /// A rule is broken: P1 to P7 or A1 to A4, or C1 where the certificate isn't the right one.
+    /// A rule is broken: P1 to P8 or A1 to A4, or C1 where the certificate isn't the right one.
     Denied(Denial),
     /// Memory was refused.
     NoMemory,

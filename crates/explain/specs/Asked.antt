@@ -29,8 +29,9 @@ edge_by_rule (broken.DomainLacks parent child) = Some (edge_of parent Derive chi
 edge_by_rule (broken.DeriveLacks parent child) = Some (edge_of parent Derive child)
 edge_by_rule (broken.ContextLacks subject context) = Some (edge_of subject Runs context)
 edge_by_rule (broken.ReplyLacks reply thread) = Some (edge_of reply Holds thread)
+edge_by_rule (broken.LentLacks borrower context) = Some (edge_of borrower Runs context)
 
--- what a denial asks for: by P1 to P7 as above; by A1 to A4 the edge of what the table has at that place, and so by A5 and A6, which no
+-- what a denial asks for: by P1 to P8 as above; by A1 to A4 the edge of what the table has at that place, and so by A5 and A6, which no
 -- table breaks. No edge mends a certificate
 abbrev pub edge_asked : Layout → Denial → Option Edge
 edge_asked t (denial.Policy broken) = edge_by_rule broken

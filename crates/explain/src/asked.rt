@@ -74,6 +74,7 @@ fn edge_by_rule(broken: Broken) -> Option<Edge>
         }
         Broken::ContextLacks { subject, context } => (subject, Kind::Runs, context),
         Broken::ReplyLacks { reply, thread } => (reply, Kind::Holds, thread),
+        Broken::LentLacks { borrower, context } => (borrower, Kind::Runs, context),
     };
     Some(Edge { from, kind, to })
 }

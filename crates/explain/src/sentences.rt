@@ -228,6 +228,10 @@ impl fmt::Display for RuleReason<'_> {
                 f,
                 "a reply object labelled `{one}` may come to hold a thread of `{two}`, which receives with it or calls who does"
             ),
+            Broken::LentLacks { .. } => write!(
+                f,
+                "`{one}` may be lent a context labelled `{two}`, by who runs on it and calls where `{one}` receives"
+            ),
         }
     }
 }
@@ -294,6 +298,7 @@ pub(crate) fn ends(broken: &Broken) -> (Label, Label) {
         }
         Broken::ContextLacks { subject, context } => (subject, context),
         Broken::ReplyLacks { reply, thread } => (reply, thread),
+        Broken::LentLacks { borrower, context } => (borrower, context),
     }
 }
 
@@ -366,6 +371,11 @@ impl fmt::Display for OtherRuleWay<'_> {
             Broken::ReplyLacks { .. } => {
                 f.write_str(
                     "take the edge of kind `reply`, `call` or `receive` away by which it does",
+                )
+            }
+            Broken::LentLacks { .. } => {
+                f.write_str(
+                    "take the edge of kind `call`, `receive` or `runs` away by which it may",
                 )
             }
         }

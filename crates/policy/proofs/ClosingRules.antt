@@ -2,9 +2,9 @@
 use Rattle.std.proofs.Common.{◌≡◌, ℕ, ◌<◌, Bool, true, false, inl, inr, refl, sym, ◌∙◌}
 use Rattle.base.specs.declared.kind.Kind.{Kind}
 use Rattle.base.specs.declared.kind.Kind.TheVariants.{Space, Control, Receive, Grant, Call, Reply, Context, Derive, Runs, Holds}
-use Rattle.policy.specs.Closed.{ComesToDerive, ComesToHold, IsClosed, MayBeGranted, granted, derived, server, caller}
+use Rattle.policy.specs.Closed.{ComesToDerive, ComesToHold, IsClosed, MayBeGranted, MayBeLent, granted, derived, server, caller}
 use Rattle.policy.specs.Closing.{IsWithin}
-use Rattle.policy.specs.Settling.{Shares, of_its_domain, of_their_domain, by_grant, IsGiven, shared, controlled, IsAskedFor, gives, derives, comes, runs, holds}
+use Rattle.policy.specs.Settling.{Shares, of_its_domain, of_their_domain, by_grant, IsGiven, shared, controlled, IsAskedFor, gives, derives, comes, runs, holds, lends}
 use Rattle.policy.specs.Domain.{EdgeTest, IsInDomain}
 
 -- what is asked for by the edges of one policy, a closed policy has that has these edges
@@ -42,6 +42,16 @@ module _ (one other : EdgeTest) (within : IsWithin one other) (closed : IsClosed
       closed.reply_holds reply thread
       (caller b endpoint (within b Reply reply e) (within thread Call endpoint calls) (within b Receive endpoint receives))
 
+  has_lent : (borrower context : ℕ) → MayBeLent one borrower context → other borrower Runs context ≡ true
+  has_lent borrower context h =
+      closed.lent_runs borrower context (record {
+        lender = h.lender;
+        endpoint = h.endpoint;
+        calls = within h.lender Call h.endpoint h.calls;
+        receives = within borrower Receive h.endpoint h.receives;
+        runs = within h.lender Runs context h.runs;
+      })
+
   pub has_asked : (from : ℕ) (kind : Kind) (to : ℕ) → IsAskedFor one from kind to → other from kind to ≡ true
   has_asked from kind to (gives h) = has_given from kind to h
   has_asked from kind to (derives is h) =
@@ -54,6 +64,7 @@ module _ (one other : EdgeTest) (within : IsWithin one other) (closed : IsClosed
   has_asked from kind to (comes is h) = rw is (has_derived from to h)
   has_asked from kind to (runs is e) = rw is (closed.context_runs from to (within from Context to e))
   has_asked from kind to (holds is h) = rw is (has_held from to h)
+  has_asked from kind to (lends is h) = rw is (has_lent from to h)
 
 alike : (a b : Bool) → (a ≡ true → b ≡ true) → (b ≡ true → a ≡ true) → a ≡ b
 alike true b forth back = sym (forth refl)
@@ -72,6 +83,7 @@ closed_if_settled test settled = record {
   derive_by_grant = λ x y h. settled x Derive y (comes refl h);
   context_runs = λ a s e. settled a Runs s (runs refl e);
   reply_holds = λ reply thread h. settled reply Holds thread (holds refl h);
+  lent_runs = λ borrower context h. settled borrower Runs context (lends refl h);
 }
 
 -- both ends of what is asked for are ends of edges
@@ -94,3 +106,4 @@ module _ (test : EdgeTest) (joins : (from : ℕ) (kind : Kind) (to : ℕ) → te
   asked_starts from kind to (runs is e) = (joins from Context to e).0
   asked_starts from kind to (holds is (server e)) = (joins to Reply from e).1
   asked_starts from kind to (holds is (caller b endpoint e calls receives)) = (joins b Reply from e).1
+  asked_starts from kind to (lends is h) = (joins from Receive h.endpoint h.receives).0

@@ -8,9 +8,9 @@ use Rattle.base.specs.declared.kind.Kind.TheVariants.{Control, Receive, Grant, C
 use Rattle.base.specs.declared.labels.Labels.{Labels}
 use Rattle.base.specs.Kinds.{kind_number, is_structural}
 use Rattle.base.specs.Labels.{is_in}
-use Rattle.policy.specs.Broken.{DomainLacks, DeriveLacks, ReplyLacks}
+use Rattle.policy.specs.Broken.{DomainLacks, DeriveLacks, ReplyLacks, LentLacks}
 use Rattle.policy.specs.Closed.{ControlGives}
-use Rattle.policy.specs.Settling.{Shares, of_its_domain, of_their_domain, by_grant, IsGiven, shared, controlled, IsAskedFor, gives, derives, comes, runs, holds, IsMissing, IsSettled}
+use Rattle.policy.specs.Settling.{Shares, of_its_domain, of_their_domain, by_grant, IsGiven, shared, controlled, IsAskedFor, gives, derives, comes, runs, holds, lends, IsMissing, IsSettled}
 use Rattle.policy.specs.Domain.{EdgeTest, IsInDomain}
 use Rattle.policy.proofs.KindNumbers.{all_kinds, number_stands, same_kind}
 use Rattle.policy.proofs.RuleSets.{Holds, IsDomainOf, IsDifference, IsReached, IsReaching, IsUnion, back, out}
@@ -99,20 +99,28 @@ derivations_missing test from domain derived all in_domain in_derived both to = 
       both to ∙ or_right (is_in domain to) (is_in derived to) ((in_derived to).1 (record { asked = h; missing = missing }))
   found missing (runs is e) = cc
   found missing (holds is e) = cc
+  found missing (lends is h) = cc
 
--- P6
+-- P6 and P8
 pub runs_missing :
-    (test : EdgeTest) (from : ℕ) (contexts row lacks : Labels) → IsRow test from Context contexts → IsRow test from Runs row
-    → IsDifference contexts row lacks → Holds lacks (IsMissing test from Runs)
-runs_missing test from contexts row lacks in_contexts in_row differ to = (
-  λ is.
-      let parts = out test from Runs contexts row lacks in_row differ to is in
-      record { asked = runs refl (sym (in_contexts to) ∙ parts.0); missing = parts.1 },
+    (test : EdgeTest) (from : ℕ) (contexts row unbound lent lacks : Labels) → IsRow test from Context contexts → IsRow test from Runs row
+    → IsDifference contexts row unbound → Holds lent (λ context. LentLacks test from context) → IsUnion unbound lent lacks
+    → Holds lacks (IsMissing test from Runs)
+runs_missing test from contexts row unbound lent lacks in_contexts in_row differ in_lent both to = (
+  λ is. elim (or_cases (is_in unbound to) (is_in lent to) (sym (both to) ∙ is)) [
+    | inl one ↦
+        let parts = out test from Runs contexts row unbound in_row differ to one in
+        record { asked = runs refl (sym (in_contexts to) ∙ parts.0); missing = parts.1 }
+    | inr other ↦ let h = (in_lent to).0 other in record { asked = lends refl h.asked; missing = h.missing }
+  ],
   λ h. found h.missing h.asked,
 ) where
   found : test from Runs to ≡ false → IsAskedFor test from Runs to → is_in lacks to ≡ true
   found missing (gives h) = absurd (not_given test from Runs to refl (λ e. cc) h)
-  found missing (runs is e) = back test from Runs contexts row lacks in_row differ to (in_contexts to ∙ e) missing
+  found missing (runs is e) =
+      both to ∙ or_left (is_in unbound to) (is_in lent to) (back test from Runs contexts row unbound in_row differ to (in_contexts to ∙ e) missing)
+  found missing (lends is h) =
+      both to ∙ or_right (is_in unbound to) (is_in lent to) ((in_lent to).1 (record { asked = h; missing = missing }))
   found missing (derives is h) = cc
   found missing (comes is h) = cc
   found missing (holds is h) = cc
@@ -130,6 +138,7 @@ replies_missing test from lacks in_lacks to = (
   found missing (derives is h) = cc
   found missing (comes is h) = cc
   found missing (runs is e) = cc
+  found missing (lends is h) = cc
 
 -- P1, P2 and P3
 pub given_missing :
@@ -147,6 +156,7 @@ given_missing test from kind given row lacks no_derive no_runs no_holds in_given
   found missing (comes is h) = absurd (no_derive is)
   found missing (runs is e) = absurd (no_runs is)
   found missing (holds is h) = absurd (no_holds is)
+  found missing (lends is h) = absurd (no_runs is)
 
 -- where nothing is missing, what is asked for is there
 pub settled_if_none :

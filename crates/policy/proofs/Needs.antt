@@ -2,11 +2,11 @@
 use Rattle.std.proofs.Common.{◌≡◌, ◌≢◌, ℕ, ◌==◌, inl, inr, true, false, refl, sym, ◌+◌}
 use mathlib.Core.Bool.{false≢true}
 use Rattle.base.specs.declared.kind.Kind.{Kind}
-use Rattle.base.specs.declared.kind.Kind.TheVariants.{Control, Reset, Receive, Grant, Reply, Context, Space, Derive}
-use Rattle.policy.specs.Closed.{ControlGivesAll, GrantShares, DeriveInDomain, DeriveByGrant, ContextRuns, ReplyHolds, IsClosed, granted, derived, server, caller}
+use Rattle.base.specs.declared.kind.Kind.TheVariants.{Control, Reset, Receive, Grant, Call, Reply, Context, Space, Derive, Runs}
+use Rattle.policy.specs.Closed.{ControlGivesAll, GrantShares, DeriveInDomain, DeriveByGrant, ContextRuns, ReplyHolds, LentRuns, IsClosed, granted, derived, server, caller}
 use Rattle.policy.specs.Domain.{EdgeTest, IsInDomain, SubjectsAgree}
 use Rattle.policy.proofs.Cells.{not_both}
-use Rattle.policy.specs.Needed.{Rule, subjects_agree, control_gives_all, grant_shares, derive_in_domain, derive_by_grant, context_runs, reply_holds, Obeys, BreaksOnly}
+use Rattle.policy.specs.Needed.{Rule, subjects_agree, control_gives_all, grant_shares, derive_in_domain, derive_by_grant, context_runs, reply_holds, lent_runs, Obeys, BreaksOnly}
 
 -- whether all edges of a kind are there, or none
 abbrev Lacks : EdgeTest → Kind → Type 0
@@ -50,6 +50,9 @@ no_reply : (test : EdgeTest) → Lacks test Reply → ReplyHolds test
 no_reply test lacks reply thread (server e) = absurd (not_both e (lacks thread reply))
 no_reply test lacks reply thread (caller b endpoint e calls receives) = absurd (not_both e (lacks b reply))
 
+no_call : (test : EdgeTest) → Lacks test Call → LentRuns test
+no_call test lacks borrower context h = absurd (not_both h.calls (lacks h.lender h.endpoint))
+
 -- the policies
 
 -- one label may do what another of its domain may not
@@ -70,6 +73,7 @@ breaks_subjects =
       others derive_by_grant differ = all_derive_by_grant apart (λ a b. refl)
       others context_runs differ = no_context apart (λ a b. refl)
       others reply_holds differ = no_reply apart (λ a b. refl)
+      others lent_runs differ = no_call apart (λ a b. refl)
 
 -- control gives space and nothing else
 abbrev weak_control : EdgeTest
@@ -99,6 +103,7 @@ breaks_control =
       others derive_by_grant differ = all_derive_by_grant weak_control (λ a b. refl)
       others context_runs differ = no_context weak_control (λ a b. refl)
       others reply_holds differ = no_reply weak_control (λ a b. refl)
+      others lent_runs differ = no_call weak_control (λ a b. refl)
 
 -- all grant to all, and one may do what the others may not
 abbrev unshared : EdgeTest
@@ -131,6 +136,7 @@ breaks_grant =
       others derive_by_grant differ = nothing_comes
       others context_runs differ = no_context unshared (λ a b. refl)
       others reply_holds differ = no_reply unshared (λ a b. refl)
+      others lent_runs differ = no_call unshared (λ a b. refl)
 
 -- all are in one domain, and nothing may be derived
 abbrev underived : EdgeTest
@@ -152,6 +158,7 @@ breaks_derive =
       others derive_by_grant differ = no_derive underived (λ a b. refl) (λ a b. refl)
       others context_runs differ = no_context underived (λ a b. refl)
       others reply_holds differ = no_reply underived (λ a b. refl)
+      others lent_runs differ = no_call underived (λ a b. refl)
 
 -- two steps of derivation, and not both in one
 abbrev no_chain : EdgeTest
@@ -169,6 +176,7 @@ breaks_derive_by_grant =
       others derive_by_grant differ = absurd (differ refl)
       others context_runs differ = no_context no_chain (λ a b. refl)
       others reply_holds differ = no_reply no_chain (λ a b. refl)
+      others lent_runs differ = no_call no_chain (λ a b. refl)
 
 -- contexts that nobody may run on
 abbrev unrunnable : EdgeTest
@@ -185,6 +193,7 @@ breaks_context = record { test = unrunnable; others = others; broken = λ runs. 
   others derive_by_grant differ = no_derive unrunnable (λ a b. refl) (λ a b. refl)
   others context_runs differ = absurd (differ refl)
   others reply_holds differ = no_reply unrunnable (λ a b. refl)
+  others lent_runs differ = no_call unrunnable (λ a b. refl)
 
 -- replies that hold nobody
 abbrev unheld : EdgeTest
@@ -201,6 +210,31 @@ breaks_reply = record { test = unheld; others = others; broken = λ holds. false
   others derive_by_grant differ = no_derive unheld (λ a b. refl) (λ a b. refl)
   others context_runs differ = no_context unheld (λ a b. refl)
   others reply_holds differ = absurd (differ refl)
+  others lent_runs differ = no_call unheld (λ a b. refl)
+
+-- all call and receive, and one runs on what the others may not
+abbrev unlent : EdgeTest
+unlent a Call to = true
+unlent a Receive to = true
+unlent a Runs to = a == 0
+unlent a _ to = false
+
+breaks_lending : BreaksOnly lent_runs
+breaks_lending =
+    record {
+      test = unlent;
+      others = others;
+      broken = λ runs. false≢true (runs 1 0 (record { lender = 0; endpoint = 0; calls = refl; receives = refl; runs = refl }));
+    } where
+      others : (other : Rule) → other ≢ lent_runs → Obeys unlent other
+      others subjects_agree differ = no_domain_agrees unlent (λ a b. refl) (λ a b. refl)
+      others control_gives_all differ = no_control unlent (λ a b. refl)
+      others grant_shares differ = no_grant unlent (λ a b. refl)
+      others derive_in_domain differ = no_domain_derives unlent (λ a b. refl) (λ a b. refl)
+      others derive_by_grant differ = no_derive unlent (λ a b. refl) (λ a b. refl)
+      others context_runs differ = no_context unlent (λ a b. refl)
+      others reply_holds differ = no_reply unlent (λ a b. refl)
+      others lent_runs differ = absurd (differ refl)
 
 pub needed : (rule : Rule) → BreaksOnly rule
 needed subjects_agree = breaks_subjects
@@ -210,6 +244,7 @@ needed derive_in_domain = breaks_derive
 needed derive_by_grant = breaks_derive_by_grant
 needed context_runs = breaks_context
 needed reply_holds = breaks_reply
+needed lent_runs = breaks_lending
 
 -- a closed policy obeys each rule, and one that obeys each is closed
 
@@ -221,6 +256,7 @@ obeys_each test closed derive_in_domain = closed.derive_in_domain
 obeys_each test closed derive_by_grant = closed.derive_by_grant
 obeys_each test closed context_runs = closed.context_runs
 obeys_each test closed reply_holds = closed.reply_holds
+obeys_each test closed lent_runs = closed.lent_runs
 
 -- the policy with every edge
 pub full_closed : IsClosed (λ from kind to. true)
@@ -233,4 +269,5 @@ full_closed =
       derive_by_grant = λ x y comes. refl;
       context_runs = λ a s e. refl;
       reply_holds = λ reply thread comes. refl;
+      lent_runs = λ borrower context h. refl;
     }

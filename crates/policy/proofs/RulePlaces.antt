@@ -20,7 +20,7 @@ use Rattle.base.specs.declared.kind.Kind.{Kind}
 -- the rules in order
 
 abbrev pub all_rules : List Rule
-all_rules = rule.P1 ∷ rule.P2 ∷ rule.P3 ∷ rule.P4 ∷ rule.P5 ∷ rule.P6 ∷ rule.P7 ∷ []
+all_rules = rule.P1 ∷ rule.P2 ∷ rule.P3 ∷ rule.P4 ∷ rule.P5 ∷ rule.P6 ∷ rule.P7 ∷ rule.P8 ∷ []
 
 abbrev pub of_rule : Rule → List ℕ
 of_rule r = rule_number r ∷ []
@@ -33,6 +33,7 @@ rule_stands rule.P4 = refl
 rule_stands rule.P5 = refl
 rule_stands rule.P6 = refl
 rule_stands rule.P7 = refl
+rule_stands rule.P8 = refl
 
 numbered : (k : ℕ) (r : Rule) → slice_get all_rules k ≡ Some r → rule_number r ≡ k + 1
 numbered zero r at = ap rule_number (sym (same_Some rule.P1 r at))
@@ -42,7 +43,8 @@ numbered (suc (suc (suc zero))) r at = ap rule_number (sym (same_Some rule.P4 r 
 numbered (suc (suc (suc (suc zero)))) r at = ap rule_number (sym (same_Some rule.P5 r at))
 numbered (suc (suc (suc (suc (suc zero))))) r at = ap rule_number (sym (same_Some rule.P6 r at))
 numbered (suc (suc (suc (suc (suc (suc zero)))))) r at = ap rule_number (sym (same_Some rule.P7 r at))
-numbered (suc (suc (suc (suc (suc (suc (suc k))))))) r at = cc
+numbered (suc (suc (suc (suc (suc (suc (suc zero))))))) r at = ap rule_number (sym (same_Some rule.P8 r at))
+numbered (suc (suc (suc (suc (suc (suc (suc (suc k)))))))) r at = cc
 
 same_rule : (a b : Rule) → rule_number a ≡ rule_number b → a ≡ b
 same_rule a b same = same_Some a b (sym (rule_stands a) ∙ ap (λ n. slice_get all_rules (n - 1)) same ∙ rule_stands b)
@@ -55,6 +57,7 @@ rule_of (broken.DomainLacks _ _) = rule.P4
 rule_of (broken.DeriveLacks _ _) = rule.P5
 rule_of (broken.ContextLacks _ _) = rule.P6
 rule_of (broken.ReplyLacks _ _) = rule.P7
+rule_of (broken.LentLacks _ _) = rule.P8
 
 -- the number of a pair of labels tells both
 paired : (a b : ℕ) → b < 64 → ((a * 64 + b) / 64 ≡ a) × ((a * 64 + b) % 64 ≡ b)
@@ -75,6 +78,7 @@ first_of r rest (broken.DomainLacks _ _) h = h.0
 first_of r rest (broken.DeriveLacks _ _) h = h.0
 first_of r rest (broken.ContextLacks _ _) h = h.0
 first_of r rest (broken.ReplyLacks _ _) h = h.0
+first_of r rest (broken.LentLacks _ _) h = h.0
 
 rule_begins : (b : Broken) → Begins (rule_number (rule_of b) ∷ []) (broken_place b)
 unfolding rule_of
@@ -85,6 +89,7 @@ rule_begins (broken.DomainLacks _ _) = (refl, tt)
 rule_begins (broken.DeriveLacks _ _) = (refl, tt)
 rule_begins (broken.ContextLacks _ _) = (refl, tt)
 rule_begins (broken.ReplyLacks _ _) = (refl, tt)
+rule_begins (broken.LentLacks _ _) = (refl, tt)
 
 pairs_rise : (a b : ℕ) → a < b → IsBelow (a / 64 ∷ a % 64 ∷ []) (b / 64 ∷ b % 64 ∷ [])
 pairs_rise a b lt = elim (cases_order (a / 64) (b / 64)) [
@@ -101,6 +106,7 @@ places_rise rule.P4 a b lt = inl lt
 places_rise rule.P5 a b lt = inl lt
 places_rise rule.P6 a b lt = inl lt
 places_rise rule.P7 a b lt = inl lt
+places_rise rule.P8 a b lt = inl lt
 
 module _ (test : EdgeTest) (joins : (from : ℕ) (kind : Kind) (to : ℕ) → test from kind to ≡ true → (from < 64) × (to < 64)) where
   in_domain : (a x : ℕ) → IsInDomain test a x → (a < 64) × (x < 64)
@@ -138,6 +144,8 @@ module _ (test : EdgeTest) (joins : (from : ℕ) (kind : Kind) (to : ℕ) → te
   place_number (broken.DeriveLacks a to) h = record { number = a; within = derives a to h.asked; begins = (refl, (refl, tt)) }
   place_number (broken.ContextLacks a to) h = record { number = a; within = (joins a _ to h.asked).0; begins = (refl, (refl, tt)) }
   place_number (broken.ReplyLacks a to) h = record { number = a; within = holds a to h.asked; begins = (refl, (refl, tt)) }
+  place_number (broken.LentLacks a to) h =
+      record { number = a; within = (joins a _ h.asked.endpoint h.asked.receives).0; begins = (refl, (refl, tt)) }
 
   -- the places of a rule
   pub of_places : (r : Rule) → Searches broken_place (IsBrokenAt test) (of_rule r) (numbers (count_of r)) (place_of r)

@@ -1,15 +1,15 @@
--- The sets of labels at which P4, P5 and P7 are broken, as the search puts them together.
+-- The sets of labels at which P4, P5, P7 and P8 are broken, as the search puts them together.
 use Rattle.std.proofs.Common.{◌≡◌, ℕ, ◌&&◌, ◌||◌, ◌==◌, ◌⊎◌, [], ◌∷◌, Bool, true, false, not, inl, inr, refl, sym, ◌∙◌, subst}
 use Rattle.std.specs.Prelude.{◌↔◌}
 use mathlib.Core.Bool.{false≢true}
 use Rattle.std.proofs.lemmas.Bool.{and_parts, or_cases, or_left, or_right, eqb-true, eq-eqb}
 use Rattle.base.specs.declared.kind.Kind.{Kind}
 use Rattle.base.specs.declared.kind.Kind.TheVariants as kind
-use Rattle.base.specs.declared.kind.Kind.TheVariants.{Call, Derive, Grant, Receive, Reply}
+use Rattle.base.specs.declared.kind.Kind.TheVariants.{Call, Derive, Grant, Receive, Reply, Runs}
 use Rattle.base.specs.declared.labels.Labels.{Labels}
 use Rattle.base.specs.Labels.{is_in}
-use Rattle.policy.specs.Closed.{MayBeGranted}
-use Rattle.policy.specs.Broken.{DomainLacks, DeriveLacks, ReplyLacks}
+use Rattle.policy.specs.Closed.{MayBeGranted, MayBeLent}
+use Rattle.policy.specs.Broken.{DomainLacks, DeriveLacks, ReplyLacks, LentLacks}
 use Rattle.policy.specs.Closed.{ComesToDerive, ComesToHold, granted, derived, server, caller}
 use Rattle.policy.specs.Domain.{EdgeTest, IsInDomain}
 use Rattle.policy.specs.Steps.{IsSource, IsTarget}
@@ -138,3 +138,30 @@ reply_told test reply only servers endpoints callers row comes lacks in_only in_
   untold (caller b endpoint replies calls receives) =
       let received = (in_endpoints endpoint).1 (target_by test Receive servers b endpoint (is_server b replies) receives) in
       either thread ∙ or_right (is_in servers thread) (is_in callers thread) ((in_callers thread).1 (source_by test Call endpoints endpoint thread received calls))
+
+-- P8
+pub loan_told :
+    (test : EdgeTest) (borrower : ℕ) (endpoints lenders lent row lacks : Labels) → IsRow test borrower Receive endpoints
+    → IsReaching test Call endpoints lenders → IsReached test lenders Runs lent → IsRow test borrower Runs row → IsDifference lent row lacks
+    → Holds lacks (λ context. LentLacks test borrower context)
+loan_told test borrower endpoints lenders lent row lacks in_endpoints in_lenders in_lent in_row differ context = (
+  λ e. let parts = out test borrower Runs lent row lacks in_row differ context e in record { asked = told parts.0; missing = parts.1 },
+  λ h. back test borrower Runs lent row lacks in_row differ context (untold h.asked) h.missing,
+) where
+  told : is_in lent context ≡ true → MayBeLent test borrower context
+  told e =
+      let lender = (in_lent context).0 e in
+      let endpoint = (in_lenders lender.from).0 lender.among in
+      record {
+        lender = lender.from;
+        endpoint = endpoint.to;
+        calls = only_kind test Call lender.from endpoint.to endpoint.joined;
+        receives = sym (in_endpoints endpoint.to) ∙ endpoint.among;
+        runs = only_kind test Runs lender.from context lender.joined;
+      }
+
+  untold : MayBeLent test borrower context → is_in lent context ≡ true
+  untold h =
+      let received = in_endpoints h.endpoint ∙ h.receives in
+      let called = (in_lenders h.lender).1 (source_by test Call endpoints h.endpoint h.lender received h.calls) in
+      (in_lent context).1 (target_by test Runs lenders h.lender context called h.runs)

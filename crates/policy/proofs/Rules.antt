@@ -2,13 +2,13 @@
 use Rattle.std.proofs.Common.{◌≡◌, ◌≢◌, ◌↔◌, ℕ, true, false, List, [], ◌∷◌, Option, IfNone, IfSome, refl, sym, arith}
 use Rattle.std.specs.Option.{option_map}
 use Rattle.base.specs.declared.kind.Kind.{Kind}
-use Rattle.base.specs.declared.kind.Kind.TheVariants.{Derive, Holds}
+use Rattle.base.specs.declared.kind.Kind.TheVariants.{Derive, Runs, Holds}
 use Rattle.base.specs.declared.labels.Labels.{Labels}
 use Rattle.base.specs.Kinds.{kind_number, is_structural}
 use Rattle.base.specs.Labels.{is_in}
 use Rattle.policy.specs.declared.broken.Broken.{Broken}
 use Rattle.policy.specs.declared.broken.Broken.TheVariants as broken
-use Rattle.policy.specs.Broken.{ControlLacks, IsBrokenAt, broken_place, p1, p2, p3, p5, p7}
+use Rattle.policy.specs.Broken.{ControlLacks, IsBrokenAt, broken_place, p1, p2, p3, p5, p7, p8}
 use Rattle.policy.specs.Closed.{MayBeGranted}
 use Rattle.policy.specs.Domain.{EdgeTest, IsInDomain}
 use Rattle.policy.specs.Places.{IsUnder}
@@ -100,3 +100,15 @@ module _ (test : EdgeTest) where
       → IfSome found (IsLeastIn labels) → IfNone found (IsNobody labels)
       → FindsBroken test (p7 ∷ reply ∷ []) (option_map (broken.ReplyLacks reply) found)
   reply_found reply = least_target test (p7 ∷ reply ∷ []) (kind_number Holds) (broken.ReplyLacks reply) (replies reply)
+
+  -- P8
+  loans : (borrower : ℕ) → IsMadeOf test (p8 ∷ borrower ∷ []) (broken.LentLacks borrower) (of_target (kind_number Runs))
+  loans borrower = record { of = of; placed = λ context. refl } where
+    of : (b : Broken) → IsUnderAll (p8 ∷ borrower ∷ []) b → (context : ℕ) × (b ≡ broken.LentLacks borrower context)
+    of (broken.LentLacks l context) h = (context, λ i. broken.LentLacks (sym h.0.1.0 i) context)
+    of _ h = absurd (omega (arith, h.0.0))
+
+  pub loan_found : (borrower : ℕ) (labels : Labels) → AreTold test (p8 ∷ borrower ∷ []) (broken.LentLacks borrower) labels → (found : Option ℕ)
+      → IfSome found (IsLeastIn labels) → IfNone found (IsNobody labels)
+      → FindsBroken test (p8 ∷ borrower ∷ []) (option_map (broken.LentLacks borrower) found)
+  loan_found borrower = least_target test (p8 ∷ borrower ∷ []) (kind_number Runs) (broken.LentLacks borrower) (loans borrower)

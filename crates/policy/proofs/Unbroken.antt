@@ -20,6 +20,7 @@ module _ (test : EdgeTest) (closed : IsClosed test) where
   unbroken (broken.DeriveLacks x y) h = not_both (closed.derive_by_grant x y h.asked) h.missing
   unbroken (broken.ContextLacks a s) h = not_both (closed.context_runs a s h.asked) h.missing
   unbroken (broken.ReplyLacks r c) h = not_both (closed.reply_holds r c h.asked) h.missing
+  unbroken (broken.LentLacks b s) h = not_both (closed.lent_runs b s h.asked) h.missing
 
 -- what isn't missing is there, and what doesn't differ is the same
 
@@ -43,4 +44,5 @@ closed_if test none = record {
   derive_by_grant = λ x y asked. there asked (none (broken.DeriveLacks x y));
   context_runs = λ a s asked. there asked (none (broken.ContextLacks a s));
   reply_holds = λ r c asked. there asked (none (broken.ReplyLacks r c));
+  lent_runs = λ b s asked. there asked (none (broken.LentLacks b s));
 }

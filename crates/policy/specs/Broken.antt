@@ -7,7 +7,7 @@ use Rattle.base.specs.declared.kind.Kind.TheVariants.{Derive, Runs, Holds}
 use Rattle.base.specs.Kinds.{kind_number}
 use Rattle.policy.specs.declared.broken.Broken.{Broken}
 use Rattle.policy.specs.declared.broken.Broken.TheVariants as broken
-use Rattle.policy.specs.Closed.{ComesToDerive, ComesToHold, ControlGives, GrantGives, IsLacking, MayBind, ShareDomain}
+use Rattle.policy.specs.Closed.{ComesToDerive, ComesToHold, ControlGives, GrantGives, IsLacking, MayBeLent, MayBind, ShareDomain}
 use Rattle.policy.specs.Domain.{EdgeTest, ShareUse}
 
 -- the numbers of the rules
@@ -32,6 +32,9 @@ p6 = 6
 
 abbrev pub p7 : ℕ
 p7 = 7
+
+abbrev pub p8 : ℕ
+p8 = 8
 
 -- P1: of two labels of one domain only one has an edge
 pub record SubjectsDisagree (test : EdgeTest) (subject other : ℕ) (kind : Kind) (target : ℕ) : Type 0 where
@@ -62,6 +65,10 @@ ContextLacks test subject context = IsLacking (MayBind test subject context) (te
 abbrev pub ReplyLacks : EdgeTest → ℕ → ℕ → Type 0
 ReplyLacks test reply thread = IsLacking (ComesToHold test reply thread) (test reply Holds thread)
 
+-- P8: a label may be lent a context, and may not run on it
+abbrev pub LentLacks : EdgeTest → ℕ → ℕ → Type 0
+LentLacks test borrower context = IsLacking (MayBeLent test borrower context) (test borrower Runs context)
+
 -- a policy breaks a rule at a place
 abbrev pub IsBrokenAt : EdgeTest → Broken → Type 0
 IsBrokenAt test (broken.SubjectsDisagree subject other kind target) = SubjectsDisagree test subject other kind target
@@ -71,6 +78,7 @@ IsBrokenAt test (broken.DomainLacks parent child) = DomainLacks test parent chil
 IsBrokenAt test (broken.DeriveLacks parent child) = DeriveLacks test parent child
 IsBrokenAt test (broken.ContextLacks subject context) = ContextLacks test subject context
 IsBrokenAt test (broken.ReplyLacks reply thread) = ReplyLacks test reply thread
+IsBrokenAt test (broken.LentLacks borrower context) = LentLacks test borrower context
 
 -- a place as numbers: its rule, and then the labels and kinds that it names, from left to right
 abbrev pub broken_place : Broken → List ℕ
@@ -81,6 +89,7 @@ broken_place (broken.DomainLacks parent child) = p4 ∷ parent ∷ kind_number D
 broken_place (broken.DeriveLacks parent child) = p5 ∷ parent ∷ kind_number Derive ∷ child ∷ []
 broken_place (broken.ContextLacks subject context) = p6 ∷ subject ∷ kind_number Runs ∷ context ∷ []
 broken_place (broken.ReplyLacks reply thread) = p7 ∷ reply ∷ kind_number Holds ∷ thread ∷ []
+broken_place (broken.LentLacks borrower context) = p8 ∷ borrower ∷ kind_number Runs ∷ context ∷ []
 
 -- the name of the rule
 abbrev pub broken_rule : Broken → List ℕ
@@ -91,3 +100,4 @@ broken_rule (broken.DomainLacks _ _) = codes "P4"
 broken_rule (broken.DeriveLacks _ _) = codes "P5"
 broken_rule (broken.ContextLacks _ _) = codes "P6"
 broken_rule (broken.ReplyLacks _ _) = codes "P7"
+broken_rule (broken.LentLacks _ _) = codes "P8"

@@ -74,6 +74,18 @@ pub data ComesToHold (test : EdgeTest) (reply thread : ℕ) : Type 0 where
 abbrev pub ReplyHolds : EdgeTest → Type 0
 ReplyHolds test = (reply thread : ℕ) → ComesToHold test reply thread → test reply Holds thread ≡ true
 
+-- a label may be lent a context: it receives from an endpoint at which one calls that runs on the context
+pub record MayBeLent (test : EdgeTest) (borrower context : ℕ) : Type 0 where
+  pub lender : ℕ
+  pub endpoint : ℕ
+  pub calls : test lender Call endpoint ≡ true
+  pub receives : test borrower Receive endpoint ≡ true
+  pub runs : test lender Runs context ≡ true
+
+-- P8: who may be lent a context may run on it
+abbrev pub LentRuns : EdgeTest → Type 0
+LentRuns test = (borrower context : ℕ) → MayBeLent test borrower context → test borrower Runs context ≡ true
+
 -- a rule asks for an edge that is missing
 pub record IsLacking (Asked : Type 0) (edge : Bool) : Type 0 where
   pub asked : Asked
@@ -87,3 +99,4 @@ pub record IsClosed (test : EdgeTest) : Type 0 where
   pub derive_by_grant : DeriveByGrant test
   pub context_runs : ContextRuns test
   pub reply_holds : ReplyHolds test
+  pub lent_runs : LentRuns test

@@ -2,10 +2,10 @@
 -- (the integrity property of 'seL4 Enforces Integrity', section 4, restated for this profile).
 use Rattle.std.specs.Prelude.{◌≡◌, ℕ, Bool, true, false}
 use Rattle.base.specs.declared.kind.Kind.{Kind}
-use Rattle.base.specs.declared.kind.Kind.TheVariants.{Control, Send, Receive, Grant, Notify, Await, Write, Reply, Context, Holds}
+use Rattle.base.specs.declared.kind.Kind.TheVariants.{Control, Send, Receive, Grant, Notify, Await, Write, Reply, Context, Runs, Holds}
 use Rattle.policy.specs.Domain.{EdgeTest}
 
--- the kinds whose use changes the object itself
+-- the kinds whose use changes the object itself; of a context it is who binds it, and who runs on it
 abbrev pub is_modifying : Kind → Bool
 is_modifying Control = true
 is_modifying Send = true
@@ -15,12 +15,13 @@ is_modifying Await = true
 is_modifying Write = true
 is_modifying Reply = true
 is_modifying Context = true
+is_modifying Runs = true
 is_modifying _ = false
 
 pub data IsFull (test : EdgeTest) (a l : ℕ) : Type 0 where
   -- its own objects
   own : l ≡ a → IsFull test a l
-  -- what it has a capability to
+  -- what it has a capability to, or runs on
   modifies : (kind : Kind) → is_modifying kind ≡ true → test a kind l ≡ true → IsFull test a l
   -- who waits at an endpoint or a notification that it uses
   sends : (endpoint : ℕ) → test a Send endpoint ≡ true → test l Receive endpoint ≡ true → IsFull test a l

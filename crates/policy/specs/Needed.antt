@@ -1,7 +1,7 @@
 -- The rules of closed policies one by one, and that each is needed: there is a policy that obeys all of the others and not that
 -- one (the rules are confine's own).
 use Rattle.std.specs.Prelude.{◌≢◌}
-use Rattle.policy.specs.Closed.{ControlGivesAll, GrantShares, DeriveInDomain, DeriveByGrant, ContextRuns, ReplyHolds}
+use Rattle.policy.specs.Closed.{ControlGivesAll, GrantShares, DeriveInDomain, DeriveByGrant, ContextRuns, ReplyHolds, LentRuns}
 use Rattle.policy.specs.Domain.{EdgeTest, SubjectsAgree}
 
 pub data Rule : Type 0 where
@@ -12,6 +12,7 @@ pub data Rule : Type 0 where
   derive_by_grant : Rule
   context_runs : Rule
   reply_holds : Rule
+  lent_runs : Rule
 
 abbrev pub Obeys : EdgeTest → Rule → Type 0
 Obeys test subjects_agree = SubjectsAgree test
@@ -21,6 +22,7 @@ Obeys test derive_in_domain = DeriveInDomain test
 Obeys test derive_by_grant = DeriveByGrant test
 Obeys test context_runs = ContextRuns test
 Obeys test reply_holds = ReplyHolds test
+Obeys test lent_runs = LentRuns test
 
 -- a policy that breaks the rule and no other
 pub record BreaksOnly (rule : Rule) : Type 0 where

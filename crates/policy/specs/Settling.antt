@@ -8,7 +8,7 @@ use Rattle.base.specs.declared.label.TheConstants.Label as Label
 use Rattle.base.specs.declared.labels.Labels.{Labels}
 use Rattle.base.specs.Kinds.{is_structural}
 use Rattle.base.specs.Labels.{is_in}
-use Rattle.policy.specs.Closed.{ComesToDerive, ComesToHold, ControlGives, IsClosed, IsLacking, MayBeGranted, MayBind, ShareDomain}
+use Rattle.policy.specs.Closed.{ComesToDerive, ComesToHold, ControlGives, IsClosed, IsLacking, MayBeGranted, MayBeLent, MayBind, ShareDomain}
 use Rattle.policy.specs.Closing.{IsWithin}
 use Rattle.policy.specs.Domain.{EdgeTest, IsInDomain}
 use Rattle.policy.specs.Policy.{allows}
@@ -31,6 +31,7 @@ pub data IsAskedFor (test : EdgeTest) (from : ℕ) (kind : Kind) (to : ℕ) : Ty
   comes : kind ≡ Derive → ComesToDerive test from to → IsAskedFor test from kind to
   runs : kind ≡ Runs → MayBind test from to → IsAskedFor test from kind to
   holds : kind ≡ Holds → ComesToHold test from to → IsAskedFor test from kind to
+  lends : kind ≡ Runs → MayBeLent test from to → IsAskedFor test from kind to
 
 -- an edge that is asked for and isn't there
 abbrev pub IsMissing : EdgeTest → ℕ → Kind → ℕ → Type 0

@@ -2,7 +2,7 @@
 use Rattle.std.specs.Prelude.{ℕ, ◌/◌, ◌%◌, List, [], ◌∷◌}
 use Rattle.policy.specs.declared.broken.Rule.{Rule}
 use Rattle.policy.specs.declared.broken.Rule.TheVariants as rule
-use Rattle.policy.specs.Broken.{p1, p2, p3, p4, p5, p6, p7}
+use Rattle.policy.specs.Broken.{p1, p2, p3, p4, p5, p6, p7, p8}
 
 abbrev pub rule_number : Rule → ℕ
 rule_number rule.P1 = p1
@@ -12,6 +12,7 @@ rule_number rule.P4 = p4
 rule_number rule.P5 = p5
 rule_number rule.P6 = p6
 rule_number rule.P7 = p7
+rule_number rule.P8 = p8
 
 -- P1 and P3 are looked at for each pair of labels, the others for each label
 abbrev pub count_of : Rule → ℕ

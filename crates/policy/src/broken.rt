@@ -13,7 +13,7 @@ use crate::Policy;
 use base::{Kind, Label};
 use rayon::prelude::*;
 use rules::{
-    context_lacks, control_lacks, derive_lacks, domain_lacks, grant_lacks, reply_lacks,
+    context_lacks, control_lacks, derive_lacks, domain_lacks, grant_lacks, lent_lacks, reply_lacks,
     subjects_disagree,
 };
 use std::thread::Threads;
@@ -68,6 +68,12 @@ pub enum Broken {
         reply: Label,
         thread: Label,
     },
+    /// P8: `borrower` may be lent a scheduling context of the label `context`, by a Call, and the edge of
+    /// kind runs is missing.
+    LentLacks {
+        borrower: Label,
+        context: Label,
+    },
 }
 
 impl Broken {
@@ -83,6 +89,7 @@ impl Broken {
             Broken::DeriveLacks { .. } => "P5",
             Broken::ContextLacks { .. } => "P6",
             Broken::ReplyLacks { .. } => "P7",
+            Broken::LentLacks { .. } => "P8",
         }
     }
 }
@@ -97,10 +104,11 @@ enum Rule {
     P5,
     P6,
     P7,
+    P8,
 }
 
 impl Rule {
-    const ALL: [Rule; 7] = [
+    const ALL: [Rule; 8] = [
         Rule::P1,
         Rule::P2,
         Rule::P3,
@@ -108,6 +116,7 @@ impl Rule {
         Rule::P5,
         Rule::P6,
         Rule::P7,
+        Rule::P8,
     ];
 
     // At how many places it is looked at: at pairs of labels, or at labels.
@@ -133,6 +142,7 @@ impl Rule {
             Rule::P5 => derive_lacks(policy, label(number)),
             Rule::P6 => context_lacks(policy, label(number)),
             Rule::P7 => reply_lacks(policy, label(number)),
+            Rule::P8 => lent_lacks(policy, label(number)),
         }
     }
 

@@ -8,7 +8,9 @@ ghost use Rattle.policy.specs.Settling.{Grows, IsGiven, IsMissing, IsSettled, Jo
 ghost use Rattle.policy.specs.Policy.{allows};
 
 use crate::Policy;
-use crate::broken::rules::{is_given_by_control, not_derived, not_derived_in_domain, not_held};
+use crate::broken::rules::{
+    is_given_by_control, not_derived, not_derived_in_domain, not_held, not_lent,
+};
 use crate::broken::steps::{domain, subjects};
 use base::{Edge, Kind, Label, Labels, Refusal};
 use std::alloc::Global;
@@ -127,7 +129,8 @@ fn missing(policy: &Policy, from: Label, kind: Kind) -> Labels
         Kind::Derive => not_derived_in_domain(policy, from).union(not_derived(policy, from)),
         Kind::Runs => policy
             .row(from, Kind::Context)
-            .difference(policy.row(from, Kind::Runs)),
+            .difference(policy.row(from, Kind::Runs))
+            .union(not_lent(policy, from)),
         Kind::Holds => not_held(policy, from),
         _ => given(policy, from, kind).difference(policy.row(from, kind)),
     }

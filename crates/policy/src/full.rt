@@ -7,7 +7,7 @@ use crate::Policy;
 use base::{Kind, Label, Labels};
 
 /// The kinds whose use changes the object itself.
-pub(crate) const MODIFYING: [Kind; 8] = [
+pub(crate) const MODIFYING: [Kind; 9] = [
     Kind::Control,
     Kind::Send,
     Kind::Receive,
@@ -16,6 +16,7 @@ pub(crate) const MODIFYING: [Kind; 8] = [
     Kind::Write,
     Kind::Reply,
     Kind::Context,
+    Kind::Runs,
 ];
 
 impl Policy {

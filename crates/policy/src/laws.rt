@@ -9,10 +9,10 @@ ghost use Rattle.policy.specs.Domain.{EdgeTest};
 ghost use Rattle.policy.specs.Needed.{BreaksOnly, Obeys, Rule};
 ghost use Rattle.policy.specs.Take.{HasNone, MayTake};
 
-/// A law: the policy with every edge is closed; a closed policy obeys each of the seven rules; and no
+/// A law: the policy with every edge is closed; a closed policy obeys each of the eight rules; and no
 /// rule follows from the others, since for each there is a policy that breaks it alone, and so isn't
 /// closed.
-pub fn closed_policies_obey_seven_rules()
+pub fn closed_policies_obey_each_rule()
     ensures full { IsClosed (λ from kind to. true) }
     ensures each { (test : EdgeTest) → IsClosed test → (rule : Rule) → Obeys test rule }
     ensures needed { (rule : Rule) → BreaksOnly rule }

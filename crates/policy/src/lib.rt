@@ -15,7 +15,7 @@ mod why;
 pub use broken::{Broken, first_broken};
 pub use closing::close;
 pub use laws::{
-    closed_policies_are_unbroken, closed_policies_obey_seven_rules, takes_follow_paths,
+    closed_policies_are_unbroken, closed_policies_obey_each_rule, takes_follow_paths,
     what_may_be_taken_may_be_cut,
 };
 pub use policy::Policy;

@@ -67,6 +67,7 @@ module _ (n : ℕ) where
         derive_by_grant = derives;
         context_runs = λ a s e. joins a _ s (joined a _ s e).0 (joined a _ s e).1;
         reply_holds = holds;
+        lent_runs = λ b s h. joins b _ s (joined b _ h.endpoint h.receives).0 (joined h.lender _ s h.runs).1;
       }
 
 -- so a policy that is within each closed one with some edges joins labels that these join

@@ -37,6 +37,7 @@ broken_names t (broken.DomainLacks parent child) = edge_names t parent Derive ch
 broken_names t (broken.DeriveLacks parent child) = edge_names t parent Derive child
 broken_names t (broken.ContextLacks subject context) = edge_names t subject Runs context
 broken_names t (broken.ReplyLacks reply thread) = edge_names t reply Holds thread
+broken_names t (broken.LentLacks borrower context) = edge_names t borrower Runs context
 
 -- the place that a denial names, where objects are of these kinds
 abbrev pub place_names_by : (ObjId → Option ObjectKind) → Layout → Denial → List (List ℕ)

@@ -121,9 +121,14 @@ fn broken_names(alloc: Global, table: &Table, broken: &Broken) -> Result<Vec<Str
         Broken::DomainLacks { parent, child } | Broken::DeriveLacks { parent, child } => {
             edge_names(alloc, table, parent, Kind::Derive, child)?
         }
-        Broken::ContextLacks { subject, context } => {
-            edge_names(alloc, table, subject, Kind::Runs, context)?
+        Broken::ContextLacks {
+            subject: runner,
+            context,
         }
+        | Broken::LentLacks {
+            borrower: runner,
+            context,
+        } => edge_names(alloc, table, runner, Kind::Runs, context)?,
         Broken::ReplyLacks { reply, thread } => {
             edge_names(alloc, table, reply, Kind::Holds, thread)?
         }

@@ -3,11 +3,11 @@
 use Rattle.std.proofs.Common.{◌≡◌, ◌≢◌, ℕ, ◌<◌, Bool, true, false, ◌==◌, ◌&&◌, ◌||◌, inl, inr, refl, sym, ap, ◌∙◌, arith}
 use Rattle.std.proofs.lemmas.Bool.{false≢true, and_parts, eqb-true}
 use Rattle.base.specs.declared.kind.Kind.{Kind}
-use Rattle.base.specs.declared.kind.Kind.TheVariants.{Call, Context, Control, Derive, Grant, Holds, Receive, Reply, Space}
+use Rattle.base.specs.declared.kind.Kind.TheVariants.{Call, Context, Control, Derive, Grant, Holds, Receive, Reply, Runs, Space}
 use Rattle.policy.specs.Closed.{ComesToDerive, ComesToHold, MayBeGranted, granted, derived, server, caller}
 use Rattle.policy.specs.Domain.{EdgeTest, IsInDomain}
 use Rattle.policy.specs.Needed.{Rule, subjects_agree, control_gives_all, grant_shares, derive_in_domain, derive_by_grant, context_runs}
-use Rattle.policy.specs.Needed.{reply_holds, Obeys}
+use Rattle.policy.specs.Needed.{reply_holds, lent_runs, Obeys}
 use Rattle.verdict.proofs.TestPolicies.{IsWithin}
 
 -- the kind of the edge to 1
@@ -75,3 +75,4 @@ others derive_in_domain differ = λ x y h.
 others derive_by_grant differ = comes
 others context_runs differ = absurd (differ refl)
 others reply_holds differ = holds
+others lent_runs differ = λ b s h. own b Runs s (from_own b Receive h.endpoint h.receives) (to_own h.lender Runs s refl h.runs)

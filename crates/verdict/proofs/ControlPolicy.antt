@@ -6,8 +6,8 @@ use Rattle.base.specs.declared.kind.Kind.TheVariants.{Control}
 use Rattle.base.specs.Kinds.{is_structural}
 use Rattle.policy.specs.Domain.{EdgeTest}
 use Rattle.policy.specs.Needed.{Rule, subjects_agree, control_gives_all, grant_shares, derive_in_domain, derive_by_grant, context_runs}
-use Rattle.policy.specs.Needed.{reply_holds, Obeys}
-use Rattle.verdict.proofs.EvenPolicy.{even, even_agrees, even_comes, even_derives, even_holds, even_runs, even_shares}
+use Rattle.policy.specs.Needed.{reply_holds, lent_runs, Obeys}
+use Rattle.verdict.proofs.EvenPolicy.{even, even_agrees, even_comes, even_derives, even_holds, even_lends, even_runs, even_shares}
 use Rattle.verdict.proofs.EvenPolicy.{even_within}
 use Rattle.verdict.proofs.TestPolicies.{IsWithin}
 
@@ -30,3 +30,4 @@ others derive_in_domain differ = even_derives is_used 2 refl
 others derive_by_grant differ = even_comes is_used 2 refl
 others context_runs differ = even_runs is_used 2 refl
 others reply_holds differ = even_holds is_used 2 refl
+others lent_runs differ = even_lends is_used 2 refl

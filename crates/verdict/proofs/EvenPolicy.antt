@@ -4,7 +4,7 @@ use Rattle.std.proofs.lemmas.Bool.{and_parts, and_from, lt-ltb, ltb-true}
 use Rattle.base.specs.declared.kind.Kind.{Kind}
 use Rattle.base.specs.declared.kind.Kind.TheVariants.{Control, Receive, Grant, Call, Reply, Context, Space, Derive, Runs, Holds}
 use Rattle.policy.specs.Closed.{ContextRuns, ControlGivesAll, DeriveByGrant, DeriveInDomain, GrantShares, IsGivenByControl}
-use Rattle.policy.specs.Closed.{ReplyHolds, granted, derived, server, caller}
+use Rattle.policy.specs.Closed.{LentRuns, ReplyHolds, granted, derived, server, caller}
 use Rattle.policy.specs.Domain.{EdgeTest, IsInDomain, SubjectsAgree}
 use Rattle.verdict.proofs.TestPolicies.{IsWithin}
 
@@ -62,3 +62,7 @@ module _ (kinds : Kind → Bool) (n : ℕ) where
       let labels = labels_of thread Reply reply e in of_labels reply Holds thread used labels.1 labels.0
   even_holds used reply thread (caller b endpoint e calls receives) =
       of_labels reply Holds thread used (labels_of b Reply reply e).1 (labels_of thread Call endpoint calls).0
+
+  pub even_lends : kinds Runs ≡ true → LentRuns (even kinds n)
+  even_lends used borrower context h =
+      of_labels borrower Runs context used (labels_of borrower Receive h.endpoint h.receives).0 (labels_of h.lender Runs context h.runs).1

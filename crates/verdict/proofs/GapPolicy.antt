@@ -8,6 +8,7 @@ use Rattle.base.specs.Kinds.{is_structural}
 use Rattle.policy.specs.Closed.{ComesToHold, IsGivenByControl, MayBeGranted, server, caller}
 use Rattle.policy.specs.Domain.{EdgeTest, IsInDomain}
 use Rattle.policy.specs.Needed.{Rule, subjects_agree, control_gives_all, grant_shares, derive_in_domain, derive_by_grant, context_runs, reply_holds, Obeys}
+use Rattle.policy.specs.Needed.{lent_runs}
 
 -- to which labels the edges of a kind lead: those below
 abbrev width : Kind → ℕ
@@ -101,3 +102,5 @@ others derive_in_domain differ = λ x y h.
 others derive_by_grant differ = absurd (differ refl)
 others context_runs differ = λ a s e. let labels = labels_of a Context s e in of_labels a Runs s labels.0 labels.1 refl
 others reply_holds differ = holds
+others lent_runs differ = λ b s h.
+    of_labels b Runs s (labels_of b Receive h.endpoint h.receives).0 (labels_of h.lender Runs s h.runs).1 refl

@@ -7,11 +7,11 @@ use Rattle.std.proofs.lemmas.Bool.{false≢true, and_parts, and_from, eq-eqb, eq
 use Rattle.base.specs.declared.kind.Kind.{Kind}
 use Rattle.base.specs.declared.kind.Kind.TheVariants.{Control, Receive, Call, Read, Reply, Context, Space, Derive, Runs, Holds}
 use Rattle.base.specs.Kinds.{is_structural}
-use Rattle.policy.specs.Closed.{ContextRuns, ControlGivesAll, DeriveByGrant, DeriveInDomain, GrantShares, ReplyHolds}
+use Rattle.policy.specs.Closed.{ContextRuns, ControlGivesAll, DeriveByGrant, DeriveInDomain, GrantShares, LentRuns, ReplyHolds}
 use Rattle.policy.specs.Closed.{granted, derived, server, caller}
 use Rattle.policy.specs.Domain.{EdgeTest, IsInDomain, SubjectsAgree}
 use Rattle.policy.specs.Needed.{Rule, subjects_agree, control_gives_all, grant_shares, derive_in_domain, derive_by_grant, context_runs}
-use Rattle.policy.specs.Needed.{reply_holds, Obeys}
+use Rattle.policy.specs.Needed.{reply_holds, lent_runs, Obeys}
 use Rattle.verdict.proofs.TestPolicies.{IsWithin}
 
 -- between which labels there are edges of a kind
@@ -92,6 +92,10 @@ holds shares reply thread (server e) =
 holds shares reply thread (caller b endpoint e calls receives) =
     of_labels shares reply Holds thread refl (labels_of shares b Reply reply e).1 (labels_of shares thread Call endpoint calls).0
 
+lends : (shares : Bool) → LentRuns (has shares)
+lends shares b s h =
+    of_labels shares b Runs s refl (labels_of shares b Receive h.endpoint h.receives).0 (labels_of shares h.lender Runs s h.runs).1
+
 -- the policy that shares: who takes is 1, which may do what 0 may
 
 taken : (a : ℕ) (k : Kind) (to : ℕ) → is_structural k ≡ false → joins true k a to ≡ true → joins true k 1 to ≡ true
@@ -116,6 +120,7 @@ others_sharing derive_in_domain differ = derives true
 others_sharing derive_by_grant differ = absurd (differ refl)
 others_sharing context_runs differ = runs true
 others_sharing reply_holds differ = holds true
+others_sharing lent_runs differ = lends true
 
 -- it derives in two steps where it does in one
 pub transitive :
@@ -139,3 +144,4 @@ others_deriving derive_in_domain differ = derives false
 others_deriving derive_by_grant differ = comes
 others_deriving context_runs differ = runs false
 others_deriving reply_holds differ = holds false
+others_deriving lent_runs differ = lends false

@@ -59,6 +59,8 @@ same_broken (broken.ContextLacks _ _) (broken.ContextLacks _ _) same =
     λ i. broken.ContextLacks (ap (number 1) same i) (ap (number 3) same i)
 same_broken (broken.ReplyLacks _ _) (broken.ReplyLacks _ _) same =
     λ i. broken.ReplyLacks (ap (number 1) same i) (ap (number 3) same i)
+same_broken (broken.LentLacks _ _) (broken.LentLacks _ _) same =
+    λ i. broken.LentLacks (ap (number 1) same i) (ap (number 3) same i)
 same_broken _ _ same = absurd (let rule = ap (number 0) same in omega (arith, rule))
 
 pub same_place : (d e : Denial) → place_of d ≡ place_of e → d ≡ e

@@ -31,6 +31,7 @@ first_rules (broken.DomainLacks _ _) = lit< tt
 first_rules (broken.DeriveLacks _ _) = lit< tt
 first_rules (broken.ContextLacks _ _) = lit< tt
 first_rules (broken.ReplyLacks _ _) = lit< tt
+first_rules (broken.LentLacks _ _) = lit< tt
 
 last_rules : (place : Excess) → a1 ≤ get_or (excess_place place) 0 0
 last_rules (capability _ _ _) = lit≤ tt

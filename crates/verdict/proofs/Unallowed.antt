@@ -67,28 +67,31 @@ word_unallowed t allowed m next event id old new caller label was is differ call
       no_authority allowed caller label m next id not_full (word_grows m next id old new was is differ)
       (subst (λ l. MayModify allowed caller l m next id) what may)
 
--- a label whose edges are structural has full authority on its own objects alone
+-- a label whose edges are structural has full authority on its own objects, and on what it runs on, alone
 
-of_use : (k : Kind) → is_modifying k ≡ true → is_structural k ≡ false
-of_use authority.Space e = absurd (false≢true e)
-of_use authority.Derive e = absurd (false≢true e)
-of_use authority.Runs e = absurd (false≢true e)
-of_use authority.Holds e = absurd (false≢true e)
-of_use _ e = refl
+none_modify :
+    (allowed : EdgeTest) (a l : ℕ) → ((k : Kind) (to : ℕ) → is_structural k ≡ false → allowed a k to ≡ false)
+    → allowed a authority.Runs l ≡ false → (k : Kind) → is_modifying k ≡ true → allowed a k l ≡ false
+none_modify allowed a l lacks idle authority.Space e = absurd (false≢true e)
+none_modify allowed a l lacks idle authority.Derive e = absurd (false≢true e)
+none_modify allowed a l lacks idle authority.Runs e = idle
+none_modify allowed a l lacks idle authority.Holds e = absurd (false≢true e)
+none_modify allowed a l lacks idle k e = lacks k l refl
 
 pub structural_not_full :
     (allowed : EdgeTest) (a l : ℕ) → l ≢ a → ((k : Kind) (to : ℕ) → is_structural k ≡ false → allowed a k to ≡ false)
-    → ¬ IsFull allowed a l
-structural_not_full allowed a l other lacks (own same) = other same
-structural_not_full allowed a l other lacks (modifies k modifying e) = false≢true (sym (lacks k l (of_use k modifying)) ∙ e)
-structural_not_full allowed a l other lacks (sends endpoint e _) = false≢true (sym (lacks authority.Send endpoint refl) ∙ e)
-structural_not_full allowed a l other lacks (receives endpoint e _) = false≢true (sym (lacks authority.Receive endpoint refl) ∙ e)
-structural_not_full allowed a l other lacks (notifies end e _) = false≢true (sym (lacks authority.Notify end refl) ∙ e)
-structural_not_full allowed a l other lacks (links endpoint receiver e _ _) =
+    → allowed a authority.Runs l ≡ false → ¬ IsFull allowed a l
+structural_not_full allowed a l other lacks idle (own same) = other same
+structural_not_full allowed a l other lacks idle (modifies k modifying e) =
+    false≢true (sym (none_modify allowed a l lacks idle k modifying) ∙ e)
+structural_not_full allowed a l other lacks idle (sends endpoint e _) = false≢true (sym (lacks authority.Send endpoint refl) ∙ e)
+structural_not_full allowed a l other lacks idle (receives endpoint e _) = false≢true (sym (lacks authority.Receive endpoint refl) ∙ e)
+structural_not_full allowed a l other lacks idle (notifies end e _) = false≢true (sym (lacks authority.Notify end refl) ∙ e)
+structural_not_full allowed a l other lacks idle (links endpoint receiver e _ _) =
     false≢true (sym (lacks authority.Send endpoint refl) ∙ e)
-structural_not_full allowed a l other lacks (grants endpoint receiver e _ _) =
+structural_not_full allowed a l other lacks idle (grants endpoint receiver e _ _) =
     false≢true (sym (lacks authority.Grant endpoint refl) ∙ e)
-structural_not_full allowed a l other lacks (replies reply e _) = false≢true (sym (lacks authority.Reply reply refl) ∙ e)
+structural_not_full allowed a l other lacks idle (replies reply e _) = false≢true (sym (lacks authority.Reply reply refl) ∙ e)
 
 -- the boot state of the small system, and what a signal does there
 
@@ -154,15 +157,15 @@ module _ (m : Machine) (boot : IsBoot signalling m) where
   unfolding signalling initial_of declared_label
   notification_label = boot_label signalling m boot (id 2)
 
-  -- a policy that allows it has an edge from label 0 that isn't structural
+  -- a policy that allows it has an edge from label 0 that isn't structural, or lets it run on what is labelled 2
   pub signal_unallowed :
       (allowed : EdgeTest) → ((k : Kind) (to : ℕ) → is_structural k ≡ false → allowed 0 k to ≡ false)
-      → ¬ IsAllowedStep signalling allowed m signal after_signal
+      → allowed 0 authority.Runs 2 ≡ false → ¬ IsAllowedStep signalling allowed m signal after_signal
   unfolding signal
-  signal_unallowed allowed lacks =
+  signal_unallowed allowed lacks idle =
       let old : Notification = record { address = 0x3000; pending = None } in
       let new : Notification = record { address = 0x3000; pending = Some 1 } in
-      let not_full = structural_not_full allowed 0 2 (λ same. absurd (omega arith)) lacks in
+      let not_full = structural_not_full allowed 0 2 (λ same. absurd (omega arith)) lacks idle in
       word_unallowed signalling allowed m after_signal signal (id 2) old new 0 2 silent pending
       (λ same. cc) caller_label notification_label
       not_full
@@ -191,5 +194,5 @@ unallowed_signal =
       calls = caller_label m boot;
       labelled = notification_label m boot;
       missing = refl;
-      not_allowed = signal_unallowed m boot no_edges (λ k to of_use. refl);
+      not_allowed = signal_unallowed m boot no_edges (λ k to of_use. refl) refl;
     }

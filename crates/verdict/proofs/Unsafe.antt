@@ -8,7 +8,7 @@ use Rattle.std.proofs.lemmas.Bool.Decides.{nat_tests}
 use Rattle.std.proofs.lemmas.List.Elements.{All-from_recursion}
 use Rattle.base.specs.declared.edge.Edge.{Edge}
 use Rattle.base.specs.declared.kind.Kind.{Kind}
-use Rattle.base.specs.declared.kind.Kind.TheVariants.{Control, Reset, Grant, Notify, Reply, Context, Space, Derive, Runs, Holds}
+use Rattle.base.specs.declared.kind.Kind.TheVariants.{Control, Reset, Grant, Call, Notify, Reply, Context, Space, Derive, Runs, Holds}
 use Rattle.base.specs.Kinds.{is_structural}
 use Rattle.machine.specs.Boot.{IsBoot}
 use Rattle.machine.specs.Capabilities.{gives}
@@ -17,6 +17,7 @@ use Rattle.machine.specs.Machine.{Machine}
 use Rattle.policy.specs.Closed.{DeriveByGrant, ReplyHolds, granted, derived, server, caller}
 use Rattle.policy.specs.Domain.{IsInDomain}
 use Rattle.policy.specs.Needed.{Rule, subjects_agree, control_gives_all, grant_shares, derive_in_domain, derive_by_grant, context_runs, reply_holds, Obeys}
+use Rattle.policy.specs.Needed.{lent_runs}
 use Rattle.policy.specs.Policy.{allows, is_edge, IsPolicy}
 use Rattle.table.specs.Rules.{kind_at}
 use Rattle.verdict.specs.Confined.{IsConfined}
@@ -53,6 +54,10 @@ no_context : (a b : ℕ) → allows edges a Context b ≡ true → ⊥
 unfolding allows
 no_context a b e = grind (arith, nat_tests)
 
+no_call : (a b : ℕ) → allows edges a Call b ≡ true → ⊥
+unfolding allows
+no_call a b e = grind (arith, nat_tests)
+
 space_edge : (a b : ℕ) → allows edges a Space b ≡ true → (a ≡ 0) × (b ≡ 1)
 unfolding allows
 space_edge a b e = grind (arith, nat_tests)
@@ -87,6 +92,7 @@ others derive_in_domain differ = λ x y h. derives x y (in_domain h.subject x h.
 others derive_by_grant differ = comes
 others context_runs differ = λ a s e. absurd (no_context a s e)
 others reply_holds differ = holds
+others lent_runs differ = λ b s h. absurd (no_call h.lender h.endpoint h.calls)
 
 -- it is a policy
 
@@ -122,12 +128,16 @@ structural Runs to e = absurd (false≢true (sym e))
 structural Holds to e = absurd (false≢true (sym e))
 structural _ to e = refl
 
+runs_on_its_own : allows edges 0 Runs 2 ≡ false
+unfolding allows
+runs_on_its_own = refl
+
 not_safe : ¬ IsSafe signalling (allows edges)
 not_safe safe =
     let m = boot_state signalling in
     let boot = boot_state_is signalling in
     let reached : IsReached signalling m = record { boot = m; booted = boot; events = []; outcomes = []; run = refl } in
-    signal_unallowed m boot (allows edges) structural (safe.integrity m (after_signal m boot) signal _ reached (signals m boot))
+    signal_unallowed m boot (allows edges) structural runs_on_its_own (safe.integrity m (after_signal m boot) signal _ reached (signals m boot))
 
 -- its boot state is confined
 

@@ -13,28 +13,28 @@ use Rattle.machine.specs.Capabilities.{gives}
 use Rattle.policy.specs.Domain.{EdgeTest}
 use Rattle.verdict.specs.Sources.{Sources}
 
--- the numbers of the rules: P1 to P7, which are the policy's own, are 1 to 7; A1 to A6 follow, and then C1
+-- the numbers of the rules: P1 to P8, which are the policy's own, are 1 to 8; A1 to A6 follow, and then C1
 
 abbrev pub a1 : ℕ
-a1 = 8
+a1 = 9
 
 abbrev pub a2 : ℕ
-a2 = 9
+a2 = 10
 
 abbrev pub a3 : ℕ
-a3 = 10
+a3 = 11
 
 abbrev pub a4 : ℕ
-a4 = 11
+a4 = 12
 
 abbrev pub a5 : ℕ
-a5 = 12
+a5 = 13
 
 abbrev pub a6 : ℕ
-a6 = 13
+a6 = 14
 
 abbrev pub c1 : ℕ
-c1 = 14
+c1 = 15
 
 -- A1: the capability in a slot of a CNode gives a kind of authority over its object that the policy doesn't have
 pub record CapabilityExceeds (s : Sources) (allowed : EdgeTest) (slot : SlotRef) (kind : Kind) (label : ℕ) : Type 0 where

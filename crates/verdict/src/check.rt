@@ -14,7 +14,7 @@ use std::alloc::Global;
 use std::thread::Threads;
 use table::Table;
 
-/// The verdict on a capability table and a policy, by the rules P1 to P7 and A1 to A4: accepted, or
+/// The verdict on a capability table and a policy, by the rules P1 to P8 and A1 to A4: accepted, or
 /// denied with the first of these rules that is broken and the first place where it is. The slots of
 /// the table are shared out among 1 to 16 workers, each of which arrives at the gate first; the verdict
 /// is the same for every number of them.

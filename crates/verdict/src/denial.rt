@@ -8,7 +8,7 @@ use policy::Broken;
 /// Denials are ordered by rule, and then by what they name, from left to right.
 #[derive(Clone, Copy, PartialEq, Eq, Debug)]
 pub enum Denial {
-    /// P1 to P7: the policy isn't closed.
+    /// P1 to P8: the policy isn't closed.
     Policy(Broken),
     /// A1: the capability in a CNode's slot gives a kind of authority over an object of this label
     /// that the policy doesn't have.

@@ -74,12 +74,12 @@ fn rule_of(denial: &Option<Denial>) -> u64
     ensures { result ≡ outside_rule denial.now }
 {
     match denial {
-        Some(Denial::Capability { .. }) => 8,
-        Some(Denial::Root { .. }) => 9,
-        Some(Denial::Pair { .. }) => 10,
-        Some(Denial::Binding { .. }) => 11,
-        Some(Denial::Holding { .. }) => 12,
-        Some(Denial::Recorded { .. }) => 13,
-        Some(_) | None => 14,
+        Some(Denial::Capability { .. }) => 9,
+        Some(Denial::Root { .. }) => 10,
+        Some(Denial::Pair { .. }) => 11,
+        Some(Denial::Binding { .. }) => 12,
+        Some(Denial::Holding { .. }) => 13,
+        Some(Denial::Recorded { .. }) => 14,
+        Some(_) | None => 15,
     }
 }

@@ -112,10 +112,10 @@ fn rule_of(denial: &Option<Denial>) -> u64
     ensures { result ≡ rule_of denial.now }
 {
     match denial {
-        Some(Denial::Capability { .. }) => 8,
-        Some(Denial::Root { .. }) => 9,
-        Some(Denial::Pair { .. }) => 10,
-        Some(_) => 11,
-        None => 12,
+        Some(Denial::Capability { .. }) => 9,
+        Some(Denial::Root { .. }) => 10,
+        Some(Denial::Pair { .. }) => 11,
+        Some(_) => 12,
+        None => 13,
     }
 }

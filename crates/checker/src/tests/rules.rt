@@ -13,6 +13,7 @@ impl Edges<'_> {
             .or(self.first_pair(PairRule::P5))
             .or(self.first_pair(PairRule::P6))
             .or(self.first_pair(PairRule::P7))
+            .or(self.first_pair(PairRule::P8))
     }
 
     /// Whether a label is in another's domain.
@@ -128,7 +129,7 @@ impl Edges<'_> {
         None
     }
 
-    /// The first pair of labels that breaks one of P4 to P7.
+    /// The first pair of labels that breaks one of P4 to P8.
     fn first_pair(&self, rule: PairRule) -> Option<Broken> {
         for from in self.labels {
             for to in self.labels {
@@ -143,13 +144,14 @@ impl Edges<'_> {
         None
     }
 
-    /// Whether one of P4 to P7 asks for the edge between two labels.
+    /// Whether one of P4 to P8 asks for the edge between two labels.
     fn needs(&self, rule: PairRule, from: Label, to: Label) -> bool {
         match rule {
             PairRule::P4 => self.are_in_one_domain(from, to),
             PairRule::P5 => self.is_granted(from, to) || self.is_derived(from, to),
             PairRule::P6 => self.has(from, Kind::Context, to),
             PairRule::P7 => self.may_hold(from, to),
+            PairRule::P8 => self.may_be_lent(from, to),
         }
     }
 
@@ -198,6 +200,16 @@ impl Edges<'_> {
         false
     }
 
+    /// Whether a label may receive what a label calls that runs on the context.
+    fn may_be_lent(&self, borrower: Label, context: Label) -> bool {
+        for lender in self.labels {
+            if self.has(*lender, Kind::Runs, context) && self.may_be_called(borrower, *lender) {
+                return true;
+            }
+        }
+        false
+    }
+
     fn may_be_called(&self, server: Label, caller: Label) -> bool {
         for endpoint in self.labels {
             if self.has(caller, Kind::Call, *endpoint)
@@ -226,13 +238,15 @@ enum PairRule {
     P6,
     /// A reply may hold who receives with it, and who calls them.
     P7,
+    /// Who may receive a call may run on what the caller runs on.
+    P8,
 }
 
 impl PairRule {
     fn kind(self) -> Kind {
         match self {
             PairRule::P4 | PairRule::P5 => Kind::Derive,
-            PairRule::P6 => Kind::Runs,
+            PairRule::P6 | PairRule::P8 => Kind::Runs,
             PairRule::P7 => Kind::Holds,
         }
     }
@@ -254,6 +268,10 @@ impl PairRule {
             PairRule::P7 => Broken::ReplyLacks {
                 reply: from,
                 thread: to,
+            },
+            PairRule::P8 => Broken::LentLacks {
+                borrower: from,
+                context: to,
             },
         }
     }

@@ -2,7 +2,7 @@ ghost use Rattle.std.specs.Prelude.{◌≡◌, ◌≢◌, ◌↔◌, ◌∷◌, 
 ghost use Rattle.base.specs.Kinds.{is_structural};
 ghost use Rattle.base.specs.Labels.{is_in};
 ghost use Rattle.policy.specs.Closed.{IsGivenByControl};
-ghost use Rattle.policy.specs.Broken.{SubjectsDisagree, ControlLacks, GrantLacks, DomainLacks, DeriveLacks, ReplyLacks, p1, p2, p3, p4, p5, p6, p7};
+ghost use Rattle.policy.specs.Broken.{SubjectsDisagree, ControlLacks, GrantLacks, DomainLacks, DeriveLacks, ReplyLacks, LentLacks, p1, p2, p3, p4, p5, p6, p7, p8};
 ghost use Rattle.policy.specs.Policy.{allows};
 ghost use Rattle.policy.specs.Search.{FindsBroken};
 
@@ -165,4 +165,23 @@ pub(crate) fn not_held(policy: &Policy, reply: Label) -> Labels
     servers
         .union(callers)
         .difference(policy.row(reply, Kind::Holds))
+}
+
+/// P8 at a borrower.
+pub(crate) fn lent_lacks(policy: &Policy, borrower: Label) -> Option<Broken>
+    ensures { FindsBroken (allows policy.now) (p8 ∷ borrower ∷ []) result }
+{
+    let context = not_lent(policy, borrower).first()?;
+    Some(Broken::LentLacks { borrower, context })
+}
+
+/// The labels at which P8 is broken with this borrower.
+pub(crate) fn not_lent(policy: &Policy, borrower: Label) -> Labels
+    ensures { (context : ℕ) → (is_in result context ≡ true) ↔ LentLacks (allows policy.now) borrower context }
+{
+    let endpoints = policy.row(borrower, Kind::Receive);
+    let lenders = policy.sources(endpoints, &[Kind::Call]);
+    policy
+        .targets(lenders, &[Kind::Runs])
+        .difference(policy.row(borrower, Kind::Runs))
 }

@@ -30,8 +30,8 @@ fn slot(holder: ObjId, index: u64) -> SlotRef {
     SlotRef { holder, index }
 }
 
-/// The denials by P1 to P7.
-fn by_policy(app: Label, bell: Label) -> [Row; 8] {
+/// The denials by P1 to P8.
+fn by_policy(app: Label, bell: Label) -> [Row; 9] {
     [
         Row {
             denial: Denial::Policy(Broken::SubjectsDisagree {
@@ -93,6 +93,13 @@ fn by_policy(app: Label, bell: Label) -> [Row; 8] {
                 thread: app,
             }),
             sentence: "denied by P7: a reply object labelled `bell` may come to hold a thread of `app`, which receives with it or calls who does, and the policy has no such edge: add `edge bell holds app`, or take the edge of kind `reply`, `call` or `receive` away by which it does",
+        },
+        Row {
+            denial: Denial::Policy(Broken::LentLacks {
+                borrower: app,
+                context: bell,
+            }),
+            sentence: "denied by P8: `app` may be lent a context labelled `bell`, by who runs on it and calls where `app` receives, and the policy has no such edge: add `edge app runs bell`, or take the edge of kind `call`, `receive` or `runs` away by which it may",
         },
     ]
 }

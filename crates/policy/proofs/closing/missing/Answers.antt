@@ -8,7 +8,8 @@ returns-in-Derive c =
 
 pub returns-in-Runs : goal.returns-in-Runs
 returns-in-Runs c =
-    rw c.in-Runs.is (runs_missing (allows c.args.policy.now) c.args.from _ _ _ c.row.ensures c.row-in-Runs.ensures c.difference.ensures)
+    rw c.in-Runs.is (runs_missing (allows c.args.policy.now) c.args.from _ _ _ _ _ c.row.ensures c.row-in-Runs.ensures c.difference.ensures
+    c.not_lent.ensures c.union-in-Runs.ensures)
 
 pub returns-in-Holds : goal.returns-in-Holds
 returns-in-Holds c = rw c.in-Holds.is (replies_missing (allows c.args.policy.now) c.args.from _ c.not_held.ensures)

@@ -1,6 +1,6 @@
 -- Rule by rule.
 use Rattle.policy.proofs.Needs.{full_closed, needed, obeys_each}
-use Rattle.policy.proofs.laws.closed_policies_obey_seven_rules.Goals as goal
+use Rattle.policy.proofs.laws.closed_policies_obey_each_rule.Goals as goal
 
 pub returns-clause-full : goal.returns-clause-full
 returns-clause-full c = full_closed
