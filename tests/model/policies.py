@@ -1,4 +1,4 @@
-"""Policies: the rules P1 to P7, the least closed policy, full and cut authority, what may be taken, and reasons, as docs/POLICY.md and
+"""Policies: the rules P1 to P8, the least closed policy, full and cut authority, what may be taken, and reasons, as docs/POLICY.md and
 docs/WRITING_POLICIES.md have them. A policy is a set of edges (label, kind, label), all by number; `count` is how many labels there are."""
 from texts import KINDS
 
@@ -53,6 +53,10 @@ def asked(policy, count):
         if k == REPLY:
             for c in {b} | callers[b]:
                 yield "P7", (r, HOLDS, c), (r, HOLDS, c)
+    for b in labels:
+        for c, k, s in policy:
+            if k == RUNS and c in callers[b]:
+                yield "P8", (b, RUNS, s), (b, RUNS, s)
 
 
 def edges_from(policy, a):
@@ -76,7 +80,7 @@ def close(policy, count):
 
 
 def rule_names(rule, place, table):
-    """A place of P1 to P7 in names: the entry of the kind is the third of four, and the second of three."""
+    """A place of P1 to P8 in names: the entry of the kind is the third of four, and the second of three."""
     kind = 2 if len(place) == 4 else 1
     return [KINDS[entry] if at == kind else table.labels[entry] for at, entry in enumerate(place)]
 
@@ -90,7 +94,7 @@ def full_reasons(policy, a):
     yield a, []
     for edge in edges_from(policy, a):
         _, k, e = edge
-        if k in (CONTROL, SEND, RECEIVE, NOTIFY, AWAIT, WRITE, REPLY, CONTEXT):
+        if k in (CONTROL, SEND, RECEIVE, NOTIFY, AWAIT, WRITE, REPLY, CONTEXT, RUNS):
             yield e, [edge]
         for one, other in [(NOTIFY, AWAIT), (SEND, RECEIVE), (RECEIVE, SEND)]:
             if k == one:
