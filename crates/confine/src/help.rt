@@ -124,7 +124,7 @@ are those of a script, each with ` = ` and an outcome:
   blocked
   refused CODE DETAIL";
 
-pub const VERSION: &str = "0.12.0";
+pub const VERSION: &str = "0.13.0";
 
 pub const EXPLAIN: &str =
     "Tells in sentences, on standard error, what is denied or faulty, and a way out";
