@@ -1,2 +1,5 @@
 mod Order
 mod ClaimsLaws
+mod HoldingLaws
+mod PairByPair
+pub mod OneList

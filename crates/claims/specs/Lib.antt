@@ -1,3 +1,4 @@
 pub mod Claims
 pub mod ClaimsText
 pub mod Reading
+pub mod Holding

@@ -1,0 +1,10 @@
+use Rattle.std.proofs.Common.{ℕ, ◌<◌, get_or, IfSome}
+use Rattle.policy.specs.Policy.{allows}
+use Rattle.claims.specs.Holding.{AreExtents, Holds}
+use Rattle.claims.specs.declared.claim.Claim.{Claim}
+use Rattle.claims.proofs.holding.first_broken_by.Given as goal
+
+-- the claims so far hold, and what was found last is of the policy
+abbrev pub invariant-loop-index : goal.invariant-loop-index
+invariant-loop-index l =
+    ((k : ℕ) (d : Claim) → k < l.index → Holds (allows l.policy) (get_or l.claims k d)) × IfSome l.last (AreExtents (allows l.policy))

@@ -1,0 +1,94 @@
+-- When claims hold: how far the authority of a label on another goes at most, what is then kept in every run from a table's boot state,
+-- the first claim that doesn't hold, and the strongest claims that do (the authority and what is kept are those of 'seL4 Enforces
+-- Integrity', section 4, restated; claims are confine's own).
+use Rattle.std.specs.Prelude.{◌≡◌, ◌≢◌, ◌↔◌, ◌⊎◌, ℕ, ◌+◌, ◌<◌, Bool, true, false, List, length, All, Any, Option, Some, None, slice_get}
+use Rattle.base.specs.Labels.{is_in}
+use Rattle.claims.specs.Claims.{AreClaimsOf}
+use Rattle.claims.specs.declared.claim.Claim.{Claim}
+use Rattle.claims.specs.declared.claim.Most.{Most}
+use Rattle.claims.specs.declared.claim.Most.TheVariants as most
+use Rattle.claims.specs.declared.extents.Extents.{Extents}
+use Rattle.claims.specs.declared.holding.BrokenClaim.{BrokenClaim}
+use Rattle.machine.specs.Layout.{Layout}
+use Rattle.policy.specs.Domain.{EdgeTest}
+use Rattle.policy.specs.Full.{IsFull}
+use Rattle.policy.specs.Take.{MayTake}
+use Rattle.verdict.specs.Apart.{GoesTo, NeverChanges, OnlyTakes}
+use Rattle.verdict.specs.declared.extent.Extent.{Extent}
+use Rattle.verdict.specs.declared.extent.Extent.TheVariants as extent
+
+-- a label has no more authority on another than this
+abbrev pub HasAtMost : EdgeTest → ℕ → ℕ → Most → Type 0
+HasAtMost test a l most.Nothing = (¬ IsFull test a l) × (¬ MayTake test a l)
+HasAtMost test a l most.Take = ¬ IsFull test a l
+
+-- a claim holds by a policy
+abbrev pub Holds : EdgeTest → Claim → Type 0
+Holds test claim = HasAtMost test claim.actor claim.object claim.most
+
+-- in every run from the table's boot state, no step of a thread of the one label changes an object of the other; or none does other than
+-- by shrinking it
+abbrev pub KeepsAtMost : Layout → ℕ → ℕ → Most → Type 0
+KeepsAtMost t a l most.Nothing = NeverChanges t a l
+KeepsAtMost t a l most.Take = OnlyTakes t a l
+
+-- what is claimed is kept in every run
+abbrev pub IsKept : Layout → Claim → Type 0
+IsKept t claim = KeepsAtMost t claim.actor claim.object claim.most
+
+-- the first claim that doesn't hold, from 1: those before it do; and how far the authority goes there
+pub record IsFirstBroken (test : EdgeTest) (claims : List Claim) (broken : BrokenClaim) : Type 0 where
+  pub before : ℕ
+  pub counted : broken.number ≡ before + 1
+  pub there : slice_get claims before ≡ Some broken.claim
+  pub held : (k : ℕ) (claim : Claim) → k < before → slice_get claims k ≡ Some claim → Holds test claim
+  pub breaks : ¬ Holds test broken.claim
+  pub goes_to : GoesTo test broken.claim.actor broken.claim.object broken.extent
+
+-- how far the authority goes of which no more than this is claimed
+abbrev pub extent_of : Most → Extent
+extent_of most.Nothing = extent.Nothing
+extent_of most.Take = extent.Take
+
+-- what is claimed of an authority that goes so far, if anything
+abbrev pub most_of : Extent → Option Most
+most_of extent.Full = None
+most_of extent.Take = Some most.Take
+most_of extent.Nothing = Some most.Nothing
+
+-- an authority that goes so far is no more than this
+abbrev pub is_within : Most → Extent → Bool
+is_within most.Nothing extent.Nothing = true
+is_within most.Take extent.Nothing = true
+is_within most.Take extent.Take = true
+is_within m other = false
+
+-- a claim says how far the authority goes, and not only that it goes no further
+abbrev pub IsExact : EdgeTest → Claim → Type 0
+IsExact test claim = GoesTo test claim.actor claim.object (extent_of claim.most)
+
+-- a claim on this pair is among these
+abbrev pub IsClaimed : ℕ → ℕ → List Claim → Type 0
+IsClaimed a l claims = Any (λ claim. (claim.actor ≡ a) × (claim.object ≡ l)) claims
+
+-- the strongest claims that hold: exact ones, on all pairs of two labels of the table but those where the authority is full
+pub record AreStrongest (t : Layout) (test : EdgeTest) (claims : List Claim) : Type 0 where
+  pub are : AreClaimsOf t claims
+  pub exact : All (IsExact test) claims
+  pub complete : (a l : ℕ) → a < length t.labels → l < length t.labels → a ≢ l → ¬ IsFull test a l → IsClaimed a l claims
+
+-- a pair comes before another: by label, then label
+abbrev pub ComesBefore : ℕ → ℕ → ℕ → ℕ → Type 0
+ComesBefore x y a l = (x < a) ⊎ ((x ≡ a) × (y < l))
+
+-- the strongest claims on the pairs that come before this one
+pub record AreStrongestBefore (t : Layout) (test : EdgeTest) (a l : ℕ) (claims : List Claim) : Type 0 where
+  pub are : AreClaimsOf t claims
+  pub exact : All (IsExact test) claims
+  pub before : All (λ claim. ComesBefore claim.actor claim.object a l) claims
+  pub complete : (x y : ℕ) → ComesBefore x y a l → y < length t.labels → x ≢ y → ¬ IsFull test x y → IsClaimed x y claims
+
+-- these are the labels on which a label has full authority, and those from which it may take
+pub record AreExtents (test : EdgeTest) (extents : Extents) : Type 0 where
+  pub full : (l : ℕ) → (is_in extents.full l ≡ true) ↔ IsFull test extents.actor l
+  pub take : (l : ℕ) → (is_in extents.take l ≡ true) ↔ MayTake test extents.actor l

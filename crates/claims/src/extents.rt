@@ -1,0 +1,56 @@
+ghost use Rattle.std.specs.Prelude.{◌≡◌, IfSome};
+ghost use Rattle.claims.specs.Holding.{AreExtents};
+ghost use Rattle.policy.specs.Domain.{EdgeTest};
+ghost use Rattle.policy.specs.Policy.{allows};
+ghost use Rattle.verdict.specs.Apart.{GoesTo};
+
+use base::{Label, Labels};
+use policy::Policy;
+use verdict::Extent;
+
+/// How far the authority of a label goes on each label.
+#[derive(Drop)]
+pub(crate) struct Extents {
+    pub actor: Label,
+    full: Labels,
+    take: Labels,
+}
+
+impl Extents {
+    /// How far it goes by a policy.
+    pub fn of(policy: &Policy, actor: Label) -> Extents
+        ensures actor { result.actor ≡ actor }
+        ensures extents { AreExtents (allows policy.now) result }
+    {
+        Extents {
+            actor,
+            full: policy.full_labels(actor),
+            take: policy.take_labels(actor),
+        }
+    }
+
+    /// How far it goes by a policy; those that were found last, if they are the label's.
+    pub fn again(last: Option<Extents>, policy: &Policy, actor: Label) -> Extents
+        requires { IfSome last (AreExtents (allows policy.now)) }
+        ensures actor { result.actor ≡ actor }
+        ensures extents { AreExtents (allows policy.now) result }
+    {
+        match last {
+            Some(extents) if extents.actor == actor => extents,
+            _ => Extents::of(policy, actor),
+        }
+    }
+
+    /// How far it goes on this label.
+    pub fn on(&self, object: Label) -> Extent
+        ensures { (test : EdgeTest) → AreExtents test self.now → GoesTo test self.now.actor object result }
+    {
+        if self.full.has(object) {
+            return Extent::Full;
+        }
+        if self.take.has(object) {
+            return Extent::Take;
+        }
+        Extent::Nothing
+    }
+}
