@@ -1,6 +1,6 @@
 """The examples of the documents, and what they show. What counts as an example:
 
-- a code block that begins with `confine-table 1`, `confine-policy 1` or `confine-script 1` is that file
+- a code block that begins with `confine-table 1`, `confine-policy 1`, `confine-script 1` or `confine-claims 1` is that file
   from here on; `<!-- system: NAME -->` takes the files of examples/NAME, and `<!-- labels: NAME .. -->` a
   table of these labels alone, without an edge and without an event;
 - one that begins with `confine-log 1` is the log of its events on these files, and legal; after `<!-- log: not run -->`, it is the log
@@ -10,7 +10,8 @@
 - one that begins with `full`, `take` or `none` is what `why` prints of the labels that `<!-- why: A B -->` tells, and one that
   begins with `edge` what `close --missing` does, with that change; where the change ends with `closed`, it is asked by the policy that
   `close` then prints;
-- one that begins with `confine-policy 1` after `<!-- close: of the table -->` is what `close` prints of the table alone;
+- one that begins with `confine-policy 1` after `<!-- close: of the table -->` is what `close` prints of the table alone, and one that
+  begins with `confine-claims 1` after `<!-- claims: all -->` what `claims --all` prints of the files;
 - a row of a table whose last cell is a report, or 'accepted', is the answer to these files with the
   changes that the cells before it tell, as `X` becomes `Y`;
 - one with numbered lines is the beginning of a file of the system;
@@ -20,8 +21,8 @@ A report or a sentence that is too long for a line of the document goes on in th
 broken where it has a space.
 
 A report with `full` is that of `check`; one that says no more than `accept`, the rule C1 and a fault of the
-certificate are those of `verify`; one with entries or an entry, and a fault of the log, are those of `replay`; all others
-are those of `run`, and of `check` too.
+certificate are those of `verify`; one with entries or an entry, and a fault of the log, are those of `replay`; one with claims or a
+claim, and a fault of the claims, are those of `claims`; all others are those of `run`, and of `check` too.
 
 A row of a table whose last cell is empty goes on in the next row.
 """
@@ -30,7 +31,8 @@ import re
 
 TOP = pathlib.Path(__file__).resolve().parent.parent
 FILES = ["table", "policy", "script", "certificate", "log"]
-NOT_WELL = '"verdict":"(deny|illegal)"|"state":"outside"'
+KINDS = [*FILES, "claims"]  # of which an example may lack the last
+NOT_WELL = '"verdict":"(deny|illegal|broken)"|"state":"outside"'
 MARKS = str.maketrans({"␣": " ", "␍": "\r"})
 
 
@@ -122,7 +124,7 @@ def parts_of(text):
         if block:
             yield number - len(block), "block", "\n".join(block) + "\n"
             block = []
-        if comment := re.match(r"<!-- (system|labels|change|why|log|close): (.*) -->", line):
+        if comment := re.match(r"<!-- (system|labels|change|why|log|close|claims): (.*) -->", line):
             yield number, comment[1], comment[2]
         elif line.startswith("| "):
             yield number, "row", line
@@ -135,14 +137,15 @@ def in_one_line(text, between=""):
 
 def examples_of(path):
     """Where each example stands, its files, and the answer that it shows."""
-    files, change, asked, alone, closes = {}, "", [], False, False
+    files, change, asked, alone, closes, strongest = {}, "", [], False, False, False
     for number, form, text in parts_of(path.read_text()):
         where = f"{path.relative_to(TOP)}:{number}"
         kind = (re.match(r" *(?:1  )?confine-(\w+) 1\n", text) or ["", ""])[1]
         if form == "system":
-            files = {kind: (TOP / "examples" / text / kind).read_text() for kind in FILES}
+            folder = TOP / "examples" / text
+            files = {kind: (folder / kind).read_text() for kind in KINDS if kind in FILES or (folder / kind).exists()}
         elif form == "labels":
-            files = {kind: text_of(kind, []) for kind in FILES}
+            files = {kind: text_of(kind, []) for kind in KINDS}
             files["table"] = text_of("table", [f"label {label}" for label in text.split()])
         elif form == "change":
             change = f"{change} {text}"
@@ -152,6 +155,8 @@ def examples_of(path):
             alone = True
         elif form == "close":
             closes = True
+        elif form == "claims":
+            strongest = True
         elif form == "block" and re.match(r" *1  ", text):
             lines = re.sub(r"(?m)^ *\d+  (.*?)(   .*)?$", r"\1", text)
             if not files[{"cert": "certificate"}.get(kind, kind)].startswith(lines):
@@ -166,11 +171,11 @@ def examples_of(path):
                 yield where, files | {"script": text_of("script", [line.split(" = ")[0] for line in entries])}, text
                 yield where, files, f'{{"entries":{len(entries)},"state":"within","verdict":"legal"}}\n'
             alone = False
-        elif form == "block" and kind in FILES:
+        elif form == "block" and kind in KINDS:
             files = files | {kind: text}
-            if closes:
+            if closes or strongest:
                 yield where, files, text
-            closes = False
+            closes = strongest = False
         elif form == "block" and re.match('{"|full\n|take\n|none\n|edge ', text):
             text = in_one_line(text) if text.startswith("{") else text
             yield where, changed(files, change, text) | {"asked": asked}, text
@@ -201,6 +206,10 @@ def commands_of(answer, asked):
         return [["check", "table", "policy", "--explain"]]
     if answer.startswith("edge "):
         return [["close", "table", "policy", "--missing"]]
+    if answer.startswith("confine-claims 1"):
+        return [["claims", "table", "policy", "--all"]]
+    if re.match('{"(claims|authority)"', answer) or '"file":"claims"' in answer:
+        return [["claims", "table", "policy", "claims"]]
     if answer.startswith("confine-policy 1"):
         return [["close", "table"]]
     if answer.startswith("confine-cert 1"):
@@ -217,5 +226,5 @@ def commands_of(answer, asked):
 
 def write(files, folder):
     """Puts the files of an example into a folder; one that it doesn't have is an empty text."""
-    for kind in FILES:
+    for kind in KINDS:
         (folder / kind).write_bytes(files.get(kind, text_of(kind, [])).encode())

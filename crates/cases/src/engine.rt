@@ -1,6 +1,7 @@
 //! The commands of the program, over texts in memory.
 use report::{
-    OnAccept, OnClose, Open, Silence, Watched, check, close, list, replay, run, verify, why,
+    OnAccept, OnClose, Open, Silence, Watched, check, check_claims, close, list, replay, run,
+    verify, why, write_claims,
 };
 use std::alloc::Global;
 use std::thread::Threads;
@@ -20,6 +21,10 @@ pub enum Command<'a> {
     /// A closing that tells what is there without need.
     Surplus,
     List,
+    /// Whether the claims hold.
+    Claim,
+    /// The strongest claims that do.
+    Strongest,
     /// Why one label has authority on another.
     Why(&'a str, &'a str),
 }
@@ -41,6 +46,8 @@ impl<'a> Command<'a> {
             "missing" => Some(Command::Missing),
             "surplus" => Some(Command::Surplus),
             "list" => Some(Command::List),
+            "claim" => Some(Command::Claim),
+            "strongest" => Some(Command::Strongest),
             _ => None,
         }
     }
@@ -54,6 +61,7 @@ pub struct Given<'a> {
     pub script: &'a [u8],
     pub certificate: &'a [u8],
     pub log: &'a [u8],
+    pub claims: &'a [u8],
 }
 
 /// What a command writes, and its exit status.
@@ -75,6 +83,7 @@ pub fn answer_to<R: Threads + Sync>(
     let mut script = Watched::new(given.script);
     let mut certificate = Watched::new(given.certificate);
     let mut log = Watched::new(given.log);
+    let mut claims = Watched::new(given.claims);
     let mut out = Watched::new(Vec::new(alloc));
     let end = match command {
         Command::Run => run(
@@ -114,6 +123,23 @@ pub fn answer_to<R: Threads + Sync>(
             &mut out,
         ),
         Command::List => list(alloc, &mut table, &mut Silence, &mut out),
+        Command::Claim => check_claims(
+            rt,
+            alloc,
+            &mut table,
+            &mut policy,
+            &mut claims,
+            &mut Silence,
+            &mut out,
+        ),
+        Command::Strongest => write_claims(
+            rt,
+            alloc,
+            &mut table,
+            &mut policy,
+            &mut Silence,
+            &mut out,
+        ),
         Command::Why(actor, object) => {
             why(
                 alloc,

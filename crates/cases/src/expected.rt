@@ -10,8 +10,8 @@ use std::alloc::{AllocError, Global};
 const NO_PLACE: Wrong = Wrong("a rule has a place");
 
 /// The answer that these words say: `log`, `report`, `certificate`, `policy`, `each OUTCOME`, `accept`, ``writes
-/// `TEXT` ``, `full EDGES`, `take EDGES`, `none`, `lacks EDGES`, `within N`, `outside N RULE PLACE`, `illegal K`,
-/// `deny RULE PLACE`, or a fault, which is in this file and line where they don't say another.
+/// `TEXT` ``, `claims`, `hold N`, `broken AUTHORITY K`, `full EDGES`, `take EDGES`, `none`, `lacks EDGES`,
+/// `within N`, `outside N RULE PLACE`, `illegal K`, `deny RULE PLACE`, or a fault, which is in this file and line where they don't say another.
 pub fn expected(
     alloc: Global,
     words: &str,
@@ -24,6 +24,7 @@ pub fn expected(
         "report" => return told(alloc, &texts.report),
         "certificate" => return told(alloc, texts.text(File::Certificate)),
         "policy" => return told(alloc, texts.text(File::Policy)),
+        "claims" => return told(alloc, texts.text(File::Claims)),
         "accept" => return told(alloc, "{\"verdict\":\"accept\"}\n"),
         _ => (),
     }
@@ -31,6 +32,9 @@ pub fn expected(
         return Ok(answer);
     }
     if let Some(answer) = replayed(alloc, words)? {
+        return Ok(answer);
+    }
+    if let Some(answer) = claimed(alloc, words)? {
         return Ok(answer);
     }
     if let Some(text) = words.strip_prefix("writes ") {
@@ -82,6 +86,33 @@ fn replayed(alloc: Global, words: &str) -> Result<Option<Answer>, Wrong> {
     };
     let text = text.into_bytes();
     Ok(Some(Answer { status, text }))
+}
+
+/// What is told of claims: `hold N`, where N is their number, or `broken AUTHORITY K`.
+fn claimed(alloc: Global, words: &str) -> Result<Option<Answer>, Wrong> {
+    let (word, words) = words.split_once(' ').unwrap_or((words, ""));
+    let (text, status) = match word {
+        "hold" => (hold(alloc, words)?, 0),
+        "broken" => (broken(alloc, words)?, 1),
+        _ => return Ok(None),
+    };
+    let text = text.into_bytes();
+    Ok(Some(Answer { status, text }))
+}
+
+fn hold(alloc: Global, words: &str) -> Result<String, Wrong> {
+    let claims = number(words)?;
+    Ok(format!(in alloc; "{{\"claims\":{claims},\"verdict\":\"hold\"}}\n")?)
+}
+
+fn broken(alloc: Global, words: &str) -> Result<String, Wrong> {
+    let (authority, claim) = words
+        .split_once(' ')
+        .ok_or(Wrong("a broken claim has a number"))?;
+    let claim = number(claim)?;
+    Ok(format!(in alloc;
+        "{{\"authority\":\"{authority}\",\"claim\":{claim},\"verdict\":\"broken\"}}\n"
+    )?)
 }
 
 fn within(alloc: Global, words: &str) -> Result<String, Wrong> {

@@ -150,6 +150,7 @@ impl<'a> Session<'a> {
         }
         *self.texts.text_mut(File::Certificate) = self.told(rt, folder, name, "certificate")?;
         *self.texts.text_mut(File::Log) = self.told(rt, folder, name, "log")?;
+        *self.texts.text_mut(File::Claims) = self.told(rt, folder, name, "claims")?;
         self.texts.keep_log(self.alloc)?;
         self.texts.report = self.told(rt, folder, name, "report")?;
         self.asked = Command::Run;

@@ -12,6 +12,7 @@ pub enum File {
     Script,
     Certificate,
     Log,
+    Claims,
 }
 
 impl File {
@@ -23,6 +24,7 @@ impl File {
             "script" => Ok(File::Script),
             "certificate" => Ok(File::Certificate),
             "log" => Ok(File::Log),
+            "claims" => Ok(File::Claims),
             _ => Err(Wrong("there is no such line, or no such file")),
         }
     }
@@ -35,6 +37,7 @@ impl File {
             File::Script => "script",
             File::Certificate => "certificate",
             File::Log => "log",
+            File::Claims => "claims",
         }
     }
 }
@@ -47,6 +50,7 @@ pub struct Texts {
     script: String,
     certificate: String,
     log: String,
+    claims: String,
     pub report: String,
 }
 
@@ -59,6 +63,7 @@ impl Texts {
             script: String::new(alloc),
             certificate: String::new(alloc),
             log: String::new(alloc),
+            claims: String::new(alloc),
             report: String::new(alloc),
         }
     }
@@ -71,6 +76,7 @@ impl Texts {
             File::Script => &self.script,
             File::Certificate => &self.certificate,
             File::Log => &self.log,
+            File::Claims => &self.claims,
         }
     }
 
@@ -82,6 +88,7 @@ impl Texts {
             File::Script => &mut self.script,
             File::Certificate => &mut self.certificate,
             File::Log => &mut self.log,
+            File::Claims => &mut self.claims,
         }
     }
 
@@ -112,6 +119,7 @@ impl Texts {
             script: self.script.as_bytes(),
             certificate: self.certificate.as_bytes(),
             log: self.log.as_bytes(),
+            claims: self.claims.as_bytes(),
         }
     }
 }
@@ -124,6 +132,7 @@ pub fn with<'a>(mut given: Given<'a>, file: File, bytes: &'a [u8]) -> Given<'a> 
         File::Script => given.script = bytes,
         File::Certificate => given.certificate = bytes,
         File::Log => given.log = bytes,
+        File::Claims => given.claims = bytes,
     }
     given
 }

@@ -2,7 +2,8 @@ use crate::request::{Invocation, Request};
 use base::Refusal;
 use captext::{read_table, write_table};
 use explain::{
-    explain_closing, explain_closing_command, explain_denial, explain_outside, explain_unlabelled,
+    explain_broken, explain_closing, explain_closing_command, explain_denial, explain_outside,
+    explain_unlabelled,
 };
 use policy::Policy;
 use report::{Asked, End, Fault, File, Finding, Listener, OnClose};
@@ -81,6 +82,11 @@ impl<R: AllocGlobal + Eprint> Listener for Explainer<'_, R> {
                 self.tell(format!(in alloc;
                     "{name}:{line}: entry {entry} is no step of the system, which answers otherwise there: compare the log that `confine run` prints"
                 ));
+            }
+            (Some(Finding::Broken(broken)), _) => {
+                if let Ok(sentence) = explain_broken(alloc, table, policy, broken) {
+                    self.tell(Ok(sentence));
+                }
             }
             (None, Request::Check { .. }) => {
                 if let Ok(notes) = roots_told(alloc, table) {
@@ -176,5 +182,6 @@ fn text_of(file: File) -> Text {
         File::Certificate => Text::Certificate,
         File::Script => Text::Script,
         File::Log => Text::Log,
+        File::Claims => Text::Claims,
     }
 }

@@ -23,6 +23,9 @@ pub const ABOUT_CLOSE: &str =
 pub const ABOUT_WHY: &str =
     "Tells which authority a label has on another by a policy, and by which edges";
 
+pub const ABOUT_CLAIMS: &str =
+    "Tells whether claims hold: at most how much authority labels have on others";
+
 pub const ABOUT_LIST: &str =
     "Lists the objects of a table: by which number a script names each, its kind, name, label";
 
@@ -124,6 +127,13 @@ are those of a script, each with ` = ` and an outcome:
   blocked
   refused CODE DETAIL";
 
+pub const CLAIMS: &str = "\
+At most how much authority labels have on others. Its lines, between `confine-claims 1`
+and `end`, rise by the first label, and then by the second:
+
+  none LABEL LABEL   threads of the first never change an object of the second
+  take LABEL LABEL   .. other than by shrinking it";
+
 pub const VERSION: &str = "0.13.0";
 
 pub const EXPLAIN: &str =
@@ -143,6 +153,9 @@ pub const MISSING: &str =
 
 pub const SURPLUS: &str =
     "Writes the lines of POLICY alone that nothing asks for; status as with --missing";
+
+pub const ALL: &str =
+    "Writes the strongest claims that hold, on all pairs of labels, in place of CLAIMS";
 
 pub const ACTOR: &str = "The label that acts, by its name in the table";
 
@@ -425,6 +438,48 @@ confine close table policy --surplus
 Since nobody may read `ring` any more, it prints a line that may go, and ends with status 1:
 
 edge a await b
+"
+);
+
+pub const EXAMPLE_CLAIMS: &str = with_policy!(
+    "a thread `main` may signal a bell and poll it.
+Its owner claims that `b` never changes what is labelled `a`.",
+    "\
+cat >claims <<'.'
+confine-claims 1
+none b a
+end
+.
+confine claims table policy claims
+
+The table is accepted, and the one claim holds, with status 0:
+
+{\"claims\":1,\"verdict\":\"hold\"}
+
+So no call of a thread of `b` ever changes an object of `a`, whatever else is called before. What
+may be claimed at all, `--all` tells:
+
+confine claims table policy --all
+
+It prints the strongest claims that hold, with status 0:
+
+confine-claims 1
+none b a
+end
+
+Now it is claimed that `a` changes nothing of `b`:
+
+sed -i '/none/i take a b' claims
+confine claims table policy claims --explain
+
+It prints the first claim that doesn't hold and what authority there is, and ends with status 1:
+
+{\"authority\":\"full\",\"claim\":1,\"verdict\":\"broken\"}
+
+With `--explain` standard error says by which edges:
+
+claim 1, `take a b`, is broken: `a` has full authority on `b`, by `edge a notify b`: leave the claim
+out, or take an edge out of the policy, and what asks for it out of the table
 "
 );
 

@@ -7,7 +7,7 @@ ghost use Rattle.devices.specs.Watched.{failed_of};
 ghost use Rattle.report.specs.Ends.{status_of};
 ghost use Rattle.confine.specs.Opening.{IsStatusOf, Serves, ServesSplit, written};
 ghost use Rattle.confine.specs.Requests.{IsWithinLimits, OnInTurn};
-ghost use Rattle.confine.specs.declared.request.Request.TheVariants.{Check, Verify, Run, Replay, Close, Why, List};
+ghost use Rattle.confine.specs.declared.request.Request.TheVariants.{Check, Verify, Run, Replay, Close, Why, Claims, List};
 
 mod explaining;
 mod files;
@@ -18,8 +18,8 @@ use clap::error::ErrorKind;
 use explaining::{Explainer, tell_closing};
 use files::Files;
 use report::{
-    End, Listener, OnAccept, OnClose, Open, Watched, check, close, list, open_result, replay, run,
-    run_split, start, verify, why,
+    End, Listener, OnAccept, OnClose, Open, Watched, check, check_claims, close, list, open_result,
+    replay, run, run_split, start, verify, why, write_claims,
 };
 use request::{CommandLine, Invocation, Request, SplitRun, read_request};
 use std::alloc::Global;
@@ -178,6 +178,11 @@ where
             actor,
             object,
         } => serve_why(rt, table, policy, actor, object, opener, listener, out),
+        Request::Claims {
+            table,
+            policy,
+            claims,
+        } => serve_claims(rt, table, policy, claims, opener, listener, out),
         Request::List { table } => serve_list(rt, table, opener, listener, out),
     }
 }
@@ -431,6 +436,52 @@ where
         out,
     );
     (end, Files::Two(table, policy))
+}
+
+/// Tells whether the claims of this name hold of the table and the policy of these names, or writes the
+/// strongest that do.
+fn serve_claims<R, F, O, L, W>(
+    rt: &R,
+    table: &str,
+    policy: &str,
+    claims: Option<&str>,
+    opener: O,
+    listener: &mut L,
+    out: &mut Watched<W>,
+) -> (End, Files<F>)
+where
+    R: AllocGlobal + Threads + Sync,
+    F: Read + Drop,
+    O: Fn(&str) -> io::Result<F> + Drop,
+    L: Listener,
+    W: Write,
+    requires opener { O.IsAlwaysCallable opener }
+    requires out { failed_of out.old ≡ false }
+    ensures served { Serves (FnReturnsAt O.Fn opener) F.remaining (written W.contents out.old out.new)
+        (Claims table.entry policy.entry claims.entry) result.1 result.0 }
+    ensures exit { status_of result.0 ≤ 2 }
+{
+    let mut table = open_result(opener(table));
+    let mut policy = open_result(opener(policy));
+    match claims {
+        Some(claims) => {
+            let mut claims = open_result(opener(claims));
+            let end = check_claims(
+                rt,
+                rt.alloc(),
+                &mut table,
+                &mut policy,
+                &mut claims,
+                listener,
+                out,
+            );
+            (end, Files::Three(table, policy, claims))
+        }
+        None => {
+            let end = write_claims(rt, rt.alloc(), &mut table, &mut policy, listener, out);
+            (end, Files::Two(table, policy))
+        }
+    }
 }
 
 /// Lists the objects of the table of this name.

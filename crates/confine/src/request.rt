@@ -89,6 +89,12 @@ pub enum Request<'a> {
         actor: &'a str,
         object: &'a str,
     },
+    /// Tells whether claims hold of a table and a policy; where none are named, writes the strongest that do.
+    Claims {
+        table: &'a str,
+        policy: &'a str,
+        claims: Option<&'a str>,
+    },
     /// Lists the objects of a table.
     List {
         table: &'a str,
@@ -107,6 +113,7 @@ impl<'a> Request<'a> {
                 | Request::Replay { table, .. }
                 | Request::Close { table, .. }
                 | Request::Why { table, .. }
+                | Request::Claims { table, .. }
                 | Request::List { table },
             ) => table,
             (
@@ -119,11 +126,19 @@ impl<'a> Request<'a> {
                     policy: Some(policy),
                     ..
                 }
-                | Request::Why { policy, .. },
+                | Request::Why { policy, .. }
+                | Request::Claims { policy, .. },
             ) => policy,
             (File::Certificate, Request::Verify { certificate, .. }) => certificate,
             (File::Script, Request::Run { script, .. }) => script,
             (File::Log, Request::Replay { log, .. }) => log,
+            (
+                File::Claims,
+                Request::Claims {
+                    claims: Some(claims),
+                    ..
+                },
+            ) => claims,
             _ => "",
         }
     }
@@ -232,6 +247,11 @@ fn request_of<'a>(name: &str, found: &ArgMatches<'a>) -> Option<Request<'a>>
             actor: found.get_str("actor")?,
             object: found.get_str("object")?,
         }),
+        "claims" => Some(Request::Claims {
+            table,
+            policy: policy?,
+            claims: found.get_str("claims"),
+        }),
         "list" => Some(Request::List { table }),
         _ => None,
     }
@@ -258,6 +278,7 @@ fn command<'a>(alloc: Global) -> Result<Command<'a>, AllocError> {
         .subcommand(replay_command(alloc)?)?
         .subcommand(close_command(alloc)?)?
         .subcommand(why_command(alloc)?)?
+        .subcommand(claims_command(alloc)?)?
         .subcommand(list_command(alloc)?)
 }
 
@@ -324,6 +345,20 @@ fn why_command<'a>(alloc: Global) -> Result<Command<'a>, AllocError> {
     on_system(alloc, "why", help::ABOUT_WHY, help::EXAMPLE_WHY)?
         .arg(actor)?
         .arg(object)
+}
+
+fn claims_command<'a>(alloc: Global) -> Result<Command<'a>, AllocError> {
+    let claims = word(alloc, "claims", "CLAIMS", help::CLAIMS)
+        .required(false)
+        .required_unless_present("all")?;
+    let all = Arg::new(alloc, "all")
+        .long("all")
+        .help(help::ALL)
+        .conflicts_with("claims")?
+        .action(ArgAction::SetTrue);
+    on_system(alloc, "claims", help::ABOUT_CLAIMS, help::EXAMPLE_CLAIMS)?
+        .arg(claims)?
+        .arg(all)
 }
 
 fn list_command<'a>(alloc: Global) -> Result<Command<'a>, AllocError> {

@@ -9,16 +9,18 @@ pub enum Text {
     Certificate,
     Script,
     Log,
+    Claims,
 }
 
 impl Text {
     /// All of them.
-    pub const ALL: [Text; 5] = [
+    pub const ALL: [Text; 6] = [
         Text::Table,
         Text::Policy,
         Text::Certificate,
         Text::Script,
         Text::Log,
+        Text::Claims,
     ];
 
     /// Its first line.
@@ -29,6 +31,7 @@ impl Text {
             Text::Certificate => "confine-cert 1",
             Text::Script => "confine-script 1",
             Text::Log => "confine-log 1",
+            Text::Claims => "confine-claims 1",
         }
     }
 
@@ -40,6 +43,7 @@ impl Text {
             Text::Certificate => "certificate",
             Text::Script => "script",
             Text::Log => "log",
+            Text::Claims => "claim list",
         }
     }
 
@@ -112,11 +116,13 @@ pub enum Form {
     Configure,
     BindContext,
     Unbind,
+    ClaimNothing,
+    ClaimTake,
 }
 
 impl Form {
     /// All forms, those of a text in the order in which its lines may come.
-    pub const ALL: [Form; 41] = [
+    pub const ALL: [Form; 43] = [
         Form::Label,
         Form::Untyped,
         Form::CNode,
@@ -158,12 +164,15 @@ impl Form {
         Form::Configure,
         Form::BindContext,
         Form::Unbind,
+        Form::ClaimNothing,
+        Form::ClaimTake,
     ];
 
     /// The text that has such lines.
     pub fn text(self) -> Text {
         match self {
             Form::Edge => Text::Policy,
+            Form::ClaimNothing | Form::ClaimTake => Text::Claims,
             Form::CertifiedCap
             | Form::CertifiedSpace
             | Form::CertifiedDerive
@@ -237,6 +246,8 @@ impl Form {
             Form::Resume => "resume",
             Form::Configure => "configure",
             Form::Unbind => "unbind",
+            Form::ClaimNothing => "none",
+            Form::ClaimTake => "take",
         }
     }
 
@@ -288,6 +299,8 @@ impl Form {
             Form::Configure => "`DEC DEC configure DEC DEC DEC DEC`",
             Form::BindContext => "`DEC DEC bind DEC DEC`",
             Form::Unbind => "`DEC DEC unbind DEC`",
+            Form::ClaimNothing => "`none LABEL LABEL`",
+            Form::ClaimTake => "`take LABEL LABEL`",
         }
     }
 

@@ -1,5 +1,5 @@
-//! The calls of a run, of a replay, of a check, of a verification and of a closing, and the opening of a kernel that threads share,
-//! whose memory is refused: tests alone, for `tests/refuse-memory`, which has their allocations refused one by one.
+//! The calls of a run, of a replay, of a check, of a verification, of a closing and of claims, and the opening of a kernel that threads
+//! share, whose memory is refused: tests alone, for `tests/refuse-memory`, which has their allocations refused one by one.
 //!
 //! A test `CALL_after_COUNT` makes so many allocations of its own, then prepares what the call is given,
 //! which may take some more, and then makes the call. A call that meets a refusal has to say so, with all
@@ -15,6 +15,8 @@ mod bell;
 mod certificates;
 #[cfg(test)]
 mod checks;
+#[cfg(test)]
+mod claimings;
 #[cfg(test)]
 mod closings;
 #[cfg(test)]

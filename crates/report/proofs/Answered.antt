@@ -79,3 +79,8 @@ began (ends.CannotRead file) answer IsRight A right told = tt
 began (ends.NoLabel asked) answer IsRight A right told = tt
 began ends.CannotWrite (Ok answer) IsRight A right told = (answer.text.items, answer.status, right, told)
 began ends.CannotWrite (Err why) IsRight A right told = absurd told
+
+-- of a value two facts give a third
+pub both_hold : {X E : Type 0} (result : Result X E) (P Q R : X → Type 0) → ((x : X) → P x → Q x → R x) → IfOk result P → IfOk result Q → IfOk result R
+both_hold (Ok x) P Q R follows one other = follows x one other
+both_hold (Err e) P Q R follows one other = tt

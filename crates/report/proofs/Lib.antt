@@ -5,5 +5,6 @@ mod Missing
 mod ClosedText
 mod OneAnswer
 mod OneReport
+mod OneClaimed
 mod OneLog
 mod OneClosing

@@ -37,7 +37,7 @@ module _
   answers_once text other status another (denied d is says exit) (denied e also again out) =
       (says ∙ ap (λ (d : Denial). denial_report (rule_name d) (place_names t d)) (one d e is also) ∙ sym again, exit ∙ sym out)
 
-one_denial :
+pub one_denial :
     (t : Layout) (edges : List Edge) (d e : Denial) → IsLeastBroken t (allows edges) d → IsLeastBroken t (allows edges) e → d ≡ e
 one_denial t edges d e is also =
     let same : ◌≡◌ {A = Result System Denial} (Err d) (Err e) = one_verdict t edges (Err d) (Err e) is also in cc

@@ -4,6 +4,7 @@ pub mod Commands
 pub mod Answers
 pub mod Replays
 pub mod Alone
+pub mod Claimed
 pub mod Closings
 pub mod Questions
 pub mod OneAnswer

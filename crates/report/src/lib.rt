@@ -4,6 +4,7 @@
 
 mod asking;
 mod checking;
+mod claiming;
 mod closing;
 mod command;
 mod end;
@@ -22,6 +23,7 @@ mod verifying;
 pub use asking::why;
 pub use captext::Fault;
 pub use checking::{OnAccept, check};
+pub use claiming::{check_claims, write_claims};
 pub use closing::{OnClose, close, start};
 pub use deal::{Gate, Open};
 pub use devices::{ReadError, Sink, Source, Unopened, Watched, WriteError, open_result};

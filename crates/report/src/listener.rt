@@ -1,5 +1,6 @@
 use crate::{Asked, File};
 use captext::Fault;
+use claims::BrokenClaim;
 use policy::Policy;
 use table::Table;
 use verdict::Denial;
@@ -13,6 +14,8 @@ pub enum Finding {
     Outside(Denial),
     /// A log isn't legal: the entry, from 1, that is no step.
     Illegal(usize),
+    /// A claim doesn't hold.
+    Broken(BrokenClaim),
 }
 
 /// Hears what a command finds, to tell a person of it. What is answered doesn't depend on it.

@@ -12,7 +12,9 @@ use Rattle.policy.specs.Full.{IsFull}
 use Rattle.policy.specs.Policy.{allows}
 use Rattle.reptext.specs.Relations.{Decides}
 use Rattle.reptext.specs.declared.file.File.{File}
-use Rattle.reptext.specs.declared.file.File.TheVariants.{Table, Policy, Certificate, Script, Log}
+use Rattle.reptext.specs.declared.file.File.TheVariants.{Table, Policy, Certificate, Script, Log, Claims}
+use Rattle.verdict.specs.declared.extent.Extent.{Extent}
+use Rattle.verdict.specs.declared.extent.Extent.TheVariants as extent
 
 -- the word for a file
 abbrev pub file_word : File → List ℕ
@@ -21,6 +23,7 @@ file_word Policy = codes "policy"
 file_word Certificate = codes "certificate"
 file_word Script = codes "script"
 file_word Log = codes "log"
+file_word Claims = codes "claims"
 
 -- a value on a line, where 10 is the line feed
 abbrev pub line_of : Data → List ℕ
@@ -89,6 +92,25 @@ illegal_data entry =
 -- an acceptance, and no more
 abbrev pub accept_data : Data
 accept_data = object (member (codes "verdict") (string (codes "accept")) no_members)
+
+-- claims that hold: how many there are
+abbrev pub hold_data : ℕ → Data
+hold_data claims =
+    object (member (codes "claims") (number (unsigned claims))
+    (member (codes "verdict") (string (codes "hold")) no_members))
+
+-- the word for how far an authority goes
+abbrev pub extent_word : Extent → List ℕ
+extent_word extent.Full = codes "full"
+extent_word extent.Take = codes "take"
+extent_word extent.Nothing = codes "none"
+
+-- claims that don't hold: how far the authority goes at the first, from 1, that is broken
+abbrev pub broken_data : Extent → ℕ → Data
+broken_data extent claim =
+    object (member (codes "authority") (string (extent_word extent))
+    (member (codes "claim") (number (unsigned claim))
+    (member (codes "verdict") (string (codes "broken")) no_members)))
 
 abbrev pub fault_report : ℕ → File → ℕ → List ℕ
 fault_report fault file line = line_of (fault_data fault file line)

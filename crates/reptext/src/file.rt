@@ -11,6 +11,7 @@ pub enum File {
     Certificate,
     Script,
     Log,
+    Claims,
 }
 
 impl File {
@@ -24,6 +25,7 @@ impl File {
             File::Certificate => "certificate",
             File::Script => "script",
             File::Log => "log",
+            File::Claims => "claims",
         }
     }
 }

@@ -9,6 +9,6 @@ mod reports;
 pub use file::File;
 pub use places::{KindsOfObjects, place_names};
 pub use reports::{
-    accept_report, check_report, denial_text, fault_report, illegal_report, outside_report,
-    within_report,
+    accept_report, broken_report, check_report, denial_text, extent_word, fault_report,
+    hold_report, illegal_report, outside_report, within_report,
 };

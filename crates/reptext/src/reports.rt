@@ -12,7 +12,7 @@ use policy::Policy;
 use serde_json::{Value, json};
 use std::alloc::{AllocError, Global};
 use table::Table;
-use verdict::Denial;
+use verdict::{Denial, Extent};
 
 /// The report of a text that isn't one of its format: the fault's number, the file, and the line
 /// that has it.
@@ -85,6 +85,20 @@ pub fn illegal_report(alloc: Global, entry: usize) -> Result<Vec<u8>, AllocError
     line_of(alloc, &illegal_value(alloc, entry)?)
 }
 
+/// The report of so many claims that hold.
+pub fn hold_report(alloc: Global, claims: usize) -> Result<Vec<u8>, AllocError>
+    ensures { IfOk result (λ report. report.items ≡ reports.line_of (reports.hold_data claims)) }
+{
+    line_of(alloc, &hold_value(alloc, claims)?)
+}
+
+/// The report of a claim that doesn't hold: how far the authority goes, and which claim it is, from 1.
+pub fn broken_report(alloc: Global, extent: Extent, claim: usize) -> Result<Vec<u8>, AllocError>
+    ensures { IfOk result (λ report. report.items ≡ reports.line_of (reports.broken_data extent claim)) }
+{
+    line_of(alloc, &broken_value(alloc, extent, claim)?)
+}
+
 fn check_value(alloc: Global, table: &Table, cut: Value, full: Value) -> Result<Value, AllocError>
     ensures { IfOk result (λ value. (cuts fulls : ℕ → ℕ → Bool) → view cut ≡ reports.relation_data table.now cuts
         → view full ≡ reports.relation_data table.now fulls → view value ≡ reports.check_data table.now cuts fulls) }
@@ -125,6 +139,32 @@ fn illegal_value(alloc: Global, entry: usize) -> Result<Value, AllocError>
 {
     let entry = entry as u64;
     json!(in alloc; {"entry": entry, "verdict": "illegal"})
+}
+
+fn hold_value(alloc: Global, claims: usize) -> Result<Value, AllocError>
+    ensures { IfOk result (λ value. view value ≡ reports.hold_data claims) }
+{
+    let claims = claims as u64;
+    json!(in alloc; {"claims": claims, "verdict": "hold"})
+}
+
+fn broken_value(alloc: Global, extent: Extent, claim: usize) -> Result<Value, AllocError>
+    ensures { IfOk result (λ value. view value ≡ reports.broken_data extent claim) }
+{
+    let authority = extent_word(extent);
+    let claim = claim as u64;
+    json!(in alloc; {"authority": authority, "claim": claim, "verdict": "broken"})
+}
+
+/// The word for how far an authority goes.
+pub fn extent_word(extent: Extent) -> &'static str
+    ensures { result.now ≡ reports.extent_word extent }
+{
+    match extent {
+        Extent::Full => "full",
+        Extent::Take => "take",
+        Extent::Nothing => "none",
+    }
 }
 
 fn fault_value(alloc: Global, fault: u64, file: File, line: u64) -> Result<Value, AllocError>

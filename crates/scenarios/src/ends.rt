@@ -86,6 +86,15 @@ runs tb xb b b
 end
 ";
 
+const CLAIMS: &str = "confine-claims 1\nnone b a\nend\n";
+
+/// A label that is claimed to leave alone what it notifies.
+const BROAD: &str = "confine-claims 1\nnone a b\nend\n";
+
+const HOLD: &str = "{\"claims\":1,\"verdict\":\"hold\"}\n";
+
+const BROKEN: &str = "{\"authority\":\"full\",\"claim\":1,\"verdict\":\"broken\"}\n";
+
 const REPORT: &str =
     "{\"caps\":4,\"cut\":{\"a\":[\"a\",\"b\"],\"b\":[\"b\"]},\"full\":{\"a\":[\"a\",\"b\"],\"b\":[\"b\"]},\"verdict\":\"accept\"}\n";
 
@@ -116,6 +125,8 @@ const FAULTY_CERTIFICATE: &str = "{\"fault\":50,\"file\":\"certificate\",\"line\
 
 const FAULTY_LOG: &str = "{\"fault\":50,\"file\":\"log\",\"line\":1}\n";
 
+const FAULTY_CLAIMS: &str = "{\"fault\":50,\"file\":\"claims\",\"line\":1}\n";
+
 const NO_TABLE: &str = "confine: cannot read table";
 
 const NO_POLICY: &str = "confine: cannot read policy";
@@ -126,8 +137,10 @@ const NO_CERTIFICATE: &str = "confine: cannot read certificate";
 
 const NO_LOG: &str = "confine: cannot read log";
 
+const NO_CLAIMS: &str = "confine: cannot read claims";
+
 /// The files that each command reads, with what is told where one can't be read.
-const MESSAGES: [(Command, File, &str); 20] = [
+const MESSAGES: [(Command, File, &str); 25] = [
     (Command::Check(OnAccept::Report), File::Table, NO_TABLE),
     (Command::Check(OnAccept::Report), File::Policy, NO_POLICY),
     (Command::Check(OnAccept::Certificate), File::Table, NO_TABLE),
@@ -152,6 +165,11 @@ const MESSAGES: [(Command, File, &str); 20] = [
     (Command::Close, File::Policy, NO_POLICY),
     (Command::Why, File::Table, NO_TABLE),
     (Command::Why, File::Policy, NO_POLICY),
+    (Command::Claims, File::Table, NO_TABLE),
+    (Command::Claims, File::Policy, NO_POLICY),
+    (Command::Claims, File::Claims, NO_CLAIMS),
+    (Command::Strongest, File::Table, NO_TABLE),
+    (Command::Strongest, File::Policy, NO_POLICY),
 ];
 
 /// The files of a system that is accepted: a notification from one label to another, on two cores.
@@ -160,6 +178,7 @@ fn files_for(command: Command) -> Files<'static> {
         Command::Replay => LOG,
         Command::Verify => CERTIFICATE,
         Command::Split => POLLS,
+        Command::Claims => CLAIMS,
         _ => SCRIPT,
     };
     Files {
@@ -257,6 +276,20 @@ fn answers_of_others() -> [Answered; 5] {
     ]
 }
 
+/// Files of each kind of answer of `claims`.
+fn answers_of_claims() -> [Answered; 6] {
+    let files = files_for(Command::Claims);
+    let strongest = files_for(Command::Strongest);
+    [
+        (files, 0, HOLD),
+        (files.with(File::Claims, Given::text(BROAD)), 1, BROKEN),
+        (files.with(File::Policy, empty_policy()), 1, DENIAL),
+        (files.with(File::Claims, faulty()), 2, FAULTY_CLAIMS),
+        (strongest, 0, CLAIMS),
+        (strongest.with(File::Policy, empty_policy()), 1, DENIAL),
+    ]
+}
+
 /// The command says this on standard error, ends with this status, and wrote this text. A device failed, or
 /// was interrupted, after so many bytes.
 fn ends<R: Abort>(
@@ -313,7 +346,7 @@ fn read_up_to(file: File) -> [bool; 3] {
     match file {
         File::Table => [true, false, false],
         File::Policy => [true, true, false],
-        File::Certificate | File::Script | File::Log => [true, true, true],
+        File::Certificate | File::Script | File::Log | File::Claims => [true, true, true],
     }
 }
 
@@ -448,6 +481,11 @@ fn an_answer_that_cannot_be_written_is_no_answer(rt: HostRuntime) -> Result<(), 
     none_is_written(&rt, &answers_of_others())
 }
 
+#[test]
+fn claims_whose_answer_cannot_be_written_have_none(rt: HostRuntime) -> Result<(), Fail> {
+    none_is_written(&rt, &answers_of_claims())
+}
+
 /// How many bytes the files give a read, and the page takes a write, at most.
 const AMOUNTS: [(usize, usize); 9] = [
     (usize::MAX, usize::MAX),
@@ -486,5 +524,6 @@ fn how_many_bytes_a_device_moves_changes_no_answer(rt: HostRuntime) -> Result<()
     all_are_given(&rt, &answers_of_checks())?;
     all_are_given(&rt, &answers_of_runs())?;
     all_are_given(&rt, &answers_of_splits())?;
+    all_are_given(&rt, &answers_of_claims())?;
     all_are_given(&rt, &answers_of_others())
 }

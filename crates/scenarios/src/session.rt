@@ -3,8 +3,8 @@ ghost use Rattle.std.specs.Prelude.{◌≡◌, false};
 
 use crate::failing::{Given, Page};
 use report::{
-    End, File, OnAccept, OnClose, Open, Silence, Sink, Source, Watched, check, close, replay, run,
-    run_split, verify, why,
+    End, File, OnAccept, OnClose, Open, Silence, Sink, Source, Watched, check, check_claims, close,
+    replay, run, run_split, verify, why, write_claims,
 };
 use std::alloc::AllocGlobal;
 use std::sync::Wait;
@@ -21,9 +21,12 @@ pub enum Command {
     Replay,
     Close,
     Why,
+    Claims,
+    /// The strongest claims.
+    Strongest,
 }
 
-/// A command and its files. The third is the script of a run, the log of a replay or a certificate, where the command reads one.
+/// A command and its files. The third is the script of a run, the log of a replay, a certificate or claims, where the command reads one.
 #[derive(Clone, Copy)]
 pub struct Files<'a> {
     pub command: Command,
@@ -38,7 +41,7 @@ impl<'a> Files<'a> {
         match file {
             File::Table => self.table,
             File::Policy => self.policy,
-            File::Certificate | File::Script | File::Log => self.third,
+            File::Certificate | File::Script | File::Log | File::Claims => self.third,
         }
     }
 
@@ -53,7 +56,7 @@ impl<'a> Files<'a> {
                 policy: given,
                 ..self
             },
-            File::Certificate | File::Script | File::Log => Files {
+            File::Certificate | File::Script | File::Log | File::Claims => Files {
                 third: given,
                 ..self
             },
@@ -133,6 +136,8 @@ where
             out,
         ),
         Command::Why => why(rt.alloc(), table, policy, "a", "b", &mut Silence, out),
+        Command::Claims => check_claims(rt, rt.alloc(), table, policy, third, &mut Silence, out),
+        Command::Strongest => write_claims(rt, rt.alloc(), table, policy, &mut Silence, out),
     }
 }
 

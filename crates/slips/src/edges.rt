@@ -56,7 +56,7 @@ fn fallen<'a>(here: Numbered<'a>, last: Numbered<'a>, flaw: EdgeFlaw<'a>) -> Opt
     }
 }
 
-fn label_of<'a>(declared: Declared<'_>, word: &'a str) -> Option<Numbered<'a>> {
+pub(crate) fn label_of<'a>(declared: Declared<'_>, word: &'a str) -> Option<Numbered<'a>> {
     let number = declared.label(word)?;
     Some(Numbered { word, number })
 }

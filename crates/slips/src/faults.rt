@@ -1,4 +1,5 @@
 use crate::caps::{kind_flaw, slot_flaw};
+use crate::claims::claim_flaw;
 use crate::declared::{Declared, Row};
 use crate::edges::edge_flaw;
 use crate::flaws::Flaw;
@@ -124,15 +125,18 @@ fn syntax_flaw<'a>(
     }
     match kind {
         Text::Log => Some(Flaw::Outcome(outcome_flaw(row.text.split_once(" = ")?.1)?)),
-        Text::Policy => {
-            let before = Row {
-                line: row.line.saturating_sub(1),
-                text: before,
-            };
-            Some(Flaw::Edge(edge_flaw(declared, row, before)?))
-        }
+        Text::Policy => Some(Flaw::Edge(edge_flaw(declared, row, above(row, before))?)),
+        Text::Claims => Some(Flaw::Claim(claim_flaw(declared, row, above(row, before))?)),
         Text::Table => Some(Flaw::Order(order_flaw(declared, form, row)?)),
         _ => None,
+    }
+}
+
+// The line before.
+fn above<'a>(row: Row<'a>, before: &'a str) -> Row<'a> {
+    Row {
+        line: row.line.saturating_sub(1),
+        text: before,
     }
 }
 

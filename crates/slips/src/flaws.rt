@@ -1,5 +1,6 @@
 //! What is said of a line that doesn't meet a condition.
 use crate::caps::{KindFlaw, SlotFlaw};
+use crate::claims::ClaimFlaw;
 use crate::edges::EdgeFlaw;
 use crate::limits::LimitFlaw;
 use crate::memory::PlacedFlaw;
@@ -19,6 +20,7 @@ pub(crate) enum Flaw<'a> {
     Outcome(OutcomeFlaw<'a>),
     Order(OrderFlaw<'a>),
     Edge(EdgeFlaw<'a>),
+    Claim(ClaimFlaw<'a>),
     Known(KnownFlaw<'a>),
     Twice(TwiceFlaw<'a>),
     Placed(PlacedFlaw<'a>),
@@ -49,6 +51,7 @@ impl fmt::Display for Flaw<'_> {
             Flaw::Outcome(flaw) => write!(f, "{flaw}"),
             Flaw::Order(flaw) => write!(f, "{flaw}"),
             Flaw::Edge(flaw) => write!(f, "{flaw}"),
+            Flaw::Claim(flaw) => write!(f, "{flaw}"),
             Flaw::Known(flaw) => write!(f, "{flaw}"),
             Flaw::Twice(flaw) => write!(f, "{flaw}"),
             Flaw::Placed(flaw) => write!(f, "{flaw}"),
@@ -119,6 +122,29 @@ impl fmt::Display for EdgeFlaw<'_> {
         )?;
         let (word, number) = (before.word, before.number);
         write!(f, "`{word}` of line {line} number {number}")
+    }
+}
+
+impl fmt::Display for ClaimFlaw<'_> {
+    fn fmt<W: fmt::Write>(&self, f: &mut fmt::Formatter<W>) -> fmt::Result {
+        match *self {
+            ClaimFlaw::Itself(label) => {
+                write!(
+                    f,
+                    "a claim is on two labels, and `{label}` stands here twice"
+                )
+            }
+            ClaimFlaw::Twice(line) => write!(f, "a claim on the same labels stands in line {line}"),
+            ClaimFlaw::Labels(here, before, line) => {
+                let (word, number) = (here.word, here.number);
+                write!(
+                    f,
+                    "claims rise, and the label `{word}` has number {number}, "
+                )?;
+                let (word, number) = (before.word, before.number);
+                write!(f, "`{word}` of line {line} number {number}")
+            }
+        }
     }
 }
 

@@ -2,6 +2,7 @@
 #![tactic(auto)]
 
 mod caps;
+mod claims;
 mod declared;
 mod edges;
 mod faults;

@@ -49,6 +49,7 @@ fn roles(form: Form) -> &'static str {
     match form {
         Form::Cap | Form::Child | Form::Bind => "OO",
         Form::Edge => "L-L",
+        Form::ClaimNothing | Form::ClaimTake => "LL",
         Form::CertifiedCap => "OL-L",
         Form::CertifiedSpace => "OLL",
         Form::CertifiedDerive | Form::CertifiedRuns => "OOLL",

@@ -1,14 +1,17 @@
 -- Command by command.
 use Rattle.certificate.specs.Reading.{read_certificate_of}
+use Rattle.claims.specs.Reading.{read_claims_of}
 use Rattle.evtext.specs.Log.{read_log_of}
 use Rattle.evtext.specs.Script.{read_script_of}
 use Rattle.report.specs.Answers.{Checks, Verifies, read_nothing}
+use Rattle.report.specs.Claimed.{JudgesClaims, WritesStrongest}
 use Rattle.report.specs.Closings.{Closes}
 use Rattle.report.specs.OneAnswer.{RunsInMemory}
 use Rattle.report.specs.Questions.{Tells}
 use Rattle.report.specs.Replays.{Replays}
 use Rattle.reptext.specs.declared.file.File.TheVariants as file
 use Rattle.report.proofs.OneAnswer.{one_answer}
+use Rattle.report.proofs.OneClaimed.{claims_once, strongest_told_once}
 use Rattle.report.proofs.OneClosing.{close_once, tell_once}
 use Rattle.report.proofs.OneLog.{replay_once, run_told_once}
 use Rattle.report.proofs.OneReport.{check_once, verify_once}
@@ -31,6 +34,13 @@ returns-clause-close c =
 pub returns-clause-why : goal.returns-clause-why
 returns-clause-why c =
     λ actor object. one_answer file.Policy read_nothing (λ t edges none. Tells actor object t edges) (tell_once actor object)
+
+pub returns-clause-claims : goal.returns-clause-claims
+returns-clause-claims c = one_answer file.Claims read_claims_of JudgesClaims claims_once
+
+pub returns-clause-strongest : goal.returns-clause-strongest
+returns-clause-strongest c =
+    one_answer file.Policy read_nothing (λ t edges none. WritesStrongest t edges) strongest_told_once
 
 pub returns-clause-run : goal.returns-clause-run
 returns-clause-run c = one_answer file.Script (λ t. read_script_of) RunsInMemory run_told_once

@@ -1,0 +1,51 @@
+-- What is told of claims on a table and a policy, and of the strongest that hold (confine's own; what they claim is kept by the integrity
+-- of 'seL4 Enforces Integrity', section 4, restated).
+use Rattle.std.specs.Prelude.{◌≡◌, ℕ, List, All, Ok, length}
+use Rattle.base.specs.declared.edge.Edge.{Edge}
+use Rattle.claims.specs.ClaimsText.{claims_text}
+use Rattle.claims.specs.Holding.{AreStrongest, Holds, IsFirstBroken, IsKept}
+use Rattle.claims.specs.Reading.{read_claims_of}
+use Rattle.claims.specs.declared.claim.Claim.{Claim}
+use Rattle.claims.specs.declared.holding.BrokenClaim.{BrokenClaim}
+use Rattle.machine.specs.Layout.{Layout}
+use Rattle.policy.specs.Policy.{allows}
+use Rattle.report.specs.Answers.{AnswersVerdict, no_file, no_label, read_nothing}
+use Rattle.report.specs.Commands.{Input, IsCarriedOut, Output}
+use Rattle.report.specs.declared.end.End.{End}
+use Rattle.reptext.specs.Places.{place_names}
+use Rattle.reptext.specs.Reports.{broken_data, denial_report, hold_data, line_of}
+use Rattle.reptext.specs.declared.file.File.TheVariants as file
+use Rattle.verdict.specs.Verdict.{IsAccepted, IsLeastBroken, rule_name}
+use Rattle.verdict.specs.declared.denial.Denial.{Denial}
+
+-- the answer to claims on a table and a policy: these are denied; or they are accepted, and all claims hold, so that what they claim is
+-- kept in every run from the table's boot state; or they are accepted, and this claim is the first that doesn't hold
+pub data JudgesClaims (t : Layout) (edges : List Edge) (claims : List Claim) (text : List ℕ) (status : ℕ) : Type 0 where
+  denied : (denial : Denial) → IsLeastBroken t (allows edges) denial → text ≡ denial_report (rule_name denial) (place_names t denial)
+      → status ≡ 1 → JudgesClaims t edges claims text status
+  hold : IsAccepted t (allows edges) → All (Holds (allows edges)) claims → All (IsKept t) claims
+      → text ≡ line_of (hold_data (length claims)) → status ≡ 0 → JudgesClaims t edges claims text status
+  broken : IsAccepted t (allows edges) → (broken : BrokenClaim) → IsFirstBroken (allows edges) claims broken
+      → text ≡ line_of (broken_data broken.extent broken.number) → status ≡ 1 → JudgesClaims t edges claims text status
+
+-- claims were judged on a table and a policy
+abbrev pub AreJudged : {T P S O : Type 0} → Input T → Input P → Input S → Output O → End → Type 0
+AreJudged = IsCarriedOut file.Claims read_claims_of no_label JudgesClaims
+
+-- a text is that of the strongest claims that hold of a table and a policy that are accepted. It is read as these, and what they claim
+-- is kept in every run
+pub record TellsStrongest (t : Layout) (edges : List Edge) (text : List ℕ) : Type 0 where
+  pub claims : List Claim
+  pub strongest : AreStrongest t (allows edges) claims
+  pub kept : All (IsKept t) claims
+  pub told : text ≡ claims_text t claims
+  pub read : read_claims_of t text ≡ Ok claims
+
+-- the answer to a table and a policy whose strongest claims are asked for
+abbrev pub WritesStrongest : Layout → List Edge → List ℕ → ℕ → Type 0
+WritesStrongest t edges = AnswersVerdict t edges (TellsStrongest t edges)
+
+-- the strongest claims were written of a table and a policy
+abbrev pub AreWritten : {T P O : Type 0} → Input T → Input P → Output O → End → Type 0
+AreWritten table policy out end =
+    IsCarriedOut file.Policy read_nothing no_label (λ t edges none. WritesStrongest t edges) table policy no_file out end
