@@ -11,7 +11,13 @@ from texts import KINDS, Fault
 FILES = {
     "check": ["table", "policy"], "verify": ["table", "policy", "certificate"], "run": ["table", "policy", "script"],
     "replay": ["table", "policy", "log"], "close": ["table", "policy"], "why": ["table", "policy"],
+    "claims": ["table", "policy", "claims"], "list": ["table"],
 }
+
+
+def files_of(command, options=()):
+    """The files of a command, in their order."""
+    return FILES[command][:2] if "--all" in options else FILES[command]
 
 
 # Authority.
@@ -177,12 +183,12 @@ def could_be_done(table, entries):
     return kernel.step(state, entries[-1][0]).startswith("done")
 
 
-def close(table, policy, missing=False):
+def close(table, policy, missing=False, surplus=False):
     named = policy or set()
     asked = {edge for _, _, _, edge in authority(table, kernel.boot(table))}
-    edges = policies.close(named | asked, len(table.labels))
-    if missing:
-        lines = [texts.edge_line(edge, table) + "\n" for edge in sorted(edges - named)]
+    edges = policies.close(asked if surplus else named | asked, len(table.labels))
+    if missing or surplus:
+        lines = [texts.edge_line(edge, table) + "\n" for edge in sorted(named - edges if surplus else edges - named)]
         return int(bool(lines)), "".join(lines)
     return 0, texts.text_of("confine-policy 1", [texts.edge_line(edge, table) for edge in sorted(edges)])
 
@@ -192,19 +198,40 @@ def why(table, policy, a, b):
     return int(how != "full"), "".join(f"{line}\n" for line in [how, *(texts.edge_line(edge, table) for edge in edges)])
 
 
+def claims(table, policy, claimed=None):
+    """Whether these claims hold; where there are none, the strongest that do."""
+
+    def accepted():
+        extents = {(a, b): how for a, b, how in policies.extents(policy, len(table.labels))}
+        if claimed is None:
+            lines = [f"{how} {table.labels[a]} {table.labels[b]}" for (a, b), how in extents.items() if how != "full"]
+            return 0, texts.text_of("confine-claims 1", lines)
+        for number, (most, a, b) in enumerate(claimed, 1):
+            if extents[a, b] not in ("none", most):
+                return 1, report(authority=extents[a, b], claim=number, verdict="broken")
+        return 0, report(claims=len(claimed), verdict="hold")
+
+    return judged(table, policy, accepted)
+
+
+def listed(table):
+    return 0, "".join(f"{at} {item.kind} {item.name} {table.labels[item.label]}\n" for at, item in enumerate(table.objects))
+
+
 def read(file, text, table):
     return {
         "table": lambda: texts.read_table(text), "policy": lambda: texts.read_policy(text, table),
         "certificate": lambda: texts.read_certificate(text, table),
         "script": lambda: texts.read_script(text), "log": lambda: texts.read_log(text),
+        "claims": lambda: texts.read_claims(text, table),
     }[file]()
 
 
 def answer(command, given, options=()):
     """Status, standard output and standard error of a command. `given` has the bytes of its files, or None where one can't be read;
-    `options` are `--cert` and `--missing`, or the two labels of `why`."""
+    `options` are `--cert`, `--missing`, `--surplus` and `--all`, or the two labels of `why`."""
     values = []
-    for file, text in zip(FILES[command], given):
+    for file, text in zip(files_of(command, options), given):
         if text is None:
             return 2, "", f"confine: cannot read {file}\n"
         try:
@@ -217,7 +244,7 @@ def answer(command, given, options=()):
                 return 2, "", f"confine: {operand} is no label of the table\n"
         return *why(*values, *options), ""
     if command == "close":
-        return *close(values[0], values[1] if len(values) > 1 else None, "--missing" in options), ""
+        return *close(values[0], values[1] if len(values) > 1 else None, "--missing" in options, "--surplus" in options), ""
     if command == "check":
         return *check(*values, "--cert" in options), ""
-    return *{"verify": verify, "run": run, "replay": replay}[command](*values), ""
+    return *{"verify": verify, "run": run, "replay": replay, "claims": claims, "list": listed}[command](*values), ""

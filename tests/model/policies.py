@@ -151,6 +151,15 @@ def full(policy, a):
     return {l for l, _ in full_reasons(policy, a)}
 
 
+def extents(policy, count):
+    """How far the authority of each label on each other goes: `full`, `take` or `none`."""
+    for a in range(count):
+        changes, takes = full(policy, a), {l for l, _ in take_ways(policy, a)}
+        for l in range(count):
+            if l != a:
+                yield a, l, "full" if l in changes else "take" if l in takes else "none"
+
+
 def why(policy, a, l):
     """The authority of a on l, and the first reason for it."""
     reasons = [edges for on, edges in full_reasons(policy, a) if on == l]
