@@ -3,44 +3,39 @@ use Rattle.std.proofs.Common.{◌≡◌, ℕ, ◌+◌, ◌<◌, List, [], ◌∷
 use Rattle.std.specs.Fmt.{decimal}
 use Rattle.std.proofs.lemmas.List.{map-append, take_all, take_more, flat_map_more}
 use Rattle.std.proofs.lemmas.Slice.Zip.{length-zip, get_or-zip}
+use Rattle.std.proofs.lemmas.List.Sums.{fold-append}
 use Rattle.std.specs.List.{zip}
-use Rattle.machine.specs.declared.call.Answer.TheVariants as answer
 use Rattle.machine.specs.declared.call.Event.{Event}
 use Rattle.machine.specs.declared.call.Outcome.{Outcome}
-use Rattle.machine.specs.declared.call.Outcome.TheVariants as outcome
-use Rattle.machine.specs.Spelling.{call_words, entry_words, event_words, outcome_words, spelled}
+use Rattle.machine.specs.Spelling.{call_words, entry_words, outcome_words, spelled}
 use Rattle.words.specs.Reading.{last_line}
 use Rattle.words.specs.Text.{line_text, text_of}
 use Rattle.evtext.specs.Log.{log_header, log_text}
+use Rattle.evtext.specs.Written.{written}
 
--- words after words: a space stands between them
-spelled-append : (word : List ℕ) (words : List (List ℕ)) (next : List ℕ) (others : List (List ℕ))
-    → spelled ((word ∷ words) ++ next ∷ others) ≡ spelled (word ∷ words) ++ 32 ∷ spelled (next ∷ others)
-spelled-append word [] next others = refl
-spelled-append word (second ∷ words) next others =
-    ap (λ rest. word ++ 32 ∷ rest) (spelled-append second words next others)
-    ∙ sym (append_assoc word (32 ∷ spelled (second ∷ words)) (32 ∷ spelled (next ∷ others)))
+-- words are written after a first one as they are spelled with it
+written-spelled : (text word : List ℕ) (words : List (List ℕ)) → written (text ++ word) words ≡ text ++ spelled (word ∷ words)
+written-spelled text word [] = refl
+written-spelled text word (next ∷ words) =
+    let spaced : List ℕ = text ++ (word ++ 32 ∷ []) in
+    ap (λ so_far. written so_far words)
+    (append_assoc text word (32 ∷ next) ∙ ap (λ rest. text ++ rest) (sym (append_assoc word (32 ∷ []) next))
+    ∙ sym (append_assoc text (word ++ 32 ∷ []) next))
+    ∙ written-spelled spaced next words ∙ append_assoc text (word ++ 32 ∷ []) (spelled (next ∷ words))
+    ∙ ap (λ rest. text ++ rest) (append_assoc word (32 ∷ []) (spelled (next ∷ words)))
 
--- an outcome has a word, so a space stands before it
-spelled-equals : (outcome : Outcome) → spelled ((61 ∷ []) ∷ outcome_words outcome) ≡ 61 ∷ 32 ∷ spelled (outcome_words outcome)
-spelled-equals (outcome.Done answer.Nothing) = refl
-spelled-equals (outcome.Done (answer.Word word)) = refl
-spelled-equals (outcome.Done (answer.Message message)) = refl
-spelled-equals (outcome.Done (answer.Count count)) = refl
-spelled-equals (outcome.Done answer.Aborted) = refl
-spelled-equals outcome.Blocked = refl
-spelled-equals (outcome.Refused refusal) = refl
-
--- the line of an entry: its event, ` = `, and its outcome
-pub line_of_entry : (event : Event) (outcome : Outcome)
-    → spelled (event_words event) ++ (32 ∷ 61 ∷ 32 ∷ (spelled (outcome_words outcome) ++ 10 ∷ []))
-    ≡ line_text (entry_words (event, outcome))
-line_of_entry event outcome =
-    sym (append_assoc (spelled (event_words event)) (32 ∷ 61 ∷ 32 ∷ spelled (outcome_words outcome)) (10 ∷ []))
-    ∙ ap (λ rest. (spelled (event_words event) ++ 32 ∷ rest) ++ 10 ∷ []) (sym (spelled-equals outcome))
-    ∙ ap (λ line. line ++ 10 ∷ [])
-    (sym (spelled-append (decimal event.core) (decimal event.thread.0 ∷ call_words event.call)
-    (codes "=") (outcome_words outcome)))
+-- the line of an entry: its event, ` =`, and its outcome
+pub entry_written : (text : List ℕ) (event : Event) (outcome : Outcome)
+    → written
+    (written (written (text ++ decimal event.core) (decimal event.thread.0 ∷ [])) (call_words event.call) ++ codes " =")
+    (outcome_words outcome) ++ 10 ∷ []
+    ≡ text ++ line_text (entry_words (event, outcome))
+entry_written text event outcome =
+    let words : List (List ℕ) = decimal event.thread.0 ∷ call_words event.call in
+    ap (λ bytes. bytes ++ 10 ∷ [])
+    (sym (fold-append (λ so_far word. so_far ++ 32 ∷ word) (text ++ decimal event.core) words (codes "=" ∷ outcome_words outcome))
+    ∙ written-spelled text (decimal event.core) (words ++ codes "=" ∷ outcome_words outcome))
+    ∙ append_assoc text (spelled (entry_words (event, outcome))) (10 ∷ [])
 
 -- the lines so far, and one more
 pub lines_more : (events : List Event) (outcomes : List Outcome) (n : ℕ) (event : Event) (outcome : Outcome) (text : List ℕ)

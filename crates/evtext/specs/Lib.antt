@@ -2,3 +2,4 @@ pub mod Event
 pub mod Outcome
 pub mod Script
 pub mod Log
+pub mod Written

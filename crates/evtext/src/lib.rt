@@ -6,6 +6,7 @@ mod line;
 mod log;
 mod outcome;
 mod script;
+mod writing;
 
 pub use laws::{a_text_is_of_one_log, a_text_is_of_one_script, logs_are_read_back};
 pub use log::{read_log, write_log, write_run};

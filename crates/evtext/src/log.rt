@@ -1,4 +1,4 @@
-ghost use Rattle.std.specs.Prelude.{◌≡◌, ◌≢◌, ◌++◌, ℕ, IfOk, IfErr, Ok, Err, OnOk, List, string_bytes};
+ghost use Rattle.std.specs.Prelude.{◌≡◌, ◌≢◌, ◌++◌, ℕ, IfOk, IfErr, Ok, Err, OnOk, List};
 ghost use Rattle.std.specs.List.{zip};
 ghost use Rattle.base.specs.Refusals.{out_of_memory};
 ghost use Rattle.machine.specs.declared.call.Event.{Event as EventOf};
@@ -13,6 +13,7 @@ ghost use Rattle.evtext.specs.Log.{log_format, log_line, log_step, log_text, rea
 
 use crate::line::next_event;
 use crate::outcome::next_result;
+use crate::writing::{write_call, write_decimal, write_number, write_outcome};
 use base::Refusal;
 use machine::{Event, Log, Outcome};
 use std::alloc::{AllocError, Global};
@@ -95,8 +96,7 @@ pub fn write_log(alloc: Global, log: &Log) -> Result<Vec<u8>, Refusal>
     // What is written is read as the log.
     ensures read_back { IsLog log.now.items → IfOk result (λ text. read_log_of text.items ≡ Ok log.now.items) }
 {
-    let text = log_string(alloc, log)?;
-    Ok(text.into_bytes())
+    Ok(log_bytes(alloc, log)?)
 }
 
 /// The text of the log of these events with these outcomes, the first with the first and so on, as far as
@@ -107,36 +107,43 @@ pub fn write_run(alloc: Global, events: &[Event], outcomes: &[Outcome]) -> Resul
     ensures text { IfOk result (λ text. text.items ≡ log_text (zip events.now outcomes.now)) }
     ensures memory { IfErr result (λ refusal. refusal ≡ out_of_memory) }
 {
-    let text = run_string(alloc, events, outcomes)?;
-    Ok(text.into_bytes())
+    Ok(run_bytes(alloc, events, outcomes)?)
 }
 
-fn log_string(alloc: Global, log: &[(Event, Outcome)]) -> Result<String, AllocError>
-    ensures { IfOk result (λ text. string_bytes text ≡ log_text log.now) }
+fn log_bytes(alloc: Global, log: &[(Event, Outcome)]) -> Result<Vec<u8>, AllocError>
+    ensures { IfOk result (λ text. text.items ≡ log_text log.now) }
 {
-    let mut text = String::from_str(alloc, "confine-log 1\n")?;
+    let mut text = Vec::new(alloc);
+    text.extend_from_slice(b"confine-log 1\n")?;
     for (event, outcome) in log {
         write_entry(&mut text, event, outcome)?;
     }
-    text.push_str("end\n")?;
+    text.extend_from_slice(b"end\n")?;
     Ok(text)
 }
 
-fn run_string(alloc: Global, events: &[Event], outcomes: &[Outcome]) -> Result<String, AllocError>
-    ensures { IfOk result (λ text. string_bytes text ≡ log_text (zip events.now outcomes.now)) }
+fn run_bytes(alloc: Global, events: &[Event], outcomes: &[Outcome]) -> Result<Vec<u8>, AllocError>
+    ensures { IfOk result (λ text. text.items ≡ log_text (zip events.now outcomes.now)) }
 {
-    let mut text = String::from_str(alloc, "confine-log 1\n")?;
+    let mut text = Vec::new(alloc);
+    text.extend_from_slice(b"confine-log 1\n")?;
     for (event, outcome) in events.iter().zip(outcomes) {
         write_entry(&mut text, event, outcome)?;
     }
-    text.push_str("end\n")?;
+    text.extend_from_slice(b"end\n")?;
     Ok(text)
 }
 
-#[tactic(auto, using(crate::proofs::Logs::line_of_entry))]
-fn write_entry(text: &mut String, event: &Event, outcome: &Outcome) -> Result<(), AllocError>
-    ensures { OnOk result (string_bytes text.new
-        ≡ string_bytes text.old ++ line_text (entry_words (event.now, outcome.now))) }
+#[tactic(auto, using(crate::proofs::Logs::entry_written))]
+fn write_entry(text: &mut Vec<u8>, event: &Event, outcome: &Outcome) -> Result<(), AllocError>
+    ensures { OnOk result (text.new.items
+        ≡ text.old.items ++ line_text (entry_words (event.now, outcome.now))) }
 {
-    writeln!(text, "{event} = {outcome}")
+    write_decimal(text, u64::from(event.core.number()))?;
+    write_number(text, event.thread.0)?;
+    write_call(text, &event.call)?;
+    text.extend_from_slice(b" =")?;
+    write_outcome(text, outcome)?;
+    text.push(b'\n')?;
+    Ok(())
 }

@@ -1,4 +1,4 @@
-use Rattle.std.proofs.Common.{◌∷◌, ◌∙◌, sym, ap, length, take, map, string_bytes}
+use Rattle.std.proofs.Common.{◌∷◌, ◌∙◌, sym, ap, length, take, map}
 use Rattle.std.proofs.lemmas.List.{length_push}
 use Rattle.std.proofs.lemmas.Slice.Zip.{zip_turn, zip_end}
 use Rattle.std.specs.Iterator.Adapters.{zip_first, zip_second}
@@ -8,7 +8,7 @@ use Rattle.machine.specs.Spelling.{entry_words}
 use Rattle.words.specs.Text.{text_of}
 use Rattle.evtext.specs.Log.{log_header}
 use Rattle.evtext.proofs.Logs.{lines_more, lines_all}
-use Rattle.evtext.proofs.log.run_string.Goals as goal
+use Rattle.evtext.proofs.log.run_bytes.Goals as goal
 
 pub loop-event-preserved : goal.loop-event-preserved
 loop-event-preserved c =
@@ -20,14 +20,14 @@ loop-event-preserved c =
     c.loop-event.yielded_by (c.in-Some.event, c.in-Some.outcome) c.in-Some.is c.next.ensures.steps in
     c.in_ok-write_entry.ensures
     ∙ lines_more c.args.events.now c.args.outcomes.now (length c.loop-event.yielded) c.in-Some.event.now c.in-Some.outcome.now
-    (string_bytes c.loop-event.text) turn.0 turn.1 turn.2 turn.3 c.loop-event.invariant
+    c.loop-event.text.items turn.0 turn.1 turn.2 turn.3 c.loop-event.invariant
     ∙ ap (λ n. text_of (log_header ∷ map entry_words (take n (zip c.args.events.now c.args.outcomes.now))))
     (sym (length_push c.loop-event.yielded (c.in-Some.event, c.in-Some.outcome)))
 
 pub returns : goal.returns
 returns c =
-    c.in_ok-push_str.ensures.bytes
-    ∙ lines_all c.args.events.now c.args.outcomes.now (length c.loop-event.yielded) (string_bytes c.loop-event.text)
+    c.in_ok-extend_from_slice-2.ensures.items
+    ∙ lines_all c.args.events.now c.args.outcomes.now (length c.loop-event.yielded) c.loop-event.text.items
     (zip_end c.args.events.now c.args.outcomes.now c.loop-event.yielded
     c.into_iter-event-iterator.result c.loop-event.event-iterator c.next.new.self c.next.result
     (ap (λ s. iter_rest (zip_first s)) c.into_iter-event-iterator.ensures.into_iter_gives
