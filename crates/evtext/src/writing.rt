@@ -1,10 +1,12 @@
 //! Words of events and of what they answer, each written after a space at the end of a text. No word is made by itself.
-ghost use Rattle.std.specs.Prelude.{◌≡◌, ◌==◌, ◌+◌, ◌≤◌, ◌++◌, ◌∷◌, [], length, vec_len, vec_capacity, OnOk};
+ghost use Rattle.std.specs.Prelude.{◌≡◌, Bool, ◌==◌, ◌+◌, ◌≤◌, ◌++◌, ◌∷◌, [], length, map, vec_len, vec_capacity, OnOk};
 ghost use Rattle.std.specs.Fmt.{decimal};
 ghost use Rattle.std.specs.Int.RustNames.{bit_and};
 ghost use Rattle.base.specs.Rights.{letter_of, rights_word};
+ghost use Rattle.machine.specs.declared.call.Call.TheVariants as calls;
 ghost use Rattle.machine.specs.Spelling.{answer_words, call_words, data_words, four_words, message_words};
 ghost use Rattle.machine.specs.Spelling.{optional_slot_words, optional_word, outcome_words, slot_address_words};
+ghost use Rattle.machine.specs.Step.{takes_memory};
 ghost use Rattle.evtext.specs.Written.{written};
 
 use base::Rights;
@@ -55,6 +57,17 @@ fn write_word(text: &mut Vec<u8>, word: &str) -> Result<(), AllocError>
 {
     text.push(b' ')?;
     text.extend_from_slice(word.as_bytes())
+}
+
+// Writes a name and numbers after it.
+fn write_numbers(text: &mut Vec<u8>, name: &str, numbers: &[u64]) -> Result<(), AllocError>
+    ensures { OnOk result (text.new.items ≡ written text.old.items (name.now ∷ map decimal numbers.now)) }
+{
+    write_word(text, name)?;
+    for number in numbers {
+        write_number(text, *number)?;
+    }
+    Ok(())
 }
 
 fn write_optional(text: &mut Vec<u8>, number: Option<u64>) -> Result<(), AllocError>
@@ -130,16 +143,114 @@ fn write_data(text: &mut Vec<u8>, given: &CapData) -> Result<(), AllocError>
     ensures { OnOk result (text.new.items ≡ written text.old.items (data_words given.now)) }
 {
     match given {
-        CapData::Badge(badge) => {
-            text.extend_from_slice(b" badge")?;
-            write_number(text, *badge)
-        }
-        CapData::Guard { size, value } => {
-            text.extend_from_slice(b" guard")?;
-            write_number(text, *size)?;
-            write_number(text, *value)
-        }
+        CapData::Badge(badge) => write_numbers(text, "badge", &[*badge]),
+        CapData::Guard { size, value } => write_numbers(text, "guard", &[*size, *value]),
     }
+}
+
+// Writes a name and what is sent: to whom, which words, and which capability.
+fn write_sent(
+    text: &mut Vec<u8>,
+    name: &str,
+    address: u64,
+    words: &[u64; 4],
+    capability: Option<u64>,
+) -> Result<(), AllocError>
+    ensures { OnOk result (text.new.items ≡ written text.old.items
+        (name.now ∷ decimal address ∷ (four_words words.now ++ optional_word capability ∷ []))) }
+{
+    write_numbers(text, name, &[address])?;
+    write_four(text, words)?;
+    write_optional(text, capability)
+}
+
+fn write_receive(
+    text: &mut Vec<u8>,
+    address: u64,
+    reply: Option<u64>,
+    slot: &Option<SlotAddress>,
+) -> Result<(), AllocError>
+    ensures { OnOk result (text.new.items ≡ written text.old.items (call_words (calls.Receive address reply slot.now))) }
+{
+    write_numbers(text, "recv", &[address])?;
+    write_optional(text, reply)?;
+    write_optional_slot(text, slot)
+}
+
+fn write_reply(text: &mut Vec<u8>, address: u64, words: &[u64; 4]) -> Result<(), AllocError>
+    ensures { OnOk result (text.new.items ≡ written text.old.items (call_words (calls.Reply address words.now))) }
+{
+    write_numbers(text, "reply", &[address])?;
+    write_four(text, words)
+}
+
+// Writes a name and a slot after it.
+fn write_of_slot(text: &mut Vec<u8>, name: &str, slot: &SlotAddress) -> Result<(), AllocError>
+    ensures { OnOk result (text.new.items ≡ written text.old.items (name.now ∷ slot_address_words slot.now)) }
+{
+    write_word(text, name)?;
+    write_slot(text, slot)
+}
+
+// Writes a name and two slots after it.
+fn write_of_slots(
+    text: &mut Vec<u8>,
+    name: &str,
+    to: &SlotAddress,
+    from: &SlotAddress,
+) -> Result<(), AllocError>
+    ensures { OnOk result (text.new.items ≡ written text.old.items
+        (name.now ∷ (slot_address_words to.now ++ slot_address_words from.now))) }
+{
+    write_of_slot(text, name, to)?;
+    write_slot(text, from)
+}
+
+fn write_copy(
+    text: &mut Vec<u8>,
+    to: &SlotAddress,
+    from: &SlotAddress,
+    rights: Rights,
+) -> Result<(), AllocError>
+    ensures { OnOk result (text.new.items ≡ written text.old.items (call_words (calls.Copy to.now from.now rights))) }
+{
+    write_of_slots(text, "copy", to, from)?;
+    write_rights(text, rights)
+}
+
+fn write_mint(
+    text: &mut Vec<u8>,
+    to: &SlotAddress,
+    from: &SlotAddress,
+    rights: Rights,
+    given: &CapData,
+) -> Result<(), AllocError>
+    ensures { OnOk result (text.new.items
+        ≡ written text.old.items (call_words (calls.Mint to.now from.now rights given.now))) }
+{
+    write_of_slots(text, "mint", to, from)?;
+    write_rights(text, rights)?;
+    write_data(text, given)
+}
+
+// Writes the words of a retype, the one call that takes memory.
+fn write_retype(text: &mut Vec<u8>, call: &Call) -> Result<(), AllocError>
+    requires { takes_memory call.now ≡ Bool.true }
+    ensures { OnOk result (text.new.items ≡ written text.old.items (call_words call.now)) }
+{
+    let Call::Retype {
+        untyped,
+        kind,
+        bits,
+        to,
+        offset,
+        count,
+    } = call
+    else {
+        unreachable!()
+    };
+    write_numbers(text, "retype", &[*untyped])?;
+    write_numbers(text, kind.name(), &[*bits, *to, *offset, *count])
 }
 
 /// Writes the words of the call.
@@ -147,154 +258,55 @@ pub(crate) fn write_call(text: &mut Vec<u8>, call: &Call) -> Result<(), AllocErr
     ensures { OnOk result (text.new.items ≡ written text.old.items (call_words call.now)) }
 {
     match call {
-        Call::Signal { address } => {
-            text.extend_from_slice(b" signal")?;
-            write_number(text, *address)
-        }
-        Call::Poll { address } => {
-            text.extend_from_slice(b" poll")?;
-            write_number(text, *address)
-        }
-        Call::Wait { address } => {
-            text.extend_from_slice(b" wait")?;
-            write_number(text, *address)
-        }
+        Call::Signal { address } => write_numbers(text, "signal", &[*address]),
+        Call::Poll { address } => write_numbers(text, "poll", &[*address]),
+        Call::Wait { address } => write_numbers(text, "wait", &[*address]),
         Call::Send {
             address,
             words,
             capability,
-        } => {
-            text.extend_from_slice(b" send")?;
-            write_number(text, *address)?;
-            write_four(text, words)?;
-            write_optional(text, *capability)
-        }
+        } => write_sent(text, "send", *address, words, *capability),
         Call::Call {
             address,
             words,
             capability,
-        } => {
-            text.extend_from_slice(b" call")?;
-            write_number(text, *address)?;
-            write_four(text, words)?;
-            write_optional(text, *capability)
-        }
+        } => write_sent(text, "call", *address, words, *capability),
         Call::Receive {
             address,
             reply,
             slot,
-        } => {
-            text.extend_from_slice(b" recv")?;
-            write_number(text, *address)?;
-            write_optional(text, *reply)?;
-            write_optional_slot(text, slot)
-        }
-        Call::Reply { address, words } => {
-            text.extend_from_slice(b" reply")?;
-            write_number(text, *address)?;
-            write_four(text, words)
-        }
-        Call::Fetch => text.extend_from_slice(b" fetch"),
-        Call::Copy { to, from, rights } => {
-            text.extend_from_slice(b" copy")?;
-            write_slot(text, to)?;
-            write_slot(text, from)?;
-            write_rights(text, *rights)
-        }
+        } => write_receive(text, *address, *reply, slot),
+        Call::Reply { address, words } => write_reply(text, *address, words),
+        Call::Fetch => write_word(text, "fetch"),
+        Call::Copy { to, from, rights } => write_copy(text, to, from, *rights),
         Call::Mint {
             to,
             from,
             rights,
             given,
-        } => {
-            text.extend_from_slice(b" mint")?;
-            write_slot(text, to)?;
-            write_slot(text, from)?;
-            write_rights(text, *rights)?;
-            write_data(text, given)
-        }
-        Call::Move { to, from } => {
-            text.extend_from_slice(b" move")?;
-            write_slot(text, to)?;
-            write_slot(text, from)
-        }
-        Call::Delete { slot } => {
-            text.extend_from_slice(b" delete")?;
-            write_slot(text, slot)
-        }
-        Call::Revoke { slot } => {
-            text.extend_from_slice(b" revoke")?;
-            write_slot(text, slot)
-        }
-        Call::Retype {
-            untyped,
-            kind,
-            bits,
-            to,
-            offset,
-            count,
-        } => {
-            text.extend_from_slice(b" retype")?;
-            write_number(text, *untyped)?;
-            write_word(text, kind.name())?;
-            write_number(text, *bits)?;
-            write_number(text, *to)?;
-            write_number(text, *offset)?;
-            write_number(text, *count)
-        }
-        Call::Read { address, index } => {
-            text.extend_from_slice(b" read")?;
-            write_number(text, *address)?;
-            write_number(text, *index)
-        }
+        } => write_mint(text, to, from, *rights, given),
+        Call::Move { to, from } => write_of_slots(text, "move", to, from),
+        Call::Delete { slot } => write_of_slot(text, "delete", slot),
+        Call::Revoke { slot } => write_of_slot(text, "revoke", slot),
+        Call::Retype { .. } => write_retype(text, call),
+        Call::Read { address, index } => write_numbers(text, "read", &[*address, *index]),
         Call::Write {
             address,
             index,
             word,
-        } => {
-            text.extend_from_slice(b" write")?;
-            write_number(text, *address)?;
-            write_number(text, *index)?;
-            write_number(text, *word)
-        }
-        Call::SetSpace { thread, space } => {
-            text.extend_from_slice(b" setspace")?;
-            write_number(text, *thread)?;
-            write_number(text, *space)
-        }
-        Call::ClearSpace { thread } => {
-            text.extend_from_slice(b" clearspace")?;
-            write_number(text, *thread)
-        }
-        Call::Suspend { thread } => {
-            text.extend_from_slice(b" suspend")?;
-            write_number(text, *thread)
-        }
-        Call::Resume { thread } => {
-            text.extend_from_slice(b" resume")?;
-            write_number(text, *thread)
-        }
+        } => write_numbers(text, "write", &[*address, *index, *word]),
+        Call::SetSpace { thread, space } => write_numbers(text, "setspace", &[*thread, *space]),
+        Call::ClearSpace { thread } => write_numbers(text, "clearspace", &[*thread]),
+        Call::Suspend { thread } => write_numbers(text, "suspend", &[*thread]),
+        Call::Resume { thread } => write_numbers(text, "resume", &[*thread]),
         Call::Configure {
             control,
             context,
             budget,
             period,
-        } => {
-            text.extend_from_slice(b" configure")?;
-            write_number(text, *control)?;
-            write_number(text, *context)?;
-            write_number(text, *budget)?;
-            write_number(text, *period)
-        }
-        Call::Bind { context, thread } => {
-            text.extend_from_slice(b" bind")?;
-            write_number(text, *context)?;
-            write_number(text, *thread)
-        }
-        Call::Unbind { context } => {
-            text.extend_from_slice(b" unbind")?;
-            write_number(text, *context)
-        }
+        } => write_numbers(text, "configure", &[*control, *context, *budget, *period]),
+        Call::Bind { context, thread } => write_numbers(text, "bind", &[*context, *thread]),
+        Call::Unbind { context } => write_numbers(text, "unbind", &[*context]),
     }
 }
 
@@ -338,10 +350,10 @@ pub(crate) fn write_outcome(text: &mut Vec<u8>, outcome: &Outcome) -> Result<(),
     match outcome {
         Outcome::Done(answer) => write_answer(text, answer),
         Outcome::Blocked => text.extend_from_slice(b" blocked"),
-        Outcome::Refused(refusal) => {
-            text.extend_from_slice(b" refused")?;
-            write_number(text, refusal.code)?;
-            write_number(text, refusal.detail)
-        }
+        Outcome::Refused(refusal) => write_numbers(
+            text,
+            "refused",
+            &[refusal.code, refusal.detail],
+        ),
     }
 }
