@@ -3,14 +3,14 @@
 #![tactic(auto)]
 
 mod asked;
-mod claims;
+mod broken;
 mod closing;
 mod denials;
 mod sentences;
 mod unlabelled;
 
 pub use asked::{an_asked_edge_is_missing, asked_edge};
-pub use claims::explain_broken;
+pub use broken::explain_broken;
 pub use closing::explain_closing;
 pub use denials::{explain_closing_command, explain_denial, explain_outside};
 pub use unlabelled::explain_unlabelled;
