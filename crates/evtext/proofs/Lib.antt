@@ -1,3 +1,4 @@
+mod Lines
 mod Logs
 mod CallParts
 mod EventWords

@@ -1,5 +1,5 @@
 -- The text of a log grows by a line with each entry.
-use Rattle.std.proofs.Common.{◌≡◌, ℕ, ◌+◌, ◌<◌, List, [], ◌∷◌, ◌++◌, length, take, map, min, get_or, refl, sym, ap, ◌∙◌, arith, append_assoc, codes}
+use Rattle.std.proofs.Common.{◌≡◌, ℕ, ◌+◌, ◌<◌, List, [], ◌∷◌, ◌++◌, length, take, map, min, get_or, sym, ap, ◌∙◌, arith, codes}
 use Rattle.std.specs.Fmt.{decimal}
 use Rattle.std.proofs.lemmas.List.{map-append, take_all, take_more, flat_map_more}
 use Rattle.std.proofs.lemmas.Slice.Zip.{length-zip, get_or-zip}
@@ -12,30 +12,19 @@ use Rattle.words.specs.Reading.{last_line}
 use Rattle.words.specs.Text.{line_text, text_of}
 use Rattle.evtext.specs.Log.{log_header, log_text}
 use Rattle.evtext.specs.Written.{written}
-
--- words are written after a first one as they are spelled with it
-written-spelled : (text word : List ℕ) (words : List (List ℕ)) → written (text ++ word) words ≡ text ++ spelled (word ∷ words)
-written-spelled text word [] = refl
-written-spelled text word (next ∷ words) =
-    let spaced : List ℕ = text ++ (word ++ 32 ∷ []) in
-    ap (λ so_far. written so_far words)
-    (append_assoc text word (32 ∷ next) ∙ ap (λ rest. text ++ rest) (sym (append_assoc word (32 ∷ []) next))
-    ∙ sym (append_assoc text (word ++ 32 ∷ []) next))
-    ∙ written-spelled spaced next words ∙ append_assoc text (word ++ 32 ∷ []) (spelled (next ∷ words))
-    ∙ ap (λ rest. text ++ rest) (append_assoc word (32 ∷ []) (spelled (next ∷ words)))
+use Rattle.evtext.proofs.Lines.{line_written}
 
 -- the line of an entry: its event, ` =`, and its outcome
 pub entry_written : (text : List ℕ) (event : Event) (outcome : Outcome)
     → written
-    (written (written (text ++ decimal event.core) (decimal event.thread.0 ∷ [])) (call_words event.call) ++ codes " =")
+    (written (text ++ decimal event.core) (decimal event.thread.0 ∷ call_words event.call) ++ codes " =")
     (outcome_words outcome) ++ 10 ∷ []
     ≡ text ++ line_text (entry_words (event, outcome))
 entry_written text event outcome =
     let words : List (List ℕ) = decimal event.thread.0 ∷ call_words event.call in
     ap (λ bytes. bytes ++ 10 ∷ [])
-    (sym (fold-append (λ so_far word. so_far ++ 32 ∷ word) (text ++ decimal event.core) words (codes "=" ∷ outcome_words outcome))
-    ∙ written-spelled text (decimal event.core) (words ++ codes "=" ∷ outcome_words outcome))
-    ∙ append_assoc text (spelled (entry_words (event, outcome))) (10 ∷ [])
+    (sym (fold-append (λ so_far word. so_far ++ 32 ∷ word) (text ++ decimal event.core) words (codes "=" ∷ outcome_words outcome)))
+    ∙ line_written text (decimal event.core) (words ++ codes "=" ∷ outcome_words outcome)
 
 -- the lines so far, and one more
 pub lines_more : (events : List Event) (outcomes : List Outcome) (n : ℕ) (event : Event) (outcome : Outcome) (text : List ℕ)

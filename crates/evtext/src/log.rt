@@ -13,7 +13,7 @@ ghost use Rattle.evtext.specs.Log.{log_format, log_line, log_step, log_text, rea
 
 use crate::line::next_event;
 use crate::outcome::next_result;
-use crate::writing::{write_call, write_decimal, write_number, write_outcome};
+use crate::writing::{write_event, write_outcome};
 use base::Refusal;
 use machine::{Event, Log, Outcome};
 use std::alloc::{AllocError, Global};
@@ -139,9 +139,7 @@ fn write_entry(text: &mut Vec<u8>, event: &Event, outcome: &Outcome) -> Result<(
     ensures { OnOk result (text.new.items
         ≡ text.old.items ++ line_text (entry_words (event.now, outcome.now))) }
 {
-    write_decimal(text, u64::from(event.core.number()))?;
-    write_number(text, event.thread.0)?;
-    write_call(text, &event.call)?;
+    write_event(text, event)?;
     text.extend_from_slice(b" =")?;
     write_outcome(text, outcome)?;
     text.push(b'\n')?;

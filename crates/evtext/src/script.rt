@@ -1,14 +1,16 @@
-ghost use Rattle.std.specs.Prelude.{◌≡◌, ◌≢◌, ℕ, IfOk, IfErr, Ok, List, string_bytes};
+ghost use Rattle.std.specs.Prelude.{◌≡◌, ◌≢◌, ℕ, ◌++◌, IfOk, IfErr, Ok, List, OnOk};
 ghost use Rattle.base.specs.Refusals.{out_of_memory};
 ghost use Rattle.machine.specs.declared.call.Event.{Event as EventOf};
+ghost use Rattle.machine.specs.Spelling.{event_words};
 ghost use Rattle.words.specs.declared.faults.Wrong.{Wrong};
 ghost use Rattle.words.specs.Fault.{fault_at, no_memory};
 ghost use Rattle.words.specs.FirstFault.{IsFirstFault, TellsFirst};
 ghost use Rattle.words.specs.Reading.{Reads};
-ghost use Rattle.words.specs.Text.{lines_of};
+ghost use Rattle.words.specs.Text.{line_text, lines_of};
 ghost use Rattle.evtext.specs.Script.{read_script_of, script_format, script_line, script_step, script_text, IsScript};
 
 use crate::line::next_event;
+use crate::writing::write_event;
 use base::Refusal;
 use machine::Event;
 use std::alloc::{AllocError, Global};
@@ -93,16 +95,25 @@ pub fn write_script(alloc: Global, events: &[Event]) -> Result<Vec<u8>, Refusal>
     // What is written is read as the events.
     ensures read_back { IsScript events.now → IfOk result (λ text. read_script_of text.items ≡ Ok events.now) }
 {
-    Ok(script_string(alloc, events)?.into_bytes())
+    Ok(script_bytes(alloc, events)?)
 }
 
-fn script_string(alloc: Global, events: &[Event]) -> Result<String, AllocError>
-    ensures { IfOk result (λ text. string_bytes text ≡ script_text events.now) }
+fn script_bytes(alloc: Global, events: &[Event]) -> Result<Vec<u8>, AllocError>
+    ensures { IfOk result (λ text. text.items ≡ script_text events.now) }
 {
-    let mut text = String::from_str(alloc, "confine-script 1\n")?;
+    let mut text = Vec::new(alloc);
+    text.extend_from_slice(b"confine-script 1\n")?;
     for event in events {
-        writeln!(text, "{event}")?;
+        write_line(&mut text, event)?;
     }
-    text.push_str("end\n")?;
+    text.extend_from_slice(b"end\n")?;
     Ok(text)
+}
+
+fn write_line(text: &mut Vec<u8>, event: &Event) -> Result<(), AllocError>
+    ensures { OnOk result (text.new.items ≡ text.old.items ++ line_text (event_words event.now)) }
+{
+    write_event(text, event)?;
+    text.push(b'\n')?;
+    Ok(())
 }

@@ -11,7 +11,7 @@ ghost use Rattle.evtext.specs.Written.{written};
 
 use base::Rights;
 use bitflags::Flags;
-use machine::{Answer, Call, CapData, Message, Outcome, SlotAddress};
+use machine::{Answer, Call, CapData, Event, Message, Outcome, SlotAddress};
 use std::alloc::AllocError;
 
 // The four rights.
@@ -33,8 +33,8 @@ fn put_decimal(text: &mut Vec<u8>, number: u64)
     text.push_reserved(b'0' + (number % 10) as u8);
 }
 
-/// Writes the number in decimal, and no space before it.
-pub(crate) fn write_decimal(text: &mut Vec<u8>, number: u64) -> Result<(), AllocError>
+// Writes the number in decimal, and no space before it.
+fn write_decimal(text: &mut Vec<u8>, number: u64) -> Result<(), AllocError>
     ensures { OnOk result (text.new.items ≡ text.old.items ++ decimal number) }
 {
     text.reserve(MOST_DIGITS)?;
@@ -42,8 +42,8 @@ pub(crate) fn write_decimal(text: &mut Vec<u8>, number: u64) -> Result<(), Alloc
     Ok(())
 }
 
-/// Writes the number in decimal.
-pub(crate) fn write_number(text: &mut Vec<u8>, number: u64) -> Result<(), AllocError>
+// Writes the number in decimal.
+fn write_number(text: &mut Vec<u8>, number: u64) -> Result<(), AllocError>
     ensures { OnOk result (text.new.items ≡ written text.old.items (decimal number ∷ [])) }
 {
     text.reserve(1 + MOST_DIGITS)?;
@@ -253,8 +253,7 @@ fn write_retype(text: &mut Vec<u8>, call: &Call) -> Result<(), AllocError>
     write_numbers(text, kind.name(), &[*bits, *to, *offset, *count])
 }
 
-/// Writes the words of the call.
-pub(crate) fn write_call(text: &mut Vec<u8>, call: &Call) -> Result<(), AllocError>
+fn write_call(text: &mut Vec<u8>, call: &Call) -> Result<(), AllocError>
     ensures { OnOk result (text.new.items ≡ written text.old.items (call_words call.now)) }
 {
     match call {
@@ -308,6 +307,16 @@ pub(crate) fn write_call(text: &mut Vec<u8>, call: &Call) -> Result<(), AllocErr
         Call::Bind { context, thread } => write_numbers(text, "bind", &[*context, *thread]),
         Call::Unbind { context } => write_numbers(text, "unbind", &[*context]),
     }
+}
+
+/// Writes the words of the event, and no space before them.
+pub(crate) fn write_event(text: &mut Vec<u8>, event: &Event) -> Result<(), AllocError>
+    ensures { OnOk result (text.new.items
+        ≡ written (text.old.items ++ decimal event.now.core) (decimal event.now.thread.0 ∷ call_words event.now.call)) }
+{
+    write_decimal(text, u64::from(event.core.number()))?;
+    write_number(text, event.thread.0)?;
+    write_call(text, &event.call)
 }
 
 fn write_message(text: &mut Vec<u8>, message: &Message) -> Result<(), AllocError>

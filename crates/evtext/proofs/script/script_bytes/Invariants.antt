@@ -1,9 +1,9 @@
-use Rattle.std.proofs.Common.{◌≡◌, ◌∷◌, take, map, string_bytes}
+use Rattle.std.proofs.Common.{◌≡◌, ◌∷◌, take, map}
 use Rattle.machine.specs.Spelling.{event_words}
 use Rattle.words.specs.Text.{text_of}
 use Rattle.evtext.specs.Script.{script_header}
-use Rattle.evtext.proofs.script.script_string.Given as goal
+use Rattle.evtext.proofs.script.script_bytes.Given as goal
 
 -- the lines so far are the header's and those of the events so far
 abbrev pub invariant-loop-event : goal.invariant-loop-event
-invariant-loop-event l = string_bytes l.text ≡ text_of (script_header ∷ map event_words (take l.event-index l.events))
+invariant-loop-event l = l.text.items ≡ text_of (script_header ∷ map event_words (take l.event-index l.events))
