@@ -1,11 +1,11 @@
-use Rattle.std.proofs.Common.{◌≡◌, length, refl}
+use Rattle.std.proofs.Common.{length, refl, ap, ◌∙◌}
 use Rattle.report.specs.Claimed as claimed
 use Rattle.reptext.specs.Reports.{hold_data, line_of}
 use Rattle.report.proofs.claiming.claims_answer.Goals as goal
 
 pub returns-in_ok-hold_report-in-None-clause-right : goal.returns-in_ok-hold_report-in-None-clause-right
 returns-in_ok-hold_report-in-None-clause-right c =
-    let told : c.in_ok-hold_report-in-None.field-0.items ≡ line_of (hold_data (length c.args.claims.now)) = cc in
+    let told = c.in_ok-hold_report-in-None.ensures ∙ ap (λ n. line_of (hold_data n)) (ap length c.as_slice.ensures) in
     claimed.hold c.table.ensures.accepted.verdict (rw c.in-None.is at c.first_broken.ensures.hold)
     (rw c.in-None.is at c.first_broken.ensures.kept) told refl
 
