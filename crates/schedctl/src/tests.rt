@@ -35,15 +35,18 @@ fn is_thread(state: &State, id: ObjId) -> bool
     matches!(state.object(id), Some(Object::Tcb(_)))
 }
 
+fn context_of(thread: ObjId) -> Object {
+    Object::Context(Context {
+        address: 0x100,
+        share: None,
+        thread: Some(thread),
+    })
+}
+
 // The context of one thread goes over to another.
 fn hand(rt: &impl Abort, state: &mut State) -> Result<(), Fail> {
     let (context, from, to) = (ObjId(0), ObjId(1), ObjId(2));
-    let own = Context {
-        address: 0x100,
-        share: None,
-        thread: Some(from),
-    };
-    add(rt, state, Object::Context(own))?;
+    add(rt, state, context_of(from))?;
     add(rt, state, thread(0x1000, Some(context)))?;
     add(rt, state, thread(0x2000, None))?;
     assert!(rt; context_under(state, from).is_some());
@@ -52,11 +55,8 @@ fn hand(rt: &impl Abort, state: &mut State) -> Result<(), Fail> {
     hand_over(state, from, to);
     assert_eq!(rt; context_under(state, from), None);
     assert_eq!(rt; context_under(state, to), Some(context));
-    let taken = Context {
-        thread: Some(to),
-        ..own
-    };
-    assert_eq!(rt; state.object(context), Some(&Object::Context(taken)));
+    let taken = context_of(to);
+    assert_eq!(rt; state.object(context), Some(&taken));
     Ok(())
 }
 
