@@ -1,7 +1,7 @@
 //! The program `confine`: its command line, its files and its exit status.
 #![tactic(auto)]
 
-ghost use Rattle.std.specs.Prelude.{◌≡◌, ◌≤◌, false, IfOk, IsErr, OnErr};
+ghost use Rattle.std.specs.Prelude.{◌≡◌, ◌≤◌, false, IfOk, IsErr, None, OnErr, Some};
 ghost use Rattle.std.specs.Fn.{FnReturnsAt};
 ghost use Rattle.devices.specs.Watched.{failed_of};
 ghost use Rattle.report.specs.Ends.{status_of};
@@ -438,6 +438,70 @@ where
     (end, Files::Two(table, policy))
 }
 
+/// Tells whether the claims of this name hold of the table and the policy of these names.
+fn serve_given<R, F, O, L, W>(
+    rt: &R,
+    table: &str,
+    policy: &str,
+    claims: &str,
+    opener: O,
+    listener: &mut L,
+    out: &mut Watched<W>,
+) -> (End, Files<F>)
+where
+    R: AllocGlobal + Threads + Sync,
+    F: Read + Drop,
+    O: Fn(&str) -> io::Result<F> + Drop,
+    L: Listener,
+    W: Write,
+    requires opener { O.IsAlwaysCallable opener }
+    requires out { failed_of out.old ≡ false }
+    ensures served { Serves (FnReturnsAt O.Fn opener) F.remaining (written W.contents out.old out.new)
+        (Claims table.entry policy.entry (Some claims.entry)) result.1 result.0 }
+    ensures exit { status_of result.0 ≤ 2 }
+{
+    let mut table = open_result(opener(table));
+    let mut policy = open_result(opener(policy));
+    let mut claims = open_result(opener(claims));
+    let end = check_claims(
+        rt,
+        rt.alloc(),
+        &mut table,
+        &mut policy,
+        &mut claims,
+        listener,
+        out,
+    );
+    (end, Files::Three(table, policy, claims))
+}
+
+/// Writes the strongest claims that hold of the table and the policy of these names.
+fn serve_strongest<R, F, O, L, W>(
+    rt: &R,
+    table: &str,
+    policy: &str,
+    opener: O,
+    listener: &mut L,
+    out: &mut Watched<W>,
+) -> (End, Files<F>)
+where
+    R: AllocGlobal + Threads + Sync,
+    F: Read + Drop,
+    O: Fn(&str) -> io::Result<F> + Drop,
+    L: Listener,
+    W: Write,
+    requires opener { O.IsAlwaysCallable opener }
+    requires out { failed_of out.old ≡ false }
+    ensures served { Serves (FnReturnsAt O.Fn opener) F.remaining (written W.contents out.old out.new)
+        (Claims table.entry policy.entry None) result.1 result.0 }
+    ensures exit { status_of result.0 ≤ 2 }
+{
+    let mut table = open_result(opener(table));
+    let mut policy = open_result(opener(policy));
+    let end = write_claims(rt, rt.alloc(), &mut table, &mut policy, listener, out);
+    (end, Files::Two(table, policy))
+}
+
 /// Tells whether the claims of this name hold of the table and the policy of these names, or writes the
 /// strongest that do.
 fn serve_claims<R, F, O, L, W>(
@@ -461,26 +525,9 @@ where
         (Claims table.entry policy.entry claims.entry) result.1 result.0 }
     ensures exit { status_of result.0 ≤ 2 }
 {
-    let mut table = open_result(opener(table));
-    let mut policy = open_result(opener(policy));
     match claims {
-        Some(claims) => {
-            let mut claims = open_result(opener(claims));
-            let end = check_claims(
-                rt,
-                rt.alloc(),
-                &mut table,
-                &mut policy,
-                &mut claims,
-                listener,
-                out,
-            );
-            (end, Files::Three(table, policy, claims))
-        }
-        None => {
-            let end = write_claims(rt, rt.alloc(), &mut table, &mut policy, listener, out);
-            (end, Files::Two(table, policy))
-        }
+        Some(claims) => serve_given(rt, table, policy, claims, opener, listener, out),
+        None => serve_strongest(rt, table, policy, opener, listener, out),
     }
 }
 

@@ -1,9 +1,9 @@
 use Rattle.std.proofs.Common.{refl}
-use Rattle.confine.proofs.serve_claims.Goals as goal
+use Rattle.confine.proofs.serve_given.Goals as goal
 
 -- each file is what opening it gave
-pub returns-in-Some-clause-served : goal.returns-in-Some-clause-served
-returns-in-Some-clause-served g c = record {
+pub returns-clause-served : goal.returns-clause-served
+returns-clause-served g c = record {
   given = c.opener.result;
   by_name = record { shown = _; shows = refl; says = record { met = c.opener.ensures } };
   done = record {
