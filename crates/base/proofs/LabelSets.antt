@@ -67,11 +67,11 @@ in_only label other below = by (cases_eq other label) where
 -- the lowest bit is the least label
 pub least_label :
     (word : ℕ) → 0 < word → word < 2 ^ 64
-    → ((bit_at word (trailing_zeros w64 word) == 1) ≡ true)
+    → (trailing_zeros w64 word < 64) × ((bit_at word (trailing_zeros w64 word) == 1) ≡ true)
     × ((label : ℕ) → label < trailing_zeros w64 word → (bit_at word label == 1) ≡ false)
 least_label word some fits =
     let lowest = bit_at-trailing_zeros w64 word some fits in
-    (ap (λ n. n == 1) lowest.1, λ label below. ap (λ n. n == 1) (lowest.2 label below))
+    (lowest.0, ap (λ n. n == 1) lowest.1, λ label below. ap (λ n. n == 1) (lowest.2 label below))
 
 pub no_label : (label : ℕ) → (bit_at 0 label == 1) ≡ false
 no_label label = ap (λ n. n == 1) (bit_at-zero label)

@@ -1,4 +1,5 @@
 pub mod RightsWords
 pub mod KindNames
 pub mod CauseLemmas
+pub mod LabelParts
 mod LabelSets

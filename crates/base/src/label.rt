@@ -5,7 +5,7 @@ use std::marker::Model;
 /// The security label of an object, numbered from 0 in the order of the capability table.
 #[derive(Clone, Copy, PartialEq, Eq, PartialOrd, Ord, Hash, Debug)]
 pub struct Label {
-    number: u8,
+    number: u16,
 }
 
 impl Model for Label {
@@ -23,10 +23,10 @@ impl Model for Label {
 
 impl Label {
     /// How many labels there can be.
-    pub const COUNT: u8 = 64;
+    pub const COUNT: u16 = 256;
 
     /// The label of this number, which is below [`Label::COUNT`].
-    pub fn new(number: u8) -> Option<Label>
+    pub fn new(number: u16) -> Option<Label>
         ensures valid { IsSome result ↔ (number < Label.COUNT) }
         ensures value { IfSome result (λ label. label ≡ number) }
     {
@@ -38,7 +38,7 @@ impl Label {
     }
 
     /// The label's number.
-    pub fn number(self) -> u8
+    pub fn number(self) -> u16
         ensures value { result ≡ self }
         ensures below { result < Label.COUNT }
     {

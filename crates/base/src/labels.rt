@@ -1,12 +1,16 @@
-ghost use Rattle.std.specs.Prelude.{◌≡◌, ◌&&◌, ◌||◌, ◌==◌, ◌<◌, not, false, true, ℕ, IfNone, IfSome};
+mod part;
+
+ghost use Rattle.std.specs.Prelude.{◌≡◌, ◌&&◌, ◌||◌, ◌==◌, ◌<◌, ◌/◌, ◌%◌, not, false, true, ℕ, IfNone, IfSome};
+ghost use Rattle.base.specs.declared.label.TheConstants.Label as Label;
 ghost use Rattle.base.specs.Labels.{is_in};
 
 use crate::Label;
+use part::Part;
 
-/// A set of labels, as a word whose bit at a label's number says whether the label is in it.
+/// A set of labels, in parts that each have 64 of the labels that there can be.
 #[derive(Clone, Copy, PartialEq, Eq, Debug)]
 pub struct Labels {
-    word: u64,
+    parts: [Part; 4],
 }
 
 impl Labels {
@@ -14,65 +18,91 @@ impl Labels {
     pub fn none() -> Labels
         ensures { (label : ℕ) → is_in result label ≡ false }
     {
-        Labels { word: 0 }
+        Labels {
+            parts: [Part::none(); 4],
+        }
     }
 
     /// This label alone.
-    #[tactic(auto, using(crate::proofs::LabelSets::in_only))]
     pub fn only(label: Label) -> Labels
         ensures { (other : ℕ) → is_in result other ≡ (other == label) }
     {
-        Labels {
-            word: 1 << label.number(),
-        }
+        let (part, number) = place(label);
+        let mut parts = [Part::none(); 4];
+        parts[part] = Part::only(number);
+        Labels { parts }
     }
 
     /// Whether the label is in the set.
     pub fn has(self, label: Label) -> bool
         ensures { result ≡ is_in self label }
     {
-        (self.word >> label.number()) & 1 == 1
+        let (part, number) = place(label);
+        self.parts[part].has(number)
     }
 
     /// The labels of either set.
-    #[tactic(auto, using(crate::proofs::LabelSets::in_either))]
     pub fn union(self, other: Labels) -> Labels
         ensures { (label : ℕ) → is_in result label ≡ (is_in self label || is_in other label) }
     {
         Labels {
-            word: self.word | other.word,
+            parts: [
+                self.parts[0].union(other.parts[0]),
+                self.parts[1].union(other.parts[1]),
+                self.parts[2].union(other.parts[2]),
+                self.parts[3].union(other.parts[3]),
+            ],
         }
     }
 
     /// The labels that are in both sets.
-    #[tactic(auto, using(crate::proofs::LabelSets::in_both))]
     pub fn intersection(self, other: Labels) -> Labels
         ensures { (label : ℕ) → is_in result label ≡ (is_in self label && is_in other label) }
     {
         Labels {
-            word: self.word & other.word,
+            parts: [
+                self.parts[0].intersection(other.parts[0]),
+                self.parts[1].intersection(other.parts[1]),
+                self.parts[2].intersection(other.parts[2]),
+                self.parts[3].intersection(other.parts[3]),
+            ],
         }
     }
 
     /// The labels of this set that aren't in the other.
-    #[tactic(auto, using(crate::proofs::LabelSets::in_first_alone))]
     pub fn difference(self, other: Labels) -> Labels
         ensures { (label : ℕ) → is_in result label ≡ (is_in self label && not (is_in other label)) }
     {
         Labels {
-            word: self.word & !other.word,
+            parts: [
+                self.parts[0].difference(other.parts[0]),
+                self.parts[1].difference(other.parts[1]),
+                self.parts[2].difference(other.parts[2]),
+                self.parts[3].difference(other.parts[3]),
+            ],
         }
     }
 
     /// The label of the least number, if the set has any.
-    #[tactic(auto, using(crate::proofs::LabelSets::least_label, crate::proofs::LabelSets::no_label))]
     pub fn first(self) -> Option<Label>
         ensures some { IfSome result (λ least. (is_in self least ≡ true) × ((label : ℕ) → label < least → is_in self label ≡ false)) }
         ensures none { IfNone result ((label : ℕ) → is_in self label ≡ false) }
     {
-        if self.word == 0 {
-            return None;
+        for (index, part) in self.parts.iter().enumerate() {
+            if let Some(number) = part.first() {
+                return Label::new(index as u16 * 64 + u16::from(number));
+            }
         }
-        Label::new(self.word.trailing_zeros() as u8)
+        None
     }
+}
+
+// Which part has a label, and the label's number there.
+fn place(label: Label) -> (usize, u8)
+    ensures part { result.0 ≡ label / 64 }
+    ensures number { result.1 ≡ label % 64 }
+    ensures below { label < Label.COUNT }
+{
+    let number = label.number();
+    (usize::from(number / 64), (number % 64) as u8)
 }

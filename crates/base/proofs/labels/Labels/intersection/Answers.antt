@@ -1,0 +1,10 @@
+use Rattle.std.proofs.Common.{◌≡◌, ◌&&◌, length, refl, arith}
+use Rattle.base.proofs.LabelParts.{by_parts}
+use Rattle.base.proofs.labels.Labels.intersection.Goals as goal
+
+pub returns : goal.returns
+returns c =
+    let one : length c.args.self.parts ≡ 4 = omega arith in
+    let other : length c.args.other.parts ≡ 4 = omega arith in
+    by_parts ◌&&◌ refl c.args.self.parts c.args.other.parts _ _ _ _ one other
+    c.intersection.ensures c.intersection-2.ensures c.intersection-3.ensures c.intersection-4.ensures
