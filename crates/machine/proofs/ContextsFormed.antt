@@ -292,6 +292,61 @@ module _ (m : Machine) (from id to : ObjId) (tcb : Tcb) (context : Context) (the
         ∙ ap context_under (elsewhere m from id tcb context None None there its to to_apart apart)
         ∙ free
 
+  handed_is : with_handed m from to ≡ with_bound between id to
+  unfolding with_handed
+  handed_is = rw (there, runs) refl
+
+  module _ (other : Tcb) (receives : IsThread m to other) where
+    abbrev idle : Context
+    idle = record context { thread = None }
+
+    differs : to ≢ id
+    differs same =
+        let one : Some (o.Tcb other) ≡ Some (o.Context context) = sym receives ∙ ap (object_of m) same ∙ its in cc
+
+    stays : IsThread between to other
+    stays =
+        ap (λ (n : Machine). object_of n to) between_is
+        ∙ elsewhere m from id tcb context None None there its to to_apart differs
+        ∙ receives
+
+    handed_whole : with_handed m from to ≡ linked between to id other idle (Some id) (Some to) stays its_between
+    handed_whole = handed_is ∙ bound_is between id to idle other its_between stays
+
+    -- the other thread runs on it
+    pub handed_there : IsThread (with_handed m from to) to (record other { context = Some id })
+    handed_there =
+        ap (λ (n : Machine). object_of n to) handed_whole
+        ∙ there_now between to id other idle (Some id) (Some to) stays its_between
+
+    -- and the one that had it on nothing
+    pub handed_from : IsThread (with_handed m from to) from (record tcb { context = None })
+    handed_from =
+        ap (λ (n : Machine). object_of n from) handed_whole
+        ∙ elsewhere between to id other idle (Some id) (Some to) stays its_between from (λ same. to_apart (sym same))
+        (λ same. apart m from id tcb context None None there its (sym same))
+        ∙ ap (λ (n : Machine). object_of n from) between_is
+        ∙ there_now m from id tcb context None None there its
+
+    -- what is neither runs on what it ran on
+    pub handed_other :
+        (q : ObjId) → q ≢ from → q ≢ to → context_under (object_of (with_handed m from to) q) ≡ context_under (object_of m q)
+    handed_other q not_from not_to = by_id (one_or_two q id) where
+      by_id : (q ≡ id) ⊎ (q ≢ id) → context_under (object_of (with_handed m from to) q) ≡ context_under (object_of m q)
+      by_id (inl same) =
+          ap (λ (n : Machine). context_under (object_of n q)) handed_whole
+          ∙ ap (λ (p : ObjId). context_under (object_of (linked between to id other idle (Some id) (Some to) stays its_between) p))
+          same
+          ∙ ap context_under (its_now between to id other idle (Some id) (Some to) stays its_between)
+          ∙ ap context_under (sym its)
+          ∙ ap (λ (p : ObjId). context_under (object_of m p)) (sym same)
+      by_id (inr not_id) =
+          ap context_under
+          (ap (λ (n : Machine). object_of n q) handed_whole
+          ∙ elsewhere between to id other idle (Some id) (Some to) stays its_between q not_to not_id
+          ∙ ap (λ (n : Machine). object_of n q) between_is
+          ∙ elsewhere m from id tcb context None None there its q not_from not_id)
+
 pub with_handed_formed :
     (m : Machine) (from to : ObjId) → IsWellFormed m → context_under (object_of m to) ≡ None → IsWellFormed (with_handed m from to)
 unfolding with_handed

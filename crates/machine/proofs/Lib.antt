@@ -41,6 +41,7 @@ pub mod Formed
 pub mod Threads
 pub mod Steps
 pub mod AuthorityLemmas
+pub mod RunsLinks
 pub mod FiniteLemmas
 pub mod RoundLemmas
 pub mod BelowLemmas
@@ -71,7 +72,9 @@ pub mod SendRow
 pub mod ReceiveRow
 pub mod ReplyRow
 pub mod FetchRow
+pub mod Lending
 pub mod MessageRows
+pub mod LoansReturn
 pub mod WordsRow
 pub mod ContextRow
 pub mod WordsFormed

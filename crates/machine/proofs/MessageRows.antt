@@ -5,7 +5,10 @@ use Rattle.std.proofs.lemmas.Option.{none-some}
 use Rattle.base.specs.declared.ids.ObjId.{ObjId}
 use Rattle.machine.specs.declared.object.Object.TheVariants as o
 use Rattle.machine.specs.declared.object.ObjectKind.TheVariants as kind
+use Rattle.machine.specs.declared.object.ReplyState.TheVariants as reply
 use Rattle.machine.specs.declared.slot_address.SlotAddress.{SlotAddress}
+use Rattle.machine.specs.declared.thread.Calling.{Calling}
+use Rattle.machine.specs.declared.thread.Lent.{Lent}
 use Rattle.machine.specs.declared.thread.Message.{Message}
 use Rattle.machine.specs.declared.thread.Receiving.{Receiving}
 use Rattle.machine.specs.declared.thread.RunState.{RunState}
@@ -15,17 +18,24 @@ use Rattle.machine.specs.declared.thread.Tcb.{Tcb}
 use Rattle.machine.specs.Finalising.{halted}
 use Rattle.machine.specs.Machine.{Machine, object_of}
 use Rattle.machine.specs.Objects.{kind_of_object}
-use Rattle.machine.specs.Releasing.{given, ready, with_given, with_halted, with_ready}
+use Rattle.machine.specs.Releasing.{given, ready, with_called, with_given, with_halted, with_ready}
+use Rattle.machine.specs.Step.Bind.{context_under}
 use Rattle.machine.specs.Step.Deliver.{answer_through, arrival_of, delivered, linked, message_of, sending_by, sent, with_arrival}
 use Rattle.machine.specs.Step.Receive.{with_reply_ended}
+use Rattle.machine.specs.Step.Reply.{with_returned}
+use Rattle.machine.specs.Step.Send.{called_through, lent_by, with_lent}
 use Rattle.machine.specs.WellFormed.{IsFree, IsIdle, IsReceivingWith, IsThread, IsWellFormed}
 use Rattle.machine.proofs.Admission.{IsCaller}
 use Rattle.machine.proofs.Arrival.{arrival_formed, arrival_same}
 use Rattle.machine.proofs.Beside.{ended_endpoint, ended_formed, ended_free, ended_idle, free_stays, leaver_now, named_free}
 use Rattle.machine.proofs.Beside.{other_stays}
+use Rattle.machine.proofs.ContextsFormed.{with_handed_formed}
 use Rattle.machine.proofs.EndpointRow.{IsReceiver, IsSender, found_reply}
 use Rattle.machine.proofs.FetchRow.{FetchDone}
-use Rattle.machine.proofs.MessageFormed.{awaiting_formed, blocked_formed, called_formed, emptied_formed, released_formed}
+use Rattle.machine.proofs.Joins.{IsJoined, called_joins}
+use Rattle.machine.proofs.Lending.{lends, returned_formed}
+use Rattle.machine.proofs.MessageFormed.{awaiting_formed, blocked_formed, called_formed, emptied_formed, given_formed}
+use Rattle.machine.proofs.MessageFormed.{released_formed}
 use Rattle.machine.proofs.ReceiveRow.{ReceiveDone}
 use Rattle.machine.proofs.ReplyRow.{ReplyDone}
 use Rattle.machine.proofs.SendRow.{EndpointCallDone, SendDone}
@@ -46,15 +56,96 @@ halted_between m thread tcb formed there = (
   free_stays m thread tcb halted formed.links there,
 )
 
+-- it comes to wait for an answer through that reply, with what it lends
+module _ (m : Machine) (thread id : ObjId) (lent : Option Lent) (tcb : Tcb) (formed : IsWellFormed m)
+    (there : IsThread m thread tcb) (free : IsFree m id) where
+  abbrev calling : Calling
+  calling = record { reply = id; lent = lent }
+
+  abbrev stopped : Machine
+  stopped = with_halted m thread
+
+  abbrev waits : Machine
+  waits = with_called stopped thread calling
+
+  stopped_there : IsThread stopped thread (halted tcb)
+  stopped_there = (halted_between m thread tcb formed there).1
+
+  stopped_free : IsFree stopped id
+  stopped_free = (halted_between m thread tcb formed there).3 id free
+
+  pub waits_formed : IsWellFormed waits
+  waits_formed =
+      called_formed stopped thread calling (halted tcb) (halted_between m thread tcb formed there).0 stopped_there tt stopped_free
+
+  pub waits_joins : IsJoined stopped thread (record tcb { state = state.Called calling }) waits
+  waits_joins = called_joins stopped thread calling (halted tcb) stopped_free.0 stopped_there stopped_free.1
+
+  -- it has the context that it had
+  pub waits_there : IsThread waits thread (record tcb { state = state.Called calling })
+  waits_there = waits_joins.there
+
+  -- and another thread is as it was
+  pub waits_other : (other : ObjId) (its : Tcb) → other ≢ thread → IsThread m other its → IsThread waits other its
+  waits_other other its apart e =
+      let stays = other_stays m thread tcb halted formed.links there other its apart e in
+      waits_joins.others other apart
+      (λ same.
+      let one : Some (o.Tcb its) ≡ Some (o.Reply (record { address = stopped_free.0; state = reply.Free })) =
+      sym stays ∙ ap (object_of stopped) (sym same) ∙ stopped_free.1 in
+      cc)
+      ∙ stays
+
 -- a thread whose call was delivered
 pub linked_formed :
     (m : Machine) (thread : ObjId) (tcb : Tcb) (through : Option ObjId) → IsWellFormed m → IsThread m thread tcb
     → ((id : ObjId) → through ≡ Some id → IsFree m id) → IsWellFormed (linked m thread through)
 linked_formed m thread tcb None formed there free = (halted_between m thread tcb formed there).0
-linked_formed m thread tcb (Some id) formed there free =
-    let halts = halted_between m thread tcb formed there in
-    called_formed (with_halted m thread) thread (record { reply = id; lent = None }) (halted tcb) halts.0 halts.1 halts.2
-    (halts.3 id (free id refl))
+linked_formed m thread tcb (Some id) formed there free = waits_formed m thread id None tcb formed there (free id refl)
+
+-- one that lends to the receiver what it runs on
+module _ (m : Machine) (caller receiver : ObjId) (tcb its : Tcb) (formed : IsWellFormed m) (there : IsThread m caller tcb)
+    (receives : IsThread m receiver its) (apart : caller ≢ receiver) where
+  -- it waits for its answer, and what it lends is still its own
+  abbrev pub lending : ObjId → Machine
+  lending id = with_called (with_halted m caller) caller (record { reply = id; lent = lent_by m caller receiver })
+
+  module _ (id : ObjId) (free : IsFree m id) where
+    pub lending_formed : IsWellFormed (lending id)
+    lending_formed = waits_formed m caller id (lent_by m caller receiver) tcb formed there free
+
+    pub lending_there :
+        IsThread (lending id) caller
+        (record tcb { state = state.Called (record { reply = id; lent = lent_by m caller receiver }) })
+    lending_there = waits_there m caller id (lent_by m caller receiver) tcb formed there free
+
+    pub lending_receiver : IsThread (lending id) receiver its
+    lending_receiver =
+        waits_other m caller id (lent_by m caller receiver) tcb formed there free receiver its (λ same. apart (sym same))
+        receives
+
+    module _ (lent : Lent) (loans : lent_by m caller receiver ≡ Some lent) where
+      pub lending_runs : context_under (object_of (lending id) caller) ≡ Some lent.context
+      lending_runs =
+          ap context_under lending_there ∙ ap context_under (sym there) ∙ (lends m caller receiver lent loans).runs
+
+      pub lending_free : context_under (object_of (lending id) lent.borrower) ≡ None
+      lending_free =
+          ap (λ (q : ObjId). context_under (object_of (lending id) q)) (lends m caller receiver lent loans).borrower
+          ∙ ap context_under lending_receiver
+          ∙ ap context_under (sym receives)
+          ∙ (lends m caller receiver lent loans).free
+
+  pub called_through_formed :
+      (through : Option ObjId) → ((id : ObjId) → through ≡ Some id → IsFree m id)
+      → IsWellFormed (called_through m caller receiver through)
+  called_through_formed None free = (halted_between m caller tcb formed there).0
+  called_through_formed (Some id) free = by_loan (lent_by m caller receiver) refl where
+    by_loan : (lent : Option Lent) → lent_by m caller receiver ≡ lent → IsWellFormed (with_lent (lending id) caller lent)
+    by_loan None e = lending_formed id (free id refl)
+    by_loan (Some lent) e =
+        with_handed_formed (lending id) caller lent.borrower (lending_formed id (free id refl))
+        (lending_free id (free id refl) lent e)
 
 -- an answer goes through the reply that was named, or through none
 pub answers_through :
@@ -112,6 +203,12 @@ module _ (m : Machine) (sender : ObjId) (sending : Sending) (id receiver : ObjId
       subst IsWellFormed (sym delivered_is)
       (released_formed mid receiver is.tcb (given message) arrived_formed arrived_there refl refl tt)
 
+  -- the receiver has the message
+  pub delivered_there : IsThread (delivered m sender sending receiver receiving) receiver (given message is.tcb)
+  delivered_there =
+      subst (λ (n : Machine). IsThread n receiver (given message is.tcb)) (sym delivered_is)
+      (leaver_now mid receiver is.tcb (given message) arrived_formed.links arrived_there)
+
   -- another thread is as it was
   pub delivered_other :
       (other : ObjId) (its : Tcb) → other ≢ receiver → IsThread m other its
@@ -158,10 +255,12 @@ endpoint_call_formed m caller address words capability next formed is done =
     let sending : Sending = sending_by done.open_to.id done.open_to.end true words capability in
     elim done.changes as (λ _. IsWellFormed next) [
       | inl w ↦ subst IsWellFormed (sym w.3)
-          (linked_formed (delivered m caller sending w.0 w.1) caller is.thread (answer_through sending w.1.reply)
+          (called_through_formed (delivered m caller sending w.0 w.1) caller w.0 is.thread _
           (delivered_formed m caller sending done.open_to.id w.0 w.1 formed w.2)
           (delivered_other m caller sending done.open_to.id w.0 w.1 formed w.2 caller is.thread
           (caller_apart m caller done.open_to.id w.0 w.1 is w.2) is.there)
+          (delivered_there m caller sending done.open_to.id w.0 w.1 formed w.2)
+          (caller_apart m caller done.open_to.id w.0 w.1 is w.2) (answer_through sending w.1.reply)
           (λ named e.
           delivered_free m caller sending done.open_to.id w.0 w.1 formed w.2 named (answers_through sending w.1.reply named e)))
       | inr w ↦ subst IsWellFormed (sym w.1)
@@ -232,11 +331,9 @@ pub reply_formed :
     → ReplyDone m caller address words next → IsWellFormed next
 reply_formed m caller address words next formed done =
     elim done.changes as (λ _. IsWellFormed next) [
-      | inl w ↦
-          let called = formed.links.reply_called done.id w.0 w.1 w.2 in
-          subst IsWellFormed (sym w.3)
-          (released_formed m w.0 called.0 (given (record { badge = 0; words = words; capability = false })) formed called.1 refl
-          refl tt)
+      | inl w ↦ subst IsWellFormed (sym w.3)
+          (given_formed (with_returned m caller w.0) w.0 (record { badge = 0; words = words; capability = false })
+          (returned_formed m caller w.0 formed))
       | inr same ↦ subst IsWellFormed (sym same) formed
     ]
 

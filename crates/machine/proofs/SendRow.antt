@@ -1,5 +1,5 @@
 -- What a send and a call do that are made: the message goes to the thread that waits first to receive, and a call waits for the
--- answer; where none does, the caller waits.
+-- answer, with its context lent; where none does, the caller waits.
 use Rattle.std.proofs.Common.{◌≡◌, ℕ, ◌⊎◌, inl, inr, true, false, List, refl, sym, ap}
 use Rattle.std.specs.Prelude.{Option, Some, None, Ok, option_map}
 use Rattle.base.specs.declared.ids.ObjId.{ObjId}
@@ -14,8 +14,8 @@ use Rattle.machine.specs.Capabilities.{can_write}
 use Rattle.machine.specs.Machine.{Machine, object_of}
 use Rattle.machine.specs.Objects.{kind_of_object}
 use Rattle.machine.specs.Releasing.{with_blocked}
-use Rattle.machine.specs.Step.Deliver.{answer_through, delivered, first_at, linked, receiver_in, sending_by}
-use Rattle.machine.specs.Step.Send.{called_or_waits, endpoint_call_of, send_of, sent_or_waits}
+use Rattle.machine.specs.Step.Deliver.{answer_through, delivered, first_at, receiver_in, sending_by}
+use Rattle.machine.specs.Step.Send.{called_or_waits, called_through, endpoint_call_of, send_of, sent_or_waits}
 use Rattle.machine.specs.WellFormed.{IsAlike, IsWellFormed}
 use Rattle.machine.proofs.Conditions.{same_ok}
 use Rattle.machine.proofs.EndpointRow.{IsEndOpen, IsReceiver, no_receiver, opens_end, receiver_first}
@@ -41,7 +41,8 @@ pub record EndpointCallDone (m : Machine) (caller : ObjId) (address : ℕ) (word
   pub changes :
       ((receiver : ObjId) × (receiving : Receiving) × IsReceiver m open_to.id receiver receiving
       × (next
-      ≡ linked (delivered m caller (sending_by open_to.id open_to.end true words capability) receiver receiving) caller
+      ≡ called_through (delivered m caller (sending_by open_to.id open_to.end true words capability) receiver receiving) caller
+      receiver
       (answer_through (sending_by open_to.id open_to.end true words capability) receiving.reply)))
       ⊎ (IsAlike m open_to.id (state.Sending (sending_by open_to.id open_to.end true words capability))
       × (next ≡ with_blocked m caller open_to.id (state.Sending (sending_by open_to.id open_to.end true words capability))))
@@ -66,7 +67,7 @@ module _ (m : Machine) (caller : ObjId) (sending : Sending) (endpoint : Endpoint
   -- a call's delivery, after which it waits for the answer
   abbrev calling : ObjId → Receiving → Machine
   calling receiver receiving =
-      linked (delivered m caller sending receiver receiving) caller (answer_through sending receiving.reply)
+      called_through (delivered m caller sending receiver receiving) caller receiver (answer_through sending receiving.reply)
 
   calls :
       (next : Machine) → called_or_waits m caller sending (receiver_in (first_at m sending.endpoint)) ≡ next

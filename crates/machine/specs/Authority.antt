@@ -1,6 +1,6 @@
 -- The label of an object, and the authority that a machine holds: edges from label to label, read off its capabilities, its
 -- derivation tree and the links between its objects ('seL4 Enforces Integrity', sections 3 and 4, "Authority" and "Policy").
-use Rattle.std.specs.Prelude.{◌≡◌, ℕ, Bool, true, false, ◌&&◌, nat_lt, nat_le, Option, Some, None, length, find, option_and_then}
+use Rattle.std.specs.Prelude.{◌≡◌, ℕ, Bool, true, false, ◌&&◌, ◌||◌, nat_lt, nat_le, Option, Some, None, length, find, option_and_then}
 use Rattle.std.specs.Prelude.{option_map, if◌then◌else◌}
 use Rattle.base.specs.declared.ids.ObjId.{ObjId}
 use Rattle.base.specs.declared.ids.SlotRef.{SlotRef}
@@ -13,6 +13,7 @@ use Rattle.machine.specs.declared.object.Object.TheVariants as o
 use Rattle.machine.specs.declared.object.ObjectKind.TheVariants as kind
 use Rattle.machine.specs.declared.object.ReplyState.{ReplyState}
 use Rattle.machine.specs.declared.object.ReplyState.TheVariants as reply
+use Rattle.machine.specs.declared.thread.Lent.{Lent}
 use Rattle.machine.specs.declared.thread.RunState.{RunState}
 use Rattle.machine.specs.declared.thread.RunState.TheVariants as state
 use Rattle.machine.specs.Capabilities.{gives}
@@ -52,15 +53,20 @@ state_links (state.Receiving receiving) authority.Reply id = names_reply receivi
 state_links (state.Waiting notification) authority.Await id = same_id notification id
 state_links _ _ id = false
 
+-- the context that a thread lent as it called, as long as it waits for the answer
+abbrev pub lent_of : RunState → Option ObjId
+lent_of (state.Called calling) = option_map (λ (lent : Lent). lent.context) calling.lent
+lent_of _ = None
+
 abbrev pub holds_thread : ReplyState → ObjId → Bool
 holds_thread reply.Free id = false
 holds_thread (reply.Waiting thread) id = same_id thread id
 holds_thread (reply.Called thread) id = same_id thread id
 
--- the edges that an object's content gives: a thread runs on its context, a reply holds its thread, and a blocked thread keeps
--- its rights
+-- the edges that an object's content gives: a thread runs on its context, and on the one that it lent, wherever that is bound, a
+-- reply holds its thread, and a blocked thread keeps its rights
 abbrev pub links : Object → Kind → ObjId → Bool
-links (o.Tcb thread) authority.Runs id = names_reply thread.context id
+links (o.Tcb thread) authority.Runs id = names_reply thread.context id || names_reply (lent_of thread.state) id
 links (o.Tcb thread) k id = state_links thread.state k id
 links (o.Reply answers) authority.Holds id = holds_thread answers.state id
 links _ _ id = false

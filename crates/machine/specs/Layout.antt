@@ -1,19 +1,23 @@
--- What a capability table says: the labels, the initial objects with their names and labels, the slots that hold capabilities,
--- the pairs of the derivation tree, and which thread runs on which context (compare the seL4 manual, "Bootstrapping", and 'seL4
--- Enforces Integrity', section 3: the initial state and its labelling).
+-- What a capability table says: its version, the labels, the initial objects with their names and labels, the slots that hold
+-- capabilities, the pairs of the derivation tree, and which thread runs on which context (compare the seL4 manual,
+-- "Bootstrapping", and 'seL4 Enforces Integrity', section 3: the initial state and its labelling).
 use Rattle.std.specs.Prelude.{ℕ, List, [], Option, slice_get, option_map, find, refl}
 use Rattle.std.specs.Coded.{Coded, code_by, coded×, coded_list, coded_ℕ}
 use Rattle.base.specs.declared.ids.ObjId.{ObjId}
 use Rattle.base.specs.declared.ids.SlotRef.{SlotRef}
+use Rattle.base.specs.declared.label.TheConstants.Label as Label
 use Rattle.machine.specs.declared.cap.Cap.{Cap}
 use Rattle.machine.specs.declared.layout.Initial.{Initial}
 use Rattle.machine.specs.declared.layout.Filled.{Filled}
 use Rattle.machine.specs.declared.layout.Pair.{Pair}
 use Rattle.machine.specs.declared.layout.Binding.{Binding}
+use Rattle.machine.specs.declared.layout.Version.{Version}
+use Rattle.machine.specs.declared.layout.Version.TheVariants as version
 use Rattle.machine.specs.Machine.{same_slot, same_id}
 
 -- labels and objects are numbered from 0 in the order of their lists
 pub record Layout : Type 0 where
+  pub version : Version
   -- the names of the labels, as bytes
   pub labels : List (List ℕ)
   -- the names of the objects, as bytes
@@ -27,21 +31,40 @@ pub record Layout : Type 0 where
   pub bindings : List Binding
 
 -- a layout is stored as the tuple of its parts
-abbrev pub layout_code : Coded Initial → Coded Filled → Coded Pair → Coded Binding → Coded Layout
-layout_code initial filled pair binding =
+abbrev pub layout_code :
+    Coded Version → Coded Initial → Coded Filled → Coded Pair → Coded Binding → Coded Layout
+layout_code version initial filled pair binding =
     code_by
-    (List (List ℕ) × (List (List ℕ) × (List Initial × (List Filled × (List Pair × List Binding)))))
+    (Version × (List (List ℕ) × (List (List ℕ) × (List Initial × (List Filled × (List Pair × List Binding))))))
+    (coded× version (coded× (coded_list (coded_list coded_ℕ))
     (coded× (coded_list (coded_list coded_ℕ))
-    (coded× (coded_list (coded_list coded_ℕ))
-    (coded× (coded_list initial) (coded× (coded_list filled) (coded× (coded_list pair) (coded_list binding))))))
-    (λ t. (t.labels, (t.names, (t.objects, (t.caps, (t.pairs, t.bindings))))))
+    (coded× (coded_list initial) (coded× (coded_list filled) (coded× (coded_list pair) (coded_list binding)))))))
+    (λ t. (t.version, (t.labels, (t.names, (t.objects, (t.caps, (t.pairs, t.bindings)))))))
     (λ p.
-    record { labels = p.0; names = p.1.0; objects = p.1.1.0; caps = p.1.1.1.0; pairs = p.1.1.1.1.0; bindings = p.1.1.1.1.1 })
+    record {
+      version = p.0;
+      labels = p.1.0;
+      names = p.1.1.0;
+      objects = p.1.1.1.0;
+      caps = p.1.1.1.1.0;
+      pairs = p.1.1.1.1.1.0;
+      bindings = p.1.1.1.1.1.1;
+    })
     (λ _. refl)
 
--- the table that says nothing
-abbrev pub empty_layout : Layout
-empty_layout = record { labels = []; names = []; objects = []; caps = []; pairs = []; bindings = [] }
+-- how many labels a table of a version may have
+abbrev pub most_labels : Version → ℕ
+most_labels version.One = 64
+most_labels version.Two = Label.COUNT
+
+-- the table of a version that says nothing
+abbrev pub empty_layout : Version → Layout
+empty_layout version =
+    record { version = version; labels = []; names = []; objects = []; caps = []; pairs = []; bindings = [] }
+
+-- the table as one of version 2
+abbrev pub upgraded : Layout → Layout
+upgraded t = record t { version = version.Two }
 
 -- the object of a number, as it is declared
 unfoldable pub initial_of : Layout → ObjId → Option Initial

@@ -134,7 +134,7 @@ settled m (Err cause) = (Refused (refusal_of cause), m)
 unfoldable pub step_of : Machine → Event → Outcome × Machine
 step_of m event = settled m (made_by m event)
 
--- the calls that change the thread that makes them: it may come to wait, or its inbox is emptied
+-- the calls that have the thread that makes them wait, or empty its inbox
 abbrev pub ChangesCaller : Call → Type 0
 ChangesCaller (call.Wait _) = Unit {0}
 ChangesCaller (call.Send _ _ _) = Unit {0}

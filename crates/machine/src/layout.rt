@@ -1,5 +1,29 @@
+ghost use Rattle.std.specs.Prelude.{◌≡◌, ◌≤◌};
+ghost use Rattle.base.specs.declared.label.TheConstants.Label as LabelLimits;
+ghost use Rattle.machine.specs.Layout.{most_labels};
+
 use crate::{Cap, Object};
 use base::{Label, ObjId, SlotRef};
+
+/// The version of a capability table, which its text begins with. The second has more labels.
+#[derive(Clone, Copy, PartialEq, Eq, Debug)]
+pub enum Version {
+    One,
+    Two,
+}
+
+impl Version {
+    /// How many labels a table of this version may have.
+    pub fn most_labels(self) -> usize
+        ensures most { result ≡ most_labels self }
+        ensures limit { result ≤ LabelLimits.COUNT }
+    {
+        match self {
+            Version::One => 64,
+            Version::Two => usize::from(Label::COUNT),
+        }
+    }
+}
 
 /// An object that a capability table declares, as it is at boot before threads and contexts are
 /// bound.

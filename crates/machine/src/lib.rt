@@ -22,10 +22,10 @@ mod thread_laws;
 pub use authority_laws::{authority_grows_with_capabilities, rights_alone_decide_kinds};
 pub use call::{Answer, Call, CapData, Event, Log, Made, Outcome, Unmade};
 pub use cap::{Badged, Cap, Detail, Guard};
-pub use layout::{Binding, Filled, Initial, Pair};
+pub use layout::{Binding, Filled, Initial, Pair, Version};
 pub use message_laws::{
-    arrivals_keep_machines_well_formed, blocks_keep_machines_well_formed,
-    releases_keep_machines_well_formed,
+    answers_return_what_calls_lent, arrivals_keep_machines_well_formed,
+    blocks_keep_machines_well_formed, releases_keep_machines_well_formed,
 };
 pub use object::{
     CNode, Context, Control, Endpoint, Frame, MemoryKind, Notification, Object, ObjectKind, Reply,

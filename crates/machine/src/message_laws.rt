@@ -1,5 +1,5 @@
 ghost use Rattle.base.specs.declared.ids.ObjId.{ObjId as Number};
-ghost use Rattle.std.specs.Prelude.{◌≡◌, Option, Some};
+ghost use Rattle.std.specs.Prelude.{◌≡◌, ◌≢◌, ℕ, List, Option, Some};
 ghost use Rattle.machine.specs.declared.object.Object.TheVariants as o;
 ghost use Rattle.machine.specs.declared.object.ObjectKind.{ObjectKind as Kind};
 ghost use Rattle.machine.specs.declared.object.ObjectKind.TheVariants as kind;
@@ -13,6 +13,7 @@ ghost use Rattle.machine.specs.declared.thread.Tcb.{Tcb as Thread};
 ghost use Rattle.machine.specs.Machine.{Machine, object_of};
 ghost use Rattle.machine.specs.Releasing.{with_aborted, with_blocked, with_called, with_given, with_halted};
 ghost use Rattle.machine.specs.Releasing.{with_holder_halted, with_ready};
+ghost use Rattle.machine.specs.Step.Bind.{context_under};
 ghost use Rattle.machine.specs.Step.Fetch.{emptied};
 ghost use Rattle.machine.specs.Step.Receive.{awaiting_message};
 ghost use Rattle.machine.specs.WellFormed.{IsAlike, IsFree, IsIdle, IsReceivingWith, IsThread, IsWellFormed};
@@ -20,6 +21,8 @@ ghost use Rattle.machine.specs.WellFormed.{WaitsAt, WaitsAtKind, kind_of};
 ghost use Rattle.machine.specs.declared.slot_address.SlotAddress.{SlotAddress as Slot};
 ghost use Rattle.machine.specs.declared.thread.Sending.{Sending as Sends};
 ghost use Rattle.machine.specs.Step.Deliver.{arrival_of, with_arrival};
+ghost use Rattle.machine.specs.Step.Reply.{answered};
+ghost use Rattle.machine.specs.Step.Send.{called_through};
 
 /// A law: a thread that leaves its queue and its reply keeps a well-formed machine well formed,
 /// whether it is then ready, halted or aborted, or has a message. A reply whose thread is halted is
@@ -75,4 +78,18 @@ pub fn arrivals_keep_machines_well_formed()
     ensures { (m : Machine) (sender : Number) (sending : Sends) (receiver : Number) (slot : Option Slot)
         → IsWellFormed m
         → IsWellFormed (with_arrival m (arrival_of m sender sending receiver slot)) }
+{}
+
+/// A law: what a call lends comes back with its answer. Where the receiver answers at once, each thread
+/// runs then on what it ran on before the call.
+pub fn answers_return_what_calls_lent()
+    ensures { (m : Machine) (caller receiver id : Number) (tcb its : Thread) (words : List ℕ)
+        → IsWellFormed m
+        → IsThread m caller tcb
+        → IsThread m receiver its
+        → caller ≢ receiver
+        → IsFree m id
+        → (thread : Number)
+        → context_under (object_of (answered (called_through m caller receiver (Some id)) receiver (Some caller) words) thread)
+        ≡ context_under (object_of m thread) }
 {}

@@ -57,8 +57,8 @@ pub fn steps_keep_machines_well_formed()
         → IsWellFormed last }
 {}
 
-/// A law: a call keeps a well-formed machine well formed, also by itself, before its thread is admitted. One that changes the thread
-/// that makes it does where that is ready.
+/// A law: a call keeps a well-formed machine well formed, also by itself, before its thread is admitted. One that has the thread that
+/// makes it wait, or empties its inbox, does where that is ready.
 pub fn calls_keep_machines_well_formed()
     ensures { (m next : Machine) (caller : Number) (which : Calls) (result : Result Comes Why)
         → IsWellFormed m

@@ -96,7 +96,7 @@ delivered m sender sending receiver receiving =
 abbrev pub answer_through : Sending → Option ObjId → Option ObjId
 answer_through sending reply = if sending.can_reply then reply else None
 
--- a thread whose call was delivered waits for its answer, or can't run
+-- a thread whose call was received waits for its answer, and lends nothing; or it can't run
 abbrev pub linked : Machine → ObjId → Option ObjId → Machine
 linked m caller (Some reply) = with_called (with_halted m caller) caller (record { reply = reply; lent = None })
 linked m caller None = with_halted m caller

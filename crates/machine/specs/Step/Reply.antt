@@ -1,6 +1,6 @@
 -- Reply (seL4 manual, "Reply objects"): the thread that has called through the reply gets the words and can run, and the reply is
--- free; where none has, nothing changes.
-use Rattle.std.specs.Prelude.{ℕ, Bool, List, Option, Some, None, Result, Ok}
+-- free; where none has, nothing changes. The scheduling context that it lent to the thread that answers goes back to it.
+use Rattle.std.specs.Prelude.{ℕ, Bool, false, ◌&&◌, List, Option, Some, None, Result, Ok, if◌then◌else◌}
 use Rattle.base.specs.declared.ids.ObjId.{ObjId}
 use Rattle.base.specs.declared.refusal.Cause.{Cause}
 use Rattle.machine.specs.declared.call.Answer.TheVariants as answer
@@ -10,9 +10,13 @@ use Rattle.machine.specs.declared.object.Object.{Object}
 use Rattle.machine.specs.declared.object.Object.TheVariants as o
 use Rattle.machine.specs.declared.object.ReplyState.{ReplyState}
 use Rattle.machine.specs.declared.object.ReplyState.TheVariants as reply
-use Rattle.machine.specs.Machine.{Machine, object_of}
+use Rattle.machine.specs.declared.thread.Lent.{Lent}
+use Rattle.machine.specs.declared.thread.RunState.{RunState}
+use Rattle.machine.specs.declared.thread.RunState.TheVariants as state
+use Rattle.machine.specs.Machine.{Machine, object_of, same_id}
 use Rattle.machine.specs.Refusing.{◌>>=◌}
 use Rattle.machine.specs.Releasing.{with_given}
+use Rattle.machine.specs.Step.Bind.{context_under, with_handed}
 use Rattle.machine.specs.Step.Find.{find_reply}
 
 -- the thread that has called through a reply
@@ -23,12 +27,35 @@ caller_in (Some (o.Reply holding)) = by_state holding.state where
   by_state _ = None
 caller_in _ = None
 
+-- what a thread lent that called and waits for its answer
+abbrev pub lent_in : Option Object → Option Lent
+lent_in (Some (o.Tcb tcb)) = by_state tcb.state where
+  by_state : RunState → Option Lent
+  by_state (state.Called calling) = calling.lent
+  by_state _ = None
+lent_in _ = None
+
+-- whether a thread that runs on a context has it by a loan from a thread that has none
+abbrev pub has_on_loan : ObjId → Option ObjId → Option Lent → Option ObjId → Bool
+has_on_loan borrower (Some context) (Some lent) None = same_id lent.borrower borrower && same_id lent.context context
+has_on_loan borrower _ _ _ = false
+
+-- whether a thread that answers gives its context back: the called thread lent it to it, and has none now
+abbrev pub gives_back : Machine → ObjId → ObjId → Bool
+gives_back m invoker called =
+    has_on_loan invoker (context_under (object_of m invoker)) (lent_in (object_of m called)) (context_under (object_of m called))
+
+-- a context that is given back goes over to the called thread
+abbrev pub with_returned : Machine → ObjId → ObjId → Machine
+with_returned m invoker called = if gives_back m invoker called then with_handed m invoker called else m
+
 -- a thread that has called is answered
-abbrev pub answered : Machine → Option ObjId → List ℕ → Machine
-answered m None words = m
-answered m (Some thread) words = with_given m thread (record { badge = 0; words = words; capability = Bool.false })
+abbrev pub answered : Machine → ObjId → Option ObjId → List ℕ → Machine
+answered m invoker None words = m
+answered m invoker (Some called) words =
+    with_given (with_returned m invoker called) called (record { badge = 0; words = words; capability = false })
 
 unfoldable pub reply_of : Machine → ObjId → ℕ → List ℕ → Result (Made × Machine) Cause
 reply_of m caller address words = do
   id ← find_reply m caller address
-  Ok (Done answer.Nothing, answered m (caller_in (object_of m id)) words)
+  Ok (Done answer.Nothing, answered m caller (caller_in (object_of m id)) words)

@@ -1,19 +1,22 @@
 -- Send and Call (seL4 manual, seL4_Send and seL4_Call): the message goes to the thread that waits first to receive; where none does,
--- the sender waits. A call waits for its answer.
+-- the sender waits. A call waits for its answer, and lends its scheduling context to a receiver that has none ("Scheduling Contexts",
+-- passive servers).
 use Rattle.std.specs.Prelude.{ℕ, Bool, List, Option, Some, None, Result, Ok}
 use Rattle.base.specs.declared.ids.ObjId.{ObjId}
 use Rattle.base.specs.declared.refusal.Cause.{Cause}
 use Rattle.machine.specs.declared.call.Answer.TheVariants as answer
 use Rattle.machine.specs.declared.call.Made.{Made}
 use Rattle.machine.specs.declared.call.Made.TheVariants.{Done, Blocked}
+use Rattle.machine.specs.declared.thread.Lent.{Lent}
 use Rattle.machine.specs.declared.thread.Receiving.{Receiving}
 use Rattle.machine.specs.declared.thread.RunState.TheVariants as state
 use Rattle.machine.specs.declared.thread.Sending.{Sending}
 use Rattle.machine.specs.Capabilities.{can_write}
-use Rattle.machine.specs.Machine.{Machine}
+use Rattle.machine.specs.Machine.{Machine, object_of}
 use Rattle.machine.specs.Refusing.{◌>>=◌}
-use Rattle.machine.specs.Releasing.{with_blocked}
-use Rattle.machine.specs.Step.Deliver.{answer_through, delivered, first_at, linked, receiver_in, sending_by}
+use Rattle.machine.specs.Releasing.{with_blocked, with_called, with_halted}
+use Rattle.machine.specs.Step.Bind.{context_under, with_handed}
+use Rattle.machine.specs.Step.Deliver.{answer_through, delivered, first_at, receiver_in, sending_by}
 use Rattle.machine.specs.Step.Find.{find_endpoint, permitted}
 
 -- a message goes to a receiver, or its sender waits
@@ -28,10 +31,31 @@ send_of m caller address words capability = do
   _ ← permitted (can_write found.1.rights)
   Ok (sent_or_waits m caller (sending_by found.0 found.1 Bool.false words capability) (receiver_in (first_at m found.0)))
 
+-- what goes as a loan from a thread's context to a borrower that has none
+abbrev pub loan : Option ObjId → Option ObjId → ObjId → Option Lent
+loan (Some context) None borrower = Some (record { context = context; borrower = borrower })
+loan _ _ borrower = None
+
+-- what a caller lends to a receiver: the scheduling context that it runs on, where the receiver has none
+abbrev pub lent_by : Machine → ObjId → ObjId → Option Lent
+lent_by m caller receiver = loan (context_under (object_of m caller)) (context_under (object_of m receiver)) receiver
+
+-- the context that is lent, if one is, goes over from the caller to its borrower
+abbrev pub with_lent : Machine → ObjId → Option Lent → Machine
+with_lent m caller None = m
+with_lent m caller (Some lent) = with_handed m caller lent.borrower
+
+-- a thread whose call was delivered to a receiver waits for its answer, and lends what it runs on meanwhile; or it can't run
+abbrev pub called_through : Machine → ObjId → ObjId → Option ObjId → Machine
+called_through m caller receiver None = with_halted m caller
+called_through m caller receiver (Some reply) =
+    with_lent (with_called (with_halted m caller) caller (record { reply = reply; lent = lent_by m caller receiver })) caller
+    (lent_by m caller receiver)
+
 -- a call goes to a receiver, and waits for the answer through the receiver's reply; or it waits for a receiver
 abbrev pub called_or_waits : Machine → ObjId → Sending → Option (ObjId × Receiving) → Machine
 called_or_waits m caller sending (Some (receiver, receiving)) =
-    linked (delivered m caller sending receiver receiving) caller (answer_through sending receiving.reply)
+    called_through (delivered m caller sending receiver receiving) caller receiver (answer_through sending receiving.reply)
 called_or_waits m caller sending None = with_blocked m caller sending.endpoint (state.Sending sending)
 
 unfoldable pub endpoint_call_of : Machine → ObjId → ℕ → List ℕ → Option ℕ → Result (Made × Machine) Cause
