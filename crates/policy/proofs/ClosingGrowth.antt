@@ -7,6 +7,7 @@ use Rattle.std.proofs.lemmas.Bool.{or_cases}
 use Rattle.std.proofs.lemmas.List.Folds.{list_any-append}
 use Rattle.base.specs.declared.edge.Edge.{Edge}
 use Rattle.base.specs.declared.kind.Kind.{Kind}
+use Rattle.base.specs.declared.label.TheConstants.Label as Label
 use Rattle.base.specs.declared.labels.Labels.{Labels}
 use Rattle.base.specs.Labels.{is_in}
 use Rattle.policy.specs.Closed.{IsClosed}
@@ -48,7 +49,7 @@ module _ (old middle new : List Edge) where
 -- what is missing at a label is added
 pub grows_by_join :
     (old new : List Edge) (from : ℕ) (kind : Kind) (lacks : Labels) (first : ℕ)
-    → ((to : ℕ) → is_in lacks to ≡ true → IsMissing (allows old) from kind to) → Joins old new from kind lacks → first < 64
+    → ((to : ℕ) → is_in lacks to ≡ true → IsMissing (allows old) from kind to) → Joins old new from kind lacks → first < Label.COUNT
     → is_in lacks first ≡ true → Grows old new true
 grows_by_join old new from kind lacks first missing joins below is = record {
   kept = joins.kept;
@@ -69,7 +70,7 @@ absent_among test [] = 0
 absent_among test (edge ∷ rest) = cond {A = ℕ} (test edge.from edge.kind edge.to) 0 1 + absent_among test rest
 
 abbrev pub absent_count : List Edge → ℕ
-absent_count edges = absent_among (allows edges) all_edges
+absent_count edges = absent_among (allows edges) (all_edges Label.COUNT)
 
 one_no_more : (before after : Bool) → (before ≡ true → after ≡ true) → cond {A = ℕ} after 0 1 ≤ cond {A = ℕ} before 0 1
 one_no_more true true kept = omega arith
@@ -111,8 +112,8 @@ pub absent_falls : (old new : List Edge) → JoinsLabels new → Grows old new t
 absent_falls old new labels grows =
     let edge = grows.added refl in
     let ends = labels edge.from edge.kind edge.to edge.present in
-    fewer (allows old) (allows new) grows.kept edge.from edge.kind edge.to edge.absent edge.present all_edges
-    (possible edge.from edge.kind edge.to ends.0 ends.1)
+    fewer (allows old) (allows new) grows.kept edge.from edge.kind edge.to edge.absent edge.present (all_edges Label.COUNT)
+    (possible Label.COUNT edge.from edge.kind edge.to ends.0 ends.1)
 
 -- the least closed policy of edges is that of the same edges in another list
 pub least_of_same : (one other policy : List Edge) → ((from : ℕ) (kind : Kind) (to : ℕ) → allows one from kind to ≡ allows other from kind to)

@@ -87,17 +87,17 @@ closed_if_settled test settled = record {
 }
 
 -- both ends of what is asked for are ends of edges
-module _ (test : EdgeTest) (joins : (from : ℕ) (kind : Kind) (to : ℕ) → test from kind to ≡ true → (from < 64) × (to < 64)) where
-  domain_joins : (a x : ℕ) → IsInDomain test a x → (a < 64) × (x < 64)
+module _ (test : EdgeTest) (n : ℕ) (joins : (from : ℕ) (kind : Kind) (to : ℕ) → test from kind to ≡ true → (from < n) × (to < n)) where
+  domain_joins : (a x : ℕ) → IsInDomain test a x → (a < n) × (x < n)
   domain_joins a x (inl e) = joins a Space x e
   domain_joins a x (inr e) = joins a Control x e
 
-  shared_joins : (giver taker : ℕ) → Shares test giver taker → taker < 64
+  shared_joins : (giver taker : ℕ) → Shares test giver taker → taker < n
   shared_joins giver taker (of_its_domain domain) = (domain_joins giver taker domain).1
   shared_joins giver taker (of_their_domain domain) = (domain_joins taker giver domain).0
   shared_joins giver taker (by_grant h) = (joins taker Receive h.endpoint h.receives).0
 
-  pub asked_starts : (from : ℕ) (kind : Kind) (to : ℕ) → IsAskedFor test from kind to → from < 64
+  pub asked_starts : (from : ℕ) (kind : Kind) (to : ℕ) → IsAskedFor test from kind to → from < n
   asked_starts from kind to (gives (shared giver h of_use has)) = shared_joins giver from h
   asked_starts from kind to (gives (controlled h)) = (joins from Control to h.controls).0
   asked_starts from kind to (derives is h) = (domain_joins h.subject from h.of_parent).1

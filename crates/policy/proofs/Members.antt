@@ -18,8 +18,8 @@ use Rattle.std.proofs.lemmas.Map.Views.{any-filter_same}
 use Rattle.std.proofs.lemmas.Option.{slice_get-get_or}
 use Rattle.base.specs.declared.edge.Edge.{Edge}
 use Rattle.base.specs.declared.kind.Kind.{Kind}
-use Rattle.policy.specs.Policy.{edge_cmp, allows, is_edge, last_edge, IsRising, IsAboveLast, JoinsLabels}
-use Rattle.policy.specs.Rows.{all_edges, edge_at, last_with}
+use Rattle.policy.specs.Policy.{edge_cmp, allows, is_edge, last_edge, IsRising, IsAboveLast, JoinsBelow}
+use Rattle.policy.specs.Rows.{all_edges, edge_at, edge_count, last_with}
 use Rattle.policy.proofs.KindNumbers.{same_kind}
 use Rattle.policy.proofs.Order.{edge_total, is_edge-edge_cmp}
 use Rattle.policy.proofs.RowEdges.{same_parts, of_parts, all_of, all_rising, is_possible, possible}
@@ -265,29 +265,29 @@ pushed old new edge before rising added above =
     (λ other. added other.from other.kind other.to ∙ sym (allows_appended old edge other.from other.kind other.to))
 
 -- the edges that pass a test, with one edge more
-pub one_more : (test : Edge → Bool) (n : ℕ) (edge : Edge) (passes : Bool) (before after : List Edge) → edge ≡ edge_at n → test edge ≡ passes
-    → before ≡ filter test (map edge_at (range_with_len 0 n)) → after ≡ before ++ cond passes (edge ∷ []) []
-    → after ≡ filter test (map edge_at (range_with_len 0 (n + 1)))
-one_more test n edge passes before after is tested so_far grown =
-    grown ∙ (λ i. so_far i ++ cond (sym tested i) (edge ∷ []) []) ∙ ap (λ e. filter test (map edge_at (range_with_len 0 n)) ++ cond (test e) (e ∷ []) []) is
-    ∙ sym (filter_of_map_range_with_len_more test edge_at 0 n n (omega arith))
+pub one_more : (test : Edge → Bool) (labels n : ℕ) (edge : Edge) (passes : Bool) (before after : List Edge) → edge ≡ edge_at labels n → test edge ≡ passes
+    → before ≡ filter test (map (edge_at labels) (range_with_len 0 n)) → after ≡ before ++ cond passes (edge ∷ []) []
+    → after ≡ filter test (map (edge_at labels) (range_with_len 0 (n + 1)))
+one_more test labels n edge passes before after is tested so_far grown =
+    grown ∙ (λ i. so_far i ++ cond (sym tested i) (edge ∷ []) []) ∙ ap (λ e. filter test (map (edge_at labels) (range_with_len 0 n)) ++ cond (test e) (e ∷ []) []) is
+    ∙ sym (filter_of_map_range_with_len_more test (edge_at labels) 0 n n (omega arith))
 
--- of all edges, those that a policy allows are its own
-pub listed : (edges : List Edge) → IsRising edges → JoinsLabels edges → (n : ℕ) → n ≡ 69632
-    → filter (λ edge. allows edges edge.from edge.kind edge.to) (map edge_at (range_with_len 0 n)) ≡ edges
+-- of all edges between the labels that it joins, those that a policy allows are its own
+pub listed : (edges : List Edge) → IsRising edges → (n : ℕ) → JoinsBelow n edges → (count : ℕ) → count ≡ edge_count n
+    → filter (λ edge. allows edges edge.from edge.kind edge.to) (map (edge_at n) (range_with_len 0 count)) ≡ edges
 unfolding allows
-listed edges rising labels n is = ap (filter (Has edges)) (all_of n is) ∙ same_rising mine edges below rising members where
+listed edges rising n labels count is = ap (filter (Has edges)) (all_of n count is) ∙ same_rising mine edges below rising members where
   mine : List Edge
-  mine = filter (Has edges) all_edges
+  mine = filter (Has edges) (all_edges n)
 
   below : IsRising mine
-  below = IsStrictlySortedBy-filter edge_cmp (Has edges) all_edges all_rising
+  below = IsStrictlySortedBy-filter edge_cmp (Has edges) (all_edges n) (all_rising n)
 
-  can : (edge : Edge) (b : Bool) → Has edges edge ≡ b → (b && is_possible edge.from edge.kind edge.to) ≡ b
-  can edge true has = let ends = labels edge.from edge.kind edge.to has in possible edge.from edge.kind edge.to ends.0 ends.1
+  can : (edge : Edge) (b : Bool) → Has edges edge ≡ b → (b && is_possible n edge.from edge.kind edge.to) ≡ b
+  can edge true has = let ends = labels edge.from edge.kind edge.to has in possible n edge.from edge.kind edge.to ends.0 ends.1
   can edge false has = refl
 
   members : SameEdges mine edges
   members edge =
-      any-filter_same (is_edge edge.from edge.kind edge.to) (Has edges) (Has edges edge) (λ other is. ap (Has edges) (same_edge edge other is)) all_edges
+      any-filter_same (is_edge edge.from edge.kind edge.to) (Has edges) (Has edges edge) (λ other is. ap (Has edges) (same_edge edge other is)) (all_edges n)
       ∙ can edge (Has edges edge) refl

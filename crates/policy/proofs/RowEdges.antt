@@ -1,5 +1,5 @@
 -- The edges that rows stand for: they rise, and are those whose bits are set.
-use Rattle.std.proofs.Common.{◌≡◌, ℕ, zero, suc, ◌+◌, ◌*◌, ◌/◌, ◌%◌, ◌<◌, Bool, true, false, cond, ◌&&◌, ◌||◌, ◌==◌, List, [], ◌∷◌, ◌++◌, map, get_or, set, replicate, length, ◌⊎◌, refl, sym, ap, ◌∙◌, inl, inr, arith}
+use Rattle.std.proofs.Common.{◌≡◌, ℕ, zero, suc, ◌+◌, ◌*◌, ◌/◌, ◌%◌, ◌<◌, ◌≤◌, Bool, true, false, cond, ◌&&◌, ◌||◌, ◌==◌, List, [], ◌∷◌, ◌++◌, map, get_or, set, replicate, length, ◌⊎◌, refl, sym, ap, ◌∙◌, inl, inr, arith}
 use mathlib.Core.Bool.{false≢true}
 use Rattle.std.specs.declared.cmp.Ordering.TheVariants.{Less, Equal, Greater}
 use Rattle.std.specs.Ordering.{nat_cmp, ordering_then}
@@ -12,18 +12,20 @@ use Rattle.std.proofs.lemmas.List.FromFn.{length-map-range_with_len, get_or-map-
 use Rattle.std.proofs.lemmas.List.Kept.{IsStrictlySortedBy-filter}
 use Rattle.std.proofs.lemmas.Map.Keys.{sorted_from_all_adjacent}
 use Rattle.std.proofs.lemmas.Map.Views.{any-filter_same}
-use Rattle.std.proofs.lemmas.Nat.{same_from_place}
-use Rattle.std.proofs.lemmas.Nat.Bits.{bit_at-zero}
+use Rattle.std.proofs.Math.Nat.{div-add-mod, div-lt_iff_lt-mul, mul-le-mul_left}
+use Rattle.std.proofs.lemmas.Nat.{same_from_place, div-mul-add, mod-mul-add, mul-add-lt}
 use Rattle.std.proofs.lemmas.Option.{slice_get-get_or}
 use Rattle.base.specs.declared.edge.Edge.{Edge}
 use Rattle.base.specs.declared.kind.Kind.{Kind}
 use Rattle.base.specs.declared.kind.Kind.TheVariants.{Control}
 use Rattle.base.specs.declared.labels.Labels.{Labels}
 use Rattle.base.specs.Kinds.{kind_number}
-use Rattle.base.specs.Labels.{is_in}
+use Rattle.base.specs.declared.label.TheConstants.Label as Label
+use Rattle.base.specs.Labels.{is_in, no_labels}
 use Rattle.base.proofs.KindNames.{number_below}
-use Rattle.policy.specs.Policy.{edge_cmp, allows, is_edge, IsRising, JoinsLabels}
-use Rattle.policy.specs.Rows.{row_number, row_of, edge_count, edge_at, all_edges, edges_of_rows}
+use Rattle.base.proofs.LabelParts.{in_no_labels}
+use Rattle.policy.specs.Policy.{edge_cmp, allows, is_edge, IsRising, JoinsBelow, JoinsLabels}
+use Rattle.policy.specs.Rows.{kind_count, row_count, row_number, row_of, edge_count, edge_at, all_edges, edges_of_rows, RowsJoin}
 use Rattle.policy.proofs.KindNumbers.{all_kinds, number_stands}
 use Rattle.policy.proofs.Order.{edge_total}
 
@@ -35,7 +37,7 @@ nat_same a b same =
     ap (λ t. cond t Less (cond (a == b) Equal Greater)) (le-ltb a b (omega arith)) ∙ ap (λ t. cond t Equal Greater) (eq-eqb a b same)
 
 -- the kind that stands at a number has it
-pub numbered : (n : ℕ) → n < 17 → kind_number (get_or all_kinds n Control) ≡ n
+pub numbered : (n : ℕ) → n < kind_count → kind_number (get_or all_kinds n Control) ≡ n
 numbered n below = number_stands n (get_or all_kinds n Control) (slice_get-get_or all_kinds n Control below)
 
 -- a number in three parts
@@ -49,45 +51,77 @@ by_parts a b c x y z (inr (same, inr (also, third))) =
     ap (λ r. ordering_then r (ordering_then (nat_cmp b y) (nat_cmp c z))) (nat_same a x same)
     ∙ ap (λ r. ordering_then r (nat_cmp c z)) (nat_same b y also) ∙ nat_less c z third
 
-parts_rise : (i j : ℕ) → i < j
-    → (i / 64 / 17 < j / 64 / 17)
-    ⊎ ((i / 64 / 17 ≡ j / 64 / 17) × ((i / 64 % 17 < j / 64 % 17) ⊎ ((i / 64 % 17 ≡ j / 64 % 17) × (i % 64 < j % 64))))
-parts_rise i j lt = elim (cases_order (i / 64 / 17) (j / 64 / 17)) [
-  | inl same ↦ inr (
-    same,
-    elim (cases_order (i / 64 % 17) (j / 64 % 17)) [
-      | inl also ↦ inr (also, omega arith)
+-- a number in two parts, of which the second is below n
+pub split_rises : (n i j : ℕ) → 0 < n → i < j → (i / n < j / n) ⊎ ((i / n ≡ j / n) × (i % n < j % n))
+split_rises n i j some lt =
+    let one = div-add-mod i n in
+    let other = div-add-mod j n in
+    elim (cases_order (i / n) (j / n)) [
+      | inl same ↦
+          let whole : n * (i / n) ≡ n * (j / n) = ap (λ q. n * q) same in
+          let less : i % n < j % n = omega (arith, one, other, whole, lt) in
+          inr (same, less)
       | inr (inl less) ↦ inl less
-      | inr (inr more) ↦ absurd (omega arith)
-    ],
-  )
-  | inr (inl less) ↦ inl less
-  | inr (inr more) ↦ absurd (omega arith)
+      | inr (inr more) ↦
+          let fewer : j / n + 1 ≤ i / n = omega arith in
+          let whole = mul-le-mul_left n fewer in
+          absurd (omega (arith, one, other, whole, lt))
+    ]
+
+parts_rise : (n i j : ℕ) → 0 < n → i < j
+    → (i / n / kind_count < j / n / kind_count)
+    ⊎ ((i / n / kind_count ≡ j / n / kind_count)
+    × ((i / n % kind_count < j / n % kind_count) ⊎ ((i / n % kind_count ≡ j / n % kind_count) × (i % n < j % n))))
+parts_rise n i j some lt = elim (split_rises n i j some lt) [
+  | inl rows ↦ elim (split_rises kind_count (i / n) (j / n) (omega arith) rows) [
+    | inl less ↦ inl less
+    | inr (same, less) ↦ inr (same, inl less)
+  ]
+  | inr (row, less) ↦ inr (ap (λ r. r / kind_count) row, inr (ap (λ r. r % kind_count) row, less))
 ]
 
 -- edges rise with their numbers
-pub edge_rises : (i j : ℕ) → i < j → edge_cmp (edge_at i) (edge_at j) ≡ Less
+pub edge_rises : (n i j : ℕ) → 0 < n → i < j → edge_cmp (edge_at n i) (edge_at n j) ≡ Less
 unfolding edge_at
-edge_rises i j lt =
-    let kinds : kind_number (get_or all_kinds (i / 64 % 17) Control) ≡ i / 64 % 17 = numbered (i / 64 % 17) (omega arith) in
-    let others : kind_number (get_or all_kinds (j / 64 % 17) Control) ≡ j / 64 % 17 = numbered (j / 64 % 17) (omega arith) in
-    (λ k. ordering_then (nat_cmp (i / 64 / 17) (j / 64 / 17)) (ordering_then (nat_cmp (kinds k) (others k)) (nat_cmp (i % 64) (j % 64))))
-    ∙ by_parts (i / 64 / 17) (i / 64 % 17) (i % 64) (j / 64 / 17) (j / 64 % 17) (j % 64) (parts_rise i j lt)
+edge_rises n i j some lt =
+    let kinds : kind_number (get_or all_kinds (i / n % kind_count) Control) ≡ i / n % kind_count = numbered (i / n % kind_count) (omega arith) in
+    let others : kind_number (get_or all_kinds (j / n % kind_count) Control) ≡ j / n % kind_count = numbered (j / n % kind_count) (omega arith) in
+    (λ k.
+    ordering_then (nat_cmp (i / n / kind_count) (j / n / kind_count)) (ordering_then (nat_cmp (kinds k) (others k)) (nat_cmp (i % n) (j % n))))
+    ∙ by_parts (i / n / kind_count) (i / n % kind_count) (i % n) (j / n / kind_count) (j / n % kind_count) (j % n) (parts_rise n i j some lt)
 
-range_rises : (n : ℕ) → IsRising (map edge_at (range_with_len 0 n))
-range_rises n = sorted_from_all_adjacent edge_total (map edge_at (range_with_len 0 n)) (edge_at 0) (λ k more.
-    let count : length (map edge_at (range_with_len 0 n)) ≡ n = length-map-range_with_len edge_at 0 n in
-    let here = get_or-map-range_with_len edge_at 0 n k k (edge_at 0) (omega arith) (omega arith) in
-    let next = get_or-map-range_with_len edge_at 0 n (k + 1) (k + 1) (edge_at 0) (omega arith) (omega arith) in
-    (λ i. edge_cmp (here i) (next i)) ∙ edge_rises k (k + 1) (omega arith))
+pub count_is : (n : ℕ) → edge_count n ≡ n * (n * kind_count)
+unfolding edge_count
+count_is n = refl
 
-pub all_rising : IsRising all_edges
+-- the parts of a number at which an edge stands
+pub parts_within : (n number : ℕ) → number < edge_count n → (0 < n) × (number / n < n * kind_count) × (number % n < n)
+parts_within n number below = (some, row, omega (arith, some)) where
+  some : 0 < n
+  some = at n number (omega (arith, below, count_is n)) where
+    at : (m k : ℕ) → k < m * (m * kind_count) → 0 < m
+    at zero k h = absurd (omega (arith, h))
+    at (suc m) k h = omega arith
+
+  row : number / n < n * kind_count
+  row = (div-lt_iff_lt-mul {k = n} {x = number} {y = n * kind_count} some).1 (omega (arith, below, count_is n))
+
+range_rises : (n count : ℕ) → count ≡ edge_count n → IsRising (map (edge_at n) (range_with_len 0 count))
+range_rises n count is_all = sorted_from_all_adjacent edge_total (map (edge_at n) (range_with_len 0 count)) (edge_at n 0) (λ k more.
+    let size : length (map (edge_at n) (range_with_len 0 count)) ≡ count = length-map-range_with_len (edge_at n) 0 count in
+    let some = parts_within n (k + 1) (omega arith) in
+    let here = get_or-map-range_with_len (edge_at n) 0 count k k (edge_at n 0) (omega arith) (omega arith) in
+    let next = get_or-map-range_with_len (edge_at n) 0 count (k + 1) (k + 1) (edge_at n 0) (omega arith) (omega arith) in
+    (λ i. edge_cmp (here i) (next i)) ∙ edge_rises n k (k + 1) some.0 (omega arith))
+
+pub all_rising : (n : ℕ) → IsRising (all_edges n)
 unfolding all_edges
-all_rising = range_rises edge_count
+all_rising n = range_rises n (edge_count n) refl
 
 pub edges_rising : (rows : List Labels) → IsRising (edges_of_rows rows)
 unfolding edges_of_rows
-edges_rising rows = IsStrictlySortedBy-filter edge_cmp (λ edge. is_in (row_of rows edge.from edge.kind) edge.to) all_edges all_rising
+edges_rising rows =
+    IsStrictlySortedBy-filter edge_cmp (λ edge. is_in (row_of rows edge.from edge.kind) edge.to) (all_edges Label.COUNT) (all_rising Label.COUNT)
 
 -- an edge is told by its parts
 pub same_parts : (edge : Edge) (from : ℕ) (kind : Kind) (to : ℕ) → is_edge from kind to edge ≡ true
@@ -103,102 +137,124 @@ of_parts edge from kind to starts is ends =
     and_from (edge.from == from) _ (eq-eqb _ _ starts)
     (and_from (kind_number edge.kind == kind_number kind) _ (eq-eqb _ _ is) (eq-eqb _ _ ends))
 
--- whether an edge can be
-abbrev pub is_possible : ℕ → Kind → ℕ → Bool
-is_possible from kind to = list_any (is_edge from kind to) all_edges
+-- whether an edge can be between as many labels
+abbrev pub is_possible : ℕ → ℕ → Kind → ℕ → Bool
+is_possible n from kind to = list_any (is_edge from kind to) (all_edges n)
 
 -- the edges that rows stand for are those whose bits are set
 pub allows-rows : (rows : List Labels) (from : ℕ) (kind : Kind) (to : ℕ)
-    → allows (edges_of_rows rows) from kind to ≡ (is_in (row_of rows from kind) to && is_possible from kind to)
+    → allows (edges_of_rows rows) from kind to ≡ (is_in (row_of rows from kind) to && is_possible Label.COUNT from kind to)
 unfolding allows edges_of_rows
 allows-rows rows from kind to =
     any-filter_same (is_edge from kind to) (λ edge. is_in (row_of rows edge.from edge.kind) edge.to) (is_in (row_of rows from kind) to)
     (λ edge is.
     let parts = same_parts edge from kind to is in
-    λ i. is_in (get_or rows (parts.0 i * 17 + parts.1 i) (record { word = 0 })) (parts.2 i))
-    all_edges
+    λ i. is_in (get_or rows (parts.0 i * kind_count + parts.1 i) no_labels) (parts.2 i))
+    (all_edges Label.COUNT)
 
-pub count_is : edge_count ≡ 69632
-unfolding edge_count
-count_is = refl
-
-pub all_of : (n : ℕ) → n ≡ 69632 → map edge_at (range_with_len 0 n) ≡ all_edges
+pub all_of : (n count : ℕ) → count ≡ edge_count n → map (edge_at n) (range_with_len 0 count) ≡ all_edges n
 unfolding all_edges
-all_of n is = ap (λ k. map edge_at (range_with_len 0 k)) (is ∙ sym count_is)
+all_of n count is = ap (λ k. map (edge_at n) (range_with_len 0 k)) is
+
+-- where an edge stands, and what stands at a number
+
+abbrev pub edge_number : ℕ → ℕ → Kind → ℕ → ℕ
+edge_number n from kind to = (from * kind_count + kind_number kind) * n + to
+
+pub number_within : (n from : ℕ) (kind : Kind) (to : ℕ) → from < n → to < n → edge_number n from kind to < edge_count n
+number_within n from kind to low high =
+    let of_kind = number_below kind in
+    let within = mul-add-lt (from * kind_count + kind_number kind) n to (n * kind_count) (omega arith) high in
+    omega (arith, within, count_is n)
+
+pub stands_at : (n from : ℕ) (kind : Kind) (to : ℕ) → to < n
+    → (edge_number n from kind to / n / kind_count ≡ from)
+    × (edge_number n from kind to / n % kind_count ≡ kind_number kind)
+    × (edge_number n from kind to % n ≡ to)
+stands_at n from kind to high =
+    let of_kind = number_below kind in
+    let row = div-mul-add (from * kind_count + kind_number kind) n to high in (
+      ap (λ r. r / kind_count) row ∙ div-mul-add from kind_count (kind_number kind) of_kind,
+      ap (λ r. r % kind_count) row ∙ mod-mul-add from kind_count (kind_number kind) of_kind,
+      mod-mul-add (from * kind_count + kind_number kind) n to high,
+    )
 
 -- between labels that there are, every edge can be
-pub possible : (from : ℕ) (kind : Kind) (to : ℕ) → from < 64 → to < 64 → is_possible from kind to ≡ true
+pub possible : (n from : ℕ) (kind : Kind) (to : ℕ) → from < n → to < n → is_possible n from kind to ≡ true
 unfolding all_edges edge_at
-possible from kind to low high =
-    let number = (from * 17 + kind_number kind) * 64 + to in
-    let of_kind = number_below kind in
-    let row : number / 64 ≡ from * 17 + kind_number kind = omega arith in
-    let within : number < edge_count = omega (arith, count_is) in
-    let stands = get_or-map-range_with_len edge_at 0 edge_count number number (edge_at 0) within (omega arith) in
-    let kinds : kind_number (get_or all_kinds (number / 64 % 17) Control) ≡ kind_number kind =
-    numbered (number / 64 % 17) (omega arith) ∙ omega arith in
-    list_any_at (is_edge from kind to) all_edges number (edge_at 0) (omega (arith, length-map-range_with_len edge_at 0 edge_count))
-    (ap (is_edge from kind to) stands ∙ of_parts (edge_at number) from kind to (omega arith) kinds (omega arith))
+possible n from kind to low high =
+    let number = edge_number n from kind to in
+    let within = number_within n from kind to low high in
+    let parts = stands_at n from kind to high in
+    let stands = get_or-map-range_with_len (edge_at n) 0 (edge_count n) number number (edge_at n 0) within (omega arith) in
+    let kinds : kind_number (get_or all_kinds (number / n % kind_count) Control) ≡ kind_number kind =
+    numbered (number / n % kind_count) (omega arith) ∙ parts.1 in
+    list_any_at (is_edge from kind to) (all_edges n) number (edge_at n 0) (omega (arith, within, length-map-range_with_len (edge_at n) 0 (edge_count n)))
+    (ap (is_edge from kind to) stands ∙ of_parts (edge_at n number) from kind to parts.0 kinds parts.2)
 
 -- and no other
-joins : (n from : ℕ) (kind : Kind) (to : ℕ) → n ≡ 69632 → list_any (is_edge from kind to) (map edge_at (range_with_len 0 n)) ≡ true
-    → (from < 64) × (to < 64)
+joins : (n count from : ℕ) (kind : Kind) (to : ℕ) → count ≡ edge_count n
+    → list_any (is_edge from kind to) (map (edge_at n) (range_with_len 0 count)) ≡ true → (from < n) × (to < n)
 unfolding edge_at
-joins n from kind to is_all is =
-    let some = Any-from_list_any (is_edge from kind to) (map edge_at (range_with_len 0 n)) is in
-    let count : length (map edge_at (range_with_len 0 n)) ≡ n = length-map-range_with_len edge_at 0 n in
-    let stands = get_or-map-range_with_len edge_at 0 n some.0 some.0 some.1 (omega (arith, some.2)) (omega arith) in
-    let parts = same_parts (edge_at some.0) from kind to (ap (is_edge from kind to) (sym stands ∙ some.3) ∙ some.4) in
-    (omega (arith, some.2, parts.0), omega (arith, some.2, parts.2))
+joins n count from kind to is_all is =
+    let some = Any-from_list_any (is_edge from kind to) (map (edge_at n) (range_with_len 0 count)) is in
+    let size : length (map (edge_at n) (range_with_len 0 count)) ≡ count = length-map-range_with_len (edge_at n) 0 count in
+    let stands = get_or-map-range_with_len (edge_at n) 0 count some.0 some.0 some.1 (omega (arith, some.2)) (omega arith) in
+    let parts = same_parts (edge_at n some.0) from kind to (ap (is_edge from kind to) (sym stands ∙ some.3) ∙ some.4) in
+    let within = parts_within n some.0 (omega (arith, some.2, size, is_all)) in
+    (omega (arith, within.1, parts.0), omega (arith, within.2, parts.2))
 
-pub possible_joins : (from : ℕ) (kind : Kind) (to : ℕ) → is_possible from kind to ≡ true → (from < 64) × (to < 64)
+pub possible_joins : (n from : ℕ) (kind : Kind) (to : ℕ) → is_possible n from kind to ≡ true → (from < n) × (to < n)
 unfolding all_edges
-possible_joins from kind to is = joins edge_count from kind to count_is is
+possible_joins n from kind to is = joins n (edge_count n) from kind to refl is
 
 pub edges_join : (rows : List Labels) → JoinsLabels (edges_of_rows rows)
 edges_join rows from kind to is =
-    possible_joins from kind to (and_parts (is_in (row_of rows from kind) to) _ (sym (allows-rows rows from kind to) ∙ is)).1
+    possible_joins Label.COUNT from kind to (and_parts (is_in (row_of rows from kind) to) _ (sym (allows-rows rows from kind to) ∙ is)).1
 
-abbrev pub JoinLabels : List Labels → Type 0
-JoinLabels rows = (from : ℕ) (kind : Kind) (to : ℕ) → is_in (row_of rows from kind) to ≡ true → (from < 64) × (to < 64)
+-- edges join the labels that the rows do
+pub edges_join_below : (n : ℕ) (rows : List Labels) → RowsJoin n rows → JoinsBelow n (edges_of_rows rows)
+edges_join_below n rows labels from kind to is =
+    labels from kind to (and_parts (is_in (row_of rows from kind) to) _ (sym (allows-rows rows from kind to) ∙ is)).0
 
 -- a row has the labels to which there are edges
-pub row_allows : (rows : List Labels) → JoinLabels rows → (from : ℕ) (kind : Kind) (to : ℕ)
+pub row_allows : (rows : List Labels) (span : ℕ) → span ≤ Label.COUNT → RowsJoin span rows → (from : ℕ) (kind : Kind) (to : ℕ)
     → is_in (row_of rows from kind) to ≡ allows (edges_of_rows rows) from kind to
-row_allows rows labels from kind to = by (is_in (row_of rows from kind) to) refl where
+row_allows rows span few labels from kind to = by (is_in (row_of rows from kind) to) refl where
   by : (bit : Bool) → is_in (row_of rows from kind) to ≡ bit → is_in (row_of rows from kind) to ≡ allows (edges_of_rows rows) from kind to
   by true is =
       let ends = labels from kind to is in
-      is ∙ sym (allows-rows rows from kind to ∙ (λ i. is i && possible from kind to ends.0 ends.1 i))
-  by false is = is ∙ sym (allows-rows rows from kind to ∙ ap (λ b. b && is_possible from kind to) is)
+      let can = possible Label.COUNT from kind to (omega (arith, ends.0, few)) (omega (arith, ends.1, few)) in
+      is ∙ sym (allows-rows rows from kind to ∙ (λ i. is i && can i))
+  by false is = is ∙ sym (allows-rows rows from kind to ∙ ap (λ b. b && is_possible Label.COUNT from kind to) is)
 
 -- no row, no edge
 pub no_rows : edges_of_rows [] ≡ []
 unfolding edges_of_rows
-no_rows = none all_edges where
+no_rows = none (all_edges Label.COUNT) where
   none : (edges : List Edge) → filter (λ edge. is_in (row_of [] edge.from edge.kind) edge.to) edges ≡ []
   none [] = refl
   none (edge ∷ rest) =
       ap (λ b. cond b (edge ∷ filter (λ other. is_in (row_of [] other.from other.kind) other.to) rest) (filter (λ other. is_in (row_of [] other.from other.kind) other.to) rest))
-      (ap (λ n. n == 1) (bit_at-zero edge.to))
+      (in_no_labels edge.to)
       ∙ none rest
 
-pub no_bits : JoinLabels []
-no_bits from kind to is = absurd (false≢true (sym (ap (λ n. n == 1) (bit_at-zero to)) ∙ is))
+pub no_bits : RowsJoin 0 []
+no_bits from kind to is = absurd (false≢true (sym (in_no_labels to) ∙ is))
 
 -- the rows once an edge is added
 
 -- rows that are filled up with rows of no label
 pub filled : (rows : List Labels) (count n : ℕ) (none : Labels) (to : ℕ) → is_in none to ≡ false
-    → is_in (get_or (rows ++ replicate count none) n (record { word = 0 })) to ≡ is_in (get_or rows n (record { word = 0 })) to
+    → is_in (get_or (rows ++ replicate count none) n no_labels) to ≡ is_in (get_or rows n no_labels) to
 filled [] zero n none to is = refl
-filled [] (suc count) zero none to is = is ∙ sym (ap (λ k. k == 1) (bit_at-zero to))
+filled [] (suc count) zero none to is = is ∙ sym (in_no_labels to)
 filled [] (suc count) (suc n) none to is = filled [] count n none to is
 filled (row ∷ rows) count zero none to is = refl
 filled (row ∷ rows) count (suc n) none to is = filled rows count n none to is
 
-pub row_set : (rows grown : List Labels) (edge : Edge) (row : Labels) → length grown ≡ 1088 → edge.from < 64
-    → ((n to : ℕ) → is_in (get_or grown n (record { word = 0 })) to ≡ is_in (get_or rows n (record { word = 0 })) to)
+pub row_set : (rows grown : List Labels) (edge : Edge) (row : Labels) → length grown ≡ row_count → edge.from < Label.COUNT
+    → ((n to : ℕ) → is_in (get_or grown n no_labels) to ≡ is_in (get_or rows n no_labels) to)
     → ((to : ℕ) → is_in row to ≡ (is_in (row_of grown edge.from edge.kind) to || (to == edge.to))) → (from : ℕ) (kind : Kind) (to : ℕ)
     → is_in (row_of (set grown (row_number edge.from edge.kind) row) from kind) to
     ≡ (is_edge from kind to edge || is_in (row_of rows from kind) to)
@@ -209,14 +265,14 @@ row_set rows grown edge row count low same is from kind to = by (cases_eq (row_n
   here : row_number from kind ≡ row_number edge.from edge.kind → goal ≡ (is_in (row_of rows from kind) to || (to == edge.to))
   here at =
       let of_kind = number_below edge.kind in
-      ap (λ n. is_in (get_or (set grown (row_number edge.from edge.kind) row) n (record { word = 0 })) to) at
-      ∙ ap (λ r. is_in r to) (get_or-set_same grown (row_number edge.from edge.kind) row (record { word = 0 }) (omega arith))
+      ap (λ n. is_in (get_or (set grown (row_number edge.from edge.kind) row) n no_labels) to) at
+      ∙ ap (λ r. is_in r to) (get_or-set_same grown (row_number edge.from edge.kind) row no_labels (omega arith))
       ∙ is to
-      ∙ ap (λ n. is_in (get_or grown n (record { word = 0 })) to || (to == edge.to)) (sym at)
+      ∙ ap (λ n. is_in (get_or grown n no_labels) to || (to == edge.to)) (sym at)
       ∙ ap (λ b. b || (to == edge.to)) (same (row_number from kind) to)
 
   parts : row_number from kind ≡ row_number edge.from edge.kind → (from ≡ edge.from) × (kind_number kind ≡ kind_number edge.kind)
-  parts at = same_from_place from (kind_number kind) edge.from (kind_number edge.kind) 17 (number_below kind) (number_below edge.kind) at
+  parts at = same_from_place from (kind_number kind) edge.from (kind_number edge.kind) kind_count (number_below kind) (number_below edge.kind) at
 
   at_end : row_number from kind ≡ row_number edge.from edge.kind → (b : Bool) → (to == edge.to) ≡ b
       → goal ≡ (is_edge from kind to edge || is_in (row_of rows from kind) to)
@@ -232,28 +288,29 @@ row_set rows grown edge row count low same is from kind to = by (cases_eq (row_n
       → goal ≡ (is_edge from kind to edge || is_in (row_of rows from kind) to)
   by (inl at) = at_end at (to == edge.to) refl
   by (inr other) =
-      ap (λ r. is_in r to) (get_or-set_other grown (row_number edge.from edge.kind) (row_number from kind) row (record { word = 0 }) other)
+      ap (λ r. is_in r to) (get_or-set_other grown (row_number edge.from edge.kind) (row_number from kind) row no_labels other)
       ∙ same (row_number from kind) to
       ∙ sym (ap (λ b. b || is_in (row_of rows from kind) to)
       (false_from_ne_true (is_edge from kind to edge)
-      (λ e. let same_place = same_parts edge from kind to e in other (λ i. sym same_place.0 i * 17 + sym same_place.1 i))))
+      (λ e. let same_place = same_parts edge from kind to e in other (λ i. sym same_place.0 i * kind_count + sym same_place.1 i))))
 
 -- the edges that are allowed once one is added
-pub edges_added : (old new : List Labels) (edge : Edge) → edge.from < 64 → edge.to < 64
+pub edges_added : (old new : List Labels) (span greater : ℕ) (edge : Edge) → span ≤ greater → greater ≤ Label.COUNT → edge.from < greater → edge.to < greater
     → ((from : ℕ) (kind : Kind) (to : ℕ)
-    → is_in (row_of new from kind) to ≡ (is_edge from kind to edge || is_in (row_of old from kind) to)) → JoinLabels old
+    → is_in (row_of new from kind) to ≡ (is_edge from kind to edge || is_in (row_of old from kind) to)) → RowsJoin span old
     → record {
-      labels : JoinLabels new;
+      labels : RowsJoin greater new;
       added : (from : ℕ) (kind : Kind) (to : ℕ)
           → allows (edges_of_rows new) from kind to ≡ (is_edge from kind to edge || allows (edges_of_rows old) from kind to);
     }
-edges_added old new edge low high bits before = record {
+edges_added old new span greater edge more few low high bits before = record {
   labels = labels;
   added = λ from kind to.
-      sym (row_allows new labels from kind to) ∙ bits from kind to ∙ ap (λ b. is_edge from kind to edge || b) (row_allows old before from kind to);
+      sym (row_allows new greater few labels from kind to) ∙ bits from kind to
+      ∙ ap (λ b. is_edge from kind to edge || b) (row_allows old span (omega (arith, more, few)) before from kind to);
 } where
-  labels : JoinLabels new
+  labels : RowsJoin greater new
   labels from kind to is = elim (or_cases _ _ (sym (bits from kind to) ∙ is)) [
-    | inl e ↦ let parts = same_parts edge from kind to e in (omega (arith, parts.0), omega (arith, parts.2))
-    | inr was ↦ before from kind to was
+    | inl e ↦ let parts = same_parts edge from kind to e in (omega (arith, parts.0, low), omega (arith, parts.2, high))
+    | inr was ↦ let ends = before from kind to was in (omega (arith, ends.0, more), omega (arith, ends.1, more))
   ]

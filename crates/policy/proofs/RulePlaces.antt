@@ -1,7 +1,8 @@
 -- Where each broken place is among the rules, and among the numbered places of its rule.
 use Rattle.std.proofs.Common.{◌≡◌, ℕ, ◌+◌, ◌-◌, ◌*◌, ◌/◌, ◌%◌, ◌<◌, zero, suc, List, [], ◌∷◌, Option, Some, None, inl, inr, refl, sym, ap, ◌∙◌, subst, arith, slice_get, true}
-use Rattle.std.proofs.lemmas.Bool.{cases_order}
-use Rattle.std.proofs.lemmas.Option.{same_Some}
+use Rattle.std.proofs.lemmas.List.FromFn.{length-range_with_len}
+use Rattle.std.proofs.lemmas.Nat.{div-mul-add, mod-mul-add, mul-add-lt}
+use Rattle.std.proofs.lemmas.Option.{same_Some, slice_get_within}
 use Rattle.base.specs.declared.kind.Kind.TheVariants.{Space, Control}
 use Rattle.policy.specs.declared.broken.Broken.{Broken}
 use Rattle.policy.specs.declared.broken.Broken.TheVariants as broken
@@ -14,6 +15,7 @@ use Rattle.policy.specs.Places.{Begins, FindsLeast, IsUnder}
 use Rattle.policy.specs.Search.{FindsBroken}
 use Rattle.policy.specs.Sweep.{rule_number, count_of, place_of}
 use Rattle.policy.proofs.Places.{Searches, IsBelow}
+use Rattle.policy.proofs.RowEdges.{split_rises}
 use Rattle.policy.proofs.Sweep.{numbers, stands, stands_alone}
 use Rattle.base.specs.declared.kind.Kind.{Kind}
 
@@ -60,14 +62,14 @@ rule_of (broken.ReplyLacks _ _) = rule.P7
 rule_of (broken.LentLacks _ _) = rule.P8
 
 -- the number of a pair of labels tells both
-paired : (a b : ℕ) → b < 64 → ((a * 64 + b) / 64 ≡ a) × ((a * 64 + b) % 64 ≡ b)
-paired a b below = (omega (arith, below), omega (arith, below))
+paired : (n a b : ℕ) → b < n → ((a * n + b) / n ≡ a) × ((a * n + b) % n ≡ b)
+paired n a b below = (div-mul-add a n b below, mod-mul-add a n b below)
 
--- where a place is among those of its rule
-record IsNumbered (b : Broken) : Type 0 where
+-- where a place between n labels is among those of its rule
+record IsNumbered (n : ℕ) (b : Broken) : Type 0 where
   number : ℕ
-  within : number < count_of (rule_of b)
-  begins : Begins (rule_number (rule_of b) ∷ place_of (rule_of b) number) (broken_place b)
+  within : number < count_of n (rule_of b)
+  begins : Begins (rule_number (rule_of b) ∷ place_of n (rule_of b) number) (broken_place b)
 
 first_of : (r : Rule) (rest : List ℕ) (b : Broken) → Begins (rule_number r ∷ rest) (broken_place b) → rule_number r ≡ rule_number (rule_of b)
 unfolding rule_of
@@ -91,51 +93,65 @@ rule_begins (broken.ContextLacks _ _) = (refl, tt)
 rule_begins (broken.ReplyLacks _ _) = (refl, tt)
 rule_begins (broken.LentLacks _ _) = (refl, tt)
 
-pairs_rise : (a b : ℕ) → a < b → IsBelow (a / 64 ∷ a % 64 ∷ []) (b / 64 ∷ b % 64 ∷ [])
-pairs_rise a b lt = elim (cases_order (a / 64) (b / 64)) [
-  | inl same ↦ let less : a % 64 < b % 64 = omega (arith, lt, same) in inr (same, inl less)
-  | inr (inl below) ↦ inl below
-  | inr (inr above) ↦ absurd (omega (arith, lt, above))
+pairs_rise : (n a b : ℕ) → 0 < n → a < b → IsBelow (a / n ∷ a % n ∷ []) (b / n ∷ b % n ∷ [])
+pairs_rise n a b some lt = elim (split_rises n a b some lt) [
+  | inl below ↦ inl below
+  | inr (same, less) ↦ inr (same, inl less)
 ]
 
-places_rise : (r : Rule) (a b : ℕ) → a < b → IsBelow (place_of r a) (place_of r b)
-places_rise rule.P1 a b lt = pairs_rise a b lt
-places_rise rule.P2 a b lt = inl lt
-places_rise rule.P3 a b lt = pairs_rise a b lt
-places_rise rule.P4 a b lt = inl lt
-places_rise rule.P5 a b lt = inl lt
-places_rise rule.P6 a b lt = inl lt
-places_rise rule.P7 a b lt = inl lt
-places_rise rule.P8 a b lt = inl lt
+places_rise : (n : ℕ) (r : Rule) (a b : ℕ) → 0 < n → a < b → IsBelow (place_of n r a) (place_of n r b)
+places_rise n rule.P1 a b some lt = pairs_rise n a b some lt
+places_rise n rule.P2 a b some lt = inl lt
+places_rise n rule.P3 a b some lt = pairs_rise n a b some lt
+places_rise n rule.P4 a b some lt = inl lt
+places_rise n rule.P5 a b some lt = inl lt
+places_rise n rule.P6 a b some lt = inl lt
+places_rise n rule.P7 a b some lt = inl lt
+places_rise n rule.P8 a b some lt = inl lt
 
-module _ (test : EdgeTest) (joins : (from : ℕ) (kind : Kind) (to : ℕ) → test from kind to ≡ true → (from < 64) × (to < 64)) where
-  in_domain : (a x : ℕ) → IsInDomain test a x → (a < 64) × (x < 64)
+-- where there are places, there are labels
+none_of_none : (r : Rule) (k : ℕ) → k < count_of 0 r → ⊥
+none_of_none rule.P1 k below = omega (arith, below)
+none_of_none rule.P2 k below = omega (arith, below)
+none_of_none rule.P3 k below = omega (arith, below)
+none_of_none rule.P4 k below = omega (arith, below)
+none_of_none rule.P5 k below = omega (arith, below)
+none_of_none rule.P6 k below = omega (arith, below)
+none_of_none rule.P7 k below = omega (arith, below)
+none_of_none rule.P8 k below = omega (arith, below)
+
+some_labels : (n : ℕ) (r : Rule) (k : ℕ) → k < count_of n r → 0 < n
+some_labels zero r k below = absurd (none_of_none r k below)
+some_labels (suc n) r k below = omega arith
+
+module _ (test : EdgeTest) (n : ℕ) (joins : (from : ℕ) (kind : Kind) (to : ℕ) → test from kind to ≡ true → (from < n) × (to < n)) where
+  in_domain : (a x : ℕ) → IsInDomain test a x → (a < n) × (x < n)
   in_domain a x (inl e) = joins a Space x e
   in_domain a x (inr e) = joins a Control x e
 
-  of_pair : (a b : ℕ) → a < 64 → b < 64 → a * 64 + b < 4096
-  of_pair a b one other = omega (arith, one, other)
+  of_pair : (a b : ℕ) → a < n → b < n → a * n + b < n * n
+  of_pair a b one other = mul-add-lt a n b n one other
 
-  derives : (parent child : ℕ) → ComesToDerive test parent child → parent < 64
+  derives : (parent child : ℕ) → ComesToDerive test parent child → parent < n
   derives parent child (granted giver taker may of_parent of_child) = (in_domain giver parent of_parent).1
   derives parent child (derived middle one other) = (joins parent _ middle one).0
 
-  holds : (reply thread : ℕ) → ComesToHold test reply thread → reply < 64
+  holds : (reply thread : ℕ) → ComesToHold test reply thread → reply < n
   holds reply thread (server e) = (joins thread _ reply e).1
   holds reply thread (caller b endpoint e calls receives) = (joins b _ reply e).1
 
-  place_number : (b : Broken) → IsBrokenAt test b → IsNumbered b
+  place_number : (b : Broken) → IsBrokenAt test b → IsNumbered n b
   unfolding rule_of
   place_number (broken.SubjectsDisagree a b kind to) h =
       let both = in_domain a b h.share.domain in
-      let pair = paired a b both.1 in
-      record { number = a * 64 + b; within = of_pair a b both.0 both.1; begins = (refl, (pair.0, (pair.1, tt))) }
+      let pair = paired n a b both.1 in
+      record { number = a * n + b; within = of_pair a b both.0 both.1; begins = (refl, (pair.0, (pair.1, tt))) }
   place_number (broken.ControlLacks a kind to) h = record { number = a; within = (joins a _ to h.asked.controls).0; begins = (refl, (refl, tt)) }
   place_number (broken.GrantLacks a b kind to) h =
       let below = (joins b _ h.asked.granted.endpoint h.asked.granted.receives).0 in
-      let pair = paired a b below in
+      let pair = paired n a b below in
       record {
-        number = a * 64 + b;
+        number = a * n + b;
         within = of_pair a b (joins a _ h.asked.granted.endpoint h.asked.granted.grants).0 below;
         begins = (refl, (pair.0, (pair.1, tt)));
       }
@@ -148,27 +164,30 @@ module _ (test : EdgeTest) (joins : (from : ℕ) (kind : Kind) (to : ℕ) → te
       record { number = a; within = (joins a _ h.asked.endpoint h.asked.receives).0; begins = (refl, (refl, tt)) }
 
   -- the places of a rule
-  pub of_places : (r : Rule) → Searches broken_place (IsBrokenAt test) (of_rule r) (numbers (count_of r)) (place_of r)
+  pub of_places : (r : Rule) → Searches broken_place (IsBrokenAt test) (of_rule r) (numbers (count_of n r)) (place_of n r)
   of_places r = record { covers = covers; rises = rises } where
     covers :
         (b : Broken) → IsUnder broken_place (IsBrokenAt test) (of_rule r) b
-        → (k : ℕ) × (a : ℕ) × (slice_get (numbers (count_of r)) k ≡ Some a) × Begins (rule_number r ∷ place_of r a) (broken_place b)
+        → (k : ℕ) × (a : ℕ) × (slice_get (numbers (count_of n r)) k ≡ Some a) × Begins (rule_number r ∷ place_of n r a) (broken_place b)
     covers b under =
         let at = place_number b under.1 in
         let same = same_rule (rule_of b) r (sym (first_of r [] b under.0)) in (
           at.number,
           at.number,
-          stands (count_of r) at.number (subst (λ (s : Rule). at.number < count_of s) same at.within),
-          subst (λ (s : Rule). Begins (rule_number s ∷ place_of s at.number) (broken_place b)) same at.begins,
+          stands (count_of n r) at.number (subst (λ (s : Rule). at.number < count_of n s) same at.within),
+          subst (λ (s : Rule). Begins (rule_number s ∷ place_of n s at.number) (broken_place b)) same at.begins,
         )
 
     rises :
-        (i j a b : ℕ) → i < j → slice_get (numbers (count_of r)) i ≡ Some a → slice_get (numbers (count_of r)) j ≡ Some b
-        → IsBelow (place_of r a) (place_of r b)
+        (i j a b : ℕ) → i < j → slice_get (numbers (count_of n r)) i ≡ Some a → slice_get (numbers (count_of n r)) j ≡ Some b
+        → IsBelow (place_of n r a) (place_of n r b)
     rises i j a b lt at_i at_j =
-        let one = stands_alone (count_of r) i a at_i in
-        let other = stands_alone (count_of r) j b at_j in
-        places_rise r a b (omega (arith, lt, one, other))
+        let one = stands_alone (count_of n r) i a at_i in
+        let other = stands_alone (count_of n r) j b at_j in
+        let within = slice_get_within (numbers (count_of n r)) i a at_i in
+        let size = length-range_with_len 0 (count_of n r) in
+        let some = some_labels n r i (omega (arith, within, size)) in
+        places_rise n r a b some (omega (arith, lt, one, other))
 
 -- the rules
 pub of_rules : (test : EdgeTest) → Searches broken_place (IsBrokenAt test) [] all_rules of_rule

@@ -1,5 +1,5 @@
 -- A policy is closed exactly if no rule is broken anywhere.
-use Rattle.std.proofs.Common.{◌≡◌, ◌≢◌, ℕ, Bool, true, false, inl, inr, refl, sym}
+use Rattle.std.proofs.Common.{◌≡◌, ◌≢◌, Bool, true, false, refl, sym}
 use mathlib.Core.Bool.{false≢true}
 use Rattle.policy.specs.declared.broken.Broken.{Broken}
 use Rattle.policy.specs.declared.broken.Broken.TheVariants as broken

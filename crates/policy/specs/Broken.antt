@@ -1,7 +1,7 @@
 -- Where the rules of closed policies (`Closed`) are broken: a rule asks for an edge there, and it is missing. In which order these
 -- places come (compare 'seL4 Enforces Integrity', section 3, well-formed policies; the rules, their places and their order are
 -- confine's own).
-use Rattle.std.specs.Prelude.{◌≡◌, ◌≢◌, ℕ, List, [], ◌∷◌, codes}
+use Rattle.std.specs.Prelude.{◌≢◌, ℕ, List, [], ◌∷◌, codes}
 use Rattle.base.specs.declared.kind.Kind.{Kind}
 use Rattle.base.specs.declared.kind.Kind.TheVariants.{Derive, Runs, Holds}
 use Rattle.base.specs.Kinds.{kind_number}

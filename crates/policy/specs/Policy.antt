@@ -29,9 +29,13 @@ is_edge from kind to edge = (edge.from == from) && ((kind_number edge.kind == ki
 unfoldable pub allows : List Edge → ℕ → Kind → ℕ → Bool
 allows edges from kind to = list_any (is_edge from kind to) edges
 
+-- each edge joins two labels below a number
+abbrev pub JoinsBelow : ℕ → List Edge → Type 0
+JoinsBelow number edges = (from : ℕ) (kind : Kind) (to : ℕ) → allows edges from kind to ≡ true → (from < number) × (to < number)
+
 -- each edge joins two of the labels that there can be
 abbrev pub JoinsLabels : List Edge → Type 0
-JoinsLabels edges = (from : ℕ) (kind : Kind) (to : ℕ) → allows edges from kind to ≡ true → (from < Label.COUNT) × (to < Label.COUNT)
+JoinsLabels edges = JoinsBelow Label.COUNT edges
 
 -- what every policy keeps
 pub record IsPolicy (edges : List Edge) : Type 0 where

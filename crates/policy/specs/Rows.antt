@@ -9,40 +9,54 @@ use Rattle.base.specs.declared.kind.TheConstants.Kind.{ALL}
 use Rattle.base.specs.declared.labels.Labels.{Labels}
 use Rattle.base.specs.declared.label.TheConstants.Label as Label
 use Rattle.base.specs.Kinds.{kind_number}
-use Rattle.base.specs.Labels.{is_in}
+use Rattle.base.specs.Labels.{is_in, no_labels}
 use Rattle.policy.specs.Policy.{edge_cmp, last_edge}
+
+-- how many kinds there are
+abbrev pub kind_count : ℕ
+kind_count = 17
 
 -- where the row of a label and a kind stands
 abbrev pub row_number : ℕ → Kind → ℕ
-row_number from kind = from * 17 + kind_number kind
+row_number from kind = from * kind_count + kind_number kind
+
+-- how many rows there can be
+abbrev pub row_count : ℕ
+row_count = Label.COUNT * kind_count
 
 -- the row of a label and a kind; no label is in one that isn't kept
 abbrev pub row_of : List Labels → ℕ → Kind → Labels
-row_of rows from kind = slice_index_or rows (row_number from kind) (record { word = 0 })
+row_of rows from kind = slice_index_or rows (row_number from kind) no_labels
 
--- how many edges there can be
-unfoldable pub edge_count : ℕ
-edge_count = 69632
+-- how many edges there can be between as many labels
+unfoldable pub edge_count : ℕ → ℕ
+edge_count labels = labels * (labels * kind_count)
 
--- the edges that there can be, by their numbers in the order of edges
-unfoldable pub edge_at : ℕ → Edge
-edge_at number = record { from = number / 64 / 17; kind = slice_index_or ALL (number / 64 % 17) Control; to = number % 64 }
+-- the edges that there can be between as many labels, by their numbers in the order of edges
+unfoldable pub edge_at : ℕ → ℕ → Edge
+edge_at labels number =
+    record { from = number / labels / kind_count; kind = slice_index_or ALL (number / labels % kind_count) Control; to = number % labels }
 
--- all edges that there can be, in their order
-unfoldable pub all_edges : List Edge
-all_edges = map edge_at (range_with_len 0 edge_count)
+-- all edges that there can be between as many labels, in their order
+unfoldable pub all_edges : ℕ → List Edge
+all_edges labels = map (edge_at labels) (range_with_len 0 (edge_count labels))
 
 -- the edges that rows stand for, in their order
 unfoldable pub edges_of_rows : List Labels → List Edge
-edges_of_rows rows = filter (λ edge. is_in (row_of rows edge.from edge.kind) edge.to) all_edges
+edges_of_rows rows = filter (λ edge. is_in (row_of rows edge.from edge.kind) edge.to) (all_edges Label.COUNT)
 
 -- the last edge, once an edge is added
 abbrev pub last_with : Option Edge → Edge → Edge
 last_with None edge = edge
 last_with (Some last) edge = if is_lt (edge_cmp edge last) then last else edge
 
--- what a policy keeps: a row for each label and kind at most, in which are labels that there can be, and its last edge
-pub record IsKept (rows : List Labels) (last : Option Edge) : Type 0 where
-  pub count : length rows ≤ 1088
-  pub labels : (from : ℕ) (kind : Kind) (to : ℕ) → is_in (row_of rows from kind) to ≡ true → (from < Label.COUNT) × (to < Label.COUNT)
+-- each row that has a label is of a label below a number, and has labels below it
+abbrev pub RowsJoin : ℕ → List Labels → Type 0
+RowsJoin number rows = (from : ℕ) (kind : Kind) (to : ℕ) → is_in (row_of rows from kind) to ≡ true → (from < number) × (to < number)
+
+-- what a policy keeps: a row for each label and kind at most, its last edge, and a number above the labels that edges join
+pub record IsKept (rows : List Labels) (last : Option Edge) (span : ℕ) : Type 0 where
+  pub count : length rows ≤ row_count
+  pub few : span ≤ Label.COUNT
+  pub labels : RowsJoin span rows
   pub greatest : last ≡ last_edge (edges_of_rows rows)

@@ -1,5 +1,5 @@
 -- How the places of a rule of closed policies are numbered for the search (confine's own).
-use Rattle.std.specs.Prelude.{ℕ, ◌/◌, ◌%◌, List, [], ◌∷◌}
+use Rattle.std.specs.Prelude.{ℕ, ◌*◌, ◌/◌, ◌%◌, List, [], ◌∷◌}
 use Rattle.policy.specs.declared.broken.Rule.{Rule}
 use Rattle.policy.specs.declared.broken.Rule.TheVariants as rule
 use Rattle.policy.specs.Broken.{p1, p2, p3, p4, p5, p6, p7, p8}
@@ -14,14 +14,14 @@ rule_number rule.P6 = p6
 rule_number rule.P7 = p7
 rule_number rule.P8 = p8
 
--- P1 and P3 are looked at for each pair of labels, the others for each label
-abbrev pub count_of : Rule → ℕ
-count_of rule.P1 = 4096
-count_of rule.P3 = 4096
-count_of _ = 64
+-- between as many labels, P1 and P3 are looked at for each pair of labels, the others for each label
+abbrev pub count_of : ℕ → Rule → ℕ
+count_of labels rule.P1 = labels * labels
+count_of labels rule.P3 = labels * labels
+count_of labels _ = labels
 
 -- how a place begins after the rule's number
-abbrev pub place_of : Rule → ℕ → List ℕ
-place_of rule.P1 number = number / 64 ∷ number % 64 ∷ []
-place_of rule.P3 number = number / 64 ∷ number % 64 ∷ []
-place_of _ number = number ∷ []
+abbrev pub place_of : ℕ → Rule → ℕ → List ℕ
+place_of labels rule.P1 number = number / labels ∷ number % labels ∷ []
+place_of labels rule.P3 number = number / labels ∷ number % labels ∷ []
+place_of _ _ number = number ∷ []

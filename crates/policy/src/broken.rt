@@ -2,7 +2,8 @@ mod cells;
 pub(crate) mod rules;
 pub(crate) mod steps;
 
-ghost use Rattle.std.specs.Prelude.{◌≡◌, ◌<◌, ◌∷◌, [], IsTrue};
+ghost use Rattle.std.specs.Prelude.{◌≡◌, ◌*◌, ◌/◌, ◌%◌, ◌<◌, ◌≤◌, ◌∷◌, [], IsTrue};
+ghost use Rattle.base.specs.declared.label.TheConstants.Label as Label;
 ghost use Rattle.policy.specs.Broken.{IsBrokenAt, broken_place, broken_rule};
 ghost use Rattle.policy.specs.Places.{FindsLeast};
 ghost use Rattle.policy.specs.Policy.{allows};
@@ -119,25 +120,33 @@ impl Rule {
         Rule::P8,
     ];
 
-    // At how many places it is looked at: at pairs of labels, or at labels.
-    fn places(self) -> usize
-        ensures { result ≡ count_of self }
+    // At how many places it is looked at between as many labels: at pairs of labels, or at labels.
+    fn places(self, labels: usize) -> usize
+        requires { labels ≤ Label.COUNT }
+        ensures { result ≡ count_of labels self }
     {
         match self {
-            Rule::P1 | Rule::P3 => LABELS * LABELS,
-            _ => LABELS,
+            Rule::P1 | Rule::P3 => labels * labels,
+            _ => labels,
         }
     }
 
     // The first broken place at a pair of labels, or at a label.
-    fn broken_at(self, policy: &Policy, number: usize) -> Option<Broken>
-        requires { number < count_of self }
-        ensures { FindsBroken (allows policy.now) (rule_number self ∷ place_of self number) result }
+    fn broken_at(self, policy: &Policy, labels: usize, number: usize) -> Option<Broken>
+        requires few { labels ≤ Label.COUNT }
+        requires within { number < count_of labels self }
+        ensures { FindsBroken (allows policy.now) (rule_number self ∷ place_of labels self number) result }
     {
         match self {
-            Rule::P1 => subjects_disagree(policy, label(number / LABELS), label(number % LABELS)),
+            Rule::P1 => {
+                let (subject, other) = pair(labels, number);
+                subjects_disagree(policy, subject, other)
+            }
             Rule::P2 => control_lacks(policy, label(number)),
-            Rule::P3 => grant_lacks(policy, label(number / LABELS), label(number % LABELS)),
+            Rule::P3 => {
+                let (giver, taker) = pair(labels, number);
+                grant_lacks(policy, giver, taker)
+            }
             Rule::P4 => domain_lacks(policy, label(number)),
             Rule::P5 => derive_lacks(policy, label(number)),
             Rule::P6 => context_lacks(policy, label(number)),
@@ -150,15 +159,15 @@ impl Rule {
     fn first_broken(self, rt: &(impl Threads + Sync), policy: &Policy) -> Option<Broken>
         ensures { FindsBroken (allows policy.now) (rule_number self ∷ []) result }
     {
-        policy.edges_rise();
-        (0..self.places())
+        let labels = usize::from(policy.span());
+        (0..self.places(labels))
             .into_par_iter()
             .with_min_len(AT_ONCE)
             .filter_map(
                 |number: usize| -> Option<Broken>
-                    requires { number < count_of self }
-                    ensures { FindsBroken (allows policy.entry.now) (rule_number self ∷ place_of self number) result }
-                { self.broken_at(policy, number) },
+                    requires { (labels ≤ Label.COUNT) × (number < count_of labels self) }
+                    ensures { FindsBroken (allows policy.entry.now) (rule_number self ∷ place_of labels self number) result }
+                { self.broken_at(policy, labels, number) },
             )
             .find_first(
                 rt,
@@ -169,17 +178,25 @@ impl Rule {
     }
 }
 
-const LABELS: usize = Label::COUNT as usize;
-
 // How many places one thread looks at, at least: fewer take less time than a thread's start.
 const AT_ONCE: usize = 2048;
 
 // The label of this number.
 fn label(number: usize) -> Label
-    requires { number < LABELS }
+    requires { number < Label.COUNT }
     ensures { result ≡ number }
 {
-    Label::new(number as u8).unwrap()
+    Label::new(number as u16).unwrap()
+}
+
+// The pair of labels of this number, in the order of the pairs of as many labels.
+fn pair(labels: usize, number: usize) -> (Label, Label)
+    requires few { labels ≤ Label.COUNT }
+    requires within { number < labels * labels }
+    ensures first { result.0 ≡ number / labels }
+    ensures second { result.1 ≡ number % labels }
+{
+    (label(number / labels), label(number % labels))
 }
 
 /// The first rule of closed policies that a policy breaks, and the first place where it does. Pairs of

@@ -61,9 +61,8 @@ fn settle_labels(policy: &mut Policy) -> Result<bool, Refusal>
     ensures settled { IfOk result (λ changed. changed ≡ false → IsClosed (allows policy.new)) }
     ensures memory { IfErr result (λ refusal. refusal ≡ out_of_memory) }
 {
-    policy.edges_rise();
     let mut changed = false;
-    for number in 0..Label::COUNT {
+    for number in 0..policy.span() {
         if let Some(from) = Label::new(number) {
             if settle_label(policy, from)? {
                 changed = true;
@@ -79,22 +78,31 @@ fn settle_label(policy: &mut Policy, from: Label) -> Result<bool, Refusal>
     ensures settled { IfOk result (λ changed. changed ≡ false → (kind : Kind) → IsSettled (allows policy.new) from kind) }
     ensures memory { IfErr result (λ refusal. refusal ≡ out_of_memory) }
 {
+    let mut sharing = givers(policy, from);
     let mut changed = false;
     for kind in Kind::ALL {
-        if settle_row(policy, from, kind)? {
+        if settle_row(policy, from, kind, sharing)? {
             changed = true;
+            sharing = givers(policy, from);
         }
     }
     Ok(changed)
 }
 
-// Adds the edges of this kind that are missing at a label. Whether any was.
-fn settle_row(policy: &mut Policy, from: Label, kind: Kind) -> Result<bool, Refusal>
+// Adds the edges of this kind that are missing at a label, of which these share what they may do. Whether
+// any was.
+fn settle_row(
+    policy: &mut Policy,
+    from: Label,
+    kind: Kind,
+    sharing: Labels,
+) -> Result<bool, Refusal>
+    requires { (giver : ℕ) → (is_in sharing giver ≡ true) ↔ Shares (allows policy.old) giver from }
     ensures grows { IfOk result (λ changed. Grows policy.old policy.new changed) }
     ensures settled { IfOk result (λ changed. changed ≡ false → IsSettled (allows policy.new) from kind) }
     ensures memory { IfErr result (λ refusal. refusal ≡ out_of_memory) }
 {
-    let lacks = missing(policy, from, kind);
+    let lacks = missing(policy, from, kind, sharing);
     match lacks.first() {
         None => Ok(false),
         Some(first) => {
@@ -121,8 +129,9 @@ fn join(policy: &mut Policy, from: Label, kind: Kind, labels: Labels) -> Result<
     Ok(())
 }
 
-// The labels to which an edge of this kind is missing.
-fn missing(policy: &Policy, from: Label, kind: Kind) -> Labels
+// The labels to which an edge of this kind is missing, from a label with which these share.
+fn missing(policy: &Policy, from: Label, kind: Kind, sharing: Labels) -> Labels
+    requires { (giver : ℕ) → (is_in sharing giver ≡ true) ↔ Shares (allows policy.now) giver from }
     ensures { (to : ℕ) → (is_in result to ≡ true) ↔ IsMissing (allows policy.now) from kind to }
 {
     match kind {
@@ -132,19 +141,20 @@ fn missing(policy: &Policy, from: Label, kind: Kind) -> Labels
             .difference(policy.row(from, Kind::Runs))
             .union(not_lent(policy, from)),
         Kind::Holds => not_held(policy, from),
-        _ => given(policy, from, kind).difference(policy.row(from, kind)),
+        _ => given(policy, from, kind, sharing).difference(policy.row(from, kind)),
     }
 }
 
-// The labels to which the label is given the edge of this kind, by control or by who shares with it.
-fn given(policy: &Policy, from: Label, kind: Kind) -> Labels
+// The labels to which the label is given the edge of this kind, by control or by those who share with it.
+fn given(policy: &Policy, from: Label, kind: Kind, sharing: Labels) -> Labels
+    requires { (giver : ℕ) → (is_in sharing giver ≡ true) ↔ Shares (allows policy.now) giver from }
     ensures { (to : ℕ) → (is_in result to ≡ true) ↔ IsGiven (allows policy.now) from kind to }
 {
     let controlled = controlled(policy, from, kind);
     if kind.is_structural() {
         return controlled;
     }
-    controlled.union(policy.targets(givers(policy, from), &[kind]))
+    controlled.union(policy.targets(sharing, &[kind]))
 }
 
 // The labels to which control gives the label the edge of this kind.

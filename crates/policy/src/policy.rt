@@ -1,33 +1,30 @@
-ghost use Rattle.std.specs.Prelude.{◌≡◌, ℕ, ◌<◌, ◌≤◌, ◌||◌, true, List, [], ◌∷◌, ◌++◌, IsOk, OnOk, OnErr, IfErr, IfOk, SomeIff, vec_len};
+ghost use Rattle.std.specs.Prelude.{◌≡◌, ℕ, ◌+◌, ◌<◌, ◌≤◌, ◌||◌, max, true, List, [], ◌∷◌, ◌++◌, IsOk, OnOk, OnErr, IfErr, IfOk, SomeIff, vec_len};
 ghost use Rattle.base.specs.declared.edge.Edge.{Edge};
 ghost use Rattle.base.specs.declared.kind.Kind.{Kind};
 ghost use Rattle.base.specs.declared.label.TheConstants.Label as Label;
 ghost use Rattle.base.specs.Labels.{is_in};
 ghost use Rattle.base.specs.Refusals.{out_of_memory};
-ghost use Rattle.policy.specs.Policy.{IsRising, IsAboveLast, JoinsLabels, allows, is_edge, last_edge};
+ghost use Rattle.policy.specs.Policy.{IsRising, IsAboveLast, JoinsBelow, JoinsLabels, allows, is_edge, last_edge};
 ghost use Rattle.policy.specs.Rows.{edge_at, edge_count, last_with, row_number, row_of};
 
 use base::{Edge, Kind, Label, Labels, Refusal};
 use std::alloc::{AllocError, Global};
 use std::marker::Model;
 
-// How many labels and kinds there are, so how many rows, and how many edges there can be.
-const LABELS: usize = 64;
+// How many kinds there are, and how many rows.
+const KINDS: usize = Kind::ALL.len();
 
-const KINDS: usize = 17;
-
-const ROWS: usize = LABELS * KINDS;
-
-pub(crate) const EDGES: usize = ROWS * LABELS;
+const ROWS: usize = Label::COUNT as usize * KINDS;
 
 /// A set of edges of authority.
 ///
-/// For each label and kind it keeps the set of the labels to which there is an edge, as one word. All of
-/// these rows are made when the first edge is added. An edge is found, and added, in constant time.
+/// For each label and kind it keeps the set of the labels to which there is an edge. All of these rows are
+/// made when the first edge is added. An edge is found, and added, in constant time.
 #[derive(Debug, Drop)]
 pub struct Policy {
     rows: Vec<Labels>,
     last: Option<Edge>,
+    span: u16,
 }
 
 impl Model for Policy {
@@ -39,7 +36,7 @@ impl Model for Policy {
 
     ghost view = { λ policy. edges_of_rows policy.rows.items };
 
-    ghost invariant = { λ policy. IsKept policy.rows.items policy.last };
+    ghost invariant = { λ policy. IsKept policy.rows.items policy.last policy.span };
 }
 
 impl Policy {
@@ -50,6 +47,7 @@ impl Policy {
         Policy {
             rows: Vec::new(alloc),
             last: None,
+            span: 0,
         }
     }
 
@@ -72,6 +70,7 @@ impl Policy {
         if !self.contains(&edge) {
             set(&mut self.rows, &edge)?;
             self.last = Some(later(self.last, edge));
+            self.span = span_with(self.span, &edge);
         }
         Ok(())
     }
@@ -110,9 +109,10 @@ impl Policy {
         ensures memory { IfErr result (λ refusal. refusal ≡ out_of_memory) }
     {
         self.edges_rise();
+        let labels = usize::from(self.span());
         let mut edges = Vec::new(alloc);
-        for number in 0..EDGES {
-            if let Some(edge) = edge_numbered(number) {
+        for number in 0..edges_between(labels) {
+            if let Some(edge) = edge_numbered(labels, number) {
                 if self.contains(&edge) {
                     edges.push(edge)?;
                 }
@@ -126,6 +126,14 @@ impl Policy {
         ensures { result ≡ last_edge self.now }
     {
         self.last
+    }
+
+    /// The number after the greatest label that an edge joins.
+    pub(crate) fn span(&self) -> u16
+        ensures few { result ≤ Label.COUNT }
+        ensures joins { JoinsBelow result self.now }
+    {
+        self.span
     }
 
     /// A law about every policy, with nothing to run: its edges rise, and join labels that there can be.
@@ -156,6 +164,15 @@ fn number_of(from: Label, kind: Kind) -> usize
     usize::from(from.number()) * KINDS + usize::from(kind.number())
 }
 
+// The number after the greatest label, with those that an edge joins.
+fn span_with(span: u16, edge: &Edge) -> u16
+    requires { span ≤ Label.COUNT }
+    ensures greatest { result ≡ max span (max (edge.now.from + 1) (edge.now.to + 1)) }
+    ensures few { result ≤ Label.COUNT }
+{
+    span.max((edge.from.number() + 1).max(edge.to.number() + 1))
+}
+
 // Adds an edge to rows, of which there are none or all.
 fn set(rows: &mut Vec<Labels>, edge: &Edge) -> Result<(), AllocError>
     requires { vec_len rows.old ≤ ROWS }
@@ -181,17 +198,27 @@ fn later(last: Option<Edge>, edge: Edge) -> Edge
     }
 }
 
-/// The edge of this number, in the order of edges.
-pub(crate) fn edge_numbered(number: usize) -> Option<Edge>
-    ensures { SomeIff result (number < edge_count) (edge_at number) }
+/// How many edges there can be between as many labels.
+#[tactic(auto, unfolding(crate::specs::Rows::edge_count))]
+pub(crate) fn edges_between(labels: usize) -> usize
+    requires { labels ≤ Label.COUNT }
+    ensures { result ≡ edge_count labels }
 {
-    if number >= EDGES {
+    labels * (labels * KINDS)
+}
+
+/// The edge of this number, in the order of the edges that there can be between as many labels.
+pub(crate) fn edge_numbered(labels: usize, number: usize) -> Option<Edge>
+    requires { labels ≤ Label.COUNT }
+    ensures { SomeIff result (number < edge_count labels) (edge_at labels number) }
+{
+    if number >= edges_between(labels) {
         return None;
     }
-    let (row, to) = (number / LABELS, number % LABELS);
+    let (row, to) = (number / labels, number % labels);
     Some(Edge {
-        from: Label::new((row / KINDS) as u8)?,
+        from: Label::new((row / KINDS) as u16)?,
         kind: Kind::ALL[row % KINDS],
-        to: Label::new(to as u8)?,
+        to: Label::new(to as u16)?,
     })
 }

@@ -22,9 +22,8 @@ impl Policy {
     pub(crate) fn targets(&self, froms: Labels, kinds: &[Kind]) -> Labels
         ensures { (to : ℕ) → (is_in result to ≡ true) ↔ IsTarget (allows self.now) kinds.now froms to }
     {
-        self.edges_rise();
         let mut found = Labels::none();
-        for number in 0..Label::COUNT {
+        for number in 0..self.span() {
             if let Some(from) = Label::new(number) {
                 if froms.has(from) {
                     found = found.union(self.row_of_kinds(from, kinds));
@@ -38,9 +37,8 @@ impl Policy {
     pub(crate) fn sources(&self, tos: Labels, kinds: &[Kind]) -> Labels
         ensures { (from : ℕ) → (is_in result from ≡ true) ↔ IsSource (allows self.now) kinds.now tos from }
     {
-        self.edges_rise();
         let mut found = Labels::none();
-        for number in 0..Label::COUNT {
+        for number in 0..self.span() {
             if let Some(from) = Label::new(number) {
                 let met = self.row_of_kinds(from, kinds).intersection(tos);
                 if met.first().is_some() {

@@ -10,7 +10,7 @@ ghost use Rattle.policy.specs.Reasons.{reason_place};
 ghost use Rattle.policy.specs.Walks.{FindsFirst, FindsWalk, GoesAgainst, GoesAlong, GoesEitherWay, IsPartOf, IsWalk, Leads, is_of, lesser_of, other_end};
 
 use crate::Policy;
-use crate::policy::{EDGES, edge_numbered};
+use crate::policy::{edge_numbered, edges_between};
 use base::{Edge, Kind, Label, Labels, Refusal};
 use std::alloc::Global;
 
@@ -130,9 +130,9 @@ impl Policy {
     fn first_edge(&self, step: &Step, from: Label, goals: Labels) -> Option<Edge>
         ensures { FindsFirst (Leads (allows self.now) step.now from goals) result }
     {
-        self.edges_rise();
-        for number in 0..EDGES {
-            if let Some(edge) = edge_numbered(number) {
+        let labels = usize::from(self.span());
+        for number in 0..edges_between(labels) {
+            if let Some(edge) = edge_numbered(labels, number) {
                 if self.leads(step, from, goals, &edge) {
                     return Some(edge);
                 }

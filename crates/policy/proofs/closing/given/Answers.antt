@@ -6,4 +6,4 @@ use Rattle.policy.proofs.closing.given.Goals as goal
 pub returns : goal.returns
 returns c =
     given_told (allows c.args.policy.now) c.args.from c.args.kind _ _ _ _ (sym c.is_structural.ensures ∙ c.if-is_structural.false) c.controlled-controlled.ensures
-    c.givers.ensures c.targets.ensures c.union.ensures
+    c.requires c.targets.ensures c.union.ensures

@@ -1,7 +1,8 @@
-use Rattle.std.proofs.Common.{sym, ◌∙◌, subst, arith}
+use Rattle.std.proofs.Common.{◌≡◌, ◌↔◌, ℕ, true, sym, ◌∙◌, subst, arith}
 use mathlib.Core.Bool.{false≢true}
 use Rattle.std.proofs.lemmas.Option.{slice_get-get_or}
-use Rattle.policy.specs.Settling.{Grows, IsSettled}
+use Rattle.base.specs.Labels.{is_in}
+use Rattle.policy.specs.Settling.{Grows, IsSettled, Shares}
 use Rattle.policy.specs.Policy.{allows}
 use Rattle.policy.proofs.ClosingGrowth.{grows_more, grows_no_more}
 use Rattle.policy.proofs.ClosingSets.{one_more_kind}
@@ -21,6 +22,7 @@ loop-kind-preserved c =
         grows = rw w.changed-is
             (grows_more c.args.policy.now middle new c.loop-kind.changed so_far.grows (subst (Grows middle new) w.if-branch.true step.grows));
         settled = λ is. absurd (false≢true (sym is ∙ w.changed-is));
+        shares = rw w.sharing-is w.givers-sharing-then-branch.ensures;
       }
       | else-branch w ↦ record {
         grows = rw w.changed-is
@@ -31,6 +33,8 @@ loop-kind-preserved c =
             (λ kind below. subst (λ edges. IsSettled (allows edges) from kind) (sym (step.grows.same w.if-branch.false))
             (so_far.settled (sym w.changed-is ∙ is) kind below))
             (step.settled w.if-branch.false);
+        shares = rw w.sharing-is (subst (λ edges. (giver : ℕ) → (is_in c.loop-kind.sharing giver ≡ true) ↔ Shares (allows edges) giver from)
+            (sym (step.grows.same w.if-branch.false)) so_far.shares);
       }
     ]
 

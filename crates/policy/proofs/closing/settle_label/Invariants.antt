@@ -1,13 +1,15 @@
-use Rattle.std.proofs.Common.{◌≡◌, ◌<◌, false}
+use Rattle.std.proofs.Common.{◌≡◌, ◌<◌, ◌↔◌, ℕ, true, false}
 use Rattle.base.specs.declared.kind.Kind.{Kind}
 use Rattle.base.specs.Kinds.{kind_number}
-use Rattle.policy.specs.Settling.{Grows, IsSettled}
+use Rattle.base.specs.Labels.{is_in}
+use Rattle.policy.specs.Settling.{Grows, IsSettled, Shares}
 use Rattle.policy.specs.Policy.{allows}
 use Rattle.policy.proofs.closing.settle_label.Given as goal
 
--- if nothing changed, no edge of the kinds so far is missing
+-- if nothing changed, no edge of the kinds so far is missing; who shares with the label
 abbrev pub invariant-loop-kind : goal.invariant-loop-kind
 invariant-loop-kind l = record {
   grows : Grows l.initial.policy l.policy l.changed;
   settled : l.changed ≡ false → (kind : Kind) → kind_number kind < l.kind-index → IsSettled (allows l.policy) l.from kind;
+  shares : (giver : ℕ) → (is_in l.sharing giver ≡ true) ↔ Shares (allows l.policy) giver l.from;
 }

@@ -2,7 +2,7 @@ use Rattle.std.proofs.Common.{ℕ, sym, ◌∙◌, subst, below_more, arith}
 use mathlib.Core.Bool.{false≢true}
 use Rattle.base.specs.declared.kind.Kind.{Kind}
 use Rattle.policy.specs.Settling.{Grows, IsSettled}
-use Rattle.policy.specs.Policy.{allows, JoinsLabels}
+use Rattle.policy.specs.Policy.{allows, JoinsBelow}
 use Rattle.policy.proofs.ClosingGrowth.{grows_more, grows_no_more}
 use Rattle.policy.proofs.ClosingRules.{asked_starts, closed_if_settled}
 use Rattle.policy.proofs.closing.settle_labels.Goals as goal
@@ -42,6 +42,6 @@ loop-number-preserved c =
 pub returns-clause-settled : goal.returns-clause-settled
 returns-clause-settled c is =
     let test = allows c.loop-number.policy in
-    let labels = subst JoinsLabels (sym (c.loop-number.invariant.grows.same is)) c.edges_rise.ensures.labels in
+    let joins = subst (JoinsBelow c.span-number-end.result) (sym (c.loop-number.invariant.grows.same is)) c.span-number-end.ensures.joins in
     closed_if_settled test
-    (λ from kind to asked. c.loop-number.invariant.settled is from (omega (arith, asked_starts test labels from kind to asked)) kind to asked)
+    (λ from kind to asked. c.loop-number.invariant.settled is from (omega (arith, asked_starts test c.span-number-end.result joins from kind to asked)) kind to asked)

@@ -1,7 +1,7 @@
 use Rattle.std.proofs.Common.{◌≡◌, ◌-◌, ◌==◌, ◌||◌, ◌++◌, ℕ, get_or, length, vec_len, set, replicate, ap, ◌∙◌, arith}
 use Rattle.std.proofs.lemmas.List.{get_or_read, take_all}
-use Rattle.base.specs.Labels.{is_in}
-use Rattle.policy.specs.Rows.{row_of, row_number}
+use Rattle.base.specs.Labels.{is_in, no_labels}
+use Rattle.policy.specs.Rows.{row_count, row_of, row_number}
 use Rattle.policy.proofs.RowEdges.{filled, row_set}
 use Rattle.policy.proofs.policy.set.Goals as goal
 
@@ -12,16 +12,16 @@ returns-clause-added c from kind to =
     let grown_vec = c.resize.new.self in
     let edge = c.args.edge.now in
     let at : c.number_of.result ≡ row_number edge.from edge.kind = c.number_of.ensures.value in
-    let count : length grown ≡ 1088 = omega (arith, grown_vec.ok.0, c.in_ok-resize.ensures.len) in
-    let fill : grown ≡ rows ++ replicate (1088 - vec_len c.args.rows.now) c.none.result =
-    c.in_ok-resize.ensures.items ∙ ap (λ front. front ++ replicate (1088 - vec_len c.args.rows.now) c.none.result) (take_all 1088 rows (omega (arith, c.args.rows.now.ok.0, c.requires))) in
-    let same : (n label : ℕ) → is_in (get_or grown n (record { word = 0 })) label ≡ is_in (get_or rows n (record { word = 0 })) label =
+    let count : length grown ≡ row_count = omega (arith, grown_vec.ok.0, c.in_ok-resize.ensures.len) in
+    let fill : grown ≡ rows ++ replicate (row_count - vec_len c.args.rows.now) c.none.result =
+    c.in_ok-resize.ensures.items ∙ ap (λ front. front ++ replicate (row_count - vec_len c.args.rows.now) c.none.result) (take_all row_count rows (omega (arith, c.args.rows.now.ok.0, c.requires))) in
+    let same : (n label : ℕ) → is_in (get_or grown n no_labels) label ≡ is_in (get_or rows n no_labels) label =
     λ n label.
-    ap (λ all. is_in (get_or all n (record { word = 0 })) label) fill
-    ∙ filled rows (1088 - vec_len c.args.rows.now) n c.none.result label (c.none.ensures label) in
+    ap (λ all. is_in (get_or all n no_labels) label) fill
+    ∙ filled rows (row_count - vec_len c.args.rows.now) n c.none.result label (c.none.ensures label) in
     let read : c.index_mut-row.result.now ≡ row_of grown edge.from edge.kind =
-    get_or_read grown c.number_of.result c.index_mut-row.result.now (omega (arith, count, c.number_of.ensures.below)) c.index_mut-row.ensures.value (record { word = 0 })
-    ∙ ap (λ n. get_or grown n (record { word = 0 })) at in
+    get_or_read grown c.number_of.result c.index_mut-row.result.now (omega (arith, count, c.number_of.ensures.below)) c.index_mut-row.ensures.value no_labels
+    ∙ ap (λ n. get_or grown n no_labels) at in
     let row : (label : ℕ) → is_in c.union.result label ≡ (is_in (row_of grown edge.from edge.kind) label || (label == edge.to)) =
     λ label. c.union.ensures label ∙ (λ i. is_in (read i) label || c.only.ensures label i) in
     ap (λ n. is_in (row_of (set grown n c.union.result) from kind) to) at

@@ -1,9 +1,10 @@
-use Rattle.std.proofs.Common.{◌≡◌, ℕ, ◌<◌, ◌-◌, ◌∷◌, List, Option, arith, ap, ◌∙◌, sym, subst, slice_get}
+use Rattle.std.proofs.Common.{◌≡◌, ℕ, ◌<◌, ◌≤◌, ◌-◌, ◌∷◌, List, Option, arith, ap, ◌∙◌, sym, subst, slice_get}
 use Rattle.std.specs.List.{AllZip, range_with_len}
 use Rattle.std.specs.Prelude.{filter_map}
 use Rattle.rayon.proofs.ToStd.{nat_range-All}
+use Rattle.base.specs.declared.label.TheConstants.Label as Label
 use Rattle.policy.specs.declared.broken.Broken.{Broken}
-use Rattle.policy.specs.Policy.{allows}
+use Rattle.policy.specs.Policy.{JoinsBelow, allows}
 use Rattle.policy.specs.Search.{FindsBroken}
 use Rattle.policy.specs.Sweep.{count_of, place_of, rule_number}
 use Rattle.policy.proofs.Sweep.{numbers, found_first, all_pass, least_found}
@@ -14,9 +15,11 @@ use Rattle.policy.proofs.broken.Rule.first_broken.Goals as goal
 pub find_first-requires-clause-items : goal.find_first-requires-clause-items
 find_first-requires-clause-items g c κs =
     let ends = c.into_par_iter.ensures in
-    let count = count_of c.args.self in
+    let labels = c.from-labels.result in
+    let few : labels ≤ Label.COUNT = omega arith in
+    let count = count_of labels c.args.self in
     rw (c.filter_map.ensures.base, c.filter_map.ensures.f, c.with_min_len.ensures.base, ends.0, ends.1, c.places.ensures)
-    (λ loans k d lt. (nat_range-All (λ i. i < count) 0 count (λ i low high. high) k d lt, λ y least p e. tt))
+    (λ loans k d lt. (nat_range-All (λ i. (labels ≤ Label.COUNT) × (i < count)) 0 count (λ i low high. (few, high)) k d lt, λ y least p e. tt))
 
 pub returns : goal.returns
 returns g c =
@@ -24,14 +27,16 @@ returns g c =
     let ends = c.into_par_iter.ensures in
     let test = allows c.args.policy.now in
     let rule = c.args.self in
-    let count = count_of rule in
-    let gives = λ (number : ℕ) (found : Option Broken). FindsBroken test (rule_number rule ∷ place_of rule number) found in
+    let labels = c.from-labels.result in
+    let count = count_of labels rule in
+    let gives = λ (number : ℕ) (found : Option Broken). FindsBroken test (rule_number rule ∷ place_of labels rule number) found in
     let chain = rw (c.filter_map.ensures.base, c.filter_map.ensures.f, c.with_min_len.ensures.base, ends.0, ends.1, c.places.ensures) at h.2 in
+    let joins = subst (λ n. JoinsBelow n c.args.policy.now) (sym c.from-labels.ensures) c.span.ensures.joins in
     let whole : count - 0 ≡ count = omega arith in
     let zipped : AllZip gives (numbers count) chain.1 =
     subst (λ (xs : List ℕ). AllZip gives xs chain.1) (chain.2 ∙ ap (range_with_len 0) whole) chain.3 in
     let first : c.find_first.result ≡ slice_get (filter_map (λ (o : Option Broken). o) chain.1) 0 =
     h.4 ∙ ap (λ (l : List Broken). slice_get l 0) (all_pass h.0 h.1 h.3 ∙ chain.4) in
     subst (FindsBroken test (of_rule rule)) (sym first)
-    (least_found (of_places test c.edges_rise.ensures.labels rule) (slice_get (filter_map (λ (o : Option Broken). o) chain.1) 0)
+    (least_found (of_places test labels joins rule) (slice_get (filter_map (λ (o : Option Broken). o) chain.1) 0)
     (found_first gives (numbers count) chain.1 zipped))

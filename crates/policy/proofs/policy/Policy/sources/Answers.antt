@@ -42,6 +42,6 @@ returns c from =
       λ is. let old = so_far.0 is in subst (IsSource (allows c.args.self.now) kinds c.args.tos) (sym old.2.0) old.2.1,
       λ source.
           let kind = joined_by (allows c.args.self.now) kinds from source.to source.joined in
-          let ends = c.edges_rise.ensures.labels from kind.0 source.to kind.1 in
+          let ends = c.span-number-end.ensures.joins from kind.0 source.to kind.1 in
           so_far.1 (from, (omega (arith, ends.0)), (refl, source)),
     )

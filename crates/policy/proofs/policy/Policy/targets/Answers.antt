@@ -37,6 +37,6 @@ returns c to =
       λ is. let old = so_far.0 is in record { from = old.0; among = old.2.0; joined = old.2.1 },
       λ target.
           let kind = joined_by (allows c.args.self.now) kinds target.from to target.joined in
-          let ends = c.edges_rise.ensures.labels target.from kind.0 to kind.1 in
+          let ends = c.span-number-end.ensures.joins target.from kind.0 to kind.1 in
           so_far.1 (target.from, (omega (arith, ends.0)), (target.among, target.joined)),
     )

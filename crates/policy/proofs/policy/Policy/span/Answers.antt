@@ -1,0 +1,8 @@
+use Rattle.std.proofs.Common.{subst}
+use Rattle.policy.specs.Policy.{JoinsBelow}
+use Rattle.policy.proofs.RowEdges.{edges_join_below}
+use Rattle.policy.proofs.policy.Policy.span.Goals as goal
+
+pub returns-clause-joins : goal.returns-clause-joins
+returns-clause-joins c =
+    subst (JoinsBelow c.self.inside.span) c.self.view_is (edges_join_below c.self.inside.span c.self.inside.rows.items c.self.invariant.labels)
