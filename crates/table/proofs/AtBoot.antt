@@ -8,7 +8,7 @@ use Rattle.machine.specs.declared.layout.Initial.{Initial}
 use Rattle.machine.specs.declared.object.Object.{Object}
 use Rattle.machine.specs.declared.thread.RunState.{RunState}
 use Rattle.machine.specs.declared.thread.RunState.TheVariants as state
-use Rattle.machine.specs.Authority.{label_at, label_of, state_links}
+use Rattle.machine.specs.Authority.{label_at, label_of, lent_of, state_links}
 use Rattle.machine.specs.Boot.{IsBoot, bound, booted}
 use Rattle.machine.proofs.Bound.{kind-bound}
 use Rattle.machine.specs.Layout.{Layout, initial_of, declared_label}
@@ -81,6 +81,12 @@ pub rest_links : (run : RunState) (k : Kind) (end : ObjId) → IsAtRest run → 
 rest_links state.Ready k end rest = refl
 rest_links state.Inactive k end rest = refl
 rest_links _ k end rest = absurd rest
+
+-- and lends nothing
+pub rest_lends : (run : RunState) → IsAtRest run → lent_of run ≡ None
+rest_lends state.Ready rest = refl
+rest_lends state.Inactive rest = refl
+rest_lends _ rest = absurd rest
 
 pub label_declared :
     (t : Layout) (id : ObjId) (initial : Initial) → initial_of t id ≡ Some initial → declared_label t id ≡ Some initial.label

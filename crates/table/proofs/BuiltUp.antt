@@ -5,6 +5,7 @@ use Rattle.std.proofs.lemmas.List.Elements.{All-nil, All-push}
 use Rattle.machine.specs.declared.layout.Filled.{Filled}
 use Rattle.machine.specs.declared.layout.Initial.{Initial}
 use Rattle.machine.specs.declared.layout.Pair.{Pair}
+use Rattle.machine.specs.declared.layout.Version.{Version}
 use Rattle.machine.specs.Layout.{Layout, empty_layout}
 use Rattle.table.specs.Items.{Item, LabelItem, ObjectItem, CapItem, PairItem, BindingItem, with_item, Admits, ComesNow, IsBuiltUp, none}
 use Rattle.table.specs.Items.{more}
@@ -38,7 +39,7 @@ item_added t (PairItem pair) h admits = (draft_pair t pair h.0 admits, h.1)
 item_added t (BindingItem binding) h admits = (draft_binding t binding h.0 admits, h.1)
 
 pub draft_from_built : {t : Layout} → IsBuiltUp t → IsDraft t × AllOriginal t
-draft_from_built none = (draft_empty, All-nil _)
+draft_from_built (none version) = (draft_empty version, All-nil _)
 draft_from_built (more {t} item built now admits) = item_added t item (draft_from_built built) admits
 
 item_removed : (t : Layout) (item : Item) → ComesNow t item → IsBuilt (with_item t item) → IsBuilt t × Admits t item
@@ -60,11 +61,11 @@ one_more t item now builds h = let front = item_removed t item now h in more ite
 
 -- the first parts of a table
 
-abbrev with_labels : List (List ℕ) → Layout
-with_labels labels = record empty_layout { labels = labels }
+abbrev with_labels : Version → List (List ℕ) → Layout
+with_labels version labels = record (empty_layout version) { labels = labels }
 
-abbrev with_objects : List (List ℕ) → List (List ℕ) → List Initial → Layout
-with_objects labels names objects = record empty_layout { labels = labels; names = names; objects = objects }
+abbrev with_objects : Version → List (List ℕ) → List (List ℕ) → List Initial → Layout
+with_objects version labels names objects = record (with_labels version labels) { names = names; objects = objects }
 
 abbrev with_caps : Layout → List Filled → Layout
 with_caps t caps = record t { caps = caps; pairs = []; bindings = [] }
@@ -72,27 +73,28 @@ with_caps t caps = record t { caps = caps; pairs = []; bindings = [] }
 abbrev with_pairs : Layout → List Pair → Layout
 with_pairs t pairs = record t { pairs = pairs; bindings = [] }
 
-by_labels : (labels : List (List ℕ)) → Builds (with_labels labels)
-by_labels labels =
-    from_front (λ front. Builds (with_labels front))
-    (λ front name. one_more (with_labels front) (LabelItem name) (refl, (refl, (refl, refl)))) [] labels (λ _. none)
+by_labels : (version : Version) (labels : List (List ℕ)) → Builds (with_labels version labels)
+by_labels version labels =
+    from_front (λ front. Builds (with_labels version front))
+    (λ front name. one_more (with_labels version front) (LabelItem name) (refl, (refl, (refl, refl)))) [] labels
+    (λ _. none version)
 
 by_objects :
-    (labels front : List (List ℕ)) (first : List Initial) (names : List (List ℕ)) (objects : List Initial)
-    → length names ≡ length objects → Builds (with_objects labels front first)
-    → Builds (with_objects labels (front ++ names) (first ++ objects))
-by_objects labels front first [] [] same h =
-    subst (λ os. Builds (with_objects labels (front ++ []) os)) (sym (append-nil first))
-    (subst (λ ns. Builds (with_objects labels ns first)) (sym (append-nil front)) h)
-by_objects labels front first [] (initial ∷ objects) same h = absurd (omega arith)
-by_objects labels front first (name ∷ names) [] same h = absurd (omega arith)
-by_objects labels front first (name ∷ names) (initial ∷ objects) same h =
+    (version : Version) (labels front : List (List ℕ)) (first : List Initial) (names : List (List ℕ)) (objects : List Initial)
+    → length names ≡ length objects → Builds (with_objects version labels front first)
+    → Builds (with_objects version labels (front ++ names) (first ++ objects))
+by_objects version labels front first [] [] same h =
+    subst (λ os. Builds (with_objects version labels (front ++ []) os)) (sym (append-nil first))
+    (subst (λ ns. Builds (with_objects version labels ns first)) (sym (append-nil front)) h)
+by_objects version labels front first [] (initial ∷ objects) same h = absurd (omega arith)
+by_objects version labels front first (name ∷ names) [] same h = absurd (omega arith)
+by_objects version labels front first (name ∷ names) (initial ∷ objects) same h =
     let longer =
-    by_objects labels (front ++ name ∷ []) (first ++ initial ∷ []) names objects (omega arith)
-    (one_more (with_objects labels front first) (ObjectItem name initial) (refl, (refl, refl)) h) in
-    subst (λ os. Builds (with_objects labels (front ++ name ∷ names) os)) (append_assoc first (initial ∷ []) objects)
-    (subst (λ ns. Builds (with_objects labels ns ((first ++ initial ∷ []) ++ objects))) (append_assoc front (name ∷ []) names)
-    longer)
+    by_objects version labels (front ++ name ∷ []) (first ++ initial ∷ []) names objects (omega arith)
+    (one_more (with_objects version labels front first) (ObjectItem name initial) (refl, (refl, refl)) h) in
+    subst (λ os. Builds (with_objects version labels (front ++ name ∷ names) os)) (append_assoc first (initial ∷ []) objects)
+    (subst (λ ns. Builds (with_objects version labels ns ((first ++ initial ∷ []) ++ objects)))
+    (append_assoc front (name ∷ []) names) longer)
 
 by_caps : (t : Layout) → Builds (with_caps t []) → Builds (with_caps t t.caps)
 by_caps t start =
@@ -111,5 +113,6 @@ by_bindings t start =
 
 pub built_from_draft : (t : Layout) → IsDraft t → AllOriginal t → IsBuiltUp t
 built_from_draft t draft original =
-    let objects : Builds (with_caps t []) = by_objects t.labels [] [] t.names t.objects draft.objects.named (by_labels t.labels) in
+    let objects : Builds (with_caps t []) =
+    by_objects t.version t.labels [] [] t.names t.objects draft.objects.named (by_labels t.version t.labels) in
     by_bindings t (by_pairs t (by_caps t objects)) (draft, original)

@@ -9,6 +9,7 @@ use Rattle.machine.specs.declared.layout.Binding.{Binding}
 use Rattle.machine.specs.declared.layout.Filled.{Filled}
 use Rattle.machine.specs.declared.layout.Initial.{Initial}
 use Rattle.machine.specs.declared.layout.Pair.{Pair}
+use Rattle.machine.specs.declared.layout.Version.{Version}
 use Rattle.machine.specs.declared.object.ObjectKind.{ObjectKind}
 use Rattle.machine.specs.Layout.{empty_layout}
 use Rattle.machine.specs.Objects.{kind_of_object}
@@ -27,8 +28,8 @@ no_pairs objects = record { each = All-nil _; rise = λ i j d. no_pair i j }
 pub no_bindings : (objects : List Initial) → BindingsFit objects []
 no_bindings objects = record { each = All-nil _; rise = λ i j d. no_pair i j; contexts_differ = λ i j d. no_pair i j }
 
-pub draft_empty : IsDraft empty_layout
-draft_empty = record {
+pub draft_empty : (version : Version) → IsDraft (empty_layout version)
+draft_empty version = record {
   labels = record { few = omega arith; spelled = All-nil _; differ = λ i j d. no_pair i j };
   objects = record {
     spelled = All-nil _;

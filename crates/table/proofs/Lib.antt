@@ -26,5 +26,6 @@ pub mod BindingRemoved
 pub mod BuiltUp
 pub mod Lookups
 mod NoUntyped
+pub mod Upgraded
 pub mod AtBoot
 pub mod BootState

@@ -6,7 +6,6 @@ use Rattle.std.specs.List.{list_any}
 use Rattle.std.specs.Ordering.{is_lt}
 use Rattle.base.specs.declared.ids.ObjId.{ObjId}
 use Rattle.base.specs.declared.ids.SlotRef.{SlotRef}
-use Rattle.base.specs.declared.label.TheConstants.Label as Label
 use Rattle.base.specs.declared.limits.TheConstants.{ADDRESS_END, MAX_OBJECTS, MAX_SLOTS, MAX_THREADS}
 use Rattle.machine.specs.declared.cap.Badged.{Badged}
 use Rattle.machine.specs.declared.cap.Cap.{Cap}
@@ -19,7 +18,7 @@ use Rattle.machine.specs.declared.layout.Pair.{Pair}
 use Rattle.machine.specs.declared.object.Object.{Object}
 use Rattle.machine.specs.declared.object.Object.TheVariants as o
 use Rattle.machine.specs.declared.object.ObjectKind.TheVariants as kind
-use Rattle.machine.specs.Layout.{Layout, initial_of}
+use Rattle.machine.specs.Layout.{Layout, initial_of, most_labels}
 use Rattle.machine.specs.Machine.{slot_cmp, same_id}
 use Rattle.machine.specs.Objects.{slot_count, end_of}
 use Rattle.table.specs.Names.{label_named, object_named}
@@ -135,7 +134,7 @@ is_bound t context = list_any (λ binding. same_id binding.context context) t.bi
 pub record AdmitsLabel (t : Layout) (name : List ℕ) : Type 0 where
   pub spelled : is_name name ≡ true
   pub fresh : is_some (label_named t name) ≡ false
-  pub room : length t.labels < Label.COUNT
+  pub room : length t.labels < most_labels t.version
 
 pub record AdmitsObject (t : Layout) (name : List ℕ) (initial : Initial) : Type 0 where
   pub spelled : is_name name ≡ true

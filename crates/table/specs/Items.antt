@@ -1,10 +1,11 @@
--- How a capability table is built up from the empty one: its items, which item the table takes next, and the tables that come
+-- How a capability table is built up from the empty one of its version: its items, which item the table takes next, and the tables that come
 -- about so (confine's own; the order is that of a table's text).
 use Rattle.std.specs.Prelude.{◌≡◌, ℕ, List, []}
 use Rattle.machine.specs.declared.layout.Binding.{Binding}
 use Rattle.machine.specs.declared.layout.Filled.{Filled}
 use Rattle.machine.specs.declared.layout.Initial.{Initial}
 use Rattle.machine.specs.declared.layout.Pair.{Pair}
+use Rattle.machine.specs.declared.layout.Version.{Version}
 use Rattle.machine.specs.Layout.{Layout, empty_layout}
 use Rattle.table.specs.Building.{AdmitsLabel, AdmitsObject, AdmitsCap, AdmitsPair, AdmitsBinding, with_label, with_initial}
 use Rattle.table.specs.Building.{with_filled, with_pair, with_binding}
@@ -54,7 +55,7 @@ Admits t (CapItem filled) = AdmitsCap t filled
 Admits t (PairItem pair) = AdmitsPair t pair
 Admits t (BindingItem binding) = AdmitsBinding t binding
 
--- a table that is built up from the empty one, each item in its order and where the table so far admits it
+-- a table that is built up from the empty one of its version, each item in its order and where the table so far admits it
 pub data IsBuiltUp : Layout → Type 0 where
-  none : IsBuiltUp empty_layout
+  none : (version : Version) → IsBuiltUp (empty_layout version)
   more : {t : Layout} (item : Item) → IsBuiltUp t → ComesNow t item → Admits t item → IsBuiltUp (with_item t item)

@@ -7,7 +7,6 @@ use Rattle.std.specs.declared.cmp.Ordering.TheVariants.{Less}
 use Rattle.base.specs.declared.core_number.TheConstants.CoreNo as CoreNo
 use Rattle.base.specs.declared.ids.ObjId.{ObjId}
 use Rattle.base.specs.declared.ids.SlotRef.{SlotRef}
-use Rattle.base.specs.declared.label.TheConstants.Label as Label
 use Rattle.base.specs.declared.limits.TheConstants.{ADDRESS_END, MAX_OBJECTS, MAX_PERIOD, MAX_RADIX, MAX_SLOTS, MAX_THREADS}
 use Rattle.machine.specs.declared.cap.Badged.{Badged}
 use Rattle.machine.specs.declared.cap.Detail.{Detail}
@@ -26,7 +25,7 @@ use Rattle.machine.specs.declared.thread.Inbox.TheVariants as inbox
 use Rattle.machine.specs.declared.thread.RunState.{RunState}
 use Rattle.machine.specs.declared.thread.RunState.TheVariants as run
 use Rattle.machine.specs.Capabilities.{kind_of_detail}
-use Rattle.machine.specs.Layout.{Layout, initial_of}
+use Rattle.machine.specs.Layout.{Layout, initial_of, most_labels}
 use Rattle.machine.specs.Machine.{slot_cmp}
 use Rattle.machine.specs.Objects.{kind_of_object, slot_count, end_of}
 use Rattle.words.specs.Name.{is_name}
@@ -133,8 +132,9 @@ pub record IsBindingOf (objects : List Initial) (binding : Binding) : Type 0 whe
   pub thread : IsOfKind objects binding.thread kind.Tcb
   pub context : IsOfKind objects binding.context kind.Context
 
-pub record LabelsFit (labels : List (List ℕ)) : Type 0 where
-  pub few : length labels ≤ Label.COUNT
+-- the labels of a table that may have at most so many
+pub record LabelsFit (most : ℕ) (labels : List (List ℕ)) : Type 0 where
+  pub few : length labels ≤ most
   pub spelled : All (λ name. is_name name ≡ true) labels
   pub differ : AllPairs (λ one other. one ≢ other) labels
 
@@ -176,7 +176,7 @@ pub record BindingsFit (objects : List Initial) (bindings : List Binding) : Type
 
 -- what a table keeps line by line
 pub record IsDraft (t : Layout) : Type 0 where
-  pub labels : LabelsFit t.labels
+  pub labels : LabelsFit (most_labels t.version) t.labels
   pub objects : ObjectsFit (length t.labels) t.names t.objects
   pub caps : CapsFit t.objects t.caps
   pub pairs : PairsFit t.objects t.pairs

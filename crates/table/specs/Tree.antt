@@ -10,6 +10,7 @@ use Rattle.machine.specs.declared.cap.Detail.{Detail}
 use Rattle.machine.specs.declared.cap.Detail.TheVariants as d
 use Rattle.machine.specs.declared.layout.Filled.{Filled}
 use Rattle.machine.specs.declared.layout.Pair.{Pair}
+use Rattle.machine.specs.declared.layout.Version.TheVariants as version
 use Rattle.machine.specs.Capabilities.{badge_of}
 use Rattle.machine.specs.Layout.{Layout, empty_layout, initial_cap, initial_parent}
 use Rattle.machine.specs.Machine.{same_id}
@@ -27,7 +28,7 @@ is_for_untyped _ = false
 
 -- the table of these capabilities and pairs alone
 abbrev pub tree_of : List Filled → List Pair → Layout
-tree_of caps pairs = record empty_layout { caps = caps; pairs = pairs }
+tree_of caps pairs = record (empty_layout version.One) { caps = caps; pairs = pairs }
 
 -- which capabilities are original
 

@@ -1,7 +1,7 @@
 ghost use Rattle.std.specs.Prelude.{◌≡◌, ◌≤◌, ◌<◌, length, slice_get, is_some, Some, IfOk, IfErr, IfSome, None, OnOk, OnErr};
 ghost use Rattle.std.specs.List.{list_any};
 ghost use Rattle.std.specs.Option.{option_copied};
-ghost use Rattle.machine.specs.Layout.{empty_layout, initial_of, bound_thread};
+ghost use Rattle.machine.specs.Layout.{empty_layout, initial_of, bound_thread, most_labels, upgraded};
 ghost use Rattle.machine.specs.Authority.{label_at};
 ghost use Rattle.machine.specs.Objects.{end_of};
 ghost use Rattle.base.specs.declared.label.TheConstants.Label as LabelLimits;
@@ -22,7 +22,7 @@ use crate::table::Table;
 use crate::tree::tree_fault;
 use base::{ADDRESS_END, CoreNo, Label, MAX_OBJECTS, MAX_SLOTS, MAX_THREADS, ObjId, SlotRef};
 use bitflags::Flags;
-use machine::{Badged, Binding, Cap, Detail, Filled, Initial, Object, ObjectKind, Pair};
+use machine::{Badged, Binding, Cap, Detail, Filled, Initial, Object, ObjectKind, Pair, Version};
 use std::alloc::{AllocError, Global};
 use std::marker::Model;
 
@@ -33,6 +33,7 @@ use std::marker::Model;
 /// tested when all are there, by [`Draft::into_table`].
 #[derive(Drop)]
 pub struct Draft {
+    version: Version,
     labels: Names,
     objects: Objects,
     caps: Caps,
@@ -47,6 +48,7 @@ impl Model for Draft {
     ghost Value = { Layout };
 
     ghost view = { λ t. record {
+      version = t.version;
       labels = t.labels;
       names = t.objects.names;
       objects = t.objects.objects;
@@ -56,6 +58,7 @@ impl Model for Draft {
     } };
 
     ghost invariant = { λ t. IsDraft (record {
+      version = t.version;
       labels = t.labels;
       names = t.objects.names;
       objects = t.objects.objects;
@@ -66,11 +69,12 @@ impl Model for Draft {
 }
 
 impl Draft {
-    /// The table that says nothing.
-    pub fn new(alloc: Global) -> Draft
-        ensures { result ≡ empty_layout }
+    /// The table of a version that says nothing.
+    pub fn new(alloc: Global, version: Version) -> Draft
+        ensures { result ≡ empty_layout version }
     {
         Draft {
+            version,
             labels: Names::new(alloc),
             objects: Objects::new(alloc),
             caps: Caps::new(alloc),
@@ -79,11 +83,28 @@ impl Draft {
         }
     }
 
-    /// How many labels there are, at most [`Label::COUNT`].
+    /// The version.
+    pub fn version(&self) -> Version
+        ensures { result ≡ self.now.version }
+    {
+        self.version
+    }
+
+    /// Makes it one of version 2, and changes nothing else.
+    #[tactic(auto, using(crate::proofs::Upgraded::draft_upgraded))]
+    pub(crate) fn upgrade(&mut self)
+        ensures { self.new ≡ upgraded self.old }
+    {
+        self.version = Version::Two;
+    }
+
+    /// How many labels there are, at most as many as the version has.
     pub fn label_count(&self) -> usize
         ensures count { result ≡ length self.now.labels }
+        ensures most { result ≤ most_labels self.now.version }
         ensures limit { result ≤ LabelLimits.COUNT }
     {
+        let _most = self.version.most_labels();
         self.labels.len()
     }
 
@@ -101,7 +122,7 @@ impl Draft {
         ensures within { IfSome result (λ label. label < length self.now.labels) }
     {
         let number = self.labels.number(name)?;
-        Label::new(number as u8)
+        Label::new(number as u16)
     }
 
     /// How many objects there are, at most [`MAX_OBJECTS`].

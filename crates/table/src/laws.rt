@@ -1,12 +1,16 @@
 ghost use Rattle.std.specs.Prelude.{◌≡◌, ◌↔◌, Contains, None};
 ghost use Rattle.machine.specs.declared.layout.Pair.{Pair};
-ghost use Rattle.machine.specs.Layout.{Layout};
+ghost use Rattle.base.specs.declared.ids.ObjId.{ObjId};
+ghost use Rattle.machine.specs.Authority.{label_of};
+ghost use Rattle.machine.specs.Boot.{IsBoot};
+ghost use Rattle.machine.specs.Layout.{Layout, upgraded};
+ghost use Rattle.machine.specs.Machine.{Machine};
 ghost use Rattle.table.specs.Items.{IsBuiltUp};
 ghost use Rattle.table.specs.Rules.{IsLawful};
 ghost use Rattle.table.specs.Tree.{tree_fault, with_originals};
 ghost use Rattle.table.specs.UntypedPairs.{IsForNoUntyped};
 
-/// A law: the tables that keep the rules are just those that are built up from the empty table, item
+/// A law: the tables that keep the rules are just those that are built up from an empty table, item
 /// by item, each in its order and where the table so far admits it, whose capabilities are then marked
 /// as the pairs say, and of whose pairs none breaks a rule.
 pub fn lawful_tables_are_built_up()
@@ -17,4 +21,11 @@ pub fn lawful_tables_are_built_up()
 /// A law: no pair of the derivation tree of a lawful table is for untyped memory.
 pub fn no_pair_is_for_untyped_memory()
     ensures { (t : Layout) (pair : Pair) → IsLawful t → Contains t.pairs pair → IsForNoUntyped t pair }
+{}
+
+/// A law: an upgraded table keeps its boot state and the labels of objects, which don't depend on the
+/// version.
+pub fn upgraded_tables_boot_alike()
+    ensures boot { (t : Layout) (m : Machine) → IsBoot (upgraded t) m ↔ IsBoot t m }
+    ensures labels { (t : Layout) (m : Machine) (id : ObjId) → label_of (upgraded t) m id ≡ label_of t m id }
 {}

@@ -20,5 +20,7 @@ mod tree;
 pub use boot_law::boot_states_are_well_formed;
 pub use draft::Draft;
 pub use extent::{is_addressable, is_aligned};
-pub use laws::{lawful_tables_are_built_up, no_pair_is_for_untyped_memory};
+pub use laws::{
+    lawful_tables_are_built_up, no_pair_is_for_untyped_memory, upgraded_tables_boot_alike,
+};
 pub use table::Table;

@@ -1,8 +1,9 @@
-ghost use Rattle.std.specs.Prelude.{◌≡◌, ◌<◌, AllPairs, length, slice_get, IfSome};
+ghost use Rattle.std.specs.Prelude.{◌≡◌, ◌≤◌, ◌<◌, AllPairs, length, slice_get, IfSome};
 ghost use Rattle.std.specs.List.{find};
 ghost use Rattle.std.specs.Option.{option_copied};
+ghost use Rattle.base.specs.declared.label.TheConstants.Label as LabelLimits;
 ghost use Rattle.machine.specs.Authority.{label_at};
-ghost use Rattle.machine.specs.Layout.{initial_of, initial_cap, initial_parent, bound_context, bound_thread};
+ghost use Rattle.machine.specs.Layout.{initial_of, initial_cap, initial_parent, bound_context, bound_thread, upgraded};
 ghost use Rattle.machine.specs.Machine.{same_id};
 ghost use Rattle.table.specs.Names.{label_named, object_named};
 ghost use Rattle.table.specs.Rules.{kind_at, IsLawful};
@@ -10,7 +11,7 @@ ghost use Rattle.table.specs.Rules.{kind_at, IsLawful};
 use crate::draft::Draft;
 use crate::tree::{cap_in, parent_in};
 use base::{Label, ObjId, SlotRef};
-use machine::{Binding, Cap, Filled, Initial, ObjectKind, Pair};
+use machine::{Binding, Cap, Filled, Initial, ObjectKind, Pair, Version};
 use std::marker::Model;
 
 /// A capability table: what a system starts with.
@@ -41,9 +42,26 @@ impl Table {
         Table { draft }
     }
 
-    /// How many labels there are, at most [`Label::COUNT`].
+    /// The version, which its text begins with.
+    pub fn version(&self) -> Version
+        ensures { result ≡ self.now.version }
+    {
+        self.draft.version()
+    }
+
+    /// Makes it a table of version 2, which may have more labels, and changes nothing else. It takes no
+    /// memory, and there is no way back.
+    #[tactic(auto, using(crate::proofs::Upgraded::lawful_upgraded))]
+    pub fn upgrade(&mut self)
+        ensures { self.new ≡ upgraded self.old }
+    {
+        self.draft.upgrade();
+    }
+
+    /// How many labels there are, at most as many as the version has.
     pub fn label_count(&self) -> usize
-        ensures { result ≡ length self.now.labels }
+        ensures count { result ≡ length self.now.labels }
+        ensures limit { result ≤ LabelLimits.COUNT }
     {
         self.draft.label_count()
     }

@@ -11,6 +11,7 @@ use Rattle.table.proofs.draft.Draft.mark_originals.Goals as goal
 
 abbrev view : Inside → Layout
 view inside = record {
+  version = inside.version;
   labels = inside.labels;
   names = inside.objects.names;
   objects = inside.objects.objects;
