@@ -1,14 +1,18 @@
 ghost use Rattle.std.specs.Prelude.{◌≡◌};
 ghost use Rattle.machine.specs.Machine.{object_of};
 ghost use Rattle.machine.specs.Makes.{Makes};
-ghost use Rattle.machine.specs.Step.Reply.{answered, caller_in, reply_of};
+ghost use Rattle.machine.specs.Step.Reply.{answered, caller_in, gives_back, lent_in, reply_of, with_returned};
 ghost use Rattle.machine.specs.WellFormed.{IsWellFormed};
 
 use crate::release::give;
 use base::{Cause, ObjId};
 use cspace::find_reply;
-use machine::{Answer, Made, Message, Object, Reply, ReplyState, calls_keep_machines_well_formed};
+use machine::{
+    Answer, Lent, Made, Message, Object, Reply, ReplyState, RunState, Tcb,
+    calls_keep_machines_well_formed,
+};
 use objects::State;
+use schedctl::{context_under, hand_over};
 
 /// The thread that has called through a reply and waits for its answer.
 fn caller_through(state: &State, id: ObjId) -> Option<ObjId>
@@ -27,18 +31,64 @@ fn caller_through(state: &State, id: ObjId) -> Option<ObjId>
     }
 }
 
-/// Gives the words to a thread that waits for an answer, if there is one.
-fn answer(state: &mut State, thread: Option<ObjId>, words: [u64; 4])
-    requires { IsWellFormed state.old }
-    ensures { state.new ≡ answered state.old thread words }
+/// What a thread lent that called and waits for its answer.
+fn lent_in(state: &State, thread: ObjId) -> Option<Lent>
+    ensures { result ≡ lent_in (object_of state.now thread) }
 {
-    if let Some(thread) = thread {
+    match state.object(thread) {
+        Some(
+            &Object::Tcb(
+                Tcb {
+                    state: RunState::Called(calling),
+                    ..
+                },
+            ),
+        ) => calling.lent,
+        _ => None,
+    }
+}
+
+/// Whether a thread that answers gives its context back: the called thread lent it to it, and has none
+/// now.
+fn gives_back(state: &State, invoker: ObjId, called: ObjId) -> bool
+    ensures { result ≡ gives_back state.now invoker called }
+{
+    match (
+        context_under(state, invoker),
+        lent_in(state, called),
+        context_under(state, called),
+    ) {
+        (Some(context), Some(lent), None) => lent.borrower == invoker && lent.context == context,
+        _ => false,
+    }
+}
+
+/// Has the called thread run on the context that it lent to the one that answers, where that still has
+/// it. Nothing changes otherwise.
+fn give_back(state: &mut State, invoker: ObjId, called: ObjId)
+    requires { IsWellFormed state.old }
+    ensures returned { state.new ≡ with_returned state.old invoker called }
+    ensures well_formed { IsWellFormed state.new }
+{
+    if gives_back(state, invoker, called) {
+        hand_over(state, invoker, called);
+    }
+}
+
+/// Gives the words to a thread that waits for an answer, if there is one, after the context that it
+/// lent.
+fn answer(state: &mut State, invoker: ObjId, called: Option<ObjId>, words: [u64; 4])
+    requires { IsWellFormed state.old }
+    ensures { state.new ≡ answered state.old invoker called words }
+{
+    if let Some(called) = called {
         let message = Message {
             badge: 0,
             words,
             capability: false,
         };
-        give(state, thread, message);
+        give_back(state, invoker, called);
+        give(state, called, message);
     }
 }
 
@@ -54,14 +104,17 @@ fn make_reply(
     ensures { Makes state.old state.new result (reply_of state.old caller address words) }
 {
     let id = find_reply(state, caller, address)?;
-    let thread = caller_through(state, id);
-    answer(state, thread, words);
+    let called = caller_through(state, id);
+    answer(state, caller, called, words);
     Ok(Made::Done(Answer::Nothing))
 }
 
 /// Answers the call that was made through the reply at an address: the thread gets the words and can
 /// run, and the reply is free (seL4 manual, "Reply objects"). Where nobody has called through it,
 /// nothing changes. No capability goes with an answer.
+///
+/// The scheduling context that the thread lent goes back to it, if it was lent to the caller, which
+/// still runs on it, and the thread has got no other meanwhile.
 pub fn reply(state: &mut State, caller: ObjId, address: u64, words: [u64; 4]) -> Result<Made, Cause>
     requires well_formed { IsWellFormed state.old }
     ensures made { Makes state.old state.new result (reply_of state.old caller address words) }

@@ -11,7 +11,7 @@ mod links;
 
 pub use binding::{bind, unbind};
 pub use configuring::configure;
-pub use links::{hand_over, part};
+pub use links::{context_under, hand_over, part};
 
 #[cfg(test)]
 mod tests;

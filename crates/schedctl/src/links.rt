@@ -10,7 +10,7 @@ use machine::{Context, Object, Tcb};
 use objects::State;
 
 /// The scheduling context that a thread runs on.
-pub(crate) fn context_under(state: &State, thread: ObjId) -> Option<ObjId>
+pub fn context_under(state: &State, thread: ObjId) -> Option<ObjId>
     ensures { result ≡ context_under (object_of state.now thread) }
 {
     match state.object(thread) {

@@ -1,2 +1,3 @@
 pub mod ArrivingEnds
 pub mod Elsewhere
+pub mod Delivered

@@ -7,6 +7,7 @@
 mod arrivals;
 mod fetching;
 mod firsts;
+mod lending;
 mod receiving;
 mod releases;
 mod sending;

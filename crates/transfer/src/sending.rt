@@ -7,7 +7,8 @@ ghost use Rattle.objects.specs.Waiting.{WaitsNowhere};
 
 use crate::arrivals::deliver;
 use crate::firsts::first_receiver;
-use crate::releases::{answer_through, link_or_halt};
+use crate::lending::call_through;
+use crate::releases::answer_through;
 use base::{Cause, ObjId, Rights};
 use bitflags::Flags;
 use cspace::{find_endpoint, permit};
@@ -106,14 +107,19 @@ pub fn send(
 /// has it wait for a receiver.
 fn call_or_wait(state: &mut State, caller: ObjId, sending: Sending)
     requires well_formed { IsWellFormed state.old }
-    requires free { WaitsNowhere state.old caller }
+    requires caller { IsCaller state.old caller }
     ensures { state.new
         ≡ called_or_waits state.old caller sending (receiver_in (first_at state.old sending.endpoint)) }
 {
     match first_receiver(state, sending.endpoint) {
         Some((receiver, receiving)) => {
             deliver(state, caller, sending, receiver, receiving);
-            link_or_halt(state, caller, answer_through(sending, receiving.reply));
+            call_through(
+                state,
+                caller,
+                receiver,
+                answer_through(sending, receiving.reply),
+            );
         }
         None => block(state, caller, sending.endpoint, RunState::Sending(sending)),
     }
@@ -129,7 +135,7 @@ fn make_call(
     capability: Option<u64>,
 ) -> Result<Made, Cause>
     requires well_formed { IsWellFormed state.old }
-    requires free { WaitsNowhere state.old caller }
+    requires caller { IsCaller state.old caller }
     ensures { Makes state.old state.new result (endpoint_call_of state.old caller address words capability) }
 {
     let (endpoint, end) = find_endpoint(state, caller, address)?;
@@ -143,7 +149,8 @@ fn make_call(
 /// receiver named (seL4 manual, "Endpoints", "Reply objects" and seL4_Call).
 ///
 /// Where the receiver named none, or the capability to the endpoint has neither the right Grant nor
-/// GrantReply, the caller is halted once its message is received.
+/// GrantReply, the caller is halted once its message is received. Otherwise, if the receiver was there
+/// first and runs on no scheduling context, it runs on the caller's until it answers.
 ///
 /// # Errors
 ///

@@ -2,4 +2,4 @@
 use Rattle.replies.proofs.answering.answer.Goals as goal
 
 pub give-requires : goal.give-requires
-give-requires c = λ tcb id. c.requires.links.waiting c.in-Some.thread id tcb
+give-requires c = λ tcb id. c.give_back.ensures.well_formed.links.waiting c.in-Some.called id tcb

@@ -1,9 +1,5 @@
 use Rattle.machine.specs.declared.call.Call.TheVariants as call
-use Rattle.machine.proofs.Threads.{ready_caller_waits_nowhere}
 use Rattle.transfer.proofs.sending.call.Goals as goal
-
-pub make_call-requires-clause-free : goal.make_call-requires-clause-free
-make_call-requires-clause-free c = ready_caller_waits_nowhere c.args.state.now c.args.caller c.requires.well_formed c.requires.caller
 
 pub returns-clause-well_formed : goal.returns-clause-well_formed
 returns-clause-well_formed c =

@@ -1,0 +1,61 @@
+ghost use Rattle.std.specs.Prelude.{◌≡◌, ◌≢◌, Some};
+ghost use Rattle.base.specs.declared.ids.ObjId.{ObjId as Id};
+ghost use Rattle.machine.specs.declared.object.ObjectKind.TheVariants as kind;
+ghost use Rattle.machine.specs.Machine.{object_of};
+ghost use Rattle.machine.specs.Step.Send.{called_through, lent_by};
+ghost use Rattle.machine.specs.WellFormed.{IsFree, IsWellFormed, kind_of};
+
+use base::ObjId;
+use machine::{Calling, Lent};
+use objects::State;
+use replies::{halt, link};
+use schedctl::{context_under, hand_over};
+
+/// What a caller lends to a receiver: the scheduling context that it runs on, where the receiver has
+/// none.
+fn lent_by(state: &State, caller: ObjId, receiver: ObjId) -> Option<Lent>
+    ensures { result ≡ lent_by state.now caller receiver }
+{
+    match (context_under(state, caller), context_under(state, receiver)) {
+        (Some(context), None) => Some(Lent {
+            context,
+            borrower: receiver,
+        }),
+        _ => None,
+    }
+}
+
+// Has a thread whose call was delivered wait for its answer through a reply, and lend what it runs on
+// meanwhile.
+fn wait_and_lend(state: &mut State, caller: ObjId, receiver: ObjId, id: ObjId)
+    requires well_formed { IsWellFormed state.old }
+    requires caller { kind_of state.old caller ≡ Some kind.Tcb }
+    requires receiver { kind_of state.old receiver ≡ Some kind.Tcb }
+    requires apart { caller ≢ receiver }
+    requires free { IsFree state.old id }
+    ensures { state.new ≡ called_through state.old caller receiver (Some id) }
+{
+    let lent = lent_by(state, caller, receiver);
+    halt(state, caller);
+    link(state, caller, Calling { reply: id, lent });
+    if let Some(lent) = lent {
+        hand_over(state, caller, lent.borrower);
+    }
+}
+
+/// Has a thread whose call was delivered to a receiver wait for its answer through a reply that holds
+/// nobody, and lend the scheduling context that it runs on to the receiver, where that has none; or
+/// halts it where there is no reply for an answer.
+pub fn call_through(state: &mut State, caller: ObjId, receiver: ObjId, reply: Option<ObjId>)
+    requires well_formed { IsWellFormed state.old }
+    requires caller { kind_of state.old caller ≡ Some kind.Tcb }
+    requires receiver { kind_of state.old receiver ≡ Some kind.Tcb }
+    requires apart { caller ≢ receiver }
+    requires free { (id : Id) → reply ≡ Some id → IsFree state.old id }
+    ensures { state.new ≡ called_through state.old caller receiver reply }
+{
+    match reply {
+        Some(id) => wait_and_lend(state, caller, receiver, id),
+        None => halt(state, caller),
+    }
+}
