@@ -16,16 +16,15 @@ use Rattle.machine.specs.declared.layout.Initial.{Initial}
 use Rattle.machine.specs.declared.object.Object.{Object}
 use Rattle.machine.specs.declared.object.Object.TheVariants as o
 use Rattle.machine.specs.declared.object.ObjectKind.TheVariants as kind
-use Rattle.machine.specs.Authority.{HasAuthority, by_cap, by_root, by_pair, by_link, holds_thread, links, names_reply}
+use Rattle.machine.specs.Authority.{HasAuthority, by_cap, by_root, by_pair, by_link, holds_thread, links}
 use Rattle.machine.specs.Boot.{IsBoot, bound}
 use Rattle.machine.specs.Layout.{Layout, initial_of, initial_cap, declared_label, bound_context}
 use Rattle.machine.specs.Machine.{Machine}
 use Rattle.machine.specs.Objects.{kind_of_object}
-use Rattle.machine.proofs.Ids.{itself}
-use Rattle.machine.proofs.LookUps.{one_id}
+use Rattle.machine.proofs.RunsLinks.{runs_bound, runs_by}
 use Rattle.policy.specs.Policy.{allows}
 use Rattle.table.specs.Rules.{IsBlank, IsBindingOf, IsLawful}
-use Rattle.table.proofs.AtBoot.{boot_label, declared_at, initial_lawful, rest_links}
+use Rattle.table.proofs.AtBoot.{boot_label, declared_at, initial_lawful, rest_lends, rest_links}
 use Rattle.table.proofs.BootParts.{pair-law}
 use Rattle.table.proofs.Lookups.{bound_at, bound_from, filled_at}
 use Rattle.labels.specs.SlotAuthority as slot
@@ -80,10 +79,6 @@ found_more f before old new items xs i d from k to same lt so_far step =
 
 -- an object as it is at boot has no link but from a thread to its context
 
-named : (context : Option ObjId) (end : ObjId) → names_reply context end ≡ true → context ≡ Some end
-named None end e = absurd (false≢true e)
-named (Some id) end e = ap Some (one_id id end e)
-
 record IsBoundTo (t : Layout) (id : ObjId) (k : Kind) (end : ObjId) : Type 0 where
   runs : authority.Runs ≡ k
   context : bound_context t id ≡ Some end
@@ -91,7 +86,13 @@ record IsBoundTo (t : Layout) (id : ObjId) (k : Kind) (end : ObjId) : Type 0 whe
 linked :
     (t : Layout) (id end : ObjId) (object : Object) (k : Kind) → IsBlank object → links (bound t id object) k end ≡ true
     → IsBoundTo t id k end
-linked t id end (o.Tcb thread) authority.Runs blank e = record { runs = refl; context = named (bound_context t id) end e }
+linked t id end (o.Tcb thread) authority.Runs blank e = record {
+  runs = refl;
+  context = elim (runs_by (record thread { context = bound_context t id }) end e) [
+    | inl bound ↦ bound
+    | inr lent ↦ absurd (none-some end (sym (rest_lends thread.state blank.0) ∙ lent))
+  ];
+}
 linked t id end (o.Tcb thread) k blank e = absurd (false≢true (sym (rest_links thread.state k end blank.0) ∙ e))
 linked t id end (o.Reply answers) authority.Holds blank e =
     absurd (false≢true (sym (ap (λ state. holds_thread state end) blank) ∙ e))
@@ -100,7 +101,7 @@ linked t id end _ k blank e = absurd (false≢true e)
 links_of_thread :
     (t : Layout) (id end : ObjId) (object : Object) → kind_of_object object ≡ kind.Tcb → bound_context t id ≡ Some end
     → links (bound t id object) authority.Runs end ≡ true
-links_of_thread t id end (o.Tcb thread) of is = ap (λ context. names_reply context end) is ∙ itself end
+links_of_thread t id end (o.Tcb thread) of is = runs_bound (record thread { context = bound_context t id }) end is
 links_of_thread t id end _ of is = cc
 
 module _ (t : Layout) (lawful : IsLawful t) (m : Machine) (boot : IsBoot t m) where

@@ -1,7 +1,7 @@
 -- The boot state of a table belongs to it: in particular the label of untyped memory is found by any address in it.
 use Rattle.std.proofs.Common.{◌≡◌, ℕ, ◌≤◌, ◌<◌, Bool, true, false, ◌&&◌, Some, option_map, refl, sym, ap, subst, ◌∙◌, arith, nat_le, nat_lt, slice_get}
 use mathlib.Core.Bool.{false≢true}
-use Rattle.std.proofs.lemmas.Option.{same_Some}
+use Rattle.std.proofs.lemmas.Option.{none-some, same_Some}
 use Rattle.std.proofs.lemmas.Bool.Decides.{Decides-ltb}
 use Rattle.std.proofs.lemmas.Bool.{and_from, and_parts, le-leb, leb-true}
 use Rattle.base.specs.declared.ids.ObjId.{ObjId}
@@ -9,17 +9,19 @@ use Rattle.machine.specs.declared.layout.Initial.{Initial}
 use Rattle.machine.specs.declared.object.Object.{Object}
 use Rattle.machine.specs.declared.object.Object.TheVariants as o
 use Rattle.machine.specs.declared.object.Untyped.{Untyped}
-use Rattle.machine.specs.Authority.{has_memory_at, label_at}
+use Rattle.machine.specs.declared.thread.Tcb.{Tcb}
+use Rattle.machine.specs.Authority.{has_memory_at, label_at, lent_of}
 use Rattle.machine.specs.Boot.{IsBoot, bound}
 use Rattle.machine.proofs.Bound.{address-bound, kind-bound}
-use Rattle.machine.specs.Layout.{Layout, initial_of}
+use Rattle.machine.specs.Layout.{Layout, bound_context, initial_of}
 use Rattle.machine.specs.Machine.{Machine}
 use Rattle.machine.specs.Objects.{kind_of_object, address_of, end_of}
 use Rattle.table.specs.Placement.{IsApart, Lies}
-use Rattle.table.specs.Rules.{IsLawful}
+use Rattle.table.specs.Rules.{IsBlank, IsLawful}
 use Rattle.verdict.specs.OfTable.{IsOfTable}
-use Rattle.table.proofs.AtBoot.{declared_at, boot_label, label_declared}
+use Rattle.table.proofs.AtBoot.{declared_at, boot_label, initial_lawful, label_declared, rest_lends}
 use Rattle.table.proofs.Lookups.{found_first, pair_at}
+use Rattle.verdict.proofs.Shrinking.{same_tcb}
 
 -- untyped memory that has an address
 memory_at :
@@ -70,6 +72,15 @@ bound_memory :
 bound_memory t id (o.Untyped _) memory e = sym e
 bound_memory t id _ memory e = cc
 
+-- a thread lends nothing at boot
+bound_lends :
+    (t : Layout) (id : ObjId) (object : Object) (thread : Tcb) (context : ObjId) → IsBlank object
+    → o.Tcb thread ≡ bound t id object → lent_of thread.state ≡ Some context → ⊥
+bound_lends t id (o.Tcb tcb) thread context blank e lends =
+    let same : thread.state ≡ tcb.state = ap (λ (x : Tcb). x.state) (same_tcb thread (record tcb { context = bound_context t id }) e) in
+    none-some context (sym (ap lent_of same ∙ rest_lends tcb.state blank.0) ∙ lends)
+bound_lends t id _ thread context blank e lends = cc
+
 pub boot_of_table : (t : Layout) (m : Machine) → IsLawful t → IsBoot t m → IsOfTable t m
 boot_of_table t m lawful boot =
     record {
@@ -90,5 +101,10 @@ boot_of_table t m lawful boot =
           boot_ranged t lawful id declared.initial memory address declared.declares
           (bound_memory t id declared.initial.object memory declared.object_is) above below
           ∙ ap Some same;
+      lent = λ id context thread at lends.
+          let declared = declared_at t m boot id (o.Tcb thread) at in
+          absurd
+          (bound_lends t id declared.initial.object thread context (initial_lawful t lawful id declared.initial declared.declares).blank
+          declared.object_is lends);
       counted = let e = boot.next in omega (arith, e);
     }

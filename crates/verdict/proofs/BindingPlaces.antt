@@ -1,7 +1,9 @@
 -- The search for a broken binding: each place that breaks A4 stands under a binding of the table, and these rise.
-use Rattle.std.proofs.Common.{◌≡◌, ℕ, ◌<◌, List, [], ◌∷◌, Some, slice_get, get_or, refl, ap, inl, arith}
+use Rattle.std.proofs.Common.{◌≡◌, ◌⊎◌, ℕ, ◌<◌, List, [], ◌∷◌, Some, slice_get, get_or, refl, ap, inl, inr, arith}
+use Rattle.std.proofs.lemmas.Option.{none-some}
+use Rattle.base.specs.declared.ids.ObjId.{ObjId}
 use Rattle.machine.specs.declared.layout.Binding.{Binding}
-use Rattle.machine.specs.Layout.{Layout}
+use Rattle.machine.specs.Layout.{Layout, bound_context}
 use Rattle.policy.specs.Domain.{EdgeTest}
 use Rattle.policy.specs.Places.{Begins}
 use Rattle.policy.proofs.Places.{IsBelow, NoneSoFar, Searches}
@@ -9,6 +11,7 @@ use Rattle.table.specs.Rules.{IsLawful}
 use Rattle.verdict.specs.declared.denial.Denial.{Denial}
 use Rattle.verdict.specs.declared.denial.Denial.TheVariants as denial
 use Rattle.verdict.specs.Rules.{a1, a4}
+use Rattle.verdict.specs.Sources.{of_table}
 use Rattle.verdict.specs.Verdict.{Breaks, BreaksUnder, place_of}
 use Rattle.policy.specs.Broken.{broken_place}
 use Rattle.table.proofs.Lookups.{bound_at, pair_at}
@@ -21,6 +24,14 @@ of_binding binding = binding.thread.0 ∷ []
 abbrev pub NothingBroken : Layout → EdgeTest → ℕ → Type 0
 NothingBroken t allowed n = NoneSoFar place_of (Breaks t allowed) (a4 ∷ []) t.bindings of_binding n
 
+-- a table's threads run on what they are bound to alone
+pub declared_bound :
+    (t : Layout) (thread context : ObjId)
+    → ((of_table t).context thread ≡ Some context) ⊎ ((of_table t).lent thread ≡ Some context)
+    → bound_context t thread ≡ Some context
+declared_bound t thread context (inl bound) = bound
+declared_bound t thread context (inr lent) = absurd (none-some context lent)
+
 begins_later : (place : List ℕ) → get_or place 0 0 < a1 → Begins (a4 ∷ []) place → ⊥
 begins_later [] below begins = begins
 begins_later (x ∷ xs) below begins = omega (arith, below, begins.0)
@@ -31,7 +42,7 @@ bindings t allowed lawful = record { covers = covers; rises = rises } where
       (d : Denial) → BreaksUnder t allowed (a4 ∷ []) d
       → (k : ℕ) × (b : Binding) × (slice_get t.bindings k ≡ Some b) × Begins (a4 ∷ b.thread.0 ∷ []) (place_of d)
   covers (denial.Binding thread context) h =
-      let b = bound_at t thread context h.1.bound in
+      let b = bound_at t thread context (declared_bound t thread context h.1.runs) in
       (b.at, b.element, b.here, (refl, (ap (λ x. x.0) b.key_is, tt)))
   covers (denial.Policy broken) h = absurd (begins_later (broken_place broken) (first_rules broken) h.0)
   covers _ h = absurd (omega (arith, h.0.0))

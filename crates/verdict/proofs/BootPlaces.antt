@@ -19,9 +19,9 @@ use Rattle.verdict.specs.declared.denial.Denial.{Denial}
 use Rattle.verdict.specs.declared.denial.Denial.TheVariants as denial
 use Rattle.verdict.specs.Confined.{IsConfined}
 use Rattle.verdict.specs.Rules.{Excess, Exceeds, capability, root, pair, binding, holding, recorded, excess_place}
-use Rattle.verdict.specs.Sources.{Sources, of_table, of_machine, context_in, holds_in, keeps_in}
+use Rattle.verdict.specs.Sources.{Sources, of_table, of_machine, context_in, lends_in, holds_in, keeps_in}
 use Rattle.verdict.specs.Verdict.{Breaks, IsAccepted, IsLeastBroken, IsOutside, excess_of, place_of}
-use Rattle.table.proofs.AtBoot.{boot_kind, boot_label, initial_lawful, rest_links}
+use Rattle.table.proofs.AtBoot.{boot_kind, boot_label, initial_lawful, rest_lends, rest_links}
 use Rattle.policy.proofs.Unbroken.{closed_if, unbroken}
 use Rattle.table.proofs.Lookups.{bound_at}
 use Rattle.verdict.proofs.Outsides.{confined_within, within_confined}
@@ -64,6 +64,10 @@ boot_context t lawful id (Some initial) declares = by initial.object refl where
   by (o.Tcb tcb) is = refl
   by object is = other_kind object is (λ e. cc)
 
+blank_lends : (t : Layout) (id : ObjId) (object : Object) → IsBlank object → lends_in (Some (bound t id object)) ≡ None
+blank_lends t id (o.Tcb tcb) blank = rest_lends tcb.state blank.0
+blank_lends t id _ blank = refl
+
 blank_holds : (t : Layout) (id : ObjId) (object : Object) (thread : ObjId) → IsBlank object → holds_in (Some (bound t id object)) thread ≡ false
 blank_holds t id (o.Reply answers) thread blank = ap (λ held. holds_thread held thread) blank
 blank_holds t id _ thread blank = refl
@@ -73,6 +77,13 @@ blank_keeps :
     → keeps_in (Some (bound t id object)) k end ≡ false
 blank_keeps t id (o.Tcb tcb) k end blank = rest_links tcb.state k end blank.0
 blank_keeps t id _ k end blank = refl
+
+boot_lends :
+    (t : Layout) → IsLawful t → (id : ObjId) (initial : Option Initial) → initial_of t id ≡ initial
+    → lends_in (option_map (λ (i : Initial). bound t id i.object) initial) ≡ None
+boot_lends t lawful id None declares = refl
+boot_lends t lawful id (Some initial) declares =
+    blank_lends t id initial.object (initial_lawful t lawful id initial declares).blank
 
 boot_holds :
     (t : Layout) → IsLawful t → (id thread : ObjId) (initial : Option Initial) → initial_of t id ≡ initial
@@ -138,6 +149,7 @@ module _ (t : Layout) (m : Machine) (lawful : IsLawful t) (boot : IsBoot t m) wh
     kind = λ id. sym (boot_kind t m boot id) i;
     label = λ id. sym (boot_label t m boot id) i;
     context = λ id. sym (ap context_in (boot.objects id) ∙ boot_context t lawful id (initial_of t id) refl) i;
+    lent = λ id. sym (ap lends_in (boot.objects id) ∙ boot_lends t lawful id (initial_of t id) refl) i;
     holds = λ id thread.
         sym (ap (λ object. holds_in object thread) (boot.objects id) ∙ boot_holds t lawful id thread (initial_of t id) refl) i;
     keeps = λ id k end.

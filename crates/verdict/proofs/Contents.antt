@@ -1,6 +1,6 @@
 -- Contents that a thread, a notification, a reply and a scheduling context may get in a step, and a change within full authority, and
 -- one by which a label takes.
-use Rattle.std.proofs.Common.{◌≡◌, ℕ, ◌+◌, ◌⊎◌, inl, inr, true, List, Some, refl, sym, ap, ◌∙◌}
+use Rattle.std.proofs.Common.{◌≡◌, ℕ, ◌+◌, ◌<◌, ◌⊎◌, inl, inr, true, List, Some, refl, sym, ap, ◌∙◌}
 use Rattle.base.specs.declared.ids.ObjId.{ObjId}
 use Rattle.base.specs.declared.kind.Kind.{Kind}
 use Rattle.base.specs.declared.kind.Kind.TheVariants as authority
@@ -11,7 +11,7 @@ use Rattle.machine.specs.declared.object.Object.{Object}
 use Rattle.machine.specs.declared.object.Object.TheVariants as o
 use Rattle.machine.specs.declared.object.Reply.{Reply}
 use Rattle.machine.specs.declared.thread.Tcb.{Tcb}
-use Rattle.machine.specs.Authority.{holds_thread, label_of, links}
+use Rattle.machine.specs.Authority.{holds_thread, label_of, lent_of, links}
 use Rattle.machine.specs.Layout.{Layout}
 use Rattle.machine.specs.Machine.{Machine, object_of, queue_of, with_object}
 use Rattle.policy.specs.Domain.{EdgeTest}
@@ -21,7 +21,7 @@ use Rattle.verdict.specs.Bounded.{MayAffect}
 use Rattle.verdict.specs.Budgets.{MayConfigure}
 use Rattle.verdict.specs.Shrinks.{Lessens}
 use Rattle.verdict.proofs.Losses.{lessened}
-use Rattle.verdict.proofs.Shrinking.{same_context}
+use Rattle.verdict.proofs.Shrinking.{same_context, same_tcb}
 use Rattle.verdict.proofs.TouchKeeps.{Fits}
 
 -- the label has full authority over the object's
@@ -39,22 +39,39 @@ loses_links t allowed a m id label old new labelled take there less threads queu
     record { label = label; labelled = inl labelled; may = inr (take, lessened m id old new threads there queue less) }
 
 module _ (t : Layout) (allowed : EdgeTest) (began : Machine) (event : Event) (m : Machine) (id : ObjId) where
-  -- a thread stays where it is, and each link was there or is in the policy
+  -- a thread stays where it is, each link was there or is in the policy, and the number of what it lent was given out
   pub tcb_fits :
       (old new : Tcb) → object_of m id ≡ Some (o.Tcb old) → new.address ≡ old.address
       → ((end : ObjId) (k : Kind) → links (o.Tcb new) k end ≡ true
       → (links (o.Tcb old) k end ≡ true)
       ⊎ ((from to : ℕ) → label_of t m id ≡ Some from → label_of t m end ≡ Some to → allowed from k to ≡ true))
+      → ((context : ObjId) → lent_of new.state ≡ Some context → context.0 < m.next)
       → Fits t allowed began event m id (o.Tcb old) (o.Tcb new)
-  tcb_fits old new was same within =
-      record { was = was; kind = refl; address = same; end = ap (λ n. n + 1024) same; links = within; share = λ before after e. cc }
+  tcb_fits old new was same within below =
+      record {
+        was = was;
+        kind = refl;
+        address = same;
+        end = ap (λ n. n + 1024) same;
+        links = within;
+        lent = λ context thread is lends. below context (ap (λ (x : Tcb). lent_of x.state) (same_tcb new thread is) ∙ lends);
+        share = λ before after e. cc;
+      }
 
   -- a notification stays where it is
   pub notification_fits :
       (old new : Notification) → object_of m id ≡ Some (o.Notification old) → new.address ≡ old.address
       → Fits t allowed began event m id (o.Notification old) (o.Notification new)
   notification_fits old new was same =
-      record { was = was; kind = refl; address = same; end = ap (λ n. n + 32) same; links = λ end k e. cc; share = λ before after e. cc }
+      record {
+        was = was;
+        kind = refl;
+        address = same;
+        end = ap (λ n. n + 32) same;
+        links = λ end k e. cc;
+        lent = λ context thread e lends. cc;
+        share = λ before after e. cc;
+      }
 
   -- a reply stays where it is, and the thread that it holds is one that the policy allows it
   pub reply_fits :
@@ -63,7 +80,15 @@ module _ (t : Layout) (allowed : EdgeTest) (began : Machine) (event : Event) (m 
       → label_of t m end ≡ Some to → allowed from authority.Holds to ≡ true)
       → Fits t allowed began event m id (o.Reply old) (o.Reply new)
   reply_fits old new was same within =
-      record { was = was; kind = refl; address = same; end = ap (λ n. n + 32) same; links = held; share = λ before after e. cc }
+      record {
+        was = was;
+        kind = refl;
+        address = same;
+        end = ap (λ n. n + 32) same;
+        links = held;
+        lent = λ context thread e lends. cc;
+        share = λ before after e. cc;
+      }
     where
       held :
           (end : ObjId) (k : Kind) → links (o.Reply new) k end ≡ true
@@ -84,6 +109,7 @@ module _ (t : Layout) (allowed : EdgeTest) (began : Machine) (event : Event) (m 
         address = same;
         end = ap (λ n. n + 256) same;
         links = λ end k e. cc;
+        lent = λ context thread e lends. cc;
         share = share;
       }
     where

@@ -1,19 +1,16 @@
 -- Configure, Bind and Unbind within a caller's authority: its label may use the scheduling context, a thread that comes to run on
 -- it is one that the label controls, and one that runs on it no more only loses it.
 use Rattle.std.proofs.Common.{◌≡◌, ◌≢◌, ℕ, ◌⊎◌, inl, inr, true, Option, Some, None, refl, sym, ap, subst, ◌∙◌}
-use Rattle.std.proofs.lemmas.Bool.{false≢true}
-use Rattle.std.proofs.lemmas.Option.{same_Some}
+use Rattle.std.proofs.lemmas.Option.{none-some, same_Some}
 use Rattle.base.specs.declared.ids.ObjId.{ObjId}
 use Rattle.base.specs.declared.ids.SlotRef.{SlotRef}
-use Rattle.base.specs.declared.kind.Kind.{Kind}
 use Rattle.base.specs.declared.kind.Kind.TheVariants as authority
 use Rattle.machine.specs.declared.call.Event.{Event}
 use Rattle.machine.specs.declared.cap.Detail.TheVariants as d
 use Rattle.machine.specs.declared.object.Context.{Context}
-use Rattle.machine.specs.declared.object.Object.{Object}
 use Rattle.machine.specs.declared.object.Object.TheVariants as o
 use Rattle.machine.specs.declared.thread.Tcb.{Tcb}
-use Rattle.machine.specs.Authority.{label_of, links, names_reply}
+use Rattle.machine.specs.Authority.{label_of}
 use Rattle.machine.specs.Authority.HasAuthority.{by_link}
 use Rattle.machine.specs.Capabilities.{kind_of_detail}
 use Rattle.machine.specs.Layout.{Layout}
@@ -24,8 +21,9 @@ use Rattle.machine.specs.WellFormed.{IsThread}
 use Rattle.machine.proofs.ContextRow.{BindDone, ConfigureDone, UnbindDone}
 use Rattle.machine.proofs.ContextsFormed.{bound_is, share_is, unbound_is}
 use Rattle.machine.proofs.FoundObjects.{FindsContext, FindsControl, found_context, found_thread}
-use Rattle.machine.proofs.Ids.{at_other, itself, one_or_two}
-use Rattle.machine.proofs.LookUps.{cap_of-with_object, object_of-with_object, one_id, queue_of-with_object, words_of-with_object}
+use Rattle.machine.proofs.Ids.{at_other, one_or_two}
+use Rattle.machine.proofs.LookUps.{cap_of-with_object, object_of-with_object, queue_of-with_object, words_of-with_object}
+use Rattle.machine.proofs.RunsLinks.{runs_bound}
 use Rattle.policy.specs.Closed.{IsClosed}
 use Rattle.policy.specs.Domain.{EdgeTest}
 use Rattle.policy.specs.Full.IsFull.{modifies}
@@ -35,39 +33,15 @@ use Rattle.verdict.specs.Budgets.{MayConfigure, configures}
 use Rattle.verdict.specs.Invariant.{IsHeld, IsSound}
 use Rattle.verdict.specs.Shrinks.Lessens.{released}
 use Rattle.verdict.specs.Shrinks.Stops.{goes_on}
-use Rattle.verdict.proofs.Contents.{context_fits, full, loses_links, tcb_fits}
+use Rattle.verdict.proofs.Contents.{context_fits, full, loses_links}
+use Rattle.verdict.proofs.ContextTouches.{linked_keeps, runs_on, thread_keeps}
 use Rattle.verdict.proofs.Held.{held_of}
-use Rattle.verdict.proofs.Keeps.{Acts, Keeps, keeps_keeps, unchanged}
+use Rattle.verdict.proofs.Keeps.{Acts, Keeps, unchanged}
 use Rattle.verdict.proofs.MessageParts.{IsReached, context_reached, reached, thread_label}
-use Rattle.verdict.proofs.ObjectLabels.{same_label}
 use Rattle.verdict.proofs.SetKeeps.{set_keeps}
 use Rattle.verdict.proofs.Shrinking.{same_context}
+use Rattle.verdict.proofs.SlotKeeps.{IsOpened}
 use Rattle.verdict.proofs.ThreadKeeps.{may_control, to_thread}
-
--- the contents that a bind and an unbind give
-
-abbrev runs_on : Tcb → Option ObjId → Tcb
-runs_on tcb context = record tcb { context = context }
-
-abbrev has_thread : Context → Option ObjId → Context
-has_thread context thread = record context { thread = thread }
-
-apart_by_kind :
-    (m : Machine) (id thread : ObjId) (context : Context) (tcb : Tcb) → object_of m id ≡ Some (o.Context context)
-    → IsThread m thread tcb → id ≢ thread
-apart_by_kind m id thread context tcb context_there there same =
-    differ (sym there ∙ ap (object_of m) (sym same) ∙ context_there)
-  where
-    differ : ◌≡◌ {A = Option Object} (Some (o.Tcb tcb)) (Some (o.Context context)) → ⊥
-    differ e = cc
-
--- what comes to be of the thread leaves the context as it is
-context_beside :
-    (m : Machine) (id thread : ObjId) (context : Context) (tcb new : Tcb) → object_of m id ≡ Some (o.Context context)
-    → IsThread m thread tcb → object_of (with_object m thread (o.Tcb new)) id ≡ object_of m id
-context_beside m id thread context tcb new context_there there =
-    object_of-with_object m thread (o.Tcb new) id
-    ∙ at_other id thread (Some (o.Tcb new)) (object_of m id) (apart_by_kind m id thread context tcb context_there there)
 
 -- the control that is found
 control_reached :
@@ -95,22 +69,13 @@ module _
     context : (context : Context) × (object_of m id ≡ Some (o.Context context))
     context = found_context m caller address sound.well_formed id finds
 
-    -- it gets another thread, or none
-    with_thread :
-        (thread : ObjId) (tcb : Tcb) (end : Option ObjId) (on : Option ObjId) → IsThread m thread tcb
-        → Keeps t allowed m event a m (with_object m thread (o.Tcb (runs_on tcb end)))
-        → Keeps t allowed m event a m
-        (with_object (with_object m thread (o.Tcb (runs_on tcb end))) id (o.Context (has_thread context.0 on)))
-    with_thread thread tcb end on there first =
-        let mid : Machine = with_object m thread (o.Tcb (runs_on tcb end)) in
-        let new : Context = has_thread context.0 on in
-        let beside : object_of mid id ≡ object_of m id =
-        context_beside m id thread context.0 tcb (runs_on tcb end) context.1 there in
-        keeps_keeps t allowed m event a m mid (with_object mid id (o.Context new)) held first
-        (set_keeps t allowed m event a mid id first.held (o.Context context.0) (o.Context new)
-        (context_fits t allowed m event mid id context.0 new (beside ∙ context.1) refl (inl refl))
-        (full t allowed a mid (with_object mid id (o.Context new)) id to_context.label
-        (same_label t m mid id beside ∙ to_context.labelled) (modifies authority.Context refl may_use)))
+    -- so it may get another thread, or none
+    may_link : IsOpened t allowed m a id
+    may_link = record {
+      label = to_context.label;
+      labelled = to_context.labelled;
+      has = modifies authority.Context refl may_use;
+    }
 
   -- a context is configured, where the event may do so
   pub configure_keeps :
@@ -191,7 +156,8 @@ module _
   bind_keeps address thread_address done =
       subst (λ (n : Machine). Keeps t allowed m event a m n)
       (sym (done.changes ∙ bound_is m done.id done.thread old.0 tcb.0 old.1 tcb.1))
-      (with_thread address done.id done.finds done.thread tcb.0 (Some done.id) (Some done.thread) tcb.1 runs)
+      (linked_keeps t allowed m event a m held done.id done.thread old.0 tcb.0 (Some done.id) (Some done.thread) old.1 tcb.1
+      (may_link address done.id done.finds) runs)
     where
       old : (context : Context) × (object_of m done.id ≡ Some (o.Context context))
       old = context address done.id done.finds
@@ -217,23 +183,16 @@ module _
           (sym (closed.subjects_agree a of_thread.label authority.Context (record { domain = inr controls; of_use = refl }) of_context.label)
           ∙ may_use address done.id done.finds)
 
-      links_within :
-          (end : ObjId) (k : Kind) → links (o.Tcb (runs_on tcb.0 (Some done.id))) k end ≡ true
-          → (links (o.Tcb tcb.0) k end ≡ true)
-          ⊎ ((from to : ℕ) → label_of t m done.thread ≡ Some from → label_of t m end ≡ Some to → allowed from k to ≡ true)
-      links_within end authority.Runs is =
+      runs : Keeps t allowed m event a m (with_object m done.thread (o.Tcb (runs_on tcb.0 (Some done.id))))
+      runs =
+          thread_keeps t allowed m event a m held done.thread tcb.0 (Some done.id) tcb.1
+          (λ end bound.
           inr (λ from to source target.
           let from_is : from ≡ of_thread.label = same_Some from of_thread.label (sym source ∙ of_thread.labelled) in
           let to_is : to ≡ of_context.label =
           same_Some to of_context.label
-          (sym target ∙ ap (label_of t m) (sym (one_id done.id end is)) ∙ of_context.labelled) in
-          ap (λ l. allowed l authority.Runs to) from_is ∙ ap (allowed of_thread.label authority.Runs) to_is ∙ may_run)
-      links_within end k is = inl is
-
-      runs : Keeps t allowed m event a m (with_object m done.thread (o.Tcb (runs_on tcb.0 (Some done.id))))
-      runs =
-          set_keeps t allowed m event a m done.thread held (o.Tcb tcb.0) (o.Tcb (runs_on tcb.0 (Some done.id)))
-          (tcb_fits t allowed m event m done.thread tcb.0 (runs_on tcb.0 (Some done.id)) tcb.1 refl links_within)
+          (sym target ∙ ap (label_of t m) (sym (same_Some done.id end bound)) ∙ of_context.labelled) in
+          ap (λ l. allowed l authority.Runs to) from_is ∙ ap (allowed of_thread.label authority.Runs) to_is ∙ may_run))
           (full t allowed a m (with_object m done.thread (o.Tcb (runs_on tcb.0 (Some done.id)))) done.thread of_thread.label
           of_thread.labelled (modifies authority.Control refl controls))
 
@@ -249,23 +208,15 @@ module _
     ran : allowed left.0 authority.Runs used.label ≡ true
     ran =
         sound.confined left.0 authority.Runs used.label
-        (by_link thread id (o.Tcb tcb) there (ap (λ named. names_reply named id) on ∙ itself id) left.1 used.labelled)
+        (by_link thread id (o.Tcb tcb) there (runs_bound tcb id on) left.1 used.labelled)
 
     may_lose : MayTake allowed a left.0
     may_lose = unbinds used.label (may_use address id finds) ran
 
-    links_kept :
-        (end : ObjId) (k : Kind) → links (o.Tcb (runs_on tcb None)) k end ≡ true
-        → (links (o.Tcb tcb) k end ≡ true)
-        ⊎ ((from to : ℕ) → label_of t m thread ≡ Some from → label_of t m end ≡ Some to → allowed from k to ≡ true)
-    links_kept end authority.Runs is = absurd (false≢true is)
-    links_kept end k is = inl is
-
     stops : Keeps t allowed m event a m (with_object m thread (o.Tcb (runs_on tcb None)))
     stops =
         let queue = sound.well_formed.parts.queue thread (o.Tcb tcb) there in
-        set_keeps t allowed m event a m thread held (o.Tcb tcb) (o.Tcb (runs_on tcb None))
-        (tcb_fits t allowed m event m thread tcb (runs_on tcb None) there refl links_kept)
+        thread_keeps t allowed m event a m held thread tcb None there (λ end bound. absurd (none-some end bound))
         (loses_links t allowed a m thread left.0 (o.Tcb tcb) (o.Tcb (runs_on tcb None)) left.1 may_lose there
         (released tcb (runs_on tcb None) refl refl refl (goes_on refl refl) (inr refl)) queue.0 queue.1)
 
@@ -273,7 +224,7 @@ module _
     unbound_keeps =
         let old = context address id finds in
         subst (λ (n : Machine). Keeps t allowed m event a m n) (sym (unbound_is m id thread old.0 tcb old.1 there on))
-        (with_thread address id finds thread tcb None None there stops)
+        (linked_keeps t allowed m event a m held id thread old.0 tcb None None old.1 there (may_link address id finds) stops)
 
   pub unbind_keeps : (address : ℕ) → UnbindDone m caller address next → Keeps t allowed m event a m next
   unbind_keeps address done =

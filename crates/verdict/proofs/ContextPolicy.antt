@@ -4,6 +4,7 @@ use Rattle.std.proofs.Common.{◌≡◌, ◌≢◌, ℕ, ◌<◌, Bool, true, fa
 use Rattle.std.proofs.lemmas.Bool.{false≢true, and_parts, eqb-true}
 use Rattle.base.specs.declared.kind.Kind.{Kind}
 use Rattle.base.specs.declared.kind.Kind.TheVariants.{Call, Context, Control, Derive, Grant, Holds, Receive, Reply, Runs, Space}
+use Rattle.base.specs.declared.label.TheConstants.Label as Label
 use Rattle.policy.specs.Closed.{ComesToDerive, ComesToHold, MayBeGranted, granted, derived, server, caller}
 use Rattle.policy.specs.Domain.{EdgeTest, IsInDomain}
 use Rattle.policy.specs.Needed.{Rule, subjects_agree, control_gives_all, grant_shares, derive_in_domain, derive_by_grant, context_runs}
@@ -31,10 +32,10 @@ to_own a k b other e = by (b == 0) refl where
   by false is =
       absurd (false≢true (sym (ap (λ x. x || (is_context k && (b == 1))) is ∙ ap (λ x. x && (b == 1)) other) ∙ (and_parts _ _ e).1))
 
-to_few : (a : ℕ) (k : Kind) (b : ℕ) → has a k b ≡ true → b < 64
+to_few : (a : ℕ) (k : Kind) (b : ℕ) → has a k b ≡ true → b < Label.COUNT
 unfolding has
 to_few a k b e = by (b == 0) refl where
-  by : (own : Bool) → (b == 0) ≡ own → b < 64
+  by : (own : Bool) → (b == 0) ≡ own → b < Label.COUNT
   by true is = let zero = eqb-true b 0 is in omega (arith, zero)
   by false is =
       let rest = sym (ap (λ x. x || (is_context k && (b == 1))) is) ∙ (and_parts _ _ e).1 in

@@ -12,6 +12,7 @@ use Rattle.base.specs.declared.kind.Kind.TheVariants as authority
 use Rattle.std.specs.Prelude.{Option}
 use Rattle.machine.specs.declared.cap.Cap.{Cap}
 use Rattle.machine.specs.declared.cap.Detail.TheVariants as d
+use Rattle.machine.specs.declared.layout.Version.TheVariants as version
 use Rattle.machine.specs.declared.object.Object.{Object}
 use Rattle.machine.specs.declared.object.Object.TheVariants as o
 use Rattle.machine.specs.declared.thread.Inbox.TheVariants as inbox
@@ -44,6 +45,7 @@ second_cap = record { object = id 4; detail = d.Tcb; original = true }
 
 unfoldable pub binding : Layout
 binding = record {
+  version = version.One;
   labels = codes "a" ∷ codes "b" ∷ [];
   names = codes "own" ∷ codes "thread" ∷ codes "context" ∷ codes "spare" ∷ codes "second" ∷ [];
   objects =

@@ -1,6 +1,6 @@
 -- The system whose policy lacks that who may bind a context may run on it isn't safe: its thread binds the context of another label to a
 -- second thread.
-use Rattle.std.proofs.Common.{◌≡◌, ◌≢◌, [], ◌∷◌, Some, None, Ok, refl, ◌∙◌}
+use Rattle.std.proofs.Common.{◌≡◌, [], ◌∷◌, Some, None, Ok, refl, ◌∙◌}
 use Rattle.base.specs.declared.kind.Kind.TheVariants.{Runs}
 use Rattle.machine.specs.declared.call.Answer.TheVariants.{Nothing}
 use Rattle.machine.specs.declared.call.Call.TheVariants.{Bind}

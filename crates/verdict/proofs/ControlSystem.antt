@@ -7,6 +7,7 @@ use Rattle.std.proofs.lemmas.List.Elements.{All-from_recursion}
 use Rattle.std.proofs.lemmas.List.Sums.{AllPass-from_list_all}
 use Rattle.machine.specs.declared.cap.Cap.{Cap}
 use Rattle.machine.specs.declared.cap.Detail.TheVariants as d
+use Rattle.machine.specs.declared.layout.Version.TheVariants as version
 use Rattle.machine.specs.declared.object.Object.{Object}
 use Rattle.machine.specs.declared.object.Object.TheVariants as o
 use Rattle.machine.specs.declared.object.Untyped.{Untyped}
@@ -37,6 +38,7 @@ own_cap = record { object = id 0; detail = d.CNode (record { size = 62; value = 
 
 unfoldable pub making : Layout
 making = record {
+  version = version.One;
   labels = codes "a" ∷ codes "b" ∷ [];
   names = codes "own" ∷ codes "thread" ∷ codes "context" ∷ codes "memory" ∷ [];
   objects = labelled 0 own ∷ labelled 0 (thread None) ∷ labelled 0 (context None) ∷ labelled 1 (o.Untyped memory) ∷ [];

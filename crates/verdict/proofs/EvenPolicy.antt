@@ -3,6 +3,7 @@ use Rattle.std.proofs.Common.{◌≡◌, ℕ, ◌<◌, ◌≤◌, inl, inr, Bool
 use Rattle.std.proofs.lemmas.Bool.{and_parts, and_from, lt-ltb, ltb-true}
 use Rattle.base.specs.declared.kind.Kind.{Kind}
 use Rattle.base.specs.declared.kind.Kind.TheVariants.{Control, Receive, Grant, Call, Reply, Context, Space, Derive, Runs, Holds}
+use Rattle.base.specs.declared.label.TheConstants.Label as Label
 use Rattle.policy.specs.Closed.{ContextRuns, ControlGivesAll, DeriveByGrant, DeriveInDomain, GrantShares, IsGivenByControl}
 use Rattle.policy.specs.Closed.{LentRuns, ReplyHolds, granted, derived, server, caller}
 use Rattle.policy.specs.Domain.{EdgeTest, IsInDomain, SubjectsAgree}
@@ -29,7 +30,7 @@ module _ (kinds : Kind → Bool) (n : ℕ) where
   in_domain a x (inl e) = labels_of a Space x e
   in_domain a x (inr e) = labels_of a Control x e
 
-  pub even_within : n ≤ 64 → IsWithin (even kinds n)
+  pub even_within : n ≤ Label.COUNT → IsWithin (even kinds n)
   even_within few a k b e = let labels = labels_of a k b e in (omega (arith, labels.0, few), omega (arith, labels.1, few))
 
   pub even_agrees : SubjectsAgree (even kinds n)

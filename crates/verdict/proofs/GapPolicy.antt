@@ -4,6 +4,7 @@ use Rattle.std.proofs.Common.{◌≡◌, ◌≢◌, ℕ, zero, suc, ◌<◌, inl
 use Rattle.std.proofs.lemmas.Bool.{false≢true, and_parts, and_from, lt-ltb, ltb-true}
 use Rattle.base.specs.declared.kind.Kind.{Kind}
 use Rattle.base.specs.declared.kind.Kind.TheVariants.{Control, Receive, Grant, Call, Reply, Context, Space, Derive, Runs, Holds}
+use Rattle.base.specs.declared.label.TheConstants.Label as Label
 use Rattle.base.specs.Kinds.{is_structural}
 use Rattle.policy.specs.Closed.{ComesToHold, IsGivenByControl, MayBeGranted, server, caller}
 use Rattle.policy.specs.Domain.{EdgeTest, IsInDomain}
@@ -50,7 +51,7 @@ few : (k : Kind) (b : ℕ) → b < width k → b < 3
 few Holds b small = small
 few _ b small = omega (arith, small)
 
-pub within : (a : ℕ) (k : Kind) (b : ℕ) → has a k b ≡ true → (a < 64) × (b < 64)
+pub within : (a : ℕ) (k : Kind) (b : ℕ) → has a k b ≡ true → (a < Label.COUNT) × (b < Label.COUNT)
 within a k b e =
     let labels = labels_of a k b e in
     let small = few k b labels.1 in

@@ -7,6 +7,7 @@ use Rattle.std.proofs.lemmas.List.Elements.{All-from_recursion}
 use Rattle.std.proofs.lemmas.List.Sums.{AllPass-from_list_all}
 use Rattle.machine.specs.declared.cap.Cap.{Cap}
 use Rattle.machine.specs.declared.cap.Detail.TheVariants as d
+use Rattle.machine.specs.declared.layout.Version.TheVariants as version
 use Rattle.machine.specs.declared.object.Object.{Object}
 use Rattle.machine.specs.declared.object.Object.TheVariants as o
 use Rattle.machine.specs.Layout.{Layout, initial_of, initial_cap, initial_parent}
@@ -31,6 +32,7 @@ derived_cap = record { object = id 1; detail = d.CNode (record { size = 63; valu
 
 unfoldable pub gap : Layout
 gap = record {
+  version = version.One;
   labels = codes "a" ∷ codes "b" ∷ codes "c" ∷ [];
   names = codes "own" ∷ codes "other" ∷ codes "source" ∷ codes "thread" ∷ codes "context" ∷ [];
   objects =

@@ -14,6 +14,7 @@ use Rattle.machine.specs.declared.cap.Badged.{Badged}
 use Rattle.machine.specs.declared.cap.Cap.{Cap}
 use Rattle.machine.specs.declared.cap.Detail.TheVariants as d
 use Rattle.machine.specs.declared.layout.Filled.{Filled}
+use Rattle.machine.specs.declared.layout.Version.TheVariants as version
 use Rattle.machine.specs.declared.object.Object.{Object}
 use Rattle.machine.specs.declared.object.Object.TheVariants as o
 use Rattle.machine.specs.declared.object.ObjectKind.TheVariants as kind
@@ -70,6 +71,7 @@ taker_cap = record { object = id 1; detail = d.CNode (record { size = 62; value 
 
 unfoldable pub granting : Layout
 granting = record {
+  version = version.One;
   labels = codes "a" ∷ codes "b" ∷ [];
   names =
       codes "own" ∷ codes "other" ∷ codes "giver" ∷ codes "taker" ∷ codes "context" ∷ codes "second" ∷ codes "endpoint"

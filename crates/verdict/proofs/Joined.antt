@@ -1,5 +1,6 @@
--- What a machine's capabilities, pairs and links name is there: in a well-formed machine, and after a change of a content without links.
-use Rattle.std.proofs.Common.{◌≡◌, inl, inr, true, false, Option, Some, None, refl, sym, ap, ◌∙◌}
+-- What a machine's capabilities and pairs name is there, and the numbers of what its links name were given out: in a well-formed
+-- machine, and after a change of a content without links.
+use Rattle.std.proofs.Common.{◌≡◌, ◌<◌, inl, inr, true, false, Some, refl, sym, ap, ◌∙◌, arith}
 use Rattle.std.proofs.lemmas.Bool.{and_parts, false≢true}
 use Rattle.std.proofs.lemmas.Option.{same_Some}
 use Rattle.base.specs.declared.ids.ObjId.{ObjId}
@@ -15,29 +16,30 @@ use Rattle.machine.specs.declared.object.ReplyState.TheVariants as reply
 use Rattle.machine.specs.declared.thread.RunState.{RunState}
 use Rattle.machine.specs.declared.thread.RunState.TheVariants as state
 use Rattle.machine.specs.declared.thread.Tcb.{Tcb}
-use Rattle.machine.specs.Authority.{holds_thread, links, names_reply, state_links}
+use Rattle.machine.specs.Authority.{holds_thread, lent_of, links, state_links}
 use Rattle.machine.specs.Machine.{Machine, object_of, cap_of, parent_of, with_object}
 use Rattle.machine.specs.WellFormed.{IsReceivingWith, IsThread, IsWellFormed, WaitsAt}
 use Rattle.machine.proofs.Ids.{at_itself, at_other, one_or_two}
-use Rattle.machine.proofs.LookUps.{cap_of-with_object, object_of-with_object, one_id, parent_of-with_object}
+use Rattle.machine.proofs.LookUps.{cap_of-with_object, number_of-with_object, object_of-with_object, one_id, parent_of-with_object}
+use Rattle.machine.proofs.RunsLinks.{named_so, runs_by}
 
 -- an object is there
 abbrev pub IsThere : Machine → ObjId → Type 0
 IsThere m id = (object : Object) × (object_of m id ≡ Some object)
 
--- the holders of filled slots and of pairs, and the ends of links, are there
+-- the holders of filled slots and of pairs are there, and the ends of links were
 pub record IsJoined (m : Machine) : Type 0 where
   pub filled : (slot : SlotRef) (cap : Cap) → cap_of m slot ≡ Some cap → IsThere m slot.holder
   pub child : (slot parent : SlotRef) → parent_of m slot ≡ Some parent → IsThere m slot.holder
   pub parent : (slot parent : SlotRef) → parent_of m slot ≡ Some parent → IsThere m parent.holder
   pub ends :
-      (id end : ObjId) (object : Object) (k : Kind) → object_of m id ≡ Some object → links object k end ≡ true → IsThere m end
+      (id end : ObjId) (object : Object) (k : Kind) → object_of m id ≡ Some object → links object k end ≡ true → end.0 < m.next
 
-named : (named : Option ObjId) (id : ObjId) → names_reply named id ≡ true → named ≡ Some id
-named None id e = absurd (false≢true e)
-named (Some other) id e = ap (λ i. Some i) (one_id other id e)
-
-module _ (m : Machine) (formed : IsWellFormed m) where
+module _
+    (m : Machine) (formed : IsWellFormed m)
+    (lent :
+    (id context : ObjId) (thread : Tcb) → object_of m id ≡ Some (o.Tcb thread) → lent_of thread.state ≡ Some context
+    → context.0 < m.next) where
   waited_at : (thread end : ObjId) (tcb : Tcb) → IsThread m thread tcb → WaitsAt tcb.state end → IsThere m end
   waited_at thread end tcb is waits =
       let queue = formed.links.waiting thread end tcb is waits in
@@ -58,7 +60,7 @@ module _ (m : Machine) (formed : IsWellFormed m) where
   state_end thread end tcb (state.Receiving receiving) authority.Receive is waits names e =
       waited_at thread end tcb is (waits end (one_id receiving.endpoint end e))
   state_end thread end tcb (state.Receiving receiving) authority.Reply is waits names e =
-      let there = formed.links.receiver_reply thread end tcb is (names end (named receiving.reply end e)) in
+      let there = formed.links.receiver_reply thread end tcb is (names end (named_so receiving.reply end e)) in
       (o.Reply (record { address = there.0; state = reply.Waiting thread }), there.1)
   state_end thread end tcb (state.Waiting notification) authority.Await is waits names e =
       waited_at thread end tcb is (waits end (one_id notification end e))
@@ -78,12 +80,17 @@ module _ (m : Machine) (formed : IsWellFormed m) where
       let w = formed.links.reply_called id thread answers.address (at ∙ (λ i. Some (o.Reply (record { address = answers.address; state = is i })))) in
       (o.Tcb w.0, ap (object_of m) (sym same) ∙ w.1)
 
+  below : (id : ObjId) → IsThere m id → id.0 < m.next
+  below id there = formed.numbers.below_next id there.0 there.1
+
   link_end :
-      (id end : ObjId) (object : Object) (k : Kind) → object_of m id ≡ Some object → links object k end ≡ true → IsThere m end
-  link_end id end (o.Tcb tcb) authority.Runs at e =
-      let there = formed.links.thread_context id end tcb at (named tcb.context end e) in (o.Context there.0, there.1)
-  link_end id end (o.Tcb tcb) k at e = state_end id end tcb tcb.state k at (λ i h. h) (λ i h. h) e
-  link_end id end (o.Reply answers) authority.Holds at e = held_end id end answers answers.state refl at e
+      (id end : ObjId) (object : Object) (k : Kind) → object_of m id ≡ Some object → links object k end ≡ true → end.0 < m.next
+  link_end id end (o.Tcb tcb) authority.Runs at e = elim (runs_by tcb end e) [
+    | inl bound ↦ let there = formed.links.thread_context id end tcb at bound in below end (o.Context there.0, there.1)
+    | inr lends ↦ lent id end tcb at lends
+  ]
+  link_end id end (o.Tcb tcb) k at e = below end (state_end id end tcb tcb.state k at (λ i h. h) (λ i h. h) e)
+  link_end id end (o.Reply answers) authority.Holds at e = below end (held_end id end answers answers.state refl at e)
   link_end id end _ _ at e = absurd (false≢true e)
 
   slot_there : (slot : SlotRef) (cap : Cap) → cap_of m slot ≡ Some cap → IsThere m slot.holder
@@ -111,8 +118,10 @@ joined_set m id old new was alone joined = record {
         same_Some object new (sym at ∙ ap (object_of (with_object m id new)) same ∙ object_of-with_object m id new id ∙ at_itself id (Some new) (object_of m id)) in
         absurd (false≢true (sym (alone k end) ∙ ap (λ (x : Object). links x k end) (sym is) ∙ e))
     | inr apart ↦
-        stays end
-        (joined.ends q end object k (sym (object_of-with_object m id new q ∙ at_other q id (Some new) (object_of m q) apart) ∙ at) e)
+        let number = number_of-with_object m id new in
+        let below =
+        joined.ends q end object k (sym (object_of-with_object m id new q ∙ at_other q id (Some new) (object_of m q) apart) ∙ at) e in
+        omega (arith, number, below)
   ];
 } where
   stays : (q : ObjId) → IsThere m q → IsThere (with_object m id new) q

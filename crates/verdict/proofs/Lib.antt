@@ -23,6 +23,7 @@ pub mod NotificationKeeps
 pub mod MessageTouches
 pub mod ArrivalKeeps
 pub mod MessageParts
+pub mod LendingKeeps
 pub mod MessageKeeps
 pub mod Runs
 pub mod Aparts
@@ -49,7 +50,10 @@ pub mod ControlSystem
 pub mod ControlUnsafe
 pub mod ReplyPolicy
 pub mod ReplySystem
+pub mod ReplyRun
 pub mod ReplyUnsafe
+pub mod LendingPolicy
+pub mod LendingUnsafe
 pub mod ContextPolicy
 pub mod ContextSystem
 pub mod ContextUnsafe
@@ -72,5 +76,6 @@ pub mod RemovalKeeps
 pub mod RemovalCalls
 pub mod WordsKeeps
 pub mod ThreadKeeps
+pub mod ContextTouches
 pub mod ContextKeeps
 pub mod SpaceKeeps

@@ -24,6 +24,7 @@ use Rattle.table.proofs.Lookups.{bound_at, filled_at, parent_at}
 use Rattle.verdict.specs.Confined.{IsConfined}
 use Rattle.verdict.specs.Rules.{Excess, Exceeds, capability, root, pair, binding, holding, recorded}
 use Rattle.verdict.specs.Sources.{of_table}
+use Rattle.verdict.proofs.BindingPlaces.{declared_bound}
 use Rattle.verdict.proofs.BootPlaces.{exceeds_same}
 use Rattle.verdict.proofs.Outsides.{confined_within}
 
@@ -123,7 +124,7 @@ module _ (t : Layout) (allowed : EdgeTest) (fits : IsTableWithin t allowed) wher
       let edge = same_edge _ _ parent.holder child.holder line.from line.to out.from out.to Derive line.labels (ap (λ (s : SlotRef). s.holder) at.value_is) (ap (λ (s : SlotRef). s.holder) at.key_is) out.source out.target in
       false≢true (sym out.missing ∙ sym edge ∙ line.derives)
   none_outside (binding thread context) out =
-      let at = bound_at t thread context out.bound in
+      let at = bound_at t thread context (declared_bound t thread context out.runs) in
       let line = element_at (IsBindingWithin t allowed) t.bindings at.at at.element fits.bindings at.here in
       let edge = same_edge _ _ thread context line.from line.to out.from out.to Runs line.labels at.key_is at.value_is out.source out.target in
       false≢true (sym out.missing ∙ sym edge ∙ line.runs)

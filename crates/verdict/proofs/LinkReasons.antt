@@ -1,10 +1,9 @@
 -- For each link of an object that gives authority a state that it takes out of a policy: the boot state of the small system, where the
 -- thread's place has another content.
-use Rattle.std.proofs.Common.{◌≡◌, ◌≢◌, ℕ, ◌⊎◌, inl, inr, true, false, ◌||◌, List, [], ◌∷◌, refl, sym, ap, subst, ◌∙◌, arith}
+use Rattle.std.proofs.Common.{◌≡◌, ◌≢◌, ℕ, inl, inr, true, false, [], ◌∷◌, refl, sym, ap, subst, ◌∙◌, arith}
 use Rattle.std.specs.Prelude.{Some, None, option_map}
 use Rattle.std.proofs.lemmas.Bool.{false≢true}
 use Rattle.std.proofs.lemmas.Option.{same_Some}
-use Rattle.base.specs.declared.edge.Edge.{Edge}
 use Rattle.base.specs.declared.ids.ObjId.{ObjId}
 use Rattle.base.specs.declared.kind.Kind.{Kind}
 use Rattle.base.specs.declared.kind.Kind.TheVariants as authority
@@ -13,7 +12,9 @@ use Rattle.machine.specs.declared.object.Object.TheVariants as o
 use Rattle.machine.specs.declared.object.ObjectKind.TheVariants as kind
 use Rattle.machine.specs.declared.object.Reply.{Reply}
 use Rattle.machine.specs.declared.object.ReplyState.TheVariants as reply
+use Rattle.machine.specs.declared.thread.Calling.{Calling}
 use Rattle.machine.specs.declared.thread.Inbox.TheVariants as inbox
+use Rattle.machine.specs.declared.thread.Lent.{Lent}
 use Rattle.machine.specs.declared.thread.Receiving.{Receiving}
 use Rattle.machine.specs.declared.thread.RunState.TheVariants as state
 use Rattle.machine.specs.declared.thread.Sending.{Sending}
@@ -163,6 +164,12 @@ sending =
 abbrev pub receiving : Receiving
 receiving = record { endpoint = id 2; reply = None; slot = None }
 
+abbrev pub calling : Calling
+calling = record { reply = id 2; lent = None }
+
+abbrev pub lent : Lent
+lent = record { context = id 0; borrower = id 2 }
+
 abbrev pub answer : Reply
 answer = record { address = 0x3100; state = reply.Free }
 
@@ -171,6 +178,10 @@ answer = record { address = 0x3100; state = reply.Free }
 no_link : (k : Kind) (end : ObjId) → links (o.Tcb thread) k end ≡ true → ⊥
 no_link authority.Runs end e = false≢true e
 no_link _ end e = false≢true e
+
+calls_link : (k : Kind) (end : ObjId) → links (o.Tcb (record thread { state = state.Called calling })) k end ≡ true → ⊥
+calls_link authority.Runs end e = false≢true e
+calls_link _ end e = false≢true e
 
 free_link : (k : Kind) (end : ObjId) → links (o.Reply answer) k end ≡ true → ⊥
 free_link authority.Holds end e = false≢true e
@@ -223,6 +234,11 @@ reply_not_node same = cc
 ready_within : IsConfined signalling (allows edges) (changed (o.Tcb thread))
 ready_within = lies_within (o.Tcb thread) (allows edges) not_node alike (λ k end to e labelled. absurd (no_link k end e))
 
+called_within : IsConfined signalling (allows edges) (changed (o.Tcb (record thread { state = state.Called calling })))
+called_within =
+    lies_within (o.Tcb (record thread { state = state.Called calling })) (allows edges) not_node alike
+    (λ k end to e labelled. absurd (calls_link k end e))
+
 free_within : IsConfined signalling (allows edges) (changed (o.Reply answer))
 free_within = lies_within (o.Reply answer) (allows edges) reply_not_node alike (λ k end to e labelled. absurd (free_link k end e))
 
@@ -256,6 +272,12 @@ takes_out lesser greater allowed k end to lies apart labelled linked lacks =
 pub runs_counts : TakesOut (o.Tcb thread) (o.Tcb (record thread { context = Some (id 0) }))
 unfolding allows
 runs_counts = takes_out _ _ (allows edges) authority.Runs (id 0) 1 ready_within node_apart label_node refl refl
+
+pub lent_counts :
+    TakesOut (o.Tcb (record thread { state = state.Called calling }))
+    (o.Tcb (record thread { state = state.Called (record calling { lent = Some lent }) }))
+unfolding allows
+lent_counts = takes_out _ _ (allows edges) authority.Runs (id 0) 1 called_within node_apart label_node refl refl
 
 pub send_counts : TakesOut (o.Tcb thread) (o.Tcb (record thread { state = state.Sending sending }))
 unfolding allows

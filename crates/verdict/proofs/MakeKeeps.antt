@@ -149,6 +149,7 @@ module _
         address = refl;
         end = refl;
         links = λ end k e. cc;
+        lent = λ context thread e lends. cc;
         share = λ before after e. cc;
       })
       (full t allowed a m m1 source.id may.label may.labelled (modifies authority.Control refl may.controls))

@@ -2,7 +2,7 @@
 -- may use so, and whom a message or an answer reaches waits there by a recorded edge.
 use Rattle.std.proofs.Common.{◌≡◌, ◌≢◌, ℕ, ◌⊎◌, inl, inr, Bool, true, false, ◌&&◌, List, Option, Some, None, refl, sym, ap, subst}
 use Rattle.std.proofs.Common.{◌∙◌}
-use Rattle.std.specs.Prelude.{if◌then◌else◌}
+use Rattle.std.specs.Prelude.{if◌then◌else◌, is_ok}
 use Rattle.std.proofs.lemmas.Bool.{and_from, and_parts, false≢true}
 use Rattle.base.specs.declared.ids.ObjId.{ObjId}
 use Rattle.base.specs.declared.kind.Kind.{Kind}
@@ -27,38 +27,42 @@ use Rattle.machine.specs.Layout.{Layout}
 use Rattle.machine.specs.Machine.{Machine, object_of, same_id}
 use Rattle.machine.specs.Releasing.{given, ready, with_blocked, with_given, with_named}
 use Rattle.machine.specs.Releasing.{with_ready}
-use Rattle.machine.specs.Step.Deliver.{answer_through, arrival_of, delivered, linked, sending_by, sent, with_arrival}
+use Rattle.machine.specs.Step.Deliver.{answer_through, arrival_of, delivered, linked, message_of, sending_by, sent, with_arrival}
 use Rattle.machine.specs.Step.Receive.{awaiting_message, with_reply_ended}
+use Rattle.machine.specs.Step.Reply.{with_returned}
+use Rattle.machine.specs.Step.Send.{called_through}
 use Rattle.machine.specs.WellFormed.{IsAlike, IsCallingThrough, IsReceivingWith, IsThread, IsWellFormed, WaitsAt}
 use Rattle.machine.proofs.Admission.{IsCaller}
 use Rattle.machine.proofs.Arrival.{arrival_same}
 use Rattle.machine.proofs.EndpointRow.{IsEndOpen, IsReceiver, IsSender}
 use Rattle.machine.proofs.FetchRow.{FetchDone}
 use Rattle.machine.proofs.HeldThreads.{calling_names}
-use Rattle.machine.proofs.Idle.{idle_names, idle_waits}
 use Rattle.machine.proofs.Ids.{itself}
 use Rattle.machine.proofs.Joins.{names_one}
 use Rattle.machine.proofs.Leaving.{Names}
+use Rattle.machine.proofs.Lending.{returned_there}
 use Rattle.machine.proofs.LookUps.{one_id}
 use Rattle.machine.proofs.MessageRows.{answers_through, caller_apart, caller_idle, delivered_formed}
-use Rattle.machine.proofs.MessageRows.{delivered_free, delivered_other, received_arrived_formed}
+use Rattle.machine.proofs.MessageRows.{delivered_free, delivered_other, delivered_there, received_arrived_formed}
 use Rattle.machine.proofs.MessageRows.{received_arrived_free, received_caller, received_ended_formed, received_endpoint}
 use Rattle.machine.proofs.MessageRows.{received_free, received_sender}
 use Rattle.machine.proofs.ReceiveRow.{ReceiveDone}
 use Rattle.machine.proofs.ReplyRow.{Answers, ReplyDone}
+use Rattle.machine.proofs.RunsLinks.{named_so}
 use Rattle.machine.proofs.SendRow.{EndpointCallDone, SendDone}
 use Rattle.policy.specs.Closed.{IsClosed, caller, server}
 use Rattle.policy.specs.Domain.{EdgeTest}
 use Rattle.policy.specs.Full.{IsFull}
-use Rattle.policy.specs.Full.IsFull.{modifies, own, receives, replies}
+use Rattle.policy.specs.Full.IsFull.{modifies, receives, replies, sends}
 use Rattle.policy.specs.Full.IsFull.{links as links_to}
 use Rattle.policy.specs.Take.{MayTake}
 use Rattle.verdict.specs.Invariant.{IsHeld, IsSound}
 use Rattle.verdict.proofs.ArrivalKeeps.{arrival_keeps}
 use Rattle.verdict.proofs.Held.{held_of}
 use Rattle.verdict.proofs.Keeps.{Keeps, keeps_keeps, unchanged}
+use Rattle.verdict.proofs.LendingKeeps.{called_through_keeps, returned_keeps}
 use Rattle.verdict.proofs.MessageParts.{IsReached, answers_allowed, at_reached, blocked_beside, deliver_keeps, end_reached}
-use Rattle.verdict.proofs.MessageParts.{halt_keeps, holds_edge, label_kept, link_keeps, named_so, receiver_receives}
+use Rattle.verdict.proofs.MessageParts.{halt_keeps, holds_edge, label_kept, link_keeps, receiver_receives}
 use Rattle.verdict.proofs.MessageParts.{receiver_replies, reply_reached, same_kept, sender_calls, sender_grants, sender_sends}
 use Rattle.verdict.proofs.MessageParts.{thread_label}
 use Rattle.verdict.proofs.MessageTouches.{blocked_keeps, emptied_keeps, holding_keeps, released_keeps, sound_after}
@@ -143,7 +147,7 @@ module _
     wait_keeps =
         blocked_keeps t allowed m event a m before thread is.thread open_to.id (state.Sending sending)
         (o.Endpoint open_to.endpoint) is.there
-        (caller_idle m thread is) mine open_to.there (not_thread m open_to.id open_to.endpoint is.thread open_to.there is.there)
+        (caller_idle m thread is) refl mine open_to.there (not_thread m open_to.id open_to.endpoint is.thread open_to.there is.there)
         to_end.label to_end.labelled (modifies authority.Send refl may_send) sending_links
 
     -- or who waits to receive gets it
@@ -190,21 +194,34 @@ module _
                 (caller b.0 to_end.label may_reply (may_call (answers_allowed sending receiving.reply id through)) may_receive),
           )
 
-      called_message_keeps : Makes m (linked after thread (answer_through sending receiving.reply))
+      -- and the receiver may run on what the caller runs on, where the call may be answered
+      called_message_keeps : Makes m (called_through after thread receiver (answer_through sending receiving.reply))
       called_message_keeps =
-          keeps_keeps t allowed m event a m after (linked after thread (answer_through sending receiving.reply)) before
-          message_keeps
-          (link_keeps t allowed m event a after after_sound thread is.thread after_there a
+          let b = thread_label t allowed m event a m sound receiver waits.tcb waits.there in
+          let receives =
+          receiver_receives t allowed m event a m sound open_to.id receiver receiving waits b.0 b.1 to_end.label to_end.labelled in
+          let got = delivered_there m thread sending open_to.id receiver receiving sound.well_formed waits in
+          keeps_keeps t allowed m event a m after (called_through after thread receiver (answer_through sending receiving.reply))
+          before message_keeps
+          (called_through_keeps t allowed m event a after after_sound thread receiver is.thread
+          (given (message_of sending (is_ok (arrival_of m thread sending receiver receiving.slot))) waits.tcb) after_there
+          (caller_idle m thread is) got (caller_apart m thread open_to.id receiver receiving is waits)
           (label_kept t allowed m event a m after thread (o.Tcb is.thread) (o.Tcb is.thread) message_keeps is.there after_there
           ∙ mine)
-          (own refl)
-          (λ q to names target. absurd (idle_names is.thread.state (caller_idle m thread is) q names))
-          (λ q to stays target. absurd (idle_waits is.thread.state (caller_idle m thread is) q stays))
-          (answer_through sending receiving.reply)
+          b.0 (label_kept t allowed m event a m after receiver (o.Tcb waits.tcb) (o.Tcb _) message_keeps waits.there got ∙ b.1)
+          (sends to_end.label may_send receives) (answer_through sending receiving.reply)
           (λ id through.
           delivered_free m thread sending open_to.id receiver receiving sound.well_formed waits id
           (answers_through sending receiving.reply id through))
-          answers_within)
+          answers_within
+          (λ id s through runs.
+          closed.lent_runs b.0 s (record {
+            lender = a;
+            endpoint = to_end.label;
+            calls = may_call (answers_allowed sending receiving.reply id through);
+            receives = receives;
+            runs = runs;
+          })))
 
   module _ (address : ℕ) (words : List ℕ) (capability : Option ℕ) where
     pub send_keeps : SendDone m thread address words capability next → Makes m next
@@ -224,8 +241,9 @@ module _
       by_first :
           ((receiver : ObjId) × (receiving : Receiving) × IsReceiver m done.open_to.id receiver receiving
           × (next
-          ≡ linked (delivered m thread (sending_by done.open_to.id done.open_to.end true words capability) receiver receiving)
-          thread
+          ≡ called_through
+          (delivered m thread (sending_by done.open_to.id done.open_to.end true words capability) receiver receiving) thread
+          receiver
           (answer_through (sending_by done.open_to.id done.open_to.end true words capability) receiving.reply)))
           ⊎ (IsAlike m done.open_to.id (state.Sending (sending_by done.open_to.id done.open_to.end true words capability))
           × (next ≡ with_blocked m thread done.open_to.id
@@ -392,7 +410,7 @@ module _
     blocks =
         blocked_keeps t allowed m event a ended ends.held thread is.thread id (state.Receiving receiving)
         (o.Endpoint done.open_to.endpoint)
-        caller_there (caller_idle m thread is) caller_label end_there
+        caller_there (caller_idle m thread is) refl caller_label end_there
         (not_thread ended id done.open_to.endpoint is.thread end_there caller_there) from_end.label end_label
         (modifies authority.Receive refl may_receive) receiving_links
 
@@ -450,22 +468,31 @@ module _
     answer_keeps :
         (called : ObjId) (at : ℕ) (message : Message)
         → object_of m done.id ≡ Some (o.Reply (record { address = at; state = reply.Called called }))
-        → Makes m (with_given m called message)
+        → Makes m (with_given (with_returned m thread called) called message)
     answer_keeps called at message there =
         let w = sound.well_formed.links.reply_called done.id called at there in
         let l = thread_label t allowed m event a m sound called w.0 w.1 in
-        released_keeps t allowed m event a m before called w.0 (given message) w.1 refl refl tt l.0 l.1
-        (replies to_reply.label may_reply
+        let has =
+        replies to_reply.label may_reply
         (holds_edge t allowed m event a m sound done.id called (record { address = at; state = reply.Called called })
         to_reply.label l.0 there
-        (itself called) to_reply.labelled l.1))
+        (itself called) to_reply.labelled l.1) in
+        let mid = with_returned m thread called in
+        let back = returned_keeps t allowed m event a m sound thread called is.thread w.0 is.there mine w.1 l.0 l.1 has in
+        let link = returned_there m thread called w.0 sound.well_formed w.1 in
+        keeps_keeps t allowed m event a m mid (with_given mid called message) before back
+        (released_keeps t allowed m event a mid back.held called (record w.0 { context = link.0 }) (given message) link.1 refl refl
+        tt l.0
+        (label_kept t allowed m event a m mid called (o.Tcb w.0) (o.Tcb (record w.0 { context = link.0 })) back w.1 link.1 ∙ l.1)
+        has
         (λ q to names target.
         let same = names_one w.0.state done.id q (calling_names w.0.state done.id w.2) names in
-        let to_is = at_reached t allowed m event a m sound done.id q to_reply.label to to_reply.labelled same target in
+        let to_is =
+        same_kept t allowed m event a m mid q to_reply.label to back (ap (label_of t m) (sym same) ∙ to_reply.labelled) target in
         inl (modifies authority.Reply refl (ap (allowed a authority.Reply) to_is ∙ may_reply)))
-        (λ q to waits target. absurd (calling_waits w.0.state done.id q w.2 waits))
+        (λ q to waits target. absurd (calling_waits w.0.state done.id q w.2 waits)))
 
-    by_state : Answers m done.id words next → Makes m next
+    by_state : Answers m thread done.id words next → Makes m next
     by_state (inl w) = becomes _ w.3 (answer_keeps w.0 w.1 _ w.2)
     by_state (inr same) = becomes m same (unchanged t allowed m event a m before)
 

@@ -1,10 +1,10 @@
 -- What the parts of a message's way keep: a receiver gets it, who called waits for the answer, and the thread of a reply is
 -- halted. All that these take is what a label has over an endpoint or a reply that is found, and the recorded edges of the
 -- threads there.
-use Rattle.std.proofs.Common.{◌≡◌, ◌≢◌, ℕ, ◌⊎◌, inl, inr, Bool, true, false, ◌&&◌, List, Option, Some, None, refl, sym, ap, subst}
-use Rattle.std.proofs.Common.{◌∙◌}
+use Rattle.std.proofs.Common.{◌≡◌, ◌≢◌, ℕ, ◌<◌, ◌⊎◌, inl, inr, Bool, true, false, ◌&&◌, List, Option, Some, None, option_map, refl, sym, ap}
+use Rattle.std.proofs.Common.{subst, ◌∙◌, arith}
 use Rattle.std.specs.Prelude.{if◌then◌else◌, is_ok}
-use Rattle.std.proofs.lemmas.Bool.{and_from, false≢true}
+use Rattle.std.proofs.lemmas.Bool.{and_from}
 use Rattle.std.proofs.lemmas.Option.{none-some, same_Some}
 use Rattle.base.specs.declared.ids.ObjId.{ObjId}
 use Rattle.base.specs.declared.ids.SlotRef.{SlotRef}
@@ -21,6 +21,7 @@ use Rattle.machine.specs.declared.object.Object.{Object}
 use Rattle.machine.specs.declared.object.Object.TheVariants as o
 use Rattle.machine.specs.declared.object.Reply.{Reply}
 use Rattle.machine.specs.declared.object.ReplyState.TheVariants as reply
+use Rattle.machine.specs.declared.thread.Lent.{Lent}
 use Rattle.machine.specs.declared.thread.Message.{Message}
 use Rattle.machine.specs.declared.thread.Receiving.{Receiving}
 use Rattle.machine.specs.declared.thread.RunState.{RunState}
@@ -34,7 +35,7 @@ use Rattle.machine.specs.Changes.{with_tcb, with_waiting}
 use Rattle.machine.specs.Finalising.{halted}
 use Rattle.machine.specs.Layout.{Layout}
 use Rattle.machine.specs.Machine.{Machine, object_of, queue_of, same_id}
-use Rattle.machine.specs.Releasing.{given, with_blocked, with_given, with_halted, with_holder_halted}
+use Rattle.machine.specs.Releasing.{given, with_blocked, with_called, with_given, with_halted, with_holder_halted}
 use Rattle.machine.specs.Step.Deliver.{answer_through, arrival_of, delivered, linked, message_of, with_arrival}
 use Rattle.machine.specs.WellFormed.{IsCallingThrough, IsFree, IsReceivingWith, IsThread, WaitsAt}
 use Rattle.machine.proofs.Arrival.{arrival_same}
@@ -44,7 +45,7 @@ use Rattle.machine.proofs.Finding.{FindsCap}
 use Rattle.machine.proofs.FoundObjects.{FindsContext, FindsFrame, FindsThread}
 use Rattle.machine.proofs.Ids.{at_other, itself}
 use Rattle.machine.proofs.Leaving.{Names}
-use Rattle.machine.proofs.LookUps.{object_of-with_object, object_of-with_queue, one_id}
+use Rattle.machine.proofs.LookUps.{object_of-with_object, object_of-with_queue}
 use Rattle.machine.proofs.MessageRows.{arrived_there}
 use Rattle.machine.proofs.MessageRows.{delivered_is, halted_between}
 use Rattle.policy.specs.Closed.{IsClosed}
@@ -61,10 +62,6 @@ use Rattle.verdict.proofs.Keeps.{Keeps, keeps_keeps, unchanged}
 use Rattle.verdict.proofs.MessageTouches.{called_keeps, released_keeps}
 use Rattle.verdict.proofs.ObjectLabels.{label_stays, labelled_there, same_label}
 use Rattle.verdict.proofs.Reach.{found_in_reach}
-
-pub named_so : (named : Option ObjId) (id : ObjId) → names_reply named id ≡ true → named ≡ Some id
-named_so None id e = absurd (false≢true e)
-named_so (Some other) id e = ap (λ i. Some i) (one_id other id e)
 
 -- an answer goes through a reply only where the sender may be answered
 pub answers_allowed :
@@ -289,10 +286,37 @@ module _ (t : Layout) (allowed : EdgeTest) (began : Machine) (event : Event) (a 
         (names : (id : ObjId) (to : ℕ) → Names tcb.state id → label_of t m id ≡ Some to → IsFull allowed a to)
         (waits : (id : ObjId) (to : ℕ) → WaitsAt tcb.state id → label_of t m id ≡ Some to
         → IsFull allowed a to ⊎ MayTake allowed a to) where
-      halts : Does m (with_halted m thread)
+      pub halts : Does m (with_halted m thread)
       halts =
           released_keeps t allowed began event a m held thread tcb halted there refl refl tt l labelled has
           (λ id to named target. inl (names id to named target)) waits
+
+      given_out : (context : ObjId) → tcb.context ≡ Some context → context.0 < (with_halted m thread).next
+      given_out context runs =
+          let its = sound.well_formed.links.thread_context thread context tcb there runs in
+          let below = held.numbered context (o.Context its.0) its.1 in
+          let grows = halts.grows in
+          omega (arith, below, grows)
+
+      -- it waits through a reply, and lends at most the context that it runs on
+      pub waits_keep :
+          (id : ObjId) (lent : Option Lent) → IsFree m id
+          → ((context : ObjId) → option_map (λ (l : Lent). l.context) lent ≡ Some context → tcb.context ≡ Some context)
+          → ((r : ℕ) → label_of t m id ≡ Some r → IsFull allowed a r × (allowed r authority.Holds l ≡ true))
+          → Does m (with_called (with_halted m thread) thread (record { reply = id; lent = lent }))
+      waits_keep id lent before lends may =
+          let next = with_halted m thread in
+          let between = halted_between m thread tcb sound.well_formed there in
+          let after = between.3 id before in
+          let was : Reply = record { address = before.0; state = reply.Free } in
+          let is : Reply = record { address = after.0; state = reply.Free } in
+          let r = sound.of_table.labelled id (o.Reply was) before.1 in
+          let allows = may r.0 r.1 in
+          keeps_keeps t allowed began event a m next (with_called next thread (record { reply = id; lent = lent })) held halts
+          (called_keeps t allowed began event a next halts.held thread (halted tcb) (record { reply = id; lent = lent }) is
+          between.1 between.2 (λ context loan. (lends context loan, given_out context (lends context loan))) after.1 l
+          (label_kept m next thread (o.Tcb tcb) (o.Tcb (halted tcb)) halts there between.1 ∙ labelled) has r.0
+          (label_kept m next id (o.Reply was) (o.Reply is) halts before.1 after.1 ∙ r.1) allows.0 allows.1)
 
       pub link_keeps :
           (through : Option ObjId) → ((id : ObjId) → through ≡ Some id → IsFree m id)
@@ -301,19 +325,7 @@ module _ (t : Layout) (allowed : EdgeTest) (began : Machine) (event : Event) (a 
           → Does m (linked m thread through)
       link_keeps None free may = halts
       link_keeps (Some id) free may =
-          let next = with_halted m thread in
-          let between = halted_between m thread tcb sound.well_formed there in
-          let before = free id refl in
-          let after = between.3 id before in
-          let was : Reply = record { address = before.0; state = reply.Free } in
-          let is : Reply = record { address = after.0; state = reply.Free } in
-          let r = sound.of_table.labelled id (o.Reply was) before.1 in
-          let allows = may id r.0 refl r.1 in
-          keeps_keeps t allowed began event a m next (linked m thread (Some id)) held halts
-          (called_keeps t allowed began event a next halts.held thread (halted tcb) (record { reply = id; lent = None }) is
-          between.1 between.2 after.1 l
-          (label_kept m next thread (o.Tcb tcb) (o.Tcb (halted tcb)) halts there between.1 ∙ labelled) has r.0
-          (label_kept m next id (o.Reply was) (o.Reply is) halts before.1 after.1 ∙ r.1) allows.0 allows.1)
+          waits_keep id None (free id refl) (λ context loan. absurd (none-some context loan)) (λ r. may id r refl)
 
     -- the thread that a reply holds is halted
     module _ (id : ObjId) (r : ℕ) (labelled : label_of t m id ≡ Some r) (may_reply : allowed a authority.Reply r ≡ true) where

@@ -1,6 +1,6 @@
 -- The changes by which threads, queues and replies are linked, and are so no more, keep what a part of a call keeps, where the
 -- labels of the objects that they touch allow it.
-use Rattle.std.proofs.Common.{◌≡◌, ◌≢◌, ℕ, ◌⊎◌, inl, inr, true, not, List, [], ◌∷◌, ◌++◌, refl, sym, ap, subst, ◌∙◌}
+use Rattle.std.proofs.Common.{◌≡◌, ◌≢◌, ℕ, ◌<◌, ◌⊎◌, inl, inr, true, not, List, [], ◌∷◌, ◌++◌, refl, sym, ap, subst, ◌∙◌}
 use Rattle.std.specs.Prelude.{Option, Some, None, cond}
 use Rattle.std.proofs.lemmas.Bool.{false≢true}
 use Rattle.std.proofs.lemmas.Option.{none-some, same_Some}
@@ -18,7 +18,7 @@ use Rattle.machine.specs.declared.thread.Inbox.TheVariants as inbox
 use Rattle.machine.specs.declared.thread.RunState.{RunState}
 use Rattle.machine.specs.declared.thread.RunState.TheVariants as state
 use Rattle.machine.specs.declared.thread.Tcb.{Tcb}
-use Rattle.machine.specs.Authority.{holds_thread, label_of, links, names_reply, state_links}
+use Rattle.machine.specs.Authority.{holds_thread, label_of, lent_of, links, state_links}
 use Rattle.machine.specs.Changes.{with_waiting, without_waiting}
 use Rattle.machine.specs.Layout.{Layout}
 use Rattle.machine.specs.Machine.{Machine, object_of, queue_of, same_id, with_object, with_queue}
@@ -29,6 +29,7 @@ use Rattle.machine.proofs.Ids.{at_itself, at_other, one_or_two}
 use Rattle.machine.proofs.Leaving.{Names, holding_is, released_there, tcb_is, without}
 use Rattle.machine.proofs.LookUps.{object_of-with_object, one_id}
 use Rattle.machine.proofs.LookUps.{object_of-with_queue, queue_of-with_queue, words_of-with_queue, cap_of-with_queue}
+use Rattle.machine.proofs.RunsLinks.{runs_also, runs_bound, runs_by}
 use Rattle.policy.specs.Domain.{EdgeTest}
 use Rattle.policy.specs.Full.{IsFull}
 use Rattle.policy.specs.Full.IsFull.{own}
@@ -107,17 +108,23 @@ emptied_is :
 unfolding emptied
 emptied_is m thread tcb there = rw there (tcb_is m thread tcb (record tcb { inbox = inbox.Empty }) there)
 
--- a thread that waits at nothing and names nothing is linked with its context alone
+-- a thread that waits at nothing and names nothing is linked with its context alone, and lends none
 
 idle_links : (run : RunState) (k : Kind) (end : ObjId) → IsIdle run → state_links run k end ≡ true → ⊥
 idle_links state.Ready k end idle e = false≢true e
 idle_links state.Inactive k end idle e = false≢true e
 idle_links _ k end idle e = absurd idle
 
+idle_lends : (run : RunState) (context : ObjId) → IsIdle run → lent_of run ≡ Some context → ⊥
+idle_lends state.Ready context idle lent = none-some context lent
+idle_lends state.Inactive context idle lent = none-some context lent
+idle_lends _ context idle lent = absurd idle
+
 links_left :
     (old new : Tcb) → new.context ≡ old.context → IsIdle new.state → (k : Kind) (end : ObjId) → links (o.Tcb new) k end ≡ true
     → links (o.Tcb old) k end ≡ true
-links_left old new same idle authority.Runs end e = ap (λ context. names_reply context end) (sym same) ∙ e
+links_left old new same idle authority.Runs end e =
+    runs_also new old end (λ bound. sym same ∙ bound) (λ lent. absurd (idle_lends new.state end idle lent)) e
 links_left old new same idle k end e = absurd (idle_links new.state k end idle e)
 
 -- a label has full authority over an object's, or may take from it, and the object has a queue, as each that is there
@@ -336,20 +343,21 @@ module _
       let label_kept = same_label t m mid thread (at ∙ sym there) in
       let set =
       set_keeps t allowed began event a mid thread left.held (o.Tcb tcb) (o.Tcb new)
-      (tcb_fits t allowed began event mid thread tcb new at address (λ end k e. inl (links_left tcb new context idle k end e)))
+      (tcb_fits t allowed began event mid thread tcb new at address (λ end k e. inl (links_left tcb new context idle k end e))
+      (λ end lent. absurd (idle_lends new.state end idle lent)))
       (full t allowed a mid _ thread label (label_kept ∙ labelled) has) in
       subst (λ (n : Machine). Keeps t allowed began event a m n)
       (sym (released_there m thread tcb change there ∙ tcb_is mid thread tcb new at))
       (keeps_keeps t allowed began event a m mid (with_object mid thread (o.Tcb new)) held left set)
 
-  -- a thread of the label waits at an object
+  -- a thread of the label waits at an object, and lends nothing
   pub blocked_keeps :
       (caller : ObjId) (tcb : Tcb) (id : ObjId) (run : RunState) (object : Object) → IsThread m caller tcb → IsIdle tcb.state
-      → label_of t m caller ≡ Some a → object_of m id ≡ Some object → id ≢ caller
+      → lent_of run ≡ None → label_of t m caller ≡ Some a → object_of m id ≡ Some object → id ≢ caller
       → (label : ℕ) → label_of t m id ≡ Some label → IsFull allowed a label
       → ((k : Kind) (end : ObjId) (to : ℕ) → state_links run k end ≡ true → label_of t m end ≡ Some to → allowed a k to ≡ true)
       → Keeps t allowed began event a m (with_blocked m caller id run)
-  blocked_keeps caller tcb id run object there idle mine at apart label labelled has within =
+  blocked_keeps caller tcb id run object there idle alone mine at apart label labelled has within =
       subst (λ (n : Machine). Keeps t allowed began event a m n) (sym (blocked_is m caller id tcb run there))
       (keeps_keeps t allowed began event a m mid (with_waiting mid id caller) held set (by_queue (joins_or_stays mid id caller)))
     where
@@ -363,14 +371,16 @@ module _
           (end : ObjId) (k : Kind) → links (o.Tcb blocked) k end ≡ true
           → (links (o.Tcb tcb) k end ≡ true)
           ⊎ ((from to : ℕ) → label_of t m caller ≡ Some from → label_of t m end ≡ Some to → allowed from k to ≡ true)
-      links_within end authority.Runs e = inl e
+      links_within end authority.Runs e =
+          inl (runs_also blocked tcb end (λ bound. bound) (λ lent. absurd (none-some end (sym alone ∙ lent))) e)
       links_within end k e = inr (λ from to source target.
           ap (λ x. allowed x k to) (same_Some from a (sym source ∙ mine)) ∙ within k end to e target)
 
       set : Keeps t allowed began event a m mid
       set =
           set_keeps t allowed began event a m caller held (o.Tcb tcb) (o.Tcb blocked)
-          (tcb_fits t allowed began event m caller tcb blocked there refl links_within)
+          (tcb_fits t allowed began event m caller tcb blocked there refl links_within
+          (λ context lent. absurd (none-some context (sym alone ∙ lent))))
           (full t allowed a m mid caller a mine (own refl))
 
       same : object_of mid id ≡ object_of m id
@@ -387,20 +397,22 @@ module _
           subst (λ (n : Machine). Keeps t allowed began event a mid n) (sym nowhere)
           (unchanged t allowed began event a mid set.held)
 
-  -- a thread waits for the answer to its call, through a reply that holds it
+  -- a thread waits for the answer to its call, through a reply that holds it, and lends at most the context that it runs on
   pub called_keeps :
       (thread : ObjId) (tcb : Tcb) (calling : Calling) (old : Reply) → IsThread m thread tcb → IsIdle tcb.state
+      → ((context : ObjId) → lent_of (state.Called calling) ≡ Some context → (tcb.context ≡ Some context) × (context.0 < m.next))
       → object_of m calling.reply ≡ Some (o.Reply old)
       → (label : ℕ) → label_of t m thread ≡ Some label → IsFull allowed a label
       → (holder : ℕ) → label_of t m calling.reply ≡ Some holder → IsFull allowed a holder
       → allowed holder authority.Holds label ≡ true → Keeps t allowed began event a m (with_called m thread calling)
-  called_keeps thread tcb calling old there idle at label labelled has holder reply_labelled reply_has holds =
+  called_keeps thread tcb calling old there idle lends at label labelled has holder reply_labelled reply_has holds =
       let id = calling.reply in
       let calls : Tcb = record tcb { state = state.Called calling } in
       let mid = with_object m thread (o.Tcb calls) in
       let set =
       set_keeps t allowed began event a m thread held (o.Tcb tcb) (o.Tcb calls)
-      (tcb_fits t allowed began event m thread tcb calls there refl (λ end k e. inl (links_kept k end e)))
+      (tcb_fits t allowed began event m thread tcb calls there refl (λ end k e. inl (links_kept k end e))
+      (λ context lent. (lends context lent).1))
       (full t allowed a m mid thread label labelled has) in
       let apart : id ≢ thread = λ same. apart_by_kind m id thread old tcb at there (sym same) in
       let same : object_of mid id ≡ object_of m id =
@@ -420,7 +432,10 @@ module _
       links_kept :
           (k : Kind) (end : ObjId) → links (o.Tcb (record tcb { state = state.Called calling })) k end ≡ true
           → links (o.Tcb tcb) k end ≡ true
-      links_kept authority.Runs end e = e
+      links_kept authority.Runs end e = elim (runs_by (record tcb { state = state.Called calling }) end e) [
+        | inl bound ↦ runs_bound tcb end bound
+        | inr lent ↦ runs_bound tcb end (lends end lent).0
+      ]
       links_kept _ end e = absurd (false≢true e)
 
   -- a thread's inbox becomes empty
@@ -431,7 +446,8 @@ module _
       let new : Tcb = record tcb { inbox = inbox.Empty } in
       subst (λ (n : Machine). Keeps t allowed began event a m n) (sym (emptied_is m caller tcb there))
       (set_keeps t allowed began event a m caller held (o.Tcb tcb) (o.Tcb new)
-      (tcb_fits t allowed began event m caller tcb new there refl (λ end k e. inl (links_kept k end e)))
+      (tcb_fits t allowed began event m caller tcb new there refl (λ end k e. inl (links_kept k end e))
+      (λ context lent. held.of_table.lent caller context tcb there lent))
       (full t allowed a m (with_object m caller (o.Tcb new)) caller a mine (own refl)))
     where
       links_kept :

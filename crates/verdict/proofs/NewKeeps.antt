@@ -1,14 +1,13 @@
 -- A new object keeps what a part of a call keeps: it lies where the label is one on which the caller's has full authority, and links to
 -- nothing.
-use Rattle.std.proofs.Common.{◌≡◌, ◌≢◌, ℕ, ◌+◌, ◌≤◌, ◌<◌, ◌⊎◌, inl, inr, true, false, List, [], length, nat_lt, Option, Some, None, option_map, option_and_then}
-use Rattle.std.proofs.Common.{replicate, slice_get, if◌then◌else◌, refl, sym, ap, subst, ◌∙◌, arith}
+use Rattle.std.proofs.Common.{◌≡◌, ◌≢◌, ℕ, ◌+◌, ◌≤◌, ◌<◌, ◌⊎◌, inl, inr, true, false, [], length, nat_lt, Option, Some, None, option_map, option_and_then}
+use Rattle.std.proofs.Common.{replicate, if◌then◌else◌, refl, sym, ap, ◌∙◌, arith}
 use Rattle.std.proofs.lemmas.Bool.{false≢true, le-ltb}
 use Rattle.std.proofs.lemmas.Option.{none-some, same_Some, slice_get_within}
 use Rattle.base.specs.declared.ids.ObjId.{ObjId}
-use Rattle.base.specs.declared.ids.SlotRef.{SlotRef}
 use Rattle.base.specs.declared.kind.Kind.{Kind}
+use Rattle.base.specs.declared.kind.Kind.TheVariants as authority
 use Rattle.machine.specs.declared.call.Event.{Event}
-use Rattle.machine.specs.declared.cap.Cap.{Cap}
 use Rattle.machine.specs.declared.layout.Initial.{Initial}
 use Rattle.machine.specs.declared.object.Context.{Context}
 use Rattle.machine.specs.declared.object.Object.{Object}
@@ -17,14 +16,14 @@ use Rattle.machine.specs.declared.object.Untyped.{Untyped}
 use Rattle.machine.specs.Authority.{label_at, label_of, links}
 use Rattle.machine.specs.Authority.HasAuthority.{by_cap, by_root, by_pair, by_link}
 use Rattle.machine.specs.Layout.{Layout, declared_label, initial_of}
-use Rattle.machine.specs.Machine.{Machine, object_of, queue_of, words_of, cap_of, parent_of, with_new}
+use Rattle.machine.specs.Machine.{Machine, object_of, queue_of, words_of, with_new}
 use Rattle.machine.specs.Objects.{address_of, end_of, kind_of_object, word_count}
 use Rattle.machine.specs.WellFormed.{kind_of}
 use Rattle.machine.proofs.Ids.{at_itself, at_other, one_or_two}
 use Rattle.machine.proofs.LookUps.{cap_of-with_new, object_of-with_new, parent_of-with_new, queue_of-with_new, words_of-with_new}
+use Rattle.machine.proofs.RunsLinks.{runs_lent}
 use Rattle.policy.specs.Domain.{EdgeTest}
 use Rattle.policy.specs.Full.{IsFull}
-use Rattle.verdict.specs.Budgets.{MayConfigure}
 use Rattle.verdict.specs.Confined.{IsConfined}
 use Rattle.verdict.specs.Invariant.{IsBare, IsHeld}
 use Rattle.verdict.specs.OfTable.{IsOfTable}
@@ -63,12 +62,12 @@ module _
   elsewhere q apart = object_of-with_new m object q ∙ at_other q id (Some object) (object_of m q) apart
 
   -- no object has the number yet
-  there_apart : (q : ObjId) (x : Object) → object_of m q ≡ Some x → q ≢ id
+  below_apart : (q : ObjId) → q.0 < m.next → q ≢ id
   unfolding id
-  there_apart q x at same =
-      let below = held.numbered q x at in
-      let number : q.0 ≡ m.next = ap (λ (i : ObjId). i.0) same in
-      omega (arith, below, number)
+  below_apart q below same = let number : q.0 ≡ m.next = ap (λ (i : ObjId). i.0) same in omega (arith, below, number)
+
+  there_apart : (q : ObjId) (x : Object) → object_of m q ≡ Some x → q ≢ id
+  there_apart q x at = below_apart q (held.numbered q x at)
 
   absent : object_of m id ≡ None
   absent = by (object_of m id) refl where
@@ -129,9 +128,9 @@ module _
   confined from k to (by_link q end x at linked source target) = by (was_or_made q x at) where
     by : (object_of m q ≡ Some x) ⊎ ((q ≡ id) × (x ≡ object)) → allowed from k to ≡ true
     by (inl was) =
-        let there = joined.ends q end x k was linked in
+        let end_same = elsewhere end (below_apart end (joined.ends q end x k was linked)) in
         held.confined from k to
-        (by_link q end x was linked (sym (label_same q x was) ∙ source) (sym (label_same end there.0 there.1) ∙ target))
+        (by_link q end x was linked (sym (label_same q x was) ∙ source) (sym (same_label t m next end end_same) ∙ target))
     by (inr new) =
         absurd (false≢true (sym (made.alone k end) ∙ ap (λ (y : Object). links y k end) (sym new.1) ∙ linked))
 
@@ -162,6 +161,14 @@ module _
       | inr new ↦
           made.ranged memory address (sym new.1) from below
           ∙ sym label_here ∙ ap (label_of t next) (sym new.0) ∙ labelled
+    ];
+    lent = λ q context thread at lends. elim (was_or_made q (o.Tcb thread) at) [
+      | inl was ↦ let below = held.of_table.lent q context thread was lends in omega (arith, below, more)
+      | inr new ↦
+          absurd
+          (false≢true
+          (sym (made.alone authority.Runs context) ∙ ap (λ (y : Object). links y authority.Runs context) (sym new.1)
+          ∙ runs_lent thread context lends))
     ];
     counted = let counted = held.of_table.counted in omega (arith, counted, more);
   }

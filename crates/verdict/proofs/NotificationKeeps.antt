@@ -1,7 +1,7 @@
 -- Signal, Poll and Wait within a caller's authority: the notification that is found is one that its label may notify or await, and
 -- who waits there awaits it by a recorded edge.
 use Rattle.std.proofs.Common.{◌≡◌, ◌≢◌, ℕ, ◌⊎◌, inl, inr, Bool, true, [], ◌∷◌, ◌++◌, Option, Some, None, option_map, false, refl, sym, ap, subst, ◌∙◌}
-use Rattle.std.proofs.lemmas.Option.{same_Some}
+use Rattle.std.proofs.lemmas.Option.{none-some, same_Some}
 use Rattle.base.specs.declared.ids.ObjId.{ObjId}
 use Rattle.base.specs.declared.kind.Kind.{Kind}
 use Rattle.base.specs.declared.kind.Kind.TheVariants as authority
@@ -28,6 +28,7 @@ use Rattle.machine.proofs.LookUps.{object_of-with_object, object_of-with_queue, 
 use Rattle.machine.proofs.NotificationRow.{IsOpen}
 use Rattle.machine.proofs.PollRow.{PollDone}
 use Rattle.machine.proofs.Queues.{first_in}
+use Rattle.machine.proofs.RunsLinks.{runs_also}
 use Rattle.machine.proofs.SignalRow.{SignalDone, Wakes, marked, roused}
 use Rattle.machine.proofs.WaitRow.{Blocks, WaitDone, awaiting}
 use Rattle.policy.specs.Domain.{EdgeTest, SubjectsAgree}
@@ -49,7 +50,8 @@ waits_by_kind _ id at fits = absurd fits
 
 -- a thread that is roused keeps its context, and no other link
 roused_links : (old : Tcb) (word : ℕ) (k : Kind) (end : ObjId) → links (o.Tcb (roused old word)) k end ≡ true → links (o.Tcb old) k end ≡ true
-roused_links old word authority.Runs end e = e
+roused_links old word authority.Runs end e =
+    runs_also (roused old word) old end (λ bound. bound) (λ lent. absurd (none-some end lent)) e
 roused_links old word _ end e = cc
 
 module _
@@ -102,7 +104,7 @@ module _
       let roused_keeps =
       set_keeps t allowed m event a mid wakes.first taken.held (o.Tcb wakes.thread) (o.Tcb (roused wakes.thread badge))
       (tcb_fits t allowed m event mid wakes.first wakes.thread (roused wakes.thread badge) at refl
-      (λ end k e. inl (roused_links wakes.thread badge k end e)))
+      (λ end k e. inl (roused_links wakes.thread badge k end e)) (λ context lent. absurd (none-some context lent)))
       (full t allowed a mid _ wakes.first source.0 label_at (notifies label edge (awaits source.0 source.1))) in
       subst (λ (after : Machine). Keeps t allowed m event a m after) (sym wakes.changes)
       (keeps_keeps t allowed m event a m mid _ held taken roused_keeps)
@@ -168,7 +170,8 @@ module _
         let mid = with_object m caller (o.Tcb blocked) in
         let set =
         set_keeps t allowed m event a m caller held (o.Tcb blocks.thread) (o.Tcb blocked)
-        (tcb_fits t allowed m event m caller blocks.thread blocked blocks.there refl links_kept)
+        (tcb_fits t allowed m event m caller blocks.thread blocked blocks.there refl links_kept
+        (λ context lent. absurd (none-some context lent)))
         (full t allowed a m mid caller a labelled (own refl)) in
         let apart : id ≢ caller = λ same. same_kinds (sym there ∙ ap (object_of m) same ∙ blocks.there) in
         let same : object_of mid id ≡ object_of m id =
@@ -185,7 +188,9 @@ module _
             (end : ObjId) (k : Kind) → links (o.Tcb (awaiting blocks.thread id)) k end ≡ true
             → (links (o.Tcb blocks.thread) k end ≡ true)
             ⊎ ((from to : ℕ) → label_of t m caller ≡ Some from → label_of t m end ≡ Some to → allowed from k to ≡ true)
-        links_kept end authority.Runs e = inl e
+        links_kept end authority.Runs e =
+            inl
+            (runs_also (awaiting blocks.thread id) blocks.thread end (λ bound. bound) (λ lent. absurd (none-some end lent)) e)
         links_kept end authority.Await e = inr (λ from to source target.
             let from_is : from ≡ a = same_Some from a (sym source ∙ labelled) in
             let end_is : id ≡ end = one_id id end e in

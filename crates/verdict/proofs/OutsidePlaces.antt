@@ -1,8 +1,9 @@
 -- Where a machine's authority lies outside by each rule, at an object and under it: in its slots, kind by kind.
-use Rattle.std.proofs.Common.{◌≡◌, ℕ, ◌<◌, false, true, List, [], ◌∷◌, ◌++◌, IsTrue, Option, Some, inl, refl, sym, ap, subst, ◌∙◌, arith}
+use Rattle.std.proofs.Common.{◌≡◌, ◌⊎◌, ℕ, ◌<◌, ◌≤◌, false, true, List, [], ◌∷◌, ◌++◌, IsTrue, Option, Some, None, inl, inr, refl, sym, ap}
+use Rattle.std.proofs.Common.{subst, ◌∙◌, arith}
 use Rattle.std.specs.Prelude.{◌↔◌}
 use mathlib.Core.Bool.{false≢true}
-use Rattle.std.proofs.lemmas.Option.{same_Some}
+use Rattle.std.proofs.lemmas.Option.{none-some, same_Some}
 use Rattle.std.proofs.lemmas.Bool.{ltb-true}
 use Rattle.base.specs.declared.ids.ObjId.{ObjId}
 use Rattle.base.specs.declared.ids.SlotRef.{SlotRef}
@@ -21,13 +22,13 @@ use Rattle.machine.specs.WellFormed.{kind_of}
 use Rattle.policy.specs.Domain.{EdgeTest}
 use Rattle.policy.specs.Places.{Begins, IsLeast, IsNone, IsUnder}
 use Rattle.policy.proofs.KindNumbers.{all_kinds, kind_stands, number_stands, same_kind}
-use Rattle.policy.proofs.Places.{Searches, only_least}
+use Rattle.policy.proofs.Places.{IsMade, Searches, decided, least_made, none_made, not_before_itself, only_least}
 use Rattle.policy.proofs.Sweep.{numbers, stands, stands_alone}
 use Rattle.verdict.specs.declared.denial.Denial.{Denial}
 use Rattle.verdict.specs.declared.denial.Denial.TheVariants as denial
 use Rattle.verdict.specs.Outside.{LiesOutside, LiesUnder}
 use Rattle.verdict.specs.Rules.{a1, a2, a3, a4, a5, a6, CapabilityExceeds, RootExceeds, PairExceeds, BindingExceeds, HoldingExceeds, RecordExceeds}
-use Rattle.verdict.specs.Sources.{Sources, of_machine, context_in, holds_in, keeps_in}
+use Rattle.verdict.specs.Sources.{Sources, of_machine, context_in, lends_in, holds_in, keeps_in}
 use Rattle.verdict.specs.Verdict.{place_of}
 use Rattle.verdict.proofs.OneVerdict.{same_id}
 
@@ -261,19 +262,57 @@ module _ (t : Layout) (allowed : EdgeTest) (m : Machine) where
 
     -- A4
 
-    pub binding_by :
-        (context : ObjId) → context_in (object_of m id) ≡ Some context
-        → IsBy (LiesUnder t allowed m (a4 ∷ id.0 ∷ [])) from authority.Runs context (λ l. denial.Binding id context)
-    binding_by context is = record {
-      of = by_a4 id (λ d. (l : ℕ) × (d ≡ denial.Binding id context) × Lacks from authority.Runs context l)
-          (λ other x.
-          let same = same_Some context other (sym is ∙ x.bound) in
-          (x.to, ap (denial.Binding id) (sym same), (ap (label_of t m) same ∙ x.target, lacks authority.Runs x.from x.to x.source x.missing)));
-      has = λ l lacking. (
-        (refl, (refl, tt)),
-        record { from = from; to = l; bound = is; source = source; target = lacking.0; missing = lacking.1 },
-      );
+    contexts : IsMade place_of (LiesOutside t allowed m) (a4 ∷ id.0 ∷ []) (denial.Binding id) (λ (context : ObjId). context.0 ∷ [])
+    contexts = record {
+      of = by_a4 id (λ d. (context : ObjId) × (d ≡ denial.Binding id context)) (λ context x. (context, refl));
+      placed = λ context. refl;
     }
+
+    -- the context is the one that is looked at, and the policy lacks the edge to its label
+    abbrev pub IsLacked : Option ObjId → ObjId → Type 0
+    IsLacked looked context = (looked ≡ Some context) × ((l : ℕ) × Lacks from authority.Runs context l)
+
+    -- the contexts that the thread is bound to, and that it lent, where each is lacking, and the lesser of them
+    module _
+        (bound lent first : Option ObjId)
+        (tells_bound : (context : ObjId) → (bound ≡ Some context) ↔ IsLacked (context_in (object_of m id)) context)
+        (tells_lent : (context : ObjId) → (lent ≡ Some context) ↔ IsLacked (lends_in (object_of m id)) context)
+        (is_one : (context : ObjId) → first ≡ Some context → (bound ≡ Some context) ⊎ (lent ≡ Some context))
+        (is_lesser :
+        (context : ObjId) → (bound ≡ Some context) ⊎ (lent ≡ Some context)
+        → (least : ObjId) × (first ≡ Some least) × (least.0 ≤ context.0)) where
+      lacked : (context : ObjId) → BindingExceeds held_by allowed id context → (bound ≡ Some context) ⊎ (lent ≡ Some context)
+      lacked context x =
+          let lacking = lacks authority.Runs x.from x.to x.source x.missing in
+          elim x.runs [
+            | inl is ↦ inl ((tells_bound context).1 (is, (x.to, (x.target, lacking))))
+            | inr is ↦ inr ((tells_lent context).1 (is, (x.to, (x.target, lacking))))
+          ]
+
+      exceeds : (context : ObjId) → (bound ≡ Some context) ⊎ (lent ≡ Some context) → BindingExceeds held_by allowed id context
+      exceeds context (inl is) =
+          let at = (tells_bound context).0 is in
+          record { from = from; to = at.1.0; runs = inl at.0; source = source; target = at.1.1.0; missing = at.1.1.1 }
+      exceeds context (inr is) =
+          let at = (tells_lent context).0 is in
+          record { from = from; to = at.1.0; runs = inr at.0; source = source; target = at.1.1.0; missing = at.1.1.1 }
+
+      pub no_binding : first ≡ None → IsNone (LiesUnder t allowed m (a4 ∷ id.0 ∷ []))
+      no_binding none =
+          none_made contexts (λ context x.
+          let least = is_lesser context (lacked context x) in none-some least.0 (sym none ∙ least.1))
+
+      pub least_binding :
+          (context : ObjId) → first ≡ Some context
+          → IsLeast place_of (LiesUnder t allowed m (a4 ∷ id.0 ∷ [])) (denial.Binding id context)
+      least_binding context is =
+          least_made contexts context (exceeds context (is_one context is)) (λ other x before.
+          let least = is_lesser other (lacked other x) in
+          let same : least.0.0 ≡ context.0 = ap (λ (i : ObjId). i.0) (same_Some least.0 context (sym least.1 ∙ is)) in
+          elim (decided other.0 context.0 _ before) [
+            | inl less ↦ omega (arith, least.2, same, less)
+            | inr tied ↦ not_before_itself [] tied.1
+          ])
 
     -- A5
 

@@ -1,5 +1,5 @@
 -- A machine is confined exactly where no authority lies outside at any place.
-use Rattle.std.proofs.Common.{◌≡◌, ℕ, Bool, true, false, Option, Some, None, refl, sym, ap, ◌∙◌}
+use Rattle.std.proofs.Common.{◌≡◌, ◌⊎◌, inl, inr, ℕ, Bool, true, false, Option, Some, refl, sym, ap, ◌∙◌}
 use mathlib.Core.Bool.{false≢true}
 use Rattle.base.specs.declared.ids.ObjId.{ObjId}
 use Rattle.base.specs.declared.kind.Kind.{Kind}
@@ -9,25 +9,19 @@ use Rattle.machine.specs.declared.object.Object.TheVariants as o
 use Rattle.machine.specs.declared.thread.RunState.{RunState}
 use Rattle.machine.specs.declared.thread.RunState.TheVariants as state
 use Rattle.machine.specs.declared.thread.Tcb.{Tcb}
-use Rattle.machine.specs.Authority.{HasAuthority, label_of, links, names_reply, state_links}
+use Rattle.machine.specs.Authority.{HasAuthority, label_of, links, state_links}
 use Rattle.machine.specs.Authority.HasAuthority.{by_cap, by_root, by_pair, by_link}
 use Rattle.machine.specs.Layout.{Layout}
 use Rattle.machine.specs.Machine.{Machine, object_of}
-use Rattle.machine.proofs.Ids.{itself}
-use Rattle.machine.proofs.LookUps.{one_id}
+use Rattle.machine.proofs.RunsLinks.{runs_bound, runs_by, runs_lent}
 use Rattle.policy.specs.Domain.{EdgeTest}
 use Rattle.verdict.specs.Confined.{IsConfined}
 use Rattle.verdict.specs.Rules.{Excess, Exceeds, capability, root, pair, binding, holding, recorded}
-use Rattle.verdict.specs.Sources.{of_machine, context_in, holds_in, keeps_in}
+use Rattle.verdict.specs.Sources.{of_machine, context_in, lends_in, holds_in, keeps_in}
 
 either : (b : Bool) → (b ≡ false → b ≡ true) → b ≡ true
 either true has = refl
 either false has = has refl
-
--- a link that names an object is there
-link_names : (link : Option ObjId) (end : ObjId) → names_reply link end ≡ true → link ≡ Some end
-link_names None end e = cc
-link_names (Some id) end e = ap Some (one_id id end e)
 
 module _ (t : Layout) (allowed : EdgeTest) (m : Machine) where
   -- a link of an object that goes outside, with its place
@@ -43,7 +37,7 @@ module _ (t : Layout) (allowed : EdgeTest) (m : Machine) where
     exceeds = record {
       from = from;
       to = to;
-      bound = ap context_in at ∙ link_names tcb.context end linked;
+      runs = elim (runs_by tcb end linked) [ inl bound ↦ inl (ap context_in at ∙ bound) | inr lent ↦ inr (ap lends_in at ∙ lent) ];
       source = source;
       target = target;
       missing = missing;
@@ -133,11 +127,13 @@ module _ (t : Layout) (allowed : EdgeTest) (m : Machine) where
   -- what an object keeps, holds and runs on are its links
 
   runs_link :
-      (id end : ObjId) (object : Option Object) → object_of m id ≡ object → context_in object ≡ Some end
+      (id end : ObjId) (object : Option Object) → object_of m id ≡ object
+      → (context_in object ≡ Some end) ⊎ (lends_in object ≡ Some end)
       → (linked : Object) × (object_of m id ≡ Some linked) × (links linked authority.Runs end ≡ true)
-  runs_link id end (Some (o.Tcb tcb)) at is =
-      (o.Tcb tcb, at, ap (λ link. names_reply link end) is ∙ itself end)
-  runs_link id end _ at is = cc
+  runs_link id end (Some (o.Tcb tcb)) at (inl bound) = (o.Tcb tcb, at, runs_bound tcb end bound)
+  runs_link id end (Some (o.Tcb tcb)) at (inr lent) = (o.Tcb tcb, at, runs_lent tcb end lent)
+  runs_link id end _ at (inl bound) = cc
+  runs_link id end _ at (inr lent) = cc
 
   holds_link :
       (id end : ObjId) (object : Option Object) → object_of m id ≡ object → holds_in object end ≡ true
@@ -165,7 +161,7 @@ module _ (t : Layout) (allowed : EdgeTest) (m : Machine) where
   within_confined confined (pair child parent) out =
       outside_edge confined out.from authority.Derive out.to out.missing (by_pair child parent out.derived out.source out.target)
   within_confined confined (binding thread context) out =
-      let link = runs_link thread context (object_of m thread) refl out.bound in
+      let link = runs_link thread context (object_of m thread) refl out.runs in
       outside_edge confined out.from authority.Runs out.to out.missing
       (by_link thread context link.0 link.1 link.2 out.source out.target)
   within_confined confined (holding reply thread) out =

@@ -1,7 +1,8 @@
 -- A removal keeps a machine within the policy: each edge was there, or is that of an orphan's new parent, from which it descended.
-use Rattle.std.proofs.Common.{◌≡◌, ℕ, ◌≤◌, Bool, true, false, cond, Option, Some, None, sym, ap, subst, ◌∙◌}
+use Rattle.std.proofs.Common.{◌≡◌, ℕ, ◌<◌, ◌≤◌, Bool, true, false, cond, Option, Some, None, refl, sym, ap, subst, ◌∙◌}
 use Rattle.std.specs.Prelude.{length}
 use Rattle.std.proofs.lemmas.Bool.{false≢true}
+use Rattle.std.proofs.lemmas.Option.{none-some}
 use Rattle.base.specs.declared.ids.ObjId.{ObjId}
 use Rattle.base.specs.declared.ids.SlotRef.{SlotRef}
 use Rattle.base.specs.declared.kind.Kind.{Kind}
@@ -12,9 +13,9 @@ use Rattle.machine.specs.declared.object.ObjectKind.{ObjectKind}
 use Rattle.machine.specs.declared.object.ReplyState.{ReplyState}
 use Rattle.machine.specs.declared.object.ReplyState.TheVariants as reply
 use Rattle.machine.specs.declared.thread.Tcb.{Tcb}
-use Rattle.machine.specs.Authority.{holds_thread, label_of, links, names_reply}
+use Rattle.machine.specs.Authority.{holds_thread, label_of, lent_of, links}
 use Rattle.machine.specs.Authority.HasAuthority.{by_cap, by_root, by_pair, by_link}
-use Rattle.machine.specs.Finalising.{aborted, finalised, halted, is_aborted, is_halted, leads_nowhere, leaves, link_after, reply_after, unbound}
+use Rattle.machine.specs.Finalising.{aborted, finalised, halted, is_aborted, is_halted, leads_nowhere, leaves, link_after, reply_after, tcb_after, unbound}
 use Rattle.machine.specs.Layout.{Layout}
 use Rattle.machine.specs.Machine.{Machine, parent_of}
 use Rattle.machine.specs.Objects.{address_of, kind_of_object}
@@ -22,19 +23,21 @@ use Rattle.machine.specs.Removal.{removed, vanishes}
 use Rattle.machine.specs.WellFormed.{Descends, child, further, kind_of}
 use Rattle.machine.proofs.RemovalLooks.{next-removed}
 use Rattle.machine.proofs.RemovalStays.{cap_was, like_finalised, object_was, parent_was, untyped_was}
+use Rattle.machine.proofs.RunsLinks.{runs_also}
 use Rattle.policy.specs.Closed.{IsClosed, derived}
 use Rattle.policy.specs.Domain.{EdgeTest}
 use Rattle.verdict.specs.Confined.{IsConfined}
 use Rattle.verdict.specs.Invariant.{IsSound}
 use Rattle.verdict.specs.OfTable.{IsOfTable}
 use Rattle.verdict.proofs.ObjectLabels.{kind_stays, kind_there, label_stays, labelled_there}
+use Rattle.verdict.proofs.Shrinking.{same_tcb}
 
 -- a finalised object has no new links
 
-link_was : (vanished : ObjId → Bool) (link : Option ObjId) (end : ObjId) → names_reply (link_after vanished link) end ≡ true → names_reply link end ≡ true
+link_was : (vanished : ObjId → Bool) (link : Option ObjId) (end : ObjId) → link_after vanished link ≡ Some end → link ≡ Some end
 link_was vanished link end = by_end (leads_nowhere vanished link) where
-  by_end : (b : Bool) → names_reply (cond b None link) end ≡ true → names_reply link end ≡ true
-  by_end true e = absurd (false≢true e)
+  by_end : (b : Bool) → cond b None link ≡ Some end → link ≡ Some end
+  by_end true e = absurd (none-some end e)
   by_end false e = e
 
 holding_was :
@@ -50,13 +53,23 @@ holding_was m vanished (reply.Called thread) end e = by_left (leaves m vanished 
   by_left true e = absurd (false≢true e)
   by_left false e = e
 
+lent_was :
+    (tcb : Tcb) (halts aborts : Bool) (context : ObjId)
+    → lent_of (cond halts (halted tcb) (cond aborts (aborted tcb) tcb)).state ≡ Some context → lent_of tcb.state ≡ Some context
+lent_was tcb true aborts context e = absurd (none-some context e)
+lent_was tcb false true context e = absurd (none-some context e)
+lent_was tcb false false context e = e
+
 tcb_link_was :
     (vanished : ObjId → Bool) (tcb : Tcb) (halts aborts : Bool) (k : Kind) (end : ObjId)
     → links (o.Tcb (unbound vanished (cond halts (halted tcb) (cond aborts (aborted tcb) tcb)))) k end ≡ true
     → links (o.Tcb tcb) k end ≡ true
-tcb_link_was vanished tcb true aborts authority.Runs end e = link_was vanished tcb.context end e
-tcb_link_was vanished tcb false true authority.Runs end e = link_was vanished tcb.context end e
-tcb_link_was vanished tcb false false authority.Runs end e = link_was vanished tcb.context end e
+tcb_link_was vanished tcb true aborts authority.Runs end e =
+    runs_also (unbound vanished (halted tcb)) tcb end (link_was vanished tcb.context end) (lent_was tcb true aborts end) e
+tcb_link_was vanished tcb false true authority.Runs end e =
+    runs_also (unbound vanished (aborted tcb)) tcb end (link_was vanished tcb.context end) (lent_was tcb false true end) e
+tcb_link_was vanished tcb false false authority.Runs end e =
+    runs_also (unbound vanished tcb) tcb end (link_was vanished tcb.context end) (lent_was tcb false false end) e
 tcb_link_was vanished tcb true aborts k end e = absurd (false≢true e)
 tcb_link_was vanished tcb false true k end e = absurd (false≢true e)
 tcb_link_was vanished tcb false false k end e = e
@@ -70,6 +83,19 @@ object_link_was m vanished (o.Reply holding) authority.Holds end e = holding_was
 object_link_was m vanished (o.Reply holding) _ end e = absurd (false≢true e)
 object_link_was m vanished (o.Context context) k end e = absurd (false≢true e)
 object_link_was m vanished _ k end e = e
+
+-- nor does a thread lend anew
+object_lent_was :
+    (m : Machine) (vanished : ObjId → Bool) (object : Object) (thread : Tcb) (context : ObjId)
+    → finalised m vanished object ≡ o.Tcb thread → lent_of thread.state ≡ Some context
+    → (tcb : Tcb) × (object ≡ o.Tcb tcb) × (lent_of tcb.state ≡ Some context)
+object_lent_was m vanished (o.Tcb tcb) thread context is lends = (
+  tcb,
+  refl,
+  lent_was tcb (is_halted vanished tcb.state) (is_aborted vanished tcb.state) context
+      (ap (λ (x : Tcb). lent_of x.state) (same_tcb (tcb_after vanished tcb) thread is) ∙ lends),
+)
+object_lent_was m vanished _ thread context is lends = cc
 
 module _ (t : Layout) (m : Machine) (chosen : SlotRef → Bool) where
   abbrev after : Machine
@@ -156,5 +182,10 @@ module _ (t : Layout) (m : Machine) (chosen : SlotRef → Bool) where
           let was = object_was m chosen id (o.Untyped memory) at in
           sound.of_table.ranged id memory label address (was.1 ∙ ap Some (untyped_was m vanished was.0 memory was.3))
           (label_was id label labelled);
+      lent = λ id context thread at lends.
+          let was = object_was m chosen id (o.Tcb thread) at in
+          let lent = object_lent_was m vanished was.0 thread context was.3 lends in
+          subst (λ n. context.0 < n) (sym (next-removed m chosen))
+          (sound.of_table.lent id context lent.0 (was.1 ∙ ap Some lent.1) lent.2);
       counted = subst (λ n. length t.objects ≤ n) (sym (next-removed m chosen)) sound.of_table.counted;
     }

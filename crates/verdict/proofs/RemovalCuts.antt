@@ -34,6 +34,7 @@ use Rattle.machine.proofs.RemovalLinks.{queue_now}
 use Rattle.machine.proofs.RemovalLooks.{cap_of-removed}
 use Rattle.machine.proofs.RemovalTable.{finalised_there}
 use Rattle.machine.proofs.RoundLemmas.{both_pass}
+use Rattle.machine.proofs.RunsLinks.{runs_bound}
 use Rattle.policy.specs.Closed.{IsClosed}
 use Rattle.policy.specs.Cut.{IsNear, is_link}
 use Rattle.policy.specs.Cut.IsNear.{stays, along, against}
@@ -238,8 +239,7 @@ module _
             let lost = lost_link vanished tcb.context is in
             let context = sound.well_formed.links.thread_context id lost.0 tcb at lost.1 in
             inr (beside_cut t allowed a m label
-            (linked_beside id lost.0 (o.Tcb tcb) authority.Runs label at
-            (ap (λ link. names_reply link lost.0) lost.1 ∙ id_itself lost.0) refl labelled
+            (linked_beside id lost.0 (o.Tcb tcb) authority.Runs label at (runs_bound tcb lost.0 lost.1) refl labelled
             (used lost.0 _ context.1 (λ e. cc) lost.2)))
         by_ways false false false isnt nor bound =
             inl (ap (λ b. o.Tcb (unbound vanished (cond b (halted tcb) (cond (is_aborted vanished tcb.state) (aborted tcb) tcb)))) isnt
@@ -291,7 +291,7 @@ module _
         let lost = lost_link vanished context.thread is in
         let w = sound.well_formed.links.context_thread id lost.0 context at lost.1 in
         inr (beside_cut t allowed a m label
-        (target_beside lost.0 id (o.Tcb w.0) authority.Runs label w.1 (ap (λ link. names_reply link id) w.2 ∙ id_itself id) refl
+        (target_beside lost.0 id (o.Tcb w.0) authority.Runs label w.1 (runs_bound w.0 id w.2) refl
         labelled (used lost.0 (o.Tcb w.0) w.1 (λ e. cc) lost.2)))
 
   module _ (id : ObjId) (object : Object) (label : ℕ) (at : object_of m id ≡ Some object) (labelled : label_of t m id ≡ Some label) where

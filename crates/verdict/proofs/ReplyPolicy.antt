@@ -1,4 +1,4 @@
--- A policy of one label that obeys every rule but that replies hold: the label has every edge to itself but that.
+-- A policy of two labels that obeys every rule but that replies hold: each has every edge to each but that.
 use Rattle.std.proofs.Common.{◌≡◌, ◌≢◌, inl, inr, Bool, true, false, refl, sym, lit≤}
 use Rattle.std.proofs.lemmas.Bool.{false≢true}
 use Rattle.base.specs.declared.kind.Kind.{Kind}
@@ -17,10 +17,10 @@ is_used Holds = false
 is_used _ = true
 
 abbrev pub has : EdgeTest
-has = even is_used 1
+has = even is_used 2
 
 pub within : IsWithin has
-within = even_within is_used 1 (lit≤ tt)
+within = even_within is_used 2 (lit≤ tt)
 
 given_used : (k : Kind) → IsGivenByControl k → is_used k ≡ true
 given_used Holds (inl space) = let clash : Holds ≡ Space = space in cc
@@ -28,11 +28,11 @@ given_used Holds (inr given) = absurd (false≢true (sym given.0))
 given_used _ given = refl
 
 pub others : (other : Rule) → other ≢ reply_holds → Obeys has other
-others subjects_agree differ = even_agrees is_used 1
-others control_gives_all differ = even_gives is_used 1 given_used
-others grant_shares differ = even_shares is_used 1
-others derive_in_domain differ = even_derives is_used 1 refl
-others derive_by_grant differ = even_comes is_used 1 refl
-others context_runs differ = even_runs is_used 1 refl
+others subjects_agree differ = even_agrees is_used 2
+others control_gives_all differ = even_gives is_used 2 given_used
+others grant_shares differ = even_shares is_used 2
+others derive_in_domain differ = even_derives is_used 2 refl
+others derive_by_grant differ = even_comes is_used 2 refl
+others context_runs differ = even_runs is_used 2 refl
 others reply_holds differ = absurd (differ refl)
-others lent_runs differ = even_lends is_used 1 refl
+others lent_runs differ = even_lends is_used 2 refl

@@ -1,11 +1,10 @@
 -- Retype within a caller's authority: the untyped memory and the CNode are controlled by the caller's label, and so is all that is made.
-use Rattle.std.proofs.Common.{◌≡◌, ℕ, zero, suc, ◌+◌, ◌≤◌, ◌⊎◌, inl, inr, Bool, true, false, List, [], ◌∷◌, Some, None, option_map, refl, sym, ap, subst, ◌∙◌, arith}
+use Rattle.std.proofs.Common.{◌≡◌, ℕ, zero, suc, ◌+◌, Bool, true, false, List, [], ◌∷◌, Some, option_map, refl, sym, ap, subst, ◌∙◌, arith}
 use Rattle.std.specs.Prelude.{if◌then◌else◌}
 use Rattle.base.specs.declared.ids.ObjId.{ObjId}
 use Rattle.base.specs.declared.ids.SlotRef.{SlotRef}
 use Rattle.base.specs.declared.kind.Kind.TheVariants as authority
 use Rattle.machine.specs.declared.call.Event.{Event}
-use Rattle.machine.specs.declared.cap.Cap.{Cap}
 use Rattle.machine.specs.declared.object.MemoryKind.{MemoryKind}
 use Rattle.machine.specs.declared.object.Object.{Object}
 use Rattle.machine.specs.declared.object.Object.TheVariants as o
@@ -22,7 +21,7 @@ use Rattle.machine.specs.WellFormed.{IsWellFormed, kind_of}
 use Rattle.machine.proofs.LookUps.{same_machine}
 use Rattle.machine.proofs.MadeFormed.{CanMake, made_formed}
 use Rattle.machine.proofs.ObjectMade.{MakesObject, following, made_makes, marked}
-use Rattle.machine.proofs.RetypeFormed.{MakesAll, first, new_address, new_end, none, retype_makes}
+use Rattle.machine.proofs.RetypeFormed.{MakesAll, first, new_address, none, retype_makes}
 use Rattle.machine.proofs.RetypeRow.{RetypeDone}
 use Rattle.policy.specs.Closed.{IsClosed}
 use Rattle.policy.specs.Domain.{EdgeTest, IsInDomain}
@@ -156,7 +155,7 @@ module _ (t : Layout) (allowed : EdgeTest) (began : Machine) (event : Event) (a 
         let object : Object = new_object of bits (placed (new_size of bits) source.memory) in
         let one : Keeps t allowed began event a m between =
         subst (λ (n : Machine). Keeps t allowed began event a m n) (sym (makes_is m between source of bits slot makes))
-        (make_keeps t allowed began event a m held (joined_of m formed) closed source of bits slot (may_make m source slot hand on.0 can)) in
+        (make_keeps t allowed began event a m held (joined_of m formed held.of_table.lent) closed source of bits slot (may_make m source slot hand on.0 can)) in
         keeps_keeps t allowed began event a m between next held one
         (all_keep one.held (made_formed m between source mark object (new_detail of) slot makes can formed)
         (at_hand_after m between source mark object slot (taken (new_size of bits) source.memory) makes one hand) on.1 rest)

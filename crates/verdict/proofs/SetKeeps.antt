@@ -35,7 +35,7 @@ module _ (t : Layout) (allowed : EdgeTest) (began : Machine) (event : Event) (a 
       → MayAffect t allowed a m (with_queue m id threads) id → Keeps t allowed began event a m (with_queue m id threads)
   queue_keeps object threads there may =
       touch_keeps t allowed began event a m id object object (with_queue m id threads) held
-      (same_fits t allowed began event m id object there)
+      (same_fits t allowed began event m id held object there)
       (record {
         contents = λ q apart. object_of-with_queue m id threads q;
         queues = λ q apart. queue_of-with_queue m id threads q ∙ at_other q id (Some threads) (queue_of m q) apart;

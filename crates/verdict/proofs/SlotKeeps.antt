@@ -115,6 +115,10 @@ module _
     initial = λ q object declared at. held.of_table.initial q object declared (was q object at);
     ranged = λ q memory label address at labelled.
         held.of_table.ranged q memory label address (was q (o.Untyped memory) at) (sym (labels q) ∙ labelled);
+    lent = λ q context thread at lends.
+        let number = fit.same.number in
+        let below = held.of_table.lent q context thread (was q (o.Tcb thread) at) lends in
+        omega (arith, number, below);
     counted = let number = fit.same.number in let before = held.of_table.counted in omega (arith, number, before);
   }
 

@@ -11,6 +11,7 @@ use Rattle.machine.specs.declared.cap.Cap.{Cap}
 use Rattle.machine.specs.declared.cap.Detail.TheVariants as d
 use Rattle.machine.specs.declared.layout.Filled.{Filled}
 use Rattle.machine.specs.declared.layout.Initial.{Initial}
+use Rattle.machine.specs.declared.layout.Version.TheVariants as version
 use Rattle.machine.specs.declared.object.Object.{Object}
 use Rattle.machine.specs.declared.object.Object.TheVariants as o
 use Rattle.machine.specs.declared.thread.Inbox.TheVariants as inbox
@@ -67,6 +68,7 @@ filled place held = record { slot = place; cap = held }
 
 unfoldable pub signalling : Layout
 signalling = record {
+  version = version.One;
   labels = codes "a" ∷ codes "b" ∷ codes "c" ∷ [];
   names = codes "space" ∷ codes "thread" ∷ codes "word" ∷ codes "context" ∷ [];
   objects =

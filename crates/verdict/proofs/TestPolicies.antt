@@ -7,6 +7,7 @@ use Rattle.std.proofs.lemmas.Map.Views.{any-filter_same}
 use Rattle.std.specs.List.{filter}
 use Rattle.base.specs.declared.edge.Edge.{Edge}
 use Rattle.base.specs.declared.kind.Kind.{Kind}
+use Rattle.base.specs.declared.label.TheConstants.Label as Label
 use Rattle.policy.specs.Domain.{EdgeTest}
 use Rattle.policy.specs.Policy.{edge_cmp, allows, is_edge, IsPolicy}
 use Rattle.policy.specs.Rows.{all_edges}
@@ -17,11 +18,11 @@ abbrev passes : EdgeTest → Edge → Bool
 passes test edge = test edge.from edge.kind edge.to
 
 unfoldable pub policy_of : EdgeTest → List Edge
-policy_of test = filter (passes test) all_edges
+policy_of test = filter (passes test) (all_edges Label.COUNT)
 
 -- the test says yes to edges of labels that there can be, and to no others
 abbrev pub IsWithin : EdgeTest → Type 0
-IsWithin test = (a : ℕ) (k : Kind) (b : ℕ) → test a k b ≡ true → (a < 64) × (b < 64)
+IsWithin test = (a : ℕ) (k : Kind) (b : ℕ) → test a k b ≡ true → (a < Label.COUNT) × (b < Label.COUNT)
 
 passes_alike :
     (test : EdgeTest) (a : ℕ) (k : Kind) (b : ℕ) (edge : Edge) → is_edge a k b edge ≡ true → passes test edge ≡ test a k b
@@ -32,13 +33,13 @@ passes_alike test a k b edge is =
 allowed_at : (test : EdgeTest) → IsWithin test → (a : ℕ) (k : Kind) (b : ℕ) → allows (policy_of test) a k b ≡ test a k b
 unfolding allows policy_of
 allowed_at test small a k b =
-    any-filter_same (is_edge a k b) (passes test) (test a k b) (passes_alike test a k b) all_edges ∙ by_case (test a k b) refl
+    any-filter_same (is_edge a k b) (passes test) (test a k b) (passes_alike test a k b) (all_edges Label.COUNT) ∙ by_case (test a k b) refl
   where
-    by_case : (there : Bool) → test a k b ≡ there → (test a k b && is_possible a k b) ≡ test a k b
+    by_case : (there : Bool) → test a k b ≡ there → (test a k b && is_possible Label.COUNT a k b) ≡ test a k b
     by_case true is =
         let labels = small a k b is in
-        ap (λ x. test a k b && x) (possible a k b labels.0 labels.1) ∙ and-true (test a k b)
-    by_case false is = ap (λ x. x && is_possible a k b) is ∙ sym is
+        ap (λ x. test a k b && x) (possible Label.COUNT a k b labels.0 labels.1) ∙ and-true (test a k b)
+    by_case false is = ap (λ x. x && is_possible Label.COUNT a k b) is ∙ sym is
 
 pub allows_policy : (test : EdgeTest) → IsWithin test → allows (policy_of test) ≡ test
 allows_policy test small = fun_ext (λ a. fun_ext (λ k. fun_ext (λ b. allowed_at test small a k b)))
@@ -46,6 +47,6 @@ allows_policy test small = fun_ext (λ a. fun_ext (λ k. fun_ext (λ b. allowed_
 pub is_policy : (test : EdgeTest) → IsWithin test → IsPolicy (policy_of test)
 unfolding policy_of
 is_policy test small = record {
-  rising = IsStrictlySortedBy-filter edge_cmp (passes test) all_edges all_rising;
+  rising = IsStrictlySortedBy-filter edge_cmp (passes test) (all_edges Label.COUNT) (all_rising Label.COUNT);
   labels = λ a k b is. small a k b (sym (allowed_at test small a k b) ∙ is);
 }

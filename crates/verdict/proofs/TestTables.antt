@@ -23,7 +23,7 @@ use Rattle.machine.specs.declared.object.Object.{Object}
 use Rattle.machine.specs.declared.object.Object.TheVariants as o
 use Rattle.machine.specs.declared.object.ObjectKind.TheVariants as kind
 use Rattle.machine.specs.Capabilities.{kind_of_detail}
-use Rattle.machine.specs.Layout.{Layout}
+use Rattle.machine.specs.Layout.{Layout, most_labels}
 use Rattle.machine.specs.Machine.{same_id, slot_cmp}
 use Rattle.machine.specs.Objects.{address_of, end_of}
 use Rattle.machine.proofs.Ids.{itself}
@@ -101,10 +101,10 @@ tests t =
     ∷ pairs_test (λ a b. nat_lt a.thread.0 b.thread.0) t.bindings
     ∷ pairs_test (λ a b. not (same_id a.context b.context)) t.bindings ∷ []
 
--- the lines of a table, with no more objects than there can be labels
+-- the lines of a table; the names of objects are as those of labels, and no more than there can be objects
 pub record LinesFit (t : Layout) : Type 0 where
-  pub labels : LabelsFit t.labels
-  pub names : LabelsFit t.names
+  pub labels : LabelsFit (most_labels t.version) t.labels
+  pub names : LabelsFit MAX_OBJECTS t.names
   pub objects : All (IsObjectOf (length t.labels)) t.objects
   pub caps : All (IsCapOf t.objects) t.caps
   pub pairs : All (IsSlotPair t.objects) t.pairs

@@ -11,7 +11,8 @@ use Rattle.machine.specs.declared.object.Object.{Object}
 use Rattle.machine.specs.declared.object.Object.TheVariants as o
 use Rattle.machine.specs.declared.object.ObjectKind.TheVariants as kind
 use Rattle.machine.specs.declared.object.Untyped.{Untyped}
-use Rattle.machine.specs.Authority.{label_at, label_of, links}
+use Rattle.machine.specs.declared.thread.Tcb.{Tcb}
+use Rattle.machine.specs.Authority.{label_at, label_of, lent_of, links}
 use Rattle.machine.specs.Authority.HasAuthority.{by_link}
 use Rattle.machine.specs.Layout.{Layout}
 use Rattle.machine.specs.Machine.{Machine, object_of, queue_of, words_of, cap_of, parent_of}
@@ -47,20 +48,23 @@ pub record Fits (t : Layout) (allowed : EdgeTest) (began : Machine) (event : Eve
       (end : ObjId) (k : Kind) → links new k end ≡ true
       → (links old k end ≡ true)
       ⊎ ((from to : ℕ) → label_of t m id ≡ Some from → label_of t m end ≡ Some to → allowed from k to ≡ true)
+  -- the number of a context that a thread lent was given out
+  pub lent : (context : ObjId) (thread : Tcb) → new ≡ o.Tcb thread → lent_of thread.state ≡ Some context → context.0 < m.next
   pub share :
       (before after : Context) → old ≡ o.Context before → new ≡ o.Context after
       → (after.share ≡ before.share) ⊎ MayConfigure t allowed began event id
 
 -- it may keep the content that it has
 pub same_fits :
-    (t : Layout) (allowed : EdgeTest) (began : Machine) (event : Event) (m : Machine) (id : ObjId) (object : Object)
-    → object_of m id ≡ Some object → Fits t allowed began event m id object object
-same_fits t allowed began event m id object there = record {
+    (t : Layout) (allowed : EdgeTest) (began : Machine) (event : Event) (m : Machine) (id : ObjId) → IsHeld t allowed m
+    → (object : Object) → object_of m id ≡ Some object → Fits t allowed began event m id object object
+same_fits t allowed began event m id held object there = record {
   was = there;
   kind = refl;
   address = refl;
   end = refl;
   links = λ end k had. inl had;
+  lent = λ context thread is lends. held.of_table.lent id context thread (there ∙ ap Some is) lends;
   share = λ before after was is. inl (ap (λ (c : Context). c.share) (same_context after before (sym is ∙ was)));
 }
 
@@ -139,6 +143,12 @@ module _
           (ap kind_of_object object_is ∙ fits.kind ∙ kept.0, ap address_of object_is ∙ fits.address ∙ kept.1)
     ];
     ranged = ranged;
+    lent = λ q context thread at lends.
+        let number = touches.number in
+        elim (seen q) [
+          | inl same ↦ let below = held.of_table.lent q context thread (sym same ∙ at) lends in omega (arith, below, number)
+          | inr same ↦ let below = fits.lent context thread (sym (new_at q (o.Tcb thread) same at)) lends in omega (arith, below, number)
+        ];
     counted = let number = touches.number in let before = held.of_table.counted in omega (arith, number, before);
   }
 

@@ -9,6 +9,7 @@ use Rattle.std.proofs.lemmas.List.Elements.{All-from_recursion}
 use Rattle.base.specs.declared.edge.Edge.{Edge}
 use Rattle.base.specs.declared.kind.Kind.{Kind}
 use Rattle.base.specs.declared.kind.Kind.TheVariants.{Control, Reset, Grant, Call, Notify, Reply, Context, Space, Derive, Runs, Holds}
+use Rattle.base.specs.declared.label.TheConstants.Label as Label
 use Rattle.base.specs.Kinds.{is_structural}
 use Rattle.machine.specs.Boot.{IsBoot}
 use Rattle.machine.specs.Capabilities.{gives}
@@ -97,7 +98,7 @@ others lent_runs differ = λ b s h. absurd (no_call h.lender h.endpoint h.calls)
 -- it is a policy
 
 abbrev Joins : ℕ → ℕ → Type 0
-Joins from to = (from < 64) × (to < 64)
+Joins from to = (from < Label.COUNT) × (to < Label.COUNT)
 
 joined :
     (list : List Edge) → AllByRecursion (λ e. Joins e.from e.to) list → (from : ℕ) (k : Kind) (to : ℕ)

@@ -7,7 +7,8 @@ use Rattle.machine.specs.declared.layout.Initial.{Initial}
 use Rattle.machine.specs.declared.object.Object.{Object}
 use Rattle.machine.specs.declared.object.Object.TheVariants as o
 use Rattle.machine.specs.declared.object.Untyped.{Untyped}
-use Rattle.machine.specs.Authority.{label_at, label_of}
+use Rattle.machine.specs.declared.thread.Tcb.{Tcb}
+use Rattle.machine.specs.Authority.{label_at, label_of, lent_of}
 use Rattle.machine.specs.Layout.{Layout, initial_of}
 use Rattle.machine.specs.Machine.{Machine, object_of}
 use Rattle.machine.specs.Objects.{kind_of_object, address_of, end_of}
@@ -24,5 +25,9 @@ pub record IsOfTable (t : Layout) (m : Machine) : Type 0 where
       (id : ObjId) (memory : Untyped) (label address : ℕ) → object_of m id ≡ Some (o.Untyped memory)
       → label_of t m id ≡ Some label
       → memory.base ≤ address → address < end_of (o.Untyped memory) → label_at t address ≡ Some label
+  -- the number of a context that a thread lent was given out: no object that is made later gets it, though the context may vanish
+  pub lent :
+      (id context : ObjId) (thread : Tcb) → object_of m id ≡ Some (o.Tcb thread) → lent_of thread.state ≡ Some context
+      → context.0 < m.next
   -- made objects have numbers above those of the initial ones
   pub counted : length t.objects ≤ m.next

@@ -1,7 +1,7 @@
 -- The rules by which a policy allows what a table or a machine holds, in the order in which they are tested, and the places where
 -- they are broken (compare 'seL4 Enforces Integrity', section 3: well-formed policies, and states whose authority lies within
 -- them; the rules and their order are confine's own).
-use Rattle.std.specs.Prelude.{◌≡◌, ℕ, true, false, List, [], ◌∷◌, Some}
+use Rattle.std.specs.Prelude.{◌≡◌, ◌⊎◌, ℕ, true, false, List, [], ◌∷◌, Some}
 use Rattle.base.specs.declared.ids.ObjId.{ObjId}
 use Rattle.base.specs.declared.ids.SlotRef.{SlotRef}
 use Rattle.base.specs.declared.kind.Kind.{Kind}
@@ -66,11 +66,11 @@ pub record PairExceeds (s : Sources) (allowed : EdgeTest) (child parent : SlotRe
   pub target : s.label child.holder ≡ Some to
   pub missing : allowed from authority.Derive to ≡ false
 
--- A4: a thread is bound to a context, and the policy doesn't have the edge of kind runs
+-- A4: a thread is bound to a context, or lent it, and the policy doesn't have the edge of kind runs
 pub record BindingExceeds (s : Sources) (allowed : EdgeTest) (thread context : ObjId) : Type 0 where
   pub from : ℕ
   pub to : ℕ
-  pub bound : s.context thread ≡ Some context
+  pub runs : (s.context thread ≡ Some context) ⊎ (s.lent thread ≡ Some context)
   pub source : s.label thread ≡ Some from
   pub target : s.label context ≡ Some to
   pub missing : allowed from authority.Runs to ≡ false
@@ -101,7 +101,7 @@ pub data Excess : Type 0 where
   root : SlotRef → ℕ → Excess
   -- a child in the derivation tree, and its parent
   pair : SlotRef → SlotRef → Excess
-  -- a thread, and the context that it runs on
+  -- a thread, and a context that it is bound to or lent
   binding : ObjId → ObjId → Excess
   -- a reply, and the thread that it holds
   holding : ObjId → ObjId → Excess

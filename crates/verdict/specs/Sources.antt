@@ -8,7 +8,7 @@ use Rattle.machine.specs.declared.cap.Cap.{Cap}
 use Rattle.machine.specs.declared.object.Object.{Object}
 use Rattle.machine.specs.declared.object.Object.TheVariants as o
 use Rattle.machine.specs.declared.object.ObjectKind.{ObjectKind}
-use Rattle.machine.specs.Authority.{holds_thread, label_of, state_links}
+use Rattle.machine.specs.Authority.{holds_thread, label_of, lent_of, state_links}
 use Rattle.machine.specs.Layout.{Layout, declared_label, initial_cap, initial_parent, bound_context}
 use Rattle.machine.specs.Machine.{Machine, object_of, cap_of, parent_of}
 use Rattle.machine.specs.WellFormed.{kind_of}
@@ -19,14 +19,16 @@ pub record Sources : Type 0 where
   pub parent : SlotRef → Option SlotRef
   pub kind : ObjId → Option ObjectKind
   pub label : ObjId → Option ℕ
-  -- what a thread runs on
+  -- what a thread is bound to
   pub context : ObjId → Option ObjId
+  -- what a thread lent
+  pub lent : ObjId → Option ObjId
   -- whether a reply holds a thread
   pub holds : ObjId → ObjId → Bool
   -- whether a blocked thread keeps a kind of authority over an object
   pub keeps : ObjId → Kind → ObjId → Bool
 
--- a table declares no reply that holds a thread, and no blocked thread
+-- a table declares no thread that lent its context, no reply that holds a thread, and no blocked thread
 abbrev pub of_table : Layout → Sources
 of_table t = record {
   cap = initial_cap t;
@@ -34,6 +36,7 @@ of_table t = record {
   kind = kind_at t;
   label = declared_label t;
   context = bound_context t;
+  lent = λ thread. None;
   holds = λ reply thread. false;
   keeps = λ thread k end. false;
 }
@@ -41,6 +44,10 @@ of_table t = record {
 abbrev pub context_in : Option Object → Option ObjId
 context_in (Some (o.Tcb tcb)) = tcb.context
 context_in _ = None
+
+abbrev pub lends_in : Option Object → Option ObjId
+lends_in (Some (o.Tcb tcb)) = lent_of tcb.state
+lends_in _ = None
 
 abbrev pub holds_in : Option Object → ObjId → Bool
 holds_in (Some (o.Reply answers)) thread = holds_thread answers.state thread
@@ -57,6 +64,7 @@ of_machine t m = record {
   kind = kind_of m;
   label = label_of t m;
   context = λ thread. context_in (object_of m thread);
+  lent = λ thread. lends_in (object_of m thread);
   holds = λ reply. holds_in (object_of m reply);
   keeps = λ thread. keeps_in (object_of m thread);
 }

@@ -29,7 +29,8 @@ pub enum Denial {
         child: SlotRef,
         parent: SlotRef,
     },
-    /// A4: a thread is bound to a context, and the policy doesn't have the edge of kind runs.
+    /// A4: a thread is bound to a context, or lent it as it called, and the policy doesn't have the
+    /// edge of kind runs.
     Binding {
         thread: ObjId,
         context: ObjId,

@@ -16,7 +16,9 @@ ghost use Rattle.machine.specs.declared.object.ObjectKind.TheVariants as kind;
 ghost use Rattle.machine.specs.declared.object.Reply.{Reply};
 ghost use Rattle.machine.specs.declared.object.ReplyState.TheVariants as answers;
 ghost use Rattle.machine.specs.declared.object.Untyped.{Untyped};
+ghost use Rattle.machine.specs.declared.thread.Calling.{Calling as Calls};
 ghost use Rattle.machine.specs.declared.thread.Inbox.TheVariants as inbox;
+ghost use Rattle.machine.specs.declared.thread.Lent.{Lent};
 ghost use Rattle.machine.specs.declared.thread.Receiving.{Receiving as Receives};
 ghost use Rattle.machine.specs.declared.thread.RunState.TheVariants as run;
 ghost use Rattle.machine.specs.declared.thread.Sending.{Sending as Sends};
@@ -31,7 +33,8 @@ ghost use Rattle.policy.specs.Cut.{IsBase, IsCut, IsHolding, IsNear, is_link};
 ghost use Rattle.policy.specs.Closed.{IsClosed, MayBeGranted};
 ghost use Rattle.policy.specs.Domain.{EdgeTest, IsInDomain};
 ghost use Rattle.policy.specs.Full.{IsFull};
-ghost use Rattle.policy.specs.Needed.{context_runs, control_gives_all, derive_by_grant, grant_shares, reply_holds, subjects_agree};
+ghost use Rattle.policy.specs.Needed.{context_runs, control_gives_all, derive_by_grant, grant_shares, lent_runs, reply_holds};
+ghost use Rattle.policy.specs.Needed.{subjects_agree};
 ghost use Rattle.policy.specs.Policy.{allows};
 ghost use Rattle.table.specs.Rules.{IsLawful};
 ghost use Rattle.verdict.specs.declared.denial.Denial.{Denial};
@@ -124,9 +127,9 @@ pub fn gains_are_no_shrinking()
 
 /// A law: each reason of authority counts. There is a confined state that isn't confined any more once
 /// a slot of a CNode, a thread's root slot or the derivation tree is changed, and nothing else; and one
-/// for each link of an object that gives authority: a thread runs on a context; is a sender, may grant,
-/// or calls; is a receiver, or names a reply; waits for a notification; and a reply holds a thread that
-/// waits with it, or has called through it.
+/// for each link of an object that gives authority: a thread runs on a context, or lent it; is a sender,
+/// may grant, or calls; is a receiver, or names a reply; waits for a notification; and a reply holds a
+/// thread that waits with it, or has called through it.
 pub fn each_reason_of_authority_counts()
     ensures capability { (t : Layout) × (allowed : EdgeTest) × (m : Machine) × (slot : Slot) × (held : Cap)
         × (kind_of m slot.holder ≡ Some kind.CNode)
@@ -141,6 +144,9 @@ pub fn each_reason_of_authority_counts()
         × ¬ IsConfined t allowed (with_parent m slot parent) }
     ensures runs { (thread : Tcb) × (context : Id)
         × TakesOut (o.Tcb (record thread { context = None })) (o.Tcb (record thread { context = Some context })) }
+    ensures lent { (thread : Tcb) × (calling : Calls) × (lent : Lent)
+        × TakesOut (o.Tcb (record thread { state = run.Called (record calling { lent = None }) }))
+        (o.Tcb (record thread { state = run.Called (record calling { lent = Some lent }) })) }
     ensures send { (thread : Tcb) × (sending : Sends)
         × TakesOut (o.Tcb (record thread { state = run.Ready }))
         (o.Tcb (record thread { state = run.Sending (record sending { grant = false; is_call = false }) })) }
@@ -260,6 +266,13 @@ pub fn safety_needs_replies_to_hold()
 /// second thread, which then runs on it where its label has no edge for it.
 pub fn safety_needs_contexts_to_run()
     ensures { UnsafeWithout context_runs }
+{}
+
+/// A law: safety needs that who may be lent a context may run on it (the rule P8). There is a system that
+/// breaks no other rule and whose boot state is confined, and a thread of it calls another that waits
+/// without a context, which then runs on the caller's where its label has no edge for it.
+pub fn safety_needs_lenders_to_share()
+    ensures { UnsafeWithout lent_runs }
 {}
 
 /// A law: a state is confined exactly where no authority lies outside the policy at any place of the

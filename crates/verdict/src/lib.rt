@@ -25,7 +25,8 @@ pub use laws::{
     each_reason_of_authority_counts, gains_are_no_shrinking, losses_are_shrinking,
     safety_needs_agreeing_subjects, safety_needs_contexts_to_run, safety_needs_control_to_give_all,
     safety_needs_derivation_over_grants, safety_needs_grants_to_share,
-    safety_needs_replies_to_hold, safety_needs_transitive_derivation,
+    safety_needs_lenders_to_share, safety_needs_replies_to_hold,
+    safety_needs_transitive_derivation,
 };
 pub use making::what_is_made_stays_within_authority;
 pub use removing::{

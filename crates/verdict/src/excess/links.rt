@@ -1,13 +1,14 @@
-ghost use Rattle.std.specs.Prelude.{◌≡◌, ◌∷◌, ◌↔◌, [], ℕ, false, true, Some};
+ghost use Rattle.std.specs.Prelude.{◌≡◌, ◌∷◌, ◌↔◌, ◌≤◌, ◌⊎◌, [], ℕ, false, true, Some};
 ghost use Rattle.base.specs.declared.ids.ObjId.{ObjId as Id};
+ghost use Rattle.base.specs.declared.kind.Kind.TheVariants as authority;
 ghost use Rattle.base.specs.Kinds.{kind_number};
-ghost use Rattle.machine.specs.Authority.{label_of, state_links};
+ghost use Rattle.machine.specs.Authority.{label_of, lent_of, state_links};
 ghost use Rattle.machine.specs.Machine.{object_of};
 ghost use Rattle.policy.specs.Places.{FindsLeast};
 ghost use Rattle.policy.specs.Policy.{allows};
 ghost use Rattle.verdict.specs.Outside.{LiesUnder};
 ghost use Rattle.verdict.specs.Rules.{a4, a5, a6};
-ghost use Rattle.verdict.specs.Sources.{context_in, holds_in, keeps_in};
+ghost use Rattle.verdict.specs.Sources.{context_in, lends_in, holds_in, keeps_in};
 ghost use Rattle.verdict.specs.Verdict.{place_of};
 
 use crate::Denial;
@@ -18,7 +19,8 @@ use objects::State;
 use policy::Policy;
 use table::Table;
 
-/// The place of this thread, if A4 is broken there.
+/// The first place of this thread where A4 is broken: of the contexts that it is bound to and that it
+/// lent the one with the lesser number.
 pub(crate) fn binding_at(
     table: &Table,
     policy: &Policy,
@@ -29,9 +31,40 @@ pub(crate) fn binding_at(
     requires { label_of table.now state.now thread ≡ Some from }
     ensures { FindsLeast place_of (LiesUnder table.now (allows policy.now) state.now (a4 ∷ thread.0 ∷ [])) result }
 {
-    let context = context_of(state, thread)?;
-    missing_label(table, policy, state, from, Kind::Runs, context)?;
+    let bound = lacking(table, policy, state, from, context_of(state, thread));
+    let lent = lacking(table, policy, state, from, lent_by(state, thread));
+    let context = lesser(bound, lent)?;
     Some(Denial::Binding { thread, context })
+}
+
+// This context, if the policy doesn't have the edge of kind runs to its label.
+fn lacking(
+    table: &Table,
+    policy: &Policy,
+    state: &State,
+    from: Label,
+    context: Option<ObjId>,
+) -> Option<ObjId>
+    ensures { (end : Id) → (result ≡ Some end)
+        ↔ ((context ≡ Some end)
+        × ((label : ℕ)
+        × ((label_of table.now state.now end ≡ Some label) × (allows policy.now from authority.Runs label ≡ false)))) }
+{
+    let context = context?;
+    missing_label(table, policy, state, from, Kind::Runs, context)?;
+    Some(context)
+}
+
+// Of two contexts the one with the lesser number.
+fn lesser(one: Option<ObjId>, other: Option<ObjId>) -> Option<ObjId>
+    ensures is_one { (id : Id) → result ≡ Some id → (one ≡ Some id) ⊎ (other ≡ Some id) }
+    ensures is_lesser { (id : Id) → (one ≡ Some id) ⊎ (other ≡ Some id) → (least : Id) × (result ≡ Some least) × (least.0 ≤ id.0) }
+{
+    match (one, other) {
+        (Some(first), Some(second)) if second.0 < first.0 => other,
+        (None, _) => other,
+        _ => one,
+    }
 }
 
 /// The place of this reply, if A5 is broken there.
@@ -90,12 +123,32 @@ fn record_at(
     })
 }
 
-// The context that a thread runs on.
+// The context that a thread is bound to.
 fn context_of(state: &State, thread: ObjId) -> Option<ObjId>
     ensures { result ≡ context_in (object_of state.now thread) }
 {
     match state.object(thread) {
         Some(Object::Tcb(tcb)) => tcb.context,
+        _ => None,
+    }
+}
+
+// The context that a thread lent.
+fn lent_by(state: &State, thread: ObjId) -> Option<ObjId>
+    ensures { result ≡ lends_in (object_of state.now thread) }
+{
+    match state.object(thread) {
+        Some(Object::Tcb(tcb)) => lent_in(&tcb.state),
+        _ => None,
+    }
+}
+
+// The same of what it waits for.
+fn lent_in(state: &RunState) -> Option<ObjId>
+    ensures { result ≡ lent_of state.now }
+{
+    match state {
+        RunState::Called(calling) => calling.lent.map(|lent| lent.context),
         _ => None,
     }
 }

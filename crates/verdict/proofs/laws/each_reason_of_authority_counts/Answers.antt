@@ -1,5 +1,4 @@
 -- Reason by reason.
-use Rattle.std.specs.Prelude.{Some}
 use Rattle.policy.specs.Policy.{allows}
 use Rattle.verdict.proofs.LinkReasons as by
 use Rattle.verdict.proofs.Reasons.{m, within, node_kind, thread_kind, capability_counts, root_counts, pair_counts}
@@ -19,6 +18,9 @@ returns-clause-pair c = (signalling, allows edges, m, slot 0 0, slot 1 0, within
 
 pub returns-clause-runs : goal.returns-clause-runs
 returns-clause-runs c = (by.thread, id 0, by.runs_counts)
+
+pub returns-clause-lent : goal.returns-clause-lent
+returns-clause-lent c = (by.thread, by.calling, by.lent, by.lent_counts)
 
 pub returns-clause-send : goal.returns-clause-send
 returns-clause-send c = (by.thread, by.sending, by.send_counts)

@@ -1,7 +1,14 @@
--- the one context that a thread runs on
-use Rattle.std.proofs.Common.{sym, ◌∙◌}
+-- of the contexts that a thread is bound to and that it lent the lesser one to which an edge is lacking
+use Rattle.std.proofs.Common.{◌≡◌, [], ◌∷◌, Option, Some, sym, subst}
+use Rattle.std.specs.Prelude.{◌↔◌}
+use Rattle.base.specs.declared.ids.ObjId.{ObjId}
+use Rattle.policy.specs.Places.{FindsLeast}
 use Rattle.policy.specs.Policy.{allows}
-use Rattle.verdict.proofs.OutsidePlaces.{binding_by, least_lacking}
+use Rattle.verdict.specs.declared.denial.Denial.{Denial}
+use Rattle.verdict.specs.Outside.{LiesUnder}
+use Rattle.verdict.specs.Rules.{a4}
+use Rattle.verdict.specs.Verdict.{place_of}
+use Rattle.verdict.proofs.OutsidePlaces.{IsLacked, least_binding, no_binding}
 use Rattle.verdict.proofs.excess.links.binding_at.Goals as goal
 
 pub returns : goal.returns
@@ -9,6 +16,30 @@ returns c =
     let t = c.args.table.now in
     let allowed = allows c.args.policy.now in
     let m = c.args.state.now in
-    least_lacking t allowed m
-    (binding_by t allowed m c.args.thread c.args.from c.requires c.in_ok-context.context (sym c.context_of.ensures ∙ c.in_ok-context.was))
-    c.missing_label.result c.missing_label.ensures c.in_ok-missing_label.field-0 c.in_ok-missing_label.was
+    let id = c.args.thread in
+    let from = c.args.from in
+    let bound = c.lacking-bound.result in
+    let lent = c.lacking-lent.result in
+    least_binding t allowed m id from c.requires bound lent c.lesser.result
+    (subst (λ (looked : Option ObjId). (end : ObjId) → (bound ≡ Some end) ↔ IsLacked t allowed m id from c.requires looked end)
+    c.context_of.ensures c.lacking-bound.ensures)
+    (subst (λ (looked : Option ObjId). (end : ObjId) → (lent ≡ Some end) ↔ IsLacked t allowed m id from c.requires looked end)
+    c.lent_by.ensures c.lacking-lent.ensures)
+    c.lesser.ensures.is_one c.lesser.ensures.is_lesser c.in_ok-context.context c.in_ok-context.was
+
+pub returns-in_err-context : goal.returns-in_err-context
+returns-in_err-context c =
+    let t = c.args.table.now in
+    let allowed = allows c.args.policy.now in
+    let m = c.args.state.now in
+    let id = c.args.thread in
+    let from = c.args.from in
+    let bound = c.lacking-bound.result in
+    let lent = c.lacking-lent.result in
+    subst (λ (found : Option Denial). FindsLeast place_of (LiesUnder t allowed m (a4 ∷ id.0 ∷ [])) found) (sym c.from_residual.ensures)
+    (no_binding t allowed m id from c.requires bound lent c.lesser.result
+    (subst (λ (looked : Option ObjId). (end : ObjId) → (bound ≡ Some end) ↔ IsLacked t allowed m id from c.requires looked end)
+    c.context_of.ensures c.lacking-bound.ensures)
+    (subst (λ (looked : Option ObjId). (end : ObjId) → (lent ≡ Some end) ↔ IsLacked t allowed m id from c.requires looked end)
+    c.lent_by.ensures c.lacking-lent.ensures)
+    c.lesser.ensures.is_one c.lesser.ensures.is_lesser c.in_err-context.was)

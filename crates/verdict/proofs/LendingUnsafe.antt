@@ -1,0 +1,197 @@
+-- The system of a receiver and a caller isn't safe where the policy lacks that who may be lent a context may run on it: the receiver
+-- waits with a reply; the caller unbinds the receiver's context, and calls; and the receiver runs on the context of the caller.
+use Rattle.std.proofs.Common.{◌≡◌, ℕ, true, false, List, [], ◌∷◌, Option, Some, None, Ok, refl}
+use Rattle.base.specs.declared.ids.ObjId.{ObjId}
+use Rattle.base.specs.declared.kind.Kind.TheVariants.{Runs}
+use Rattle.machine.specs.declared.call.Answer.TheVariants.{Nothing}
+use Rattle.machine.specs.declared.call.Call.TheVariants.{Call, Unbind}
+use Rattle.machine.specs.declared.call.Event.{Event}
+use Rattle.machine.specs.declared.call.Made.TheVariants.{Blocked, Done}
+use Rattle.machine.specs.declared.call.Outcome.TheVariants as outcome
+use Rattle.machine.specs.declared.object.Object.TheVariants as o
+use Rattle.machine.specs.declared.object.ReplyState.TheVariants as reply
+use Rattle.machine.specs.declared.thread.Calling.{Calling}
+use Rattle.machine.specs.declared.thread.Inbox.TheVariants as inbox
+use Rattle.machine.specs.declared.thread.RunState.TheVariants as state
+use Rattle.machine.specs.declared.thread.Sending.{Sending}
+use Rattle.machine.specs.declared.thread.Tcb.{Tcb}
+use Rattle.machine.specs.Authority.{HasAuthority}
+use Rattle.machine.specs.Authority.HasAuthority.{by_link}
+use Rattle.machine.specs.Boot.{IsBoot}
+use Rattle.machine.specs.Changes.{first_waiting, with_reply, with_tcb, without_waiting}
+use Rattle.machine.specs.Layout.{initial_of, initial_cap, declared_label, bound_context, bound_thread}
+use Rattle.machine.specs.Lookup.{level_at, lookup_of, walk, hop}
+use Rattle.machine.specs.Machine.{Machine, object_of}
+use Rattle.machine.specs.Releasing.{with_called, with_halted, with_holding, with_released}
+use Rattle.machine.specs.Step.{admitted, made_by, step_of}
+use Rattle.machine.specs.Step.Step.{ends}
+use Rattle.machine.specs.Step.Bind.{unbind_of, with_handed}
+use Rattle.machine.specs.Step.Deliver.{arrival_of, delivered, first_at, sending_by}
+use Rattle.machine.specs.Step.Find.{find_cap, find_context, find_endpoint}
+use Rattle.machine.specs.Step.Send.{endpoint_call_of}
+use Rattle.machine.proofs.ContextsFormed.{bound_is, unbound_is}
+use Rattle.policy.specs.Needed.{lent_runs}
+use Rattle.verdict.specs.Counterexamples.{UnsafeWithout}
+use Rattle.verdict.proofs.LendingPolicy.{has, of_first, others, within}
+use Rattle.verdict.proofs.ReplyRun.{Change, becomes, waits, with_changes, object_after, queue_after, object_now, queue_now, cap_now}
+use Rattle.verdict.proofs.ReplyRun.{label_now, awaited, receive_made, received, receiving, waiting}
+use Rattle.verdict.proofs.ReplySystem.{serving, serving_confined, serving_lawful, answers, caller, context, end, receiver}
+use Rattle.verdict.proofs.SmallSystem.{id, slot}
+use Rattle.verdict.proofs.UnsafeBy.{unsafe_without}
+
+abbrev words : List ℕ
+words = 0 ∷ 0 ∷ 0 ∷ 0 ∷ []
+
+unfoldable unbinding : Event
+unbinding = record { core = 0; thread = id 5; call = Unbind 2 }
+
+unfoldable calling : Event
+calling = record { core = 0; thread = id 5; call = Call 0 words None }
+
+abbrev sent : Sending
+sent = sending_by (id 3) end true words None
+
+-- the receiver has the message of the call
+abbrev woken : Option ObjId → Tcb
+woken runs_on = receiver state.Ready (inbox.Message (record { badge = 0; words = words; capability = false })) runs_on
+
+-- what is recorded of the call
+abbrev loan : Calling
+loan = record { reply = id 4; lent = Some (record { context = id 6; borrower = id 1 }) }
+
+-- the changes, one after the other
+
+-- the receiver has no context
+abbrev unbound : List Change
+unbound = becomes 2 (o.Context (context 0x4000 None)) ∷ becomes 1 (o.Tcb (waiting None)) ∷ received
+
+-- the receiver gets the message, and is in no queue and held by no reply
+abbrev freed : List Change
+freed = becomes 4 (answers reply.Free) ∷ waits [] ∷ unbound
+
+abbrev told : List Change
+told = becomes 1 (o.Tcb (woken None)) ∷ freed
+
+-- the caller can't run, and waits for the answer
+abbrev halted : List Change
+halted = becomes 5 (o.Tcb (caller state.Inactive (Some (id 6)))) ∷ told
+
+abbrev marked : List Change
+marked = becomes 5 (o.Tcb (caller (state.Called loan) (Some (id 6)))) ∷ halted
+
+abbrev called : List Change
+called = becomes 4 (answers (reply.Called (id 5))) ∷ marked
+
+-- its context goes over
+abbrev idle : List Change
+idle = becomes 6 (o.Context (context 0x4100 None)) ∷ becomes 5 (o.Tcb (caller (state.Called loan) None)) ∷ called
+
+abbrev lent : List Change
+lent = becomes 6 (o.Context (context 0x4100 (Some (id 1)))) ∷ becomes 1 (o.Tcb (woken (Some (id 6)))) ∷ idle
+
+module _ (m : Machine) (boot : IsBoot serving m) where
+  -- what there is after changes
+  now : (changes : List Change) (q : ObjId) → object_of (with_changes m changes) q ≡ object_after changes q
+  now changes q = object_now m boot changes q
+
+  finds_context : find_context (with_changes m received) (id 5) 2 ≡ Ok (id 2)
+  unfolding serving initial_of initial_cap bound_context object_after find_context find_cap lookup_of level_at walk hop
+  finds_context =
+      rw (now received (id 5), cap_now m boot received (slot 5 0), now received (id 0), cap_now m boot received (slot 0 2)) refl
+
+  unbinds : unbind_of (with_changes m received) (id 5) 2 ≡ Ok (Done Nothing, with_changes m unbound)
+  unfolding serving initial_of bound_thread object_after unbind_of with_changes
+  unbinds =
+      rw (
+        finds_context,
+        now received (id 2),
+        unbound_is (with_changes m received) (id 2) (id 1) (context 0x4000 (Some (id 1))) (waiting (Some (id 2)))
+            (now received (id 2)) (now received (id 1)) refl,
+      ) refl
+
+  admits_unbinding : admitted (with_changes m received) 0 (id 5) ≡ Ok (record { core = 0; budget = 10; period = 10 })
+  unfolding serving initial_of bound_context bound_thread object_after admitted
+  admits_unbinding = rw (now received (id 5), now received (id 6)) refl
+
+  unbind_made : step_of (with_changes m received) unbinding ≡ (outcome.Done Nothing, with_changes m unbound)
+  unfolding unbinding step_of made_by
+  unbind_made = rw (admits_unbinding, unbinds) refl
+
+  finds : find_endpoint (with_changes m unbound) (id 5) 0 ≡ Ok (id 3, end)
+  unfolding serving initial_of initial_cap bound_context object_after find_endpoint find_cap lookup_of level_at walk hop
+  finds =
+      rw (now unbound (id 5), cap_now m boot unbound (slot 5 0), now unbound (id 0), cap_now m boot unbound (slot 0 0)) refl
+
+  first : first_at (with_changes m unbound) (id 3) ≡ Some (id 1, state.Receiving awaited)
+  unfolding object_after queue_after first_at first_waiting
+  first = rw (queue_now m boot unbound, now unbound (id 1)) refl
+
+  frees : with_holding (with_changes m (waits [] ∷ unbound)) (id 4) reply.Free ≡ with_changes m freed
+  unfolding object_after with_holding with_reply with_changes
+  frees = rw (now (waits [] ∷ unbound) (id 4), now (waits [] ∷ unbound) (id 4)) refl
+
+  delivers : delivered (with_changes m unbound) (id 5) sent (id 1) awaited ≡ with_changes m told
+  unfolding object_after queue_after delivered arrival_of with_released with_tcb without_waiting with_changes
+  delivers = rw (now unbound (id 1), queue_now m boot unbound, frees, now freed (id 1)) refl
+
+  halts : with_halted (with_changes m told) (id 5) ≡ with_changes m halted
+  unfolding serving initial_of bound_context object_after with_released with_tcb with_changes
+  halts = rw (now told (id 5), now told (id 5)) refl
+
+  calls : with_called (with_changes m halted) (id 5) loan ≡ with_changes m called
+  unfolding object_after with_called with_tcb with_holding with_reply with_changes
+  calls = rw (now halted (id 5), now halted (id 5), now marked (id 4), now marked (id 4)) refl
+
+  hands : with_handed (with_changes m called) (id 5) (id 1) ≡ with_changes m lent
+  unfolding serving initial_of bound_thread object_after with_handed with_changes
+  hands =
+      rw (
+        now called (id 5),
+        unbound_is (with_changes m called) (id 6) (id 5) (context 0x4100 (Some (id 5))) (caller (state.Called loan) (Some (id 6)))
+            (now called (id 6)) (now called (id 5)) refl,
+        bound_is (with_changes m idle) (id 6) (id 1) (context 0x4100 None) (woken None) (now idle (id 6)) (now idle (id 1)),
+      ) refl
+
+  lends : endpoint_call_of (with_changes m unbound) (id 5) 0 words None ≡ Ok (Blocked, with_changes m lent)
+  unfolding serving initial_of bound_context object_after endpoint_call_of
+  lends = rw (finds, first, delivers, now told (id 5), now told (id 1), halts, calls, hands) refl
+
+  admits_calling : admitted (with_changes m unbound) 0 (id 5) ≡ Ok (record { core = 0; budget = 10; period = 10 })
+  unfolding serving initial_of bound_context bound_thread object_after admitted
+  admits_calling = rw (now unbound (id 5), now unbound (id 6)) refl
+
+  call_made : step_of (with_changes m unbound) calling ≡ (outcome.Blocked, with_changes m lent)
+  unfolding calling step_of made_by
+  call_made = rw (admits_calling, lends) refl
+
+  -- the receiver runs on the caller's context
+  outside : HasAuthority serving (with_changes m lent) 0 Runs 1
+  unfolding serving initial_of declared_label bound_context bound_thread object_after
+  outside =
+      by_link (id 1) (id 6) (o.Tcb (woken (Some (id 6)))) (now lent (id 1)) refl
+      (label_now m boot lent 1 (o.Tcb (receiver state.Ready inbox.Empty (Some (id 2)))) (o.Tcb (woken (Some (id 6)))) refl refl refl)
+      (label_now m boot lent 6 (o.Context (context 0x4100 (Some (id 5)))) (o.Context (context 0x4100 (Some (id 1)))) refl refl refl)
+
+pub unsafe_without_lending : UnsafeWithout lent_runs
+unfolding has
+unsafe_without_lending = unsafe_without lent_runs serving has (record {
+  lawful = serving_lawful;
+  labels = within;
+  others = others;
+  confined = serving_confined has (record { own = λ k differ. of_first k; space = refl; runs = refl });
+  leads = λ m boot. record {
+    events = receiving ∷ unbinding ∷ calling ∷ [];
+    outcomes = outcome.Blocked ∷ outcome.Done Nothing ∷ outcome.Blocked ∷ [];
+    next = with_changes m lent;
+    run = (
+      with_changes m received,
+      ends (receive_made m boot),
+      (with_changes m unbound, ends (unbind_made m boot), (with_changes m lent, ends (call_made m boot), refl)),
+    );
+    from = 0;
+    kind = Runs;
+    to = 1;
+    has = outside m boot;
+    missing = refl;
+  };
+})
