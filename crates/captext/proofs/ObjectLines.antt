@@ -2,11 +2,10 @@
 use Rattle.std.proofs.Common.{◌≡◌, ℕ, ◌<◌, ◌&&◌, false, not, nat_lt, List, [], ◌∷◌, length, codes, is_some, Ok, Some, refl, sym, ap, ◌∙◌}
 use Rattle.std.proofs.lemmas.Bool.{and_parts, and_from, not-true, ltb-true, leb-true, lt-ltb, le-leb}
 use Rattle.std.proofs.lemmas.List.{append-nil}
-use Rattle.base.specs.declared.label.TheConstants.Label as Label
 use Rattle.machine.specs.declared.layout.Initial.{Initial}
 use Rattle.machine.specs.declared.object.ObjectKind.{ObjectKind}
 use Rattle.machine.specs.KindWords.{object_kind_word}
-use Rattle.machine.specs.Layout.{Layout}
+use Rattle.machine.specs.Layout.{Layout, most_labels}
 use Rattle.machine.specs.Objects.{kind_of_object}
 use Rattle.table.specs.Building.{AdmitsObject, is_free, repeats_control, with_label, with_initial}
 use Rattle.table.specs.Names.{label_named, object_named}
@@ -35,7 +34,7 @@ label_line_takes t words next h =
     let read = alone_takes name_part (labelled t) words next h in
     let now = demand_then (takes_labels t) wrong.Syntax _ next read.3 in
     let fresh = demand_then (not (is_some (label_named t read.0))) wrong.Double _ next now.1 in
-    let room = demand_then (nat_lt (length t.labels) Label.COUNT) wrong.Limit _ next fresh.1 in (
+    let room = demand_then (nat_lt (length t.labels) (most_labels t.version)) wrong.Limit _ next fresh.1 in (
       LabelItem read.0,
       record {
         now = labels_take t now.0;
@@ -50,7 +49,7 @@ pub label_line_again : (t : Layout) (name : List ℕ) → BeforeObjects t → Ad
 unfolding label_line labelled bind
 label_line_again t name now admits =
     alone_again name_part (labelled t) name admits.spelled
-    ∙ rw (labels_again t now, admits.fresh, lt-ltb (length t.labels) Label.COUNT admits.room) refl
+    ∙ rw (labels_again t now, admits.fresh, lt-ltb (length t.labels) (most_labels t.version) admits.room) refl
 
 -- an object's name and label
 

@@ -8,6 +8,8 @@ use Rattle.std.proofs.lemmas.List.Quantifiers.{position-Some}
 use Rattle.std.proofs.lemmas.Slice.Eq.{bytes_eq-Decides}
 use Rattle.base.specs.declared.ids.SlotRef.{SlotRef}
 use Rattle.machine.specs.declared.layout.Filled.{Filled}
+use Rattle.machine.specs.declared.layout.Version.{Version}
+use Rattle.machine.specs.declared.layout.Version.TheVariants as version
 use Rattle.machine.specs.declared.object.ObjectKind.{ObjectKind}
 use Rattle.machine.specs.declared.object.ObjectKind.TheVariants as kind
 use Rattle.machine.specs.KindWords.{object_kind_of, object_kind_word}
@@ -20,13 +22,13 @@ use Rattle.table.specs.Tree.{is_kin, tree_fault, with_mark, with_originals}
 use Rattle.table.proofs.BuiltUp.{draft_from_built}
 use Rattle.words.specs.declared.faults.Fault.{Fault}
 use Rattle.words.specs.declared.faults.Wrong.{Wrong}
-use Rattle.words.specs.Reading.{bind, last_line, word_at, or_syntax, steps, whole_lines, IsNotLast, Reads}
-use Rattle.words.specs.Text.{text_of, IsPlainLine, IsPlainWord}
-use Rattle.words.proofs.TextLaws.{both}
+use Rattle.words.specs.Reading.{bind, last_line, read_format, word_at, or_syntax, steps, whole_lines, IsNotLast, Reads}
+use Rattle.words.specs.Text.{lines_of, text_of, IsPlainLine, IsPlainWord}
+use Rattle.words.proofs.TextLaws.{both, text_lines}
 use Rattle.words.proofs.TextReading.{whole_text_takes, whole_text_again}
 use Rattle.words.proofs.WordLaws.{bind_ok, word_then, plain_bytes, plain_name}
 use Rattle.captext.specs.PolicyText.{label_name}
-use Rattle.captext.specs.Tables.{object_line, declaration, line_by, table_line, grown, grown_by, table_format, read_table_of}
+use Rattle.captext.specs.Tables.{object_line, declaration, line_by, table_line, grown, grown_by, format_of, version_of, read_table_of}
 use Rattle.captext.specs.TableText.{table_header, content_words, cap_words, item_words, label_lines, object_lines, pair_lines, binding_lines, table_lines, table_text, IsLineOf}
 use Rattle.captext.proofs.BindLines.{bind_line_takes, bind_line_again, binding_plain}
 use Rattle.captext.proofs.CapLines.{cap_line_takes}
@@ -131,33 +133,50 @@ not_last t (BindingItem binding) = refl
 
 -- lines that were read build up a draft, and are its lines
 
-record TakesLines (lines : List (List (List ℕ))) (all : Layout) : Type 0 where
+record TakesLines (version : Version) (lines : List (List (List ℕ))) (all : Layout) : Type 0 where
   built : IsBuiltUp all
+  version_is : all.version ≡ version
   lines_are : table_lines all ≡ lines
 
-lines_take : (t : Layout) (front body : List (List (List ℕ))) (all : Layout) → TakesLines front t
-    → steps table_line t body ≡ Ok all → TakesLines (front ++ body) all
+-- an item more leaves the version
+same_version : (t : Layout) (item : Item) → (with_item t item).version ≡ t.version
+same_version t (LabelItem name) = refl
+same_version t (ObjectItem name initial) = refl
+same_version t (CapItem filled) = refl
+same_version t (PairItem pair) = refl
+same_version t (BindingItem binding) = refl
+
+lines_take : (version : Version) (t : Layout) (front body : List (List (List ℕ))) (all : Layout) → TakesLines version front t
+    → steps table_line t body ≡ Ok all → TakesLines version (front ++ body) all
 unfolding steps
-lines_take t front [] all so_far h =
+lines_take version t front [] all so_far h =
     let same : t ≡ all = cc in
-    subst (λ u. TakesLines (front ++ []) u) same
-    (record { built = so_far.built; lines_are = so_far.lines_are ∙ sym (append-nil front) })
-lines_take t front (line ∷ body) all so_far h =
+    subst (λ u. TakesLines version (front ++ []) u) same
+    (record {
+      built = so_far.built;
+      version_is = so_far.version_is;
+      lines_are = so_far.lines_are ∙ sym (append-nil front);
+    })
+lines_take version t front (line ∷ body) all so_far h =
     let stepped = bind_ok (table_line t line) (λ next. steps table_line next body) all h in
     let takes = line_takes t line stepped.0 stepped.1 in
     let draft = (draft_from_built so_far.built).0 in
     let lines : table_lines (with_item t takes.0) ≡ front ++ line ∷ [] =
     item_more t takes.0 draft.objects.named takes.1.now ∙ (λ i. so_far.lines_are i ++ sym takes.1.words_are i ∷ []) in
-    let next : TakesLines (front ++ line ∷ []) stepped.0 =
-    subst (λ u. TakesLines (front ++ line ∷ []) u) takes.1.grown
-    (record { built = more takes.0 so_far.built takes.1.now takes.1.admits; lines_are = lines }) in
-    subst (λ ls. TakesLines ls all) (append_assoc front (line ∷ []) body)
-    (lines_take stepped.0 (front ++ line ∷ []) body all next stepped.2)
+    let next : TakesLines version (front ++ line ∷ []) stepped.0 =
+    subst (λ u. TakesLines version (front ++ line ∷ []) u) takes.1.grown
+    (record {
+      built = more takes.0 so_far.built takes.1.now takes.1.admits;
+      version_is = same_version t takes.0 ∙ so_far.version_is;
+      lines_are = lines;
+    }) in
+    subst (λ ls. TakesLines version ls all) (append_assoc front (line ∷ []) body)
+    (lines_take version stepped.0 (front ++ line ∷ []) body all next stepped.2)
 
 -- and the lines of a draft are read
 
 record ReadsLines (t : Layout) : Type 0 where
-  stepped : steps table_line empty_layout (table_lines t) ≡ Ok t
+  stepped : steps table_line (empty_layout t.version) (table_lines t) ≡ Ok t
   plain : AllByRecursion IsPlainLine (table_lines t)
   none_last : AllByRecursion IsNotLast (table_lines t)
 
@@ -174,14 +193,14 @@ steps_push s t (first ∷ lines) line h =
 
 lines_again : {t : Layout} → IsBuiltUp t → ReadsLines t
 unfolding steps
-lines_again none = record { stepped = refl; plain = tt; none_last = tt }
+lines_again (none version) = record { stepped = refl; plain = tt; none_last = tt }
 lines_again (more {t} item built now admits) =
     let draft = (draft_from_built built).0 in
     let reads = lines_again built in
     let lines = item_more t item draft.objects.named now in
     record {
-      stepped = ap (λ ls. steps table_line empty_layout ls) lines
-          ∙ steps_push empty_layout t (table_lines t) (item_words t item) reads.stepped
+      stepped = (λ i. steps table_line (empty_layout (same_version t item i)) (lines i))
+          ∙ steps_push (empty_layout t.version) t (table_lines t) (item_words t item) reads.stepped
           ∙ line_again t item draft now admits;
       plain = subst (AllByRecursion IsPlainLine) (sym lines)
           (both IsPlainLine (table_lines t) (item_words t item ∷ []) reads.plain (plain_item t item draft admits, tt));
@@ -225,29 +244,46 @@ BuildLaw =
 pub read_is_table : BuildLaw → (bytes : List ℕ) (t : Layout) → read_table_of bytes ≡ Ok t → IsLawful t × (bytes ≡ table_text t)
 unfolding read_table_of
 read_is_table law bytes t h =
-    let text = whole_text_takes table_format t bytes h in
-    let lines = lines_take empty_layout [] text.0 text.1 (record { built = none; lines_are = refl }) text.3 in
+    let version = version_of (lines_of bytes) in
+    let text = whole_text_takes (format_of version) t bytes h in
+    let begins : TakesLines version [] (empty_layout version) =
+    record { built = none version; version_is = refl; lines_are = refl } in
+    let lines = lines_take version (empty_layout version) [] text.0 text.1 begins text.3 in
     let came = grown_takes text.1 t text.4 in
-    let same : table_lines t ≡ text.0 = ap table_lines came.1 ∙ marked_lines text.1 ∙ lines.lines_are in (
-      (law t).1 (text.1, lines.built, came.0, came.1),
-      text.2 ∙ ap (λ body. text_of (whole_lines table_header body)) (sym same),
-    )
+    let spelled : table_text t ≡ text_of (whole_lines (table_header version) text.0) =
+    ap table_text came.1
+    ∙ (λ i. text_of (whole_lines (table_header (lines.version_is i)) ((marked_lines text.1 ∙ lines.lines_are) i))) in
+    ((law t).1 (text.1, lines.built, came.0, came.1), text.2 ∙ sym spelled)
+
+-- the header of a version is plain, and tells the version
+
+plain_header : (version : Version) → IsPlainLine (table_header version)
+plain_header version.One = (plain_bytes (codes "confine-table") refl, (plain_bytes (codes "1") refl, tt))
+plain_header version.Two = (plain_bytes (codes "confine-table") refl, (plain_bytes (codes "2") refl, tt))
+
+told_version : (version : Version) (lines : List (Option (List (List ℕ)))) → version_of (Some (table_header version) ∷ lines) ≡ version
+told_version version.One lines = refl
+told_version version.Two lines = refl
 
 pub table_is_read : BuildLaw → (bytes : List ℕ) (t : Layout) → IsLawful t → bytes ≡ table_text t → read_table_of bytes ≡ Ok t
 unfolding read_table_of grown
 table_is_read law bytes t lawful text =
     let built = (law t).0 lawful in
     let draft = built.0 in
+    let version = draft.version in
+    let body = whole_lines (table_header version) (table_lines draft) in
     let lines = lines_again built.1 in
     let last : AllByRecursion IsPlainLine (last_line ∷ []) = ((plain_bytes (codes "end") refl, tt), tt) in
-    let plain : AllByRecursion IsPlainLine (whole_lines table_header (table_lines draft)) = (
-      (plain_bytes (codes "confine-table") refl, (plain_bytes (codes "1") refl, tt)),
-      both IsPlainLine (table_lines draft) (last_line ∷ []) lines.plain last,
-    ) in
+    let plain : AllByRecursion IsPlainLine body =
+    (plain_header version, both IsPlainLine (table_lines draft) (last_line ∷ []) lines.plain last) in
     let came : grown draft ≡ Ok t = ap (grown_by draft) built.2 ∙ ap (λ u. Ok u) (sym built.3) in
-    let same : table_lines t ≡ table_lines draft = ap table_lines built.3 ∙ marked_lines draft in
-    whole_text_again table_format draft t (table_lines draft) bytes plain lines.none_last lines.stepped came
-    (text ∙ ap (λ body. text_of (whole_lines table_header body)) same)
+    let spelled : bytes ≡ text_of body =
+    text ∙ ap table_text built.3 ∙ ap (λ lines. text_of (whole_lines (table_header version) lines)) (marked_lines draft) in
+    let told : version_of (lines_of bytes) ≡ version =
+    ap version_of (ap lines_of spelled ∙ text_lines body plain)
+    ∙ told_version version (map (λ line. Some line) (table_lines draft ++ last_line ∷ [])) in
+    ap (λ v. read_format (format_of v) (lines_of bytes)) told
+    ∙ whole_text_again (format_of version) draft t (table_lines draft) bytes plain lines.none_last lines.stepped came spelled
 
 pub table_iff : BuildLaw → (bytes : List ℕ) (t : Layout) → (read_table_of bytes ≡ Ok t) ↔ (IsLawful t × (bytes ≡ table_text t))
 table_iff law bytes t = (read_is_table law bytes t, λ h. table_is_read law bytes t h.0 h.1)

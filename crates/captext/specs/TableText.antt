@@ -1,4 +1,4 @@
--- The text of a capability table: a header, a line for each label, object, filled slot, pair of the derivation tree and binding,
+-- The text of a capability table: the header of its version, a line for each label, object, filled slot, pair of the derivation tree and binding,
 -- and `end` (confine's own; what it says is a system's initial state, seL4 manual, "Bootstrapping").
 use Rattle.std.specs.Prelude.{◌≡◌, ℕ, List, [], ◌∷◌, ◌++◌, map, codes, Option, Some, None, slice_index_or}
 use Rattle.std.specs.Fmt.{decimal}
@@ -12,6 +12,8 @@ use Rattle.machine.specs.declared.layout.Binding.{Binding}
 use Rattle.machine.specs.declared.layout.Filled.{Filled}
 use Rattle.machine.specs.declared.layout.Initial.{Initial}
 use Rattle.machine.specs.declared.layout.Pair.{Pair}
+use Rattle.machine.specs.declared.layout.Version.{Version}
+use Rattle.machine.specs.declared.layout.Version.TheVariants as version
 use Rattle.machine.specs.declared.object.Object.{Object}
 use Rattle.machine.specs.declared.object.Object.TheVariants as o
 use Rattle.machine.specs.declared.object.ObjectKind.{ObjectKind}
@@ -32,8 +34,10 @@ use Rattle.captext.specs.declared.shapes.Place.TheVariants as place
 use Rattle.captext.specs.PolicyText.{label_name}
 use Rattle.captext.specs.Spelling.{slot_word}
 
-abbrev pub table_header : List (List ℕ)
-table_header = words_of (codes "confine-table 1")
+-- the header of the texts of a version
+abbrev pub table_header : Version → List (List ℕ)
+table_header version.One = words_of (codes "confine-table 1")
+table_header version.Two = words_of (codes "confine-table 2")
 
 -- the name of an object of the table
 abbrev pub object_name : Layout → ObjId → List ℕ
@@ -133,7 +137,7 @@ table_lines t = label_lines t ++ (object_lines t ++ (cap_lines t ++ (pair_lines 
 
 -- the text of a capability table
 abbrev pub table_text : Layout → List ℕ
-table_text t = text_of (whole_lines table_header (table_lines t))
+table_text t = text_of (whole_lines (table_header t.version) (table_lines t))
 
 -- a line adds an item: the table takes the item next, and the line is that item's
 pub record IsLineOf (t : Layout) (words : List (List ℕ)) (next : Layout) (item : Item) : Type 0 where

@@ -6,11 +6,12 @@ use Rattle.std.specs.Str.{bytes_eq}
 use Rattle.base.specs.declared.core_number.TheConstants.CoreNo as CoreNo
 use Rattle.base.specs.declared.ids.ObjId.{ObjId}
 use Rattle.base.specs.declared.ids.SlotRef.{SlotRef}
-use Rattle.base.specs.declared.label.TheConstants.Label as Label
 use Rattle.base.specs.declared.limits.TheConstants.{ADDRESS_END, MAX_PERIOD, MAX_RADIX}
 use Rattle.machine.specs.declared.cap.Cap.{Cap}
 use Rattle.machine.specs.declared.cap.Detail.{Detail}
 use Rattle.machine.specs.declared.cap.Detail.TheVariants as d
+use Rattle.machine.specs.declared.layout.Version.{Version}
+use Rattle.machine.specs.declared.layout.Version.TheVariants as version
 use Rattle.machine.specs.declared.object.Object.{Object}
 use Rattle.machine.specs.declared.object.Object.TheVariants as o
 use Rattle.machine.specs.declared.object.ObjectKind.{ObjectKind}
@@ -21,7 +22,7 @@ use Rattle.machine.specs.declared.thread.Inbox.TheVariants as inbox
 use Rattle.machine.specs.declared.thread.RunState.{RunState}
 use Rattle.machine.specs.declared.thread.RunState.TheVariants as run
 use Rattle.machine.specs.KindWords.{object_kind_of}
-use Rattle.machine.specs.Layout.{Layout, empty_layout, initial_of}
+use Rattle.machine.specs.Layout.{Layout, empty_layout, initial_of, most_labels}
 use Rattle.machine.specs.Objects.{end_of}
 use Rattle.table.specs.Building.{declares_slot, has_cap_to, has_room, repeats_control, is_free, is_above_caps, is_above_pairs, is_above_bindings, is_bound, with_label, with_initial, with_filled, with_pair, with_binding}
 use Rattle.table.specs.Names.{label_named, object_named}
@@ -35,13 +36,13 @@ use Rattle.words.specs.Name.{name_at}
 use Rattle.words.specs.Number.{hex_at, number_at}
 use Rattle.words.specs.Parts.{PartReader, in_turn, read_as}
 use Rattle.words.specs.Reading.{◌>>=◌, word_at, ended_at, or_syntax, read_format, Format, Whole}
-use Rattle.words.specs.Text.{words_of, lines_of}
+use Rattle.words.specs.Text.{line_is, lines_of}
 use Rattle.captext.specs.declared.shapes.Place.{Place}
 use Rattle.captext.specs.declared.shapes.Place.TheVariants as place
 use Rattle.captext.specs.declared.shapes.Term.{Term}
 use Rattle.captext.specs.declared.shapes.Term.TheVariants as term
 use Rattle.captext.specs.Shapes.{NamedSlot, names_at, slot_at, terms_at}
-use Rattle.captext.specs.TableText.{start_word}
+use Rattle.captext.specs.TableText.{start_word, table_header}
 use Rattle.base.specs.declared.rights.Rights.{Rights}
 
 -- what a line asks for, else a fault
@@ -77,7 +78,7 @@ unfoldable pub labelled : Layout → List ℕ → Result Layout Wrong
 labelled t name = do
   _ ← demand (takes_labels t) wrong.Syntax
   _ ← demand (not (is_some (label_named t name))) wrong.Double
-  _ ← demand (nat_lt (length t.labels) Label.COUNT) wrong.Limit
+  _ ← demand (nat_lt (length t.labels) (most_labels t.version)) wrong.Limit
   Ok (with_label t name)
 
 -- label NAME
@@ -398,10 +399,20 @@ grown_by t (Some number) = Err (pair_line t number, wrong.Tree)
 unfoldable pub grown : Layout → Whole Layout
 grown t = grown_by t (tree_fault (with_originals t))
 
--- tables, line by line
-abbrev pub table_format : Format Layout Layout
-table_format = record { header = words_of (codes "confine-table 1"); step = table_line; whole = grown; start = empty_layout }
+-- tables of a version, line by line
+abbrev pub format_of : Version → Format Layout Layout
+format_of version =
+    record { header = table_header version; step = table_line; whole = grown; start = empty_layout version }
+
+-- the version of a text, which is the second where its first line says so
+abbrev pub version_of : List (Option (List (List ℕ))) → Version
+version_of (Some line ∷ lines) = if line_is line (table_header version.Two) then version.Two else version.One
+version_of _ = version.One
+
+-- the format of a text, by its version
+abbrev pub table_format : List (Option (List (List ℕ))) → Format Layout Layout
+table_format lines = format_of (version_of lines)
 
 -- the capability table that a text spells, or its first fault
 unfoldable pub read_table_of : List ℕ → Result Layout Fault
-read_table_of bytes = read_format table_format (lines_of bytes)
+read_table_of bytes = read_format (table_format (lines_of bytes)) (lines_of bytes)

@@ -29,7 +29,7 @@ pub fn label_line(draft: &mut Draft, words: &mut Words<'_>) -> Result<(), LineEr
     if draft.label_named(name).is_some() {
         return Err(LineError::Text(Wrong::Double));
     }
-    if draft.label_count() >= usize::from(Label::COUNT) {
+    if draft.label_count() >= draft.version().most_labels() {
         return Err(LineError::Text(Wrong::Limit));
     }
     draft.add_label(name)?;

@@ -1,5 +1,6 @@
-ghost use Rattle.std.specs.Prelude.{◌≡◌, ◌≢◌, ◌<◌, ◌+◌, ◌^◌, ◌↔◌, ℕ, length, List, Ok, Err, IfOk, IfErr, MatchResult, OnErr};
+ghost use Rattle.std.specs.Prelude.{◌≡◌, ◌≢◌, ◌<◌, ◌+◌, ◌^◌, ◌↔◌, ◌++◌, ◌∷◌, [], ℕ, length, List, Ok, Err, IfOk, IfErr, MatchResult, OnErr};
 ghost use Rattle.captext.specs.Tables as tables;
+ghost use Rattle.captext.specs.TableText as texts;
 ghost use Rattle.captext.specs.TableText.{table_text, IsLineOf};
 ghost use Rattle.machine.specs.Layout.{Layout};
 ghost use Rattle.table.specs.Items.{Item};
@@ -8,12 +9,12 @@ ghost use Rattle.words.specs.declared.faults.Wrong.{Wrong};
 ghost use Rattle.words.specs.declared.faults.Wrong.TheVariants.{Tree};
 ghost use Rattle.words.specs.Fault.{fault_at, no_memory};
 ghost use Rattle.words.specs.FirstFault.{IsFirstFault, TellsFirst};
-ghost use Rattle.words.specs.Reading.{GivesOrStops, Reads};
-ghost use Rattle.words.specs.Text.{lines_of};
+ghost use Rattle.words.specs.Reading.{header_at, Gives, GivesOrStops, Reads};
+ghost use Rattle.words.specs.Text.{line_text, lines_of, words_of};
 
 use crate::caps::{bind_line, cap_line, child_line};
 use crate::objects::{label_line, object_line};
-use machine::ObjectKind;
+use machine::{ObjectKind, Version};
 use std::alloc::Global;
 use table::{Draft, Table, lawful_tables_are_built_up};
 use words::{Fault, LineError, Lines, Words, Wrong};
@@ -65,14 +66,44 @@ fn first_pair_line(draft: &Draft) -> u64
     (before + 2) as u64
 }
 
+/// The header of the texts of a version.
+pub(crate) fn table_header(version: Version) -> &'static str
+    ensures words { words_of result.now ≡ texts.table_header version }
+    ensures line { result.now ++ 10 ∷ [] ≡ line_text (texts.table_header version) }
+{
+    match version {
+        Version::One => "confine-table 1",
+        Version::Two => "confine-table 2",
+    }
+}
+
+/// The version of a text, by its first line.
+#[tactic(auto, unfolding(crate::specs::Tables::version_of))]
+fn version_of(text: &[u8]) -> Version
+    ensures { result ≡ tables.version_of (lines_of text.now) }
+{
+    match Lines::new(text).next_line() {
+        Some(words) if words.is(table_header(Version::Two).as_bytes()) => Version::Two,
+        _ => Version::One,
+    }
+}
+
+/// Takes the header of the texts of a version.
+fn take_header(lines: &mut Lines<'_>, version: Version) -> Result<(), Fault>
+    ensures { Gives (λ _. lines.new) result (header_at (texts.table_header version) lines.old) }
+{
+    lines.header(table_header(version).as_bytes())
+}
+
 /// Reads the text of a capability table, by the definition alone.
 #[tactic(auto, using(words::proofs::ReadingLaws::goes_on, words::proofs::ReadingLaws::ends_judged), unfolding(crate::specs::Tables::read_table_of, words::specs::Reading::bind))]
 fn table_of(alloc: Global, text: &[u8]) -> Result<Table, Fault>
     ensures { Reads (λ table. table) result (tables.read_table_of text.now) }
 {
+    let version = version_of(text);
     let mut lines = Lines::new(text);
-    lines.header(b"confine-table 1")?;
-    let mut draft = Draft::new(alloc);
+    take_header(&mut lines, version)?;
+    let mut draft = Draft::new(alloc, version);
     while let Some(mut words) = lines.next_line() {
         if words.is(b"end") {
             return match grown(draft) {
@@ -110,9 +141,9 @@ pub fn read_table(alloc: Global, text: &[u8]) -> Result<Table, Fault>
 
     // One that isn't read is refused for its first fault, unless memory was refused.
     ensures faults { IfErr result (λ fault. fault ≢ no_memory
-        → TellsFirst tables.table_format (lines_of text.now) fault) }
+        → TellsFirst (tables.table_format (lines_of text.now)) (lines_of text.now) fault) }
     ensures refused { (line : ℕ) (wrong : Wrong)
-        → IsFirstFault tables.table_format (lines_of text.now) line wrong
+        → IsFirstFault (tables.table_format (lines_of text.now)) (lines_of text.now) line wrong
         → Reads (λ table. table) result (Err (fault_at line wrong)) }
 {
     tables_are_read_back();

@@ -13,7 +13,7 @@ ghost use Rattle.table.specs.Rules.{kind_at};
 ghost use Rattle.words.specs.Text.{line_text, text_of};
 
 use crate::shapes::Place;
-use crate::tables::tables_are_read_back;
+use crate::tables::{table_header, tables_are_read_back};
 use base::{Edge, Label, ObjId, Refusal, SlotRef};
 use machine::{
     Binding, CNode, Context, Control, Detail, Endpoint, Filled, Frame, Initial, Notification,
@@ -80,7 +80,8 @@ pub fn write_edges(alloc: Global, edges: &[Edge], table: &Table) -> Result<Vec<u
 fn table_string(alloc: Global, table: &Table) -> Result<String, AllocError>
     ensures { IfOk result (λ text. string_bytes text ≡ table_text table.now) }
 {
-    let mut text = String::from_str(alloc, "confine-table 1\n")?;
+    let mut text = String::from_str(alloc, table_header(table.version()))?;
+    text.push('\n')?;
     write_items(&mut text, table)?;
     text.push_str("end\n")?;
     Ok(text)
@@ -131,10 +132,8 @@ fn write_lines<T: Line>(text: &mut String, table: &Table, items: &[T]) -> Result
 fn write_labels(text: &mut String, table: &Table) -> Result<(), AllocError>
     ensures { OnOk result (string_bytes text.new ≡ string_bytes text.old ++ text_of (label_lines table.now)) }
 {
-    // That labels are few, a table tells with its objects.
-    let _ = table.objects();
     for number in 0..table.label_count() {
-        if let Some(label) = Label::new(number as u8) {
+        if let Some(label) = Label::new(number as u16) {
             let name = label_name(table, label);
             writeln!(text, "label {name}")?;
         }

@@ -14,6 +14,6 @@ returns c =
       exact = read;
       found = found c.table_of.result c.args.text.now law read;
       only = only c.table_of.result c.args.text.now law read;
-      faults = faults _ table_format (lines_of c.args.text.now) c.table_of.result read;
-      refused = refused_for _ table_format (lines_of c.args.text.now) c.table_of.result read;
+      faults = faults _ (table_format (lines_of c.args.text.now)) (lines_of c.args.text.now) c.table_of.result read;
+      refused = refused_for _ (table_format (lines_of c.args.text.now)) (lines_of c.args.text.now) c.table_of.result read;
     }

@@ -1,28 +1,42 @@
 -- The places where the reading begins and ends, each by its law.
-use Rattle.std.proofs.Common.{◌≡◌, ◌+◌, Ok, Err, codes, sym, ap, ◌∙◌, subst}
+use Rattle.std.proofs.Common.{◌≡◌, ℕ, ◌+◌, List, Option, Result, Ok, Err, sym, ap, ◌∙◌, subst}
 use Rattle.std.proofs.lemmas.Result.{err_from_is_err_and}
-use Rattle.machine.specs.Layout.{empty_layout}
-use Rattle.words.specs.Reading.{header_at, judged}
-use Rattle.words.specs.Text.{Progress, words_of}
+use Rattle.machine.specs.declared.layout.Version.{Version}
+use Rattle.machine.specs.Layout.{Layout, empty_layout}
+use Rattle.words.specs.Reading.{header_at, judged, read_text}
+use Rattle.words.specs.Text.{Progress, lines_of}
 use Rattle.words.specs.declared.faults.Fault.{Fault}
 use Rattle.words.specs.declared.faults.Wrong.TheVariants.{Syntax, Tree}
 use Rattle.words.specs.Fault.{fault_at}
 use Rattle.words.proofs.ReadingLaws.{begins, ends_followed, ends_judged, ends_misjudged, no_beginning, no_more, stops_by}
+use Rattle.captext.specs.TableText.{table_header}
 use Rattle.captext.specs.Tables.{grown, table_line, read_table_of}
 use Rattle.captext.proofs.tables.table_of.Goals as goal
+
+-- what a text of a version gives
+abbrev read_by : List (Option (List (List ℕ))) → Version → Result Layout Fault
+read_by lines version = read_text (table_header version) table_line (judged grown) (empty_layout version) lines
 
 pub loop-words-init : goal.loop-words-init
 unfolding read_table_of
 loop-words-init c =
-    let read = subst (λ (at : Progress). header_at (words_of (codes "confine-table 1")) at ≡ Ok c.header.new.self) c.new-lines.ensures.exact c.in_ok-header.ensures.exact in
-    rw c.new-draft.ensures (begins _ table_line (judged grown) empty_layout _ _ read)
+    let version = c.version_of-version.result in
+    let lines = lines_of c.args.text.now in
+    let read = subst (λ (at : Progress). header_at (table_header version) at ≡ Ok c.take_header.new.lines) c.new-lines.ensures.exact c.in_ok-take_header.ensures in
+    rw c.new-draft.ensures
+    (begins _ table_line (judged grown) (empty_layout version) _ _ read ∙ ap (read_by lines) c.version_of-version.ensures)
 
-pub returns-in_err-header : goal.returns-in_err-header
+pub returns-in_err-take_header : goal.returns-in_err-take_header
 unfolding read_table_of
-returns-in_err-header c =
-    let starts = ap (λ (at : Progress). header_at (words_of (codes "confine-table 1")) at) c.new-lines.ensures.exact in
+returns-in_err-take_header c =
+    let version = c.version_of-version.result in
+    let lines = lines_of c.args.text.now in
+    let starts = ap (λ (at : Progress). header_at (table_header version) at) c.new-lines.ensures.exact in
     let p = err_from_is_err_and c.from_residual.result c.from_residual.ensures.1 in
-    rw (p.1, p.2) (λ _. no_beginning _ table_line (judged grown) empty_layout _ _ (sym starts ∙ c.in_err-header.ensures.exact))
+    rw (p.1, p.2)
+    (λ _.
+    sym (ap (read_by lines) c.version_of-version.ensures)
+    ∙ no_beginning _ table_line (judged grown) (empty_layout version) _ _ (sym starts ∙ c.in_err-take_header.ensures))
 
 pub returns-in-Ok-end : goal.returns-in-Ok-end
 returns-in-Ok-end c =
