@@ -4,3 +4,4 @@ pub mod LineLaws
 pub mod Certificates
 pub mod RightLines
 pub mod Differences
+mod Upgraded

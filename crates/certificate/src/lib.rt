@@ -3,12 +3,14 @@
 #![tactic(auto)]
 
 mod kinds;
+mod laws;
 mod line;
 mod making;
 mod reading;
 mod verifying;
 mod writing;
 
+pub use laws::upgraded_tables_are_judged_alike;
 pub use line::{Certificate, Line};
 pub use making::make;
 pub use reading::read;

@@ -36,11 +36,9 @@ pub fn strongest(alloc: Global, accepted: &Accepted<'_>) -> Result<Claims, Refus
 fn strongest_by(alloc: Global, table: &Table, policy: &Policy) -> Result<Claims, AllocError>
     ensures { IfOk result (AreStrongest table.now (allows policy.now)) }
 {
-    // That labels are few, a table tells with its objects.
-    let _ = table.objects();
     let mut claims = Claims::new(alloc);
     for number in 0..table.label_count() {
-        if let Some(actor) = Label::new(number as u8) {
+        if let Some(actor) = Label::new(number as u16) {
             add_claims_of(&mut claims, table, policy, actor)?;
         }
     }
@@ -58,10 +56,9 @@ fn add_claims_of(
     requires before { AreStrongestBefore table.now (allows policy.now) actor 0 claims.old }
     ensures { OnOk result (AreStrongestBefore table.now (allows policy.now) (actor + 1) 0 claims.new) }
 {
-    let _ = table.objects();
     let extents = Extents::of(policy, actor);
     for number in 0..table.label_count() {
-        if let Some(object) = Label::new(number as u8) {
+        if let Some(object) = Label::new(number as u16) {
             add_claim_on(claims, &extents, object)?;
         }
     }

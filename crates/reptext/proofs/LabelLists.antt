@@ -7,7 +7,7 @@ use Rattle.std.proofs.lemmas.List.FromFn.{map-range_with_len_more}
 use Rattle.std.proofs.lemmas.List.Sums.{fold-append}
 use Rattle.std.proofs.Math.ListN.{get_or-append}
 use Rattle.std.proofs.Math.Seq.{get_or-append_seam}
-use Rattle.base.specs.Labels.{is_in}
+use Rattle.base.specs.Labels.{is_in, no_labels}
 use Rattle.base.specs.declared.labels.Labels.{Labels}
 use Rattle.reptext.specs.Relations.{relation_of}
 use borrow.Author.Count.{below_more}
@@ -40,8 +40,8 @@ names_more g f p n =
     ∙ map-append g (map f (filter p (range_with_len 0 n))) (map f (filter p (n ∷ [])))
 
 -- a label's set, where it is there
-pub same_set : (sets : List Labels) (i a : ℕ) (d : Labels) → i ≡ a → a < length sets → get_or sets i d ≡ get_or sets a (record { word = 0 })
-same_set sets i a d same within = ap (λ k. get_or sets k d) same ∙ get_or_default sets a d (record { word = 0 }) within
+pub same_set : (sets : List Labels) (i a : ℕ) (d : Labels) → i ≡ a → a < length sets → get_or sets i d ≡ get_or sets a no_labels
+same_set sets i a d same within = ap (λ k. get_or sets k d) same ∙ get_or_default sets a d no_labels within
 
 -- one more label has its set
 pub decided_more : (sets : List Labels) (set : Labels) (R : ℕ → ℕ → Type 0) (n : ℕ) → length sets ≡ n
@@ -49,5 +49,5 @@ pub decided_more : (sets : List Labels) (set : Labels) (R : ℕ → ℕ → Type
     → (a : ℕ) → a < n + 1 → (l : ℕ) → (relation_of (sets ++ set ∷ []) a l ≡ true) ↔ R a l
 decided_more sets set R n count before here =
     below_more (λ a. (l : ℕ) → (relation_of (sets ++ set ∷ []) a l ≡ true) ↔ R a l) n
-    (λ a low l. rw (get_or-append sets (set ∷ []) (record { word = 0 }) a (omega arith)) (before a low l))
-    (λ l. rw (← count) (rw (get_or-append_seam sets set [] (record { word = 0 })) (rw count (here l))))
+    (λ a low l. rw (get_or-append sets (set ∷ []) no_labels a (omega arith)) (before a low l))
+    (λ l. rw (← count) (rw (get_or-append_seam sets set [] no_labels) (rw count (here l))))

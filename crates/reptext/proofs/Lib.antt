@@ -1,3 +1,4 @@
 mod LabelLists
 mod Names
 pub mod OneText
+mod Upgraded

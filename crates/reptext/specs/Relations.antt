@@ -1,6 +1,6 @@
 -- The relations of labels that the report of an acceptance tells, and tests that decide them (confine's own).
 use Rattle.std.specs.Prelude.{◌≡◌, ◌↔◌, ◌<◌, ℕ, Bool, true, List, length, get_or}
-use Rattle.base.specs.Labels.{is_in}
+use Rattle.base.specs.Labels.{is_in, no_labels}
 use Rattle.base.specs.declared.labels.Labels.{Labels}
 use Rattle.machine.specs.Layout.{Layout}
 use Rattle.policy.specs.Cut.{IsCut}
@@ -19,4 +19,4 @@ Decides t test R = (a : ℕ) → a < length t.labels → (l : ℕ) → (test a l
 
 -- whether a label is in the set of another, where each label has a set
 abbrev pub relation_of : List Labels → ℕ → ℕ → Bool
-relation_of sets a l = is_in (get_or sets a (record { word = 0 })) l
+relation_of sets a l = is_in (get_or sets a no_labels) l

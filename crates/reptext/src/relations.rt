@@ -46,11 +46,9 @@ fn sets_of(
     ensures count { IfOk result (λ sets. length sets.items ≡ length table.now.labels) }
     ensures sets { IfOk result (λ sets. Decides table.now (relation_of sets.items) (relates relation (allows policy.now))) }
 {
-    // That labels are few, a table tells with its objects.
-    let _ = table.objects();
     let mut sets = Vec::new(alloc);
     for number in 0..table.label_count() {
-        if let Some(label) = Label::new(number as u8) {
+        if let Some(label) = Label::new(number as u16) {
             sets.push(related(policy, relation, label))?;
         }
     }
@@ -72,10 +70,11 @@ fn sets_value(alloc: Global, table: &Table, sets: &[Labels]) -> Result<Value, Al
     requires { length sets.now ≡ length table.now.labels }
     ensures { IfOk result (λ value. view value ≡ reports.relation_data table.now (relation_of sets.now)) }
 {
-    let _ = table.objects();
+    // That labels are few, a table tells with their number.
+    let _few = table.label_count();
     let mut members = Map::new(alloc);
     for number in 0..sets.len() {
-        if let Some(label) = Label::new(number as u8) {
+        if let Some(label) = Label::new(number as u16) {
             put_label(alloc, table, sets, label, &mut members)?;
         }
     }
@@ -106,10 +105,9 @@ fn names_in(alloc: Global, table: &Table, set: Labels) -> Result<Value, AllocErr
     ensures { IfOk result (λ value. view value
         ≡ reports.names_data (map (policy_text.label_name table.now) (filter (is_in set) (reports.labels_of table.now)))) }
 {
-    let _ = table.objects();
     let mut names = Vec::new(alloc);
     for number in 0..table.label_count() {
-        if let Some(label) = Label::new(number as u8) {
+        if let Some(label) = Label::new(number as u16) {
             push_name(alloc, table, set, label, &mut names)?;
         }
     }

@@ -38,13 +38,13 @@ end
 ";
 
 /// The labels of the table.
-const A: u8 = 0;
+const A: u16 = 0;
 
-const B: u8 = 1;
+const B: u16 = 1;
 
-const C: u8 = 2;
+const C: u16 = 2;
 
-const D: u8 = 3;
+const D: u16 = 3;
 
 /// The objects that its lines name.
 const NA: u64 = 0;
@@ -61,7 +61,7 @@ const XD: u64 = 9;
 
 /// What the capabilities in CNodes give, by CNode and index: the CNode's label, the kind, and the label of
 /// the capability's object.
-const CAPABILITIES: [(u64, u64, u8, Kind, u8); 17] = [
+const CAPABILITIES: [(u64, u64, u16, Kind, u16); 17] = [
     (NA, 0, A, Kind::Reset, C),
     (NA, 0, A, Kind::Send, C),
     (NA, 0, A, Kind::Receive, C),
@@ -82,14 +82,14 @@ const CAPABILITIES: [(u64, u64, u8, Kind, u8); 17] = [
 ];
 
 /// The threads with root slots: the thread's label, and that of the CNode.
-const ROOTS: [(u64, u8, u8); 2] = [(TA, A, A), (TB, B, B)];
+const ROOTS: [(u64, u16, u16); 2] = [(TA, A, A), (TB, B, B)];
 
 /// The pairs of the derivation tree, each by its two CNodes and an index in both: the label of the parent's
 /// CNode, and that of the child's.
-const PAIRS: [(u64, u64, u64, u8, u8); 2] = [(NA, NB, 0, A, B), (NA, NB, 1, A, B)];
+const PAIRS: [(u64, u64, u64, u16, u16); 2] = [(NA, NB, 0, A, B), (NA, NB, 1, A, B)];
 
 /// The bindings: thread and context, the thread's label, and that of the context.
-const BINDINGS: [(u64, u64, u8, u8); 2] = [(TA, XD, A, D), (TB, XA, B, A)];
+const BINDINGS: [(u64, u64, u16, u16); 2] = [(TA, XD, A, D), (TB, XA, B, A)];
 
 fn slot(holder: u64, index: u64) -> SlotRef {
     SlotRef {
@@ -99,7 +99,7 @@ fn slot(holder: u64, index: u64) -> SlotRef {
 }
 
 /// Whether an edge that the table gives isn't among these.
-fn lack(edges: &Edges<'_>, from: u8, kind: Kind, to: u8) -> bool {
+fn lack(edges: &Edges<'_>, from: u16, kind: Kind, to: u16) -> bool {
     match (Label::new(from), Label::new(to)) {
         (Some(from), Some(to)) => !edges.has(from, kind, to),
         _ => false,
