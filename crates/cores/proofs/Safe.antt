@@ -33,6 +33,9 @@ seen_is_safe system boot cores history accepted booted legal =
       integrity =
           λ before after noted m next is led step.
           accepted.safe.integrity m next noted.event noted.outcome (reached system.table boot before m booted led) step;
+      bounds =
+          λ before after noted m next is led step.
+          accepted.safe.bounds m next noted.event noted.outcome (reached system.table boot before m booted led) step;
       budgets =
           λ before after noted m next is led step.
           accepted.safe.budgets m next noted.event noted.outcome (reached system.table boot before m booted led) step;

@@ -10,13 +10,14 @@ use Rattle.machine.specs.Step.{Step}
 use Rattle.kernel.specs.Legal.{Leads}
 use Rattle.policy.specs.Domain.{EdgeTest}
 use Rattle.verdict.specs.Allowed.{IsAllowedStep}
+use Rattle.verdict.specs.Bounded.{IsBoundedStep}
 use Rattle.verdict.specs.Budgets.{KeepsBudgets}
 use Rattle.verdict.specs.Confined.{IsConfined}
 use Rattle.cores.specs.declared.view.Noted.{Noted}
 use Rattle.cores.specs.History.{log_of}
 
--- each state on it, after any of its beginnings, is confined, and its objects have labels; each step on it is allowed, and keeps the
--- budgets
+-- each state on it, after any of its beginnings, is confined, and its objects have labels; each step on it is allowed, takes away only
+-- from where its caller's label may take, and keeps the budgets
 pub record IsSafeHistory (t : Layout) (allowed : EdgeTest) (boot : Machine) (history : List Noted) : Type 0 where
   pub labelled :
       (before after : List Noted) (m : Machine) → history ≡ before ++ after → Leads boot (log_of before) m
@@ -26,6 +27,9 @@ pub record IsSafeHistory (t : Layout) (allowed : EdgeTest) (boot : Machine) (his
   pub integrity :
       (before after : List Noted) (noted : Noted) (m next : Machine) → history ≡ before ++ noted ∷ after
       → Leads boot (log_of before) m → Step m noted.event noted.outcome next → IsAllowedStep t allowed m noted.event next
+  pub bounds :
+      (before after : List Noted) (noted : Noted) (m next : Machine) → history ≡ before ++ noted ∷ after
+      → Leads boot (log_of before) m → Step m noted.event noted.outcome next → IsBoundedStep t allowed m noted.event next
   pub budgets :
       (before after : List Noted) (noted : Noted) (m next : Machine) → history ≡ before ++ noted ∷ after
       → Leads boot (log_of before) m → Step m noted.event noted.outcome next → KeepsBudgets t allowed m noted.event next
