@@ -1,0 +1,61 @@
+-- The drawing of who may change or take from whom, as Graphviz reads it: the labels, and an arrow from each to each other on which it has
+-- authority, solid where that is full and dashed where it may only take, with an edge that gives it (the authority is that of 'seL4
+-- Enforces Integrity', section 4, restated; its drawing is confine's own).
+use Rattle.std.specs.Prelude.{◌≡◌, ◌≢◌, ℕ, List, [], ◌∷◌, ◌++◌, codes, length, map}
+use Rattle.std.specs.List.{flat_map, range_with_len}
+use Rattle.base.specs.Kinds.{kind_name}
+use Rattle.base.specs.declared.edge.Edge.{Edge}
+use Rattle.captext.specs.PolicyText.{label_name}
+use Rattle.machine.specs.Layout.{Layout}
+use Rattle.policy.specs.Domain.{EdgeTest}
+use Rattle.policy.specs.Full.{IsFull}
+use Rattle.policy.specs.Places.{IsLeast}
+use Rattle.policy.specs.Reasons.{IsFullBy, IsTakeBy, reason_place}
+use Rattle.policy.specs.Take.{MayTake}
+
+-- the line of a label
+abbrev pub label_line : List ℕ → List ℕ
+label_line name = codes "  \"" ++ (name ++ codes "\"\n")
+
+-- the line of an arrow from one label to another, of this style, with an edge
+abbrev pub arrow_line : Layout → ℕ → ℕ → List ℕ → Edge → List ℕ
+arrow_line t a l style edge =
+    codes "  \"" ++ (label_name t a ++ (codes "\" -> \"" ++ (label_name t l ++ (codes "\" [" ++ (style ++ (codes "label=\""
+    ++ (label_name t edge.from ++ (codes " " ++ (kind_name edge.kind ++ (codes " " ++ (label_name t edge.to ++ codes "\"]\n")))))))))))
+
+-- what is drawn from one label to another: the arrow of its authority, with the first edge of the reason for it
+pub data IsArrow (test : EdgeTest) (t : Layout) (a l : ℕ) (text : List ℕ) : Type 0 where
+  -- from a label to itself none
+  itself : a ≡ l → text ≡ [] → IsArrow test t a l text
+  -- a solid one for full authority
+  solid : a ≢ l → (edge : Edge) (more : List Edge) → IsLeast reason_place (IsFullBy test a l) (edge ∷ more)
+      → text ≡ arrow_line t a l [] edge → IsArrow test t a l text
+  -- a dashed one where it may only take
+  dashed : a ≢ l → ¬ IsFull test a l → (edge : Edge) (more : List Edge) → IsLeast reason_place (IsTakeBy test a l) (edge ∷ more)
+      → text ≡ arrow_line t a l (codes "style=dashed, ") edge → IsArrow test t a l text
+  -- none where it may do neither
+  nothing : a ≢ l → ¬ IsFull test a l → ¬ MayTake test a l → text ≡ [] → IsArrow test t a l text
+
+-- what is drawn for pairs of labels, one after another
+abbrev pub Draws : EdgeTest → Layout → List (ℕ × ℕ) → List ℕ → Type 0
+Draws test t [] text = text ≡ []
+Draws test t (pair ∷ pairs) text =
+    (arrow : List ℕ) × (rest : List ℕ) × IsArrow test t pair.0 pair.1 arrow × Draws test t pairs rest × (text ≡ arrow ++ rest)
+
+-- to a text what is drawn for pairs of labels was added
+abbrev pub AddsArrows : EdgeTest → Layout → List (ℕ × ℕ) → List ℕ → List ℕ → Type 0
+AddsArrows test t pairs old new = (arrows : List ℕ) × Draws test t pairs arrows × (new ≡ old ++ arrows)
+
+-- the pairs of a label with each of so many
+abbrev pub pairs_with : ℕ → ℕ → List (ℕ × ℕ)
+pairs_with count a = map (λ l. (a, l)) (range_with_len 0 count)
+
+-- all pairs of so many labels, rising
+abbrev pub pairs_of : ℕ → List (ℕ × ℕ)
+pairs_of count = flat_map (pairs_with count) (range_with_len 0 count)
+
+-- the whole drawing
+pub record IsDrawing (t : Layout) (test : EdgeTest) (text : List ℕ) : Type 0 where
+  pub arrows : List ℕ
+  pub drawn : Draws test t (pairs_of (length t.labels)) arrows
+  pub is : text ≡ codes "digraph authority {\n" ++ (flat_map label_line t.labels ++ (arrows ++ codes "}\n"))
