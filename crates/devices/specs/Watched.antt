@@ -1,10 +1,11 @@
 -- A reader or a writer, and what is kept of its calls (confine's own).
-use Rattle.std.specs.Prelude.{Bool, true, false}
+use Rattle.std.specs.Prelude.{Bool, true, false, None, Option}
+use Rattle.std.specs.declared.io.ErrorKind.{ErrorKind}
 use Rattle.devices.specs.declared.watched.Watched.{Watched}
 
 -- one that hasn't been called
 abbrev pub watched : {D : Type 0} → D → Watched D
-watched device = record { device = device; failed = false; is_flushed = true }
+watched device = record { device = device; failed = false; is_flushed = true; why = None }
 
 -- the reader or writer
 abbrev pub device_of : {D : Type 0} → Watched D → D
@@ -17,3 +18,7 @@ failed_of watched = watched.failed
 -- whether a flush came after all that was written
 abbrev pub is_flushed_of : {D : Type 0} → Watched D → Bool
 is_flushed_of watched = watched.is_flushed
+
+-- why the last read failed that did, if one did
+abbrev pub why_unread : {D : Type 0} → Watched D → Option ErrorKind
+why_unread watched = watched.why

@@ -13,10 +13,12 @@ pub struct Watched<D> {
     device: D,
     failed: bool,
     is_flushed: bool,
+    /// Why the last read failed that did.
+    why: Option<ErrorKind>,
 }
 
 impl<D> Watched<D> {
-    ghost use Rattle.devices.specs.Watched.{watched, device_of};
+    ghost use Rattle.devices.specs.Watched.{watched, device_of, why_unread};
 
     /// A device that hasn't failed.
     pub fn new(device: D) -> Watched<D>
@@ -26,7 +28,15 @@ impl<D> Watched<D> {
             device,
             failed: false,
             is_flushed: true,
+            why: None,
         }
+    }
+
+    /// Why the last read failed that did, if one did.
+    pub fn why_unread(&self) -> Option<ErrorKind>
+        ensures { result ≡ why_unread self.now }
+    {
+        self.why
     }
 
     /// The device itself.
@@ -130,6 +140,7 @@ impl<R: Read> Source for Watched<R> {
         match read_from(&mut self.device, buf) {
             Ok(count) => Ok(count),
             Err(error) => {
+                self.why = Some(error.kind());
                 let told = ReadError::from(error);
                 self.failed = told == ReadError::Failed;
                 Err(told)

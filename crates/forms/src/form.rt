@@ -35,6 +35,22 @@ impl Text {
         }
     }
 
+    /// The first line of its second version, which a table has.
+    pub fn later_header(self) -> Option<&'static str> {
+        match self {
+            Text::Table => Some("confine-table 2"),
+            _ => None,
+        }
+    }
+
+    /// Whether a line is the first of a version.
+    pub fn has_header(self, line: &str) -> bool {
+        match self.later_header() {
+            Some(later) if later == line => true,
+            _ => self.header() == line,
+        }
+    }
+
     /// What it is called.
     pub fn name(self) -> &'static str {
         match self {

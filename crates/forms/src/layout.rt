@@ -31,7 +31,7 @@ pub enum LayoutFlaw<'a> {
 /// What is wrong with the first line.
 pub fn header_flaw(line: &str) -> LayoutFlaw<'_> {
     for kind in Text::ALL {
-        if kind.header() == line {
+        if kind.has_header(line) {
             return LayoutFlaw::HeaderOf(kind);
         }
     }

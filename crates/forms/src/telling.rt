@@ -16,7 +16,11 @@ impl fmt::Display for OfLayout<'_> {
             }
             LayoutFlaw::NoHeader => {
                 let (name, header) = (self.kind.name(), self.kind.header());
-                write!(f, "a {name} begins with `{header}`")
+                write!(f, "a {name} begins with `{header}`")?;
+                match self.kind.later_header() {
+                    Some(later) => write!(f, " or `{later}`"),
+                    None => Ok(()),
+                }
             }
             LayoutFlaw::Capitals(word) => write!(f, "`{word}` is to be in small letters"),
             LayoutFlaw::NoCall => f.write_str("core, thread and call are missing"),

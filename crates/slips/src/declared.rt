@@ -55,6 +55,17 @@ impl<'a> Row<'a> {
 }
 
 impl<'a> Declared<'a> {
+    /// Whether the table is one of the second version.
+    pub fn is_later(self) -> bool {
+        match (
+            Lines::new(self.text).next_line(),
+            Text::Table.later_header(),
+        ) {
+            (Some(line), Some(later)) => text_of(line) == later,
+            _ => false,
+        }
+    }
+
     /// The first line that is sought.
     pub fn row(self, sought: Sought<'_>) -> Option<Row<'a>> {
         let mut lines = Lines::new(self.text);

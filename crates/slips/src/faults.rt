@@ -75,7 +75,7 @@ fn flaw_of<'a>(
 ) -> Flaw<'a> {
     let text = text_of(line.bytes);
     if fault.line == 1 {
-        return match kind.header() == text {
+        return match kind.has_header(text) {
             true => Flaw::Layout(kind, LayoutFlaw::NoLineFeed),
             false => Flaw::Layout(kind, header_flaw(text)),
         };

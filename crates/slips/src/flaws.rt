@@ -36,8 +36,8 @@ impl fmt::Display for Flaw<'_> {
     fn fmt<W: fmt::Write>(&self, f: &mut fmt::Formatter<W>) -> fmt::Result {
         match *self {
             Flaw::NoLine(kind, 1) => {
-                let (name, header) = (kind.name(), kind.header());
-                write!(f, "a {name} begins with `{header}`")
+                let flaw = LayoutFlaw::NoHeader;
+                write!(f, "{}", OfLayout { kind, flaw })
             }
             Flaw::NoLine(_, _) => f.write_str("the text ends without the line `end`"),
             Flaw::Layout(kind, flaw) => write!(f, "{}", OfLayout { kind, flaw }),
@@ -237,7 +237,10 @@ impl fmt::Display for LimitFlaw {
                 "with it there are {slots} slots, more than 65,536"
             ),
             LimitFlaw::End => f.write_str("the object ends past 2^48"),
-            LimitFlaw::Labels => f.write_str("there are more than 64 labels"),
+            LimitFlaw::Labels => f.write_str(
+                "there are more than 64 labels: a table that begins with `confine-table 2` has up to 256",
+            ),
+            LimitFlaw::LaterLabels => f.write_str("there are more than 256 labels"),
             LimitFlaw::Objects => f.write_str("there are more than 4,096 objects"),
             LimitFlaw::Threads => f.write_str("there are more than 1,024 threads"),
             LimitFlaw::Events => f.write_str("there are more than 1,000,000 events"),

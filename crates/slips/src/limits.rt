@@ -14,7 +14,10 @@ pub(crate) enum LimitFlaw {
     Share(u64, u64),
     Period(u64),
     End,
+    /// Of a table of the first version.
     Labels,
+    /// Of one of the second.
+    LaterLabels,
     Objects,
     Threads,
     /// How many slots there would be.
@@ -34,6 +37,7 @@ pub(crate) fn limit_flaw(
             Some(flaw) => flaw,
             None => LimitFlaw::Events,
         }),
+        _ if form == Form::Label && declared.is_later() => Some(LimitFlaw::LaterLabels),
         _ if form == Form::Label => Some(LimitFlaw::Labels),
         _ => match own_flaw(form, row) {
             Some(flaw) => Some(flaw),

@@ -1,0 +1,73 @@
+//! The sentences on the entries of a log: on calls that are refused, and on an entry that is no step.
+use crate::refused::Refused;
+use base::{ObjId, Refusal};
+use machine::{Event, ObjectKind, Outcome};
+use std::alloc::{AllocError, Global};
+use std::fmt;
+
+/// The object that an event has call, which is to be a thread.
+#[derive(Clone, Copy)]
+pub struct Caller<'a> {
+    pub id: ObjId,
+    /// Its name, which is empty where the table lacks it.
+    pub name: &'a str,
+    /// Its kind, if the table has it.
+    pub kind: Option<ObjectKind>,
+}
+
+impl fmt::Display for Caller<'_> {
+    fn fmt<W: fmt::Write>(&self, f: &mut fmt::Formatter<W>) -> fmt::Result {
+        let name = self.name;
+        if name.is_empty() {
+            let number = self.id.0;
+            write!(f, "thread {number}")
+        } else {
+            write!(f, "`{name}`")
+        }
+    }
+}
+
+/// Why a call is refused, in a sentence: that of the line of this number in the text `name`.
+pub fn explain_refusal(
+    alloc: Global,
+    caller: Caller<'_>,
+    name: &str,
+    line: usize,
+    event: &Event,
+    refusal: Refusal,
+) -> Result<String, AllocError> {
+    let Refusal { code, detail } = refusal;
+    let why = Refused {
+        caller,
+        event,
+        refusal,
+    };
+    format!(in alloc; "{name}:{line}: `{event}` is refused {code} {detail}: {why}")
+}
+
+/// What the kernel answers to an entry that is no step, in a sentence: that of the number `entry`, from 1, in the
+/// log `name`, whose outcome is `told` there; `came` is what the kernel answers.
+pub fn explain_illegal(
+    alloc: Global,
+    caller: Caller<'_>,
+    name: &str,
+    entry: usize,
+    event: &Event,
+    told: &Outcome,
+    came: &Outcome,
+) -> Result<String, AllocError> {
+    // The header is a line too.
+    let line = entry.wrapping_add(1);
+    let mut sentence = format!(in alloc;
+        "{name}:{line}: entry {entry} is no step of the system: `{event}` comes to `{came}` there, and not to `{told}`"
+    )?;
+    if let Outcome::Refused(refusal) = came {
+        let why = Refused {
+            caller,
+            event,
+            refusal: *refusal,
+        };
+        write!(sentence, ": {why}")?;
+    }
+    Ok(sentence)
+}
