@@ -39,7 +39,11 @@ pub fn explain_broken(
 }
 
 /// Adds edges to a sentence, one after another.
-fn push_edges(sentence: &mut String, table: &Table, edges: &[Edge]) -> Result<(), AllocError> {
+pub(crate) fn push_edges(
+    sentence: &mut String,
+    table: &Table,
+    edges: &[Edge],
+) -> Result<(), AllocError> {
     let mut separator = "";
     for edge in edges {
         let line = EdgeLine { table, edge: *edge };

@@ -1,6 +1,6 @@
 use crate::asked::asked_edge;
 use crate::denials::explain_edge;
-use base::{Edge, Refusal};
+use base::{Edge, Kind, Label, Refusal};
 use deal::Open;
 use policy::{Broken, Policy};
 use std::alloc::{AllocError, Global};
@@ -9,7 +9,9 @@ use table::Table;
 use verdict::{Denial, judge};
 
 /// As many edges as there may be: from each label, of each kind, to each label.
-const MOST_EDGES: usize = 64 * 17 * 64;
+pub(crate) const MOST_EDGES: usize = LABELS * Kind::ALL.len() * LABELS;
+
+const LABELS: usize = Label::COUNT as usize;
 
 /// A line for each edge that a policy lacks: the rule and the place that ask for it, and the edge, as
 /// `A1 space.0: edge app await bell`.
@@ -66,7 +68,7 @@ fn line_of(
 }
 
 /// The edge that a policy lacks where it is denied so: of the two for which P1 asks, the one that isn't there.
-fn mending_edge(table: &Table, policy: &Policy, denial: &Denial) -> Option<Edge> {
+pub(crate) fn mending_edge(table: &Table, policy: &Policy, denial: &Denial) -> Option<Edge> {
     match *denial {
         Denial::Policy(
             Broken::SubjectsDisagree {

@@ -1,0 +1,160 @@
+//! The edges by which a rule of closed policies asks for another.
+use base::{Edge, Kind, Label};
+use policy::{Broken, Policy};
+
+/// The edges of a policy by which a rule asks for the edge that is missing: of several ways the first.
+pub(crate) fn premises(policy: &Policy, broken: Broken) -> [Option<Edge>; 4] {
+    match broken {
+        Broken::SubjectsDisagree {
+            subject,
+            other,
+            kind,
+            target,
+        } => {
+            let own = there(policy, subject, kind, target);
+            let twin = own.or(there(policy, other, kind, target));
+            [domain_edge(policy, subject, other), twin, None, None]
+        }
+        Broken::ControlLacks {
+            subject,
+            object,
+            ..
+        } => [
+            there(policy, subject, Kind::Control, object),
+            None,
+            None,
+            None,
+        ],
+        Broken::GrantLacks {
+            giver,
+            taker,
+            kind,
+            target,
+        } => {
+            let [granted, received] = meeting(policy, giver, Kind::Grant, taker);
+            [granted, received, there(policy, giver, kind, target), None]
+        }
+        Broken::DomainLacks { parent, child } => in_one_domain(policy, parent, child),
+        Broken::DeriveLacks { parent, child } => derived(policy, parent, child),
+        Broken::ContextLacks { subject, context } => {
+            [
+                there(policy, subject, Kind::Context, context),
+                None,
+                None,
+                None,
+            ]
+        }
+        Broken::ReplyLacks { reply, thread } => held(policy, reply, thread),
+        Broken::LentLacks { borrower, context } => lent(policy, borrower, context),
+    }
+}
+
+/// An edge, if the policy has it.
+fn there(policy: &Policy, from: Label, kind: Kind, to: Label) -> Option<Edge> {
+    let edge = Edge { from, kind, to };
+    policy.has(edge).then_some(edge)
+}
+
+/// The edge by which a label is in the domain of another.
+fn domain_edge(policy: &Policy, subject: Label, other: Label) -> Option<Edge> {
+    let space = there(policy, subject, Kind::Space, other);
+    space.or(there(policy, subject, Kind::Control, other))
+}
+
+/// The edges by which a label uses what another receives from.
+fn meeting(policy: &Policy, user: Label, kind: Kind, receiver: Label) -> [Option<Edge>; 2] {
+    for number in 0..Label::COUNT {
+        if let Some(end) = Label::new(number) {
+            let used = there(policy, user, kind, end);
+            let received = there(policy, receiver, Kind::Receive, end);
+            if used.is_some() && received.is_some() {
+                return [used, received];
+            }
+        }
+    }
+    [None, None]
+}
+
+/// The edges by which two labels are in one domain.
+fn in_one_domain(policy: &Policy, parent: Label, child: Label) -> [Option<Edge>; 4] {
+    for number in 0..Label::COUNT {
+        if let Some(subject) = Label::new(number) {
+            let one = domain_edge(policy, subject, parent);
+            let other = domain_edge(policy, subject, child);
+            if one.is_some() && other.is_some() {
+                return [one, other.filter(|_| parent != child), None, None];
+            }
+        }
+    }
+    [None; 4]
+}
+
+/// The edges by which capabilities are derived in two steps, or over a grant.
+fn derived(policy: &Policy, parent: Label, child: Label) -> [Option<Edge>; 4] {
+    for number in 0..Label::COUNT {
+        if let Some(between) = Label::new(number) {
+            let first = there(policy, parent, Kind::Derive, between);
+            let second = there(policy, between, Kind::Derive, child);
+            if first.is_some() && second.is_some() {
+                return [first, second, None, None];
+            }
+        }
+    }
+    for number in 0..Label::COUNT {
+        if let Some(giver) = Label::new(number) {
+            let given = domain_edge(policy, giver, parent);
+            let edges = granted_into(policy, giver, child);
+            if given.is_some() && edges.iter().all(|edge| edge.is_some()) {
+                let [granted, received, kept] = edges;
+                return [granted, received, given, kept];
+            }
+        }
+    }
+    [None; 4]
+}
+
+/// The edges by which a label grants capabilities to one in whose domain a label is.
+fn granted_into(policy: &Policy, giver: Label, child: Label) -> [Option<Edge>; 3] {
+    for number in 0..Label::COUNT {
+        if let Some(taker) = Label::new(number) {
+            let [granted, received] = meeting(policy, giver, Kind::Grant, taker);
+            let kept = domain_edge(policy, taker, child);
+            if granted.is_some() && kept.is_some() {
+                return [granted, received, kept];
+            }
+        }
+    }
+    [None; 3]
+}
+
+/// The edges by which a reply comes to hold a thread of a label, which receives with it or calls who does.
+fn held(policy: &Policy, reply: Label, thread: Label) -> [Option<Edge>; 4] {
+    let own = there(policy, thread, Kind::Reply, reply);
+    if own.is_some() {
+        return [own, None, None, None];
+    }
+    for number in 0..Label::COUNT {
+        if let Some(receiver) = Label::new(number) {
+            let answered = there(policy, receiver, Kind::Reply, reply);
+            let [called, received] = meeting(policy, thread, Kind::Call, receiver);
+            if answered.is_some() && called.is_some() {
+                return [answered, called, received, None];
+            }
+        }
+    }
+    [None; 4]
+}
+
+/// The edges by which a label is lent a context, by who runs on it and calls where the label receives.
+fn lent(policy: &Policy, borrower: Label, context: Label) -> [Option<Edge>; 4] {
+    for number in 0..Label::COUNT {
+        if let Some(caller) = Label::new(number) {
+            let ran = there(policy, caller, Kind::Runs, context);
+            let [called, received] = meeting(policy, caller, Kind::Call, borrower);
+            if ran.is_some() && called.is_some() {
+                return [called, received, ran, None];
+            }
+        }
+    }
+    [None; 4]
+}

@@ -1,0 +1,87 @@
+//! The sentences on what each label of an accepted system may do to the others.
+use base::{Label, Labels};
+use captext::label_name;
+use policy::Policy;
+use std::alloc::{AllocError, Global};
+use table::Table;
+
+/// A line for each label of a table: whom it may change by a policy, from whom it may take, and who is out of
+/// its reach.
+pub fn explain_reach(alloc: Global, table: &Table, policy: &Policy) -> Result<String, AllocError> {
+    let mut lines = String::new(alloc);
+    for number in 0..Label::COUNT {
+        if let Some(actor) = label_numbered(table, number) {
+            push_reach(alloc, &mut lines, table, policy, actor)?;
+        }
+    }
+    Ok(lines)
+}
+
+/// The label of this number, if the table has it.
+fn label_numbered(table: &Table, number: u16) -> Option<Label> {
+    let label = Label::new(number)?;
+    table.label_name(label)?;
+    Some(label)
+}
+
+/// Adds the line of a label.
+fn push_reach(
+    alloc: Global,
+    lines: &mut String,
+    table: &Table,
+    policy: &Policy,
+    actor: Label,
+) -> Result<(), AllocError> {
+    let name = label_name(table, actor);
+    write!(lines, "`{name}`")?;
+    let own = Labels::only(actor);
+    let changed = policy.full_labels(actor).difference(own);
+    let taken = policy
+        .take_labels(actor)
+        .difference(changed)
+        .difference(own);
+    let others = labels_of(table).difference(own);
+    let apart = others.difference(changed).difference(taken);
+    let mut separator = " ";
+    for (does, labels) in [
+        ("may change", changed),
+        ("may take from", taken),
+        ("can't reach", apart),
+    ] {
+        let names = names_of(alloc, table, labels)?;
+        if !names.is_empty() {
+            write!(lines, "{separator}{does} {names}")?;
+            separator = "; it ";
+        }
+    }
+    if others == Labels::none() {
+        lines.push_str(" is the only label")?;
+    }
+    lines.push('\n')
+}
+
+/// All labels of a table.
+fn labels_of(table: &Table) -> Labels {
+    let mut labels = Labels::none();
+    for number in 0..Label::COUNT {
+        if let Some(label) = label_numbered(table, number) {
+            labels = labels.union(Labels::only(label));
+        }
+    }
+    labels
+}
+
+/// The names of those of the table's labels that are in a set, with commas between them.
+fn names_of(alloc: Global, table: &Table, labels: Labels) -> Result<String, AllocError> {
+    let mut names = String::new(alloc);
+    for number in 0..Label::COUNT {
+        if let Some(label) = label_numbered(table, number) {
+            if labels.has(label) {
+                let separator = if names.is_empty() { "" } else { ", " };
+                let name = label_name(table, label);
+                write!(names, "{separator}`{name}`")?;
+            }
+        }
+    }
+    Ok(names)
+}
