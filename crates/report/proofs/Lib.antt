@@ -8,3 +8,4 @@ mod OneReport
 mod OneClaimed
 mod OneLog
 mod OneClosing
+mod OneDrawing

@@ -77,7 +77,7 @@ numbers_once (x ∷ xs) (y ∷ ys) same =
     let rest : edge_numbers xs ≡ edge_numbers ys = cc in
     λ i. record { from = from i; kind = same_kind x.kind y.kind kind i; to = to i } ∷ numbers_once xs ys rest i
 
-place_once : (xs ys : List Edge) → reason_place xs ≡ reason_place ys → xs ≡ ys
+pub place_once : (xs ys : List Edge) → reason_place xs ≡ reason_place ys → xs ≡ ys
 place_once xs ys same = let numbers : edge_numbers xs ≡ edge_numbers ys = cc in numbers_once xs ys numbers
 
 module _ (t : Layout) (test : EdgeTest) (a l : ℕ) where

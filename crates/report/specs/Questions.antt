@@ -1,5 +1,5 @@
--- What is told of a label's authority on another (the authority is that of 'seL4 Enforces Integrity', section 4, restated; telling why
--- it is there is confine's own).
+-- What is told of a label's authority on another, and drawn of all labels' (the authority is that of 'seL4 Enforces Integrity', section 4,
+-- restated; telling why it is there, and drawing it, are confine's own).
 use Rattle.std.specs.Prelude.{◌≡◌, ℕ, List, ◌++◌, codes, Option, Some, None}
 use Rattle.base.specs.declared.edge.Edge.{Edge}
 use Rattle.captext.specs.PolicyText.{edge_lines}
@@ -8,13 +8,14 @@ use Rattle.policy.specs.Policy.{allows}
 use Rattle.policy.specs.Reasons.{IsWhy}
 use Rattle.policy.specs.declared.why.Why.{Why}
 use Rattle.policy.specs.declared.why.Why.TheVariants as why
-use Rattle.report.specs.Answers.{no_file, read_nothing}
+use Rattle.report.specs.Answers.{no_file, no_label, read_nothing}
 use Rattle.report.specs.Commands.{Input, IsCarriedOut, Output}
 use Rattle.report.specs.declared.end.Asked.{Asked}
 use Rattle.report.specs.declared.end.Asked.TheVariants as asked
 use Rattle.report.specs.declared.end.End.{End}
 use Rattle.reptext.specs.declared.file.File.TheVariants as file
 use Rattle.table.specs.Names.{label_named}
+use Rattle.views.specs.Drawing.{IsDrawing}
 
 -- of two labels that may be there, the first that isn't
 abbrev pub first_absent : Option ℕ → Option ℕ → Option Asked
@@ -53,3 +54,12 @@ pub record Tells (actor object : List ℕ) (t : Layout) (edges : List Edge) (tex
 abbrev pub IsTold : {T P O : Type 0} → List ℕ → List ℕ → Input T → Input P → Output O → End → Type 0
 IsTold actor object table policy out end =
     IsCarriedOut file.Policy read_nothing (λ t. unlabelled t actor object) (λ t edges none. Tells actor object t edges) table policy no_file out end
+
+-- the answer to a table and a policy: the drawing of who may change or take from whom, with status 0
+abbrev pub Draws : Layout → List Edge → List ℕ → ℕ → Type 0
+Draws t edges text status = IsDrawing t (allows edges) text × (status ≡ 0)
+
+-- who may change or take from whom was drawn
+abbrev pub IsDrawn : {T P O : Type 0} → Input T → Input P → Output O → End → Type 0
+IsDrawn table policy out end =
+    IsCarriedOut file.Policy read_nothing no_label (λ t edges none. Draws t edges) table policy no_file out end

@@ -1,11 +1,13 @@
 -- What the command `replay` answers to a table, a policy and a log (confine's own).
-use Rattle.std.specs.Prelude.{◌≡◌, ℕ, ◌+◌, List, Some, length}
+use Rattle.std.specs.Prelude.{◌≡◌, ℕ, ◌+◌, List, Some, length, slice_get, take}
 use Rattle.base.specs.declared.edge.Edge.{Edge}
 use Rattle.evtext.specs.Log.{read_log_of}
 use Rattle.kernel.specs.Legal.{Entry, Leads, StopsAt}
 use Rattle.machine.specs.Boot.{IsBoot}
 use Rattle.machine.specs.Layout.{Layout}
+use Rattle.machine.specs.declared.call.Outcome.{Outcome}
 use Rattle.machine.specs.Machine.{Machine}
+use Rattle.machine.specs.Step.{Step}
 use Rattle.machine.specs.WellFormed.{kind_of}
 use Rattle.policy.specs.Policy.{allows}
 use Rattle.report.specs.Answers.{no_label}
@@ -22,6 +24,15 @@ use Rattle.verdict.specs.declared.denial.Denial.{Denial}
 -- the log's last state: its entries are a run from the boot state of the table to there
 abbrev pub IsReplayedTo : Layout → List Entry → Machine → Type 0
 IsReplayedTo t entries last = (boot : Machine) × IsBoot t boot × Leads boot entries last
+
+-- after the entries before, which are a run from the table's boot state, the event of the entry can come to this outcome
+pub record IsAnsweredAt (t : Layout) (entries : List Entry) (at : ℕ) (came : Outcome) : Type 0 where
+  pub entry : Entry
+  pub here : slice_get entries at ≡ Some entry
+  pub before : Machine
+  pub led : IsReplayedTo t (take at entries) before
+  pub next : Machine
+  pub stepped : Step before entry.0 came next
 
 -- the least place where a machine's authority lies outside the policy
 abbrev pub IsFirstOutside : Layout → List Edge → Machine → Denial → Type 0

@@ -14,6 +14,7 @@ use crate::load::Loaded;
 use crate::{Asked, File, Finding};
 use base::Refusal;
 use captext::Fault;
+use machine::{Event, Outcome};
 use reptext::denial_text;
 use std::alloc::{AllocError, Global};
 use table::Table;
@@ -56,6 +57,11 @@ pub(crate) trait Command {
     /// Reads the third text; a fault that is `Fault::MEMORY` says that memory was refused.
     fn read_third(alloc: Global, table: &Table, bytes: &[u8]) -> Result<Self::Third, Fault>
         ensures { Reads held result (read_of table.now bytes.now) };
+
+    /// The entries of the log that the third file holds, if it holds one.
+    fn log_of(_third: &Self::Third) -> Option<&[(Event, Outcome)]> {
+        None
+    }
 
     /// Which of the labels that it asks about the table lacks first.
     fn unlabelled(&self, table: &Table) -> Option<Asked>

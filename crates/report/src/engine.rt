@@ -7,7 +7,7 @@ ghost use Rattle.report.specs.Files.{Contents, Gives, IfUnlabelled, unread_by, u
 
 use crate::command::{Answer, Command};
 use crate::load::{Loaded, Stop, load};
-use crate::{Asked, End, File, Listener, Sink, Source};
+use crate::{Asked, End, File, Heard, Listener, Sink, Source};
 use reptext::fault_report;
 use std::alloc::Global;
 
@@ -47,19 +47,26 @@ where
 {
     let loaded = load::<C, T, P, S, L>(alloc, table, policy, third, listener);
     let answer = answer(command, alloc, &loaded);
-    announce(listener, &loaded, &answer);
+    announce::<C, L>(listener, &loaded, &answer);
     write(out, answer)
 }
 
 /// Has the listener hear of an answer to what was loaded, if there is one, or which label it lacks.
-fn announce<X: Drop, L: Listener>(
+fn announce<C: Command, L: Listener>(
     listener: &mut L,
-    loaded: &Result<Loaded<X>, Stop>,
+    loaded: &Result<Loaded<C::Third>, Stop>,
     answer: &Result<Answer, Unanswered>,
 ) {
     match (loaded, answer) {
         (Ok(loaded), Ok(answer)) => {
-            listener.hear_answer(&loaded.table, &loaded.policy, answer.finding.as_ref());
+            let heard = Heard {
+                table: &loaded.table,
+                policy: &loaded.policy,
+                log: C::log_of(&loaded.third),
+                finding: answer.finding.as_ref(),
+                text: answer.text.as_slice(),
+            };
+            listener.hear_answer(&heard);
         }
         (Ok(loaded), Err(Unanswered::NoLabel(asked))) => {
             listener.hear_unlabelled(&loaded.table, *asked);

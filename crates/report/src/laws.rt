@@ -3,11 +3,12 @@ ghost use Rattle.certificate.specs.Reading.{read_certificate_of};
 ghost use Rattle.claims.specs.Reading.{read_claims_of};
 ghost use Rattle.evtext.specs.Log.{read_log_of};
 ghost use Rattle.evtext.specs.Script.{read_script_of};
+ghost use Rattle.report.specs.Alone.{Lists};
 ghost use Rattle.report.specs.Answers.{Checks, Verifies, read_nothing};
 ghost use Rattle.report.specs.Claimed.{JudgesClaims, WritesStrongest};
 ghost use Rattle.report.specs.Closings.{Closes};
 ghost use Rattle.report.specs.OneAnswer.{HaveOneAnswer, RunsInMemory};
-ghost use Rattle.report.specs.Questions.{Tells};
+ghost use Rattle.report.specs.Questions.{Draws, Tells};
 ghost use Rattle.report.specs.Replays.{Replays};
 ghost use Rattle.report.specs.declared.checking.OnAccept.{OnAccept};
 ghost use Rattle.report.specs.declared.closing.OnClose.{OnClose};
@@ -23,6 +24,8 @@ pub fn reports_are_functions_of_the_bytes()
     ensures replay { HaveOneAnswer file.Log (λ t. read_log_of) Replays }
     ensures close { (written : OnClose) → HaveOneAnswer file.Policy read_nothing (λ t edges none. Closes written t edges) }
     ensures why { (actor object : List ℕ) → HaveOneAnswer file.Policy read_nothing (λ t edges none. Tells actor object t edges) }
+    ensures draw { HaveOneAnswer file.Policy read_nothing (λ t edges none. Draws t edges) }
+    ensures list { HaveOneAnswer file.Policy read_nothing (λ t edges none. Lists t) }
     ensures claims { HaveOneAnswer file.Claims read_claims_of JudgesClaims }
     ensures strongest { HaveOneAnswer file.Policy read_nothing (λ t edges none. WritesStrongest t edges) }
     ensures run { HaveOneAnswer file.Script (λ t. read_script_of) RunsInMemory }

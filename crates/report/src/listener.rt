@@ -1,6 +1,7 @@
 use crate::{Asked, File};
 use captext::Fault;
 use claims::BrokenClaim;
+use machine::{Event, Outcome};
 use policy::Policy;
 use table::Table;
 use verdict::Denial;
@@ -18,14 +19,27 @@ pub enum Finding {
     Broken(BrokenClaim),
 }
 
+/// What was judged, and what came of it.
+#[derive(Clone, Copy)]
+pub struct Heard<'a> {
+    pub table: &'a Table,
+    pub policy: &'a Policy,
+    /// The entries of the log that was read, if one was.
+    pub log: Option<&'a [(Event, Outcome)]>,
+    /// What is found wrong, if anything is.
+    pub finding: Option<&'a Finding>,
+    /// What is written.
+    pub text: &'a [u8],
+}
+
 /// Hears what a command finds, to tell a person of it. What is answered doesn't depend on it.
 pub trait Listener {
     /// The text of a file has this fault; `table` is what it was read by, if the table is another file.
     /// It isn't told of a fault that is want of memory.
     fn hear_fault(&mut self, file: File, text: &[u8], table: Option<&Table>, fault: Fault);
 
-    /// The files were judged: what is found wrong, if anything is.
-    fn hear_answer(&mut self, table: &Table, policy: &Policy, finding: Option<&Finding>);
+    /// The files were judged.
+    fn hear_answer(&mut self, heard: &Heard<'_>);
 
     /// The table lacks a label that is asked about.
     fn hear_unlabelled(&mut self, table: &Table, asked: Asked);
@@ -38,7 +52,7 @@ pub struct Silence;
 impl Listener for Silence {
     fn hear_fault(&mut self, _file: File, _text: &[u8], _table: Option<&Table>, _fault: Fault) {}
 
-    fn hear_answer(&mut self, _table: &Table, _policy: &Policy, _finding: Option<&Finding>) {}
+    fn hear_answer(&mut self, _heard: &Heard<'_>) {}
 
     fn hear_unlabelled(&mut self, _table: &Table, _asked: Asked) {}
 }

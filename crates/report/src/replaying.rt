@@ -1,4 +1,4 @@
-ghost use Rattle.std.specs.Prelude.{◌≡◌, ◌≤◌, List, false, IfErr, IfOk};
+ghost use Rattle.std.specs.Prelude.{◌≡◌, ◌≤◌, List, false, IfErr, IfOk, IfSome};
 ghost use Rattle.base.specs.Refusals.{out_of_memory};
 ghost use Rattle.evtext.specs.Log.{read_log_of};
 ghost use Rattle.kernel.specs.Legal.{Entry};
@@ -84,6 +84,10 @@ impl Command for Replaying {
         read_log(alloc, bytes)
     }
 
+    fn log_of(third: &Log) -> Option<&[(Event, Outcome)]> {
+        Some(third.as_slice())
+    }
+
     fn unlabelled(&self, _table: &Table) -> Option<Asked> {
         None
     }
@@ -143,5 +147,23 @@ fn replayed_from(
                 finding: Some(Finding::Outside(denial)),
             })
         }
+    }
+}
+
+/// What the kernel answers to the event of an entry, from 0, where it makes the steps of the entries before: none where
+/// these are no steps, where there is no such entry, and where memory is refused.
+pub fn answer_at(
+    alloc: Global,
+    table: &Table,
+    entries: &[(Event, Outcome)],
+    at: usize,
+) -> Option<Outcome>
+    ensures { IfSome result (λ came. replays.IsAnsweredAt table.now entries.now at came) }
+{
+    let (event, _) = entries.get(at)?;
+    let mut state = boot(alloc, table).ok()?;
+    match kernel::replay(&mut state, &entries[..at]) {
+        Ok(None) => Some(kernel::step(&mut state, *event)),
+        _ => None,
     }
 }

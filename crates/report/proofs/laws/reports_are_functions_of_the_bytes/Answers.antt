@@ -3,16 +3,18 @@ use Rattle.certificate.specs.Reading.{read_certificate_of}
 use Rattle.claims.specs.Reading.{read_claims_of}
 use Rattle.evtext.specs.Log.{read_log_of}
 use Rattle.evtext.specs.Script.{read_script_of}
+use Rattle.report.specs.Alone.{Lists}
 use Rattle.report.specs.Answers.{Checks, Verifies, read_nothing}
 use Rattle.report.specs.Claimed.{JudgesClaims, WritesStrongest}
 use Rattle.report.specs.Closings.{Closes}
 use Rattle.report.specs.OneAnswer.{RunsInMemory}
-use Rattle.report.specs.Questions.{Tells}
+use Rattle.report.specs.Questions.{Draws, Tells}
 use Rattle.report.specs.Replays.{Replays}
 use Rattle.reptext.specs.declared.file.File.TheVariants as file
 use Rattle.report.proofs.OneAnswer.{one_answer}
 use Rattle.report.proofs.OneClaimed.{claims_once, strongest_told_once}
 use Rattle.report.proofs.OneClosing.{close_once, tell_once}
+use Rattle.report.proofs.OneDrawing.{draw_once, list_once}
 use Rattle.report.proofs.OneLog.{replay_once, run_told_once}
 use Rattle.report.proofs.OneReport.{check_once, verify_once}
 use Rattle.report.proofs.laws.reports_are_functions_of_the_bytes.Goals as goal
@@ -34,6 +36,12 @@ returns-clause-close c =
 pub returns-clause-why : goal.returns-clause-why
 returns-clause-why c =
     λ actor object. one_answer file.Policy read_nothing (λ t edges none. Tells actor object t edges) (tell_once actor object)
+
+pub returns-clause-draw : goal.returns-clause-draw
+returns-clause-draw c = one_answer file.Policy read_nothing (λ t edges none. Draws t edges) draw_once
+
+pub returns-clause-list : goal.returns-clause-list
+returns-clause-list c = one_answer file.Policy read_nothing (λ t edges none. Lists t) list_once
 
 pub returns-clause-claims : goal.returns-clause-claims
 returns-clause-claims c = one_answer file.Claims read_claims_of JudgesClaims claims_once

@@ -1,0 +1,64 @@
+-- A table and a policy have one drawing, and a table one list.
+use Rattle.std.proofs.Common.{◌≡◌, ℕ, List, [], ◌∷◌, ◌++◌, length, codes, sym, ap, ◌∙◌}
+use Rattle.std.specs.List.{flat_map}
+use Rattle.base.specs.declared.edge.Edge.{Edge}
+use Rattle.machine.specs.Layout.{Layout}
+use Rattle.policy.specs.Domain.{EdgeTest}
+use Rattle.policy.specs.Places.{IsLeast}
+use Rattle.policy.specs.Policy.{allows}
+use Rattle.policy.specs.Reasons.{IsFullBy, IsTakeBy, reason_place}
+use Rattle.report.specs.Alone.{Lists}
+use Rattle.report.specs.Questions.{Draws}
+use Rattle.report.proofs.OneAnswer.{JudgesOne}
+use Rattle.report.proofs.OneClosing.{place_once}
+use Rattle.verdict.proofs.OneVerdict.{one_least}
+use Rattle.views.specs.Drawing.{IsArrow, arrow_line, label_line, pairs_of}
+use Rattle.views.specs.Drawing as drawing
+use Rattle.views.specs.Drawing.IsArrow.{itself, solid, dashed, nothing}
+
+module _ (test : EdgeTest) (t : Layout) where
+  -- the least reason has one first edge
+  first_once : (P : List Edge → Type 0) (edge other : Edge) (more rest : List Edge) → IsLeast reason_place P (edge ∷ more)
+      → IsLeast reason_place P (other ∷ rest) → edge ≡ other
+  first_once P edge other more rest is also =
+      let same : edge ∷ more ≡ other ∷ rest = one_least reason_place P place_once (edge ∷ more) (other ∷ rest) is also in cc
+
+  arrow_once : (a l : ℕ) (one other : List ℕ) → IsArrow test t a l one → IsArrow test t a l other → one ≡ other
+  arrow_once a l one other (itself same is) (itself again also) = is ∙ sym also
+  arrow_once a l one other (itself same is) (solid differ edge more least also) = absurd (differ same)
+  arrow_once a l one other (itself same is) (dashed differ lacks edge more least also) = absurd (differ same)
+  arrow_once a l one other (itself same is) (nothing differ lacks takes also) = absurd (differ same)
+  arrow_once a l one other (solid differ edge more least is) (itself same also) = absurd (differ same)
+  arrow_once a l one other (solid differ edge more least is) (solid again first rest least_too also) =
+      is ∙ ap (arrow_line t a l []) (first_once (IsFullBy test a l) edge first more rest least least_too) ∙ sym also
+  arrow_once a l one other (solid differ edge more least is) (dashed again lacks first rest least_too also) = absurd (lacks least.has.0)
+  arrow_once a l one other (solid differ edge more least is) (nothing again lacks takes also) = absurd (lacks least.has.0)
+  arrow_once a l one other (dashed differ lacks edge more least is) (itself same also) = absurd (differ same)
+  arrow_once a l one other (dashed differ lacks edge more least is) (solid again first rest least_too also) = absurd (lacks least_too.has.0)
+  arrow_once a l one other (dashed differ lacks edge more least is) (dashed again without first rest least_too also) =
+      is ∙ ap (arrow_line t a l (codes "style=dashed, ")) (first_once (IsTakeBy test a l) edge first more rest least least_too) ∙ sym also
+  arrow_once a l one other (dashed differ lacks edge more least is) (nothing again without takes also) = absurd (takes least.has.0)
+  arrow_once a l one other (nothing differ lacks takes is) (itself same also) = absurd (differ same)
+  arrow_once a l one other (nothing differ lacks takes is) (solid again edge more least also) = absurd (lacks least.has.0)
+  arrow_once a l one other (nothing differ lacks takes is) (dashed again without edge more least also) = absurd (takes least.has.0)
+  arrow_once a l one other (nothing differ lacks takes is) (nothing again without neither also) = is ∙ sym also
+
+  arrows_once : (pairs : List (ℕ × ℕ)) (one other : List ℕ) → drawing.Draws test t pairs one → drawing.Draws test t pairs other → one ≡ other
+  arrows_once [] one other is also = is ∙ sym also
+  arrows_once (pair ∷ pairs) one other (arrow, rest, is, drawn, parts) (again, left, also, too, pieces) =
+      parts
+      ∙ ap (λ text. text ++ rest) (arrow_once pair.0 pair.1 arrow again is also)
+      ∙ ap (λ text. again ++ text) (arrows_once pairs rest left drawn too)
+      ∙ sym pieces
+
+pub draw_once : JudgesOne (λ t edges (none : List ℕ). Draws t edges)
+draw_once t edges none text other status another is also =
+    let same = arrows_once (allows edges) t (pairs_of (length t.labels)) is.0.arrows also.0.arrows is.0.drawn also.0.drawn in (
+      is.0.is
+          ∙ ap (λ arrows. codes "digraph authority {\n" ++ (flat_map label_line t.labels ++ (arrows ++ codes "}\n"))) same
+          ∙ sym also.0.is,
+      is.1 ∙ sym also.1,
+    )
+
+pub list_once : JudgesOne (λ t edges (none : List ℕ). Lists t)
+list_once t edges none text other status another is also = (is.0 ∙ sym also.0, is.1 ∙ sym also.1)
