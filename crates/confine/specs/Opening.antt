@@ -4,7 +4,7 @@ use Rattle.std.specs.declared.io.Error.{Error}
 use Rattle.confine.specs.declared.files.Files.{Files}
 use Rattle.confine.specs.declared.files.Files.TheVariants.{One, Two, Three}
 use Rattle.confine.specs.declared.request.Request.{Request}
-use Rattle.confine.specs.declared.request.Request.TheVariants.{Check, Verify, Run, Replay, Close, Why, Claims}
+use Rattle.confine.specs.declared.request.Request.TheVariants.{Check, Verify, Run, Replay, Close, Why, Draw, Claims}
 use Rattle.confine.specs.declared.request.Request.TheVariants as request
 use Rattle.confine.specs.declared.request.SplitRun.{SplitRun}
 use Rattle.devices.specs.Opened.{bytes_left, opened}
@@ -18,7 +18,7 @@ use Rattle.report.specs.Claimed.{AreJudged, AreWritten}
 use Rattle.report.specs.Closings.{IsClosedOver, IsStarted}
 use Rattle.report.specs.Commands.{Input, Output, input, output}
 use Rattle.report.specs.Ends.{status_of}
-use Rattle.report.specs.Questions.{IsTold}
+use Rattle.report.specs.Questions.{IsDrawn, IsTold}
 use Rattle.report.specs.Replays.{IsReplayed}
 use Rattle.report.specs.declared.end.End.{End}
 
@@ -71,6 +71,8 @@ Serves opens remaining out (Close table None on_close) files end = OnOne files (
     OnOpened opens remaining table.now t_left (λ t. IsStarted on_close t out end))
 Serves opens remaining out (Why table policy actor object) files end = OnTwo files (λ t_left p_left.
     OnOpened opens remaining table.now t_left (λ t. OnOpened opens remaining policy.now p_left (λ p. IsTold actor.now object.now t p out end)))
+Serves opens remaining out (Draw table policy) files end = OnTwo files (λ t_left p_left.
+    OnOpened opens remaining table.now t_left (λ t. OnOpened opens remaining policy.now p_left (λ p. IsDrawn t p out end)))
 Serves opens remaining out (Claims table policy (Some claims)) files end = OnThree files (λ t_left p_left c_left.
     OnOpened opens remaining table.now t_left (λ t. OnOpened opens remaining policy.now p_left (λ p.
     OnOpened opens remaining claims.now c_left (λ c. AreJudged t p c out end))))

@@ -3,7 +3,7 @@ use Rattle.std.specs.Prelude.{◌≤◌}
 use Rattle.confine.specs.declared.request.CommandLine.{CommandLine}
 use Rattle.confine.specs.declared.request.CommandLine.TheVariants.{InTurn, Split}
 use Rattle.confine.specs.declared.request.Request.{Request}
-use Rattle.confine.specs.declared.request.Request.TheVariants.{Check, Verify, Run, Replay, Close, Why, Claims, List}
+use Rattle.confine.specs.declared.request.Request.TheVariants.{Check, Verify, Run, Replay, Close, Why, Draw, Claims, List}
 
 -- a check has 1 to 16 workers
 abbrev pub IsWithinLimits : Request → Type 0
@@ -13,6 +13,7 @@ IsWithinLimits (Run table policy script) = Unit {0}
 IsWithinLimits (Replay table policy log) = Unit {0}
 IsWithinLimits (Close table policy on_close) = Unit {0}
 IsWithinLimits (Why table policy actor object) = Unit {0}
+IsWithinLimits (Draw table policy) = Unit {0}
 IsWithinLimits (Claims table policy claims) = Unit {0}
 IsWithinLimits (List table) = Unit {0}
 

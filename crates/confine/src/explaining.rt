@@ -1,14 +1,21 @@
+use crate::files::Files;
 use crate::request::{Invocation, Request};
 use base::Refusal;
-use captext::{read_table, write_table};
+use captext::{object_name, read_table, write_table};
+use evtext::read_log;
 use explain::{
     explain_broken, explain_closing, explain_closing_command, explain_denial, explain_outside,
-    explain_unlabelled,
+    explain_reach, explain_unlabelled, explain_why,
 };
+use machine::{Event, Outcome};
 use policy::Policy;
-use report::{Asked, End, Fault, File, Finding, Listener, OnClose};
-use slips::{Text, explain_fault, explain_roots};
+use report::{Asked, End, Fault, File, Finding, Heard, Listener, OnClose, answer_at};
+use slips::{
+    Caller, Text, explain_fault, explain_illegal, explain_refusal, explain_roots, explain_threads,
+};
 use std::alloc::{AllocError, Global};
+use std::fmt;
+use std::io::ErrorKind;
 use std::thread::Threads;
 use table::Table;
 use verdict::Denial;
@@ -19,8 +26,8 @@ use verdict::Denial;
 pub struct Explainer<'a, R> {
     rt: &'a R,
     invocation: Invocation<'a>,
-    /// Copies of a table and of the policy that was to be closed over it.
-    closed: Option<(Table, Policy)>,
+    /// Copies of a table and a policy of which more is told when all is done.
+    kept: Option<(Table, Policy)>,
 }
 
 impl<'a, R: AllocGlobal + Eprint> Explainer<'a, R> {
@@ -28,28 +35,56 @@ impl<'a, R: AllocGlobal + Eprint> Explainer<'a, R> {
         Explainer {
             rt,
             invocation,
-            closed: None,
+            kept: None,
         }
     }
 
-    /// A table, and the policy that was to be closed over it, if that is to be explained.
-    pub fn closed(&self) -> Option<&(Table, Policy)> {
-        self.closed.as_ref()
+    /// A table and a policy of which [`tell_kept`] is to tell more.
+    pub fn kept(&self) -> Option<&(Table, Policy)> {
+        self.kept.as_ref()
     }
 
-    /// Tells which file couldn't be read, if one couldn't.
-    pub fn hear_end(&self, end: End) {
+    /// Tells which file couldn't be read, if one couldn't, and why.
+    pub fn hear_end<F>(&self, end: End, files: &Files<F>) {
         if let (true, End::CannotRead(file)) = (self.invocation.explains, end) {
             let name = self.invocation.request.name_of(file);
-            self.tell(format!(in self.rt.alloc();
-                "`{name}` is to be the {file}: is it there, and may it be read?"
-            ));
+            let alloc = self.rt.alloc();
+            self.tell(match files.why_unread(file) {
+                Some(kind) => {
+                    let why = Unread(kind);
+                    format!(in alloc; "`{name}` is to be the {file}, and can't be read: {why}")
+                }
+                None => format!(in alloc; "`{name}` is to be the {file}, and can't be read"),
+            });
         }
     }
 
     fn tell(&self, sentence: Result<String, AllocError>) {
         if let Ok(sentence) = sentence {
             let _ = self.rt.eprintln(sentence);
+        }
+    }
+
+    /// Tells why calls are refused, of a run whose log is this text. A script's calls stand on the same lines, unless workers
+    /// made them.
+    fn tell_refusals(&self, table: &Table, script: &str, log: &[u8]) {
+        let alloc = self.rt.alloc();
+        let name = if self.invocation.is_split {
+            "log"
+        } else {
+            script
+        };
+        // The text is a log, as the program wrote it.
+        let Ok(entries) = read_log(alloc, log) else {
+            return;
+        };
+        for (index, (event, outcome)) in entries.iter().enumerate() {
+            if let Outcome::Refused(refusal) = outcome {
+                // The header is a line too.
+                let line = index.wrapping_add(2);
+                let caller = caller_of(table, event);
+                self.tell(explain_refusal(alloc, caller, name, line, event, *refusal));
+            }
         }
     }
 }
@@ -65,41 +100,42 @@ impl<R: AllocGlobal + Eprint> Listener for Explainer<'_, R> {
         }
     }
 
-    fn hear_answer(&mut self, table: &Table, policy: &Policy, finding: Option<&Finding>) {
+    fn hear_answer(&mut self, heard: &Heard<'_>) {
         if !self.invocation.explains {
             return;
         }
         let alloc = self.rt.alloc();
-        match (finding, self.invocation.request) {
-            (Some(Finding::Denied(denial)), request) => {
+        let (table, request) = (heard.table, self.invocation.request);
+        match (heard.finding, request) {
+            (Some(Finding::Denied(denial)), _) => {
                 self.tell(denial_told(alloc, table, denial, request));
             }
             (Some(Finding::Outside(denial)), _) => self.tell(explain_outside(alloc, table, denial)),
-            (Some(Finding::Illegal(entry)), request) => {
-                // The header is a line too.
-                let line = entry.wrapping_add(1);
-                let name = request.name_of(File::Log);
-                self.tell(format!(in alloc;
-                    "{name}:{line}: entry {entry} is no step of the system, which answers otherwise there: compare the log that `confine run` prints"
-                ));
+            (Some(Finding::Illegal(entry)), _) => {
+                self.tell(illegal_told(alloc, heard, request.name_of(File::Log), *entry));
             }
             (Some(Finding::Broken(broken)), _) => {
-                if let Ok(sentence) = explain_broken(alloc, table, policy, broken) {
+                if let Ok(sentence) = explain_broken(alloc, table, heard.policy, broken) {
                     self.tell(Ok(sentence));
                 }
             }
             (None, Request::Check { .. }) => {
-                if let Ok(notes) = roots_told(alloc, table) {
+                if let Ok(notes) = notes_told(alloc, table) {
                     let _ = self.rt.eprint(notes);
                 }
+                if let Ok(lines) = explain_reach(alloc, table, heard.policy) {
+                    let _ = self.rt.eprint(lines);
+                }
             }
+            (None, Request::Run { script, .. }) => self.tell_refusals(table, script, heard.text),
             (
                 None,
                 Request::Close {
                     on_close: OnClose::Policy | OnClose::Missing,
                     ..
-                },
-            ) => self.closed = copies(alloc, table, policy),
+                }
+                | Request::Why { .. },
+            ) => self.kept = copies(alloc, table, heard.policy),
             (None, _) => {}
         }
     }
@@ -112,10 +148,59 @@ impl<R: AllocGlobal + Eprint> Listener for Explainer<'_, R> {
     }
 }
 
-/// The notes on roots that leave bits of an address unread.
-fn roots_told(alloc: Global, table: &Table) -> Result<String, Refusal> {
+/// Why a file can't be read, as the system has it.
+#[derive(Clone, Copy)]
+struct Unread(ErrorKind);
+
+impl fmt::Display for Unread {
+    fn fmt<W: fmt::Write>(&self, f: &mut fmt::Formatter<W>) -> fmt::Result {
+        match self.0 {
+            ErrorKind::NotFound => f.write_str("there is no such file"),
+            ErrorKind::PermissionDenied => f.write_str("permission is denied"),
+            ErrorKind::IsADirectory => f.write_str("it is a folder"),
+            ErrorKind::NotADirectory => f.write_str("what stands before a `/` is no folder"),
+            ErrorKind::FileTooLarge => f.write_str("it has more than 1 GiB"),
+            ErrorKind::InvalidFilename => f.write_str("a file can't have so long a name"),
+            kind => write!(f, "{kind}"),
+        }
+    }
+}
+
+/// The notes on threads that can't call, and then those on roots that leave bits of an address unread.
+fn notes_told(alloc: Global, table: &Table) -> Result<String, Refusal> {
     let text = write_table(alloc, table)?;
-    Ok(explain_roots(alloc, &text)?)
+    let mut notes = explain_threads(alloc, &text)?;
+    notes.push_str(&explain_roots(alloc, &text)?)?;
+    Ok(notes)
+}
+
+/// The object that an event has call, as the table has it.
+fn caller_of<'a>(table: &'a Table, event: &Event) -> Caller<'a> {
+    Caller {
+        id: event.thread,
+        name: object_name(table, event.thread),
+        kind: table.kind(event.thread),
+    }
+}
+
+/// The sentence on an entry of a log that is no step, and what the kernel answers there, unless that would take more memory
+/// than there is.
+fn illegal_told(
+    alloc: Global,
+    heard: &Heard<'_>,
+    name: &str,
+    entry: usize,
+) -> Result<String, AllocError> {
+    // Entries are told from 1 on.
+    let at = entry.wrapping_sub(1);
+    if let Some(log) = heard.log {
+        let came = answer_at(alloc, heard.table, log, at);
+        if let (Some((event, told)), Some(came)) = (log.get(at), came) {
+            let caller = caller_of(heard.table, event);
+            return explain_illegal(alloc, caller, name, entry, event, told, &came);
+        }
+    }
+    format!(in alloc; "{name}: entry {entry} is no step of the system")
 }
 
 /// The sentence on a denial, and the command that mends it.
@@ -150,13 +235,24 @@ fn fault_told(
     }
 }
 
-/// Tells what asks for each edge that a policy lacks.
-pub fn tell_closing<R: AllocGlobal + Eprint + Threads + Sync>(
+/// Tells whence each edge of a reason comes; or, of a closing, what asks for each edge that a policy lacks.
+pub fn tell_kept<R: AllocGlobal + Eprint + Threads + Sync>(
     rt: &R,
+    request: Request<'_>,
     table: &Table,
     policy: &Policy,
 ) {
-    if let Ok(lines) = explain_closing(rt, rt.alloc(), table, policy) {
+    let alloc = rt.alloc();
+    let lines = match request {
+        Request::Why {
+            table: file,
+            actor,
+            object,
+            ..
+        } => explain_why(rt, alloc, file, table, policy, actor, object),
+        _ => explain_closing(rt, alloc, table, policy),
+    };
+    if let Ok(lines) = lines {
         let _ = rt.eprint(lines);
     }
 }

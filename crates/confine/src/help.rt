@@ -23,6 +23,9 @@ pub const ABOUT_CLOSE: &str =
 pub const ABOUT_WHY: &str =
     "Tells which authority a label has on another by a policy, and by which edges";
 
+pub const ABOUT_DRAW: &str =
+    "Draws, for Graphviz, who may change or take from whom by a policy, and by which edge";
+
 pub const ABOUT_CLAIMS: &str =
     "Tells whether claims hold: at most how much authority labels have on others";
 
@@ -32,7 +35,7 @@ pub const ABOUT_LIST: &str =
 // Clap indents what a file holds by twelve columns.
 pub const TABLE: &str = "\
 The objects, the capabilities and who holds them. Its lines, between `confine-table 1`
-and `end`, in this order:
+(`confine-table 2` has up to 256 labels in place of 64) and `end`, in this order:
 
   label NAME
   untyped NAME LABEL ADDRESS BITS                 2^BITS bytes that no object uses yet
@@ -134,7 +137,7 @@ and `end`, rise by the first label, and then by the second:
   none LABEL LABEL   threads of the first never change an object of the second
   take LABEL LABEL   .. other than by shrinking it";
 
-pub const VERSION: &str = "0.13.0";
+pub const VERSION: &str = "0.14.0";
 
 pub const EXPLAIN: &str =
     "Tells in sentences, on standard error, what is denied or faulty, and a way out";
@@ -523,5 +526,27 @@ So no object of `a` is changed by threads of `b`. Where they may take away, and 
 `take` and the edges by which they may, with status 1 too: the other's objects may vanish, or lose
 capabilities or links. Of several reasons that with the fewest edges is told. It is told of the
 policy: whether a table keeps to it, `confine check` tells.
+"
+);
+
+pub const EXAMPLE_DRAW: &str = with_policy!(
+    "a thread `main` may signal a bell and poll it.
+Which labels may change what is labelled otherwise?",
+    "\
+confine draw table policy
+
+It prints a graph, and ends with status 0:
+
+digraph authority {
+  \"a\"
+  \"b\"
+  \"a\" -> \"b\" [label=\"a notify b\"]
+}
+
+So threads of `a` may change objects of `b`, and the edge `a notify b` is the first of a reason for
+that, as `confine why` tells it. A dashed arrow is for threads that may take away, and no more.
+Between labels with no arrow nothing is changed. A label has no arrow to itself. It is drawn of the
+policy: whether a table keeps to it, `confine check` tells. Graphviz makes a picture of it:
+`confine draw table policy | dot -Tsvg >authority.svg`.
 "
 );

@@ -7,7 +7,7 @@ ghost use Rattle.devices.specs.Watched.{failed_of};
 ghost use Rattle.report.specs.Ends.{status_of};
 ghost use Rattle.confine.specs.Opening.{IsStatusOf, Serves, ServesSplit, written};
 ghost use Rattle.confine.specs.Requests.{IsWithinLimits, OnInTurn};
-ghost use Rattle.confine.specs.declared.request.Request.TheVariants.{Check, Verify, Run, Replay, Close, Why, Claims, List};
+ghost use Rattle.confine.specs.declared.request.Request.TheVariants.{Check, Verify, Run, Replay, Close, Why, Draw, Claims, List};
 
 mod explaining;
 mod files;
@@ -15,11 +15,11 @@ mod help;
 mod request;
 
 use clap::error::ErrorKind;
-use explaining::{Explainer, tell_closing};
+use explaining::{Explainer, tell_kept};
 use files::Files;
 use report::{
-    End, Listener, OnAccept, OnClose, Open, Watched, check, check_claims, close, list, open_result,
-    replay, run, run_split, start, verify, why, write_claims,
+    End, Listener, OnAccept, OnClose, Open, Watched, check, check_claims, close, draw, list,
+    open_result, replay, run, run_split, start, verify, why, write_claims,
 };
 use request::{CommandLine, Invocation, Request, SplitRun, read_request};
 use std::alloc::Global;
@@ -95,9 +95,9 @@ where
     let mut explainer = Explainer::new(rt, invocation);
     let (end, files) = serve(rt, invocation.request, opener, &mut explainer, out);
     let status = tell(rt, end);
-    explainer.hear_end(end);
-    if let Some((table, policy)) = explainer.closed() {
-        tell_closing(rt, table, policy);
+    explainer.hear_end(end, &files);
+    if let Some((table, policy)) = explainer.kept() {
+        tell_kept(rt, invocation.request, table, policy);
     }
     (status, files)
 }
@@ -123,7 +123,7 @@ where
     let mut explainer = Explainer::new(rt, run.invocation());
     let (end, files) = serve_split(rt, run, opener, &mut explainer, out);
     let status = tell(rt, end);
-    explainer.hear_end(end);
+    explainer.hear_end(end, &files);
     (status, files)
 }
 
@@ -178,6 +178,7 @@ where
             actor,
             object,
         } => serve_why(rt, table, policy, actor, object, opener, listener, out),
+        Request::Draw { table, policy } => serve_draw(rt, table, policy, opener, listener, out),
         Request::Claims {
             table,
             policy,
@@ -435,6 +436,33 @@ where
         listener,
         out,
     );
+    (end, Files::Two(table, policy))
+}
+
+/// Draws who may change or take from whom by the policy of this name.
+fn serve_draw<R, F, O, L, W>(
+    rt: &R,
+    table: &str,
+    policy: &str,
+    opener: O,
+    listener: &mut L,
+    out: &mut Watched<W>,
+) -> (End, Files<F>)
+where
+    R: AllocGlobal,
+    F: Read + Drop,
+    O: Fn(&str) -> io::Result<F> + Drop,
+    L: Listener,
+    W: Write,
+    requires opener { O.IsAlwaysCallable opener }
+    requires out { failed_of out.old ≡ false }
+    ensures served { Serves (FnReturnsAt O.Fn opener) F.remaining (written W.contents out.old out.new)
+        (Draw table.entry policy.entry) result.1 result.0 }
+    ensures exit { status_of result.0 ≤ 2 }
+{
+    let mut table = open_result(opener(table));
+    let mut policy = open_result(opener(policy));
+    let end = draw(rt.alloc(), &mut table, &mut policy, listener, out);
     (end, Files::Two(table, policy))
 }
 

@@ -36,6 +36,7 @@ impl<'a> SplitRun<'a> {
                 script: self.script,
             },
             explains: self.explains,
+            is_split: true,
         }
     }
 }
@@ -46,6 +47,8 @@ pub struct Invocation<'a> {
     pub request: Request<'a>,
     /// Whether a person is told on standard error what is found.
     pub explains: bool,
+    /// Whether a script's calls are made by workers, so that the log needn't have them in the script's order.
+    pub is_split: bool,
 }
 
 /// What a command is to do, with the names of the files.
@@ -89,6 +92,11 @@ pub enum Request<'a> {
         actor: &'a str,
         object: &'a str,
     },
+    /// Draws who may change or take from whom by a policy.
+    Draw {
+        table: &'a str,
+        policy: &'a str,
+    },
     /// Tells whether claims hold of a table and a policy; where none are named, writes the strongest that do.
     Claims {
         table: &'a str,
@@ -113,6 +121,7 @@ impl<'a> Request<'a> {
                 | Request::Replay { table, .. }
                 | Request::Close { table, .. }
                 | Request::Why { table, .. }
+                | Request::Draw { table, .. }
                 | Request::Claims { table, .. }
                 | Request::List { table },
             ) => table,
@@ -127,6 +136,7 @@ impl<'a> Request<'a> {
                     ..
                 }
                 | Request::Why { policy, .. }
+                | Request::Draw { policy, .. }
                 | Request::Claims { policy, .. },
             ) => policy,
             (File::Certificate, Request::Verify { certificate, .. }) => certificate,
@@ -194,7 +204,11 @@ fn line_of<'a>(matches: &ArgMatches<'a>) -> Option<CommandLine<'a>>
             script,
             explains,
         })),
-        request => Some(CommandLine::InTurn(Invocation { request, explains })),
+        request => Some(CommandLine::InTurn(Invocation {
+            request,
+            explains,
+            is_split: false,
+        })),
     }
 }
 
@@ -247,6 +261,10 @@ fn request_of<'a>(name: &str, found: &ArgMatches<'a>) -> Option<Request<'a>>
             actor: found.get_str("actor")?,
             object: found.get_str("object")?,
         }),
+        "draw" => Some(Request::Draw {
+            table,
+            policy: policy?,
+        }),
         "claims" => Some(Request::Claims {
             table,
             policy: policy?,
@@ -278,6 +296,7 @@ fn command<'a>(alloc: Global) -> Result<Command<'a>, AllocError> {
         .subcommand(replay_command(alloc)?)?
         .subcommand(close_command(alloc)?)?
         .subcommand(why_command(alloc)?)?
+        .subcommand(draw_command(alloc)?)?
         .subcommand(claims_command(alloc)?)?
         .subcommand(list_command(alloc)?)
 }
@@ -345,6 +364,10 @@ fn why_command<'a>(alloc: Global) -> Result<Command<'a>, AllocError> {
     on_system(alloc, "why", help::ABOUT_WHY, help::EXAMPLE_WHY)?
         .arg(actor)?
         .arg(object)
+}
+
+fn draw_command<'a>(alloc: Global) -> Result<Command<'a>, AllocError> {
+    on_system(alloc, "draw", help::ABOUT_DRAW, help::EXAMPLE_DRAW)
 }
 
 fn claims_command<'a>(alloc: Global) -> Result<Command<'a>, AllocError> {
