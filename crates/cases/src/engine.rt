@@ -1,6 +1,6 @@
 //! The commands of the program, over texts in memory.
 use report::{
-    OnAccept, OnClose, Open, Silence, Watched, check, check_claims, close, list, replay, run,
+    OnAccept, OnClose, Open, Silence, Watched, check, check_claims, close, draw, list, replay, run,
     verify, why, write_claims,
 };
 use std::alloc::Global;
@@ -21,6 +21,7 @@ pub enum Command<'a> {
     /// A closing that tells what is there without need.
     Surplus,
     List,
+    Draw,
     /// Whether the claims hold.
     Claim,
     /// The strongest claims that do.
@@ -46,6 +47,7 @@ impl<'a> Command<'a> {
             "missing" => Some(Command::Missing),
             "surplus" => Some(Command::Surplus),
             "list" => Some(Command::List),
+            "draw" => Some(Command::Draw),
             "claim" => Some(Command::Claim),
             "strongest" => Some(Command::Strongest),
             _ => None,
@@ -123,6 +125,7 @@ pub fn answer_to<R: Threads + Sync>(
             &mut out,
         ),
         Command::List => list(alloc, &mut table, &mut Silence, &mut out),
+        Command::Draw => draw(alloc, &mut table, &mut policy, &mut Silence, &mut out),
         Command::Claim => check_claims(
             rt,
             alloc,

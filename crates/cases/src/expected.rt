@@ -9,9 +9,11 @@ use std::alloc::{AllocError, Global};
 
 const NO_PLACE: Wrong = Wrong("a rule has a place");
 
+const NO_ARROW: Wrong = Wrong("an arrow is told as `A changes B by EDGE` or `A takes B by EDGE`");
+
 /// The answer that these words say: `log`, `report`, `certificate`, `policy`, `each OUTCOME`, `accept`, ``writes
 /// `TEXT` ``, `claims`, `hold N`, `broken AUTHORITY K`, `full EDGES`, `take EDGES`, `none`, `lacks EDGES`,
-/// `within N`, `outside N RULE PLACE`, `illegal K`, `deny RULE PLACE`, or a fault, which is in this file and line where they don't say another.
+/// `draws LABELS, ARROWS`, `within N`, `outside N RULE PLACE`, `illegal K`, `deny RULE PLACE`, or a fault, which is in this file and line where they don't say another.
 pub fn expected(
     alloc: Global,
     words: &str,
@@ -30,6 +32,9 @@ pub fn expected(
     }
     if let Some(answer) = listed(alloc, words)? {
         return Ok(answer);
+    }
+    if let Some(words) = words.strip_prefix("draws") {
+        return drawn(alloc, words);
     }
     if let Some(answer) = replayed(alloc, words)? {
         return Ok(answer);
@@ -73,6 +78,36 @@ fn listed(alloc: Global, words: &str) -> Result<Option<Answer>, Wrong> {
     }
     let text = text.into_bytes();
     Ok(Some(Answer { status, text }))
+}
+
+/// What is drawn: the labels, with spaces between them, and each arrow, as `A changes B by EDGE` or `A takes B by EDGE`, with commas before
+/// them.
+fn drawn(alloc: Global, words: &str) -> Result<Answer, Wrong> {
+    let (labels, arrows) = words.split_once(", ").unwrap_or((words, ""));
+    let mut text = String::from_str(alloc, "digraph authority {\n")?;
+    for label in labels.split(' ').filter(|label| !label.is_empty()) {
+        writeln!(text, "  \"{label}\"")?;
+    }
+    for arrow in arrows.split(", ").filter(|arrow| !arrow.is_empty()) {
+        let (ends, edge) = arrow.split_once(" by ").ok_or(NO_ARROW)?;
+        let (actor, object, style) = match (
+            ends.split_once(" changes "),
+            ends.split_once(" takes "),
+        ) {
+            (Some((actor, object)), _) => (actor, object, ""),
+            (None, Some((actor, object))) => (actor, object, "style=dashed, "),
+            (None, None) => return Err(NO_ARROW),
+        };
+        writeln!(
+            text,
+            "  \"{actor}\" -> \"{object}\" [{style}label=\"{edge}\"]"
+        )?;
+    }
+    text.push_str("}\n")?;
+    Ok(Answer {
+        status: 0,
+        text: text.into_bytes(),
+    })
 }
 
 /// What a replay tells: `within N` or `outside N RULE PLACE`, where N is the number of entries, or `illegal K`.

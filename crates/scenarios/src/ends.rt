@@ -9,7 +9,7 @@ use std::sync::Wait;
 use std::test::Fail;
 use std::thread::Threads;
 
-const TABLE: &str = "\
+pub(crate) const TABLE: &str = "\
 confine-table 1
 label a
 label b

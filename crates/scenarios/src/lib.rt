@@ -12,3 +12,5 @@ mod gate;
 mod sentences;
 #[cfg(test)]
 mod session;
+#[cfg(test)]
+mod versions;

@@ -1,4 +1,5 @@
 //! The sentences of `explain`, as a reader of the documents wants them.
+mod authority;
 mod denials;
 mod faults;
 

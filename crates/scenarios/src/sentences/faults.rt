@@ -22,15 +22,15 @@ const TABLES: [Row; 17] = [
             number: 50,
             line: 1,
         },
-        told: "t:1: the line is missing: a table begins with `confine-table 1`",
+        told: "t:1: the line is missing: a table begins with `confine-table 1` or `confine-table 2`",
     },
     Row {
-        text: "confine-table 2\n",
+        text: "confine-table 3\n",
         fault: Fault {
             number: 50,
             line: 1,
         },
-        told: "t:1: `confine-table 2`: a table begins with `confine-table 1`",
+        told: "t:1: `confine-table 3`: a table begins with `confine-table 1` or `confine-table 2`",
     },
     Row {
         text: "confine-table 1\nlabel App\n",

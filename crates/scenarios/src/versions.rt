@@ -1,0 +1,55 @@
+//! The versions of a table's text: what an upgrade changes, and how many labels each has.
+use crate::ends::TABLE;
+use captext::{read_table, write_table};
+use slips::{Text, explain_fault};
+use std::alloc::{AllocError, Global};
+use std::process::Abort;
+use std::test::Fail;
+
+/// A table that begins with this header, and has so many labels.
+fn table_of(alloc: Global, header: &str, labels: u64) -> Result<String, AllocError> {
+    let mut text = format!(in alloc; "{header}\n")?;
+    for number in 0..labels {
+        writeln!(text, "label l{number}")?;
+    }
+    text.push_str("end\n")?;
+    Ok(text)
+}
+
+/// The words on the fault of a table.
+fn told(alloc: Global, text: &str) -> Result<String, Fail> {
+    let bytes = text.as_bytes();
+    let fault = read_table(alloc, bytes).err().ok_or("a fault")?;
+    Ok(explain_fault(alloc, Text::Table, "t", bytes, b"", fault)?)
+}
+
+#[test]
+fn an_upgrade_changes_the_header_alone(rt: HostRuntime) -> Result<(), Fail> {
+    let alloc = rt.alloc();
+    let lines = TABLE
+        .strip_prefix("confine-table 1")
+        .ok_or("the first header")?;
+    let mut table = read_table(alloc, TABLE.as_bytes()).ok().ok_or("a table")?;
+    table.upgrade();
+    let text = write_table(alloc, &table).ok().ok_or("its text")?;
+    let upgraded = format!(in alloc; "confine-table 2{lines}")?;
+    assert_eq!(rt; text.as_slice(), upgraded.as_bytes());
+    Ok(())
+}
+
+#[test]
+fn tells_how_many_labels_a_version_has(rt: HostRuntime) -> Result<(), Fail> {
+    let first = table_of(rt.alloc(), "confine-table 1", 65)?;
+    let words = told(rt.alloc(), &first)?;
+    assert_eq!(rt;
+        words.as_str(),
+        "t:66: `label l64`: there are more than 64 labels: a table that begins with `confine-table 2` has up to 256"
+    );
+    let second = table_of(rt.alloc(), "confine-table 2", 257)?;
+    let words = told(rt.alloc(), &second)?;
+    assert_eq!(rt;
+        words.as_str(),
+        "t:258: `label l256`: there are more than 256 labels"
+    );
+    Ok(())
+}
