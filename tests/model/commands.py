@@ -11,7 +11,7 @@ from texts import KINDS, Fault
 FILES = {
     "check": ["table", "policy"], "verify": ["table", "policy", "certificate"], "run": ["table", "policy", "script"],
     "replay": ["table", "policy", "log"], "close": ["table", "policy"], "why": ["table", "policy"],
-    "claims": ["table", "policy", "claims"], "list": ["table"],
+    "claims": ["table", "policy", "claims"], "list": ["table"], "draw": ["table", "policy"],
 }
 
 
@@ -63,8 +63,9 @@ def authority(table, state):
     for child, parent in state.parents.items():
         yield "A3", child, [slot_name(parent), slot_name(child)], (label[parent[0]], DERIVE, label[child[0]])
     for number, item in objects.items():
-        if item.kind == "tcb" and item.context is not None:
-            yield "A4", number, [named[number], named[item.context]], (label[number], RUNS, label[item.context])
+        if item.kind == "tcb":
+            for context in {item.context, (item.lent or [None])[0]} & set(objects):
+                yield "A4", (number, context), [named[number], named[context]], (label[number], RUNS, label[context])
         if item.kind == "reply" and item.use != "free":
             yield "A5", number, [named[number], named[item.thread]], (label[number], HOLDS, label[item.thread])
         if item.kind == "tcb" and item.state in kernel.WAITING:
@@ -109,7 +110,7 @@ def certificate(table):
         elif rule == "A3":
             sections["derive"][order] = [*place, label[state.parents[order][0]], label[order[0]]]
         elif rule == "A4":
-            sections["runs"][order] = [*place, label[order], label[table.bindings[order]]]
+            sections["runs"][order] = [*place, *(label[number] for number in order)]
     for line in sections["cap"].values():
         line[2] = ",".join(KINDS[kind] for kind in sorted(line[2]))
     return [" ".join([word, *line]) for word, lines in sections.items() for _, line in sorted(lines.items())]
@@ -214,6 +215,16 @@ def claims(table, policy, claimed=None):
     return judged(table, policy, accepted)
 
 
+def drawn(table, policy):
+    lines = [f'"{name}"' for name in table.labels]
+    for a, l, how in policies.extents(policy, len(table.labels)):
+        if how != "none":
+            first = texts.edge_line(policies.why(policy, a, l)[1][0], table).removeprefix("edge ")
+            style = "style=dashed, " if how == "take" else ""
+            lines.append(f'"{table.labels[a]}" -> "{table.labels[l]}" [{style}label="{first}"]')
+    return 0, "".join(["digraph authority {\n", *(f"  {line}\n" for line in lines), "}\n"])
+
+
 def listed(table):
     return 0, "".join(f"{at} {item.kind} {item.name} {table.labels[item.label]}\n" for at, item in enumerate(table.objects))
 
@@ -247,4 +258,4 @@ def answer(command, given, options=()):
         return *close(values[0], values[1] if len(values) > 1 else None, "--missing" in options, "--surplus" in options), ""
     if command == "check":
         return *check(*values, "--cert" in options), ""
-    return *{"verify": verify, "run": run, "replay": replay, "claims": claims, "list": listed}[command](*values), ""
+    return *{"verify": verify, "run": run, "replay": replay, "claims": claims, "list": listed, "draw": drawn}[command](*values), ""

@@ -42,7 +42,7 @@ def fresh(kind, address, bits):
     elif kind == "cnode":
         item.radix = bits
     elif kind == "tcb":
-        item.state, item.inbox, item.context = "inactive", None, None
+        item.state, item.inbox, item.context, item.lent = "inactive", None, None, None
     elif kind == "endpoint":
         item.queue = []
     elif kind == "notification":
@@ -151,13 +151,13 @@ def use(s, reply, how, t):
 
 
 def leave(s, t):
-    """A thread leaves its queue, and its reply, where there are any, is free."""
+    """A thread leaves its queue, and its reply, where there are any, is free; with the reply ends the record of what it lent."""
     item = s.objects[t]
     if item.state in WAITING and item.at in s.objects:
         s.objects[item.at].queue.remove(t)
     if item.state in ("receives", "called") and item.reply in s.objects:
         use(s, item.reply, "free", None)
-    item.state = "inactive"
+    item.state, item.lent = "inactive", None
 
 
 def wake(s, t, inbox):
@@ -251,7 +251,16 @@ def send(s, t, a, w1, w2, w3, w4, carried, calls=False):
     if not calls:
         return "done"
     taken_call(s, t, message, reply)
+    if s.objects[t].state == "called" and s.objects[receiver].context is None:
+        s.objects[t].lent = s.objects[t].context, receiver
+        hand_over(s, t, receiver)
     return "blocked"
+
+
+def hand_over(s, one, other):
+    """A thread's context goes over to another one, which has none."""
+    number = s.objects[one].context
+    s.objects[one].context, s.objects[other].context, s.objects[number].thread = None, number, other
 
 
 def call(s, t, *operands):
@@ -284,6 +293,9 @@ def recv(s, t, a, reply_address, *place):
 def reply(s, t, a, *words):
     _, number, item = find_object(s, t, a, "reply")
     if item.use == "called":
+        caller = s.objects[item.thread]
+        if caller.lent == (s.objects[t].context, t) and caller.context is None:
+            hand_over(s, t, item.thread)
         wake(s, item.thread, ("msg", 0, *words, 0))
     return "done"
 

@@ -14,9 +14,8 @@ def asked(policy, count):
     """What the rules ask for, as (rule, place, edge): the edge has to be there since others are. A place is a tuple of numbers."""
     labels = range(count)
     domain = {a: [x for x in labels if (a, SPACE, x) in policy or (a, CONTROL, x) in policy] for a in labels}
-    granted = [
-        (a, b) for a in labels for b in labels if any((a, GRANT, e) in policy and (b, RECEIVE, e) in policy for e in labels)
-    ]
+    receivers = {e: [b for b, k, at in policy if (k, at) == (RECEIVE, e)] for e in labels}
+    granted = {(a, b) for a, k, e in policy if k == GRANT for b in receivers[e]}
     plain = {a: [(k, x) for _, k, x in edges_from(policy, a) if k in PLAIN] for a in labels}
     for a in labels:
         for b in domain[a]:

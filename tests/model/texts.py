@@ -115,8 +115,13 @@ def cap_of(number, rights="", badge=0, guard=(0, 0), original=True):
     return Cap(object=number, rights=rights, badge=badge, guard=guard, original=original)
 
 
+# The headers of the two versions, and how many labels a table of each has at most.
+MOST_LABELS = {"confine-table 1": 64, "confine-table 2": 256}
+
+
 class Table:
-    def __init__(self):
+    def __init__(self, most_labels):
+        self.most_labels = most_labels
         self.labels, self.objects, self.numbers = [], [], {}
         self.caps, self.parents, self.bindings = {}, {}, {}
         self.threads = self.slots = 0
@@ -143,7 +148,9 @@ class Table:
 
 
 def read_table(text):
-    table = Table()
+    first = text.split(b"\n")[0].decode("latin-1")
+    header = first if first in MOST_LABELS else "confine-table 1"
+    table = Table(MOST_LABELS[header])
     now = SimpleNamespace(section=0, line=1, cap=None, child=None, bind=None, child_lines=[])
 
     def read(words):
@@ -152,14 +159,14 @@ def read_table(text):
         {"label": read_label, "cap": read_cap, "child": read_child, "bind": read_bind}.get(words[0], read_object)(table, now, words)
         now.section = SECTIONS[words[0]]
 
-    read_lines(text, "confine-table 1", read, lambda: judge_tree(table, now.child_lines))
+    read_lines(text, header, read, lambda: judge_tree(table, now.child_lines))
     return table
 
 
 def read_label(table, now, words):
     _, new = form(words, str, name)
     ask(52, new not in table.labels)
-    ask(54, len(table.labels) < 64)
+    ask(54, len(table.labels) < table.most_labels)
     table.labels.append(new)
 
 
