@@ -6,12 +6,31 @@ import subprocess
 from dataclasses import dataclass
 
 import inputs
+from timing import keeps
 
-# The scripts: moves to and fro, endpoints made and deleted, messages, signals and polls.
+# The scripts: moves to and fro, endpoints made and deleted, messages, those that lend a context and those that don't, signals and polls.
 MOVES = 200_000
 REMOVALS = 100_000
 MESSAGES = 150_000
+LENDINGS = 140_000
 SIGNALS = 1_000_000
+
+# Instructions of the whole program for each event of a script, or for each line of a full table: what an unproved build of the same
+# sources took, which leaves hints on inlining, and 3% more; for a line 1.05 times what it took when there were 64 labels at most.
+LIMITS = {
+    "moves": 8_010,
+    "removals": 9_880,
+    "messages": 4_270,
+    "their replay": 3_840,
+    "messages that lend": 4_760,
+    "messages that don't": 4_380,
+    "signals and polls": 2_950,
+    "lines checked": 7_240,
+}
+
+# An event of a server that gets a context for each receive, and serves on those of its callers, may cost so many times what the same
+# event costs of a server that keeps its context.
+LENDING_LIMIT = 1.3
 
 COLLECTED = re.compile(rb"Collected : (\d+)")
 
@@ -53,10 +72,13 @@ def write_counted(top):
     moves = inputs.copies_and_moves(1, MOVES - 1)
     removals = inputs.made_and_deleted(REMOVALS)
     message_script, message_log = inputs.told(inputs.calls_awaited(MESSAGES))
+    lends, keeps_own = inputs.told(inputs.calls_that_lend(LENDINGS)), inputs.told(inputs.calls_that_keep(LENDINGS))
     runs = (
         ("moves", inputs.MOVES_TABLE, inputs.table_policy(), inputs.script_of(moves), inputs.all_done(moves), MOVES),
         ("removals", inputs.removal_table(), inputs.table_policy(), inputs.script_of(removals), inputs.all_done(removals), REMOVALS),
         ("messages", inputs.MESSAGES_TABLE, inputs.table_policy(), message_script, message_log, MESSAGES),
+        ("messages that lend", inputs.LENDING_TABLE, inputs.table_policy(), *lends, LENDINGS),
+        ("messages that don't", inputs.KEEPING_TABLE, inputs.table_policy(), *keeps_own, LENDINGS),
         ("signals and polls", inputs.TWO_CORES_TABLE, inputs.TWO_CORES_POLICY, inputs.script(SIGNALS), inputs.script_log(SIGNALS), SIGNALS),
     )
     calls = {}
@@ -71,11 +93,11 @@ def write_counted(top):
     folder = os.path.join(top, "counted-check")
     files = [write_file(folder, "table", table), write_file(folder, "policy", inputs.policy_of(inputs.every_edge()))]
     words = ["check", *files, "--workers", "1"]
-    calls["lines checked"] = Counted(words, inputs.every_edge_report().encode("ascii"), table.count("\n"))
+    calls["lines checked"] = Counted(words, inputs.every_edge_report(table).encode("ascii"), table.count("\n"))
     return calls
 
 
-def measure_counts(program, folder, limits):
+def measure_counts(program, folder):
     """Counts the instructions of each call, prints a row each, and gives whether all answers are right and no count passes its limit."""
     if not counts_instructions():
         print("There is no valgrind: no instructions are counted.\n")
@@ -84,17 +106,21 @@ def measure_counts(program, folder, limits):
     print(columns.format("what", "count", "instructions", "each", "limit"))
     out = os.path.join(folder, "counted-out")
     good = True
+    cost = {}
     for what, call in write_counted(folder).items():
         counted = instructions([program, *call.words], out)
         with open(out, "rb") as file:
             right = file.read() == call.printed
         os.remove(out)
-        each = counted / call.count
-        within = each <= limits[what]
+        cost[what] = counted / call.count
+        within = cost[what] <= LIMITS[what]
         said = "" if within else "  OVER"
-        print(columns.format(what, f"{call.count:,}", f"{counted:,}", f"{each:,.0f}", f"{limits[what]:,}") + said, flush=True)
+        print(columns.format(what, f"{call.count:,}", f"{counted:,}", f"{cost[what]:,.0f}", f"{LIMITS[what]:,}") + said, flush=True)
         if not right:
             print(f"WRONG: {what}: it printed something else")
         good = good and right and within
+    print()
+    what = "an event of messages that lend a context, against one where the server keeps its own"
+    good = keeps(what, cost, "messages that lend", "messages that don't", LENDING_LIMIT) and good
     print()
     return good

@@ -466,6 +466,69 @@ def calls_waiting(events):
     )
 
 
+# Lending: the threads are a server, its client, a keeper and another thread that makes no call. The server and the client have the slots
+# as before; the keeper binds the spare context, of slot 3, to the server, of slot 4, or to the other thread, of slot 5. Both tables have
+# the same objects and capabilities: in the first the server has no context, in the second it keeps one of core 0.
+LENDING_TABLE = """\
+confine-table 1
+label a
+cnode c a 0x2000 3
+tcb s a 0x4000 ready
+tcb t a 0x4400 ready
+tcb k a 0x4800 ready
+tcb o a 0x4c00 ready
+endpoint e a 0x3000
+reply p a 0x3020
+context w a 0x5000 0 10 10
+context x a 0x5100 1 10 10
+context y a 0x5200 2 10 10
+context z a 0x5300 0 10 10
+cap c.0 e r 0
+cap c.1 p
+cap c.2 e wy 5
+cap c.3 z
+cap c.4 s
+cap c.5 o
+cap s.root c 61 0x0
+cap t.root c 61 0x0
+cap k.root c 61 0x0
+cap o.root c 61 0x0
+bind t x
+bind k y
+end
+"""
+KEEPING_TABLE = LENDING_TABLE.replace("bind t x", "bind s w\nbind t x")
+
+
+def calls_beside_bind(events, server, bound):
+    """So many events and their outcomes: the keeper binds the spare context to the thread of that slot, the server waits, the keeper
+    unbinds the context; the client calls, the server, on that core now, fetches the message and replies, and the client fetches the
+    reply."""
+    return in_rounds(
+        events,
+        7,
+        lambda k: (
+            (f"2 3 bind 3 {bound}", "done"),
+            ("0 1 recv 0 1 -", "blocked"),
+            ("2 3 unbind 3", "done"),
+            (f"1 2 call 2 {question(k)} -", "blocked"),
+            (f"{server} 1 fetch", f"done msg 5 {question(k)} 0"),
+            (f"{server} 1 reply 1 {answer(k)}", "done"),
+            ("1 2 fetch", f"done msg 0 {answer(k)} 0"),
+        ),
+    )
+
+
+def calls_that_lend(events):
+    """So many events of a server that gets a context for each receive, and serves on that of its client."""
+    return calls_beside_bind(events, 1, 4)
+
+
+def calls_that_keep(events):
+    """The same events, of a server that serves on its own context; another thread gets the spare one, and loses it."""
+    return calls_beside_bind(events, 0, 5)
+
+
 # Queues: a server as before, and 1,000 threads of core 1. Each has a capability for the endpoint of its own, whose slot and whose badge
 # are the same number. All these numbers, and those of the threads, have four digits, so that a line is as long for each thread.
 SENDERS = 1000
@@ -619,9 +682,10 @@ def full_log(groups):
     return log_of(full_events(groups))
 
 
-# Checks: a full table of 64 labels, and policies for it.
+# Checks: a full table of 64 labels, and policies for it; and 256 labels, which tables of version 2 may have.
 CHECK_GROUPS = 448
 CHECK_LABELS = tuple(f"l{i}" for i in range(64))
+MANY_LABELS = tuple(f"l{i}" for i in range(256))
 STRUCTURAL = ("space", "derive", "runs", "holds")
 
 
@@ -634,8 +698,8 @@ def policy_of(edges):
     return text("confine-policy 1", [f"edge {a} {kind} {b}" for a, kind, b in edges])
 
 
-def every_edge():
-    return [(a, kind, b) for a in CHECK_LABELS for kind in KINDS for b in CHECK_LABELS]
+def every_edge(labels=CHECK_LABELS):
+    return [(a, kind, b) for a in labels for kind in KINDS for b in labels]
 
 
 def random_edges(seed, one_in):
@@ -644,19 +708,36 @@ def random_edges(seed, one_in):
     return [edge for edge in every_edge() if chosen.randrange(one_in) == 0]
 
 
-def table_of_labels():
-    """The table of the same labels without an object."""
-    return text("confine-table 1", [f"label {label}" for label in CHECK_LABELS])
+def table_of_labels(labels=CHECK_LABELS):
+    """The table of these labels without an object."""
+    version = 1 if len(labels) <= len(CHECK_LABELS) else 2
+    return text(f"confine-table {version}", [f"label {label}" for label in labels])
 
 
-def chain():
+def chain(labels=CHECK_LABELS):
     """The edges by which each label derives for the next."""
-    return [(a, "derive", b) for a, b in zip(CHECK_LABELS, CHECK_LABELS[1:])]
+    return [(a, "derive", b) for a, b in zip(labels, labels[1:])]
 
 
-def chained():
+def chained(labels=CHECK_LABELS):
     """The least closed policy that has them: each label derives for all after it."""
-    return [(a, "derive", b) for i, a in enumerate(CHECK_LABELS) for b in CHECK_LABELS[i + 1 :]]
+    return [(a, "derive", b) for i, a in enumerate(labels) for b in labels[i + 1 :]]
+
+
+def all_but_of_last(labels):
+    """All edges but those from the last label, which so has no authority on another."""
+    return [edge for edge in every_edge(labels) if edge[0] != labels[-1]]
+
+
+def taken_by_last(labels):
+    """The edges by which the last label may take from the third last, in every order of the steps that lead to it by way of the second
+    last, and has no full authority on it."""
+    *_, taken, between, last = labels
+    return [
+        *((taken, kind, taken) for kind in KINDS),
+        *((between, kind, to) for kind in KINDS for to in (taken, between)),
+        (last, "control", between),
+    ]
 
 
 def denial(rule, place):
@@ -667,10 +748,10 @@ def report(value):
     return json.dumps(value, separators=(",", ":"), sort_keys=True) + "\n"
 
 
-def every_edge_report():
+def every_edge_report(table, labels=CHECK_LABELS):
     """Each label has full and cut authority on each, and the table fills so many slots."""
-    caps = sum(line.startswith("cap ") for line in check_table().split("\n"))
-    each = {label: list(CHECK_LABELS) for label in CHECK_LABELS}
+    caps = sum(line.startswith("cap ") for line in table.split("\n"))
+    each = {label: list(labels) for label in labels}
     return report({"caps": caps, "cut": each, "full": each, "verdict": "accept"})
 
 

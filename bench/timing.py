@@ -1,4 +1,4 @@
-"""Runs programs, once or again and again, and tells what they took: what bench/run measures with."""
+"""Runs programs, once or again and again, tells what they took, and whether that and what they print is as it must be."""
 import ctypes
 import os
 import subprocess
@@ -86,3 +86,23 @@ def run_in_turn(calls, start, seconds=SECONDS_IN_TURN):
 def run_often(words, start):
     """Runs until the time is well above the start of a process, and gives the least figures and how many runs."""
     return run_in_turn([words], start, SECONDS)[0]
+
+
+def answers(words, status, text, out):
+    """Whether a command ends with this status and prints this text."""
+    run = run_once(words, out)
+    with open(out, "rb") as file:
+        printed = file.read()
+    os.remove(out)
+    if run.status == status and printed == text:
+        return True
+    print(f"WRONG: {' '.join(words[1:])}: status {run.status}, and it printed {printed[:160]!r} ..")
+    return False
+
+
+def keeps(what, each, large, small, limit):
+    """Whether the first of two costs is at most so many times the second."""
+    ratio = each[large] / each[small] if each[small] > 0 else float("inf")
+    verdict = "within" if ratio <= limit else "OVER"
+    print(f"{what}: {ratio:.2f} times, {verdict} the limit of {limit}")
+    return ratio <= limit
