@@ -27,25 +27,37 @@ pub fn explain_why<R: Threads + Sync>(
     let mut lines = String::new(alloc);
     let mut edges = reason(alloc, table, policy, actor, object)?;
     for number in 0..MOST_EDGES {
-        let Some(edge) = edges.get(number).copied() else {
-            break;
+        let asking = match edges.get(number) {
+            Some(edge) => push_origin(rt, alloc, &mut lines, file, table, policy, edge)?,
+            None => break,
         };
-        let line = EdgeLine { table, edge };
-        write!(lines, "`{line}` comes ")?;
-        match place_of(alloc, table, edge)? {
-            Some(denial) => {
-                let number = line_of(table, &denial);
-                let denial = &denial;
-                let reason = Reason { table, denial };
-                writeln!(lines, "from {file}:{number}: {reason}")?;
-            }
-            None => {
-                let asking = push_rule(rt, alloc, &mut lines, table, policy, edge)?;
-                push_new(&mut edges, &asking)?;
-            }
-        }
+        push_new(&mut edges, &asking)?;
     }
     Ok(lines)
+}
+
+/// Adds whence an edge comes, and gives the edges by which a rule asks for it, if that is whence.
+fn push_origin<R: Threads + Sync>(
+    rt: &R,
+    alloc: Global,
+    lines: &mut String,
+    file: &str,
+    table: &Table,
+    policy: &Policy,
+    edge: &Edge,
+) -> Result<Vec<Edge>, Refusal> {
+    let line = EdgeLine { table, edge: *edge };
+    write!(lines, "`{line}` comes ")?;
+    match place_of(alloc, table, edge)? {
+        Some(denial) => {
+            let number = line_of(table, &denial);
+            let denial = &denial;
+            let reason = Reason { table, denial };
+            writeln!(lines, "from {file}:{number}: {reason}")?;
+            Ok(Vec::new(alloc))
+        }
+        None => push_rule(rt, alloc, lines, table, policy, edge),
+    }
 }
 
 /// The edges of the reason for an authority; none, where a name is no label's.
@@ -76,9 +88,9 @@ fn push_new(edges: &mut Vec<Edge>, others: &[Edge]) -> Result<(), AllocError> {
 }
 
 /// The place of a table that gives an edge first, as the denial of a policy that lacks the edge.
-fn place_of(alloc: Global, table: &Table, edge: Edge) -> Result<Option<Denial>, Refusal> {
+fn place_of(alloc: Global, table: &Table, edge: &Edge) -> Result<Option<Denial>, Refusal> {
     for filled in table.caps() {
-        if filled_edges(alloc, table, filled)?.contains(&edge) {
+        if filled_edges(alloc, table, filled)?.contains(edge) {
             return Ok(place_at(table, filled.slot, edge));
         }
     }
@@ -87,7 +99,7 @@ fn place_of(alloc: Global, table: &Table, edge: Edge) -> Result<Option<Denial>, 
             thread: binding.thread,
             context: binding.context,
         };
-        if asked_edge(table, &denial) == Some(edge) {
+        if asked_edge(table, &denial) == Some(*edge) {
             return Ok(Some(denial));
         }
     }
@@ -96,7 +108,7 @@ fn place_of(alloc: Global, table: &Table, edge: Edge) -> Result<Option<Denial>, 
 
 /// The place by which a filled slot gives an edge: its capability, the root that it is, or the pair whose
 /// child it is.
-fn place_at(table: &Table, slot: SlotRef, edge: Edge) -> Option<Denial> {
+fn place_at(table: &Table, slot: SlotRef, edge: &Edge) -> Option<Denial> {
     match edge.kind {
         Kind::Space => Some(Denial::Root {
             slot,
@@ -141,29 +153,45 @@ fn line_of(table: &Table, place: &Denial) -> usize {
     line.saturating_add(2)
 }
 
-/// Adds by which rule an edge comes, from which others, and gives these; or that the policy alone has it. What
-/// the table asks for comes before what the policy does.
+/// Adds by which rule an edge comes, from which others, and gives these; or that the policy alone has it.
 fn push_rule<R: Threads + Sync>(
     rt: &R,
     alloc: Global,
     lines: &mut String,
     table: &Table,
     policy: &Policy,
-    edge: Edge,
+    edge: &Edge,
 ) -> Result<Vec<Edge>, Refusal> {
-    let of_table = authority(alloc, table)?;
-    let of_policy = policy.edges(alloc)?;
-    for edges in [of_table.as_slice(), of_policy.as_slice()] {
-        if let Some(asked) = rule_for(rt, alloc, table, edges, edge)? {
-            let rule = asked.rule;
+    match asked_by(rt, alloc, table, policy, edge)? {
+        Some(Asked { rule, by }) => {
             write!(lines, "by {rule} from ")?;
-            push_edges(lines, table, &asked.by)?;
+            push_edges(lines, table, &by)?;
             lines.push('\n')?;
-            return Ok(asked.by);
+            Ok(by)
+        }
+        None => {
+            lines.push_str("from the policy alone\n")?;
+            Ok(Vec::new(alloc))
         }
     }
-    lines.push_str("from the policy alone\n")?;
-    Ok(Vec::new(alloc))
+}
+
+/// By which rule an edge is asked for: what the table asks for comes before what the policy does.
+fn asked_by<R: Threads + Sync>(
+    rt: &R,
+    alloc: Global,
+    table: &Table,
+    policy: &Policy,
+    edge: &Edge,
+) -> Result<Option<Asked>, Refusal> {
+    let of_table = authority(alloc, table)?;
+    match rule_for(rt, alloc, table, &of_table, edge)? {
+        Some(asked) => Ok(Some(asked)),
+        None => {
+            let of_policy = policy.edges(alloc)?;
+            rule_for(rt, alloc, table, &of_policy, edge)
+        }
+    }
 }
 
 /// By which rule an edge is asked for, and the edges by which it is.
@@ -179,11 +207,11 @@ fn rule_for<R: Threads + Sync>(
     alloc: Global,
     table: &Table,
     edges: &[Edge],
-    wanted: Edge,
+    wanted: &Edge,
 ) -> Result<Option<Asked>, Refusal> {
     let mut policy = Policy::new(alloc);
     for edge in edges {
-        if *edge != wanted {
+        if edge != wanted {
             policy.add(*edge)?;
         }
     }
@@ -192,7 +220,7 @@ fn rule_for<R: Threads + Sync>(
             return Ok(None);
         };
         match mending_edge(table, &policy, &Denial::Policy(broken)) {
-            Some(edge) if edge == wanted => {
+            Some(edge) if edge == *wanted => {
                 let mut by = Vec::new(alloc);
                 for premise in premises(&policy, broken) {
                     by.extend(premise)?;

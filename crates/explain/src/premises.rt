@@ -51,8 +51,11 @@ pub(crate) fn premises(policy: &Policy, broken: Broken) -> [Option<Edge>; 4] {
 
 /// An edge, if the policy has it.
 fn there(policy: &Policy, from: Label, kind: Kind, to: Label) -> Option<Edge> {
-    let edge = Edge { from, kind, to };
-    policy.has(edge).then_some(edge)
+    if policy.has(Edge { from, kind, to }) {
+        Some(Edge { from, kind, to })
+    } else {
+        None
+    }
 }
 
 /// The edge by which a label is in the domain of another.
@@ -82,7 +85,8 @@ fn in_one_domain(policy: &Policy, parent: Label, child: Label) -> [Option<Edge>;
             let one = domain_edge(policy, subject, parent);
             let other = domain_edge(policy, subject, child);
             if one.is_some() && other.is_some() {
-                return [one, other.filter(|_| parent != child), None, None];
+                let second = if parent == child { None } else { other };
+                return [one, second, None, None];
             }
         }
     }
@@ -103,9 +107,8 @@ fn derived(policy: &Policy, parent: Label, child: Label) -> [Option<Edge>; 4] {
     for number in 0..Label::COUNT {
         if let Some(giver) = Label::new(number) {
             let given = domain_edge(policy, giver, parent);
-            let edges = granted_into(policy, giver, child);
-            if given.is_some() && edges.iter().all(|edge| edge.is_some()) {
-                let [granted, received, kept] = edges;
+            let [granted, received, kept] = granted_into(policy, giver, child);
+            if given.is_some() && granted.is_some() {
                 return [granted, received, given, kept];
             }
         }

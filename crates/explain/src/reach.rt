@@ -42,22 +42,30 @@ fn push_reach(
         .difference(own);
     let others = labels_of(table).difference(own);
     let apart = others.difference(changed).difference(taken);
-    let mut separator = " ";
-    for (does, labels) in [
-        ("may change", changed),
-        ("may take from", taken),
-        ("can't reach", apart),
-    ] {
-        let names = names_of(alloc, table, labels)?;
-        if !names.is_empty() {
-            write!(lines, "{separator}{does} {names}")?;
-            separator = "; it ";
-        }
-    }
+    let separator = push_part(alloc, lines, table, " ", "may change", changed)?;
+    let separator = push_part(alloc, lines, table, separator, "may take from", taken)?;
+    push_part(alloc, lines, table, separator, "can't reach", apart)?;
     if others == Labels::none() {
         lines.push_str(" is the only label")?;
     }
     lines.push('\n')
+}
+
+/// Adds what a label does to others, if there are such, and gives what is to stand before the next part.
+fn push_part(
+    alloc: Global,
+    lines: &mut String,
+    table: &Table,
+    separator: &'static str,
+    does: &str,
+    labels: Labels,
+) -> Result<&'static str, AllocError> {
+    let names = names_of(alloc, table, labels)?;
+    if names.is_empty() {
+        return Ok(separator);
+    }
+    write!(lines, "{separator}{does} {names}")?;
+    Ok("; it ")
 }
 
 /// All labels of a table.
