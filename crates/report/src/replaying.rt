@@ -161,7 +161,9 @@ pub fn answer_at(
     ensures { IfSome result (λ came. replays.IsAnsweredAt table.now entries.now at came) }
 {
     let (event, _) = entries.get(at)?;
-    let mut state = boot(alloc, table).ok()?;
+    let Ok(mut state) = boot(alloc, table) else {
+        return None;
+    };
     match kernel::replay(&mut state, &entries[..at]) {
         Ok(None) => Some(kernel::step(&mut state, *event)),
         _ => None,
