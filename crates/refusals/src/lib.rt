@@ -20,6 +20,8 @@ mod claimings;
 #[cfg(test)]
 mod closings;
 #[cfg(test)]
+mod drawings;
+#[cfg(test)]
 mod edges;
 #[cfg(test)]
 mod engine;

@@ -104,6 +104,19 @@ const LEAST: &str = "confine-policy 1\nedge a context a\nedge a runs a\nend\n";
 
 const REASON: &str = "full\nedge a notify b\n";
 
+const DRAWING: &str =
+    "digraph authority {\n  \"a\"\n  \"b\"\n  \"a\" -> \"b\" [label=\"a notify b\"]\n}\n";
+
+const LIST: &str = "\
+0 cnode ca a
+1 cnode cb b
+2 tcb ta a
+3 tcb tb b
+4 notification n b
+5 context xa a
+6 context xb b
+";
+
 const LEGAL: &str = "{\"entries\":3,\"state\":\"within\",\"verdict\":\"legal\"}\n";
 
 const OUTSIDE: &str =
@@ -140,7 +153,7 @@ const NO_LOG: &str = "confine: cannot read log";
 const NO_CLAIMS: &str = "confine: cannot read claims";
 
 /// The files that each command reads, with what is told where one can't be read.
-const MESSAGES: [(Command, File, &str); 25] = [
+const MESSAGES: [(Command, File, &str); 28] = [
     (Command::Check(OnAccept::Report), File::Table, NO_TABLE),
     (Command::Check(OnAccept::Report), File::Policy, NO_POLICY),
     (Command::Check(OnAccept::Certificate), File::Table, NO_TABLE),
@@ -165,6 +178,9 @@ const MESSAGES: [(Command, File, &str); 25] = [
     (Command::Close, File::Policy, NO_POLICY),
     (Command::Why, File::Table, NO_TABLE),
     (Command::Why, File::Policy, NO_POLICY),
+    (Command::Draw, File::Table, NO_TABLE),
+    (Command::Draw, File::Policy, NO_POLICY),
+    (Command::List, File::Table, NO_TABLE),
     (Command::Claims, File::Table, NO_TABLE),
     (Command::Claims, File::Policy, NO_POLICY),
     (Command::Claims, File::Claims, NO_CLAIMS),
@@ -265,11 +281,17 @@ fn answers_of_splits() -> [Answered; 3] {
 }
 
 /// Files of each kind of answer of the other commands.
-fn answers_of_others() -> [Answered; 5] {
+fn answers_of_others() -> [Answered; 9] {
     let to_replay = files_for(Command::Replay);
+    let to_draw = files_for(Command::Draw);
+    let to_list = files_for(Command::List);
     [
         (to_close(), 0, LEAST),
         (files_for(Command::Why), 0, REASON),
+        (to_draw, 0, DRAWING),
+        (to_draw.with(File::Policy, faulty()), 2, FAULTY_POLICY),
+        (to_list, 0, LIST),
+        (to_list.with(File::Table, faulty()), 2, FAULTY_TABLE),
         (to_replay, 0, LEGAL),
         (to_replay.with(File::Policy, empty_policy()), 1, OUTSIDE),
         (to_replay.with(File::Log, faulty()), 2, FAULTY_LOG),

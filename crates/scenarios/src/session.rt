@@ -4,7 +4,7 @@ ghost use Rattle.std.specs.Prelude.{◌≡◌, false};
 use crate::failing::{Given, Page};
 use report::{
     End, File, OnAccept, OnClose, Open, Silence, Sink, Source, Watched, check, check_claims, close,
-    replay, run, run_split, verify, why, write_claims,
+    draw, list, replay, run, run_split, verify, why, write_claims,
 };
 use std::alloc::AllocGlobal;
 use std::sync::Wait;
@@ -21,6 +21,8 @@ pub enum Command {
     Replay,
     Close,
     Why,
+    Draw,
+    List,
     Claims,
     /// The strongest claims.
     Strongest,
@@ -136,6 +138,8 @@ where
             out,
         ),
         Command::Why => why(rt.alloc(), table, policy, "a", "b", &mut Silence, out),
+        Command::Draw => draw(rt.alloc(), table, policy, &mut Silence, out),
+        Command::List => list(rt.alloc(), table, &mut Silence, out),
         Command::Claims => check_claims(rt, rt.alloc(), table, policy, third, &mut Silence, out),
         Command::Strongest => write_claims(rt, rt.alloc(), table, policy, &mut Silence, out),
     }
