@@ -7,6 +7,3 @@ pub use certificate::Certificate;
 pub use checking::{CheckError, Verdict, check};
 pub use deal::{Gate, Open};
 pub use verdict::{Accepted, Denial};
-
-#[cfg(test)]
-mod tests;

@@ -3,9 +3,9 @@ mod edges;
 mod rules;
 mod system;
 
-use crate::{Open, Verdict, check};
 use base::{Edge, Kind, Label};
 use captext::read_table;
+use checker::{Open, Verdict, check};
 use edges::{Edges, Pattern};
 use policy::Policy;
 use std::alloc::Global;
