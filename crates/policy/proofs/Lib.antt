@@ -20,6 +20,7 @@ pub mod TakeSets
 pub mod Taking
 pub mod WalkOrder
 pub mod Walking
+pub mod Leading
 pub mod StepWalks
 pub mod FullWalks
 pub mod PathWalks

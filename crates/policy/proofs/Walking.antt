@@ -1,14 +1,12 @@
 -- Walks along chains of steps, edge by edge: from where a step leads to a set, and how the least walk begins.
-use Rattle.std.proofs.Common.{◌≡◌, ℕ, ◌+◌, ◌/◌, ◌%◌, ◌<◌, ◌↔◌, ◌||◌, ◌==◌, Bool, not, true, false, cond, List, [], ◌∷◌, ◌++◌, length, get_or, append_assoc, Option, Vec, ◌⊎◌, inl, inr, refl, sym, ap, ◌∙◌, subst, arith}
+use Rattle.std.proofs.Common.{◌≡◌, ℕ, ◌↔◌, ◌||◌, ◌==◌, Bool, not, true, false, cond, List, [], ◌∷◌, ◌++◌, length, append_assoc, Option, Vec, ◌⊎◌, inl, inr, refl, sym, ap, ◌∙◌, subst, arith}
 use mathlib.Core.Bool.{false≢true}
 use Rattle.std.specs.declared.alloc.Global.{Global}
-use Rattle.std.specs.declared.cmp.Ordering.TheVariants.{Less, Greater}
-use Rattle.std.specs.Ordering.{ordering_reverse}
+use Rattle.std.specs.declared.cmp.Ordering.TheVariants.{Less}
 use Rattle.std.specs.List.{list_any, list_all}
-use Rattle.std.proofs.lemmas.Bool.{or_cases, or_left, or_right, cases_order, eq-eqb, eqb-true}
+use Rattle.std.proofs.lemmas.Bool.{or_cases, or_left, or_right, eq-eqb, eqb-true}
 use Rattle.base.specs.declared.edge.Edge.{Edge}
 use Rattle.base.specs.declared.kind.Kind.{Kind}
-use Rattle.base.specs.declared.kind.Kind.TheVariants.{Control}
 use Rattle.base.specs.contracts.kind.KindPartialEq.TheImpl as kind_equal
 use Rattle.base.specs.declared.labels.Labels.{Labels}
 use Rattle.base.specs.Kinds.{kind_number}
@@ -18,15 +16,11 @@ use Rattle.policy.specs.Domain.{EdgeTest}
 use Rattle.policy.specs.Places.{ComesBefore, IsLeast, IsNone}
 use Rattle.policy.specs.Policy.{edge_cmp}
 use Rattle.policy.specs.Reasons.{reason_place}
-use Rattle.policy.specs.Rows.{edge_at, edge_count, kind_count}
 use Rattle.policy.specs.Steps.{is_joined, IsSource, IsTarget}
 use Rattle.policy.specs.Walks.{FindsWalk, IsPartOf, lesser_of, IsThere, IsWalk, Leads, Passes, is_of, other_end}
 use Rattle.policy.specs.Walks.Passes.{along, against}
-use Rattle.policy.proofs.KindNumbers.{all_kinds, each_kind, is_kind, same_kind}
-use Rattle.policy.proofs.Members.{tied}
-use Rattle.policy.proofs.Order.{edge_total}
+use Rattle.policy.proofs.KindNumbers.{all_kinds, each_kind, is_kind}
 use Rattle.policy.proofs.Places.{only_least}
-use Rattle.policy.proofs.RowEdges.{edge_number, edge_rises, number_within, numbered, stands_at}
 use Rattle.policy.proofs.Stepping.{found_kind}
 use Rattle.policy.proofs.WalkOrder.{before_front, least_either}
 
@@ -93,55 +87,6 @@ module _ (test : EdgeTest) (step : Step) (goals : Labels) (from : ℕ) (one othe
 
   pub before_is : ((one || other) ≡ true) ↔ ((edge : Edge) × Leads test step from goals edge)
   before_is = (leads_from, λ leads. leads_to leads.0 leads.1.0 leads.1.1 leads.1.2 leads.1.3)
-
--- the edges that there can be stand at their numbers
-
-pub edge_stands : (n : ℕ) (edge : Edge) → edge.from < n → edge.to < n → (k : ℕ) × (k < edge_count n) × (edge_at n k ≡ edge)
-unfolding edge_at
-edge_stands n edge low high =
-    let number = edge_number n edge.from edge.kind edge.to in
-    let parts = stands_at n edge.from edge.kind edge.to high in
-    let kind =
-    same_kind (get_or all_kinds (number / n % kind_count) Control) edge.kind (numbered (number / n % kind_count) (omega arith) ∙ parts.1) in
-    (number, number_within n edge.from edge.kind edge.to low high, λ i. record { from = parts.0 i; kind = kind i; to = parts.2 i })
-
-module _ {P : Edge → Type 0} (n : ℕ) (ends : (edge : Edge) → P edge → (edge.from < n) × (edge.to < n)) where
-  pub none_stands : (count : ℕ) → edge_count n ≡ count → ((k : ℕ) → k < count → P (edge_at n k) → ⊥) → IsNone P
-  none_stands count all none edge has =
-      let low = ends edge has in
-      let at = edge_stands n edge low.0 low.1 in
-      none at.0 (omega (arith, all, at.1)) (subst P (sym at.2) has)
-
-  pub first_stands : (k : ℕ) (edge : Edge) → edge ≡ edge_at n k → ((j : ℕ) → j < k → P (edge_at n j) → ⊥) → P edge
-      → P edge × ((other : Edge) → P other → edge_cmp other edge ≡ Less → ⊥)
-  first_stands k edge is none has = (
-    has,
-    λ other also less.
-        let low = ends other also in
-        let at = edge_stands n other low.0 low.1 in
-        let some : 0 < n = omega (arith, low.0) in
-        elim (cases_order at.0 k) [
-          | inl same ↦
-              let here : other ≡ edge = sym at.2 ∙ ap (edge_at n) same ∙ sym is in
-              let tie = ap (λ e. edge_cmp e edge) here ∙ tied edge in
-              let both : Less ≡ _ = sym less ∙ tie in
-              cc
-          | inr (inl before) ↦ none at.0 before (subst P (sym at.2) also)
-          | inr (inr after) ↦
-              let more : edge_cmp edge other ≡ Less = (λ i. edge_cmp (is i) (sym at.2 i)) ∙ edge_rises n k at.0 some after in
-              let turned : edge_cmp other edge ≡ Greater = edge_total.antisymm other edge ∙ ap ordering_reverse more in
-              cc
-        ],
-  )
-
--- none so far, and not this one
-pub not_this : (P : Edge → Type 0) (labels n k : ℕ) (edge : Edge) → edge ≡ edge_at labels n → ((j : ℕ) → j < n → P (edge_at labels j) → ⊥) → (P edge → ⊥)
-    → k < n + 1 → P (edge_at labels k) → ⊥
-not_this P labels n k edge is none not_here below has = elim (cases_order k n) [
-  | inl same ↦ not_here (subst P (ap (edge_at labels) same ∙ sym is) has)
-  | inr (inl before) ↦ none k before has
-  | inr (inr after) ↦ absurd (omega (arith, below, after))
-]
 
 module _ (test : EdgeTest) where
   -- walks of no step

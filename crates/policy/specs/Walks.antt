@@ -53,6 +53,10 @@ IsPartOf part (step ∷ steps) = IsPartOf part steps ⊎ ((rest : List Step) × 
 abbrev pub Leads : EdgeTest → Step → ℕ → Labels → Edge → Type 0
 Leads test step from goals edge = (next : ℕ) × (is_in goals next ≡ true) × IsThere test edge × Passes step from edge next
 
+-- .. one of the edges that a label has
+abbrev pub LeadsOf : EdgeTest → Step → ℕ → Labels → ℕ → Edge → Type 0
+LeadsOf test step from goals start edge = (edge.from ≡ start) × Leads test step from goals edge
+
 -- the end of an edge that isn't this one, if they are two
 abbrev pub other_end : Edge → ℕ → ℕ
 other_end edge from = if edge.from == from then edge.to else edge.from

@@ -1,4 +1,4 @@
-mod cells;
+pub(crate) mod cells;
 pub(crate) mod rules;
 pub(crate) mod steps;
 

@@ -198,17 +198,17 @@ fn later(last: Option<Edge>, edge: Edge) -> Edge
     }
 }
 
-/// How many edges there can be between as many labels.
+// How many edges there can be between as many labels.
 #[tactic(auto, unfolding(crate::specs::Rows::edge_count))]
-pub(crate) fn edges_between(labels: usize) -> usize
+fn edges_between(labels: usize) -> usize
     requires { labels ≤ Label.COUNT }
     ensures { result ≡ edge_count labels }
 {
     labels * (labels * KINDS)
 }
 
-/// The edge of this number, in the order of the edges that there can be between as many labels.
-pub(crate) fn edge_numbered(labels: usize, number: usize) -> Option<Edge>
+// The edge of this number, in the order of the edges that there can be between as many labels.
+fn edge_numbered(labels: usize, number: usize) -> Option<Edge>
     requires { labels ≤ Label.COUNT }
     ensures { SomeIff result (number < edge_count labels) (edge_at labels number) }
 {

@@ -6,11 +6,11 @@ ghost use Rattle.base.specs.Labels.{is_in};
 ghost use Rattle.base.specs.Refusals.{out_of_memory};
 ghost use Rattle.policy.specs.declared.walks.Step.{Step as StepOf};
 ghost use Rattle.policy.specs.Policy.{allows};
-ghost use Rattle.policy.specs.Reasons.{reason_place};
-ghost use Rattle.policy.specs.Walks.{FindsFirst, FindsWalk, GoesAgainst, GoesAlong, GoesEitherWay, IsPartOf, IsWalk, Leads, is_of, lesser_of, other_end};
+ghost use Rattle.policy.specs.Reasons.{edge, reason_place};
+ghost use Rattle.policy.specs.Walks.{FindsFirst, FindsWalk, GoesAgainst, GoesAlong, GoesEitherWay, IsPartOf, IsWalk, Leads, LeadsOf, is_of, lesser_of, other_end};
 
 use crate::Policy;
-use crate::policy::{edge_numbered, edges_between};
+use crate::broken::cells::first_cell;
 use base::{Edge, Kind, Label, Labels, Refusal};
 use std::alloc::Global;
 
@@ -130,10 +130,9 @@ impl Policy {
     fn first_edge(&self, step: &Step, from: Label, goals: Labels) -> Option<Edge>
         ensures { FindsFirst (Leads (allows self.now) step.now from goals) result }
     {
-        let labels = usize::from(self.span());
-        for number in 0..edges_between(labels) {
-            if let Some(edge) = edge_numbered(labels, number) {
-                if self.leads(step, from, goals, &edge) {
+        for number in 0..self.span() {
+            if let Some(start) = Label::new(number) {
+                if let Some(edge) = self.first_edge_of(step, from, goals, start) {
                     return Some(edge);
                 }
             }
@@ -141,29 +140,47 @@ impl Policy {
         None
     }
 
-    // Whether a step leads to a label of the set by this edge.
-    fn leads(&self, step: &Step, from: Label, goals: Labels, edge: &Edge) -> bool
-        ensures { IsTrue result ↔ Leads (allows self.now) step.now from goals edge.now }
+    // The first of the edges that the label `start` has, by which it does.
+    fn first_edge_of(&self, step: &Step, from: Label, goals: Labels, start: Label) -> Option<Edge>
+        ensures { FindsFirst (LeadsOf (allows self.now) step.now from goals start) result }
     {
-        let Edge {
+        let (kind, to) = first_cell(
+            |kind: Kind| -> Labels
+                ensures { (to : ℕ) → (is_in result to ≡ true)
+                    ↔ Leads (allows self.entry.now) step.entry.now from goals (edge start kind to) }
+            { self.ends_of(step, from, goals, start, kind) },
+        )?;
+        Some(Edge {
             from: start,
             kind,
-            to: end,
-        } = *edge;
-        if !(goes(step.along, kind, start, from) && goals.has(end))
-            && !(goes(step.against, kind, end, from) && goals.has(start))
-        {
-            return false;
-        }
-        self.has(*edge)
+            to,
+        })
+    }
+
+    // The labels to which `start` has an edge of this kind, by which it does.
+    fn ends_of(&self, step: &Step, from: Label, goals: Labels, start: Label, kind: Kind) -> Labels
+        ensures { (to : ℕ) → (is_in result to ≡ true)
+            ↔ Leads (allows self.now) step.now from goals (edge start kind to) }
+    {
+        let along = labels_if(takes(step.along, kind), labels_if(start == from, goals));
+        let only = labels_if(goals.has(start), Labels::only(from));
+        let against = labels_if(takes(step.against, kind), only);
+        self.row(start, kind).intersection(along.union(against))
     }
 }
 
-// Whether a step by edges of some kinds may begin with this kind of edge at this end.
-fn goes(kinds: &[Kind], kind: Kind, end: Label, from: Label) -> bool
-    ensures { result ≡ ((end == from) && is_of kinds.now kind) }
+// Whether a step by edges of some kinds takes those of this kind.
+fn takes(kinds: &[Kind], kind: Kind) -> bool
+    ensures { result ≡ is_of kinds.now kind }
 {
-    end == from && kinds.contains(&kind)
+    kinds.contains(&kind)
+}
+
+// The set, or no label.
+fn labels_if(taken: bool, labels: Labels) -> Labels
+    ensures { (label : ℕ) → is_in result label ≡ (taken && is_in labels label) }
+{
+    if taken { labels } else { Labels::none() }
 }
 
 // The end of an edge that isn't this one, if they are two.
