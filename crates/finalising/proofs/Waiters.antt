@@ -1,6 +1,6 @@
 -- Where the first that waits is aborted, the others are left to be.
-use Rattle.std.proofs.Common.{◌≡◌, ◌≢◌, ◌<◌, not, cond, List, [], ◌∷◌, length, refl, sym, ap, ◌∙◌, arith}
-use Rattle.std.specs.Prelude.{Option, Some, None, AllPairs, option_map}
+use Rattle.std.proofs.Common.{◌≡◌, ◌<◌, List, [], ◌∷◌, length, refl, sym, ap, ◌∙◌, arith}
+use Rattle.std.specs.Prelude.{Option, Some, None, option_map}
 use Rattle.std.proofs.lemmas.Option.{same_Some}
 use Rattle.std.specs.List.{fold}
 use Rattle.base.specs.declared.ids.ObjId.{ObjId}
@@ -9,20 +9,12 @@ use Rattle.machine.specs.Changes.{first_waiting}
 use Rattle.machine.specs.Finalising.{aborted}
 use Rattle.machine.specs.Machine.{Machine, queue_of}
 use Rattle.machine.specs.WellFormed.{IsThread, LinksAgree}
-use Rattle.machine.proofs.Ids.{itself}
-use Rattle.machine.proofs.Queues.{first_in, once_first}
+use Rattle.machine.proofs.Queues.{first_in}
 use Rattle.finalising.specs.Finalised.{members, with_waiters_aborted}
 use Rattle.machine.specs.Releasing.{with_aborted}
 use Rattle.finalising.proofs.Agreement.{links_aborted}
-use Rattle.machine.proofs.Leaving.{aborted_is, released_queues, without, without_absent}
+use Rattle.machine.proofs.Leaving.{aborted_is, first_leaves, released_queues, without}
 use Rattle.machine.proofs.HeldThreads.{links_of}
-
--- the first leaves a queue that has it once
-first_leaves :
-    (first : ObjId) (others : List ObjId) → AllPairs (λ a b. a ≢ b) (first ∷ others) → without first (first ∷ others) ≡ others
-first_leaves first others once =
-    ap (λ b. cond (not b) (first ∷ without first others) (without first others)) (itself first)
-    ∙ without_absent first others (λ within. once_first first others once first within refl)
 
 -- who waits first
 pub queue_by_first :

@@ -1,5 +1,5 @@
--- Where only shares and the links between threads and scheduling contexts change, queues and replies stay linked at both ends,
--- and the machine is well formed if those links agree.
+-- Where only shares, words of notifications, and the links between threads and scheduling contexts change, queues and replies stay
+-- linked at both ends, and the machine is well formed if those links agree.
 use Rattle.std.proofs.Common.{◌≡◌, refl, sym, ap, subst, ◌∙◌}
 use Rattle.std.specs.Prelude.{Some, None, option_map}
 use Rattle.base.specs.declared.ids.ObjId.{ObjId}
@@ -15,13 +15,14 @@ use Rattle.machine.proofs.LookUps.{object_of-with_object, queue_of-with_object}
 use Rattle.machine.proofs.Outlines.{Steady, object_steady, outline, same_kinds, shown_kept, shown_there, steady_formed}
 use Rattle.machine.proofs.Outlines.{steady_steady}
 
--- an object without the link between a thread and its scheduling context, and without a share
+-- an object without the link between a thread and its scheduling context, without a share, and without a notification's word
 abbrev pub loosened : Object → Object
 loosened (o.Tcb tcb) = o.Tcb (record tcb { context = None })
 loosened (o.Context context) = o.Context (record context { share = None; thread = None })
+loosened (o.Notification notification) = o.Notification (record notification { pending = None })
 loosened object = object
 
--- nothing but such links and shares changes
+-- nothing but these changes
 pub record OnlyBinds (m next : Machine) : Type 0 where
   pub steady : Steady m next
   pub objects : (q : ObjId) → option_map loosened (object_of next q) ≡ option_map loosened (object_of m q)
@@ -30,6 +31,7 @@ pub record OnlyBinds (m next : Machine) : Type 0 where
 outline_in : (object : Object) → outline (loosened object) ≡ outline object
 outline_in (o.Tcb tcb) = refl
 outline_in (o.Context context) = refl
+outline_in (o.Notification notification) = refl
 outline_in _ = refl
 
 pub object_binds :
@@ -69,11 +71,13 @@ tcb_of :
 tcb_of (o.Tcb old) tcb e =
     let same : record old { context = None } ≡ record tcb { context = None } = cc in (old, refl, ap (λ (t : Tcb). t.state) same)
 tcb_of (o.Context old) tcb e = cc
+tcb_of (o.Notification old) tcb e = cc
 tcb_of _ tcb e = cc
 
 reply_of : (object : Object) (holding : Reply) → loosened object ≡ o.Reply holding → object ≡ o.Reply holding
 reply_of (o.Tcb old) holding e = cc
 reply_of (o.Context old) holding e = cc
+reply_of (o.Notification old) holding e = cc
 reply_of _ holding e = e
 
 same_thread :

@@ -21,7 +21,7 @@ use Rattle.machine.proofs.Ids.{one_or_two}
 use Rattle.machine.proofs.LookUps.{object_of-with_object}
 use Rattle.machine.proofs.RemovalTable.{one_thread}
 use Rattle.machine.proofs.Threads.{with_tcb_there}
-use Rattle.machine.proofs.WordLinks.{SetsObject, other_after, other_before, set_elsewhere, set_there}
+use Rattle.machine.proofs.SetObject.{SetsObject, other_after, other_before, set_elsewhere, set_there}
 
 -- changes of what is there
 

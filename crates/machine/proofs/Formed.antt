@@ -1,6 +1,6 @@
 -- Each step keeps a well-formed machine well formed.
-use Rattle.std.proofs.Common.{◌≡◌, ℕ, ◌⊎◌, inl, inr, List, [], ◌∷◌, ◌++◌, refl, sym, ap, subst, ◌∙◌}
-use Rattle.std.specs.Prelude.{Bool, Some, None, Result, Ok, Err, option_map, if◌then◌else◌}
+use Rattle.std.proofs.Common.{◌≡◌, ◌≢◌, ℕ, ◌⊎◌, inl, inr, List, [], ◌∷◌, refl, sym, ap, subst}
+use Rattle.std.specs.Prelude.{Bool, Some, None, Result, Ok, Err, option_map}
 use Rattle.base.specs.declared.refusal.Cause.{Cause}
 use Rattle.base.specs.declared.ids.ObjId.{ObjId}
 use Rattle.base.specs.declared.ids.SlotRef.{SlotRef}
@@ -11,95 +11,69 @@ use Rattle.machine.specs.declared.call.Made.{Made}
 use Rattle.machine.specs.declared.call.Outcome.{Outcome}
 use Rattle.machine.specs.declared.cap.Cap.{Cap}
 use Rattle.machine.specs.declared.object.Notification.{Notification}
+use Rattle.machine.specs.declared.object.Object.{Object}
 use Rattle.machine.specs.declared.object.Object.TheVariants as o
-use Rattle.machine.specs.declared.object.ObjectKind.{ObjectKind}
 use Rattle.machine.specs.declared.object.ObjectKind.TheVariants as kind
 use Rattle.machine.specs.declared.slot_address.SlotAddress.{SlotAddress}
-use Rattle.machine.specs.declared.thread.RunState.{RunState}
 use Rattle.machine.specs.declared.thread.RunState.TheVariants as state
-use Rattle.machine.specs.declared.thread.Tcb.{Tcb}
 use Rattle.machine.specs.Below.{is_below}
-use Rattle.machine.specs.Machine.{Machine, cap_of, object_of, queue_of, same_id, same_slot, with_object, with_queue}
+use Rattle.machine.specs.Machine.{Machine, cap_of, object_of, same_slot, with_object}
 use Rattle.machine.specs.Objects.{kind_of_object}
 use Rattle.machine.specs.Makes.{Makes}
+use Rattle.machine.specs.Releasing.{with_blocked}
 use Rattle.machine.specs.Removal.{removed}
 use Rattle.machine.specs.Run.{Run}
 use Rattle.machine.specs.Step.{ChangesCaller, Step, call_of}
-use Rattle.machine.specs.WellFormed.{IsThread, IsWellFormed, WaitsAtKind}
+use Rattle.machine.specs.WellFormed.{IsWellFormed}
 use Rattle.machine.proofs.Admission.{IsCaller}
+use Rattle.machine.proofs.ContextLinks.{binds_formed, object_binds}
 use Rattle.machine.proofs.ContextsFormed.{bind_formed, configure_formed, unbind_formed}
 use Rattle.machine.proofs.FillsFormed.{derives_formed}
-use Rattle.machine.proofs.MessageRows.{endpoint_call_formed, fetch_formed, receive_formed, reply_formed, send_formed}
+use Rattle.machine.proofs.MessageFormed.{blocked_formed, released_formed}
+use Rattle.machine.proofs.MessageRows.{caller_idle, endpoint_call_formed, fetch_formed, receive_formed, reply_formed, send_formed}
 use Rattle.machine.proofs.MovesFormed.{move_formed}
 use Rattle.machine.proofs.Inversion.{CallDone, EventDone, call_done, step_done}
-use Rattle.machine.proofs.JoinLinks.{join_moves}
-use Rattle.machine.proofs.LookUps.{object_of-with_object, object_of-with_queue, queue_of-with_object}
-use Rattle.machine.proofs.Outlines.{Steady, queue_steady, steady_formed, steady_steady, thread_steady}
+use Rattle.machine.proofs.LookUps.{object_of-with_object}
+use Rattle.machine.proofs.NotificationRow.{none_sends}
 use Rattle.machine.proofs.PollRow.{PollDone}
-use Rattle.machine.proofs.Queues.{first_in}
 use Rattle.machine.proofs.RemovalLinks.{removed_formed}
 use Rattle.machine.proofs.RemovalRows.{RemovalDone}
 use Rattle.machine.proofs.RetypeFormed.{retype_formed}
+use Rattle.machine.proofs.SetObject.{other_after, other_before}
 use Rattle.machine.proofs.SignalRow.{SignalDone, Wakes, marked, roused}
 use Rattle.machine.proofs.SpaceFormed.{clear_formed, set_formed}
 use Rattle.machine.proofs.ThreadFormed.{resume_formed, suspend_formed}
-use Rattle.machine.proofs.ThreadLinks.{NamesNoReply, links_moved}
-use Rattle.machine.proofs.WaitRow.{Blocks, WaitDone, awaiting}
-use Rattle.machine.proofs.WakeLinks.{wake_moves}
-use Rattle.machine.proofs.WordLinks.{SetsObject, word_steady, links_with_word}
+use Rattle.machine.proofs.WaitRow.{WaitDone}
 use Rattle.machine.proofs.WordsFormed.{read_formed, write_formed}
 
 -- a notification's word changes
-word_formed :
-    (m : Machine) (id : ObjId) (old new : Notification) → object_of m id ≡ Some (o.Notification old)
-    → new.address ≡ old.address → IsWellFormed m → IsWellFormed (with_object m id (o.Notification new))
-word_formed m id old new was same_address formed =
-    steady_formed m (with_object m id (o.Notification new)) (word_steady m id old new was same_address)
-    (links_with_word m id old new was same_address formed.links) formed
+module _ (m : Machine) (id : ObjId) (old new : Notification) (was : object_of m id ≡ Some (o.Notification old))
+    (same_address : new.address ≡ old.address) (formed : IsWellFormed m) where
+  abbrev after : Machine
+  after = with_object m id (o.Notification new)
 
--- who waits at a notification names no reply
-alone_at : (run : RunState) (at : ObjectKind) → at ≡ kind.Notification → WaitsAtKind run at → NamesNoReply run
-alone_at (state.Waiting notification) at is waits = record { not_with = λ id h. h; not_called = λ id h. h }
-alone_at (state.Sending sending) at is waits = absurd (subst (WaitsAtKind (state.Sending sending)) is waits)
-alone_at (state.Receiving receiving) at is waits = absurd (subst (WaitsAtKind (state.Receiving receiving)) is waits)
-alone_at _ at is waits = absurd waits
+  was_so : (q : ObjId) (other : Object) → other ≢ o.Notification new → object_of after q ≡ Some other → object_of m q ≡ Some other
+  was_so = other_before m after id (o.Notification new) (object_of-with_object m id (o.Notification new))
 
-ready_alone : NamesNoReply state.Ready
-ready_alone = record { not_with = λ id h. h; not_called = λ id h. h }
+  is_so : (q : ObjId) (other : Object) → other ≢ o.Notification old → object_of m q ≡ Some other → object_of after q ≡ Some other
+  is_so = other_after m after id (o.Notification new) (object_of-with_object m id (o.Notification new)) (o.Notification old) was
 
-first_alone :
-    (m : Machine) (id first : ObjId) (others : List ObjId) (notification : Notification) (thread : Tcb) → IsWellFormed m
-    → object_of m id ≡ Some (o.Notification notification) → IsThread m first thread
-    → queue_of m id ≡ Some (first ∷ others) → NamesNoReply thread.state
-first_alone m id first others notification thread formed there is waited =
-    let w = formed.links.queued id (first ∷ others) first waited (first_in first others) in
-    let one : Some (o.Tcb w.0) ≡ Some (o.Tcb thread) = sym w.2 ∙ is in
-    let same : w.0 ≡ thread = cc in
-    let kinds : Some w.1 ≡ Some kind.Notification = sym w.4 ∙ ap (option_map kind_of_object) there in
-    let at : w.1 ≡ kind.Notification = cc in
-    subst (λ (t : Tcb). NamesNoReply t.state) same (alone_at (w.0).state w.1 at w.5)
-
--- the first thread that waits at a notification leaves its queue and is ready
-wakes_formed :
-    (m next : Machine) (id : ObjId) (badge : ℕ) (notification : Notification) → IsWellFormed m
-    → object_of m id ≡ Some (o.Notification notification) → Wakes m id badge next → IsWellFormed next
-wakes_formed m next id badge notification formed there wakes =
-    let between : Machine = with_queue m id wakes.others in
-    let new : Tcb = roused wakes.thread badge in
-    let after : Machine = with_object between wakes.first (o.Tcb new) in
-    let is : IsThread between wakes.first wakes.thread = object_of-with_queue m id wakes.others wakes.first ∙ wakes.there in
-    let steady : Steady m after =
-    steady_steady m between after (queue_steady m id (wakes.first ∷ wakes.others) wakes.others wakes.waited)
-    (thread_steady between wakes.first wakes.thread new is refl) in
-    let sets : SetsObject m wakes.first (o.Tcb new) after =
-    λ q.
-    object_of-with_object between wakes.first (o.Tcb new) q
-    ∙ ap (λ found. if same_id q wakes.first then Some (o.Tcb new) else found) (object_of-with_queue m id wakes.others q) in
-    let alone = first_alone m id wakes.first wakes.others notification wakes.thread formed there wakes.there wakes.waited in
-    let moves = wake_moves m id wakes.first wakes.others wakes.thread new wakes.waited wakes.there refl formed.links in
-    subst IsWellFormed (sym wakes.changes)
-    (steady_formed m after steady
-    (links_moved m after wakes.first wakes.thread new wakes.there sets steady refl alone ready_alone moves formed.links) formed)
+  word_formed : IsWellFormed after
+  word_formed =
+      binds_formed m after
+      (object_binds m id (o.Notification old) (o.Notification new) was
+      (λ i. o.Notification (record { address = same_address i; pending = None })))
+      (record {
+        thread_context =
+            λ thread q tcb e runs.
+            let w = formed.links.thread_context thread q tcb (was_so thread (o.Tcb tcb) (λ same. cc) e) runs in
+            (w.0, is_so q (o.Context w.0) (λ same. cc) w.1, w.2);
+        context_thread =
+            λ q thread context e runs.
+            let w = formed.links.context_thread q thread context (was_so q (o.Context context) (λ same. cc) e) runs in
+            (w.0, is_so thread (o.Tcb w.0) (λ same. cc) w.1, w.2);
+      })
+      formed
 
 signal_formed :
     (m : Machine) (caller : ObjId) (address : ℕ) (next : Machine) → IsWellFormed m → SignalDone m caller address next
@@ -110,7 +84,8 @@ signal_formed m caller address next formed done = by_case done.changes where
       ⊎ (next ≡ with_object m done.open_to.id (o.Notification (marked done.open_to.notification done.open_to.end.badge)))
       → IsWellFormed next
   by_case (inl wakes) =
-      wakes_formed m next done.open_to.id done.open_to.end.badge done.open_to.notification formed done.open_to.there wakes
+      subst IsWellFormed (sym wakes.changes)
+      (released_formed m wakes.first wakes.thread (roused done.open_to.end.badge) formed wakes.there refl refl tt)
   by_case (inr joins) =
       subst IsWellFormed (sym joins)
       (word_formed m done.open_to.id done.open_to.notification _ done.open_to.there refl formed)
@@ -122,43 +97,22 @@ poll_formed m caller address next formed done =
     subst IsWellFormed (sym done.changes)
     (word_formed m done.open_to.id done.open_to.notification _ done.open_to.there refl formed)
 
--- a ready thread joins the queue of a notification
-blocks_formed :
-    (m next : Machine) (caller id : ObjId) (notification : Notification) → IsWellFormed m → IsCaller m caller
-    → object_of m id ≡ Some (o.Notification notification) → Blocks m caller id next → IsWellFormed next
-blocks_formed m next caller id notification formed is there blocks =
-    let new : Tcb = awaiting blocks.thread id in
-    let between : Machine = with_object m caller (o.Tcb new) in
-    let threads : List ObjId = blocks.threads ++ caller ∷ [] in
-    let after : Machine = with_queue between id threads in
-    let one : Some (o.Tcb is.thread) ≡ Some (o.Tcb blocks.thread) = sym is.there ∙ blocks.there in
-    let same : is.thread ≡ blocks.thread = cc in
-    let ready : blocks.thread.state ≡ state.Ready = sym (ap (λ (t : Tcb). t.state) same) ∙ is.ready in
-    let steady : Steady m after =
-    steady_steady m between after (thread_steady m caller blocks.thread new blocks.there refl)
-    (queue_steady between id blocks.threads threads (queue_of-with_object m caller (o.Tcb new) id ∙ blocks.waited)) in
-    let sets : SetsObject m caller (o.Tcb new) after =
-    λ q. object_of-with_queue between id threads q ∙ object_of-with_object m caller (o.Tcb new) q in
-    let moves =
-    join_moves m id caller blocks.threads blocks.thread new blocks.waited blocks.there ready refl kind.Notification
-    (ap (option_map kind_of_object) there) tt (λ same. cc) formed.links in
-    subst IsWellFormed (sym blocks.changes)
-    (steady_formed m after steady
-    (links_moved m after caller blocks.thread new blocks.there sets steady refl
-    (subst (λ run. NamesNoReply run) (sym ready) ready_alone) (alone_at (state.Waiting id) kind.Notification refl tt) moves
-    formed.links) formed)
-
 wait_formed :
     (m : Machine) (caller : ObjId) (address : ℕ) (next : Machine) → IsWellFormed m → IsCaller m caller
     → WaitDone m caller address next → IsWellFormed next
 wait_formed m caller address next formed is done = by_case done.changes where
   by_case :
       (next ≡ with_object m done.open_to.id (o.Notification (record done.open_to.notification { pending = None })))
-      ⊎ Blocks m caller done.open_to.id next → IsWellFormed next
+      ⊎ (next ≡ with_blocked m caller done.open_to.id (state.Waiting done.open_to.id)) → IsWellFormed next
   by_case (inl taken) =
       subst IsWellFormed (sym taken)
       (word_formed m done.open_to.id done.open_to.notification _ done.open_to.there refl formed)
-  by_case (inr blocks) = blocks_formed m next caller done.open_to.id done.open_to.notification formed is done.open_to.there blocks
+  by_case (inr blocks) =
+      let open_to = done.open_to in
+      subst IsWellFormed (sym blocks)
+      (blocked_formed m caller open_to.id is.thread (state.Waiting open_to.id) kind.Notification formed is.there
+      (caller_idle m caller is) (ap (option_map kind_of_object) open_to.there) refl tt (λ named none. none)
+      (none_sends m open_to.id open_to.notification open_to.there formed.links))
 
 removal_formed :
     (m : Machine) (caller : ObjId) (address : SlotAddress) (chosen : SlotRef → SlotRef → Bool) (next : Machine) → IsWellFormed m
@@ -207,7 +161,7 @@ pub makes_formed :
     (m next : Machine) (caller : ObjId) (which : Call) (result : Result Made Cause) → IsWellFormed m
     → (ChangesCaller which → IsCaller m caller) → Makes m next result (call_of m caller which) → IsWellFormed next
 makes_formed m next caller which (Ok made) formed is makes =
-    call_formed m caller which next formed is (call_done m caller which made next formed is makes)
+    call_formed m caller which next formed is (call_done m caller which made next formed makes)
 makes_formed m next caller which (Err cause) formed is makes = subst IsWellFormed (sym makes.1) formed
 
 pub step_formed :

@@ -10,7 +10,7 @@ use Rattle.machine.specs.declared.call.Made.{Made}
 use Rattle.machine.specs.declared.call.Outcome.{Outcome}
 use Rattle.machine.specs.Below.{is_below}
 use Rattle.machine.specs.Machine.{Machine, same_slot}
-use Rattle.machine.specs.Step.{ChangesCaller, Step, step_of, settled, made_by, call_of, admitted}
+use Rattle.machine.specs.Step.{Step, step_of, settled, made_by, call_of, admitted}
 use Rattle.machine.specs.Step.Step.{ends, lacks}
 use Rattle.machine.specs.WellFormed.{IsWellFormed}
 use Rattle.machine.proofs.Admission.{IsCaller, admits}
@@ -58,36 +58,36 @@ CallDone m caller (call.Unbind context) next = UnbindDone m caller context next
 
 pub call_done :
     (m : Machine) (caller : ObjId) (which : Call) (made : Made) (next : Machine) → IsWellFormed m
-    → (ChangesCaller which → IsCaller m caller) → call_of m caller which ≡ Ok (made, next) → CallDone m caller which next
-call_done m caller (call.Signal address) made next formed is = signal_done m caller address made next formed
-call_done m caller (call.Poll address) made next formed is = poll_done m caller address made next formed
-call_done m caller (call.Wait address) made next formed is = wait_done m caller address made next formed (is tt)
-call_done m caller (call.Send address words capability) made next formed is =
+    → call_of m caller which ≡ Ok (made, next) → CallDone m caller which next
+call_done m caller (call.Signal address) made next formed = signal_done m caller address made next formed
+call_done m caller (call.Poll address) made next formed = poll_done m caller address made next formed
+call_done m caller (call.Wait address) made next formed = wait_done m caller address made next formed
+call_done m caller (call.Send address words capability) made next formed =
     send_done m caller address words capability made next formed
-call_done m caller (call.Call address words capability) made next formed is =
+call_done m caller (call.Call address words capability) made next formed =
     endpoint_call_done m caller address words capability made next formed
-call_done m caller (call.Receive address reply slot) made next formed is =
+call_done m caller (call.Receive address reply slot) made next formed =
     receive_done m caller address reply slot made next formed
-call_done m caller (call.Reply address words) made next formed is = reply_done m caller address words made next
-call_done m caller call.Fetch made next formed is = fetch_done m caller made next
-call_done m caller (call.Copy to from rights) made next formed is = copy_done m caller to from rights made next formed
-call_done m caller (call.Mint to from rights gift) made next formed is =
+call_done m caller (call.Reply address words) made next formed = reply_done m caller address words made next
+call_done m caller call.Fetch made next formed = fetch_done m caller made next
+call_done m caller (call.Copy to from rights) made next formed = copy_done m caller to from rights made next formed
+call_done m caller (call.Mint to from rights gift) made next formed =
     mint_done m caller to from rights gift made next formed
-call_done m caller (call.Move to from) made next formed is = move_done m caller to from made next
-call_done m caller (call.Delete slot) made next formed is = delete_done m caller slot made next
-call_done m caller (call.Revoke slot) made next formed is = revoke_done m caller slot made next
-call_done m caller (call.Retype untyped kind bits to offset count) made next formed is =
+call_done m caller (call.Move to from) made next formed = move_done m caller to from made next
+call_done m caller (call.Delete slot) made next formed = delete_done m caller slot made next
+call_done m caller (call.Revoke slot) made next formed = revoke_done m caller slot made next
+call_done m caller (call.Retype untyped kind bits to offset count) made next formed =
     retype_done m caller untyped kind bits to offset count made next
-call_done m caller (call.Read address index) made next formed is = read_done m caller address index made next
-call_done m caller (call.Write address index word) made next formed is = write_done m caller address index word made next
-call_done m caller (call.SetSpace thread space) made next formed is = set_done m caller thread space made next
-call_done m caller (call.ClearSpace thread) made next formed is = clear_done m caller thread made next
-call_done m caller (call.Suspend thread) made next formed is = suspend_done m caller thread made next
-call_done m caller (call.Resume thread) made next formed is = resume_done m caller thread made next
-call_done m caller (call.Configure control context budget period) made next formed is =
+call_done m caller (call.Read address index) made next formed = read_done m caller address index made next
+call_done m caller (call.Write address index word) made next formed = write_done m caller address index word made next
+call_done m caller (call.SetSpace thread space) made next formed = set_done m caller thread space made next
+call_done m caller (call.ClearSpace thread) made next formed = clear_done m caller thread made next
+call_done m caller (call.Suspend thread) made next formed = suspend_done m caller thread made next
+call_done m caller (call.Resume thread) made next formed = resume_done m caller thread made next
+call_done m caller (call.Configure control context budget period) made next formed =
     configure_done m caller control context budget period made next
-call_done m caller (call.Bind context thread) made next formed is = bind_done m caller context thread made next
-call_done m caller (call.Unbind context) made next formed is = unbind_done m caller context made next
+call_done m caller (call.Bind context thread) made next formed = bind_done m caller context thread made next
+call_done m caller (call.Unbind context) made next formed = unbind_done m caller context made next
 
 -- an event was made: by a caller, whose call was done
 pub record EventDone (m : Machine) (event : Event) (next : Machine) : Type 0 where
@@ -101,7 +101,7 @@ unfolding made_by
 event_done m event made next formed e =
     let admission = both_done (admitted m event.core event.thread) _ (made, next) e in
     let is = admits m event.core event.thread admission.0 admission.1 in
-    record { caller = is; done = call_done m event.thread event.call made next formed (λ _. is) admission.2 }
+    record { caller = is; done = call_done m event.thread event.call made next formed admission.2 }
 
 -- an event was made, or nothing changed
 pub step_done :

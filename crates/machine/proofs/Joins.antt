@@ -24,8 +24,7 @@ use Rattle.machine.proofs.Leaving.{Names, holding_is, rest-with_object, rest-wit
 use Rattle.machine.proofs.LookUps.{object_of-with_object, object_of-with_queue, queue_of-with_object, queue_of-with_queue}
 use Rattle.machine.proofs.Outlines.{Steady, outline}
 use Rattle.machine.proofs.Releases.{rest_caps, rest_parents, rest_words}
-use Rattle.machine.proofs.ThreadLinks.{waits_at_one}
-use Rattle.machine.proofs.WordLinks.{SetsObject, set_elsewhere, set_there}
+use Rattle.machine.proofs.SetObject.{SetsObject, set_elsewhere, set_there}
 
 -- how the reply that a run state names holds the thread
 abbrev pub hold_for : RunState → ObjId → ReplyState
@@ -70,7 +69,14 @@ waits_or_not (state.Receiving receiving) q = one_or_two receiving.endpoint q
 waits_or_not (state.Waiting notification) q = one_or_two notification q
 waits_or_not _ q = inr (λ waits. waits)
 
--- a run state names one reply at most
+-- a run state waits at one object at most, and names one reply at most
+
+pub waits_at_one : (run : RunState) (a b : ObjId) → WaitsAt run a → WaitsAt run b → a ≡ b
+waits_at_one (state.Sending sending) a b p q = sym p ∙ q
+waits_at_one (state.Receiving receiving) a b p q = sym p ∙ q
+waits_at_one (state.Waiting notification) a b p q = sym p ∙ q
+waits_at_one _ a b p q = absurd p
+
 pub names_one : (run : RunState) (a b : ObjId) → Names run a → Names run b → a ≡ b
 names_one (state.Receiving receiving) a b p q = same_Some a b (sym p ∙ q)
 names_one (state.Called calling) a b p q = sym p ∙ q

@@ -1,6 +1,6 @@
 -- A thread whose links agree at both ends leaves its queue and its reply: no queue has it, no reply holds it, and all else is as it was.
-use Rattle.std.proofs.Common.{◌≡◌, ◌≢◌, ◌⊎◌, inl, inr, Bool, true, false, not, cond, List, refl, sym, ap, subst, ◌∙◌}
-use Rattle.std.specs.Prelude.{Option, Some, None, Contains, filter, option_map, if◌then◌else◌}
+use Rattle.std.proofs.Common.{◌≡◌, ◌≢◌, ◌⊎◌, inl, inr, Bool, true, false, not, cond, List, ◌∷◌, refl, sym, ap, subst, ◌∙◌}
+use Rattle.std.specs.Prelude.{AllPairs, Option, Some, None, Contains, filter, option_map, if◌then◌else◌}
 use Rattle.std.proofs.lemmas.List.Elements.{All-weaker, All-contains_itself}
 use Rattle.std.proofs.lemmas.Option.{none-some, same_Some}
 use Rattle.base.specs.declared.ids.ObjId.{ObjId}
@@ -21,6 +21,7 @@ use Rattle.machine.specs.WellFormed.{IsThread, WaitsAt}
 use Rattle.machine.proofs.Filters.{filter_all}
 use Rattle.machine.proofs.Ids.{at_itself, at_other, itself, one_or_two}
 use Rattle.machine.proofs.LookUps.{object_of-with_object, object_of-with_queue, one_id, queue_of-with_object, queue_of-with_queue}
+use Rattle.machine.proofs.Queues.{once_first}
 
 -- whether a run state names a reply
 abbrev pub Names : RunState → ObjId → Type 0
@@ -119,6 +120,13 @@ without_absent thread threads absent =
     (λ other there.
     ap not (apart_ids other thread (λ same. absent (subst (λ (t : ObjId). Contains threads t) same there))))
     threads (All-contains_itself threads))
+
+-- the first leaves a queue that has it once
+pub first_leaves :
+    (first : ObjId) (others : List ObjId) → AllPairs (λ a b. a ≢ b) (first ∷ others) → without first (first ∷ others) ≡ others
+first_leaves first others once =
+    ap (λ b. cond (not b) (first ∷ without first others) (without first others)) (itself first)
+    ∙ without_absent first others (λ within. once_first first others once first within refl)
 
 stay_queue :
     (thread : ObjId) (queue : Option (List ObjId)) → ((threads : List ObjId) → queue ≡ Some threads → ¬ (Contains threads thread))

@@ -33,10 +33,7 @@ pub mod FillsFormed
 pub mod MovesFormed
 pub mod Inversion
 pub mod Outlines
-pub mod WordLinks
-pub mod ThreadLinks
-pub mod WakeLinks
-pub mod JoinLinks
+pub mod SetObject
 pub mod Formed
 pub mod Threads
 pub mod Steps

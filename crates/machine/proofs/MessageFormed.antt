@@ -29,12 +29,11 @@ use Rattle.machine.specs.WellFormed.{IsAlike, IsFree, IsIdle, IsReceivingWith, I
 use Rattle.machine.specs.WellFormed.{kind_of}
 use Rattle.machine.proofs.Idle.{idle_stays}
 use Rattle.machine.proofs.JoinedLinks.{FitsIn, links_joined}
-use Rattle.machine.proofs.Joins.{IsJoined, awaiting_joins, blocked_joins, called_joins, joined_steady}
+use Rattle.machine.proofs.Joins.{IsJoined, awaiting_joins, blocked_joins, called_joins, joined_steady, waits_at_one}
 use Rattle.machine.proofs.Leaving.{Names, released_there}
 use Rattle.machine.proofs.Outlines.{steady_formed}
 use Rattle.machine.proofs.ReleasedLinks.{links_released}
 use Rattle.machine.proofs.Releases.{released_is, released_steady, reply_freed}
-use Rattle.machine.proofs.ThreadLinks.{waits_at_one}
 
 -- a thread leaves its queue and its reply
 pub released_formed :

@@ -1,16 +1,23 @@
--- What the rows of notifications have in common: the notification that was found by a capability with a right, and its word.
-use Rattle.std.proofs.Common.{◌≡◌, ℕ, Bool, true, refl}
-use Rattle.std.specs.Prelude.{Option, Some, Result, Ok}
+-- What the rows of notifications have in common: the notification that was found by a capability with a right, its word, and who
+-- waits there.
+use Rattle.std.proofs.Common.{◌≡◌, ℕ, Bool, true, List, refl, sym, ap, subst, ◌∙◌}
+use Rattle.std.specs.Prelude.{Contains, Option, Some, Result, Ok, option_map}
+use Rattle.std.proofs.lemmas.Option.{same_Some}
 use Rattle.base.specs.declared.ids.ObjId.{ObjId}
 use Rattle.base.specs.declared.refusal.Cause.{Cause}
 use Rattle.machine.specs.declared.cap.Badged.{Badged}
 use Rattle.machine.specs.declared.object.Notification.{Notification}
 use Rattle.machine.specs.declared.object.Object.TheVariants as o
+use Rattle.machine.specs.declared.object.ObjectKind.TheVariants as kind
+use Rattle.machine.specs.declared.thread.RunState.{RunState}
+use Rattle.machine.specs.declared.thread.RunState.TheVariants as state
+use Rattle.machine.specs.declared.thread.Tcb.{Tcb}
 use Rattle.machine.specs.Changes.{with_pending}
-use Rattle.machine.specs.Machine.{Machine, object_of, with_object}
+use Rattle.machine.specs.Machine.{Machine, object_of, queue_of, with_object}
+use Rattle.machine.specs.Objects.{kind_of_object}
 use Rattle.machine.specs.Refusing.{◌>>=◌}
 use Rattle.machine.specs.Step.Find.{find_notification, permitted}
-use Rattle.machine.specs.WellFormed.{IsWellFormed}
+use Rattle.machine.specs.WellFormed.{IsAlike, IsSending, IsThread, IsWellFormed, LinksAgree, WaitsAt, WaitsAtKind}
 use Rattle.machine.proofs.Conditions.{both_done}
 use Rattle.machine.proofs.Finding.{FindsNotification, finds_notification, found_notification, is_permitted}
 
@@ -54,3 +61,26 @@ pub with_pending_there :
     → with_pending m id word ≡ with_object m id (o.Notification (record old { pending = word }))
 unfolding with_pending
 with_pending_there m id old word there = rw there refl
+
+-- who waits at a notification waits for it
+waits_by_kind : (run : RunState) (id : ObjId) → WaitsAt run id → WaitsAtKind run kind.Notification → run ≡ state.Waiting id
+waits_by_kind (state.Waiting n) id at fits = ap state.Waiting at
+waits_by_kind _ id at fits = absurd fits
+
+module _ (m : Machine) (id : ObjId) (notification : Notification) (there : object_of m id ≡ Some (o.Notification notification))
+    (links : LinksAgree m) where
+  pub waits_for :
+      (threads : List ObjId) (thread : ObjId) → queue_of m id ≡ Some threads → Contains threads thread
+      → (tcb : Tcb) × IsThread m thread tcb × (tcb.state ≡ state.Waiting id)
+  waits_for threads thread waited within =
+      let w = links.queued id threads thread waited within in
+      let at = same_Some w.1 kind.Notification (sym w.4 ∙ ap (option_map kind_of_object) there) in
+      (w.0, w.2, waits_by_kind w.0.state id w.3 (subst (λ k. WaitsAtKind w.0.state k) at w.5))
+
+  -- so nobody sends there
+  pub none_sends : IsAlike m id (state.Waiting id)
+  none_sends threads thread tcb waited within is =
+      let w = waits_for threads thread waited within in
+      let one : Some (o.Tcb w.0) ≡ Some (o.Tcb tcb) = sym w.1 ∙ is in
+      let same : w.0 ≡ tcb = cc in
+      (subst IsSending (ap (λ (t : Tcb). t.state) (sym same) ∙ w.2), λ none. absurd none)

@@ -11,14 +11,13 @@ use Rattle.machine.specs.declared.object.ReplyState.TheVariants as reply
 use Rattle.machine.specs.declared.object.Untyped.{Untyped}
 use Rattle.machine.specs.declared.thread.Inbox.TheVariants as inbox
 use Rattle.machine.specs.declared.thread.RunState.TheVariants as state
-use Rattle.machine.specs.declared.thread.Tcb.{Tcb}
-use Rattle.machine.specs.Machine.{Machine, object_of, queue_of, words_of, cap_of, parent_of, same_id, with_object, with_queue}
+use Rattle.machine.specs.Machine.{Machine, object_of, queue_of, words_of, cap_of, parent_of, same_id, with_object}
 use Rattle.machine.specs.Objects.{kind_of_object, slot_count, word_count, address_of, end_of}
-use Rattle.machine.specs.WellFormed.{kind_of, Descends, IsRanged, IsThread, IsWellFormed, LiesIn, LinksAgree, Meets}
+use Rattle.machine.specs.WellFormed.{kind_of, Descends, IsRanged, IsWellFormed, LiesIn, LinksAgree, Meets}
 use Rattle.machine.specs.WellFormed.{NumbersFit, PartsFit, SlotsFit}
-use Rattle.machine.proofs.LookUps.{one_id, object_of-with_object, object_of-with_queue, queue_of-with_object, queue_of-with_queue}
-use Rattle.machine.proofs.LookUps.{words_of-with_object, words_of-with_queue, cap_of-with_object, cap_of-with_queue}
-use Rattle.machine.proofs.LookUps.{parent_of-with_object, parent_of-with_queue, number_of-with_object, number_of-with_queue, going-with_object, going-with_queue}
+use Rattle.machine.proofs.LookUps.{one_id, object_of-with_object, queue_of-with_object}
+use Rattle.machine.proofs.LookUps.{words_of-with_object, cap_of-with_object}
+use Rattle.machine.proofs.LookUps.{parent_of-with_object, number_of-with_object, going-with_object}
 
 -- an object without what threads, notifications, replies and contexts hold for a time
 abbrev pub outline : Object → Object
@@ -73,33 +72,6 @@ object_steady m id old new was same =
       number = number_of-with_object m id new;
       going = going-with_object m id new;
     }
-
--- a queue that is there becomes another
-pub queue_steady :
-    (m : Machine) (id : ObjId) (old threads : List ObjId) → queue_of m id ≡ Some old → Steady m (with_queue m id threads)
-queue_steady m id old threads was =
-    record {
-      outlines = λ q. ap (option_map outline) (object_of-with_queue m id threads q);
-      queues = λ q. ap is_some (queue_of-with_queue m id threads q) ∙ at q (same_id q id) refl;
-      words = λ q. ap (option_map length) (words_of-with_queue m id threads q);
-      caps = cap_of-with_queue m id threads;
-      parents = parent_of-with_queue m id threads;
-      number = number_of-with_queue m id threads;
-      going = going-with_queue m id threads;
-    }
-  where
-    at : (q : ObjId) (tie : Bool) → same_id q id ≡ tie
-        → is_some (cond tie (Some threads) (queue_of m q)) ≡ is_some (queue_of m q)
-    at q true e = sym (ap is_some was) ∙ ap (λ p. is_some (queue_of m p)) (sym (one_id q id e))
-    at q false e = refl
-
--- the content of a thread changes but for its address
-pub thread_steady :
-    (m : Machine) (id : ObjId) (old new : Tcb) → IsThread m id old → new.address ≡ old.address
-    → Steady m (with_object m id (o.Tcb new))
-thread_steady m id old new was same_address =
-    object_steady m id (o.Tcb old) (o.Tcb new) was
-    (λ i. o.Tcb (record { address = same_address i; state = state.Inactive; inbox = inbox.Empty; context = None }))
 
 pub steady_steady : (m mid next : Machine) → Steady m mid → Steady mid next → Steady m next
 steady_steady m mid next one two =

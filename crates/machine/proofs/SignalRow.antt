@@ -1,7 +1,7 @@
 -- What a signal does that is made: the first thread that waits gets the badge and is ready; where nobody waits, the badge joins
 -- the word.
-use Rattle.std.proofs.Common.{◌≡◌, ℕ, ◌⊎◌, inl, inr, List, [], ◌∷◌, refl, ap, subst, ◌∙◌}
-use Rattle.std.specs.Prelude.{Option, Some, None, Ok, unwrap_or}
+use Rattle.std.proofs.Common.{◌≡◌, ◌≢◌, ℕ, ◌⊎◌, inl, inr, List, [], ◌∷◌, refl, sym, ap, subst, ◌∙◌}
+use Rattle.std.specs.Prelude.{AllPairs, Option, Some, None, Ok, unwrap_or}
 use Rattle.std.specs.Int.RustNames.{bit_or}
 use Rattle.base.specs.declared.ids.ObjId.{ObjId}
 use Rattle.machine.specs.declared.call.Answer.TheVariants as answer
@@ -10,30 +10,32 @@ use Rattle.machine.specs.declared.call.Made.TheVariants.{Done}
 use Rattle.machine.specs.declared.object.Notification.{Notification}
 use Rattle.machine.specs.declared.object.Object.TheVariants as o
 use Rattle.machine.specs.declared.thread.Inbox.TheVariants as inbox
+use Rattle.machine.specs.declared.thread.RunState.{RunState}
 use Rattle.machine.specs.declared.thread.RunState.TheVariants as state
 use Rattle.machine.specs.declared.thread.Tcb.{Tcb}
 use Rattle.machine.specs.Capabilities.{can_write}
-use Rattle.machine.specs.Changes.{with_tcb, without_first, first_waiting}
+use Rattle.machine.specs.Changes.{first_waiting, with_tcb, without_first, without_waiting}
 use Rattle.machine.specs.Machine.{Machine, object_of, queue_of, with_object, with_queue}
+use Rattle.machine.specs.Releasing.{unblocked, with_released}
 use Rattle.machine.specs.Step.Signal.{signal_of, signalled, woken, pending_in}
 use Rattle.machine.specs.WellFormed.{IsWellFormed, IsThread}
 use Rattle.machine.proofs.Conditions.{same_ok}
+use Rattle.machine.proofs.Leaving.{first_leaves, released_there}
 use Rattle.machine.proofs.LookUps.{object_of-with_queue}
-use Rattle.machine.proofs.NotificationRow.{IsOpen, opens, with_pending_there}
+use Rattle.machine.proofs.NotificationRow.{IsOpen, opens, waits_for, with_pending_there}
 use Rattle.machine.proofs.Queues.{first_in}
 
 -- a thread with a word in its inbox, ready
-abbrev pub roused : Tcb → ℕ → Tcb
-roused thread word = record thread { state = state.Ready; inbox = inbox.Word word }
+abbrev pub roused : ℕ → Tcb → Tcb
+roused word tcb = record tcb { state = state.Ready; inbox = inbox.Word word }
 
 -- the first thread that waits at a notification leaves its queue, and gets the badge
 pub record Wakes (m : Machine) (id : ObjId) (badge : ℕ) (next : Machine) : Type 0 where
   pub first : ObjId
-  pub others : List ObjId
   pub thread : Tcb
-  pub waited : queue_of m id ≡ Some (first ∷ others)
   pub there : IsThread m first thread
-  pub changes : next ≡ with_object (with_queue m id others) first (o.Tcb (roused thread badge))
+  pub waits : thread.state ≡ state.Waiting id
+  pub changes : next ≡ with_released m first (roused badge)
 
 -- a notification with a badge that joined its word
 abbrev pub marked : Notification → ℕ → Notification
@@ -47,17 +49,23 @@ pub record SignalDone (m : Machine) (caller : ObjId) (address : ℕ) (next : Mac
 
 woken_there :
     (m : Machine) (id : ObjId) (old : Tcb) (word : ℕ) → object_of m id ≡ Some (o.Tcb old)
-    → woken m id word ≡ with_object m id (o.Tcb (roused old word))
-unfolding woken with_tcb
-woken_there m id old word there = rw (there, there) refl
+    → woken m id word ≡ with_tcb m id (roused word old)
+unfolding woken
+woken_there m id old word there = rw there refl
 
 signalled_first :
     (m : Machine) (id first : ObjId) (others : List ObjId) (thread : Tcb) (badge : ℕ) → queue_of m id ≡ Some (first ∷ others)
-    → object_of m first ≡ Some (o.Tcb thread)
-    → signalled m id badge ≡ with_object (with_queue m id others) first (o.Tcb (roused thread badge))
-unfolding signalled first_waiting without_first
-signalled_first m id first others thread badge waited there =
-    rw (waited, waited) (woken_there (with_queue m id others) first thread badge (object_of-with_queue m id others first ∙ there))
+    → AllPairs (λ a b. a ≢ b) (first ∷ others) → IsThread m first thread → thread.state ≡ state.Waiting id
+    → signalled m id badge ≡ with_released m first (roused badge)
+unfolding signalled first_waiting without_first without_waiting
+signalled_first m id first others thread badge waited once there waits =
+    let left : without_waiting m id first ≡ with_queue m id others =
+    rw waited (ap (with_queue m id) (first_leaves first others once)) in
+    rw (waited, waited)
+    (woken_there (with_queue m id others) first thread badge (object_of-with_queue m id others first ∙ there))
+    ∙ sym (ap (λ (n : Machine). with_tcb n first (roused badge thread))
+    (ap (λ (run : RunState). unblocked m first run) waits ∙ left))
+    ∙ sym (released_there m first thread (roused badge) there)
 
 signalled_alone :
     (m : Machine) (id : ObjId) (notification : Notification) (badge : ℕ) → first_waiting m id ≡ None
@@ -86,14 +94,14 @@ signalled_done m id notification badge formed there = by_queue (queue_of m id) r
   by_queue None e = inr (signalled_alone m id notification badge (rw e refl) there)
   by_queue (Some []) e = inr (signalled_alone m id notification badge (rw e refl) there)
   by_queue (Some (first ∷ others)) e =
-      let waits = formed.links.queued id (first ∷ others) first e (first_in first others) in
+      let w = waits_for m id notification there formed.links (first ∷ others) first e (first_in first others) in
+      let once = formed.links.once id (first ∷ others) e in
       inl (record {
         first = first;
-        others = others;
-        thread = waits.0;
-        waited = e;
-        there = waits.2;
-        changes = signalled_first m id first others waits.0 badge e waits.2;
+        thread = w.0;
+        there = w.1;
+        waits = w.2;
+        changes = signalled_first m id first others w.0 badge e once w.1 w.2;
       })
 
 pub signal_done :

@@ -1,5 +1,5 @@
 -- What is seen where a thread's content changes, and that a caller waits nowhere.
-use Rattle.std.proofs.Common.{◌≡◌, ℕ, List, refl, ◌∙◌}
+use Rattle.std.proofs.Common.{◌≡◌, ℕ, List, refl, sym, subst, ◌∙◌}
 use Rattle.std.specs.Prelude.{Some, Ok, Contains}
 use Rattle.base.specs.declared.ids.ObjId.{ObjId}
 use Rattle.machine.specs.declared.object.Object.TheVariants as o
@@ -8,11 +8,11 @@ use Rattle.machine.specs.declared.thread.Tcb.{Tcb}
 use Rattle.machine.specs.Changes.{with_tcb}
 use Rattle.machine.specs.Machine.{Machine, object_of, queue_of, with_object}
 use Rattle.machine.specs.Step.{admitted}
-use Rattle.machine.specs.WellFormed.{IsCaller, IsThread, IsWellFormed}
+use Rattle.machine.specs.WellFormed.{IsCaller, IsIdle, IsThread, IsWellFormed}
 use Rattle.machine.proofs.Admission.{admits}
+use Rattle.machine.proofs.Idle.{idle_in_none}
 use Rattle.machine.proofs.Ids.{at_itself}
 use Rattle.machine.proofs.LookUps.{object_of-with_object, queue_of-with_object}
-use Rattle.machine.proofs.JoinLinks.{ready_waits_nowhere}
 
 pub with_tcb_there :
     (m : Machine) (id : ObjId) (old new : Tcb) → IsThread m id old → with_tcb m id new ≡ with_object m id (o.Tcb new)
@@ -32,7 +32,8 @@ queue_with_tcb m id old new there q = rw (with_tcb_there m id old new there) (qu
 pub ready_caller_waits_nowhere :
     (m : Machine) (caller : ObjId) → IsWellFormed m → IsCaller m caller → (id : ObjId) (threads : List ObjId)
     → queue_of m id ≡ Some threads → ¬ (Contains threads caller)
-ready_caller_waits_nowhere m caller formed is = ready_waits_nowhere m caller is.thread formed.links is.there is.ready
+ready_caller_waits_nowhere m caller formed is id threads e within =
+    idle_in_none m formed.links caller is.thread is.there (subst IsIdle (sym is.ready) tt) id threads caller e within refl
 
 -- a thread that may call is in no queue
 pub caller_waits_nowhere :

@@ -48,7 +48,7 @@ call_keeps t allowed event a m next sound closed (call.Signal address) by labell
 call_keeps t allowed event a m next sound closed (call.Poll address) by labelled is done =
     poll_keeps t allowed event a m sound closed.subjects_agree event.thread address labelled next done
 call_keeps t allowed event a m next sound closed (call.Wait address) by labelled is done =
-    wait_keeps t allowed event a m sound closed.subjects_agree event.thread address labelled next done
+    wait_keeps t allowed event a m sound closed.subjects_agree event.thread address labelled next is done
 call_keeps t allowed event a m next sound closed (call.Send address words capability) by labelled is done =
     send_keeps t allowed event a m sound closed event.thread labelled is next address words capability done
 call_keeps t allowed event a m next sound closed (call.Call address words capability) by labelled is done =
