@@ -11,15 +11,15 @@ use Rattle.machine.specs.declared.object.Object.TheVariants as o
 use Rattle.machine.specs.declared.object.ObjectKind.TheVariants as kind
 use Rattle.machine.specs.declared.slot_address.SlotAddress.{SlotAddress}
 use Rattle.machine.specs.Capabilities.{kind_of_detail}
-use Rattle.machine.specs.Machine.{Machine, object_of, cap_of, parent_of, same_slot}
+use Rattle.machine.specs.Machine.{Machine, object_of, cap_of, parent_of}
 use Rattle.machine.specs.Objects.{kind_of_object, slot_count}
 use Rattle.machine.specs.Tree.{copied, parent_of_copy}
 use Rattle.machine.specs.WellFormed.{Descends, IsWellFormed, SlotsFit, kind_of}
 use Rattle.machine.specs.WellFormed.Descends.{child, further}
 use Rattle.machine.proofs.Copies.{kinds_alike}
+use Rattle.machine.proofs.FilledSlots.{FillsUnder, cap_here, cap_stays, cap_was, child_filled, descent_stays, no_cycle, not_filled}
+use Rattle.machine.proofs.FilledSlots.{old_cap, parent_filled, parent_here, parent_was}
 use Rattle.machine.proofs.LedSlots.{InNode, led_slot}
-use Rattle.machine.proofs.Exchange.{slot_itself}
-use Rattle.machine.proofs.LookUps.{one_slot}
 use Rattle.machine.proofs.SameObjects.{KeepsDescent, Kin, OneCap, kin_same, kinds_same, links_same, numbers_same, parts_same}
 use Rattle.machine.proofs.SlotChanges.{Fills}
 use Rattle.machine.proofs.SlotRows.{Derives}
@@ -40,56 +40,6 @@ module _ (m next : Machine) (slot source : SlotRef) (held new : Cap) (formed : I
     (fills : Fills m slot new (parent_of_copy m source held) next) (takes : Takes m slot new.detail)
     (empty : cap_of m slot ≡ None) (full : cap_of m source ≡ Some held) (of : new.object ≡ held.object)
     (alike : kind_of_detail new.detail ≡ kind_of_detail held.detail) (typed : kind_of_detail held.detail ≢ kind.Untyped) where
-  -- the filled slot
-  here : cap_of next slot ≡ Some new
-  here = fills.caps slot ∙ ap (λ tie. if tie then Some new else cap_of m slot) (slot_itself slot)
-
-  under_parent : parent_of next slot ≡ parent_of_copy m source held
-  under_parent =
-      fills.parents slot ∙ ap (λ tie. if tie then parent_of_copy m source held else parent_of m slot) (slot_itself slot)
-
-  -- what was there is there
-
-  cap_after : (q : SlotRef) (cap : Cap) → cap_of m q ≡ Some cap → cap_of next q ≡ Some cap
-  cap_after q cap e = fills.caps q ∙ by_tie (same_slot q slot) refl where
-    by_tie : (tie : Bool) → same_slot q slot ≡ tie → (if tie then Some new else cap_of m q) ≡ Some cap
-    by_tie true is = let none : None ≡ Some cap = sym empty ∙ ap (cap_of m) (sym (one_slot q slot is)) ∙ e in cc
-    by_tie false is = e
-
-  parent_after : (q parent : SlotRef) → parent_of m q ≡ Some parent → parent_of next q ≡ Some parent
-  parent_after q parent e = fills.parents q ∙ by_tie (same_slot q slot) refl where
-    by_tie :
-        (tie : Bool) → same_slot q slot ≡ tie → (if tie then parent_of_copy m source held else parent_of m q) ≡ Some parent
-    by_tie true is =
-        let was = formed.slots.child_filled q parent e in
-        let none : None ≡ Some was.0 = sym empty ∙ ap (cap_of m) (sym (one_slot q slot is)) ∙ was.1 in
-        cc
-    by_tie false is = e
-
-  descends_after : {q above : SlotRef} → Descends m q above → Descends next q above
-  descends_after (child e) = child (parent_after _ _ e)
-  descends_after (further e rest) = further (parent_after _ _ e) (descends_after rest)
-
-  -- what is there was there, or is new
-
-  cap_was : (q : SlotRef) (cap : Cap) → cap_of next q ≡ Some cap → ((q ≡ slot) × (cap ≡ new)) ⊎ (cap_of m q ≡ Some cap)
-  cap_was q cap e = by_tie (same_slot q slot) refl (sym (fills.caps q) ∙ e) where
-    by_tie :
-        (tie : Bool) → same_slot q slot ≡ tie → (if tie then Some new else cap_of m q) ≡ Some cap
-        → ((q ≡ slot) × (cap ≡ new)) ⊎ (cap_of m q ≡ Some cap)
-    by_tie true is same = inl (one_slot q slot is, cc)
-    by_tie false is same = inr same
-
-  parent_was :
-      (q parent : SlotRef) → parent_of next q ≡ Some parent
-      → ((q ≡ slot) × (parent_of_copy m source held ≡ Some parent)) ⊎ (parent_of m q ≡ Some parent)
-  parent_was q parent e = by_tie (same_slot q slot) refl (sym (fills.parents q) ∙ e) where
-    by_tie :
-        (tie : Bool) → same_slot q slot ≡ tie → (if tie then parent_of_copy m source held else parent_of m q) ≡ Some parent
-        → ((q ≡ slot) × (parent_of_copy m source held ≡ Some parent)) ⊎ (parent_of m q ≡ Some parent)
-    by_tie true is same = inl (one_slot q slot is, same)
-    by_tie false is same = inr same
-
   -- the copy comes under its source, or under the source's parent
   copy_under :
       (parent : SlotRef) → parent_of_copy m source held ≡ Some parent → (source ≡ parent) ⊎ (parent_of m source ≡ Some parent)
@@ -100,38 +50,20 @@ module _ (m next : Machine) (slot source : SlotRef) (held new : Cap) (formed : I
     by_original true e = inl cc
     by_original false e = inr e
 
-  -- a parent was filled before
-  above_filled : (q parent : SlotRef) → parent_of next q ≡ Some parent → (cap : Cap) × (cap_of m parent ≡ Some cap)
-  above_filled q parent e = by_case (parent_was q parent e) where
-    by_copy : (source ≡ parent) ⊎ (parent_of m source ≡ Some parent) → (cap : Cap) × (cap_of m parent ≡ Some cap)
-    by_copy (inl same) = (held, ap (cap_of m) (sym same) ∙ full)
-    by_copy (inr was) = formed.slots.parent_filled source parent was
-
-    by_case :
-        ((q ≡ slot) × (parent_of_copy m source held ≡ Some parent)) ⊎ (parent_of m q ≡ Some parent)
-        → (cap : Cap) × (cap_of m parent ≡ Some cap)
-    by_case (inl new) = by_copy (copy_under parent new.1)
-    by_case (inr was) = formed.slots.parent_filled q parent was
-
-  not_filled : (q : SlotRef) → (cap : Cap) × (cap_of m q ≡ Some cap) → q ≢ slot
-  not_filled q was is = let none : None ≡ Some was.0 = sym empty ∙ ap (cap_of m) (sym is) ∙ was.1 in cc
-
-  top_filled : {q above : SlotRef} → Descends next q above → (cap : Cap) × (cap_of m above ≡ Some cap)
-  top_filled (child e) = above_filled _ _ e
-  top_filled (further e rest) = top_filled rest
-
-  old_parent : (q parent : SlotRef) → q ≢ slot → parent_of next q ≡ Some parent → parent_of m q ≡ Some parent
-  old_parent q parent apart e = by_case (parent_was q parent e) where
-    by_case :
-        ((q ≡ slot) × (parent_of_copy m source held ≡ Some parent)) ⊎ (parent_of m q ≡ Some parent)
-        → parent_of m q ≡ Some parent
-    by_case (inl new) = absurd (apart new.0)
-    by_case (inr was) = was
-
-  descends_was : {q above : SlotRef} → q ≢ slot → Descends next q above → Descends m q above
-  descends_was apart (child e) = child (old_parent _ _ apart e)
-  descends_was apart (further {parent = parent} e rest) =
-      further (old_parent _ _ apart e) (descends_was (not_filled parent (above_filled _ _ e)) rest)
+  under : FillsUnder m slot (parent_of_copy m source held) new next
+  under =
+      record {
+        fits = formed.slots;
+        empty = empty;
+        full = λ parent e. by_copy parent (copy_under parent e);
+        caps = fills.caps;
+        parents = fills.parents;
+      }
+    where
+      by_copy :
+          (parent : SlotRef) → (source ≡ parent) ⊎ (parent_of m source ≡ Some parent) → (cap : Cap) × (cap_of m parent ≡ Some cap)
+      by_copy parent (inl same) = (held, ap (cap_of m) (sym same) ∙ full)
+      by_copy parent (inr was) = formed.slots.parent_filled source parent was
 
   -- the copy descends from what its source descends from
   copy_descends : (above : SlotRef) → Descends m source above → Descends next slot above
@@ -139,18 +71,18 @@ module _ (m next : Machine) (slot source : SlotRef) (held new : Cap) (formed : I
     under_it :
         (original : Bool) → held.original ≡ original
         → parent_of next slot ≡ (if original then Some source else parent_of m source)
-    under_it original is = under_parent ∙ ap (λ b. if b then Some source else parent_of m source) is
+    under_it original is = parent_here under ∙ ap (λ b. if b then Some source else parent_of m source) is
 
     by_original : (original : Bool) → held.original ≡ original → Descends m source above → Descends next slot above
-    by_original true is d = further (under_it true is) (descends_after d)
+    by_original true is d = further (under_it true is) (descent_stays under d)
     by_original false is (child e) = child (under_it false is ∙ e)
-    by_original false is (further e rest) = further (under_it false is ∙ e) (descends_after rest)
+    by_original false is (further e rest) = further (under_it false is ∙ e) (descent_stays under rest)
 
   kind_here : kind_of m new.object ≡ Some (kind_of_detail new.detail)
   kind_here = ap (kind_of m) of ∙ formed.slots.object source held full ∙ ap (λ k. Some k) (sym alike)
 
   kind_now : (q : SlotRef) (cap : Cap) → cap_of next q ≡ Some cap → kind_of m cap.object ≡ Some (kind_of_detail cap.detail)
-  kind_now q cap e = by_case (cap_was q cap e) where
+  kind_now q cap e = by_case (cap_was under q cap e) where
     by_case : ((q ≡ slot) × (cap ≡ new)) ⊎ (cap_of m q ≡ Some cap) → kind_of m cap.object ≡ Some (kind_of_detail cap.detail)
     by_case (inl is) = subst (λ (c : Cap). kind_of m c.object ≡ Some (kind_of_detail c.detail)) (sym is.1) kind_here
     by_case (inr was) = formed.slots.object q cap was
@@ -158,7 +90,7 @@ module _ (m next : Machine) (slot source : SlotRef) (held new : Cap) (formed : I
   holder_now :
       (q : SlotRef) (cap : Cap) → cap_of next q ≡ Some cap
       → (object : Object) × (object_of next q.holder ≡ Some object) × (q.index < slot_count object)
-  holder_now q cap e = by_case (cap_was q cap e) where
+  holder_now q cap e = by_case (cap_was under q cap e) where
     by_case :
         ((q ≡ slot) × (cap ≡ new)) ⊎ (cap_of m q ≡ Some cap)
         → (object : Object) × (object_of next q.holder ≡ Some object) × (q.index < slot_count object)
@@ -171,7 +103,7 @@ module _ (m next : Machine) (slot source : SlotRef) (held new : Cap) (formed : I
   root_now :
       (q : SlotRef) (cap : Cap) → cap_of next q ≡ Some cap → kind_of next q.holder ≡ Some kind.Tcb
       → kind_of_detail cap.detail ≡ kind.CNode
-  root_now q cap e is_root = by_case (cap_was q cap e) where
+  root_now q cap e is_root = by_case (cap_was under q cap e) where
     was_root : kind_of m q.holder ≡ Some kind.Tcb
     was_root = sym (kinds_same m next fills.objects q.holder) ∙ is_root
 
@@ -182,26 +114,12 @@ module _ (m next : Machine) (slot source : SlotRef) (held new : Cap) (formed : I
         ap (λ (c : Cap). kind_of_detail c.detail) is.1 ∙ takes.root (same_Some (kind_of_object takes.object) kind.Tcb same)
     by_case (inr was) = formed.slots.root q cap was was_root
 
-  child_now : (q parent : SlotRef) → parent_of next q ≡ Some parent → (cap : Cap) × (cap_of next q ≡ Some cap)
-  child_now q parent e = by_case (parent_was q parent e) where
-    by_case :
-        ((q ≡ slot) × (parent_of_copy m source held ≡ Some parent)) ⊎ (parent_of m q ≡ Some parent)
-        → (cap : Cap) × (cap_of next q ≡ Some cap)
-    by_case (inl is) = (new, ap (cap_of next) is.0 ∙ here)
-    by_case (inr was) = let w = formed.slots.child_filled q parent was in (w.0, cap_after q w.0 w.1)
-
-  old_cap : (q : SlotRef) (cap : Cap) → q ≢ slot → cap_of next q ≡ Some cap → cap_of m q ≡ Some cap
-  old_cap q cap apart e = by_case (cap_was q cap e) where
-    by_case : ((q ≡ slot) × (cap ≡ new)) ⊎ (cap_of m q ≡ Some cap) → cap_of m q ≡ Some cap
-    by_case (inl is) = absurd (apart is.0)
-    by_case (inr was) = was
-
   kin_now :
       (q parent : SlotRef) (below above : Cap) → parent_of next q ≡ Some parent → cap_of next q ≡ Some below
       → cap_of next parent ≡ Some above → Kin next below.object above.object
-  kin_now q parent below above e f g = by_case (parent_was q parent e) where
+  kin_now q parent below above e f g = by_case (parent_was under q parent e) where
     above_was : cap_of m parent ≡ Some above
-    above_was = old_cap parent above (not_filled parent (above_filled q parent e)) g
+    above_was = old_cap under parent above (not_filled under parent (parent_filled under q parent e)) g
 
     by_copy : below.object ≡ held.object → (source ≡ parent) ⊎ (parent_of m source ≡ Some parent) → Kin next below.object above.object
     by_copy copies (inl is) =
@@ -214,7 +132,7 @@ module _ (m next : Machine) (slot source : SlotRef) (held new : Cap) (formed : I
 
     below_is : q ≡ slot → below.object ≡ held.object
     below_is is =
-        let one : Some below ≡ Some new = sym f ∙ ap (cap_of next) is ∙ here in
+        let one : Some below ≡ Some new = sym f ∙ ap (cap_of next) is ∙ cap_here under in
         let same : below ≡ new = cc in
         ap (λ (c : Cap). c.object) same ∙ of
 
@@ -225,7 +143,7 @@ module _ (m next : Machine) (slot source : SlotRef) (held new : Cap) (formed : I
     by_case (inr was) =
         kin_same m next fills.objects below.object above.object
         (formed.slots.kin q parent below above was
-        (old_cap q below (not_filled q (formed.slots.child_filled q parent was)) f) above_was)
+        (old_cap under q below (not_filled under q (formed.slots.child_filled q parent was)) f) above_was)
 
   slots_formed : SlotsFit next
   slots_formed =
@@ -233,9 +151,9 @@ module _ (m next : Machine) (slot source : SlotRef) (held new : Cap) (formed : I
         holder = holder_now;
         object = λ q cap e. kinds_same m next fills.objects cap.object ∙ kind_now q cap e;
         root = root_now;
-        child_filled = child_now;
-        parent_filled = λ q parent e. let w = above_filled q parent e in (w.0, cap_after parent w.0 w.1);
-        acyclic = λ q d. formed.slots.acyclic q (descends_was (not_filled q (top_filled d)) d);
+        child_filled = child_filled under;
+        parent_filled = λ q parent e. let w = parent_filled under q parent e in (w.0, cap_stays under parent w.0 w.1);
+        acyclic = no_cycle under;
         kin = kin_now;
       }
 
@@ -249,7 +167,7 @@ module _ (m next : Machine) (slot source : SlotRef) (held new : Cap) (formed : I
 
   old_untyped :
       (q : SlotRef) (cap : Cap) → kind_of m cap.object ≡ Some kind.Untyped → cap_of next q ≡ Some cap → cap_of m q ≡ Some cap
-  old_untyped q cap untyped e = by_case (cap_was q cap e) where
+  old_untyped q cap untyped e = by_case (cap_was under q cap e) where
     by_case : ((q ≡ slot) × (cap ≡ new)) ⊎ (cap_of m q ≡ Some cap) → cap_of m q ≡ Some cap
     by_case (inl is) = absurd (not_new cap is.1 untyped)
     by_case (inr was) = was
@@ -261,7 +179,7 @@ module _ (m next : Machine) (slot source : SlotRef) (held new : Cap) (formed : I
       (old_untyped b second (ap (kind_of m) (sym same) ∙ kinds) f) same untyped
 
   descent_now : KeepsDescent m next
-  descent_now q above cap over memory e f is all = by_case (cap_was q cap e) where
+  descent_now q above cap over memory e f is all = by_case (cap_was under q cap e) where
     over_was : cap_of m above ≡ Some over
     over_was = old_untyped above over (ap (option_map kind_of_object) is) f
 
@@ -270,7 +188,7 @@ module _ (m next : Machine) (slot source : SlotRef) (held new : Cap) (formed : I
         subst (λ (s : SlotRef). Descends next s above) (sym here.0)
         (copy_descends above
         (all source above held over full (sym of ∙ ap (λ (c : Cap). c.object) (sym here.1)) over_was refl))
-    by_case (inr was) = descends_after (all q above cap over was refl over_was refl)
+    by_case (inr was) = descent_stays under (all q above cap over was refl over_was refl)
 
   pub fills_formed : IsWellFormed next
   fills_formed =
@@ -279,7 +197,7 @@ module _ (m next : Machine) (slot source : SlotRef) (held new : Cap) (formed : I
         parts = parts_same m next fills.objects formed.parts;
         links = links_same m next fills.objects formed.links;
         numbers =
-            numbers_same m next fills.objects (λ q cap e. (q, cap, cap_after q cap e, refl)) one_now descent_now formed.numbers;
+            numbers_same m next fills.objects (λ q cap e. (q, cap, cap_stays under q cap e, refl)) one_now descent_now formed.numbers;
         settled = fills.objects.going ∙ formed.settled;
       }
 

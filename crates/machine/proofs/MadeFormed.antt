@@ -1,6 +1,7 @@
 -- A machine stays well formed where an object is made at the end of what is in use of untyped memory.
 use Rattle.std.proofs.Common.{◌≡◌, ◌≢◌, ℕ, ◌<◌, ◌≤◌, ◌⊎◌, inl, inr, true, List, [], length, sym, ap, subst, ◌∙◌, arith}
 use Rattle.std.proofs.lemmas.List.{length-replicate}
+use Rattle.std.proofs.lemmas.Option.{same_Some}
 use Rattle.std.specs.Prelude.{Some, None, Contains, AllPairs, option_map, replicate}
 use Rattle.base.specs.declared.ids.ObjId.{ObjId}
 use Rattle.base.specs.declared.ids.SlotRef.{SlotRef}
@@ -21,7 +22,7 @@ use Rattle.machine.specs.WellFormed.{Descends, IsCallingThrough, IsRanged, IsRec
 use Rattle.machine.specs.WellFormed.{LinksAgree, Meets, NumbersFit, PartsFit, SlotsFit, WaitsAt, WaitsAtKind, kind_of}
 use Rattle.machine.specs.WellFormed.Descends.{child, further}
 use Rattle.machine.proofs.FilledSlots.{FillsUnder, cap_here, cap_stays, cap_was, child_filled, descent_stays, no_cycle}
-use Rattle.machine.proofs.FilledSlots.{not_filled, parent_filled, parent_here, parent_was}
+use Rattle.machine.proofs.FilledSlots.{not_filled, old_cap, parent_filled, parent_here, parent_was}
 use Rattle.machine.proofs.Ids.{at_itself, at_other, one_or_two}
 use Rattle.machine.proofs.LedSlots.{InNode}
 use Rattle.machine.proofs.Likeness.{IsLike, IsUnlinked, in_order, lies_marked, lies_within, like_itself, like_marked}
@@ -133,12 +134,12 @@ module _ (m next : Machine) (source : Source) (mark : ℕ) (object : Object) (de
 
   -- slots
 
-  pub fills : FillsUnder m slot source.slot new next
+  pub fills : FillsUnder m slot (Some source.slot) new next
   fills =
       record {
         fits = formed.slots;
         empty = can.vacant;
-        full = (can.held, can.holds);
+        full = λ parent same. (can.held, ap (cap_of m) (sym (same_Some source.slot parent same)) ∙ can.holds);
         caps = makes.caps;
         parents = makes.parents;
       }
@@ -152,14 +153,14 @@ module _ (m next : Machine) (source : Source) (mark : ℕ) (object : Object) (de
       (now.0, now.1, subst (λ n. q.index < n) (sym now.2.slots) was.2)
 
   holder_now : (q : SlotRef) (cap : Cap) → cap_of next q ≡ Some cap → HasSlot next q
-  holder_now q cap e = by_case (cap_was m next slot source.slot new fills q cap e) where
+  holder_now q cap e = by_case (cap_was fills q cap e) where
     by_case : ((q ≡ slot) × (cap ≡ new)) ⊎ (cap_of m q ≡ Some cap) → HasSlot next q
     by_case (inl is) =
         subst (HasSlot next) (sym is.0) (slot_stays slot (o.CNode can.node.0, can.node.1, can.node.2))
     by_case (inr was) = slot_stays q (formed.slots.holder q cap was)
 
   object_now : (q : SlotRef) (cap : Cap) → cap_of next q ≡ Some cap → kind_of next cap.object ≡ Some (kind_of_detail cap.detail)
-  object_now q cap e = by_case (cap_was m next slot source.slot new fills q cap e) where
+  object_now q cap e = by_case (cap_was fills q cap e) where
     by_case :
         ((q ≡ slot) × (cap ≡ new)) ⊎ (cap_of m q ≡ Some cap) → kind_of next cap.object ≡ Some (kind_of_detail cap.detail)
     by_case (inl is) =
@@ -170,7 +171,7 @@ module _ (m next : Machine) (source : Source) (mark : ℕ) (object : Object) (de
   root_now :
       (q : SlotRef) (cap : Cap) → cap_of next q ≡ Some cap → kind_of next q.holder ≡ Some kind.Tcb
       → kind_of_detail cap.detail ≡ kind.CNode
-  root_now q cap e is_root = by_case (cap_was m next slot source.slot new fills q cap e) where
+  root_now q cap e is_root = by_case (cap_was fills q cap e) where
     by_case : ((q ≡ slot) × (cap ≡ new)) ⊎ (cap_of m q ≡ Some cap) → kind_of_detail cap.detail ≡ kind.CNode
     by_case (inl is) =
         let node : kind_of next slot.holder ≡ Some kind.CNode =
@@ -202,12 +203,6 @@ module _ (m next : Machine) (source : Source) (mark : ℕ) (object : Object) (de
         )
     by_id (inr apart) = inr (w.0, now.0, elsewhere high (earlier high _ w.2) apart ∙ w.2, now.1, now.2.lies w.0 w.4)
 
-  cap_old : (q : SlotRef) (cap : Cap) → q ≢ slot → cap_of next q ≡ Some cap → cap_of m q ≡ Some cap
-  cap_old q cap apart e = by_case (cap_was m next slot source.slot new fills q cap e) where
-    by_case : ((q ≡ slot) × (cap ≡ new)) ⊎ (cap_of m q ≡ Some cap) → cap_of m q ≡ Some cap
-    by_case (inl is) = absurd (apart is.0)
-    by_case (inr was) = was
-
   new_lies : LiesIn (marked source.memory mark) object
   new_lies =
       let high : end_of object ≤ end_of (o.Untyped source.memory) = omega (arith, can.high, can.within) in
@@ -216,17 +211,17 @@ module _ (m next : Machine) (source : Source) (mark : ℕ) (object : Object) (de
   kin_now :
       (q parent : SlotRef) (below above : Cap) → parent_of next q ≡ Some parent → cap_of next q ≡ Some below
       → cap_of next parent ≡ Some above → Kin next below.object above.object
-  kin_now q parent below above e f g = by_case (parent_was m next slot source.slot new fills q parent e) where
+  kin_now q parent below above e f g = by_case (parent_was fills q parent e) where
     above_was : cap_of m parent ≡ Some above
     above_was =
-        cap_old parent above
-        (not_filled m next slot source.slot new fills parent (parent_filled m next slot source.slot new fills q parent e)) g
+        old_cap fills parent above
+        (not_filled fills parent (parent_filled fills q parent e)) g
 
-    by_case : ((q ≡ slot) × (parent ≡ source.slot)) ⊎ (parent_of m q ≡ Some parent) → Kin next below.object above.object
+    by_case : ((q ≡ slot) × (Some source.slot ≡ Some parent)) ⊎ (parent_of m q ≡ Some parent) → Kin next below.object above.object
     by_case (inl is) =
-        let low : Some below ≡ Some new = sym f ∙ ap (cap_of next) is.0 ∙ cap_here m next slot source.slot new fills in
+        let low : Some below ≡ Some new = sym f ∙ ap (cap_of next) is.0 ∙ cap_here fills in
         let new_below : below ≡ new = cc in
-        let high : Some above ≡ Some can.held = sym above_was ∙ ap (cap_of m) is.1 ∙ can.holds in
+        let high : Some above ≡ Some can.held = sym above_was ∙ ap (cap_of m) (sym (same_Some source.slot parent is.1)) ∙ can.holds in
         let source_above : above ≡ can.held = cc in
         let to : above.object ≡ source.id = ap (λ (c : Cap). c.object) source_above ∙ can.held_object in
         inr (
@@ -238,7 +233,7 @@ module _ (m next : Machine) (source : Source) (mark : ℕ) (object : Object) (de
         )
     by_case (inr was) =
         let below_was : cap_of m q ≡ Some below =
-        cap_old q below (not_filled m next slot source.slot new fills q (formed.slots.child_filled q parent was)) f in
+        old_cap fills q below (not_filled fills q (formed.slots.child_filled q parent was)) f in
         kin_stays below.object above.object (formed.slots.kin q parent below above was below_was above_was)
 
   slots_made : SlotsFit next
@@ -247,11 +242,11 @@ module _ (m next : Machine) (source : Source) (mark : ℕ) (object : Object) (de
         holder = holder_now;
         object = object_now;
         root = root_now;
-        child_filled = child_filled m next slot source.slot new fills;
+        child_filled = child_filled fills;
         parent_filled = λ q parent e.
-            let w = parent_filled m next slot source.slot new fills q parent e in
-            (w.0, cap_stays m next slot source.slot new fills parent w.0 w.1);
-        acyclic = no_cycle m next slot source.slot new fills;
+            let w = parent_filled fills q parent e in
+            (w.0, cap_stays fills parent w.0 w.1);
+        acyclic = no_cycle fills;
         kin = kin_now;
       }
 
@@ -481,14 +476,14 @@ module _ (m next : Machine) (source : Source) (mark : ℕ) (object : Object) (de
 
   -- a capability for an object that was there was there
   cap_for_old : (q : SlotRef) (cap : Cap) → cap.object ≢ number → cap_of next q ≡ Some cap → cap_of m q ≡ Some cap
-  cap_for_old q cap old e = by_case (cap_was m next slot source.slot new fills q cap e) where
+  cap_for_old q cap old e = by_case (cap_was fills q cap e) where
     by_case : ((q ≡ slot) × (cap ≡ new)) ⊎ (cap_of m q ≡ Some cap) → cap_of m q ≡ Some cap
     by_case (inl is) = absurd (old (ap (λ (c : Cap). c.object) is.1))
     by_case (inr was) = was
 
   -- and one for the new object is the new one
   cap_for_new : (q : SlotRef) (cap : Cap) → cap.object ≡ number → cap_of next q ≡ Some cap → q ≡ slot
-  cap_for_new q cap is e = by_case (cap_was m next slot source.slot new fills q cap e) where
+  cap_for_new q cap is e = by_case (cap_was fills q cap e) where
     by_case : ((q ≡ slot) × (cap ≡ new)) ⊎ (cap_of m q ≡ Some cap) → q ≡ slot
     by_case (inl same) = same.0
     by_case (inr was) = absurd (names_old q cap was is)
@@ -521,7 +516,7 @@ module _ (m next : Machine) (source : Source) (mark : ℕ) (object : Object) (de
           source.slot,
           can.held,
           cc,
-          cap_stays m next slot source.slot new fills source.slot can.held can.holds,
+          cap_stays fills source.slot can.held can.holds,
           can.held_object ∙ sym here,
           new_lies,
           can.high,
@@ -542,7 +537,7 @@ module _ (m next : Machine) (source : Source) (mark : ℕ) (object : Object) (de
           w.1,
           w.2,
           w.3,
-          cap_stays m next slot source.slot new fills w.1 w.2 w.4,
+          cap_stays fills w.1 w.2 w.4,
           w.5,
           lies_within w.0 object can.unlinked low_in high_in,
           high_below,
@@ -582,7 +577,7 @@ module _ (m next : Machine) (source : Source) (mark : ℕ) (object : Object) (de
               w.1,
               w.2,
               cc,
-              cap_stays m next slot source.slot new fills w.1 w.2 w.4,
+              cap_stays fills w.1 w.2 w.4,
               w.5,
               lies_marked (marked source.memory can.was) mark second lies,
               below,
@@ -593,7 +588,7 @@ module _ (m next : Machine) (source : Source) (mark : ℕ) (object : Object) (de
             let ends : end_of second ≡ end_of b = two.end in
             let below : end_of b ≤ w.0.watermark = w.7 in
             let end_below : end_of second ≤ w.0.watermark = omega (arith, ends, below) in
-            (w.0, w.1, w.2, is ∙ w.3, cap_stays m next slot source.slot new fills w.1 w.2 w.4, w.5, two.lies w.0 w.6, end_below)
+            (w.0, w.1, w.2, is ∙ w.3, cap_stays fills w.1 w.2 w.4, w.5, two.lies w.0 w.6, end_below)
 
   -- of two objects that meet, the first was there, and the second was there or is new
   abbrev Pair : ObjId → ObjId → Object → Object → Type 0
@@ -644,7 +639,7 @@ module _ (m next : Machine) (source : Source) (mark : ℕ) (object : Object) (de
       → cap_of m above ≡ Some over → over.object ≡ low → Descends next slot above
   new_descends low first above over e meets h covers = by_order (in_order low source.id) where
     under : parent_of next slot ≡ Some source.slot
-    under = parent_here m next slot source.slot new fills
+    under = parent_here fills
 
     untyped : kind_of_detail can.held.detail ≡ kind.Untyped
     untyped =
@@ -660,7 +655,7 @@ module _ (m next : Machine) (source : Source) (mark : ℕ) (object : Object) (de
         child (under ∙ ap (λ (s : SlotRef). Some s) one)
     by_order (inr (inl lower)) =
         further under
-        (descent_stays m next slot source.slot new fills
+        (descent_stays fills
         (formed.numbers.made_from low source.id first _ source.slot above can.held over lower e can.there (around first meets)
         can.holds can.held_object h covers))
     by_order (inr (inr later)) = absurd (beyond low first e later meets)
@@ -684,7 +679,7 @@ module _ (m next : Machine) (source : Source) (mark : ℕ) (object : Object) (de
         (new_descends low pair.0 above over pair.1
         (meets_was first object pair.0 object pair.2 (like_itself object) (new_meets first second is.1 meets)) over_was covers)
     by_second (inr was) =
-        descent_stays m next slot source.slot new fills
+        descent_stays fills
         (formed.numbers.made_from low high pair.0 was.0 at above held over less pair.1 was.1
         (meets_was first second pair.0 was.0 pair.2 was.2 meets)
         (cap_for_old at held (λ is. earlier high was.0 was.1 (sym names ∙ is)) g) names over_was covers)
@@ -700,12 +695,12 @@ module _ (m next : Machine) (source : Source) (mark : ℕ) (object : Object) (de
     by_second :
         ((high ≡ number) × (second ≡ object)) ⊎ ((b : Object) × (object_of m high ≡ Some b) × IsLike second b)
         → (at : SlotRef) × (held : Cap) × (cap_of next at ≡ Some held) × (held.object ≡ high)
-    by_second (inl is) = (slot, new, cap_here m next slot source.slot new fills, sym is.0)
+    by_second (inl is) = (slot, new, cap_here fills, sym is.0)
     by_second (inr was) =
         let w =
         formed.numbers.has_cap low high pair.0 was.0 less pair.1 was.1
         (meets_was first second pair.0 was.0 pair.2 was.2 meets) in
-        (w.0, w.1, cap_stays m next slot source.slot new fills w.0 w.1 w.2, w.3)
+        (w.0, w.1, cap_stays fills w.0 w.1 w.2, w.3)
 
   below_now : (q : ObjId) (now : Object) → object_of next q ≡ Some now → q.0 < next.next
   below_now q now e = by_case (before q now e) where

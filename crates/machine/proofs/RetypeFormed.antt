@@ -196,7 +196,7 @@ module _ (of : MemoryKind) (bits : ℕ) (sized : IsSized of bits) (node : ObjId)
         there = memory_there m next source (mark_from source) (object_from source) (new_detail of) (slot_at offset) makes one formed;
         held = can.held;
         holds =
-            cap_stays m next (slot_at offset) source.slot (new_cap m.next of)
+            cap_stays
             (fills m next source (mark_from source) (object_from source) (new_detail of) (slot_at offset) makes one formed)
             source.slot can.held can.holds;
         held_object = can.held_object;
