@@ -188,16 +188,6 @@ module _ (m : Machine) (sender : ObjId) (sending : Sending) (id receiver : ObjId
   unfolding delivered
   delivered_is = refl
 
-  -- the machine between, in which the capability has arrived
-  pub delivered_between :
-      IsWellFormed mid × IsReceiver mid id receiver receiving
-      × (delivered m sender sending receiver receiving ≡ with_given mid receiver message)
-  delivered_between = (
-    arrived_formed,
-    record { tcb = is.tcb; there = arrived_there; state = is.state; at = is.at },
-    delivered_is,
-  )
-
   pub delivered_formed : IsWellFormed (delivered m sender sending receiver receiving)
   delivered_formed =
       subst IsWellFormed (sym delivered_is)

@@ -14,6 +14,3 @@ pub once_first :
     → thread ≢ first
 once_first first others once thread there same =
     let k : ℕ = there.0 in once 0 (suc k) thread (omega arith) (omega arith) (sym same ∙ sym there.2)
-
-pub once_others : (first : ObjId) (others : List ObjId) → AllPairs (λ a b. a ≢ b) (first ∷ others) → AllPairs (λ a b. a ≢ b) others
-once_others first others once i j d less within = once (suc i) (suc j) d (omega arith) (omega arith)
