@@ -3,37 +3,37 @@
 use Rattle.std.proofs.Common.{◌≡◌, ℕ, refl, sym, ap}
 use Rattle.std.specs.Prelude.{Option, Some, None, Ok}
 use Rattle.base.specs.declared.ids.ObjId.{ObjId}
-use Rattle.base.specs.declared.ids.SlotRef.{SlotRef}
 use Rattle.machine.specs.declared.call.Made.{Made}
+use Rattle.machine.specs.declared.cap.Detail.TheVariants as d
 use Rattle.machine.specs.declared.object.Share.{Share}
 use Rattle.machine.specs.Machine.{Machine, object_of}
 use Rattle.machine.specs.Step.Bind.{bind_of, context_under, thread_on, unbind_of, unlinked, with_bound, without_thread}
 use Rattle.machine.specs.Step.Configure.{configure_of, core_in, in_limits, with_share}
 use Rattle.machine.specs.Step.Find.{find_context, find_control, find_tcb}
 use Rattle.machine.proofs.Conditions.{both_done, same_ok}
-use Rattle.machine.proofs.FoundObjects.{FindsContext, FindsControl, FindsThread, finds_context, finds_control, finds_thread}
+use Rattle.machine.proofs.Finding.{FindsObject}
+use Rattle.machine.proofs.FoundObjects.{finds_context, finds_control, finds_thread}
 
 pub record ConfigureDone (m : Machine) (caller : ObjId) (control address budget period : ℕ) (next : Machine) : Type 0 where
   pub governs : ObjId
-  pub finds_control : FindsControl m caller control governs
+  pub finds_control : FindsObject m caller control governs d.Control
   pub id : ObjId
-  pub finds : FindsContext m caller address id
+  pub finds : FindsObject m caller address id d.Context
   pub share : Share
   pub changes : next ≡ with_share m id share
 
 pub record BindDone (m : Machine) (caller : ObjId) (context address : ℕ) (next : Machine) : Type 0 where
   pub id : ObjId
-  pub finds : FindsContext m caller context id
-  pub slot : SlotRef
+  pub finds : FindsObject m caller context id d.Context
   pub thread : ObjId
-  pub finds_thread : FindsThread m caller address slot thread
+  pub finds_thread : FindsObject m caller address thread d.Tcb
   pub unbound : thread_on (object_of m id) ≡ None
   pub free : context_under (object_of m thread) ≡ None
   pub changes : next ≡ with_bound m id thread
 
 pub record UnbindDone (m : Machine) (caller : ObjId) (address : ℕ) (next : Machine) : Type 0 where
   pub id : ObjId
-  pub finds : FindsContext m caller address id
+  pub finds : FindsObject m caller address id d.Context
   pub changes : next ≡ without_thread m (thread_on (object_of m id))
 
 pub configure_done :
@@ -70,9 +70,8 @@ bind_done m caller context address made next e =
     record {
       id = id.0;
       finds = finds_context m caller context id.0 id.1;
-      slot = (found.0).0;
       thread = (found.0).1;
-      finds_thread = finds_thread m caller address (found.0).0 (found.0).1 found.1;
+      finds_thread = (finds_thread m caller address (found.0).0 (found.0).1 found.1).0;
       unbound = is_unlinked (thread_on (object_of m id.0)) on.0 on.1;
       free = is_unlinked (context_under (object_of m (found.0).1)) under.0 under.1;
       changes = sym (ap (λ p. p.1) (same_ok under.2));

@@ -1,59 +1,37 @@
 -- What the rows of messages have in common: the endpoint or the reply that was found by a capability, and who waits first at an
 -- endpoint.
 use Rattle.std.proofs.Common.{◌≡◌, ℕ, Bool, true, List, [], ◌∷◌, refl, sym, ap, subst, ◌∙◌, arith}
-use Rattle.std.specs.Prelude.{Option, Some, None, Result, Ok, Contains, option_map}
+use Rattle.std.specs.Prelude.{Option, Some, None, Result, Ok, Contains}
 use Rattle.std.proofs.lemmas.Option.{none-some, same_Some}
 use Rattle.base.specs.declared.ids.ObjId.{ObjId}
-use Rattle.base.specs.declared.ids.SlotRef.{SlotRef}
 use Rattle.base.specs.declared.refusal.Cause.{Cause}
 use Rattle.machine.specs.declared.cap.Badged.{Badged}
-use Rattle.machine.specs.declared.cap.Cap.{Cap}
-use Rattle.machine.specs.declared.cap.Detail.{Detail}
 use Rattle.machine.specs.declared.cap.Detail.TheVariants as d
 use Rattle.machine.specs.declared.object.Endpoint.{Endpoint}
-use Rattle.machine.specs.declared.object.Object.{Object}
 use Rattle.machine.specs.declared.object.Object.TheVariants as o
 use Rattle.machine.specs.declared.object.ObjectKind.{ObjectKind}
 use Rattle.machine.specs.declared.object.ObjectKind.TheVariants as kind
-use Rattle.machine.specs.declared.object.Reply.{Reply}
 use Rattle.machine.specs.declared.thread.Receiving.{Receiving}
 use Rattle.machine.specs.declared.thread.RunState.{RunState}
 use Rattle.machine.specs.declared.thread.RunState.TheVariants as state
 use Rattle.machine.specs.declared.thread.Sending.{Sending}
 use Rattle.machine.specs.declared.thread.Tcb.{Tcb}
-use Rattle.machine.specs.Capabilities.{kind_of_detail}
 use Rattle.machine.specs.Changes.{first_waiting}
 use Rattle.machine.specs.Machine.{Machine, object_of, queue_of}
-use Rattle.machine.specs.Objects.{kind_of_object}
 use Rattle.machine.specs.Refusing.{◌>>=◌}
 use Rattle.machine.specs.Step.Deliver.{first_at, receiver_in, sender_in}
-use Rattle.machine.specs.Step.Find.{endpoint_in, find_cap, find_endpoint, find_reply, permitted, reply_in}
+use Rattle.machine.specs.Step.Find.{find_endpoint, permitted}
 use Rattle.machine.specs.WellFormed.{IsAlike, IsSending, IsThread, IsWellFormed, WaitsAt, WaitsAtKind, kind_of}
-use Rattle.machine.proofs.Conditions.{both_done, same_ok}
-use Rattle.machine.proofs.Finding.{FindsCap, finds_cap, is_permitted}
+use Rattle.machine.proofs.Conditions.{both_done}
+use Rattle.machine.proofs.Finding.{FindsObject, found_kind, is_permitted}
+use Rattle.machine.proofs.FoundObjects.{endpoint_of_kind, finds_endpoint}
 use Rattle.machine.proofs.Queues.{first_in}
-
--- the address leads to a capability of this endpoint, with these rights and this badge
-pub record FindsEndpoint (m : Machine) (caller : ObjId) (address : ℕ) (id : ObjId) (end : Badged) : Type 0 where
-  pub slot : SlotRef
-  pub held : Cap
-  pub finds : FindsCap m caller address slot held
-  pub object : held.object ≡ id
-  pub detail : held.detail ≡ d.Endpoint end
-
--- the address leads to a capability of this reply
-pub record FindsReply (m : Machine) (caller : ObjId) (address : ℕ) (id : ObjId) : Type 0 where
-  pub slot : SlotRef
-  pub held : Cap
-  pub finds : FindsCap m caller address slot held
-  pub object : held.object ≡ id
-  pub detail : held.detail ≡ d.Reply
 
 -- an endpoint that is found, by a capability with a right
 pub record IsEndOpen (m : Machine) (caller : ObjId) (address : ℕ) (allows : Badged → Bool) : Type 0 where
   pub id : ObjId
   pub end : Badged
-  pub finds : FindsEndpoint m caller address id end
+  pub finds : FindsObject m caller address id (d.Endpoint end)
   pub allowed : allows end ≡ true
   pub endpoint : Endpoint
   pub there : object_of m id ≡ Some (o.Endpoint endpoint)
@@ -72,88 +50,6 @@ pub record IsSender (m : Machine) (id sender : ObjId) (sending : Sending) : Type
   pub state : tcb.state ≡ state.Sending sending
   pub at : sending.endpoint ≡ id
 
--- what is found
-
-endpoint_held :
-    (held : Cap) (found : ObjId × Badged) → endpoint_in held ≡ Ok found
-    → (held.object ≡ found.0) × (held.detail ≡ d.Endpoint found.1)
-endpoint_held held found e = by_detail held.detail refl where
-  by_detail : (detail : Detail) → held.detail ≡ detail → (held.object ≡ found.0) × (held.detail ≡ d.Endpoint found.1)
-  by_detail (d.Endpoint end) is =
-      let ok : endpoint_in held ≡ Ok (held.object, end) = rw is refl in
-      let same : (held.object, end) ≡ found = same_ok (sym ok ∙ e) in
-      (ap (λ p. p.0) same, is ∙ ap (λ p. d.Endpoint p.1) same)
-  by_detail _ is = grind (arith, e, is)
-
-pub finds_endpoint :
-    (m : Machine) (caller : ObjId) (address : ℕ) (id : ObjId) (end : Badged) → find_endpoint m caller address ≡ Ok (id, end)
-    → FindsEndpoint m caller address id end
-unfolding find_endpoint
-finds_endpoint m caller address id end e =
-    let found = both_done (find_cap m caller address) _ (id, end) e in
-    let of = endpoint_held (found.0).1 (id, end) found.2 in
-    record {
-      slot = (found.0).0;
-      held = (found.0).1;
-      finds = finds_cap m caller address (found.0).0 (found.0).1 found.1;
-      object = of.0;
-      detail = of.1;
-    }
-
-reply_held : (held : Cap) (id : ObjId) → reply_in held ≡ Ok id → (held.object ≡ id) × (held.detail ≡ d.Reply)
-reply_held held id e = by_detail held.detail refl where
-  by_detail : (detail : Detail) → held.detail ≡ detail → (held.object ≡ id) × (held.detail ≡ d.Reply)
-  by_detail d.Reply is = let ok : reply_in held ≡ Ok held.object = rw is refl in (same_ok (sym ok ∙ e), is)
-  by_detail _ is = grind (arith, e, is)
-
-pub finds_reply :
-    (m : Machine) (caller : ObjId) (address : ℕ) (id : ObjId) → find_reply m caller address ≡ Ok id
-    → FindsReply m caller address id
-unfolding find_reply
-finds_reply m caller address id e =
-    let found = both_done (find_cap m caller address) _ id e in
-    let of = reply_held (found.0).1 id found.2 in
-    record {
-      slot = (found.0).0;
-      held = (found.0).1;
-      finds = finds_cap m caller address (found.0).0 (found.0).1 found.1;
-      object = of.0;
-      detail = of.1;
-    }
-
--- what the capability of an endpoint is for is an endpoint, and that of a reply a reply
-
-endpoint_of_kind :
-    (object : Option Object) → option_map kind_of_object object ≡ Some kind.Endpoint
-    → (endpoint : Endpoint) × (object ≡ Some (o.Endpoint endpoint))
-endpoint_of_kind (Some (o.Endpoint endpoint)) e = (endpoint, refl)
-endpoint_of_kind _ e = cc
-
-pub found_endpoint :
-    (m : Machine) (caller : ObjId) (address : ℕ) (id : ObjId) (end : Badged) → IsWellFormed m
-    → FindsEndpoint m caller address id end
-    → (endpoint : Endpoint) × (object_of m id ≡ Some (o.Endpoint endpoint))
-found_endpoint m caller address id end formed h =
-    let is : kind_of m h.held.object ≡ Some (kind_of_detail h.held.detail) =
-    formed.slots.object h.slot h.held h.finds.holds in
-    endpoint_of_kind (object_of m id)
-    (ap (kind_of m) (sym h.object) ∙ is ∙ ap (λ detail. Some (kind_of_detail detail)) h.detail)
-
-reply_of_kind :
-    (object : Option Object) → option_map kind_of_object object ≡ Some kind.Reply
-    → (holding : Reply) × (object ≡ Some (o.Reply holding))
-reply_of_kind (Some (o.Reply holding)) e = (holding, refl)
-reply_of_kind _ e = cc
-
-pub found_reply :
-    (m : Machine) (caller : ObjId) (address : ℕ) (id : ObjId) → IsWellFormed m → FindsReply m caller address id
-    → (holding : Reply) × (object_of m id ≡ Some (o.Reply holding))
-found_reply m caller address id formed h =
-    let is : kind_of m h.held.object ≡ Some (kind_of_detail h.held.detail) =
-    formed.slots.object h.slot h.held h.finds.holds in
-    reply_of_kind (object_of m id)
-    (ap (kind_of m) (sym h.object) ∙ is ∙ ap (λ detail. Some (kind_of_detail detail)) h.detail)
-
 -- where a row went past its conditions, an endpoint is open, and what follows them came about
 pub opens_end :
     {B : Type 0} (m : Machine) (caller : ObjId) (address : ℕ) (allows : Badged → Bool) (then_do : ObjId × Badged → Result B Cause)
@@ -167,7 +63,7 @@ opens_end m caller address allows then_do b formed e =
     let end = (looked.0).1 in
     let right = both_done (permitted (allows end)) _ b looked.2 in
     let finds = finds_endpoint m caller address id end looked.1 in
-    let there = found_endpoint m caller address id end formed finds in (
+    let there = endpoint_of_kind (object_of m id) (found_kind formed finds) in (
       record {
         id = id;
         end = end;

@@ -1,21 +1,16 @@
--- What a call found at an address: the capability in the slot where the lookup ends, and the notification that it is for.
-use Rattle.std.proofs.Common.{◌≡◌, ℕ, Bool, true, false, refl, sym, ap, ◌∙◌, arith}
-use Rattle.std.specs.Prelude.{Option, Some, None, Ok, option_map}
+-- What a call found at an address: the capability in the slot where the lookup ends.
+use Rattle.std.proofs.Common.{◌≡◌, ℕ, Bool, true, false, refl, sym, ap, ◌∙◌}
+use Rattle.std.specs.Prelude.{Option, Some, None, Result, Ok}
 use Rattle.base.specs.declared.ids.ObjId.{ObjId}
 use Rattle.base.specs.declared.ids.SlotRef.{SlotRef}
-use Rattle.machine.specs.declared.cap.Badged.{Badged}
+use Rattle.base.specs.declared.refusal.Cause.{Cause}
 use Rattle.machine.specs.declared.cap.Cap.{Cap}
 use Rattle.machine.specs.declared.cap.Detail.{Detail}
-use Rattle.machine.specs.declared.cap.Detail.TheVariants as d
-use Rattle.machine.specs.declared.object.Notification.{Notification}
-use Rattle.machine.specs.declared.object.Object.{Object}
-use Rattle.machine.specs.declared.object.Object.TheVariants as o
-use Rattle.machine.specs.declared.object.ObjectKind.TheVariants as kind
 use Rattle.machine.specs.Capabilities.{kind_of_detail}
 use Rattle.machine.specs.Lookup.{lookup_of}
-use Rattle.machine.specs.Machine.{Machine, object_of, cap_of}
-use Rattle.machine.specs.Objects.{kind_of_object}
-use Rattle.machine.specs.Step.Find.{find_cap, find_notification, held_in, notification_in, permitted}
+use Rattle.machine.specs.Machine.{Machine, cap_of}
+use Rattle.machine.specs.Refusing.{◌>>=◌}
+use Rattle.machine.specs.Step.Find.{find_cap, held_in, permitted}
 use Rattle.machine.specs.WellFormed.{IsWellFormed, kind_of}
 use Rattle.machine.proofs.Conditions.{both_done, same_ok}
 
@@ -45,32 +40,24 @@ finds_cap m caller address slot held e =
           sym (ap (cap_of m) at) ∙ held_there (cap_of m (looked.0).0) filled.0 filled.1 ∙ ap (λ p. Some p.1) same;
     }
 
--- the address leads to a capability of this notification, with these rights and this badge
-pub record FindsNotification (m : Machine) (caller : ObjId) (address : ℕ) (id : ObjId) (end : Badged) : Type 0 where
+-- the address leads to a capability of this object, which says this
+pub record FindsObject (m : Machine) (caller : ObjId) (address : ℕ) (id : ObjId) (says : Detail) : Type 0 where
   pub slot : SlotRef
   pub held : Cap
   pub finds : FindsCap m caller address slot held
   pub object : held.object ≡ id
-  pub detail : held.detail ≡ d.Notification end
+  pub detail : held.detail ≡ says
 
-notification_held :
-    (held : Cap) (found : ObjId × Badged) → notification_in held ≡ Ok found
-    → (held.object ≡ found.0) × (held.detail ≡ d.Notification found.1)
-notification_held held found e = by_detail held.detail refl where
-  by_detail : (detail : Detail) → held.detail ≡ detail → (held.object ≡ found.0) × (held.detail ≡ d.Notification found.1)
-  by_detail (d.Notification end) is =
-      let ok : notification_in held ≡ Ok (held.object, end) = rw is refl in
-      let same : (held.object, end) ≡ found = same_ok (sym ok ∙ e) in
-      (ap (λ p. p.0) same, is ∙ ap (λ p. d.Notification p.1) same)
-  by_detail _ is = grind (arith, e, is)
-
-pub finds_notification :
-    (m : Machine) (caller : ObjId) (address : ℕ) (id : ObjId) (end : Badged) → find_notification m caller address ≡ Ok (id, end)
-    → FindsNotification m caller address id end
-unfolding find_notification
-finds_notification m caller address id end e =
-    let found = both_done (find_cap m caller address) _ (id, end) e in
-    let of = notification_held (found.0).1 (id, end) found.2 in
+-- where a row went past a capability that it found, and what it made of it tells the object and what the capability says
+pub finds_object :
+    {A : Type 0} (m : Machine) (caller : ObjId) (address : ℕ) (id : ObjId) (says : Detail) (then_do : SlotRef × Cap → Result A Cause)
+    (a : A)
+    → ◌>>=◌ (find_cap m caller address) then_do ≡ Ok a
+    → ((found : SlotRef × Cap) → then_do found ≡ Ok a → (found.1.object ≡ id) × (found.1.detail ≡ says))
+    → FindsObject m caller address id says
+finds_object m caller address id says then_do a e tells =
+    let found = both_done (find_cap m caller address) then_do a e in
+    let of = tells found.0 found.2 in
     record {
       slot = (found.0).0;
       held = (found.0).1;
@@ -79,23 +66,12 @@ finds_notification m caller address id end e =
       detail = of.1;
     }
 
--- what the capability of a notification is for is a notification
-
-notification_of_kind :
-    (object : Option Object) → option_map kind_of_object object ≡ Some kind.Notification
-    → (notification : Notification) × (object ≡ Some (o.Notification notification))
-notification_of_kind (Some (o.Notification notification)) e = (notification, refl)
-notification_of_kind _ e = cc
-
-pub found_notification :
-    (m : Machine) (caller : ObjId) (address : ℕ) (id : ObjId) (end : Badged) → IsWellFormed m
-    → FindsNotification m caller address id end
-    → (notification : Notification) × (object_of m id ≡ Some (o.Notification notification))
-found_notification m caller address id end formed h =
-    let is : kind_of m h.held.object ≡ Some (kind_of_detail h.held.detail) =
-    formed.slots.object h.slot h.held h.finds.holds in
-    notification_of_kind (object_of m id)
-    (ap (kind_of m) (sym h.object) ∙ is ∙ ap (λ detail. Some (kind_of_detail detail)) h.detail)
+-- the object is of the kind that the capability says
+pub found_kind :
+    {m : Machine} {caller : ObjId} {address : ℕ} {id : ObjId} {says : Detail} → IsWellFormed m
+    → FindsObject m caller address id says → kind_of m id ≡ Some (kind_of_detail says)
+found_kind {m = m} formed h =
+    ap (kind_of m) (sym h.object) ∙ formed.slots.object h.slot h.held h.finds.holds ∙ ap (λ x. Some (kind_of_detail x)) h.detail
 
 pub is_permitted : (allowed : Bool) (u : Unit {0}) → permitted allowed ≡ Ok u → allowed ≡ true
 is_permitted true u e = refl

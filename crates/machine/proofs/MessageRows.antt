@@ -30,7 +30,9 @@ use Rattle.machine.proofs.Arrival.{arrival_formed, arrival_same}
 use Rattle.machine.proofs.Beside.{ended_endpoint, ended_formed, ended_free, ended_idle, free_stays, leaver_now, named_free}
 use Rattle.machine.proofs.Beside.{other_stays}
 use Rattle.machine.proofs.ContextsFormed.{with_handed_formed}
-use Rattle.machine.proofs.EndpointRow.{IsReceiver, IsSender, found_reply}
+use Rattle.machine.proofs.EndpointRow.{IsReceiver, IsSender}
+use Rattle.machine.proofs.Finding.{found_kind}
+use Rattle.machine.proofs.FoundObjects.{reply_of_kind}
 use Rattle.machine.proofs.FetchRow.{FetchDone}
 use Rattle.machine.proofs.Joins.{IsJoined, called_joins}
 use Rattle.machine.proofs.Lending.{lends, returned_formed}
@@ -272,7 +274,7 @@ module _ (m : Machine) (caller : ObjId) (address : ℕ) (named : Option ℕ) (sl
   pub received_free : (id : ObjId) → done.reply ≡ Some id → IsFree ended id
   received_free =
       ended_free m done.reply formed
-      (λ id e. let w = done.finds_reply id e in found_reply m caller w.0 id formed w.1)
+      (λ id e. reply_of_kind (object_of m id) (found_kind formed (done.finds_reply id e).1))
 
   -- the caller is as it was
   pub received_caller : (is : IsCaller m caller) → IsThread ended caller is.thread

@@ -6,6 +6,7 @@ use Rattle.std.proofs.lemmas.Option.{same_Some}
 use Rattle.base.specs.declared.ids.ObjId.{ObjId}
 use Rattle.base.specs.declared.refusal.Cause.{Cause}
 use Rattle.machine.specs.declared.cap.Badged.{Badged}
+use Rattle.machine.specs.declared.cap.Detail.TheVariants as d
 use Rattle.machine.specs.declared.object.Notification.{Notification}
 use Rattle.machine.specs.declared.object.Object.TheVariants as o
 use Rattle.machine.specs.declared.object.ObjectKind.TheVariants as kind
@@ -19,13 +20,14 @@ use Rattle.machine.specs.Refusing.{◌>>=◌}
 use Rattle.machine.specs.Step.Find.{find_notification, permitted}
 use Rattle.machine.specs.WellFormed.{IsAlike, IsSending, IsThread, IsWellFormed, LinksAgree, WaitsAt, WaitsAtKind}
 use Rattle.machine.proofs.Conditions.{both_done}
-use Rattle.machine.proofs.Finding.{FindsNotification, finds_notification, found_notification, is_permitted}
+use Rattle.machine.proofs.Finding.{FindsObject, found_kind, is_permitted}
+use Rattle.machine.proofs.FoundObjects.{finds_notification, notification_of_kind}
 
 -- a notification that is found, by a capability with a right
 pub record IsOpen (m : Machine) (caller : ObjId) (address : ℕ) (allows : Badged → Bool) : Type 0 where
   pub id : ObjId
   pub end : Badged
-  pub finds : FindsNotification m caller address id end
+  pub finds : FindsObject m caller address id (d.Notification end)
   pub allowed : allows end ≡ true
   pub notification : Notification
   pub there : object_of m id ≡ Some (o.Notification notification)
@@ -43,7 +45,7 @@ opens m caller address allows then_do b formed e =
     let end = (looked.0).1 in
     let right = both_done (permitted (allows end)) _ b looked.2 in
     let finds = finds_notification m caller address id end looked.1 in
-    let there = found_notification m caller address id end formed finds in (
+    let there = notification_of_kind (object_of m id) (found_kind formed finds) in (
       record {
         id = id;
         end = end;

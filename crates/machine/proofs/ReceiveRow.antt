@@ -5,6 +5,7 @@ use Rattle.std.specs.Prelude.{Option, Some, None, Ok, option_map}
 use Rattle.std.proofs.lemmas.Option.{none-some, same_Some}
 use Rattle.base.specs.declared.ids.ObjId.{ObjId}
 use Rattle.machine.specs.declared.call.Made.{Made}
+use Rattle.machine.specs.declared.cap.Detail.TheVariants as d
 use Rattle.machine.specs.declared.object.Endpoint.{Endpoint}
 use Rattle.machine.specs.declared.object.Object.TheVariants as o
 use Rattle.machine.specs.declared.slot_address.SlotAddress.{SlotAddress}
@@ -22,13 +23,15 @@ use Rattle.machine.specs.Step.Receive.{with_reply_ended}
 use Rattle.machine.specs.WellFormed.{IsAlike, IsWellFormed}
 use Rattle.machine.proofs.Beside.{ended_endpoint, ended_formed}
 use Rattle.machine.proofs.Conditions.{both_done, same_ok}
-use Rattle.machine.proofs.EndpointRow.{FindsReply, IsEndOpen, IsSender, finds_reply, no_sender, opens_end, sender_first}
+use Rattle.machine.proofs.EndpointRow.{IsEndOpen, IsSender, no_sender, opens_end, sender_first}
+use Rattle.machine.proofs.Finding.{FindsObject}
+use Rattle.machine.proofs.FoundObjects.{finds_reply}
 
 pub record ReceiveDone (m : Machine) (caller : ObjId) (address : ℕ) (named : Option ℕ) (slot : Option SlotAddress)
     (next : Machine) : Type 0 where
   pub open_to : IsEndOpen m caller address (λ end. can_read end.rights)
   pub reply : Option ObjId
-  pub finds_reply : (id : ObjId) → reply ≡ Some id → (at : ℕ) × FindsReply m caller at id
+  pub finds_reply : (id : ObjId) → reply ≡ Some id → (at : ℕ) × FindsObject m caller at id d.Reply
   pub changes :
       ((sender : ObjId) × (sending : Sending) × IsSender (with_reply_ended m reply) open_to.id sender sending
       × (next
@@ -42,7 +45,7 @@ pub record ReceiveDone (m : Machine) (caller : ObjId) (address : ℕ) (named : O
 
 named_found :
     (m : Machine) (caller : ObjId) (named : Option ℕ) (reply : Option ObjId) → find_named_reply m caller named ≡ Ok reply
-    → (id : ObjId) → reply ≡ Some id → (at : ℕ) × FindsReply m caller at id
+    → (id : ObjId) → reply ≡ Some id → (at : ℕ) × FindsObject m caller at id d.Reply
 named_found m caller None reply e id is = absurd (none-some id (same_ok e ∙ is))
 named_found m caller (Some address) reply e id is =
     let found = both_done (find_reply m caller address) _ reply e in

@@ -4,6 +4,7 @@ use Rattle.std.proofs.Common.{◌≡◌, ℕ, ◌⊎◌, inl, inr, false, List, 
 use Rattle.std.specs.Prelude.{Option, Some, Ok}
 use Rattle.base.specs.declared.ids.ObjId.{ObjId}
 use Rattle.machine.specs.declared.call.Made.{Made}
+use Rattle.machine.specs.declared.cap.Detail.TheVariants as d
 use Rattle.machine.specs.declared.object.Object.{Object}
 use Rattle.machine.specs.declared.object.Object.TheVariants as o
 use Rattle.machine.specs.declared.object.ReplyState.{ReplyState}
@@ -13,7 +14,8 @@ use Rattle.machine.specs.Releasing.{with_given}
 use Rattle.machine.specs.Step.Find.{find_reply}
 use Rattle.machine.specs.Step.Reply.{answered, caller_in, reply_of, with_returned}
 use Rattle.machine.proofs.Conditions.{both_done, same_ok}
-use Rattle.machine.proofs.EndpointRow.{FindsReply, finds_reply}
+use Rattle.machine.proofs.Finding.{FindsObject}
+use Rattle.machine.proofs.FoundObjects.{finds_reply}
 
 -- a thread that has called through a reply is answered, where one has
 abbrev pub Answers : Machine → ObjId → ObjId → List ℕ → Machine → Type 0
@@ -26,7 +28,7 @@ Answers m invoker id words next =
 
 pub record ReplyDone (m : Machine) (caller : ObjId) (address : ℕ) (words : List ℕ) (next : Machine) : Type 0 where
   pub id : ObjId
-  pub finds : FindsReply m caller address id
+  pub finds : FindsObject m caller address id d.Reply
   pub changes : Answers m caller id words next
 
 answers :

@@ -125,5 +125,5 @@ pub set_formed :
     → IsWellFormed next
 set_formed m caller address space next formed done =
     subst IsWellFormed (sym done.changes)
-    (space_set_formed m done.thread done.slot done.finds.held formed done.finds.finds.holds done.finds.object done.finds.detail
+    (space_set_formed m done.thread done.finds.slot done.finds.held formed done.finds.finds.holds done.finds.object done.finds.detail
     done.node done.held done.finds_node.holds (ap kind_of_detail done.detail))

@@ -15,13 +15,12 @@ use Rattle.machine.specs.Step.Space.{clear_space_of, find_node, set_space_of, wi
 use Rattle.machine.specs.Step.Target.{of_cnode}
 use Rattle.machine.specs.Tree.{with_copy}
 use Rattle.machine.proofs.Conditions.{both_done, same_ok}
-use Rattle.machine.proofs.Finding.{FindsCap, finds_cap}
-use Rattle.machine.proofs.FoundObjects.{FindsThread, finds_thread}
+use Rattle.machine.proofs.Finding.{FindsCap, FindsObject, finds_cap}
+use Rattle.machine.proofs.FoundObjects.{finds_thread}
 
 pub record ClearDone (m : Machine) (caller : ObjId) (address : ℕ) (next : Machine) : Type 0 where
-  pub slot : SlotRef
   pub thread : ObjId
-  pub finds : FindsThread m caller address slot thread
+  pub finds : FindsObject m caller address thread d.Tcb
   pub changes : next ≡ without_root m thread
 
 pub clear_done :
@@ -31,9 +30,8 @@ unfolding clear_space_of
 clear_done m caller address made next e =
     let found = both_done (find_tcb m caller address) _ (made, next) e in
     record {
-      slot = (found.0).0;
       thread = (found.0).1;
-      finds = finds_thread m caller address (found.0).0 (found.0).1 found.1;
+      finds = (finds_thread m caller address (found.0).0 (found.0).1 found.1).0;
       changes = sym (ap (λ p. p.1) (same_ok found.2));
     }
 
@@ -64,15 +62,14 @@ finds_node m caller address node e =
     }
 
 pub record SetDone (m : Machine) (caller : ObjId) (address space : ℕ) (next : Machine) : Type 0 where
-  pub slot : SlotRef
   pub thread : ObjId
-  pub finds : FindsThread m caller address slot thread
+  pub finds : FindsObject m caller address thread d.Tcb
   pub node : SlotRef
   pub held : Cap
   pub guard : Guard
   pub finds_node : FindsCap m caller space node held
   pub detail : held.detail ≡ d.CNode guard
-  pub changes : next ≡ with_root (without_root m thread) thread slot node
+  pub changes : next ≡ with_root (without_root m thread) thread finds.slot node
 
 pub set_done :
     (m : Machine) (caller : ObjId) (address space : ℕ) (made : Made) (next : Machine)
@@ -81,17 +78,19 @@ unfolding set_space_of
 set_done m caller address space made next e =
     let found = both_done (find_tcb m caller address) _ (made, next) e in
     let of = both_done (find_node m caller space) _ (made, next) found.2 in
+    let thread = finds_thread m caller address (found.0).0 (found.0).1 found.1 in
     let node = finds_node m caller space of.0 of.1 in
     record {
-      slot = (found.0).0;
       thread = (found.0).1;
-      finds = finds_thread m caller address (found.0).0 (found.0).1 found.1;
+      finds = thread.0;
       node = of.0;
       held = node.held;
       guard = node.guard;
       finds_node = node.finds;
       detail = node.detail;
-      changes = sym (ap (λ p. p.1) (same_ok of.2));
+      changes =
+          sym (ap (λ p. p.1) (same_ok of.2))
+          ∙ ap (λ (s : SlotRef). with_root (without_root m (found.0).1) (found.0).1 s of.0) (sym thread.1);
     }
 
 -- a thread's root slot got a copy of what a slot holds

@@ -2,19 +2,19 @@
 use Rattle.std.proofs.Common.{◌≡◌, ℕ, sym, ap}
 use Rattle.std.specs.Prelude.{Ok}
 use Rattle.base.specs.declared.ids.ObjId.{ObjId}
-use Rattle.base.specs.declared.ids.SlotRef.{SlotRef}
 use Rattle.machine.specs.declared.call.Made.{Made}
+use Rattle.machine.specs.declared.cap.Detail.TheVariants as d
 use Rattle.machine.specs.Machine.{Machine}
 use Rattle.machine.specs.Releasing.{with_suspended}
 use Rattle.machine.specs.Step.Find.{find_tcb}
 use Rattle.machine.specs.Step.Suspend.{resume_of, suspend_of, with_resumed}
 use Rattle.machine.proofs.Conditions.{both_done, same_ok}
-use Rattle.machine.proofs.FoundObjects.{FindsThread, finds_thread}
+use Rattle.machine.proofs.Finding.{FindsObject}
+use Rattle.machine.proofs.FoundObjects.{finds_thread}
 
 pub record SuspendDone (m : Machine) (caller : ObjId) (address : ℕ) (next : Machine) : Type 0 where
-  pub slot : SlotRef
   pub thread : ObjId
-  pub finds : FindsThread m caller address slot thread
+  pub finds : FindsObject m caller address thread d.Tcb
   pub changes : next ≡ with_suspended m thread
 
 pub suspend_done :
@@ -24,16 +24,14 @@ unfolding suspend_of
 suspend_done m caller address made next e =
     let found = both_done (find_tcb m caller address) _ (made, next) e in
     record {
-      slot = (found.0).0;
       thread = (found.0).1;
-      finds = finds_thread m caller address (found.0).0 (found.0).1 found.1;
+      finds = (finds_thread m caller address (found.0).0 (found.0).1 found.1).0;
       changes = sym (ap (λ p. p.1) (same_ok found.2));
     }
 
 pub record ResumeDone (m : Machine) (caller : ObjId) (address : ℕ) (next : Machine) : Type 0 where
-  pub slot : SlotRef
   pub thread : ObjId
-  pub finds : FindsThread m caller address slot thread
+  pub finds : FindsObject m caller address thread d.Tcb
   pub changes : next ≡ with_resumed m thread
 
 pub resume_done :
@@ -43,8 +41,7 @@ unfolding resume_of
 resume_done m caller address made next e =
     let found = both_done (find_tcb m caller address) _ (made, next) e in
     record {
-      slot = (found.0).0;
       thread = (found.0).1;
-      finds = finds_thread m caller address (found.0).0 (found.0).1 found.1;
+      finds = (finds_thread m caller address (found.0).0 (found.0).1 found.1).0;
       changes = sym (ap (λ p. p.1) (same_ok found.2));
     }

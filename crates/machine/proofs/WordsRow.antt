@@ -5,19 +5,20 @@ use Rattle.std.specs.Prelude.{Ok, nat_lt}
 use Rattle.base.specs.declared.ids.ObjId.{ObjId}
 use Rattle.base.specs.declared.rights.Rights.{Rights}
 use Rattle.machine.specs.declared.call.Made.{Made}
+use Rattle.machine.specs.declared.cap.Detail.TheVariants as d
 use Rattle.machine.specs.Capabilities.{can_read, can_write}
 use Rattle.machine.specs.Changes.{with_word}
 use Rattle.machine.specs.Machine.{Machine}
 use Rattle.machine.specs.Step.Find.{find_frame, permitted}
 use Rattle.machine.specs.Step.Words.{in_frame, read_of, write_of}
 use Rattle.machine.proofs.Conditions.{both_done, same_ok}
-use Rattle.machine.proofs.Finding.{is_permitted}
-use Rattle.machine.proofs.FoundObjects.{FindsFrame, finds_frame}
+use Rattle.machine.proofs.Finding.{FindsObject, is_permitted}
+use Rattle.machine.proofs.FoundObjects.{finds_frame}
 
 pub record WriteDone (m : Machine) (caller : ObjId) (address index word : ℕ) (next : Machine) : Type 0 where
   pub id : ObjId
   pub rights : Rights
-  pub finds : FindsFrame m caller address id rights
+  pub finds : FindsObject m caller address id (d.Frame rights)
   pub allowed : can_write rights ≡ true
   pub within : index < 512
   pub changes : next ≡ with_word m id index word

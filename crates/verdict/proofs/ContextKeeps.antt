@@ -20,7 +20,8 @@ use Rattle.machine.specs.Step.Bind.{thread_on, without_thread}
 use Rattle.machine.specs.WellFormed.{IsThread}
 use Rattle.machine.proofs.ContextRow.{BindDone, ConfigureDone, UnbindDone}
 use Rattle.machine.proofs.ContextsFormed.{bound_is, share_is, unbound_is}
-use Rattle.machine.proofs.FoundObjects.{FindsContext, FindsControl, found_context, found_thread}
+use Rattle.machine.proofs.Finding.{FindsObject, found_kind}
+use Rattle.machine.proofs.FoundObjects.{context_of_kind, tcb_of_kind}
 use Rattle.machine.proofs.Ids.{at_other, one_or_two}
 use Rattle.machine.proofs.LookUps.{cap_of-with_object, object_of-with_object, queue_of-with_object, words_of-with_object}
 use Rattle.machine.proofs.RunsLinks.{runs_bound}
@@ -37,20 +38,11 @@ use Rattle.verdict.proofs.Contents.{context_fits, full, loses_links}
 use Rattle.verdict.proofs.ContextTouches.{linked_keeps, runs_on, thread_keeps}
 use Rattle.verdict.proofs.Held.{held_of}
 use Rattle.verdict.proofs.Keeps.{Acts, Keeps, unchanged}
-use Rattle.verdict.proofs.MessageParts.{IsReached, context_reached, reached, thread_label}
+use Rattle.verdict.proofs.MessageParts.{IsReached, reached, thread_label}
 use Rattle.verdict.proofs.SetKeeps.{set_keeps}
 use Rattle.verdict.proofs.Shrinking.{same_context}
 use Rattle.verdict.proofs.SlotKeeps.{IsOpened}
 use Rattle.verdict.proofs.ThreadKeeps.{may_control, to_thread}
-
--- the control that is found
-control_reached :
-    (t : Layout) (allowed : EdgeTest) (event : Event) (a : ℕ) (m : Machine) (sound : IsSound t allowed m) → IsClosed allowed
-    → (caller : ObjId) → label_of t m caller ≡ Some a
-    → (address : ℕ) (id : ObjId) → FindsControl m caller address id → IsReached t allowed m event a m sound id d.Control
-control_reached t allowed event a m sound closed caller mine address id finds =
-    reached t allowed m event a m sound closed.subjects_agree caller address finds.slot finds.held id d.Control mine finds.finds
-    finds.object finds.detail
 
 module _
     (t : Layout) (allowed : EdgeTest) (event : Event) (a : ℕ) (m : Machine) (sound : IsSound t allowed m)
@@ -59,15 +51,15 @@ module _
   held = held_of t allowed m sound
 
   -- the context that is found
-  module _ (address : ℕ) (id : ObjId) (finds : FindsContext m caller address id) where
+  module _ (address : ℕ) (id : ObjId) (finds : FindsObject m caller address id d.Context) where
     to_context : IsReached t allowed m event a m sound id d.Context
-    to_context = context_reached t allowed m event a m sound closed.subjects_agree caller address id mine finds
+    to_context = reached t allowed m event a m sound closed.subjects_agree caller address id d.Context mine finds
 
     may_use : allowed a authority.Context to_context.label ≡ true
     may_use = to_context.edge authority.Context refl refl
 
     context : (context : Context) × (object_of m id ≡ Some (o.Context context))
-    context = found_context m caller address sound.well_formed id finds
+    context = context_of_kind (object_of m id) (found_kind sound.well_formed finds)
 
     -- so it may get another thread, or none
     may_link : IsOpened t allowed m a id
@@ -135,7 +127,7 @@ module _
         × (allowed a authority.Context label ≡ true)
     configure_edges id old new was is differs = by_id (one_or_two id done.id) where
       to_control : IsReached t allowed m event a m sound done.governs d.Control
-      to_control = control_reached t allowed event a m sound closed caller mine control done.governs done.finds_control
+      to_control = reached t allowed m event a m sound closed.subjects_agree caller control done.governs d.Control mine done.finds_control
 
       by_id :
           (id ≡ done.id) ⊎ (id ≢ done.id)
@@ -163,18 +155,18 @@ module _
       old = context address done.id done.finds
 
       tcb : (tcb : Tcb) × IsThread m done.thread tcb
-      tcb = found_thread m caller thread_address sound.well_formed done.slot done.thread done.finds_thread
+      tcb = tcb_of_kind (object_of m done.thread) (found_kind sound.well_formed done.finds_thread)
 
       of_context : IsReached t allowed m event a m sound done.id d.Context
       of_context = to_context address done.id done.finds
 
       of_thread : IsReached t allowed m event a m sound done.thread d.Tcb
       of_thread =
-          to_thread t allowed event a m sound closed caller mine next thread_address done.slot done.thread done.finds_thread
+          to_thread t allowed event a m sound closed caller mine next thread_address done.thread done.finds_thread
 
       controls : allowed a authority.Control of_thread.label ≡ true
       controls =
-          may_control t allowed event a m sound closed caller mine next thread_address done.slot done.thread done.finds_thread
+          may_control t allowed event a m sound closed caller mine next thread_address done.thread done.finds_thread
 
       -- the thread's label may use the context as the caller's may, so it may run on it
       may_run : allowed of_thread.label authority.Runs of_context.label ≡ true
@@ -197,7 +189,7 @@ module _
           of_thread.labelled (modifies authority.Control refl controls))
 
   -- a thread runs on the context no more
-  module _ (address : ℕ) (id : ObjId) (finds : FindsContext m caller address id) (thread : ObjId) (tcb : Tcb)
+  module _ (address : ℕ) (id : ObjId) (finds : FindsObject m caller address id d.Context) (thread : ObjId) (tcb : Tcb)
       (there : IsThread m thread tcb) (on : tcb.context ≡ Some id) where
     abbrev used : IsReached t allowed m event a m sound id d.Context
     used = to_context address id finds
@@ -245,11 +237,11 @@ pub may_configure :
     (t : Layout) (allowed : EdgeTest) (event : Event) (a : ℕ) (m : Machine) → IsSound t allowed m → IsClosed allowed
     → label_of t m event.thread ≡ Some a
     → (control address : ℕ) → configures event.call ≡ Some (control, address)
-    → (governs id : ObjId) → FindsControl m event.thread control governs → FindsContext m event.thread address id
+    → (governs id : ObjId) → FindsObject m event.thread control governs d.Control → FindsObject m event.thread address id d.Context
     → MayConfigure t allowed m event id
 may_configure t allowed event a m sound closed mine control address configured governs id found finds =
-    let to_control = control_reached t allowed event a m sound closed event.thread mine control governs found in
-    let to = context_reached t allowed m event a m sound closed.subjects_agree event.thread address id mine finds in
+    let to_control = reached t allowed m event a m sound closed.subjects_agree event.thread control governs d.Control mine found in
+    let to = reached t allowed m event a m sound closed.subjects_agree event.thread address id d.Context mine finds in
     record {
       addresses = (control, address);
       configured = configured;

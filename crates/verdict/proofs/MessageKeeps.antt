@@ -22,7 +22,7 @@ use Rattle.machine.specs.declared.thread.RunState.TheVariants as state
 use Rattle.machine.specs.declared.thread.Sending.{Sending}
 use Rattle.machine.specs.declared.thread.Tcb.{Tcb}
 use Rattle.machine.specs.Authority.{label_of, state_links}
-use Rattle.machine.specs.Capabilities.{can_read, can_write}
+use Rattle.machine.specs.Capabilities.{can_write}
 use Rattle.machine.specs.Layout.{Layout}
 use Rattle.machine.specs.Machine.{Machine, object_of, same_id}
 use Rattle.machine.specs.Releasing.{given, ready, with_blocked, with_given, with_named}
@@ -61,9 +61,9 @@ use Rattle.verdict.proofs.ArrivalKeeps.{arrival_keeps}
 use Rattle.verdict.proofs.Held.{held_of}
 use Rattle.verdict.proofs.Keeps.{Keeps, keeps_keeps, unchanged}
 use Rattle.verdict.proofs.LendingKeeps.{called_through_keeps, returned_keeps}
-use Rattle.verdict.proofs.MessageParts.{IsReached, answers_allowed, at_reached, blocked_beside, deliver_keeps, end_reached}
+use Rattle.verdict.proofs.MessageParts.{IsReached, answers_allowed, at_reached, blocked_beside, deliver_keeps}
 use Rattle.verdict.proofs.MessageParts.{halt_keeps, holds_edge, label_kept, link_keeps, receiver_receives}
-use Rattle.verdict.proofs.MessageParts.{receiver_replies, reply_reached, same_kept, sender_calls, sender_grants, sender_sends}
+use Rattle.verdict.proofs.MessageParts.{reached, receiver_replies, same_kept, sender_calls, sender_grants, sender_sends}
 use Rattle.verdict.proofs.MessageParts.{thread_label}
 use Rattle.verdict.proofs.MessageTouches.{blocked_keeps, emptied_keeps, holding_keeps, released_keeps, sound_after}
 use Rattle.verdict.proofs.ObjectLabels.{same_label}
@@ -112,7 +112,8 @@ module _
 
     to_end : IsReached t allowed m event a m sound open_to.id (d.Endpoint open_to.end)
     to_end =
-        end_reached t allowed m event a m sound closed.subjects_agree thread address (λ end. can_write end.rights) mine open_to
+        reached t allowed m event a m sound closed.subjects_agree thread address open_to.id (d.Endpoint open_to.end) mine
+        open_to.finds
 
     may_send : allowed a authority.Send to_end.label ≡ true
     may_send = to_end.edge authority.Send open_to.allowed refl
@@ -272,8 +273,8 @@ module _
 
     from_end : IsReached t allowed m event a m sound id (d.Endpoint done.open_to.end)
     from_end =
-        end_reached t allowed m event a m sound closed.subjects_agree thread address (λ end. can_read end.rights) mine
-        done.open_to
+        reached t allowed m event a m sound closed.subjects_agree thread address done.open_to.id (d.Endpoint done.open_to.end) mine
+        done.open_to.finds
 
     may_receive : allowed a authority.Receive from_end.label ≡ true
     may_receive = from_end.edge authority.Receive done.open_to.allowed refl
@@ -281,7 +282,7 @@ module _
     by_reply : (q : ObjId) → done.reply ≡ Some q → IsReached t allowed m event a m sound q d.Reply
     by_reply q names =
         let found = done.finds_reply q names in
-        reply_reached t allowed m event a m sound closed.subjects_agree thread found.0 q mine found.1
+        reached t allowed m event a m sound closed.subjects_agree thread found.0 q d.Reply mine found.1
 
     -- whom its reply held is halted
     ends : Makes m ended
@@ -460,7 +461,7 @@ module _
   pub reply_keeps : (address : ℕ) (words : List ℕ) → ReplyDone m thread address words next → Makes m next
   reply_keeps address words done = by_state done.changes where
     to_reply : IsReached t allowed m event a m sound done.id d.Reply
-    to_reply = reply_reached t allowed m event a m sound closed.subjects_agree thread address done.id mine done.finds
+    to_reply = reached t allowed m event a m sound closed.subjects_agree thread address done.id d.Reply mine done.finds
 
     may_reply : allowed a authority.Reply to_reply.label ≡ true
     may_reply = to_reply.edge authority.Reply refl refl

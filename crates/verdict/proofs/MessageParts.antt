@@ -7,16 +7,11 @@ use Rattle.std.specs.Prelude.{if◌then◌else◌, is_ok}
 use Rattle.std.proofs.lemmas.Bool.{and_from}
 use Rattle.std.proofs.lemmas.Option.{none-some, same_Some}
 use Rattle.base.specs.declared.ids.ObjId.{ObjId}
-use Rattle.base.specs.declared.ids.SlotRef.{SlotRef}
 use Rattle.base.specs.declared.kind.Kind.{Kind}
 use Rattle.base.specs.declared.kind.Kind.TheVariants as authority
-use Rattle.base.specs.declared.rights.Rights.{Rights}
 use Rattle.base.specs.Kinds.{is_structural}
 use Rattle.machine.specs.declared.call.Event.{Event}
-use Rattle.machine.specs.declared.cap.Badged.{Badged}
-use Rattle.machine.specs.declared.cap.Cap.{Cap}
 use Rattle.machine.specs.declared.cap.Detail.{Detail}
-use Rattle.machine.specs.declared.cap.Detail.TheVariants as d
 use Rattle.machine.specs.declared.object.Object.{Object}
 use Rattle.machine.specs.declared.object.Object.TheVariants as o
 use Rattle.machine.specs.declared.object.Reply.{Reply}
@@ -40,9 +35,8 @@ use Rattle.machine.specs.Step.Deliver.{answer_through, arrival_of, delivered, li
 use Rattle.machine.specs.WellFormed.{IsCallingThrough, IsFree, IsReceivingWith, IsThread, WaitsAt}
 use Rattle.machine.proofs.Arrival.{arrival_same}
 use Rattle.machine.proofs.Beside.{HolderLeaves, holder_leaves}
-use Rattle.machine.proofs.EndpointRow.{FindsReply, IsEndOpen, IsReceiver, IsSender}
-use Rattle.machine.proofs.Finding.{FindsCap}
-use Rattle.machine.proofs.FoundObjects.{FindsContext, FindsFrame, FindsThread}
+use Rattle.machine.proofs.EndpointRow.{IsReceiver, IsSender}
+use Rattle.machine.proofs.Finding.{FindsObject}
 use Rattle.machine.proofs.Ids.{at_other, itself}
 use Rattle.machine.proofs.Leaving.{Names}
 use Rattle.machine.proofs.LookUps.{object_of-with_object, object_of-with_queue}
@@ -184,48 +178,15 @@ module _ (t : Layout) (allowed : EdgeTest) (began : Machine) (event : Event) (a 
       pub edge : (k : Kind) → gives detail k ≡ true → is_structural k ≡ false → allowed a k label ≡ true
 
     pub reached :
-        (agree : SubjectsAgree allowed) (thread : ObjId) (address : ℕ) (slot : SlotRef) (cap : Cap) (id : ObjId) (detail : Detail)
-        → label_of t m thread ≡ Some a → FindsCap m thread address slot cap → cap.object ≡ id → cap.detail ≡ detail
-        → IsReached id detail
-    reached agree thread address slot cap id detail mine finds at says =
-        let found = found_in_reach t allowed m held agree a thread address slot finds.left cap mine finds.ends finds.holds in
+        (agree : SubjectsAgree allowed) (thread : ObjId) (address : ℕ) (id : ObjId) (detail : Detail)
+        → label_of t m thread ≡ Some a → FindsObject m thread address id detail → IsReached id detail
+    reached agree thread address id detail mine h =
+        let found = found_in_reach t allowed m held agree a thread address h.slot h.finds.left h.held mine h.finds.ends h.finds.holds in
         record {
           label = found.label;
-          labelled = ap (label_of t m) (sym at) ∙ found.labelled;
-          edge = λ k given. found.edge k (ap (λ x. gives x k) says ∙ given);
+          labelled = ap (label_of t m) (sym h.object) ∙ found.labelled;
+          edge = λ k given. found.edge k (ap (λ x. gives x k) h.detail ∙ given);
         }
-
-    pub end_reached :
-        (agree : SubjectsAgree allowed) (thread : ObjId) (address : ℕ) (allows : Badged → Bool) → label_of t m thread ≡ Some a
-        → (open_to : IsEndOpen m thread address allows) → IsReached open_to.id (d.Endpoint open_to.end)
-    end_reached agree thread address allows mine open_to =
-        let found = open_to.finds in
-        reached agree thread address found.slot found.held open_to.id (d.Endpoint open_to.end) mine found.finds found.object
-        found.detail
-
-    pub reply_reached :
-        (agree : SubjectsAgree allowed) (thread : ObjId) (address : ℕ) (id : ObjId) → label_of t m thread ≡ Some a
-        → FindsReply m thread address id → IsReached id d.Reply
-    reply_reached agree thread address id mine found =
-        reached agree thread address found.slot found.held id d.Reply mine found.finds found.object found.detail
-
-    pub frame_reached :
-        (agree : SubjectsAgree allowed) (thread : ObjId) (address : ℕ) (id : ObjId) (rights : Rights)
-        → label_of t m thread ≡ Some a → FindsFrame m thread address id rights → IsReached id (d.Frame rights)
-    frame_reached agree thread address id rights mine found =
-        reached agree thread address found.slot found.held id (d.Frame rights) mine found.finds found.object found.detail
-
-    pub thread_reached :
-        (agree : SubjectsAgree allowed) (thread : ObjId) (address : ℕ) (slot : SlotRef) (id : ObjId)
-        → label_of t m thread ≡ Some a → FindsThread m thread address slot id → IsReached id d.Tcb
-    thread_reached agree thread address slot id mine found =
-        reached agree thread address slot found.held id d.Tcb mine found.finds found.object found.detail
-
-    pub context_reached :
-        (agree : SubjectsAgree allowed) (thread : ObjId) (address : ℕ) (id : ObjId) → label_of t m thread ≡ Some a
-        → FindsContext m thread address id → IsReached id d.Context
-    context_reached agree thread address id mine found =
-        reached agree thread address found.slot found.held id d.Context mine found.finds found.object found.detail
 
     pub at_reached : (id q : ObjId) (label to : ℕ) → label_of t m id ≡ Some label → id ≡ q → label_of t m q ≡ Some to → to ≡ label
     at_reached id q label to labelled same target = same_Some to label (sym target ∙ ap (label_of t m) (sym same) ∙ labelled)

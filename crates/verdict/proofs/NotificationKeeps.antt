@@ -53,9 +53,7 @@ module _
       (caller : ObjId) (address : ℕ) (allows : Badged → Bool) → label_of t m caller ≡ Some a
       → (open_to : IsOpen m caller address allows) → IsOpenTo open_to.id open_to.end
   open_within caller address allows labelled open_to =
-      let found = open_to.finds in
-      reached t allowed m event a m sound agree caller address found.slot found.held open_to.id (d.Notification open_to.end)
-      labelled found.finds found.object found.detail
+      reached t allowed m event a m sound agree caller address open_to.id (d.Notification open_to.end) labelled open_to.finds
 
   -- a notification's word is set
   word_keeps :

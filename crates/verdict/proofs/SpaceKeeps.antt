@@ -19,7 +19,7 @@ use Rattle.machine.specs.Step.Delete.{deleted}
 use Rattle.machine.specs.Step.Space.{with_root, without_root}
 use Rattle.machine.specs.Tree.{copied, parent_of_copy, with_copy}
 use Rattle.machine.specs.WellFormed.{IsWellFormed, kind_of}
-use Rattle.machine.proofs.FoundObjects.{FindsThread}
+use Rattle.machine.proofs.Finding.{FindsObject}
 use Rattle.machine.proofs.LookUps.{one_slot}
 use Rattle.machine.proofs.SlotRows.{with_copy_fills}
 use Rattle.machine.proofs.SpaceFormed.{held_before, root_empty, set_formed, thread_there}
@@ -43,12 +43,12 @@ module _
     (t : Layout) (allowed : EdgeTest) (event : Event) (a : ℕ) (m : Machine) (sound : IsSound t allowed m)
     (closed : IsClosed allowed) (caller : ObjId) (mine : label_of t m caller ≡ Some a) (next : Machine) (address : ℕ) where
   -- the root slot loses its capability
-  module _ (slot : SlotRef) (thread : ObjId) (finds : FindsThread m caller address slot thread) where
+  module _ (thread : ObjId) (finds : FindsObject m caller address thread d.Tcb) where
     abbrev of_thread : IsReached t allowed m event a m sound thread d.Tcb
-    of_thread = to_thread t allowed event a m sound closed caller mine next address slot thread finds
+    of_thread = to_thread t allowed event a m sound closed caller mine next address thread finds
 
     controls : allowed a authority.Control of_thread.label ≡ true
-    controls = may_control t allowed event a m sound closed caller mine next address slot thread finds
+    controls = may_control t allowed event a m sound closed caller mine next address thread finds
 
     may_clear : MayRemove t allowed a m (same_slot (root_of thread))
     may_clear other held is filled = (
@@ -72,7 +72,7 @@ module _
   pub clear_space_keeps : ClearDone m caller address next → IsSound t allowed next × Keeps t allowed m event a m next
   clear_space_keeps done =
       subst (λ (n : Machine). IsSound t allowed n × Keeps t allowed m event a m n) (sym done.changes)
-      (cleared done.slot done.thread done.finds)
+      (cleared done.thread done.finds)
 
   -- it gets a copy of the CNode's capability
   module _ (space : ℕ) (done : SetDone m caller address space next) where
@@ -86,24 +86,24 @@ module _
     mid = without_root m done.thread
 
     mid_sound : IsSound t allowed mid
-    mid_sound = (cleared done.slot done.thread done.finds).0
+    mid_sound = (cleared done.thread done.finds).0
 
     mid_keeps : Keeps t allowed m event a m mid
-    mid_keeps = (cleared done.slot done.thread done.finds).1
+    mid_keeps = (cleared done.thread done.finds).1
 
     mid_held : IsHeld t allowed mid
     mid_held = held_of t allowed mid mid_sound
 
     abbrev at_thread : IsReached t allowed m event a m sound thread d.Tcb
-    at_thread = of_thread done.slot thread done.finds
+    at_thread = of_thread thread done.finds
 
     may_act : allowed a authority.Control at_thread.label ≡ true
-    may_act = controls done.slot thread done.finds
+    may_act = controls thread done.finds
 
     at_node : IsReached t allowed m event a m sound done.held.object (d.CNode done.guard)
     at_node =
-        reached t allowed m event a m sound closed.subjects_agree caller space done.node done.held done.held.object
-        (d.CNode done.guard) mine done.finds_node refl done.detail
+        reached t allowed m event a m sound closed.subjects_agree caller space done.held.object (d.CNode done.guard) mine
+        (record { slot = done.node; held = done.held; finds = done.finds_node; object = refl; detail = done.detail })
 
     -- the slot with the CNode's capability is in the caller's domain
     node_within : IsWithin t allowed m a done.node.holder
@@ -120,11 +120,11 @@ module _
         let was = labelled_there t m id label labelled in
         label_kept t allowed m event a m mid id was.0 object mid_keeps was.1 there ∙ labelled
 
-    module _ (w : RootFilled mid thread done.slot done.node) where
+    module _ (w : RootFilled mid thread done.finds.slot done.node) where
       thread_is : w.of ≡ done.finds.held
       thread_is =
           same_Some w.of done.finds.held
-          (sym (held_before m thread done.slot w.of w.thread_held) ∙ done.finds.finds.holds)
+          (sym (held_before m thread done.finds.slot w.of w.thread_held) ∙ done.finds.finds.holds)
 
       node_is : w.held ≡ done.held
       node_is =
@@ -135,7 +135,7 @@ module _
 
       is_thread : kind_of mid thread ≡ Some kind.Tcb
       is_thread =
-          thread_there mid thread done.slot w.of mid_sound.well_formed w.thread_held
+          thread_there mid thread done.finds.slot w.of mid_sound.well_formed w.thread_held
           (ap (λ (c : Cap). c.object) thread_is ∙ done.finds.object) (ap (λ (c : Cap). c.detail) thread_is ∙ done.finds.detail)
 
       thread_label : label_of t mid thread ≡ Some at_thread.label
@@ -193,7 +193,7 @@ module _
             (record { subject = a; of_parent = node_within.domain; of_child = inr may_act }));
       }
 
-      root_is : with_root mid thread done.slot done.node ≡ after
+      root_is : with_root mid thread done.finds.slot done.node ≡ after
       root_is = w.changes ∙ ap (λ (c : Cap). with_copy mid root done.node c c.detail) node_is
 
       after_formed : IsWellFormed after
@@ -210,11 +210,11 @@ module _
     pub set_space_keeps : Keeps t allowed m event a m next
     set_space_keeps =
         subst (λ (n : Machine). Keeps t allowed m event a m n) (sym done.changes)
-        (by_root (root_filled mid thread done.slot done.node))
+        (by_root (root_filled mid thread done.finds.slot done.node))
       where
         by_root :
-            RootFilled mid thread done.slot done.node ⊎ (with_root mid thread done.slot done.node ≡ mid)
-            → Keeps t allowed m event a m (with_root mid thread done.slot done.node)
+            RootFilled mid thread done.finds.slot done.node ⊎ (with_root mid thread done.finds.slot done.node ≡ mid)
+            → Keeps t allowed m event a m (with_root mid thread done.finds.slot done.node)
         by_root (inl w) =
             subst (λ (n : Machine). Keeps t allowed m event a m n) (sym (root_is w))
             (keeps_keeps t allowed m event a m mid (after w) (held_of t allowed m sound) mid_keeps (copy_keeps w))

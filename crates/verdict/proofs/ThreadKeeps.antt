@@ -2,7 +2,6 @@
 -- holds it, only lose it.
 use Rattle.std.proofs.Common.{◌≡◌, ℕ, ◌⊎◌, inl, inr, true, Some, refl, sym, ap, subst, ◌∙◌}
 use Rattle.base.specs.declared.ids.ObjId.{ObjId}
-use Rattle.base.specs.declared.ids.SlotRef.{SlotRef}
 use Rattle.base.specs.declared.kind.Kind.TheVariants as authority
 use Rattle.machine.specs.declared.call.Event.{Event}
 use Rattle.machine.specs.declared.cap.Detail.TheVariants as d
@@ -19,7 +18,8 @@ use Rattle.machine.specs.Machine.{Machine, object_of, same_id}
 use Rattle.machine.specs.Releasing.{ready, suspended, with_aborted, with_ready, with_released}
 use Rattle.machine.specs.Step.Suspend.{with_resumed}
 use Rattle.machine.specs.WellFormed.{IsCallingThrough, IsIdle, IsReceivingWith, IsThread, WaitsAt}
-use Rattle.machine.proofs.FoundObjects.{FindsThread, found_thread}
+use Rattle.machine.proofs.Finding.{FindsObject, found_kind}
+use Rattle.machine.proofs.FoundObjects.{tcb_of_kind}
 use Rattle.machine.proofs.Ids.{itself}
 use Rattle.machine.proofs.Leaving.{Names}
 use Rattle.machine.proofs.ThreadRow.{ResumeDone, SuspendDone}
@@ -34,7 +34,7 @@ use Rattle.policy.specs.Take.MayTake.{removes}
 use Rattle.verdict.specs.Invariant.{IsSound}
 use Rattle.verdict.proofs.Held.{held_of}
 use Rattle.verdict.proofs.Keeps.{Keeps, unchanged}
-use Rattle.verdict.proofs.MessageParts.{IsReached, holds_edge, thread_edge, thread_reached}
+use Rattle.verdict.proofs.MessageParts.{IsReached, holds_edge, reached, thread_edge}
 use Rattle.verdict.proofs.MessageTouches.{MayLessen, released_keeps}
 
 -- a thread that goes on is as it was, or can run, or is aborted
@@ -57,9 +57,9 @@ resumes m thread tcb there = by_state tcb.state refl where
 module _
     (t : Layout) (allowed : EdgeTest) (event : Event) (a : ℕ) (m : Machine) (sound : IsSound t allowed m)
     (closed : IsClosed allowed) (caller : ObjId) (mine : label_of t m caller ≡ Some a) (next : Machine) (address : ℕ) where
-  module _ (slot : SlotRef) (thread : ObjId) (finds : FindsThread m caller address slot thread) where
+  module _ (thread : ObjId) (finds : FindsObject m caller address thread d.Tcb) where
     pub to_thread : IsReached t allowed m event a m sound thread d.Tcb
-    to_thread = thread_reached t allowed m event a m sound closed.subjects_agree caller address slot thread mine finds
+    to_thread = reached t allowed m event a m sound closed.subjects_agree caller address thread d.Tcb mine finds
 
     pub may_control : allowed a authority.Control to_thread.label ≡ true
     may_control = to_thread.edge authority.Control refl refl
@@ -143,9 +143,9 @@ module _
 
   pub suspend_keeps : SuspendDone m caller address next → Keeps t allowed m event a m next
   suspend_keeps done =
-      let tcb = found_thread m caller address sound.well_formed done.slot done.thread done.finds in
+      let tcb = tcb_of_kind (object_of m done.thread) (found_kind sound.well_formed done.finds) in
       subst (λ (n : Machine). Keeps t allowed m event a m n) (sym done.changes)
-      (release_keeps done.slot done.thread done.finds tcb.0 tcb.1 suspended refl refl tt)
+      (release_keeps done.thread done.finds tcb.0 tcb.1 suspended refl refl tt)
 
   pub resume_keeps : ResumeDone m caller address next → Keeps t allowed m event a m next
   resume_keeps done =
@@ -153,7 +153,7 @@ module _
       (by_resumed (with_resumed m done.thread) (resumes m done.thread tcb.0 tcb.1))
     where
       tcb : (tcb : Tcb) × IsThread m done.thread tcb
-      tcb = found_thread m caller address sound.well_formed done.slot done.thread done.finds
+      tcb = tcb_of_kind (object_of m done.thread) (found_kind sound.well_formed done.finds)
 
       by_resumed : (after : Machine) → Resumes m done.thread after → Keeps t allowed m event a m after
       by_resumed after (goes_on same) =
@@ -161,7 +161,7 @@ module _
           (unchanged t allowed m event a m (held_of t allowed m sound))
       by_resumed after (can_run same) =
           subst (λ (n : Machine). Keeps t allowed m event a m n) (sym same)
-          (release_keeps done.slot done.thread done.finds tcb.0 tcb.1 ready refl refl tt)
+          (release_keeps done.thread done.finds tcb.0 tcb.1 ready refl refl tt)
       by_resumed after (is_aborted same) =
           subst (λ (n : Machine). Keeps t allowed m event a m n) (sym same)
-          (release_keeps done.slot done.thread done.finds tcb.0 tcb.1 aborted refl refl tt)
+          (release_keeps done.thread done.finds tcb.0 tcb.1 aborted refl refl tt)

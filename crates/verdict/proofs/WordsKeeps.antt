@@ -23,7 +23,7 @@ use Rattle.verdict.specs.Invariant.{IsHeld, IsSound}
 use Rattle.verdict.proofs.Contents.{full}
 use Rattle.verdict.proofs.Held.{held_of}
 use Rattle.verdict.proofs.Keeps.{Keeps, unchanged}
-use Rattle.verdict.proofs.MessageParts.{IsReached, frame_reached}
+use Rattle.verdict.proofs.MessageParts.{IsReached, reached}
 use Rattle.verdict.proofs.ObjectLabels.{labelled_there}
 use Rattle.verdict.proofs.TouchKeeps.{same_fits, touch_keeps}
 
@@ -88,7 +88,7 @@ module _
   pub write_keeps : (address index word : ℕ) → WriteDone m caller address index word next → Keeps t allowed m event a m next
   write_keeps address index word done =
       let frame : IsReached t allowed m event a m sound done.id (d.Frame done.rights) =
-      frame_reached t allowed m event a m sound closed.subjects_agree caller address done.id done.rights mine done.finds in
+      reached t allowed m event a m sound closed.subjects_agree caller address done.id (d.Frame done.rights) mine done.finds in
       subst (λ (n : Machine). Keeps t allowed m event a m n) (sym done.changes)
       (word_keeps t allowed m event a m done.id (held_of t allowed m sound) index word frame.label frame.labelled
       (modifies authority.Write refl (frame.edge authority.Write done.allowed refl)))
