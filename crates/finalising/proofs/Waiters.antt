@@ -1,7 +1,6 @@
 -- Where the first that waits is aborted, the others are left to be.
 use Rattle.std.proofs.Common.{◌≡◌, ◌<◌, List, [], ◌∷◌, length, refl, sym, ap, ◌∙◌, arith}
 use Rattle.std.specs.Prelude.{Option, Some, None, option_map}
-use Rattle.std.proofs.lemmas.Option.{same_Some}
 use Rattle.std.specs.List.{fold}
 use Rattle.base.specs.declared.ids.ObjId.{ObjId}
 use Rattle.machine.specs.declared.thread.Tcb.{Tcb}
@@ -9,28 +8,12 @@ use Rattle.machine.specs.Changes.{first_waiting}
 use Rattle.machine.specs.Finalising.{aborted}
 use Rattle.machine.specs.Machine.{Machine, queue_of}
 use Rattle.machine.specs.WellFormed.{IsThread, LinksAgree}
-use Rattle.machine.proofs.Queues.{first_in}
+use Rattle.machine.proofs.Queues.{first_in, once_first, queue_by_first}
 use Rattle.finalising.specs.Finalised.{members, with_waiters_aborted}
 use Rattle.machine.specs.Releasing.{with_aborted}
 use Rattle.finalising.proofs.Agreement.{links_aborted}
-use Rattle.machine.proofs.Leaving.{aborted_is, first_leaves, released_queues, without}
+use Rattle.machine.proofs.Leaving.{aborted_is, released_queues, without, without_itself}
 use Rattle.machine.proofs.HeldThreads.{links_of}
-
--- who waits first
-pub queue_by_first :
-    (m : Machine) (id first : ObjId) → first_waiting m id ≡ Some first
-    → (others : List ObjId) × (queue_of m id ≡ Some (first ∷ others))
-unfolding first_waiting
-queue_by_first m id first e = by_queue (queue_of m id) refl where
-  by_queue :
-      (queue : Option (List ObjId)) → queue_of m id ≡ queue
-      → (others : List ObjId) × (queue_of m id ≡ Some (first ∷ others))
-  by_queue None is = let some = rw is at e in cc
-  by_queue (Some []) is = let some = rw is at e in cc
-  by_queue (Some (one ∷ others)) is =
-      let some = rw is at e in
-      let same : one ≡ first = same_Some one first some in
-      (others, is ∙ ap (λ (x : ObjId). Some (x ∷ others)) same)
 
 pub record FirstAborted (m : Machine) (id first : ObjId) : Type 0 where
   pub agreed : LinksAgree (with_aborted m first)
@@ -54,7 +37,7 @@ module _ (m : Machine) (links : LinksAgree m) (id : ObjId) where
         ap (λ (n : Machine). queue_of n id) (aborted_is m first thread.0 thread.1)
         ∙ (released_queues m first thread.0 (aborted thread.0) thread.1 (links_of m links first thread.0 thread.1) id
         ∙ ap (option_map (without first)) queue
-        ∙ ap (λ x. Some x) (first_leaves first others (links.once id (first ∷ others) queue)))
+        ∙ ap (λ x. Some x) (without_itself first others (λ within. once_first first others (links.once id (first ∷ others) queue) first within refl)))
 
     same_result : with_waiters_aborted (with_aborted m first) id ≡ with_waiters_aborted m id
     unfolding with_waiters_aborted

@@ -1,6 +1,6 @@
 -- How many capabilities there are for an object, where one comes or goes and where none does, and that none are left exactly where no
 -- slot holds one.
-use Rattle.std.proofs.Common.{◌≡◌, ◌≢◌, ℕ, ◌+◌, ◌≤◌, List, [], ◌∷◌, Bool, true, false, cond, refl, sym, ap, subst, ◌∙◌, arith}
+use Rattle.std.proofs.Common.{◌≡◌, ◌≢◌, ℕ, ◌+◌, ◌≤◌, List, Bool, true, false, cond, refl, sym, ap, subst, ◌∙◌, arith}
 use Rattle.std.specs.Prelude.{Option, Some, None, if◌then◌else◌}
 use Rattle.std.specs.Bool.{Decides}
 use Rattle.std.specs.FinMap as map
@@ -11,7 +11,7 @@ use Rattle.base.specs.declared.ids.ObjId.{ObjId}
 use Rattle.base.specs.declared.ids.SlotRef.{SlotRef}
 use Rattle.machine.specs.declared.cap.Cap.{Cap}
 use Rattle.machine.specs.declared.object.Object.{Object}
-use Rattle.machine.specs.Changes.{with_waiting, without_first, without_waiting}
+use Rattle.machine.specs.Changes.{with_waiting, without_waiting}
 use Rattle.machine.specs.Counts.{caps_to}
 use Rattle.machine.specs.Gone.{gone_of, is_for, some_cap, LosesAll}
 use Rattle.machine.specs.Machine.{Machine, empty_machine, slot_cmp, same_id, same_slot, cap_of, queue_of, with_cap, with_new, with_object}
@@ -79,14 +79,6 @@ caps_to-with_waiting m at thread id = by_queue (queue_of m at) refl where
   by_queue : (o : Option (List ObjId)) → queue_of m at ≡ o → caps_to (with_waiting m at thread) id ≡ caps_to m id
   by_queue None is = rw is refl
   by_queue (Some threads) is = rw is (caps_to-with_queue m at _ id)
-
-pub caps_to-without_first : (m : Machine) (at id : ObjId) → caps_to (without_first m at) id ≡ caps_to m id
-unfolding without_first
-caps_to-without_first m at id = by_queue (queue_of m at) refl where
-  by_queue : (o : Option (List ObjId)) → queue_of m at ≡ o → caps_to (without_first m at) id ≡ caps_to m id
-  by_queue None is = rw is refl
-  by_queue (Some []) is = rw is refl
-  by_queue (Some (thread ∷ threads)) is = rw is (caps_to-with_queue m at threads id)
 
 pub caps_to-without_waiting : (m : Machine) (at thread id : ObjId) → caps_to (without_waiting m at thread) id ≡ caps_to m id
 unfolding without_waiting

@@ -1,6 +1,6 @@
 -- A thread whose links agree at both ends leaves its queue and its reply: no queue has it, no reply holds it, and all else is as it was.
 use Rattle.std.proofs.Common.{◌≡◌, ◌≢◌, ◌⊎◌, inl, inr, Bool, true, false, not, cond, List, ◌∷◌, refl, sym, ap, subst, ◌∙◌}
-use Rattle.std.specs.Prelude.{AllPairs, Option, Some, None, Contains, filter, option_map, if◌then◌else◌}
+use Rattle.std.specs.Prelude.{Option, Some, None, Contains, filter, option_map, if◌then◌else◌}
 use Rattle.std.proofs.lemmas.List.Elements.{All-weaker, All-contains_itself}
 use Rattle.std.proofs.lemmas.Option.{none-some, same_Some}
 use Rattle.base.specs.declared.ids.ObjId.{ObjId}
@@ -12,7 +12,7 @@ use Rattle.machine.specs.declared.object.ReplyState.TheVariants as reply
 use Rattle.machine.specs.declared.thread.RunState.{RunState}
 use Rattle.machine.specs.declared.thread.RunState.TheVariants as state
 use Rattle.machine.specs.declared.thread.Tcb.{Tcb}
-use Rattle.machine.specs.Changes.{with_reply, with_tcb, without_waiting}
+use Rattle.machine.specs.Changes.{with_reply, with_tcb, without_first, without_waiting}
 use Rattle.machine.specs.Finalising.{IsHolding, aborted, halted}
 use Rattle.machine.specs.Machine.{Machine, object_of, queue_of, same_id, with_object, with_queue}
 use Rattle.machine.specs.Releasing.{SameRest, reply_by, unblocked, with_aborted, with_free, with_halted, with_holding, with_named}
@@ -21,7 +21,6 @@ use Rattle.machine.specs.WellFormed.{IsThread, WaitsAt}
 use Rattle.machine.proofs.Filters.{filter_all}
 use Rattle.machine.proofs.Ids.{at_itself, at_other, itself, one_or_two}
 use Rattle.machine.proofs.LookUps.{object_of-with_object, object_of-with_queue, one_id, queue_of-with_object, queue_of-with_queue}
-use Rattle.machine.proofs.Queues.{once_first}
 
 -- whether a run state names a reply
 abbrev pub Names : RunState → ObjId → Type 0
@@ -98,7 +97,7 @@ module _ (m : Machine) (id thread : ObjId) where
         rw e
         (queue_of-with_queue m id (without thread threads) q ∙ at_other q id (Some (without thread threads)) (queue_of m q) apart)
 
-  objects_unqueued : (q : ObjId) → object_of (without_waiting m id thread) q ≡ object_of m q
+  pub objects_unqueued : (q : ObjId) → object_of (without_waiting m id thread) q ≡ object_of m q
   unfolding without_waiting
   objects_unqueued q = by_queue (queue_of m id) refl where
     by_queue : (queue : Option (List ObjId)) → queue_of m id ≡ queue → object_of (without_waiting m id thread) q ≡ object_of m q
@@ -122,11 +121,16 @@ without_absent thread threads absent =
     threads (All-contains_itself threads))
 
 -- the first leaves a queue that has it once
+
+pub without_itself : (first : ObjId) (others : List ObjId) → ¬ (Contains others first) → without first (first ∷ others) ≡ others
+without_itself first others once =
+    ap (λ b. cond (not b) (first ∷ without first others) (without first others)) (itself first) ∙ without_absent first others once
+
 pub first_leaves :
-    (first : ObjId) (others : List ObjId) → AllPairs (λ a b. a ≢ b) (first ∷ others) → without first (first ∷ others) ≡ others
-first_leaves first others once =
-    ap (λ b. cond (not b) (first ∷ without first others) (without first others)) (itself first)
-    ∙ without_absent first others (λ within. once_first first others once first within refl)
+    (m : Machine) (id first : ObjId) (others : List ObjId) → queue_of m id ≡ Some (first ∷ others) → ¬ (Contains others first)
+    → without_waiting m id first ≡ without_first m id
+unfolding without_waiting without_first
+first_leaves m id first others waited once = rw waited (ap (with_queue m id) (without_itself first others once))
 
 stay_queue :
     (thread : ObjId) (queue : Option (List ObjId)) → ((threads : List ObjId) → queue ≡ Some threads → ¬ (Contains threads thread))

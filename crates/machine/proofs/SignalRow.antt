@@ -1,7 +1,7 @@
 -- What a signal does that is made: the first thread that waits gets the badge and is ready; where nobody waits, the badge joins
 -- the word.
-use Rattle.std.proofs.Common.{◌≡◌, ◌≢◌, ℕ, ◌⊎◌, inl, inr, List, [], ◌∷◌, refl, sym, ap, subst, ◌∙◌}
-use Rattle.std.specs.Prelude.{AllPairs, Option, Some, None, Ok, unwrap_or}
+use Rattle.std.proofs.Common.{◌≡◌, ℕ, ◌⊎◌, inl, inr, List, [], ◌∷◌, refl, sym, ap, subst, ◌∙◌}
+use Rattle.std.specs.Prelude.{Contains, Option, Some, None, Ok, unwrap_or}
 use Rattle.std.specs.Int.RustNames.{bit_or}
 use Rattle.base.specs.declared.ids.ObjId.{ObjId}
 use Rattle.machine.specs.declared.call.Answer.TheVariants as answer
@@ -14,16 +14,15 @@ use Rattle.machine.specs.declared.thread.RunState.{RunState}
 use Rattle.machine.specs.declared.thread.RunState.TheVariants as state
 use Rattle.machine.specs.declared.thread.Tcb.{Tcb}
 use Rattle.machine.specs.Capabilities.{can_write}
-use Rattle.machine.specs.Changes.{first_waiting, with_tcb, without_first, without_waiting}
-use Rattle.machine.specs.Machine.{Machine, object_of, queue_of, with_object, with_queue}
+use Rattle.machine.specs.Changes.{first_waiting, with_tcb, without_waiting}
+use Rattle.machine.specs.Machine.{Machine, object_of, queue_of, with_object}
 use Rattle.machine.specs.Releasing.{unblocked, with_released}
 use Rattle.machine.specs.Step.Signal.{signal_of, signalled, woken, pending_in}
 use Rattle.machine.specs.WellFormed.{IsWellFormed, IsThread}
 use Rattle.machine.proofs.Conditions.{same_ok}
-use Rattle.machine.proofs.Leaving.{first_leaves, released_there}
-use Rattle.machine.proofs.LookUps.{object_of-with_queue}
+use Rattle.machine.proofs.Leaving.{first_leaves, objects_unqueued, released_there}
 use Rattle.machine.proofs.NotificationRow.{IsOpen, opens, waits_for, with_pending_there}
-use Rattle.machine.proofs.Queues.{first_in}
+use Rattle.machine.proofs.Queues.{first_in, once_first}
 
 -- a thread with a word in its inbox, ready
 abbrev pub roused : ℕ → Tcb → Tcb
@@ -55,17 +54,15 @@ woken_there m id old word there = rw there refl
 
 signalled_first :
     (m : Machine) (id first : ObjId) (others : List ObjId) (thread : Tcb) (badge : ℕ) → queue_of m id ≡ Some (first ∷ others)
-    → AllPairs (λ a b. a ≢ b) (first ∷ others) → IsThread m first thread → thread.state ≡ state.Waiting id
+    → ¬ (Contains others first) → IsThread m first thread → thread.state ≡ state.Waiting id
     → signalled m id badge ≡ with_released m first (roused badge)
-unfolding signalled first_waiting without_first without_waiting
+unfolding signalled first_waiting
 signalled_first m id first others thread badge waited once there waits =
-    let left : without_waiting m id first ≡ with_queue m id others =
-    rw waited (ap (with_queue m id) (first_leaves first others once)) in
-    rw (waited, waited)
-    (woken_there (with_queue m id others) first thread badge (object_of-with_queue m id others first ∙ there))
-    ∙ sym (ap (λ (n : Machine). with_tcb n first (roused badge thread))
-    (ap (λ (run : RunState). unblocked m first run) waits ∙ left))
-    ∙ sym (released_there m first thread (roused badge) there)
+    rw waited
+    (ap (λ (n : Machine). woken n first badge) (sym (first_leaves m id first others waited once))
+    ∙ woken_there (without_waiting m id first) first thread badge (objects_unqueued m id first first ∙ there)
+    ∙ sym (ap (λ (run : RunState). with_tcb (unblocked m first run) first (roused badge thread)) waits)
+    ∙ sym (released_there m first thread (roused badge) there))
 
 signalled_alone :
     (m : Machine) (id : ObjId) (notification : Notification) (badge : ℕ) → first_waiting m id ≡ None
@@ -95,13 +92,13 @@ signalled_done m id notification badge formed there = by_queue (queue_of m id) r
   by_queue (Some []) e = inr (signalled_alone m id notification badge (rw e refl) there)
   by_queue (Some (first ∷ others)) e =
       let w = waits_for m id notification there formed.links (first ∷ others) first e (first_in first others) in
-      let once = formed.links.once id (first ∷ others) e in
+      let once = once_first first others (formed.links.once id (first ∷ others) e) first in
       inl (record {
         first = first;
         thread = w.0;
         there = w.1;
         waits = w.2;
-        changes = signalled_first m id first others w.0 badge e once w.1 w.2;
+        changes = signalled_first m id first others w.0 badge e (λ within. once within refl) w.1 w.2;
       })
 
 pub signal_done :

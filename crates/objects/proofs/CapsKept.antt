@@ -1,7 +1,7 @@
 -- Changes of entries that leave how many capabilities each counts for its object, and the change of one such count.
 use Rattle.std.proofs.Common.{◌≡◌, ℕ, Bool, true, false, cond, refl, sym, ap, subst, ◌∙◌}
 use Rattle.std.specs.Prelude.{Option, Some, None, IsSome, option_map}
-use Rattle.std.specs.Option.{option_or, option_and}
+use Rattle.std.specs.Option.{option_or}
 use Rattle.std.proofs.lemmas.Bool.{false≢true}
 use Rattle.base.specs.declared.ids.ObjId.{ObjId}
 use Rattle.base.specs.declared.ids.SlotRef.{SlotRef}
@@ -15,7 +15,7 @@ use Rattle.objects.specs.declared.links.TreeLinks.{TreeLinks}
 use Rattle.objects.specs.declared.slots.Slot.{Slot}
 use Rattle.objects.specs.Entries.{Entries, caps_in, entry_of, change_slot_in, with_entry, set_caps_in, set_ends_in, set_standing_in}
 use Rattle.objects.specs.Family.{attached, detached, head_of, leaving, leaving_from, links_at, with_links, with_slot}
-use Rattle.objects.specs.Links.{end_after, left, popped, pushed, quitted, relinked, standing_of, with_standing}
+use Rattle.objects.specs.Links.{end_after, pushed, quitted, relinked, standing_of, with_standing}
 use Rattle.objects.proofs.EntryLemmas.{entry_of-with_entry}
 
 -- each entry counts what it counted
@@ -97,17 +97,6 @@ caps-pushed entries id thread (Some ends) q =
     caps-relinked entries ends.last (λ s. record s { next = Some thread }) thread
     (record { at = Some id; previous = ends.last; next = None }) id
     (record { first = option_or ends.first (Some thread); last = Some thread }) q
-
-caps-left : (entries : Entries) (id : ObjId) (ends : Ends) (first : Option ObjId) → CapsKept entries (left entries id ends first)
-caps-left entries id ends None q = refl
-caps-left entries id ends (Some first) q =
-    let next : Option ObjId = (standing_of (entry_of entries first)).next in
-    caps-relinked entries next (λ s. record s { previous = None }) first (record { at = None; previous = None; next = None }) id
-    (record { first = next; last = option_and next ends.last }) q
-
-pub caps-popped : (entries : Entries) (id : ObjId) (ends : Option Ends) → CapsKept entries (popped entries id ends)
-caps-popped entries id None q = refl
-caps-popped entries id (Some ends) q = caps-left entries id ends ends.first q
 
 pub caps-quitted : (entries : Entries) (id thread : ObjId) (ends : Option Ends) → CapsKept entries (quitted entries id thread ends)
 caps-quitted entries id thread None q = refl

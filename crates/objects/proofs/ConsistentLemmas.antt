@@ -20,13 +20,13 @@ use Rattle.objects.specs.declared.entry.Entry.{Entry}
 use Rattle.objects.specs.declared.links.Standing.{Standing}
 use Rattle.objects.specs.declared.slots.Slot.{Slot}
 use Rattle.objects.specs.declared.state.State.TheInside.{Inside}
-use Rattle.machine.specs.Changes.{first_waiting, with_waiting, with_word, with_words, without_first, without_waiting}
+use Rattle.machine.specs.Changes.{first_waiting, with_waiting, with_word, with_words, without_waiting}
 use Rattle.objects.specs.Counts.{one_more}
 use Rattle.objects.specs.Entries.{Entries, caps_in, entry_of, slot_at, with_entry, replace_in, set_caps_in, set_word_in}
 use Rattle.std.specs.FinMap as finite
 use Rattle.objects.specs.Entries.{empty_slot, new_entry, with_more}
 use Rattle.objects.specs.Family.{links_of, AreKin}
-use Rattle.objects.specs.Links.{ends_of, standing_of, queue_in, AreQueued, pushed, left, popped, quitted}
+use Rattle.objects.specs.Links.{ends_of, standing_of, queue_in, AreQueued, pushed, quitted}
 use Rattle.objects.specs.Queues.{walk, AreQueues}
 use Rattle.objects.specs.Radices.{HasRadix}
 use Rattle.objects.specs.State.{machine_of, IsSized, IsConsistent}
@@ -37,9 +37,9 @@ use Rattle.objects.proofs.EntryLemmas.{some-none, entry_of-with_entry}
 use Rattle.objects.proofs.StateLemmas.{Tells, present_kept, tells-machine_of, going-machine_of, next-machine_of, same_from_tells, object_at, words_at}
 use Rattle.objects.proofs.ChangeLemmas.{added_read, reading_kept, slots_kept, tells-caps, tells-replace, tells-queue, tells-same, tells-new, tells-word}
 use Rattle.objects.proofs.ChangeLemmas.{changed_here, changed_other, part_kept, links, rest, links_kept}
-use Rattle.objects.proofs.QueueLemmas.{cases_id, walk_none, walk_first, more_numbers, longer_walk}
-use Rattle.objects.proofs.LinkLemmas.{Requeues, stands_nowhere, pushed_requeues, pushed_queue, popped_requeues}
-use Rattle.objects.proofs.LinkLemmas.{popped_queue, quitted_requeues, quitted_queue}
+use Rattle.objects.proofs.QueueLemmas.{cases_id, walk_none, walk_first, walk_once, more_numbers, longer_walk}
+use Rattle.objects.proofs.LinkLemmas.{Requeues, stands_nowhere, pushed_requeues, pushed_queue}
+use Rattle.objects.proofs.LinkLemmas.{quitted_requeues, quitted_queue}
 use Rattle.objects.proofs.Quitting.{on_walk_waits}
 
 -- the derivation tree, where slots are as they were
@@ -553,20 +553,6 @@ module _ (s : Inside) (consistent : IsConsistent s) (id : ObjId) where
   unfolding with_waiting
   waiting_some m thread threads e = rw e
 
-  first_none : (m : Machine) → queue_of m id ≡ None → without_first m id ≡ m
-  unfolding without_first
-  first_none m e = rw e
-
-  first_nil : (m : Machine) → queue_of m id ≡ Some [] → without_first m id ≡ m
-  unfolding without_first
-  first_nil m e = rw e
-
-  first_cons :
-      (m : Machine) (thread : ObjId) (threads : List ObjId) → queue_of m id ≡ Some (thread ∷ threads)
-      → without_first m id ≡ with_queue m id threads
-  unfolding without_first
-  first_cons m thread threads e = rw e
-
   -- a thread that is there, and that waits nowhere
 
   module _ (thread : ObjId) (present : IsSome (object_of (machine_of s) thread)) (free : WaitsNowhere (machine_of s) thread) where
@@ -611,48 +597,15 @@ module _ (s : Inside) (consistent : IsConsistent s) (id : ObjId) where
           ∙ sym
           (waiting_some (machine_of s) thread _ ((tells-machine_of s).queues id ∙ ap (queue_in s.next entry) is))
 
-  pub IsConsistent-popped :
-      IsConsistent (record s { store = popped s.store id (option_map (λ e. e.ends) (entry id)) })
-  IsConsistent-popped = by_entry (entry id) refl where
-    by_first :
-        (e : Entry) → entry id ≡ Some e → (o : Option ObjId) → e.ends.first ≡ o
-        → IsConsistent (record s { store = left s.store id e.ends o })
-    by_first e is None first = consistent
-    by_first e is (Some thread) first =
-        let next : Option ObjId = (standing_of (entry thread)).next in
-        IsConsistent-requeued s consistent (left s.store id e.ends (Some thread)) id
-        (popped_requeues s.store s.next id thread consistent.queued e is first)
-
-    by_entry :
-        (o : Option Entry) → entry id ≡ o
-        → IsConsistent (record s { store = popped s.store id (option_map (λ e. e.ends) o) })
-    by_entry None is = consistent
-    by_entry (Some e) is = by_first e is e.ends.first refl
-
-  pub pop_gives :
-      machine_of (record s { store = popped s.store id (option_map (λ e. e.ends) (entry id)) })
-      ≡ without_first (machine_of s) id
-  pop_gives = by_entry (entry id) refl where
-    by_first :
-        (e : Entry) → entry id ≡ Some e → (o : Option ObjId) → e.ends.first ≡ o
-        → machine_of (record s { store = left s.store id e.ends o }) ≡ without_first (machine_of s) id
-    by_first e is None first =
-        sym
-        (first_nil (machine_of s)
-        ((tells-machine_of s).queues id ∙ ap (queue_in s.next entry) is
-        ∙ ap Some (ap (walk (λ thread. standing_of (entry thread)) s.next) first ∙ walk_none (λ thread. standing_of (entry thread)) s.next)))
-    by_first e is (Some thread) first =
-        let queues = popped_queue s.store s.next id thread consistent.queued e is first in
-        queue_gives (left s.store id e.ends (Some thread)) queues.0
-        (popped_requeues s.store s.next id thread consistent.queued e is first) queues.2
-        ∙ sym (first_cons (machine_of s) thread queues.0 ((tells-machine_of s).queues id ∙ queues.1))
-
-    by_entry :
-        (o : Option Entry) → entry id ≡ o
-        → machine_of (record s { store = popped s.store id (option_map (λ e. e.ends) o) })
-        ≡ without_first (machine_of s) id
-    by_entry None is = sym (first_none (machine_of s) ((tells-machine_of s).queues id ∙ ap (queue_in s.next entry) is))
-    by_entry (Some e) is = by_first e is e.ends.first refl
+  -- who waits first waits once
+  pub first_once :
+      (thread : ObjId) (others : List ObjId) → queue_of (machine_of s) id ≡ Some (thread ∷ others) → ¬ (Contains others thread)
+  first_once thread others waited = by_entry (entry id) (sym ((tells-machine_of s).queues id) ∙ waited) where
+    by_entry : (o : Option Entry) → queue_in s.next entry o ≡ Some (thread ∷ others) → ¬ (Contains others thread)
+    by_entry None is there = cc
+    by_entry (Some e) is there =
+        walk_once (λ q. ends_of (entry q)) (λ t. standing_of (entry t)) s.next consistent.queued s.next e.ends.first thread others
+        (same_Some _ _ is) there
 
   waiting_less :
       (m : Machine) (thread : ObjId) (threads : List ObjId) → queue_of m id ≡ Some threads

@@ -10,7 +10,7 @@ use Rattle.base.specs.declared.ids.SlotRef.{SlotRef}
 use Rattle.machine.specs.declared.cap.Cap.{Cap}
 use Rattle.machine.specs.declared.object.Object.{Object}
 use Rattle.machine.specs.declared.object.Object.TheVariants as o
-use Rattle.machine.specs.Changes.{with_waiting, with_word, with_words, without_first, without_object, without_waiting}
+use Rattle.machine.specs.Changes.{with_waiting, with_word, with_words, without_object, without_waiting}
 use Rattle.machine.specs.Counts.{present, objects_in, slots_in, threads_in}
 use Rattle.machine.specs.Machine.{Machine, empty_machine, id_cmp, object_of, queue_of, with_cap, with_new, with_object, words_of}
 use Rattle.machine.specs.Machine.{with_parent, with_queue, without_cap, without_parent}
@@ -145,14 +145,6 @@ counts-with_waiting m id thread = by_queue (queue_of m id) refl where
   by_queue : (o : Option (List ObjId)) → queue_of m id ≡ o → counts_in (with_waiting m id thread) ≡ counts_in m
   by_queue None is = rw is refl
   by_queue (Some threads) is = rw is (counts-with_queue m id _)
-
-pub counts-without_first : (m : Machine) (id : ObjId) → counts_in (without_first m id) ≡ counts_in m
-unfolding without_first
-counts-without_first m id = by_queue (queue_of m id) refl where
-  by_queue : (o : Option (List ObjId)) → queue_of m id ≡ o → counts_in (without_first m id) ≡ counts_in m
-  by_queue None is = rw is refl
-  by_queue (Some []) is = rw is refl
-  by_queue (Some (thread ∷ threads)) is = rw is (counts-with_queue m id threads)
 
 pub counts-without_waiting : (m : Machine) (id thread : ObjId) → counts_in (without_waiting m id thread) ≡ counts_in m
 unfolding without_waiting

@@ -1,20 +1,19 @@
 -- What the entries tell of their links after a thread has come to wait or has left.
 use Rattle.std.proofs.Common.{◌≡◌, ◌≢◌, ℕ, ◌<◌, List, [], ◌∷◌, ◌++◌, refl, sym, ap, subst, ◌∙◌, arith, inl, inr}
 use Rattle.std.specs.Prelude.{Option, Some, None, is_some, IsSome, option_map, Contains, filter, not}
-use Rattle.std.specs.Option.{option_or, option_and}
+use Rattle.std.specs.Option.{option_or}
 use Rattle.std.proofs.lemmas.Bool.{false≢true}
 use Rattle.base.specs.declared.ids.ObjId.{ObjId}
 use Rattle.objects.specs.declared.entry.Entry.{Entry}
 use Rattle.objects.specs.declared.links.Ends.{Ends}
 use Rattle.objects.specs.declared.links.Standing.{Standing}
 use Rattle.objects.specs.Entries.{Entries, entry_of, with_entry, set_ends_in, set_standing_in}
-use Rattle.objects.specs.Links.{ends_of, standing_of, queue_in, AreQueued, with_standing, relinked, pushed, left, end_after, quitting}
+use Rattle.objects.specs.Links.{ends_of, standing_of, queue_in, AreQueued, with_standing, relinked, pushed, end_after, quitting}
 use Rattle.objects.specs.Queues.{walk}
 use Rattle.objects.proofs.EntryLemmas.{entry_of-with_entry}
 use Rattle.objects.proofs.StateLemmas.{present_kept}
 use Rattle.objects.proofs.ChangeLemmas.{changed_here, changed_other, rest}
-use Rattle.objects.proofs.QueueLemmas.{Joins, Leaves, cases_id, walk_none, reaches, joined_queues, joined_here, joined_elsewhere}
-use Rattle.objects.proofs.QueueLemmas.{left_queues, left_here, left_elsewhere}
+use Rattle.objects.proofs.QueueLemmas.{Joins, cases_id, walk_none, reaches, joined_queues, joined_here, joined_elsewhere}
 use Rattle.objects.proofs.Quitting.{Quits, quit_queues, quit_here, quit_elsewhere}
 use Rattle.machine.specs.Machine.{same_id}
 
@@ -260,69 +259,6 @@ module _ (entries : Entries) (numbers : ℕ) (id thread : ObjId)
         ∙ ap Some
         (joined_here _ _ _ _ numbers queued id thread joins known free pushed_requeues.queued
         ∙ ap (λ o. walk standing_old numbers (ends_of o).first ++ thread ∷ []) is)
-
-  -- the first leaves
-
-  module _ (first : e.ends.first ≡ Some thread) where
-    abbrev rest_after : ObjId → Option Entry
-    rest_after = entry_of (left entries id e.ends (Some thread))
-
-    abbrev next : Option ObjId
-    next = (standing_old thread).next
-
-    first_is : (ends_old id).first ≡ Some thread
-    first_is = ap (λ o. (ends_of o).first) is ∙ first
-
-    first_waits : (standing_old thread).at ≡ Some id
-    first_waits = (queued.first_is id thread first_is).0
-
-    pops :
-        Relinks old rest_after next (λ s. record s { previous = None }) thread
-        (record { at = None; previous = None; next = None }) id (record { first = next; last = option_and next e.ends.last })
-    pops =
-        relinks entries next (λ s. record s { previous = None }) thread
-        (record { at = None; previous = None; next = None }) id (record { first = next; last = option_and next e.ends.last })
-        (λ q behind. standing_there old q id (queued.beside thread q behind ∙ first_waits))
-        (standing_there old thread id first_waits) (ap is_some is)
-
-    leaves : Leaves ends_old (λ q. ends_of (rest_after q)) standing_old (λ q. standing_of (rest_after q)) id thread
-    leaves =
-        record {
-          ends_here = pops.ends_here ∙ ap (λ o. record { first = next; last = option_and next (ends_of o).last }) (sym is);
-          ends_other = pops.ends_other;
-          gone = pops.here;
-          behind =
-              λ q behind.
-              pops.beside q
-              (λ same.
-              let later : queued.rank thread < queued.rank q = queued.later thread q behind in
-              let one : queued.rank thread ≡ queued.rank q = ap queued.rank (sym same) in absurd (omega arith))
-              behind;
-          kept = pops.other;
-        }
-
-    pub popped_requeues : Requeues old rest_after numbers id
-    popped_requeues =
-        let after : AreQueued rest_after numbers = left_queues _ _ _ _ numbers queued id thread leaves first_is in
-        record {
-          queued = after;
-          same = pops.same;
-          others =
-              λ q differs.
-              same_queue numbers old rest_after pops.same q
-              (left_elsewhere _ _ _ _ numbers queued id thread leaves first_is after q differs);
-        }
-
-    pub popped_queue :
-        (behind : List ObjId) × (queue_in numbers old (old id) ≡ Some (thread ∷ behind))
-        × (queue_in numbers rest_after (rest_after id) ≡ Some behind)
-    popped_queue =
-        let some : IsSome (old id) = ap is_some is in (
-          walk (λ q. standing_of (rest_after q)) numbers (ends_of (rest_after id)).first,
-          queue_there numbers old (old id) some
-              ∙ ap Some (left_here _ _ _ _ numbers queued id thread leaves first_is popped_requeues.queued),
-          queue_there numbers rest_after (rest_after id) (still_there old rest_after pops.same id some),
-        )
 
   -- any of those that wait leaves
 

@@ -9,7 +9,7 @@ use Rattle.base.specs.declared.ids.ObjId.{ObjId}
 use Rattle.base.specs.declared.ids.SlotRef.{SlotRef}
 use Rattle.machine.specs.declared.cap.Cap.{Cap}
 use Rattle.machine.specs.declared.object.Object.{Object}
-use Rattle.machine.specs.Changes.{with_going, with_none_going, with_waiting, with_word, with_words, without_first, without_object, without_waiting}
+use Rattle.machine.specs.Changes.{with_going, with_none_going, with_waiting, with_word, with_words, without_object, without_waiting}
 use Rattle.machine.specs.Machine.{Machine, cap_of, empty_machine, parent_of, queue_of, same_slot, words_of}
 use Rattle.machine.specs.Machine.{with_cap, with_new, with_object, with_parent, with_queue, without_cap, without_parent}
 use Rattle.machine.specs.Tree.{IsAlone}
@@ -50,14 +50,6 @@ paired-with_waiting m id thread paired = by_queue (queue_of m id) refl where
   by_queue : (o : Option (List ObjId)) → queue_of m id ≡ o → AreFilledOrGoing (with_waiting m id thread)
   by_queue None is = rw is paired
   by_queue (Some threads) is = rw is (paired-with_queue m id _ paired)
-
-pub paired-without_first : (m : Machine) (id : ObjId) → AreFilledOrGoing m → AreFilledOrGoing (without_first m id)
-unfolding without_first
-paired-without_first m id paired = by_queue (queue_of m id) refl where
-  by_queue : (o : Option (List ObjId)) → queue_of m id ≡ o → AreFilledOrGoing (without_first m id)
-  by_queue None is = rw is paired
-  by_queue (Some []) is = rw is paired
-  by_queue (Some (thread ∷ threads)) is = rw is (paired-with_queue m id threads paired)
 
 pub paired-without_waiting : (m : Machine) (id thread : ObjId) → AreFilledOrGoing m → AreFilledOrGoing (without_waiting m id thread)
 unfolding without_waiting

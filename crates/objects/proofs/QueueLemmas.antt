@@ -1,8 +1,8 @@
 -- Links of queues stay links of queues where a thread joins a queue or leaves it, and what the queues then are.
 use Rattle.std.proofs.Common.{◌≡◌, ◌≢◌, ℕ, zero, suc, ◌+◌, ◌<◌, ◌≤◌, ◌⊎◌, inl, inr, [], ◌∷◌, ◌++◌, refl, sym, ap, subst}
 use Rattle.std.proofs.Common.{◌∙◌, arith}
-use Rattle.std.specs.Prelude.{Option, Some, None, Contains, slice_get}
-use Rattle.std.specs.Option.{option_or, option_and}
+use Rattle.std.specs.Prelude.{List, Option, Some, None, Contains, slice_get}
+use Rattle.std.specs.Option.{option_or}
 use Rattle.std.proofs.lemmas.Bool.{cases_eq, cases_lt}
 use Rattle.slab.proofs.SlabLemmas.{Contains-cons, Contains-cons_cases}
 use Rattle.base.specs.declared.ids.ObjId.{ObjId}
@@ -30,14 +30,6 @@ pub record Joins (ends ends' : ObjId → Ends) (standing standing' : ObjId → S
   pub joined : standing' t ≡ record { at = Some q; previous = (ends q).last; next = None }
   pub before : (a : ObjId) → (ends q).last ≡ Some a → standing' a ≡ record (standing a) { next = Some t }
   pub kept : (a : ObjId) → a ≢ t → (ends q).last ≢ Some a → standing' a ≡ standing a
-
--- the thread t, which is the first of the queue q, leaves it
-pub record Leaves (ends ends' : ObjId → Ends) (standing standing' : ObjId → Standing) (q t : ObjId) : Type 0 where
-  pub ends_here : ends' q ≡ record { first = (standing t).next; last = option_and (standing t).next (ends q).last }
-  pub ends_other : (p : ObjId) → p ≢ q → ends' p ≡ ends p
-  pub gone : standing' t ≡ record { at = None; previous = None; next = None }
-  pub behind : (a : ObjId) → (standing t).next ≡ Some a → standing' a ≡ record (standing a) { previous = None }
-  pub kept : (a : ObjId) → a ≢ t → (standing t).next ≢ Some a → standing' a ≡ standing a
 
 pub walk_none : (standing : ObjId → Standing) (most : ℕ) → walk standing most None ≡ []
 walk_none standing zero = refl
@@ -78,6 +70,33 @@ module _ (ends : ObjId → Ends) (standing : ObjId → Standing) (numbers : ℕ)
       (λ b is.
       let later : queues.rank a < queues.rank b = queues.later a b is in
       let more : numbers ≤ suc most + queues.rank a = long a refl in omega arith))
+
+  -- who is on a walk is on it once
+
+  walk_beyond :
+      (t : ObjId) (most : ℕ) (from : Option ObjId) → ((a : ObjId) → from ≡ Some a → queues.rank t < queues.rank a)
+      → ¬ (Contains (walk standing most from) t)
+  walk_beyond t zero from beyond there = absurd (omega (arith, there.1))
+  walk_beyond t (suc most) None beyond there = absurd (omega (arith, there.1))
+  walk_beyond t (suc most) (Some a) beyond there =
+      let less : queues.rank t < queues.rank a = beyond a refl in
+      elim (Contains-cons_cases a t (walk standing most (standing a).next) there) [
+        | inl same ↦ let equal : queues.rank a ≡ queues.rank t = ap queues.rank same in omega arith
+        | inr rest ↦
+            walk_beyond t most (standing a).next
+            (λ b is. let later : queues.rank a < queues.rank b = queues.later a b is in omega arith) rest
+      ]
+
+  pub walk_once :
+      (most : ℕ) (from : Option ObjId) (t : ObjId) (others : List ObjId) → walk standing most from ≡ t ∷ others
+      → ¬ (Contains others t)
+  walk_once zero from t others is there = cc
+  walk_once (suc most) None t others is there = cc
+  walk_once (suc most) (Some a) t others is there =
+      let same : a ≡ t = cc in
+      let rest : walk standing most (standing a).next ≡ others = cc in
+      walk_beyond a most (standing a).next (λ b next. queues.later a b next)
+      (subst (λ k. Contains (walk standing most (standing a).next) k) (sym same) (subst (λ all. Contains all t) (sym rest) there))
 
   first_stands : (q a : ObjId) → (ends q).first ≡ Some a → (standing a).at ≡ Some q
   first_stands q a is = (queues.first_is q a is).0
@@ -469,232 +488,3 @@ module _ (ends ends' : ObjId → Ends) (standing standing' : ObjId → Standing)
       ∙ walk_same ends standing numbers queues standing' p
       (λ a at. next_other a (λ last. let here = (queues.last_is q a last).0 in apart cc)) numbers (ends p).first
       (λ a is. (queues.first_is p a is).0)
-
--- the first thread of a queue leaves it
-
-module _ (ends ends' : ObjId → Ends) (standing standing' : ObjId → Standing) (numbers : ℕ)
-    (queues : AreQueues ends standing numbers) (q t : ObjId) (leaves : Leaves ends ends' standing standing' q t)
-    (first : (ends q).first ≡ Some t) where
-  was_at : (standing t).at ≡ Some q
-  was_at = (queues.first_is q t first).0
-
-  was_first : (standing t).previous ≡ None
-  was_first = (queues.first_is q t first).1
-
-  gone_at : (standing' t).at ≡ None
-  gone_at = ap (λ s. s.at) leaves.gone
-
-  gone_next : (standing' t).next ≡ None
-  gone_next = ap (λ s. s.next) leaves.gone
-
-  others : (a : ObjId) → a ≢ t → ((standing' a).at ≡ (standing a).at) × ((standing' a).next ≡ (standing a).next)
-  others a apart =
-      elim (cases_some (standing t).next a) [
-        | inl next ↦ (ap (λ s. s.at) (leaves.behind a next), ap (λ s. s.next) (leaves.behind a next))
-        | inr other ↦ (ap (λ s. s.at) (leaves.kept a apart other), ap (λ s. s.next) (leaves.kept a apart other))
-      ]
-
-  now_first : (a : ObjId) → (standing t).next ≡ Some a → (standing' a).previous ≡ None
-  now_first a next = ap (λ s. s.previous) (leaves.behind a next)
-
-  behind_others : (a : ObjId) → (standing t).next ≢ Some a → (standing' a).previous ≡ (standing a).previous
-  behind_others a other =
-      elim (cases_id a t) [
-        | inl same ↦
-            let none = was_first in
-            let now : (standing' t).previous ≡ None = ap (λ s. s.previous) leaves.gone in cc
-        | inr apart ↦ ap (λ s. s.previous) (leaves.kept a apart other)
-      ]
-
-  stays_at : (a p : ObjId) → (standing' a).at ≡ Some p → (a ≢ t) × ((standing a).at ≡ Some p)
-  stays_at a p is =
-      let apart : a ≢ t = λ same. (let none = gone_at in cc) in (apart, sym (others a apart).0 ∙ is)
-
-  stays_next : (a b : ObjId) → (standing' a).next ≡ Some b → (a ≢ t) × ((standing a).next ≡ Some b)
-  stays_next a b is =
-      let apart : a ≢ t = λ same. (let none = gone_next in cc) in (apart, sym (others a apart).1 ∙ is)
-
-  never_next : (a b : ObjId) → (standing a).next ≡ Some b → b ≢ t
-  never_next a b is same = let back = queues.onward a b is in let none = was_first in cc
-
-  left_beside : (a b : ObjId) → (standing' a).next ≡ Some b → (standing' b).at ≡ (standing' a).at
-  left_beside a b is =
-      let was = stays_next a b is in
-      (others b (never_next a b was.1)).0 ∙ queues.beside a b was.1 ∙ sym (others a was.0).0
-
-  left_onward : (a b : ObjId) → (standing' a).next ≡ Some b → (standing' b).previous ≡ Some a
-  left_onward a b is =
-      let was = stays_next a b is in
-      let back = queues.onward a b was.1 in
-      behind_others b (λ next. let here = queues.onward t b next in was.0 cc) ∙ back
-
-  left_back : (a b : ObjId) → (standing' b).previous ≡ Some a → (standing' a).next ≡ Some b
-  left_back a b is =
-      let other : (standing t).next ≢ Some b = λ next. (let none = now_first b next in cc) in
-      let next : (standing a).next ≡ Some b = queues.back a b (sym (behind_others b other) ∙ is) in
-      (others a (λ same. other (ap (λ c. (standing c).next) (sym same) ∙ next))).1 ∙ next
-
-  first_left : (ends' q).first ≡ (standing t).next
-  first_left = ap (λ e. e.first) leaves.ends_here
-
-  last_left : (ends' q).last ≡ option_and (standing t).next (ends q).last
-  last_left = ap (λ e. e.last) leaves.ends_here
-
-  left_first_is : (p a : ObjId) → (ends' p).first ≡ Some a → ((standing' a).at ≡ Some p) × ((standing' a).previous ≡ None)
-  left_first_is p a is =
-      elim (cases_id p q) [
-        | inl queue ↦
-            let next : (standing t).next ≡ Some a = sym first_left ∙ ap (λ r. (ends' r).first) (sym queue) ∙ is in
-            ((others a (never_next t a next)).0 ∙ queues.beside t a next ∙ was_at ∙ ap Some (sym queue), now_first a next)
-        | inr other ↦
-            let was = queues.first_is p a (ap (λ e. e.first) (sym (leaves.ends_other p other)) ∙ is) in (
-              (others a (λ same. let here = was_at in let at = was.0 in other cc)).0 ∙ was.0,
-              behind_others a (λ next. let back = queues.onward t a next in let none = was.1 in cc) ∙ was.1,
-            )
-      ]
-
-  left_is_first : (p a : ObjId) → (standing' a).at ≡ Some p → (standing' a).previous ≡ None → (ends' p).first ≡ Some a
-  left_is_first p a at previous =
-      let was = stays_at a p at in
-      elim (cases_some (standing t).next a) [
-        | inl next ↦
-            let beside = queues.beside t a next in
-            let here = was_at in
-            let there = was.1 in
-            let queue : p ≡ q = cc in ap (λ r. (ends' r).first) queue ∙ first_left ∙ next
-        | inr other ↦
-            let is : (ends p).first ≡ Some a = queues.is_first p a was.1 (sym (behind_others a other) ∙ previous) in
-            ap (λ e. e.first) (leaves.ends_other p (λ queue. was.0 cc)) ∙ is
-      ]
-
-  left_last_is : (p a : ObjId) → (ends' p).last ≡ Some a → ((standing' a).at ≡ Some p) × ((standing' a).next ≡ None)
-  left_last_is p a is =
-      elim (cases_id p q) [
-        | inl queue ↦
-            by_next queue (standing t).next refl (sym last_left ∙ ap (λ r. (ends' r).last) (sym queue) ∙ is)
-        | inr other ↦
-            let was = queues.last_is p a (ap (λ e. e.last) (sym (leaves.ends_other p other)) ∙ is) in
-            let kept = others a (λ same. let here = was_at in let at = was.0 in other cc) in (kept.0 ∙ was.0, kept.1 ∙ was.1)
-      ]
-    where
-      by_next :
-          p ≡ q → (o : Option ObjId) → (standing t).next ≡ o → option_and (standing t).next (ends q).last ≡ Some a
-          → ((standing' a).at ≡ Some p) × ((standing' a).next ≡ None)
-      by_next queue None none is = let clash : None ≡ Some a = ap (λ o. option_and o (ends q).last) (sym none) ∙ is in cc
-      by_next queue (Some b) some is =
-          let was = queues.last_is q a (ap (λ o. option_and o (ends q).last) (sym some) ∙ is) in
-          let next = was.1 in
-          let kept = others a (λ same. cc) in (kept.0 ∙ was.0 ∙ ap Some (sym queue), kept.1 ∙ was.1)
-
-  left_is_last : (p a : ObjId) → (standing' a).at ≡ Some p → (standing' a).next ≡ None → (ends' p).last ≡ Some a
-  left_is_last p a at next =
-      let was = stays_at a p at in
-      let last : (ends p).last ≡ Some a = queues.is_last p a was.1 (sym (others a was.0).1 ∙ next) in
-      elim (cases_id p q) [
-        | inl queue ↦
-            ap (λ r. (ends' r).last) queue ∙ last_left
-            ∙ by_next was.0 (ap (λ r. (ends r).last) (sym queue) ∙ last) (standing t).next refl
-        | inr other ↦ ap (λ e. e.last) (leaves.ends_other p other) ∙ last
-      ]
-    where
-      by_next :
-          a ≢ t → (ends q).last ≡ Some a → (o : Option ObjId) → (standing t).next ≡ o
-          → option_and (standing t).next (ends q).last ≡ Some a
-      by_next apart last None none = let only = queues.is_last q t was_at none in absurd (apart cc)
-      by_next apart last (Some b) some = ap (λ o. option_and o (ends q).last) some ∙ last
-
-  left_no_first : (p : ObjId) → (ends' p).first ≡ None → (ends' p).last ≡ None
-  left_no_first p is =
-      elim (cases_id p q) [
-        | inl queue ↦
-            ap (λ r. (ends' r).last) queue ∙ last_left
-            ∙ ap (λ o. option_and o (ends q).last) (sym first_left ∙ ap (λ r. (ends' r).first) (sym queue) ∙ is)
-        | inr other ↦
-            let kept = leaves.ends_other p other in
-            ap (λ e. e.last) kept ∙ queues.no_first p (ap (λ e. e.first) (sym kept) ∙ is)
-      ]
-
-  left_no_last : (p : ObjId) → (ends' p).last ≡ None → (ends' p).first ≡ None
-  left_no_last p is =
-      elim (cases_id p q) [
-        | inl queue ↦
-            ap (λ r. (ends' r).first) queue ∙ first_left
-            ∙ by_next (standing t).next refl (sym last_left ∙ ap (λ r. (ends' r).last) (sym queue) ∙ is)
-        | inr other ↦
-            let kept = leaves.ends_other p other in
-            ap (λ e. e.first) kept ∙ queues.no_last p (ap (λ e. e.last) (sym kept) ∙ is)
-      ]
-    where
-      by_next :
-          (o : Option ObjId) → (standing t).next ≡ o → option_and (standing t).next (ends q).last ≡ None → (standing t).next ≡ None
-      by_next None none is = none
-      by_next (Some b) some is =
-          let none : (ends q).first ≡ None = queues.no_last q (ap (λ o. option_and o (ends q).last) (sym some) ∙ is) in cc
-
-  left_nowhere : (a : ObjId) → (standing' a).at ≡ None → ((standing' a).previous ≡ None) × ((standing' a).next ≡ None)
-  left_nowhere a is =
-      elim (cases_id a t) [
-        | inl same ↦ (
-          ap (λ b. (standing' b).previous) same ∙ ap (λ s. s.previous) leaves.gone,
-          ap (λ b. (standing' b).next) same ∙ gone_next,
-        )
-        | inr apart ↦
-            let kept = others a apart in
-            let was = queues.nowhere a (sym kept.0 ∙ is) in
-            (behind_others a (λ next. let back = queues.onward t a next in let none = was.0 in cc) ∙ was.0, kept.1 ∙ was.1)
-      ]
-
-  pub left_queues : AreQueues ends' standing' numbers
-  left_queues =
-      record {
-        rank = queues.rank;
-        one_each = queues.one_each;
-        ranked = queues.ranked;
-        unranked = queues.unranked;
-        known = λ a p is. queues.known a p (stays_at a p is).1;
-        later = λ a b is. queues.later a b (stays_next a b is).1;
-        beside = left_beside;
-        onward = left_onward;
-        back = left_back;
-        first_is = left_first_is;
-        is_first = left_is_first;
-        last_is = left_last_is;
-        is_last = left_is_last;
-        no_first = left_no_first;
-        no_last = left_no_last;
-        nowhere = left_nowhere;
-      }
-
-  -- what the queues then are
-
-  as_linked :
-      AreQueues ends' standing' numbers → (p : ObjId) (most : ℕ) (from : Option ObjId)
-      → ((a : ObjId) → from ≡ Some a → (standing' a).at ≡ Some p) → walk standing most from ≡ walk standing' most from
-  as_linked queues' p =
-      walk_same ends' standing' numbers queues' standing p (λ a at. sym (others a (stays_at a p at).0).1)
-
-  pub left_here :
-      AreQueues ends' standing' numbers
-      → walk standing numbers (ends q).first ≡ t ∷ walk standing' numbers (ends' q).first
-  left_here queues' =
-      ap (walk standing numbers) first
-      ∙ by_numbers numbers refl
-      ∙ ap (λ rest. t ∷ rest)
-      (ap (walk standing numbers) (sym first_left)
-      ∙ as_linked queues' q numbers (ends' q).first (λ a is. (queues'.first_is q a is).0))
-    where
-      by_numbers : (n : ℕ) → n ≡ numbers → walk standing n (Some t) ≡ t ∷ walk standing n (standing t).next
-      by_numbers zero same =
-          let low : queues.rank t < numbers = queues.ranked t (queues.known t q was_at) in absurd (omega arith)
-      by_numbers (suc n) same =
-          ap (λ rest. t ∷ rest)
-          (sym
-          (walk_ends ends standing numbers queues q n (standing t).next (λ a is. queues.beside t a is ∙ was_at)
-          (λ a is. let later : queues.rank t < queues.rank a = queues.later t a is in omega arith)))
-
-  pub left_elsewhere :
-      AreQueues ends' standing' numbers → (p : ObjId) → p ≢ q
-      → walk standing' numbers (ends' p).first ≡ walk standing numbers (ends p).first
-  left_elsewhere queues' p apart =
-      sym (as_linked queues' p numbers (ends' p).first (λ a is. (queues'.first_is p a is).0))
-      ∙ ap (λ e. walk standing numbers e.first) (leaves.ends_other p apart)

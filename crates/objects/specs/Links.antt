@@ -1,6 +1,6 @@
 -- The links that the entries of objects have, and what the entries are after a thread has come to wait or has left (confine's own).
 use Rattle.std.specs.Prelude.{ℕ, List, Option, Some, None, option_map}
-use Rattle.std.specs.Option.{option_or, option_and}
+use Rattle.std.specs.Option.{option_or}
 use Rattle.base.specs.declared.ids.ObjId.{ObjId}
 use Rattle.objects.specs.declared.entry.Entry.{Entry}
 use Rattle.objects.specs.declared.links.Ends.{Ends}
@@ -47,18 +47,6 @@ pushed entries id thread (Some ends) =
     relinked entries ends.last (λ s. record s { next = Some thread }) thread
     (record { at = Some id; previous = ends.last; next = None }) id
     (record { first = option_or ends.first (Some thread); last = Some thread })
-
--- the first thread, if there is one, leaves a queue that has these ends
-abbrev pub left : Entries → ObjId → Ends → Option ObjId → Entries
-left entries id ends None = entries
-left entries id ends (Some first) =
-    let next : Option ObjId = (standing_of (entry_of entries first)).next in
-    relinked entries next (λ s. record s { previous = None }) first (record { at = None; previous = None; next = None }) id
-    (record { first = next; last = option_and next ends.last })
-
-abbrev pub popped : Entries → ObjId → Option Ends → Entries
-popped entries id None = entries
-popped entries id (Some ends) = left entries id ends ends.first
 
 -- an end of a queue that a thread has left, by its neighbour towards that end, the other one, and what the end was
 abbrev pub end_after : Option ObjId → Option ObjId → Option ObjId → Option ObjId

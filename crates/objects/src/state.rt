@@ -431,7 +431,9 @@ impl State {
         ensures value { result ≡ first_waiting self.old id }
         ensures rest { self.new ≡ without_first self.old id }
     {
-        self.store.pop(id)
+        let first = self.store.first(id)?;
+        self.take_waiting(id, first);
+        Some(first)
     }
 
     /// Takes a thread out of those that wait at the object. The others stay in their order.

@@ -49,7 +49,7 @@ impl Store {
     ghost use Rattle.objects.specs.Entries.{new_entry, with_more, set_ends_in, set_standing_in, set_word_in, set_caps_in};
     ghost use Rattle.objects.specs.Entries.{caps_in};
     ghost use Rattle.objects.specs.Family.{after, cap_in, parent_in, links_at, with_slot, with_links, attached, leaving, detached};
-    ghost use Rattle.objects.specs.Links.{standing_of, with_standing, pushed, popped, quitted};
+    ghost use Rattle.objects.specs.Links.{standing_of, with_standing, pushed, quitted};
     ghost use Rattle.objects.specs.Radices.{HasRadix};
     ghost use Rattle.base.specs.declared.limits.TheConstants.{OBJECT_NUMBERS};
     ghost use Rattle.std.specs.Prelude.{◌+◌, ◌≤◌, length, map, slice_get};
@@ -316,25 +316,6 @@ impl Store {
             self.set_standing(thread, standing);
             self.set_ends(id, ends);
         }
-    }
-
-    /// Takes the first thread of the object's queue.
-    pub fn pop(&mut self, id: ObjId) -> Option<ObjId>
-        ensures value { result ≡ option_and_then (λ entry. entry.ends.first) (entry_of self.old id) }
-        ensures rest { self.new
-            ≡ popped self.old id (option_map (λ entry. entry.ends) (entry_of self.old id)) }
-    {
-        let ends = self.ends(id)?;
-        let first = ends.first?;
-        let next = self.standing(first).next;
-        let rest = Ends {
-            first: next,
-            last: next.and(ends.last),
-        };
-        self.set_previous(next, None);
-        self.set_standing(first, Standing::NOWHERE);
-        self.set_ends(id, rest);
-        Some(first)
     }
 
     /// Takes a thread out of the object's queue, if the object is present. Its neighbours come

@@ -60,7 +60,7 @@ fn wait_at(state: &mut State, thread: ObjId, id: ObjId, run: RunState)
 
 /// Takes the first of the threads that wait at an object, and says which it was. The others stay in
 /// their order.
-#[tactic(auto, using(crate::proofs::Waiting::nobody_leaves))]
+#[tactic(auto, using(machine::proofs::Queues::nobody_leaves))]
 pub fn pop_first(state: &mut State, id: ObjId) -> Option<ObjId>
     ensures first { result ≡ first_waiting state.old id }
     ensures rest { state.new ≡ without_first state.old id }

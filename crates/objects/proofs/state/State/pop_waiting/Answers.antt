@@ -1,23 +1,45 @@
-use Rattle.std.proofs.Common.{refl, sym}
-use Rattle.objects.proofs.ConsistentLemmas.{IsConsistent-popped, first_waiting-machine_of, pop_gives}
-use Rattle.objects.proofs.CountLemmas.{counts-without_first}
-use Rattle.machine.proofs.CapCounts.{caps_to-without_first}
-use Rattle.objects.proofs.CapsKept.{caps-popped}
-use Rattle.objects.proofs.CountedStates.{sound_after}
-use Rattle.objects.proofs.PairLemmas.{paired-without_first}
+-- Who waits first waits once, so that it leaves as any other that waits.
+use Rattle.std.proofs.Common.{◌≡◌, ◌∷◌, sym, ap, ◌∙◌}
+use Rattle.machine.specs.Changes.{first_waiting}
+use Rattle.machine.specs.Machine.{Machine, queue_of}
+use Rattle.machine.proofs.Leaving.{first_leaves}
+use Rattle.machine.proofs.Queues.{first_in, nobody_leaves, queue_by_first}
+use Rattle.objects.proofs.ConsistentLemmas.{first_once, first_waiting-machine_of}
 use Rattle.objects.proofs.state.State.pop_waiting.Goals as goal
 
-pub invariant_of-self : goal.invariant_of-self
-invariant_of-self c = rw c.pop.ensures.rest
-    (sound_after c.self.inside _ c.self.invariant (IsConsistent-popped c.self.inside c.self.invariant.consistent c.args.id) refl refl refl
-    (caps-popped c.self.inside.store c.args.id _) _
-    (pop_gives c.self.inside c.self.invariant.consistent c.args.id) (counts-without_first _ c.args.id)
-    (caps_to-without_first _ c.args.id)
-    (paired-without_first _ c.args.id c.self.invariant.paired))
+pub returns-in_err-first-clause-value : goal.returns-in_err-first-clause-value
+returns-in_err-first-clause-value c =
+    let seen : c.first.result ≡ first_waiting c.args.self.now c.args.id =
+    rw (c.first.ensures, ← c.self.view_is) (sym (first_waiting-machine_of c.self.inside c.self.invariant.consistent c.args.id)) in
+    let none = c.in_err-first.was in
+    let answer = c.from_residual.ensures in
+    cc
+
+pub returns-in_err-first-clause-rest : goal.returns-in_err-first-clause-rest
+returns-in_err-first-clause-rest c =
+    let seen : c.first.result ≡ first_waiting c.args.self.now c.args.id =
+    rw (c.first.ensures, ← c.self.view_is) (sym (first_waiting-machine_of c.self.inside c.self.invariant.consistent c.args.id)) in
+    sym (nobody_leaves c.args.self.now c.args.id (sym seen ∙ c.in_err-first.was))
+
+pub take_waiting-requires : goal.take_waiting-requires
+take_waiting-requires c =
+    let first = c.in_ok-first.first in
+    let seen : c.first.result ≡ first_waiting c.args.self.now c.args.id =
+    rw (c.first.ensures, ← c.self.view_is) (sym (first_waiting-machine_of c.self.inside c.self.invariant.consistent c.args.id)) in
+    let w = queue_by_first c.args.self.now c.args.id first (sym seen ∙ c.in_ok-first.was) in (first ∷ w.0, w.1, first_in first w.0)
 
 pub returns-clause-value : goal.returns-clause-value
 returns-clause-value c =
-    rw (c.pop.ensures.value, ← c.self.view_is) (sym (first_waiting-machine_of c.self.inside c.self.invariant.consistent c.args.id))
+    let seen : c.first.result ≡ first_waiting c.args.self.now c.args.id =
+    rw (c.first.ensures, ← c.self.view_is) (sym (first_waiting-machine_of c.self.inside c.self.invariant.consistent c.args.id)) in
+    sym c.in_ok-first.was ∙ seen
 
 pub returns-clause-rest : goal.returns-clause-rest
-returns-clause-rest c = rw (c.pop.ensures.rest, ← c.self.view_is) (pop_gives c.self.inside c.self.invariant.consistent c.args.id)
+returns-clause-rest c =
+    let first = c.in_ok-first.first in
+    let seen : c.first.result ≡ first_waiting c.args.self.now c.args.id =
+    rw (c.first.ensures, ← c.self.view_is) (sym (first_waiting-machine_of c.self.inside c.self.invariant.consistent c.args.id)) in
+    let w = queue_by_first c.args.self.now c.args.id first (sym seen ∙ c.in_ok-first.was) in
+    c.take_waiting.ensures
+    ∙ first_leaves c.args.self.now c.args.id first w.0 w.1
+    (first_once c.self.inside c.self.invariant.consistent c.args.id first w.0 (ap (λ (m : Machine). queue_of m c.args.id) c.self.view_is ∙ w.1))
