@@ -1,5 +1,5 @@
-//! Commands whose devices fail, checks by several workers, and verdicts against those of a plain scan: what no
-//! text can say, so that it isn't among the `cases`; and words to a person. Tests alone.
+//! Commands whose devices fail, and checks by several workers: what no text can say, so that it isn't among
+//! the `cases`; and words to a person. Tests alone.
 #![tactic(auto)]
 
 #[cfg(test)]
@@ -8,8 +8,6 @@ mod ends;
 mod failing;
 #[cfg(test)]
 mod gate;
-#[cfg(test)]
-mod scan;
 #[cfg(test)]
 mod sentences;
 #[cfg(test)]
