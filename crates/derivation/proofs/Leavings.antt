@@ -60,19 +60,6 @@ module _ (m : Machine) (slot : SlotRef) (leaf : (child : SlotRef) → parent_of 
   parent_stays q None at = no_ancestor
   parent_stays q (Some parent) at = survives (apart_slots parent slot (λ same. leaf q (at ∙ ap Some same)))
 
-  pub leaf_left : HaveLeft m (without_parent m slot) (λ q. same_slot q slot)
-  unfolding without_parent
-  leaf_left =
-      record {
-        rest = refl;
-        out = λ q is. parent_of-without_parent m slot q ∙ ap (λ tie. cond tie None (parent_of m q)) is;
-        up =
-            λ q is.
-            subst (λ (to : Option SlotRef). Nearest (parent_of m) (λ s. same_slot s slot) (parent_of m q) to)
-            (sym (parent_of-without_parent m slot q ∙ ap (λ tie. cond tie None (parent_of m q)) is))
-            (parent_stays q (parent_of m q) refl);
-      }
-
 -- none leaves
 at_once : (parent : SlotRef → Option SlotRef) (to : Option SlotRef) → Nearest parent (λ _. false) to to
 at_once parent None = no_ancestor
@@ -226,7 +213,3 @@ module _ (old new : Machine) (raised : SlotRef → Type 0) (up : AreRaised old n
             parent_found old (is_empty old) child
             (subst (λ (to : Option SlotRef). Nearest (parent_of old) (is_empty old) (parent_of old child) to) at (up.up child is)) refl
       ]
-
-  pub alone_where_raised : (slot : SlotRef) → IsAlone old slot → IsAlone new slot
-  alone_where_raised slot alone =
-      still_alone old new slot alone (root_where_raised slot) (λ child at. parent_where_raised child slot at)

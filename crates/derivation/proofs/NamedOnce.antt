@@ -95,8 +95,3 @@ pub named_once : (m : Machine) (above : SlotRef) (slots : List SlotRef) → AreN
 named_once m above slots named =
     let all = are_behind m above named in
     record { each = λ q. (λ there. ((all.each q).0 there).0, λ below. (all.each q).1 (below, tt)); once = all.once }
-
--- what descends has a parent
-pub has_parent : (m : Machine) {slot above : SlotRef} → Descends m slot above → (parent : SlotRef) × (parent_of m slot ≡ Some parent)
-has_parent m (child {slot} {parent} is) = (parent, is)
-has_parent m (further {slot} {parent} {above} is rest) = (parent, is)

@@ -27,10 +27,6 @@ module _ (m : Machine) (gone : SlotRef → Bool) (now : Machine) (thin : IsThinn
   descends_at_first (child {slot} {parent} at) = thin.joins slot parent at
   descends_at_first (further {slot} {parent} at rest) = further_on m (thin.joins slot parent at) (descends_at_first rest)
 
-  -- so no slot descends from itself
-  pub acyclic_now : ((slot : SlotRef) → ¬ (Descends m slot slot)) → (slot : SlotRef) → ¬ (Descends now slot slot)
-  acyclic_now acyclic slot below = acyclic slot (descends_at_first below)
-
   -- where each slot has the parent that it had
   pub thinned_alike : (next : Machine) → ((q : SlotRef) → parent_of next q ≡ parent_of now q) → IsThinned m gone next
   thinned_alike next same =
@@ -76,19 +72,6 @@ module _ (m : Machine) (gone : SlotRef → Bool) (now : Machine) (thin : IsThinn
   -- one that goes leaves
   going_itself : (slot : SlotRef) → gone slot ≡ true → (q : SlotRef) → same_slot q slot ≡ true → gone q ≡ true
   going_itself slot goes q same = ap gone (one_slot q slot same) ∙ goes
-
-  pub thinned_by_node :
-      ((slot : SlotRef) → ¬ (Descends m slot slot)) → (next : Machine) (slot : SlotRef) → gone slot ≡ true
-      → HasParents now next (parent_without now slot) → IsThinned m gone next
-  thinned_by_node acyclic next slot goes has =
-      thinned_where_left next (λ q. same_slot q slot)
-      (node_left now next slot (λ at. acyclic slot (thin.joins slot slot at)) has) (going_itself slot goes)
-
-  pub thinned_by_leaf :
-      (slot : SlotRef) → gone slot ≡ true → ((low : SlotRef) → parent_of now low ≢ Some slot)
-      → IsThinned m gone (without_parent now slot)
-  thinned_by_leaf slot goes leaf =
-      thinned_where_left (without_parent now slot) (λ q. same_slot q slot) (leaf_left now slot leaf) (going_itself slot goes)
 
   -- once all that go are alone, each slot has the parent that the removal gives it
   module _ (acyclic : (slot : SlotRef) → ¬ (Descends m slot slot)) (alone : (slot : SlotRef) → gone slot ≡ true → IsAlone now slot) where

@@ -246,17 +246,7 @@ reached_nobody m =
 -- each change keeps the links agreed
 
 module _ (m : Machine) (links : LinksAgree m) (thread : ObjId) (tcb : Tcb) (there : IsThread m thread tcb) where
-  pub links_halted : LinksAgree (with_halted m thread)
-  links_halted =
-      links_reached m (with_halted m thread) (and_halted nobody thread)
-      (halted_step m m nobody (reached_nobody m) links thread tcb there) links
-
   pub links_aborted : LinksAgree (with_aborted m thread)
   links_aborted =
       links_reached m (with_aborted m thread) (and_aborted nobody thread)
       (aborted_step m m nobody (reached_nobody m) links thread tcb there refl) links
-
-  pub links_unbound : LinksAgree (with_unbound m thread)
-  links_unbound =
-      links_reached m (with_unbound m thread) (and_unbound nobody thread)
-      (unbound_step m m nobody (reached_nobody m) links thread tcb there) links

@@ -166,16 +166,6 @@ module _ (old : Machine) (links : LinksAgree old) where
     by_object (Some (o.Control own)) e =
         other (λ holding is. let same : Some (o.Control own) ≡ Some (o.Reply holding) = sym e ∙ is in cc)
 
-  pub none_cut : (going : List ObjId) (now : Machine) → HoldersHalted old going now → LinksCut old going [] now
-  none_cut going now h =
-      record {
-        done = h.done;
-        follows = h.follows;
-        within = h.within;
-        replies = h.all;
-        all = λ id e. absurd (false≢true e);
-      }
-
   pub one_cut :
       (going first : List ObjId) (now : Machine) (x : ObjId) → among going x ≡ true → LinksCut old going first now
       → LinksCut old going (first ++ x ∷ []) (with_links_cut now x)

@@ -61,20 +61,6 @@ empty_forest links parent first next previous =
       rooted = λ b root. previous b;
     }
 
-pub same_forest :
-    {K : Type 0} (old new : Links K) → IsForest old → ((q : K) → new.parent q ≡ old.parent q)
-    → ((q : K) → new.first q ≡ old.first q) → ((q : K) → new.next q ≡ old.next q)
-    → ((q : K) → new.previous q ≡ old.previous q) → IsForest new
-same_forest old new forest parent first next previous =
-    let same : new ≡ old =
-    λ i. record {
-      parent = λ q. parent q i;
-      first = λ q. first q i;
-      next = λ q. next q i;
-      previous = λ q. previous q i;
-    }
-    in subst IsForest (sym same) forest
-
 -- a root comes under a parent
 
 module _ {K : Type 0} (decide : (x y : K) → (x ≡ y) ⊎ (x ≢ y)) (old new : Links K) (c p : K)

@@ -91,14 +91,6 @@ module _ (test : EdgeTest) (step : Step) (goals : Labels) (from : ℕ) (one othe
 module _ (test : EdgeTest) where
   -- walks of no step
 
-  pub no_steps : (steps : List Step) → length steps ≡ 0 → (from to : ℕ) (b : Bool) → b ≡ (from == to)
-      → (b ≡ true) ↔ ((edges : List Edge) × IsWalk test steps from to edges)
-  no_steps [] none from to b is = ((λ so. ([], eqb-true from to (sym is ∙ so))), back) where
-    back : ((edges : List Edge) × IsWalk test [] from to edges) → b ≡ true
-    back ([], same) = is ∙ eq-eqb from to same
-    back (edge ∷ edges, walk) = absurd walk
-  no_steps (step ∷ steps) none from to b is = absurd (omega (arith, none))
-
   pub stays_put : (steps : List Step) → length steps ≡ 0 → (from to : ℕ) → from ≡ to → IsLeast reason_place (IsWalk test steps from to) []
   stays_put [] none from to same = only_least reason_place (IsWalk test [] from to) [] same only where
     only : (other : List Edge) → IsWalk test [] from to other → other ≡ []

@@ -22,9 +22,6 @@ pub record Cascades (first now : Machine) (looked : ℕ) : Type 0 where
   pub empty : (slot : SlotRef) → cap_of first slot ≡ None → cap_of now slot ≡ None
   pub way : (m : Machine) (chosen : SlotRef → Bool) → IsUnderWay m chosen first 0 → IsUnderWay m chosen now looked
 
-pub cascade_begun : (m : Machine) → AreGoing m → Cascades m m 0
-cascade_begun m going = record { going = going; rest = refl; empty = λ slot none. none; way = λ before chosen way. way }
-
 pub cascade_more :
     (first now : Machine) (looked : ℕ) (id : ObjId) → Cascades first now looked → slice_get now.going looked ≡ Some id
     → ((slot : SlotRef) → slot.holder ≡ id → cap_of (emptied_below now id (slots_at now id)) slot ≡ None)

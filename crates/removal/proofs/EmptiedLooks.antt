@@ -13,19 +13,6 @@ use Rattle.removal.specs.UnderWay.{emptied}
 use Rattle.removal.proofs.Emptying.{cap_of-with_going, cap_of-without_cap}
 
 module _ (m : Machine) (slot : SlotRef) where
-  pub cap_of-emptied : (q : SlotRef) → cap_of (emptied m slot) q ≡ cond (same_slot q slot) None (cap_of m q)
-  unfolding emptied
-  cap_of-emptied q = by_cap (cap_of m slot) refl where
-    by_count :
-        (id : ObjId) (b : Bool)
-        → cap_of (cond b (with_going (without_cap m slot) id) (without_cap m slot)) q ≡ cond (same_slot q slot) None (cap_of m q)
-    by_count id true = cap_of-with_going (without_cap m slot) id q ∙ cap_of-without_cap m slot q
-    by_count id false = cap_of-without_cap m slot q
-
-    by_cap : (found : Option Cap) → cap_of m slot ≡ found → cap_of (emptied m slot) q ≡ cond (same_slot q slot) None (cap_of m q)
-    by_cap None is = rw is (ap (λ (n : Machine). cap_of n q) (sym (without_nothing m slot is)) ∙ cap_of-without_cap m slot q)
-    by_cap (Some held) is = rw is (by_count held.object (caps_to (without_cap m slot) held.object == 0))
-
   pub rest-emptied : emptied m slot ≡ record m { caps = (emptied m slot).caps; going = (emptied m slot).going }
   unfolding emptied with_going without_cap
   rest-emptied = by_cap (cap_of m slot) refl where

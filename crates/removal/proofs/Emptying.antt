@@ -36,18 +36,6 @@ pub cap_of-with_going : (m : Machine) (id : ObjId) (q : SlotRef) → cap_of (wit
 unfolding cap_of with_going
 cap_of-with_going m id q = refl
 
-pub caps_to-with_going : (m : Machine) (id q : ObjId) → caps_to (with_going m id) q ≡ caps_to m q
-unfolding caps_to with_going
-caps_to-with_going m id q = refl
-
-pub going-with_going : (m : Machine) (id : ObjId) → (with_going m id).going ≡ m.going ++ id ∷ []
-unfolding with_going
-going-with_going m id = refl
-
-pub going-without_cap : (m : Machine) (slot : SlotRef) → (without_cap m slot).going ≡ m.going
-unfolding without_cap
-going-without_cap m slot = refl
-
 pub get_front : {A : Type 0} → (front behind : List A) (k : ℕ) → k < length front → slice_get (front ++ behind) k ≡ slice_get front k
 get_front [] behind k less = absurd (omega (arith, less))
 get_front (x ∷ front) behind zero less = refl

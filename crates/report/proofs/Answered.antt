@@ -29,15 +29,6 @@ lacking view lacks loaded asked is (whole t edges y) gives = rw gives.0 is
 lacking view lacks loaded asked is (faulty file fault) gives = absurd gives
 lacking view lacks loaded asked is unknown gives = (loaded.table, is)
 
--- the same, where there is no answer for it
-pub lacking_at : {A X Y : Type 0} (view : X → Y) (lacks : Layout → Option Asked) (loaded : Loaded X) (answer : Result A Unanswered)
-    → IfUnlabelled answer (λ asked. lacks loaded.table ≡ Some asked)
-    → IfUnlabelled answer (λ asked. (contents : Contents Y) → Gives view contents (Ok loaded) → IsUnlabelled lacks contents asked)
-lacking_at view lacks loaded (Ok a) is = tt
-lacking_at view lacks loaded (Err unanswered.NoMemory) is = tt
-lacking_at view lacks loaded (Err (unanswered.CannotRead file)) is = tt
-lacking_at view lacks loaded (Err (unanswered.NoLabel asked)) is = lacking view lacks loaded asked is
-
 -- the label that is told is one that the table lacks
 pub unlabelled : {X Y : Type 0} (view : X → Y) (lacks : Layout → Option Asked) (loaded : Result (Loaded X) Stop) (end : End)
     (answer : Result Answer Unanswered) (contents : Contents Y) → Gives view contents loaded

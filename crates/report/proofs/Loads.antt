@@ -37,33 +37,9 @@ stopped view seen file known read next (stop.CannotRead which) of is = unread_gi
 stopped view seen file None read next (stop.Faulty which told) of is = tt
 stopped view seen file (Some bytes) read next (stop.Faulty which told) of is = fault_gives view file which told (read bytes) next of is
 
--- this file was loaded, and what comes after it gives the rest
-continued : {X Y Z V : Type 0} (view : X → Y) (seen : V → Z) (file : File) (known : Option (List ℕ)) (read : List ℕ → Result Z Fault) (next : Z → Contents Y) (v : V) (loaded : Result (Loaded X) Stop)
-    → IfSome known (λ bytes. LoadsAs seen (Ok v) (read bytes)) → Gives view (next (seen v)) loaded → Gives view (read_then file known read next) loaded
-continued view seen file None read next v loaded is rest = tt
-continued view seen file (Some bytes) read next v loaded is rest = rw is rest
-
 module _ {X Y : Type 0} (view : X → Y) (name : File) (read : Layout → List ℕ → Result Y Fault) (table policy third : Option (List ℕ)) (t : Layout) where
   abbrev from_third : List Edge → Contents Y
   from_third edges = read_then name third (read t) (λ y. whole t edges y)
 
   abbrev from_policy : Layout → Contents Y
   from_policy t = read_then Policy policy (read_policy_of t) (λ edges. read_then name third (read t) (λ y. whole t edges y))
-
-  -- the second file stopped the load
-  pub policy_stopped : (why : Stop) → IfSome table (λ bytes. LoadsAs (λ (t : Layout). t) (Ok t) (read_table_of bytes))
-      → IsStopOf Policy why → IfSome policy (λ bytes. LoadsAs (λ (edges : List Edge). edges) (Err why) (read_policy_of t bytes))
-      → Gives view (contents_of name read table policy third) (Err why)
-  policy_stopped why is of stops =
-      continued view (λ (t : Layout). t) Table table read_table_of from_policy t (Err why) is
-      (stopped view (λ (edges : List Edge). edges) Policy policy (read_policy_of t) from_third why of stops)
-
-  -- the third did
-  pub third_stopped : (edges : List Edge) (why : Stop) → IfSome table (λ bytes. LoadsAs (λ (t : Layout). t) (Ok t) (read_table_of bytes))
-      → IfSome policy (λ bytes. LoadsAs (λ (edges : List Edge). edges) (Ok edges) (read_policy_of t bytes))
-      → IsStopOf name why → IfSome third (λ bytes. LoadsAs view (Err why) (read t bytes))
-      → Gives view (contents_of name read table policy third) (Err why)
-  third_stopped edges why is has of stops =
-      continued view (λ (t : Layout). t) Table table read_table_of from_policy t (Err why) is
-      (continued view (λ (edges : List Edge). edges) Policy policy (read_policy_of t) from_third edges (Err why) has
-      (stopped view view name third (read t) (λ y. whole t edges y) why of stops))

@@ -42,12 +42,3 @@ names_more g f p n =
 -- a label's set, where it is there
 pub same_set : (sets : List Labels) (i a : ℕ) (d : Labels) → i ≡ a → a < length sets → get_or sets i d ≡ get_or sets a no_labels
 same_set sets i a d same within = ap (λ k. get_or sets k d) same ∙ get_or_default sets a d no_labels within
-
--- one more label has its set
-pub decided_more : (sets : List Labels) (set : Labels) (R : ℕ → ℕ → Type 0) (n : ℕ) → length sets ≡ n
-    → ((a : ℕ) → a < n → (l : ℕ) → (relation_of sets a l ≡ true) ↔ R a l) → ((l : ℕ) → (is_in set l ≡ true) ↔ R n l)
-    → (a : ℕ) → a < n + 1 → (l : ℕ) → (relation_of (sets ++ set ∷ []) a l ≡ true) ↔ R a l
-decided_more sets set R n count before here =
-    below_more (λ a. (l : ℕ) → (relation_of (sets ++ set ∷ []) a l ≡ true) ↔ R a l) n
-    (λ a low l. rw (get_or-append sets (set ∷ []) no_labels a (omega arith)) (before a low l))
-    (λ l. rw (← count) (rw (get_or-append_seam sets set [] no_labels) (rw count (here l))))

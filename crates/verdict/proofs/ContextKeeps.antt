@@ -102,48 +102,6 @@ module _
         ap (λ (n : Machine). object_of n id) set_is ∙ object_of-with_object m done.id (o.Context set) id
         ∙ at_other id done.id (Some (o.Context set)) (object_of m id) apart
 
-    pub configure_acts : (id : ObjId) → Acts t allowed a m next id
-    configure_acts id = by_id (one_or_two id done.id) where
-      by_id : (id ≡ done.id) ⊎ (id ≢ done.id) → Acts t allowed a m next id
-      by_id (inl same) =
-          inr
-          (full t allowed a m next id configured.label (ap (label_of t m) same ∙ configured.labelled)
-          (modifies authority.Context refl (may_use address done.id done.finds)))
-      by_id (inr apart) =
-          inl (record {
-            content = beside id apart;
-            queue = ap (λ (n : Machine). queue_of n id) set_is ∙ queue_of-with_object m done.id (o.Context set) id;
-            words = ap (λ (n : Machine). words_of n id) set_is ∙ words_of-with_object m done.id (o.Context set) id;
-            slots = λ index.
-                let slot : SlotRef = record { holder = id; index = index } in
-                ap (λ (n : Machine). cap_of n slot) set_is ∙ cap_of-with_object m done.id (o.Context set) slot;
-          })
-
-    -- the caller's label has the edges that a change of a context's share takes
-    pub configure_edges :
-        (id : ObjId) (old new : Context) → object_of m id ≡ Some (o.Context old) → object_of next id ≡ Some (o.Context new)
-        → new.share ≢ old.share
-        → (core : ℕ) × (label : ℕ) × (allowed a authority.SchedControl core ≡ true) × (label_of t m id ≡ Some label)
-        × (allowed a authority.Context label ≡ true)
-    configure_edges id old new was is differs = by_id (one_or_two id done.id) where
-      to_control : IsReached t allowed m event a m sound done.governs d.Control
-      to_control = reached t allowed m event a m sound closed.subjects_agree caller control done.governs d.Control mine done.finds_control
-
-      by_id :
-          (id ≡ done.id) ⊎ (id ≢ done.id)
-          → (core : ℕ) × (label : ℕ) × (allowed a authority.SchedControl core ≡ true) × (label_of t m id ≡ Some label)
-          × (allowed a authority.Context label ≡ true)
-      by_id (inl same) = (
-        to_control.label,
-        configured.label,
-        to_control.edge authority.SchedControl refl refl,
-        ap (label_of t m) same ∙ configured.labelled,
-        may_use address done.id done.finds,
-      )
-      by_id (inr apart) =
-          let one = same_Some (o.Context new) (o.Context old) (sym is ∙ beside id apart ∙ was) in
-          absurd (differs (ap (λ (c : Context). c.share) (same_context new old one)))
-
   pub bind_keeps : (address thread_address : ℕ) → BindDone m caller address thread_address next → Keeps t allowed m event a m next
   bind_keeps address thread_address done =
       subst (λ (n : Machine). Keeps t allowed m event a m n)

@@ -105,9 +105,6 @@ module _ (test : EdgeTest) (t : Layout) where
     more ∙ ap (λ text. text ++ second) is ∙ append_assoc old first second,
   )
 
-  pub adds_none : (old : List ℕ) → AddsArrows test t [] old old
-  adds_none old = ([], refl, sym (append-nil old))
-
   adds_one : (a l : ℕ) (old new arrow : List ℕ) → IsArrow test t a l arrow → new ≡ old ++ arrow
       → AddsArrows test t ((a, l) ∷ []) old new
   adds_one a l old new arrow is grown = (arrow, (arrow, [], is, refl, sym (append-nil arrow)), grown)
