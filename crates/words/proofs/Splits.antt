@@ -1,5 +1,5 @@
 -- The parts of a list of bytes round a byte, and what they say of words and lines.
-use Rattle.std.proofs.Common.{◌≡◌, ℕ, ◌+◌, ◌-◌, ◌<◌, ◌==◌, Bool, true, false, cond, nat_lt, List, [], ◌∷◌, length, take, drop, Option, Some, None, Ok, Err, refl, sym, ap, subst, ◌∙◌, ltb-true, ltb-false, arith}
+use Rattle.std.proofs.Common.{◌≡◌, ℕ, ◌+◌, ◌-◌, ◌<◌, ◌==◌, Bool, true, false, cond, nat_lt, List, [], ◌∷◌, length, get_or, take, drop, Option, Some, None, Ok, Err, refl, sym, ap, subst, ◌∙◌, ltb-true, ltb-false, arith}
 use Rattle.std.specs.List.{slice_split, onto_first, position, position_or_len, join_with_byte}
 use Rattle.std.specs.Str.{bytes_eq}
 use Rattle.std.proofs.lemmas.List.Splits.{slice_split_first, slice_split_none, join_with_byte-slice_split}
@@ -7,7 +7,8 @@ use Rattle.std.proofs.lemmas.Slice.Eq.{slice_eq-Decides, bytes_eq-Decides}
 use Rattle.std.proofs.lemmas.Bool.Decides.{same_from_decides}
 use Rattle.std.proofs.lemmas.Option.{none-some}
 use Rattle.std.proofs.lemmas.List.{take_rest}
-use Rattle.std.proofs.lemmas.List.Sums.{fails_before_first}
+use Rattle.std.proofs.lemmas.List.Sums.{fails_before_first, position_or_len_is}
+use Rattle.memchr.specs.Find.{IsFirstByte, is_byte}
 use Rattle.words.specs.declared.faults.Wrong.TheVariants.{Syntax}
 use Rattle.words.specs.Fault.{fault_at}
 use Rattle.words.specs.FirstFault.{Line, TextLines}
@@ -58,6 +59,36 @@ split_nowhere p bs missing = by_test (nat_lt (position_or_len p bs) (length bs))
     by_test false past is =
         let reached = ltb-false _ _ past in
         slice_split_none p bs (λ k d h. let before : k < position_or_len p bs = omega arith in fails_before_first p bs k d before)
+
+passes_not : (b : Bool) → (b ≡ true → ⊥) → b ≡ false
+passes_not true never = absurd (never refl)
+passes_not false never = refl
+
+-- where a search for a byte ends is the first place of the list that has it
+pub first_position : (byte : ℕ) (bs : List ℕ) (r : Option ℕ) → IsFirstByte (is_byte byte) bs r → r ≡ position (λ b. b == byte) bs
+first_position byte bs None nowhere =
+    let whole : position_or_len (λ b. b == byte) bs ≡ length bs =
+    position_or_len_is (λ b. b == byte) bs (length bs) 0 (omega arith)
+    (λ k less. passes_not (get_or bs k 0 == byte) (nowhere k (omega arith) less)) (λ less. absurd (omega (arith, less))) in
+    by_test (nat_lt (position_or_len (λ b. b == byte) bs) (length bs)) refl whole
+  where
+    by_test : (b : Bool) → nat_lt (position_or_len (λ x. x == byte) bs) (length bs) ≡ b
+        → position_or_len (λ x. x == byte) bs ≡ length bs
+        → None ≡ cond b (Some (position_or_len (λ x. x == byte) bs)) None
+    by_test true below whole = let less = ltb-true _ _ below in absurd (omega (arith, less, whole))
+    by_test false past whole = refl
+first_position byte bs (Some at) found =
+    let below : at < length bs = found.0.high in
+    let first : position_or_len (λ b. b == byte) bs ≡ at =
+    position_or_len_is (λ b. b == byte) bs at 0 (omega (arith, below))
+    (λ k less. passes_not (get_or bs k 0 == byte) (found.0.before k (omega arith) less)) (λ less. found.1) in
+    by_test (nat_lt (position_or_len (λ b. b == byte) bs) (length bs)) refl first below
+  where
+    by_test : (b : Bool) → nat_lt (position_or_len (λ x. x == byte) bs) (length bs) ≡ b
+        → position_or_len (λ x. x == byte) bs ≡ at → at < length bs
+        → Some at ≡ cond b (Some (position_or_len (λ x. x == byte) bs)) None
+    by_test true below first within = ap (λ k. Some k) (sym first)
+    by_test false past first within = let reached = ltb-false _ _ past in absurd (omega (arith, reached, first, within))
 
 -- `==` of two lines is `==` of their words
 pub same_words : (a b : List ℕ) → bytes_eq a b ≡ line_is (words_of a) (words_of b)

@@ -1,6 +1,8 @@
 ghost use Rattle.std.specs.Prelude.{◌≡◌, ◌<◌, ◌==◌, [], ◌∷◌, length, position, MatchOption, IfSome};
 ghost use Rattle.std.specs.List.{slice_split};
 
+use memchr::memchr;
+
 /// What stands before and after the first `byte`, or `None` where there is none.
 #[tactic(auto, using(crate::proofs::Splits::split_round, crate::proofs::Splits::split_nowhere))]
 pub(crate) fn split_first_at(byte: u8, bytes: &[u8]) -> Option<(&[u8], &[u8])>
@@ -12,6 +14,27 @@ pub(crate) fn split_first_at(byte: u8, bytes: &[u8]) -> Option<(&[u8], &[u8])>
 {
     let at = position_of(byte, bytes)?;
     Some((&bytes[..at], &bytes[at + 1..]))
+}
+
+/// What stands before and after the first line feed, or `None` where there is none.
+#[tactic(auto, using(crate::proofs::Splits::split_round, crate::proofs::Splits::split_nowhere))]
+pub(crate) fn split_line(bytes: &[u8]) -> Option<(&[u8], &[u8])>
+    ensures parts { MatchOption result
+        (slice_split (λ b. b == 10) bytes.now ≡ bytes.now ∷ [])
+        (λ parts. slice_split (λ b. b == 10) bytes.now
+        ≡ parts.0.now ∷ slice_split (λ b. b == 10) parts.1.now) }
+    ensures shorter { IfSome result (λ parts. length parts.1.now < length bytes.now) }
+{
+    let at = line_feed_in(bytes)?;
+    Some((&bytes[..at], &bytes[at + 1..]))
+}
+
+// Many bytes are looked at together, since lines are longer than words.
+#[tactic(auto, using(crate::proofs::Splits::first_position))]
+fn line_feed_in(bytes: &[u8]) -> Option<usize>
+    ensures { result ≡ position (λ b. b == 10) bytes.now }
+{
+    memchr(b'\n', bytes)
 }
 
 fn position_of(byte: u8, bytes: &[u8]) -> Option<usize>

@@ -6,7 +6,7 @@ ghost use Rattle.words.specs.Reading.{Gives, after_line, header_at, end_at};
 
 use crate::faults::{Fault, LineError, Wrong};
 use crate::line::Words;
-use crate::split::split_first_at;
+use crate::split::split_line;
 use std::marker::Model;
 
 /// The lines of a text, taken one after another. It takes no memory.
@@ -50,7 +50,7 @@ impl<'a> Lines<'a> {
             (IsOver self.old.lines × (self.new ≡ self.old))
             (λ words. (self.old.lines ≡ Some words ∷ self.new.lines) × (self.new.taken ≡ self.old.taken + 1)) }
     {
-        let (line, later) = split_first_at(b'\n', self.rest)?;
+        let (line, later) = split_line(self.rest)?;
         self.rest = later;
         self.taken += 1;
         Some(Words::new(line))
