@@ -98,9 +98,9 @@ pub fn place_of(places: &Places, number: u64) -> Option<usize>
     }
 }
 
-// It stands apart, so that what finds an early one stays small.
+/// The place of a number that the table isn't for, if it is in use. It stands apart, so that what finds an early one stays small.
 #[inline(never)]
-fn late_place_of(late: &HashMap<u64, usize>, number: u64) -> Option<usize>
+pub fn late_place_of(late: &HashMap<u64, usize>, number: u64) -> Option<usize>
     ensures { result ≡ hash.get nat_eq late.now number }
 {
     late.get(&number).copied()

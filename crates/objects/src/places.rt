@@ -7,7 +7,7 @@ ghost use Rattle.objects.specs.Places.{places_in, placed, with_placed, AddsEntry
 
 use crate::entry::Entry;
 use crate::links::{Ends, Standing};
-use crate::numbers::{Places, begin, make_room, place_of, set_place, take_place};
+use crate::numbers::{Places, begin, late_place_of, make_room, place_of, set_place, take_place};
 use crate::slots::SlotChange;
 use base::{ObjId, SlotRef};
 use machine::Object;
@@ -18,7 +18,10 @@ use std::alloc::{AllocError, Global};
 pub fn entry<'a>(places: &Places, entries: &'a Slab<Entry>, id: ObjId) -> Option<&'a Entry>
     ensures { option_copied result ≡ placed (places_in places.now) entries.now id }
 {
-    let place = place_of(places, id.0)?;
+    let place = match places.early.get(id.0) {
+        Some(place) => place?,
+        None => late_place_of(&places.late, id.0)?,
+    };
     entries.get(place)
 }
 

@@ -159,6 +159,13 @@ impl State {
         self.store.cap(slot)
     }
 
+    /// The same capability, where it is: [`State::cap`] copies it.
+    pub fn held(&self, slot: SlotRef) -> Option<&Cap>
+        ensures { option_copied result ≡ cap_of self.now slot }
+    {
+        self.store.held(slot)
+    }
+
     /// The slot whose capability that in this one was derived from, if it was derived (seL4 manual,
     /// "Capability Derivation Tree").
     pub fn parent(&self, slot: SlotRef) -> Option<SlotRef>
@@ -257,7 +264,7 @@ impl State {
         requires { MayEmpty self.old slot }
         ensures { self.new ≡ without_cap self.old slot }
     {
-        if let Some(cap) = self.cap(slot) {
+        if let Some(&cap) = self.held(slot) {
             let count = self.cap_count(cap.object);
             self.store.set_cap(slot, None);
             self.store.set_caps(cap.object, count - 1);

@@ -94,6 +94,13 @@ impl Store {
         self.slot(at)?.cap
     }
 
+    /// The same, where it is.
+    pub fn held(&self, at: SlotRef) -> Option<&Cap>
+        ensures { option_copied result ≡ cap_in (slot_at (entry_of self.now) at) }
+    {
+        self.slot(at)?.cap.as_ref()
+    }
+
     /// The parent of the slot.
     pub fn parent(&self, at: SlotRef) -> Option<SlotRef>
         ensures { result ≡ parent_in (slot_at (entry_of self.now) at) }
@@ -105,7 +112,10 @@ impl Store {
     pub fn first_child(&self, at: SlotRef) -> Option<SlotRef>
         ensures { result ≡ (links_at (entry_of self.now) at).first }
     {
-        self.links(at).first
+        match self.slot(at) {
+            Some(slot) => slot.links.first,
+            None => None,
+        }
     }
 
     /// The links of the slot; one that is absent has none.
@@ -212,7 +222,7 @@ impl Store {
     pub fn attach(&mut self, slot: SlotRef, parent: SlotRef)
         ensures { self.new ≡ attached self.old slot parent }
     {
-        let head = self.links(parent).first;
+        let head = self.first_child(parent);
         self.set_leader(head, Some(slot));
         self.set_standing_under(slot, Some(parent), head);
         self.set_first(Some(parent), Some(slot));

@@ -1,0 +1,6 @@
+use Rattle.std.proofs.Common.{sym}
+use Rattle.objects.proofs.StateLemmas.{tells-machine_of}
+use Rattle.objects.proofs.state.State.held.Goals as goal
+
+pub returns : goal.returns
+returns c = rw (c.held.ensures, ← c.self.view_is) (sym ((tells-machine_of c.self.inside).caps c.args.slot))
