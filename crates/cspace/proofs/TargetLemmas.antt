@@ -15,6 +15,7 @@ use Rattle.machine.specs.Lookup.{Level, level_at, walk, counted}
 use Rattle.machine.specs.Machine.{Machine}
 use Rattle.machine.specs.Refusing.{◌>>=◌}
 use Rattle.machine.specs.Step.Target.{exactly, in_depth, lookup_target_of}
+use Rattle.cspace.specs.Below.{target_below}
 use Rattle.cspace.specs.Chain.{Resolves, TargetStarts, TargetFinds, TargetFails, TakesBits, Leads, Hinders}
 use Rattle.cspace.proofs.BitLemmas.{length-bits}
 use Rattle.cspace.proofs.ChainLemmas.{Ends, ends-walk, walk-ends}
@@ -68,6 +69,13 @@ pub target_from :
     → lookup_target_of m from index depth ≡ exactly place
 unfolding lookup_target_of
 target_from m from index depth level place shows within ends = rw (shows, within, ends) refl
+
+-- .. and from a CNode that was found
+pub below-ends :
+    (m : Machine) (index depth : ℕ) (level : Level) (place : SlotRef × ℕ) → in_depth depth ≡ Ok tt
+    → counted (walk 65 m level (bits depth index)) ≡ Ok place → target_below m level index depth ≡ exactly place
+unfolding target_below
+below-ends m index depth level place within ends = rw (within, ends) refl
 
 module _ (m : Machine) (from : SlotRef) (index depth : ℕ) where
   -- what is known where the lookup of a target ends so

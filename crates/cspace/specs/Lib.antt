@@ -1,3 +1,4 @@
 pub mod Strings
 pub mod Roots
 pub mod Chain
+pub mod Below

@@ -15,8 +15,10 @@ pub fn find_cap(state: &State, caller: ObjId, address: u64) -> Result<(SlotRef, 
     ensures { result ≡ find_cap state.now caller address }
 {
     let (slot, _) = resolve(state, caller, address)?;
-    let held = state.cap(slot).ok_or(Cause::InvalidCapability)?;
-    Ok((slot, held))
+    match state.held(slot) {
+        Some(held) => Ok((slot, *held)),
+        None => Err(Cause::InvalidCapability),
+    }
 }
 
 /// The notification at an address in a thread's capability space, with the rights and the badge of the

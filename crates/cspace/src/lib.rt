@@ -15,5 +15,5 @@ pub use find::{
     find_tcb, permit,
 };
 pub use level::Level;
-pub use target::{lookup_target, resolve_target};
+pub use target::{lookup_target, resolve_target, target_below};
 pub use walk::{level_at, lookup, resolve};

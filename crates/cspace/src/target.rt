@@ -5,8 +5,11 @@ ghost use Rattle.base.specs.declared.refusal.Cause.TheVariants.{FailedLookup};
 ghost use Rattle.base.specs.declared.refusal.LookupFailure.TheVariants.{MissingCapability};
 ghost use Rattle.base.specs.Refusals.{refusal_of};
 ghost use Rattle.machine.specs.Step.Target.{exactly, lookup_target_of};
+ghost use Rattle.cspace.specs.Below.{target_below};
 ghost use Rattle.cspace.specs.Chain.{TargetFinds, TargetFails};
+ghost use Rattle.cspace.specs.Strings.{level_shown};
 
+use crate::level::Level;
 use crate::walk::{level_at, walk};
 use base::{Cause, LookupFailure, Refusal, SlotRef};
 use objects::State;
@@ -21,20 +24,28 @@ fn exactly(slot: SlotRef, left: u32) -> Result<SlotRef, Cause>
     Ok(slot)
 }
 
-/// The slot where a walk ends that takes the low `depth` bits of an index, from the CNode whose
-/// capability the slot `from` holds.
-#[tactic(auto, unfolding(machine::specs::Step::Target::lookup_target_of))]
+/// The slot where a walk ends that takes the low `depth` bits of an index, from a CNode on. It fails as [`resolve_target`] does where
+/// the CNode is that of the slot's capability.
+#[tactic(auto, unfolding(crate::specs::Below::target_below))]
+pub fn target_below(state: &State, level: &Level, index: u64, depth: u64) -> Result<SlotRef, Cause>
+    ensures { result ≡ target_below state.now (level_shown level.now) index depth }
+{
+    if depth < 1 || depth > 64 {
+        return Err(Cause::RangeError);
+    }
+    let (slot, left) = walk(state, *level, index, depth as u32).map_err(Cause::FailedLookup)?;
+    exactly(slot, left)
+}
+
+/// The slot where such a walk ends from the CNode whose capability the slot `from` holds.
+#[tactic(auto, unfolding(machine::specs::Step::Target::lookup_target_of, crate::specs::Below::target_below))]
 fn walk_target(state: &State, from: SlotRef, index: u64, depth: u64) -> Result<SlotRef, Cause>
     ensures { result ≡ lookup_target_of state.now from index depth }
 {
     let Some(level) = level_at(state, from) else {
         return Err(Cause::FailedLookup(LookupFailure::InvalidRoot));
     };
-    if depth < 1 || depth > 64 {
-        return Err(Cause::RangeError);
-    }
-    let (slot, left) = walk(state, level, index, depth as u32).map_err(Cause::FailedLookup)?;
-    exactly(slot, left)
+    target_below(state, &level, index, depth)
 }
 
 /// The slot to which the low `depth` bits of an index lead, from the CNode whose capability the

@@ -21,7 +21,7 @@ use objects::State;
 pub fn level_at(state: &State, slot: SlotRef) -> Option<Level>
     ensures { option_map level_shown result ≡ level_at state.now slot }
 {
-    let cap = state.cap(slot)?;
+    let cap = state.held(slot)?;
     let Detail::CNode(guard) = cap.detail else {
         return None;
     };
@@ -64,9 +64,12 @@ pub(crate) fn walk(
         → place_shown address result ≡ walk most state.now (level_shown level) (bits left address) }
 {
     let (slot, rest) = level.select(address, left)?;
+    if rest == 0 {
+        return Ok((slot, 0));
+    }
     match level_at(state, slot) {
-        Some(next) if rest > 0 => walk(state, next, address, rest),
-        _ => Ok((slot, rest)),
+        Some(next) => walk(state, next, address, rest),
+        None => Ok((slot, rest)),
     }
 }
 

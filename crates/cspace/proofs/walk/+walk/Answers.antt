@@ -23,19 +23,18 @@ returns-in-Some t c = λ most h.
     h c.in_ok-slot.ensures.fewer (omega arith) (sym c.in_ok-slot.ensures.value) (sym c.in-Some.ensures) c.walk.ensures
 
 -- no bits are left
-pub returns-in_default : goal.returns-in_default
-returns-in_default t c = λ most h.
+pub returns-then-rest-eq0 : goal.returns-then-rest-eq0
+returns-then-rest-eq0 t c = λ most h.
     let string = bits c.args.left c.args.address in
     let ends : ℕ → Result (SlotRef × List Bool) LookupFailure = λ rest. Ok (c.in_ok-slot.slot, bits rest c.args.address) in
     let none : c.in_ok-slot.rest ≡ 0 = omega arith in
-    ap ends none
-    ∙ sym
+    sym
     (walk-done most c.args.state.now (level_shown c.args.level) string c.in_ok-slot.slot (omega arith)
     (sym c.in_ok-slot.ensures.value ∙ ap ends none))
 
 -- the slot shows no CNode
-pub returns-in_default-2 : goal.returns-in_default-2
-returns-in_default-2 t c = λ most h.
+pub returns-in-None : goal.returns-in-None
+returns-in-None t c = λ most h.
     sym
     (walk-none most c.args.state.now (level_shown c.args.level) (bits c.args.left c.args.address) c.in_ok-slot.slot
-    (bits c.in_ok-slot.rest c.args.address) (omega arith) (sym c.in_ok-slot.ensures.value) (sym c.in_default.ensures))
+    (bits c.in_ok-slot.rest c.args.address) (omega arith) (sym c.in_ok-slot.ensures.value) (sym c.in-None.ensures))

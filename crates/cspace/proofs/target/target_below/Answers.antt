@@ -5,19 +5,19 @@ use Rattle.machine.specs.Bits.{bits}
 use Rattle.machine.specs.Lookup.{walk, counted}
 use Rattle.cspace.specs.Strings.{level_shown}
 use Rattle.cspace.proofs.RootLemmas.{counted-shown, failed-cases}
-use Rattle.cspace.proofs.TargetLemmas.{deep, target_from}
-use Rattle.cspace.proofs.target.walk_target.Goals as goal
+use Rattle.cspace.proofs.TargetLemmas.{deep, below-ends}
+use Rattle.cspace.proofs.target.target_below.Goals as goal
 
 pub returns : goal.returns
 returns c =
     let m = c.args.state.now in
     let index = c.args.index in
     let depth = c.args.depth in
-    let level = level_shown c.in-Some.level in
+    let level = level_shown c.args.level.now in
     let place : SlotRef × ℕ = (c.in_ok-slot.slot, c.in_ok-slot.left) in
     let ends : counted (walk 65 m level (bits depth index)) ≡ Ok place =
     ap counted (sym (c.walk.ensures 65 (omega arith))) ∙ counted-shown index c.walk.result
     ∙ sym (failed-cases c.walk.result c.map_err.result c.map_err.ensures.cases) ∙ c.in_ok-slot.was {u = tt} in
     c.exactly.ensures
     ∙ sym
-    (target_from m c.args.from index depth level place (sym c.in-Some.ensures) (deep depth (omega arith) (omega arith)) ends)
+    (below-ends m index depth level place (deep depth (omega arith) (omega arith)) ends)
