@@ -1,8 +1,12 @@
-ghost use Rattle.std.specs.Prelude.{◌≡◌};
-ghost use Rattle.machine.specs.Step.Target.{ends_of, filled, of_cnode, source_of, target_of, vacant};
+ghost use Rattle.std.specs.Prelude.{◌≡◌, IsOkAnd, Some};
+ghost use Rattle.cspace.specs.Strings.{level_shown};
+ghost use Rattle.machine.specs.Lookup.{level_at, lookup_of};
+ghost use Rattle.machine.specs.Machine.{cap_of};
+ghost use Rattle.machine.specs.Step.Target.{ends_of, of_cnode, source_of, target_of, vacant};
+ghost use Rattle.cnodeops.specs.Below.{source_below};
 
 use base::{Cause, LookupFailure, ObjId, SlotRef};
-use cspace::{find_cap, resolve, resolve_target};
+use cspace::{Level, find_cap, level_at, resolve, resolve_target, target_below};
 use machine::{Cap, Detail, Ends, SlotAddress};
 use objects::State;
 
@@ -41,27 +45,71 @@ pub fn vacant(filling: Option<Cap>) -> Result<(), Cause>
     }
 }
 
-/// The slot that a caller names as the source, and the capability in it.
-#[tactic(auto, unfolding(machine::specs::Step::Target::source_of))]
-fn source(state: &State, caller: ObjId, address: SlotAddress) -> Result<(SlotRef, Cap), Cause>
+// Refuses to fill a slot that is filled.
+fn unfilled(state: &State, slot: SlotRef) -> Result<(), Cause>
+    ensures { result ≡ vacant (cap_of state.now slot) }
+{
+    match state.held(slot) {
+        None => Ok(()),
+        Some(_) => Err(Cause::DeleteFirst),
+    }
+}
+
+// The slot of a source below a CNode, and the capability in it.
+#[tactic(auto, unfolding(crate::specs::Below::source_below))]
+fn source_below(
+    state: &State,
+    level: &Level,
+    address: SlotAddress,
+) -> Result<(SlotRef, Cap), Cause>
+    ensures { result ≡ source_below state.now (level_shown level.now) address }
+{
+    let slot = target_below(state, level, address.index, address.depth)?;
+    match state.held(slot) {
+        Some(held) => Ok((slot, *held)),
+        None => Err(Cause::FailedLookup(LookupFailure::MissingCapability)),
+    }
+}
+
+/// The slot that a caller names as the source, and the capability in it. Where its root is the target's, that isn't looked up again: it
+/// led to the CNode `level`.
+#[tactic(auto, unfolding(machine::specs::Step::Target::source_of, machine::specs::Step::Target::lookup_target_of, cspace::specs::Below::target_below, crate::specs::Below::source_below))]
+fn source(
+    state: &State,
+    caller: ObjId,
+    address: SlotAddress,
+    root: u64,
+    level: &Level,
+) -> Result<(SlotRef, Cap), Cause>
+    requires { IsOkAnd (lookup_of state.now caller root) (λ place. level_at state.now place.0 ≡ Some (level_shown level.now)) }
     ensures { result ≡ source_of state.now caller address }
 {
+    if address.root == root {
+        return source_below(state, level, address);
+    }
     let (node, _) = resolve(state, caller, address.root)?;
-    let slot = resolve_target(state, node, address.index, address.depth)?;
-    let held = state
-        .cap(slot)
-        .ok_or(Cause::FailedLookup(LookupFailure::MissingCapability))?;
-    Ok((slot, held))
+    let Some(own) = level_at(state, node) else {
+        return Err(Cause::FailedLookup(LookupFailure::InvalidRoot));
+    };
+    source_below(state, &own, address)
 }
 
 /// The slots that a caller names to fill one from the other.
-#[tactic(auto, unfolding(machine::specs::Step::Target::ends_of))]
+#[tactic(auto, unfolding(machine::specs::Step::Find::find_cap, machine::specs::Step::Target::ends_of, machine::specs::Step::Target::target_of, machine::specs::Step::Target::lookup_target_of, cspace::specs::Below::target_below))]
 pub fn ends(state: &State, caller: ObjId, to: SlotAddress, from: SlotAddress) -> Result<Ends, Cause>
     ensures { result ≡ ends_of state.now caller to from }
 {
-    let target = target(state, caller, to)?;
-    vacant(state.cap(target))?;
-    let (source, held) = source(state, caller, from)?;
+    let (node, _) = resolve(state, caller, to.root)?;
+    let Some(root) = state.held(node) else {
+        return Err(Cause::InvalidCapability);
+    };
+    of_cnode(&root.detail)?;
+    let Some(level) = level_at(state, node) else {
+        return Err(Cause::FailedLookup(LookupFailure::InvalidRoot));
+    };
+    let target = target_below(state, &level, to.index, to.depth)?;
+    unfilled(state, target)?;
+    let (source, held) = source(state, caller, from, to.root, &level)?;
     Ok(Ends {
         target,
         source,
