@@ -27,7 +27,7 @@ leading [] h = cc
 leading (d ∷ []) h = (omega arith, λ _. refl)
 leading (d ∷ e ∷ ds) h = (omega arith, λ zero. cc (ap (λ x. not (x == 48)) zero))
 
-in_range : (b : ℕ) → is_ascii_digit b ≡ true → IsInRange 48 57 b
+pub in_range : (b : ℕ) → is_ascii_digit b ≡ true → IsInRange 48 57 b
 in_range b test = grind (arith, nat_tests)
 
 -- what isn't decimal spells no number

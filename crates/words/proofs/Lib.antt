@@ -1,6 +1,7 @@
 mod Ascii
 pub mod Splits
 mod Decimals
+mod OneDigit
 mod HexLaws
 mod Hexadecimals
 mod NameText

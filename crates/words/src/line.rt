@@ -1,4 +1,4 @@
-ghost use Rattle.std.specs.Prelude.{◌≡◌, true, drop, [], ◌∷◌, MatchOption, IfOk};
+ghost use Rattle.std.specs.Prelude.{◌≡◌, true, drop, [], ◌∷◌, MatchOption, IfOk, IfSome, Ok};
 ghost use Rattle.words.specs.Text.{words_of, line_is};
 ghost use Rattle.words.specs.Reading.{Gives, word_at, ended_at};
 ghost use Rattle.words.specs.Number.{hex_at, number_at};
@@ -87,8 +87,30 @@ impl<'a> Words<'a> {
     }
 
     /// The next word as a decimal number.
-    #[tactic(auto, unfolding(crate::specs::Number::number_at, crate::specs::Reading::word_at, crate::specs::Reading::or_syntax, crate::specs::Reading::bind))]
     pub fn number(&mut self) -> Result<u64, Wrong>
+        ensures exact { Gives (λ number. (number, self.new)) result (number_at self.old) }
+        ensures taken { self.new ≡ drop 1 self.old }
+    {
+        match self.one_digit() {
+            Some(number) => Ok(number),
+            None => self.some_digits(),
+        }
+    }
+
+    // The next word where it is one digit before a space, as most numbers are. Any other isn't taken.
+    fn one_digit(&mut self) -> Option<u64>
+        ensures { MatchOption result
+            (self.new ≡ self.old)
+            (λ number. (number_at self.old ≡ Ok (number, self.new)) × (self.new ≡ drop 1 self.old)) }
+    {
+        let (number, later) = digit_before_space(self.rest?)?;
+        self.rest = Some(later);
+        Some(number)
+    }
+
+    // The next word as a decimal number of any length.
+    #[tactic(auto, unfolding(crate::specs::Number::number_at, crate::specs::Reading::word_at, crate::specs::Reading::or_syntax, crate::specs::Reading::bind))]
+    fn some_digits(&mut self) -> Result<u64, Wrong>
         ensures exact { Gives (λ number. (number, self.new)) result (number_at self.old) }
         ensures taken { self.new ≡ drop 1 self.old }
     {
@@ -116,4 +138,16 @@ impl<'a> Words<'a> {
         let word = self.word()?;
         name_of(word).ok_or(Wrong::Syntax)
     }
+}
+
+// The digit that stands before a space at the beginning, and what follows the space.
+#[tactic(auto, using(crate::proofs::OneDigit::one_digit, crate::proofs::OneDigit::one_word))]
+fn digit_before_space(bytes: &[u8]) -> Option<(u64, &[u8])>
+    ensures number { IfSome result (λ taken. number_at (words_of bytes.now) ≡ Ok (taken.0, words_of taken.1.now)) }
+    ensures rest { IfSome result (λ taken. words_of taken.1.now ≡ drop 1 (words_of bytes.now)) }
+{
+    if bytes.len() < 2 || bytes[1] != b' ' || !bytes[0].is_ascii_digit() {
+        return None;
+    }
+    Some(((bytes[0] - b'0') as u64, &bytes[2..]))
 }
