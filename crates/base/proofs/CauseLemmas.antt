@@ -1,13 +1,9 @@
 -- A refusal as it is written, and a detail, tell the cause, the misuse or the failure that they stand for.
-use Rattle.std.proofs.Common.{◌≡◌, ◌≢◌, ℕ, Bool, ◌==◌, ◌<◌, cond, refl, sym, ap, ◌∙◌, arith, lit<}
-use Rattle.std.specs.Prelude.{slice_index_or}
-use Rattle.base.specs.declared.refusal.Cause.{Cause}
+use Rattle.std.{specs.Prelude.slice_index_or, proofs.Common.{ℕ, ◌<◌, ◌==◌, ◌∙◌, ◌≡◌, ◌≢◌, Bool, ap, arith, cond, lit<, refl, sym}}
+use Rattle.base.specs.declared.refusal.{Cause.Cause, LookupFailure.{LookupFailure, TheVariants.{DepthMismatch, GuardMismatch, InvalidRoot}}}
 use Rattle.base.specs.declared.refusal.Cause.TheVariants as cause
-use Rattle.base.specs.declared.refusal.LookupFailure.{LookupFailure}
-use Rattle.base.specs.declared.refusal.LookupFailure.TheVariants.{InvalidRoot, MissingCapability, DepthMismatch, GuardMismatch}
-use Rattle.base.specs.declared.refusal.Misuse.{Misuse}
+use Rattle.base.specs.declared.refusal.{LookupFailure.TheVariants.MissingCapability, Misuse.Misuse, Refusal.Refusal}
 use Rattle.base.specs.declared.refusal.Misuse.TheVariants as misuse
-use Rattle.base.specs.declared.refusal.Refusal.{Refusal}
 use Rattle.base.specs.Refusals.{IsOfCondition, condition_codes, failure_detail, misuse_refusal, out_of_memory, plain, refusal_of}
 
 -- the failure of a detail

@@ -1,12 +1,9 @@
 -- Each way between a kind and its name, and between a kind and its number.
-use Rattle.std.proofs.Common.{◌≡◌, ℕ, ◌<◌, ◌^◌, ◌==◌, ◌↔◌, Bool, true, false, cond, List, Option, Some, refl, sym, ap, ◌∙◌, subst, lit<}
-use Rattle.std.specs.Prelude.{IfSome, bytes_eq, slice_get}
-use Rattle.std.specs.Bool.{Decides}
-use Rattle.std.proofs.lemmas.Slice.Eq.{bytes_eq-Decides}
-use Rattle.base.specs.declared.kind.Kind.{Kind}
-use Rattle.base.specs.declared.kind.TheConstants.Kind.{ALL}
-use Rattle.base.specs.declared.kind.Kind.TheVariants.{Control, Reset, Send, Receive, Grant, Call, Notify, Await, Read, Write, Reply, Context, SchedControl, Space, Derive, Runs, Holds}
-use Rattle.base.specs.Kinds.{kind_name, kind_named, kind_number, kind_bit}
+use Rattle.std.{specs.{Bool.Decides, Prelude.{IfSome, bytes_eq, slice_get}}, proofs.Common.{ℕ, ◌<◌, ◌==◌, ◌^◌, ◌↔◌, ◌∙◌, ◌≡◌, Bool, List}}
+use Rattle.std.proofs.{Common.{Option, Some, ap, cond, false, lit<, refl, subst, sym, true}, lemmas.Slice.Eq.bytes_eq-Decides}
+use Rattle.base.specs.declared.kind.Kind.{Kind, TheVariants.{Await, Call, Context, Control, Derive, Grant, Holds, Notify, Read, Receive}}
+use Rattle.base.specs.declared.kind.{Kind.TheVariants.{Reply, Reset, Runs, SchedControl, Send, Space, Write}, TheConstants.Kind.ALL}
+use Rattle.base.specs.Kinds.{kind_bit, kind_name, kind_named, kind_number}
 
 -- a kind that is found by its name, or one that is found later, has the name
 here : (word : List ℕ) (kind : Kind) (later : Option Kind) → IfSome later (λ other. word ≡ kind_name other)

@@ -1,10 +1,8 @@
 -- Sets of labels, part by part.
-use Rattle.std.proofs.Common.{◌≡◌, ◌≢◌, ◌⊎◌, inl, inr, ◌+◌, ◌*◌, ◌/◌, ◌%◌, ◌==◌, ◌<◌, ◌≤◌, Bool, false, true, ℕ, zero, suc, sym, ap, ◌∙◌, arith, List, [], ◌∷◌, length, get_or, set}
-use Rattle.std.proofs.lemmas.Bool.{cases_lt, cases_eq, eq-eqb, ne_eqb}
-use Rattle.std.proofs.lemmas.Nat.Bits.{bit_at-zero}
-use Rattle.std.proofs.lemmas.List.{get_or_past, get_or-set_same, get_or-set_other}
-use Rattle.base.specs.Labels.{is_in, is_in_part, no_part, no_labels}
-use Rattle.base.specs.declared.labels.part.Part.{Part}
+use Rattle.std.proofs.Common.{[], ℕ, ◌%◌, ◌*◌, ◌+◌, ◌/◌, ◌<◌, ◌==◌, ◌∙◌, ◌∷◌, ◌≡◌, ◌≢◌, ◌≤◌, ◌⊎◌, Bool, List, ap, arith, false, get_or, inl}
+use Rattle.std.proofs.{Common.{inr, length, set, suc, sym, true, zero}, lemmas.Bool.{cases_eq, cases_lt, eq-eqb, ne_eqb}}
+use Rattle.std.proofs.lemmas.{List.{get_or-set_other, get_or-set_same, get_or_past}, Nat.Bits.bit_at-zero}
+use Rattle.base.specs.{declared.labels.part.Part.Part, Labels.{is_in, is_in_part, no_labels, no_part}}
 
 -- no number is in no part
 pub in_no_part : (number : ℕ) → is_in_part no_part number ≡ false

@@ -1,9 +1,8 @@
 -- Sets of labels, bit by bit.
-use Rattle.std.proofs.Common.{◌≡◌, ◌&&◌, ◌||◌, ◌==◌, ◌<◌, ◌-◌, ◌^◌, not, false, true, ℕ, min, max, bit_and, bit_or, refl, sym, ap, ◌∙◌, arith, w64, ◌⊎◌, inl, inr, ◌≢◌, ◌≤◌, ◌*◌, ◌%◌, zero, suc}
-use Rattle.std.proofs.lemmas.Bool.{cases_lt, cases_eq, eq-eqb, ne_eqb}
-use Rattle.std.proofs.lemmas.Nat.{one_shl}
-use Rattle.std.specs.Int.{bit_at, trailing_zeros}
-use Rattle.std.proofs.lemmas.Nat.Bits.{bit_at_and, bit_at_or, bit_at_not, bit_at-lt, bit_at_above, bit_at-pow_same, bit_at-pow_other, bit_at-trailing_zeros, bit_at-zero}
+use Rattle.std.{specs.Int.{bit_at, trailing_zeros}, proofs.Common.{ℕ, ◌%◌, ◌&&◌, ◌*◌, ◌-◌, ◌<◌, ◌==◌, ◌^◌, ◌||◌, ◌∙◌, ◌≡◌, ◌≢◌, ◌≤◌, ◌⊎◌}}
+use Rattle.std.proofs.Common.{ap, arith, bit_and, bit_or, false, inl, inr, max, min, not, refl, suc, sym, true, w64, zero}
+use Rattle.std.proofs.lemmas.{Bool.{cases_eq, cases_lt, eq-eqb, ne_eqb}, Nat.{one_shl, Bits.{bit_at-lt, bit_at-pow_other, bit_at-pow_same}}}
+use Rattle.std.proofs.lemmas.Nat.Bits.{bit_at-trailing_zeros, bit_at-zero, bit_at_above, bit_at_and, bit_at_not, bit_at_or}
 
 -- a bit is 0 or 1
 

@@ -1,11 +1,8 @@
 -- Each way between a set of rights and its word.
-use Rattle.std.proofs.Common.{◌≡◌, ℕ, zero, suc, ◌<◌, ◌↔◌, Bool, true, false, cond, List, [], ◌∷◌, Option, Some, None, refl, sym, ap, ◌∙◌, subst, lit<, arith}
-use Rattle.std.specs.Prelude.{IfSome, bytes_eq}
-use Rattle.std.specs.List.{find, AllByRecursion}
-use Rattle.std.specs.Bool.{Decides}
+use Rattle.std.{specs.{Bool.Decides, List.{AllByRecursion, find}, Prelude.{IfSome, bytes_eq}}, proofs.Common.{[], ℕ, ◌<◌, ◌↔◌, ◌∙◌, ◌∷◌}}
+use Rattle.std.proofs.Common.{◌≡◌, Bool, List, None, Option, Some, ap, arith, cond, false, lit<, refl, subst, suc, sym, true, zero}
 use Rattle.std.proofs.lemmas.Slice.Eq.{bytes_eq-Decides}
-use Rattle.base.specs.declared.rights.Rights.{Rights}
-use Rattle.base.specs.Rights.{rights_with, rights_word, all_rights, rights_of_word, IsRights}
+use Rattle.base.specs.{declared.rights.Rights.Rights, Rights.{IsRights, all_rights, rights_of_word, rights_with, rights_word}}
 
 abbrev Names : List ℕ → Rights → Type 0
 Names word rights = (word ≡ rights_word rights) × IsRights rights

@@ -1,9 +1,8 @@
 -- The kinds of authority: their numbers, their names, and sets of them as numbers whose bit k stands for the kind of number k
 -- ('seL4 Enforces Integrity', section 3, with the kinds of this profile).
-use Rattle.std.specs.Prelude.{ℕ, Bool, true, false, List, codes, Option, Some, None, bytes_eq, if◌then◌else◌, ◌==◌}
-use Rattle.std.specs.Int.RustNames.{bit_and}
-use Rattle.base.specs.declared.kind.Kind.{Kind}
-use Rattle.base.specs.declared.kind.Kind.TheVariants.{Control, Reset, Send, Receive, Grant, Call, Notify, Await, Read, Write, Reply, Context, SchedControl, Space, Derive, Runs, Holds}
+use Rattle.std.specs.{Int.RustNames.bit_and, Prelude.{ℕ, ◌==◌, Bool, List, None, Option, Some, bytes_eq, codes, false, if◌then◌else◌, true}}
+use Rattle.base.specs.declared.kind.Kind.{Kind, TheVariants.{Await, Call, Context, Control, Derive, Grant, Holds, Notify, Read, Receive}}
+use Rattle.base.specs.declared.kind.Kind.TheVariants.{Reply, Reset, Runs, SchedControl, Send, Space, Write}
 
 abbrev pub kind_number : Kind → ℕ
 kind_number Control = 0

@@ -1,8 +1,6 @@
 -- Sets of labels.
-use Rattle.std.specs.Prelude.{ℕ, ◌/◌, ◌%◌, Bool, ◌==◌, [], ◌∷◌, slice_index_or}
-use Rattle.std.specs.Int.{bit_at}
-use Rattle.base.specs.declared.labels.Labels.{Labels}
-use Rattle.base.specs.declared.labels.part.Part.{Part}
+use Rattle.std.specs.{Int.bit_at, Prelude.{[], ℕ, ◌%◌, ◌/◌, ◌==◌, ◌∷◌, Bool, slice_index_or}}
+use Rattle.base.specs.declared.labels.{Labels.Labels, part.Part.Part}
 
 -- whether a number below 64 is in a part of a set
 abbrev pub is_in_part : Part → ℕ → Bool

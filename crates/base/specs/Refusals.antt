@@ -1,13 +1,8 @@
 -- How a cause of refusal is written as a code and a detail (seL4 manual, "Error Codes"; codes from 32 up are confine's own).
-use Rattle.std.specs.Prelude.{◌≡◌, ◌≢◌, ◌≤◌, ℕ, List, [], ◌∷◌}
-use Rattle.std.specs.List.{Contains}
-use Rattle.base.specs.declared.refusal.LookupFailure.{LookupFailure}
-use Rattle.base.specs.declared.refusal.LookupFailure.TheVariants.{InvalidRoot, MissingCapability, DepthMismatch, GuardMismatch}
-use Rattle.base.specs.declared.refusal.Cause.{Cause}
-use Rattle.base.specs.declared.refusal.Cause.TheVariants as cause
-use Rattle.base.specs.declared.refusal.Misuse.{Misuse}
-use Rattle.base.specs.declared.refusal.Misuse.TheVariants as misuse
-use Rattle.base.specs.declared.refusal.Refusal.{Refusal}
+use Rattle.std.specs.{List.Contains, Prelude.{[], ℕ, ◌∷◌, ◌≡◌, ◌≢◌, ◌≤◌, List}}
+use Rattle.base.specs.declared.refusal.{Cause.{Cause, Cause as cause}, LookupFailure.{LookupFailure, TheVariants.DepthMismatch}}
+use Rattle.base.specs.declared.refusal.{LookupFailure.TheVariants.{GuardMismatch, InvalidRoot, MissingCapability}, Misuse.Misuse}
+use Rattle.base.specs.declared.refusal.{Misuse.Misuse as misuse, Refusal.Refusal}
 
 abbrev pub failure_detail : LookupFailure → ℕ
 failure_detail InvalidRoot = 1

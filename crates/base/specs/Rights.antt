@@ -1,8 +1,7 @@
 -- The word of a set of rights, and the set that a word names: the letters of read, write, grant and grant-reply in this order,
 -- or - for none (seL4 manual, "Capability Rights").
-use Rattle.std.specs.Prelude.{ℕ, ◌<◌, List, [], ◌∷◌, ◌++◌, codes, Option, bytes_eq, if◌then◌else◌, ◌==◌, map}
-use Rattle.std.specs.List.{find}
-use Rattle.std.specs.Int.RustNames.{bit_and}
+use Rattle.std.specs.{Int.RustNames.bit_and, List.find, Prelude.{[], ℕ, ◌++◌, ◌<◌, ◌==◌, ◌∷◌, List, Option, bytes_eq, codes, if◌then◌else◌}}
+use Rattle.std.specs.Prelude.{map}
 use Rattle.base.specs.declared.rights.Rights.{Rights}
 
 -- the set whose bits are those of a number

@@ -1,6 +1,4 @@
-ghost use Rattle.std.specs.Prelude.{◌≡◌, ℕ, ◌<◌, ◌↔◌, IsSome, IfSome};
-ghost use Rattle.std.specs.Prelude.{Some};
-ghost use Rattle.std.specs.Fmt.{decimal};
+ghost use Rattle.std.specs.{Fmt.decimal, Prelude.{ℕ, ◌<◌, ◌↔◌, ◌≡◌, IfSome, IsSome, Some}};
 
 use std::fmt;
 use std::marker::Model;

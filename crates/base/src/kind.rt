@@ -1,7 +1,7 @@
-ghost use Rattle.std.specs.Prelude.{⊤, ◌≡◌, ◌==◌, ◌↔◌, ◌<◌, ◌^◌, ℕ, List, [], ◌∷◌, codes, Some, None, Bool, length, slice_get};
-ghost use Rattle.std.specs.Int.RustNames.{bit_and};
-ghost use Rattle.base.specs.Kinds.{kind_name, kind_named, kind_number, kind_bit, is_structural, is_among};
-ghost use Rattle.base.specs.declared.kind.Kind.{Kind as KindOf};
+ghost use Rattle.std.specs.{Int.RustNames.bit_and, Prelude.{[], ℕ, ⊤, ◌<◌, ◌==◌, ◌^◌, ◌↔◌, ◌∷◌, ◌≡◌, Bool, List, None, Some, codes}};
+ghost use Rattle.std.specs.Prelude.{length, slice_get};
+ghost use Rattle.base.specs.{declared.kind.Kind.Kind as KindOf, Kinds.{is_among, is_structural, kind_bit, kind_name, kind_named}};
+ghost use Rattle.base.specs.Kinds.{kind_number};
 
 use bitflags::{Flag, Flags, bitflag_items};
 use std::fmt;

@@ -1,6 +1,6 @@
 mod part;
 
-ghost use Rattle.std.specs.Prelude.{◌≡◌, ◌&&◌, ◌||◌, ◌==◌, ◌<◌, ◌/◌, ◌%◌, not, false, true, ℕ, IfNone, IfSome};
+ghost use Rattle.std.specs.Prelude.{ℕ, ◌%◌, ◌&&◌, ◌/◌, ◌<◌, ◌==◌, ◌||◌, ◌≡◌, IfNone, IfSome, false, not, true};
 ghost use Rattle.base.specs.declared.label.TheConstants.Label as Label;
 ghost use Rattle.base.specs.Labels.{is_in};
 

@@ -1,7 +1,5 @@
-ghost use Rattle.std.specs.Prelude.{⊤, ◌≡◌, ◌==◌, ◌↔◌, ◌<◌, ℕ, List, [], ◌∷◌, codes, Some, None, IfSome};
-ghost use Rattle.std.specs.Int.RustNames.{bit_and};
-ghost use Rattle.base.specs.Rights.{letter_of, rights_with, rights_word, rights_of_word, IsRights};
-ghost use Rattle.base.specs.declared.rights.Rights.{Rights as Set};
+ghost use Rattle.std.specs.{Int.RustNames.bit_and, Prelude.{[], ℕ, ⊤, ◌<◌, ◌==◌, ◌↔◌, ◌∷◌, ◌≡◌, IfSome, List, None, Some, codes}};
+ghost use Rattle.base.specs.{declared.rights.Rights.Rights as Set, Rights.{IsRights, letter_of, rights_of_word, rights_with, rights_word}};
 
 use bitflags::{Flag, Flags, bitflag_items};
 use std::fmt;

@@ -1,18 +1,11 @@
 -- The tests of a capability's line are what the table asks of a capability.
-use Rattle.std.proofs.Common.{◌≡◌, ◌&&◌, true, false, Option, Some, refl, sym, ap, ◌∙◌, arith, option_map}
+use Rattle.std.proofs.Common.{◌&&◌, ◌∙◌, ◌≡◌, Option, Some, ap, arith, false, option_map, refl, sym, true}
 use Rattle.base.specs.declared.ids.ObjId.{ObjId}
-use Rattle.machine.specs.declared.cap.Detail.{Detail}
-use Rattle.machine.specs.declared.cap.Detail.TheVariants as d
-use Rattle.machine.specs.declared.layout.Initial.{Initial}
-use Rattle.machine.specs.declared.object.ObjectKind.{ObjectKind}
-use Rattle.machine.specs.Capabilities.{kind_of_detail}
-use Rattle.machine.specs.Layout.{Layout, initial_of}
-use Rattle.machine.specs.Objects.{kind_of_object}
-use Rattle.table.specs.Building.{may_hold, has_cap_to, repeats_untyped, AdmitsCap, is_above_caps, declares_slot, is_fitting}
-use Rattle.table.specs.Rules.{kind_at}
-use Rattle.table.specs.Tree.{is_for_untyped}
-use Rattle.captext.specs.declared.shapes.Place.{Place}
-use Rattle.captext.specs.Tables.{is_untyped, is_claimed, may_fill, slot_in, capability}
+use Rattle.machine.specs.declared.{cap.Detail.{Detail, Detail as d}, layout.Initial.Initial, object.ObjectKind.ObjectKind}
+use Rattle.machine.specs.{Capabilities.kind_of_detail, Layout.{Layout, initial_of}, Objects.kind_of_object}
+use Rattle.table.specs.Building.{AdmitsCap, declares_slot, has_cap_to, is_above_caps, is_fitting, may_hold, repeats_untyped}
+use Rattle.table.specs.{Rules.kind_at, Tree.is_for_untyped}
+use Rattle.captext.specs.{declared.shapes.Place.Place, Tables.{capability, is_claimed, is_untyped, may_fill, slot_in}}
 
 -- a capability that may be at its place may be in its holder
 held_at : (holder : Option Initial) (at : Place) (target : Option ObjectKind) (detail : Detail)

@@ -1,27 +1,16 @@
 -- A line for a binding is read just where it is the line of a binding that the table takes next.
-use Rattle.std.proofs.Common.{◌≡◌, ℕ, ◌<◌, true, not, List, [], ◌∷◌, length, codes, option_map, Option, Some, None, Ok, refl, sym, ap, ◌∙◌, arith}
-use Rattle.std.proofs.lemmas.Bool.{not-true, false≢true}
-use Rattle.std.proofs.lemmas.Option.{none-some, slice_get_within}
+use Rattle.std.proofs.Common.{[], ℕ, ◌<◌, ◌∙◌, ◌∷◌, ◌≡◌, List, None, Ok, Option, Some, ap, arith, codes, length, not, option_map, refl, sym}
+use Rattle.std.proofs.{Common.true, lemmas.{Bool.{false≢true, not-true}, Option.{none-some, slice_get_within}}}
 use Rattle.base.specs.declared.ids.ObjId.{ObjId}
-use Rattle.machine.specs.declared.layout.Binding.{Binding}
-use Rattle.machine.specs.declared.layout.Initial.{Initial}
-use Rattle.machine.specs.declared.object.ObjectKind.{ObjectKind}
+use Rattle.machine.specs.{declared.{layout.{Binding.Binding, Initial.Initial}, object.ObjectKind.ObjectKind}, Layout.{Layout, initial_of}}
 use Rattle.machine.specs.declared.object.ObjectKind.TheVariants as kind
-use Rattle.machine.specs.Layout.{Layout, initial_of}
 use Rattle.machine.specs.Objects.{kind_of_object}
-use Rattle.table.specs.Building.{AdmitsBinding, is_above_bindings, is_bound, with_binding}
-use Rattle.table.specs.Names.{object_named}
-use Rattle.table.specs.Items.{BindingItem}
-use Rattle.table.specs.Rules.{IsDraft, kind_at}
-use Rattle.words.specs.declared.faults.Wrong.TheVariants as wrong
-use Rattle.words.specs.Reading.{bind}
-use Rattle.words.specs.Text.{IsPlainLine}
-use Rattle.words.proofs.Parts.{alone_again, alone_takes}
+use Rattle.words.{specs.{declared.faults.Wrong.Wrong as wrong, Reading.bind, Text.IsPlainLine}, proofs.Parts.{alone_again, alone_takes}}
 use Rattle.words.proofs.WordLaws.{plain_bytes}
-use Rattle.captext.specs.Tables.{thread_rises, is_thread_and_context, bound, bind_line}
-use Rattle.captext.specs.TableText.{object_name, binding_words}
-use Rattle.captext.proofs.LineLaws.{TakesItem, same_ok}
-use Rattle.captext.proofs.NameLaws.{names_part, object_takes, object_again, is_object_name, AreNames}
+use Rattle.table.specs.{Building.{AdmitsBinding, is_above_bindings, is_bound, with_binding}, Items.BindingItem, Names.object_named}
+use Rattle.table.specs.Rules.{IsDraft, kind_at}
+use Rattle.captext.specs.{TableText.{binding_words, object_name}, Tables.{bind_line, bound, is_thread_and_context, thread_rises}}
+use Rattle.captext.proofs.{LineLaws.{TakesItem, same_ok}, NameLaws.{AreNames, is_object_name, names_part, object_again, object_takes}}
 use Rattle.captext.proofs.StepLaws.{demand_then, value_then}
 
 pub kinds_take : (thread context : Option ObjectKind) → is_thread_and_context thread context ≡ true

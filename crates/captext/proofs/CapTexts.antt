@@ -1,48 +1,21 @@
 -- The line of a filled slot that the table takes next is read, and its words are plain.
-use Rattle.std.proofs.Common.{◌≡◌, ℕ, ◌+◌, ◌^◌, ◌<◌, ◌≤◌, Bool, true, false, cond, List, [], ◌∷◌, ◌++◌, length, codes, option_map, Option, Some, None, Ok, refl, sym, ap, subst, ◌∙◌, arith}
-use Rattle.std.specs.List.{AllByRecursion}
-use Rattle.std.proofs.lemmas.Bool.{cond-true, and_parts, and_from, ltb-true, leb-true, false≢true}
-use Rattle.std.proofs.lemmas.Option.{slice_get_within, get_or_from_slice_get}
-use Rattle.std.proofs.Math.Pow.{pow_mono}
-use Rattle.base.specs.declared.ids.ObjId.{ObjId}
-use Rattle.base.specs.declared.ids.SlotRef.{SlotRef}
-use Rattle.base.specs.declared.rights.Rights.{Rights}
-use Rattle.base.specs.Rights.{IsRights}
-use Rattle.base.specs.declared.limits.TheConstants.{MAX_RADIX}
-use Rattle.machine.specs.declared.cap.Detail.{Detail}
-use Rattle.machine.specs.declared.cap.Detail.TheVariants as d
-use Rattle.machine.specs.declared.cap.Guard.{Guard}
-use Rattle.machine.specs.Capabilities.{kind_of_detail}
-use Rattle.machine.specs.declared.layout.Filled.{Filled}
-use Rattle.machine.specs.declared.layout.Initial.{Initial}
-use Rattle.machine.specs.declared.object.Object.{Object}
-use Rattle.machine.specs.declared.object.Object.TheVariants as o
-use Rattle.machine.specs.declared.object.ObjectKind.{ObjectKind}
-use Rattle.machine.specs.declared.object.ObjectKind.TheVariants as kind
-use Rattle.machine.specs.declared.thread.Tcb.{Tcb}
-use Rattle.machine.specs.Layout.{Layout, initial_of}
-use Rattle.machine.specs.Objects.{kind_of_object, slot_count}
+use Rattle.std.{specs.List.AllByRecursion, proofs.Common.{[], ℕ, ◌++◌, ◌+◌, ◌<◌, ◌^◌, ◌∙◌, ◌∷◌, ◌≡◌, ◌≤◌, Bool, List, None, Ok, Option}}
+use Rattle.std.proofs.{Common.{Some, ap, arith, codes, cond, false, length, option_map, refl, subst, sym, true}, Math.Pow.pow_mono}
+use Rattle.std.proofs.lemmas.{Bool.{and_from, and_parts, cond-true, false≢true, leb-true, ltb-true}, Option.get_or_from_slice_get}
+use Rattle.std.proofs.lemmas.Option.{slice_get_within}
+use Rattle.base.specs.{declared.{ids.{ObjId.ObjId, SlotRef.SlotRef}, limits.TheConstants.MAX_RADIX, rights.Rights.Rights}, Rights.IsRights}
+use Rattle.machine.specs.declared.{cap.{Detail.{Detail, Detail as d}, Guard.Guard}, layout.{Filled.Filled, Initial.Initial}}
+use Rattle.machine.specs.declared.{object.{Object.{Object, Object as o}, ObjectKind.{ObjectKind, ObjectKind as kind}}, thread.Tcb.Tcb}
+use Rattle.machine.specs.{Capabilities.kind_of_detail, Layout.{Layout, initial_of}, Objects.{kind_of_object, slot_count}}
+use Rattle.words.{specs.{Name.is_name, Reading.bind, Text.{IsPlainLine, IsPlainWord}}, proofs.{Parts.last_again, WordLaws.plain_bytes}}
 use Rattle.table.specs.Building.{AdmitsCap, declares_slot, fits, fits_target, has_index, is_above_caps, is_fitting, may_hold, with_filled}
-use Rattle.table.specs.Names.{object_named}
-use Rattle.table.specs.Items.{BeforePairs}
-use Rattle.table.specs.Rules.{IsBlank, IsDraft, kind_at}
-use Rattle.words.specs.Name.{is_name}
-use Rattle.words.specs.Reading.{bind}
-use Rattle.words.specs.Text.{IsPlainLine, IsPlainWord}
-use Rattle.words.proofs.Parts.{last_again}
-use Rattle.words.proofs.WordLaws.{plain_bytes}
-use Rattle.captext.specs.declared.shapes.Place.{Place}
+use Rattle.table.specs.{Items.BeforePairs, Names.object_named, Rules.{IsBlank, IsDraft, kind_at}}
+use Rattle.captext.specs.{declared.shapes.{Place.Place, Term.{Term, Term as term}}, Spelling.{AreTerms, IsPlace}, TableText.cap_words}
 use Rattle.captext.specs.declared.shapes.Place.TheVariants as place
-use Rattle.captext.specs.declared.shapes.Term.{Term}
-use Rattle.captext.specs.declared.shapes.Term.TheVariants as term
-use Rattle.captext.specs.Spelling.{AreTerms, IsPlace}
-use Rattle.captext.specs.Tables.{takes_caps, slot_in, fits_holder, fits_place, may_fill, is_claimed, is_plain, detail_of, detail_for, capability, filled, capped, cap_line, NamedCap}
-use Rattle.captext.specs.TableText.{object_name, place_in, slot_name, detail_words, cap_words}
-use Rattle.captext.proofs.Admits.{claims}
-use Rattle.captext.proofs.CapLines.{cap_part, HasCap}
-use Rattle.captext.proofs.LineLaws.{caps_again}
-use Rattle.captext.proofs.NameLaws.{object_again, is_object_name}
-use Rattle.captext.proofs.TermLaws.{terms_words}
+use Rattle.captext.specs.{TableText.{detail_words, object_name, place_in, slot_name}, Tables.{NamedCap, cap_line, capability, capped}}
+use Rattle.captext.specs.Tables.{detail_for, detail_of, filled, fits_holder, fits_place, is_claimed, is_plain, may_fill, slot_in}
+use Rattle.captext.{specs.Tables.takes_caps, proofs.{Admits.claims, CapLines.{HasCap, cap_part}, LineLaws.caps_again}}
+use Rattle.captext.proofs.{NameLaws.{is_object_name, object_again}, TermLaws.terms_words}
 
 abbrev terms_of : Detail → Option Term × Option Term
 terms_of (d.CNode guard) = (Some (term.Decimal guard.size), Some (term.Hexadecimal guard.value))

@@ -1,12 +1,10 @@
 -- What the steps of a table's line say where it was read: the words it has, the tests it passed, and the item it adds.
-use Rattle.std.proofs.Common.{◌≡◌, ℕ, Bool, true, false, cond, List, [], ◌∷◌, Option, Some, None, Result, Ok, refl, ap, subst, ◌∙◌}
-use Rattle.std.proofs.lemmas.Bool.{and_parts, and_from}
+use Rattle.std.proofs.Common.{[], ℕ, ◌∙◌, ◌∷◌, ◌≡◌, Bool, List, None, Ok, Option, Result, Some, ap, cond, false, refl, subst, true}
+use Rattle.std.proofs.lemmas.Bool.{and_from, and_parts}
 use Rattle.machine.specs.Layout.{Layout}
-use Rattle.table.specs.Items.{Item, BeforeBindings, BeforePairs, BeforeCaps, BeforeObjects}
-use Rattle.words.specs.declared.faults.Wrong.{Wrong}
-use Rattle.words.specs.Reading.{bind, or_syntax}
-use Rattle.captext.specs.Tables.{is_nil, takes_pairs, takes_caps, takes_objects, takes_labels}
-use Rattle.captext.specs.TableText.{IsLineOf}
+use Rattle.words.specs.{declared.faults.Wrong.Wrong, Reading.{bind, or_syntax}}
+use Rattle.table.specs.Items.{BeforeBindings, BeforeCaps, BeforeObjects, BeforePairs, Item}
+use Rattle.captext.specs.{TableText.IsLineOf, Tables.{is_nil, takes_caps, takes_labels, takes_objects, takes_pairs}}
 
 -- a line was read: it adds an item
 abbrev pub TakesItem : Layout → List (List ℕ) → Layout → Type 0

@@ -1,22 +1,13 @@
 -- What has a name's number has that name, and where names differ the number of a name is found by it.
-use Rattle.std.proofs.Common.{◌≡◌, ◌≢◌, ◌↔◌, ℕ, ◌<◌, Bool, true, false, not, cond, nat_lt, List, [], ◌∷◌, length, get_or, position, option_map, Option, Some, None, AllPairs, refl, sym, ap, ◌∙◌, arith}
-use Rattle.std.specs.Bool.{Decides}
-use Rattle.std.specs.List.{position_or_len}
-use Rattle.std.specs.Str.{bytes_eq}
-use Rattle.std.proofs.lemmas.Bool.{cond-true, lt-ltb}
-use Rattle.std.proofs.lemmas.List.Quantifiers.{position-Some}
-use Rattle.std.proofs.lemmas.List.Sums.{prefix_len_is}
+use Rattle.std.{specs.{Bool.Decides, List.position_or_len, Str.bytes_eq}, proofs.Common.{[], ℕ, ◌<◌, ◌↔◌, ◌∙◌, ◌∷◌, ◌≡◌, ◌≢◌, AllPairs}}
+use Rattle.std.proofs.Common.{Bool, List, None, Option, Some, ap, arith, cond, false, get_or, length, nat_lt, not, option_map, position}
+use Rattle.std.proofs.{Common.{refl, sym, true}, lemmas.{Bool.{cond-true, lt-ltb}, List.{Quantifiers.position-Some, Sums.prefix_len_is}}}
 use Rattle.std.proofs.lemmas.Slice.Eq.{bytes_eq-Decides}
 use Rattle.base.specs.declared.ids.ObjId.{ObjId}
 use Rattle.machine.specs.Layout.{Layout}
-use Rattle.table.specs.Names.{label_named, object_named}
-use Rattle.table.specs.Rules.{IsDraft}
-use Rattle.words.specs.Name.{is_name}
-use Rattle.words.specs.Parts.{IsPart}
-use Rattle.words.proofs.Parts.{both_parts, name_part}
-use Rattle.captext.specs.PolicyText.{label_name}
-use Rattle.captext.specs.Shapes.{names_at}
-use Rattle.captext.specs.TableText.{object_name}
+use Rattle.words.{specs.{Name.is_name, Parts.IsPart}, proofs.Parts.{both_parts, name_part}}
+use Rattle.table.specs.{Names.{label_named, object_named}, Rules.IsDraft}
+use Rattle.captext.specs.{PolicyText.label_name, Shapes.names_at, TableText.object_name}
 
 -- two names
 

@@ -1,29 +1,17 @@
 -- A line for a label or an object is read just where it is the line of a label or an object that the table takes next.
-use Rattle.std.proofs.Common.{◌≡◌, ℕ, ◌<◌, ◌&&◌, false, not, nat_lt, List, [], ◌∷◌, length, codes, is_some, Ok, Some, refl, sym, ap, ◌∙◌}
-use Rattle.std.proofs.lemmas.Bool.{and_parts, and_from, not-true, ltb-true, leb-true, lt-ltb, le-leb}
-use Rattle.std.proofs.lemmas.List.{append-nil}
-use Rattle.machine.specs.declared.layout.Initial.{Initial}
-use Rattle.machine.specs.declared.object.ObjectKind.{ObjectKind}
-use Rattle.machine.specs.KindWords.{object_kind_word}
-use Rattle.machine.specs.Layout.{Layout, most_labels}
-use Rattle.machine.specs.Objects.{kind_of_object}
-use Rattle.table.specs.Building.{AdmitsObject, is_free, repeats_control, with_label, with_initial}
-use Rattle.table.specs.Names.{label_named, object_named}
-use Rattle.table.specs.Items.{LabelItem, ObjectItem, BeforeCaps, BeforeObjects, Admits}
-use Rattle.table.specs.Placement.{is_aligned}
+use Rattle.std.proofs.Common.{[], ℕ, ◌&&◌, ◌<◌, ◌∙◌, ◌∷◌, ◌≡◌, List, Ok, Some, ap, codes, false, is_some, length, nat_lt, not, refl, sym}
+use Rattle.std.proofs.lemmas.{Bool.{and_from, and_parts, le-leb, leb-true, lt-ltb, ltb-true, not-true}, List.append-nil}
+use Rattle.machine.specs.{declared.{layout.Initial.Initial, object.ObjectKind.ObjectKind}, KindWords.object_kind_word, Layout.Layout}
+use Rattle.machine.specs.{Layout.most_labels, Objects.kind_of_object}
+use Rattle.words.{specs.{declared.faults.Wrong.Wrong as wrong, Parts.read_as, Reading.{bind, ended_at}}, proofs.Parts.alone_again}
+use Rattle.words.proofs.{Parts.{alone_takes, name_part, part_then}, WordLaws.{bind_ok, ended_then}}
+use Rattle.table.specs.{Building.{AdmitsObject, is_free, repeats_control, with_initial, with_label}, Items.{Admits, BeforeCaps}}
+use Rattle.table.specs.{Items.{BeforeObjects, LabelItem, ObjectItem}, Names.{label_named, object_named}, Placement.is_aligned}
 use Rattle.table.specs.Rules.{IsDraft}
-use Rattle.words.specs.declared.faults.Wrong.TheVariants as wrong
-use Rattle.words.specs.Parts.{read_as}
-use Rattle.words.specs.Reading.{bind, ended_at}
-use Rattle.words.proofs.Parts.{alone_again, alone_takes, name_part, part_then}
-use Rattle.words.proofs.WordLaws.{bind_ok, ended_then}
-use Rattle.captext.specs.PolicyText.{label_name}
-use Rattle.captext.specs.Tables.{takes_objects, takes_labels, labelled, label_line, heading, is_within, declared, limited, content_at, object_line}
-use Rattle.captext.specs.TableText.{content_words}
-use Rattle.captext.proofs.LineLaws.{TakesItem, same_ok, objects_take, labels_take, objects_again, labels_again}
-use Rattle.captext.proofs.NameLaws.{label_takes, label_again, is_label_name, names_part}
-use Rattle.captext.proofs.ObjectParts.{object_takes, object_again}
-use Rattle.captext.proofs.StepLaws.{demand_then, value_then}
+use Rattle.captext.specs.{PolicyText.label_name, TableText.content_words, Tables.{content_at, declared, heading, is_within, label_line}}
+use Rattle.captext.{specs.Tables.{labelled, limited, object_line, takes_labels, takes_objects}, proofs.LineLaws.{TakesItem, labels_again}}
+use Rattle.captext.proofs.{LineLaws.{labels_take, objects_again, objects_take, same_ok}, NameLaws.{is_label_name, label_again, label_takes}}
+use Rattle.captext.proofs.{NameLaws.names_part, ObjectParts.{object_again, object_takes}, StepLaws.{demand_then, value_then}}
 
 -- a label
 

@@ -1,35 +1,20 @@
 -- A kind's own words are read just as they are spelled: what was read is an object at boot, and each such object is read back.
-use Rattle.std.proofs.Common.{◌≡◌, ℕ, ◌^◌, ◌<◌, ◌≤◌, Bool, true, false, cond, List, [], ◌∷◌, ◌++◌, codes, Option, Some, None, Ok, refl, sym, ap, subst, ◌∙◌, arith}
-use Rattle.std.specs.Bool.{⊤, Decides}
-use Rattle.std.specs.List.{AllByRecursion}
-use Rattle.std.specs.Str.{bytes_eq}
-use Rattle.std.proofs.lemmas.Bool.{and_parts, and_from, cond-true, cond-false, ltb-true, leb-true, lt-ltb, le-leb}
-use Rattle.std.proofs.lemmas.List.{append-nil}
-use Rattle.std.proofs.lemmas.Option.{cond_some}
-use Rattle.std.proofs.lemmas.Slice.Eq.{bytes_eq-Decides}
+use Rattle.std.{specs.{Bool.{⊤, Decides}, List.AllByRecursion, Str.bytes_eq}, proofs.Common.{[], ℕ, ◌++◌, ◌<◌, ◌^◌, ◌∙◌, ◌∷◌, ◌≡◌, ◌≤◌}}
+use Rattle.std.proofs.Common.{Bool, List, None, Ok, Option, Some, ap, arith, codes, cond, false, refl, subst, sym, true}
+use Rattle.std.proofs.lemmas.{Bool.{and_from, and_parts, cond-false, cond-true, le-leb, leb-true, lt-ltb, ltb-true}, List.append-nil}
+use Rattle.std.proofs.lemmas.{Option.cond_some, Slice.Eq.bytes_eq-Decides}
 use Rattle.base.specs.declared.core_number.TheConstants.CoreNo as CoreNo
 use Rattle.base.specs.declared.limits.TheConstants.{ADDRESS_END, MAX_PERIOD, MAX_RADIX}
-use Rattle.machine.specs.declared.object.Object.{Object}
-use Rattle.machine.specs.declared.object.Object.TheVariants as o
-use Rattle.machine.specs.declared.object.ObjectKind.{ObjectKind}
+use Rattle.machine.specs.declared.object.{Object.{Object, Object as o}, ObjectKind.ObjectKind, ReplyState.ReplyState as reply, Share.Share}
 use Rattle.machine.specs.declared.object.ObjectKind.TheVariants as kind
-use Rattle.machine.specs.declared.object.Share.{Share}
-use Rattle.machine.specs.declared.object.ReplyState.TheVariants as reply
-use Rattle.machine.specs.declared.thread.RunState.{RunState}
+use Rattle.machine.{specs.{declared.thread.RunState.RunState, Objects.{end_of, kind_of_object}}, proofs.KindWords.found_word}
 use Rattle.machine.specs.declared.thread.RunState.TheVariants as run
-use Rattle.machine.specs.Objects.{kind_of_object, end_of}
-use Rattle.machine.proofs.KindWords.{found_word}
+use Rattle.words.specs.{Number.number_at, Parts.{IsPart, in_turn, read_as}, Reading.{bind, word_at}, Text.IsPlainWord}
+use Rattle.words.proofs.{Parts.{both_parts, hex_part, number_part, read_as_again, takes_as, word_part}, WordLaws.{bind_ok, plain_bytes}}
 use Rattle.table.specs.Rules.{IsAtRest, IsBlank, IsWithinLimits}
-use Rattle.words.specs.Number.{number_at}
-use Rattle.words.specs.Parts.{in_turn, read_as, IsPart}
-use Rattle.words.specs.Reading.{bind, word_at}
-use Rattle.words.specs.Text.{IsPlainWord}
-use Rattle.words.proofs.Parts.{both_parts, hex_part, number_part, read_as_again, takes_as, word_part}
-use Rattle.words.proofs.WordLaws.{bind_ok, plain_bytes}
-use Rattle.captext.specs.Tables.{start_of, start_at, share_of, share_at, is_limited_share, is_limited, limited, content_at, untyped_of, cnode_of, thread_of, endpoint_of, notification_of, reply_of, context_of, frame_of, control_of}
-use Rattle.captext.specs.TableText.{start_word, share_words, content_words}
-use Rattle.captext.proofs.LineLaws.{same_ok}
-use Rattle.captext.proofs.SlotLaws.{no_number}
+use Rattle.captext.specs.{TableText.{content_words, share_words, start_word}, Tables.{cnode_of, content_at, context_of, control_of}}
+use Rattle.captext.specs.Tables.{endpoint_of, frame_of, is_limited, is_limited_share, limited, notification_of, reply_of, share_at}
+use Rattle.captext.{specs.Tables.{share_of, start_at, start_of, thread_of, untyped_of}, proofs.{LineLaws.same_ok, SlotLaws.no_number}}
 
 abbrev IsNumber : ℕ → Type 0
 IsNumber n = n < 2 ^ 64

@@ -1,29 +1,15 @@
 -- A line for a pair of the derivation tree is read just where it is the line of a pair that the table takes next.
-use Rattle.std.proofs.Common.{◌≡◌, ℕ, ◌&&◌, true, List, [], ◌∷◌, codes, Ok, refl, sym, ap, ◌∙◌}
-use Rattle.std.proofs.lemmas.Bool.{and_parts, and_from}
+use Rattle.std.proofs.{Common.{[], ℕ, ◌&&◌, ◌∙◌, ◌∷◌, ◌≡◌, List, Ok, ap, codes, refl, sym, true}, lemmas.Bool.{and_from, and_parts}}
 use Rattle.base.specs.declared.ids.SlotRef.{SlotRef}
-use Rattle.machine.specs.declared.layout.Pair.{Pair}
-use Rattle.machine.specs.Layout.{Layout}
-use Rattle.table.specs.Building.{AdmitsPair, declares_slot, is_above_pairs, with_pair}
-use Rattle.table.specs.Items.{PairItem, BeforeBindings}
-use Rattle.table.specs.Names.{object_named}
-use Rattle.table.specs.Rules.{IsDraft, kind_at}
-use Rattle.words.specs.declared.faults.Wrong.TheVariants as wrong
-use Rattle.words.specs.Parts.{IsPart}
-use Rattle.words.specs.Reading.{bind}
-use Rattle.words.specs.Text.{IsPlainLine}
-use Rattle.words.proofs.Parts.{alone_again, alone_takes, both_parts}
-use Rattle.words.proofs.WordLaws.{plain_bytes}
-use Rattle.captext.specs.Shapes.{NamedSlot}
-use Rattle.captext.specs.Spelling.{slot_word}
-use Rattle.captext.specs.Tables.{takes_pairs, slot_in, rises, fits_holder, paired, derived, pair_at, child_line}
-use Rattle.captext.specs.TableText.{object_name, place_in, slot_name, pair_words}
-use Rattle.captext.proofs.CapLines.{slot_spelled}
-use Rattle.captext.proofs.CapTexts.{placed}
-use Rattle.captext.proofs.LineLaws.{TakesItem, same_ok, pairs_take, pairs_again}
-use Rattle.captext.proofs.NameLaws.{object_takes}
-use Rattle.captext.proofs.SlotLaws.{slot_part, IsSlotName}
-use Rattle.captext.proofs.StepLaws.{demand_then, value_then}
+use Rattle.machine.specs.{declared.layout.Pair.Pair, Layout.Layout}
+use Rattle.words.{specs.{declared.faults.Wrong.Wrong as wrong, Parts.IsPart, Reading.bind, Text.IsPlainLine}, proofs.Parts.alone_again}
+use Rattle.words.proofs.{Parts.{alone_takes, both_parts}, WordLaws.plain_bytes}
+use Rattle.table.specs.{Building.{AdmitsPair, declares_slot, is_above_pairs, with_pair}, Items.{BeforeBindings, PairItem}}
+use Rattle.table.specs.{Names.object_named, Rules.{IsDraft, kind_at}}
+use Rattle.captext.specs.{Shapes.NamedSlot, Spelling.slot_word, TableText.{object_name, pair_words, place_in, slot_name}, Tables.child_line}
+use Rattle.captext.{specs.Tables.{derived, fits_holder, pair_at, paired, rises, slot_in, takes_pairs}, proofs.CapLines.slot_spelled}
+use Rattle.captext.proofs.{CapTexts.placed, LineLaws.{TakesItem, pairs_again, pairs_take, same_ok}, NameLaws.object_takes}
+use Rattle.captext.proofs.{SlotLaws.{IsSlotName, slot_part}, StepLaws.{demand_then, value_then}}
 
 -- the words of the line
 

@@ -1,37 +1,21 @@
 -- What a policy that was read says of its text, and that the text of each policy is read back.
-use Rattle.std.proofs.Common.{◌≡◌, ℕ, ◌-◌, ◌==◌, ◌&&◌, ◌||◌, ◌↔◌, true, not, nat_lt, List, [], ◌∷◌, ◌++◌, length, codes, Option, Some, None, Ok, IfSome, refl, sym, ap, subst, ◌∙◌, arith}
-use Rattle.std.specs.declared.cmp.Ordering.TheVariants.{Less, Equal, Greater}
-use Rattle.std.specs.declared.cmp.Ordering.{Ordering}
-use Rattle.std.specs.Bool.{⊤}
-use Rattle.std.specs.Ordering.{is_lt, nat_cmp, ordering_then}
-use Rattle.std.specs.List.Sorted.{IsStrictlySortedBy}
-use Rattle.std.proofs.lemmas.Bool.Decides.{nat_tests}
-use Rattle.std.proofs.lemmas.List.{length_push, get_or_append_left, get_or_push}
-use Rattle.std.proofs.lemmas.Map.Keys.{Less-from_sorted}
+use Rattle.std.specs.{declared.cmp.Ordering.{Ordering, TheVariants.{Equal, Greater, Less}}, Bool.⊤, List.Sorted.IsStrictlySortedBy}
+use Rattle.std.{specs.Ordering.{is_lt, nat_cmp, ordering_then}, proofs.Common.{[], ℕ, ◌&&◌, ◌++◌, ◌-◌, ◌==◌, ◌||◌, ◌↔◌, ◌∙◌, ◌∷◌, ◌≡◌}}
+use Rattle.std.proofs.Common.{IfSome, List, None, Ok, Option, Some, ap, arith, codes, length, nat_lt, not, refl, subst, sym, true}
+use Rattle.std.proofs.lemmas.{Bool.Decides.nat_tests, List.{get_or_append_left, get_or_push, length_push}, Map.Keys.Less-from_sorted}
 use Rattle.std.proofs.lemmas.Option.{slice_get-get_or}
-use Rattle.base.specs.declared.edge.Edge.{Edge}
-use Rattle.base.specs.declared.kind.Kind.{Kind}
-use Rattle.base.specs.declared.kind.Kind.TheVariants.{Control}
-use Rattle.base.specs.Kinds.{kind_name, kind_named, kind_number}
-use Rattle.base.proofs.KindNames.{kind_is_named, kind_again}
+use Rattle.base.specs.{declared.{edge.Edge.Edge, kind.Kind.{Kind, TheVariants.Control}}, Kinds.{kind_name, kind_named, kind_number}}
+use Rattle.base.proofs.KindNames.{kind_again, kind_is_named}
 use Rattle.machine.specs.Layout.{Layout}
-use Rattle.policy.specs.Policy.{edge_cmp, last_edge, IsAboveLast, IsRising}
-use Rattle.policy.proofs.Members.{rising_appended}
-use Rattle.table.specs.Names.{label_named}
-use Rattle.table.specs.Rules.{IsLawful}
-use Rattle.words.specs.declared.faults.Wrong.TheVariants as wrong
-use Rattle.words.specs.Name.{is_name, name_at}
-use Rattle.words.specs.Parts.{by_word, in_turn, keyed, IsPart}
-use Rattle.words.specs.Reading.{bind, word_at}
-use Rattle.words.specs.Text.{IsPlainLine}
-use Rattle.words.proofs.ListLaws.{IsListFormat, all_front, all_last, list_again, list_once, list_takes}
-use Rattle.words.proofs.Parts.{after_key, alone_again, alone_takes, both_parts, keyed_part, name_part, word_part}
-use Rattle.words.proofs.TextLaws.{both}
-use Rattle.words.proofs.WordLaws.{plain_bytes, plain_name}
-use Rattle.captext.specs.Policies.{kind_at, named_edge_at, may_follow, follows, with_edge, labelled_edge, edge_line, read_policy_of}
-use Rattle.captext.specs.PolicyText.{policy_header, label_name, edge_words, policy_text, IsEdgeOf, IsPolicyOf}
-use Rattle.captext.proofs.NameLaws.{label_takes, label_again, is_label_name}
-use Rattle.captext.proofs.StepLaws.{demand_then, value_then}
+use Rattle.words.specs.{declared.faults.Wrong.Wrong as wrong, Name.{is_name, name_at}, Parts.{IsPart, by_word, in_turn, keyed}}
+use Rattle.words.{specs.{Reading.{bind, word_at}, Text.IsPlainLine}, proofs.ListLaws.{IsListFormat, all_front, all_last, list_again}}
+use Rattle.words.proofs.{ListLaws.{list_once, list_takes}, Parts.{after_key, alone_again, alone_takes, both_parts, keyed_part, name_part}}
+use Rattle.words.proofs.{Parts.word_part, TextLaws.both, WordLaws.{plain_bytes, plain_name}}
+use Rattle.policy.{specs.Policy.{IsAboveLast, IsRising, edge_cmp, last_edge}, proofs.Members.rising_appended}
+use Rattle.table.specs.{Names.label_named, Rules.IsLawful}
+use Rattle.captext.specs.Policies.{edge_line, follows, kind_at, labelled_edge, may_follow, named_edge_at, read_policy_of, with_edge}
+use Rattle.captext.specs.PolicyText.{IsEdgeOf, IsPolicyOf, edge_words, label_name, policy_header, policy_text}
+use Rattle.captext.proofs.{NameLaws.{is_label_name, label_again, label_takes}, StepLaws.{demand_then, value_then}}
 
 -- the words of a line
 

@@ -1,33 +1,19 @@
 -- A word is read as a slot or a term just where it is that slot's or that term's word.
-use Rattle.std.proofs.Common.{◌≡◌, ℕ, ◌+◌, ◌<◌, ◌==◌, ◌^◌, ◌↔◌, zero, suc, Bool, true, false, not, cond, nat_lt, List, [], ◌∷◌, ◌++◌, length, get_or, take, drop, position, codes, Option, Some, None, option_map, refl, sym, ap, subst, ◌∙◌, arith, eqb-true, lt-ltb, add-one, drop-cons, length-append, lit<}
-use Rattle.std.specs.Prelude.{bytes_eq}
-use Rattle.std.specs.Bool.{Decides}
-use Rattle.std.specs.Char.{is_ascii_digit}
-use Rattle.std.specs.Fmt.{decimal}
-use Rattle.std.specs.List.{AllByRecursion, list_all, position_or_len}
-use Rattle.std.proofs.lemmas.Bool.{and_parts, cond-true, cond-false}
-use Rattle.std.proofs.lemmas.Bool.Decides.{nat_tests}
-use Rattle.std.proofs.lemmas.List.Quantifiers.{position-Some}
-use Rattle.std.proofs.lemmas.List.{take-append-drop}
-use Rattle.std.proofs.Math.Seq.{take-append_seam, drop-append-add}
-use Rattle.std.proofs.lemmas.Slice.Eq.{bytes_eq-Decides}
-use Rattle.base.specs.declared.rights.Rights.{Rights}
-use Rattle.base.specs.Rights.{rights_word, rights_of_word}
-use Rattle.base.proofs.RightsWords.{rights_named, rights_again}
-use Rattle.words.specs.Name.{is_name, is_name_byte, name_of}
-use Rattle.words.specs.Parts.{IsPart}
-use Rattle.words.specs.Text.{IsPlainWord}
-use Rattle.words.proofs.Parts.{word_part}
-use Rattle.words.proofs.TextLaws.{both}
-use Rattle.words.proofs.WordLaws.{plain_bytes, plain_decimal, plain_name}
-use Rattle.words.specs.Number.{dec_of, hex_of, hexadecimal}
-use Rattle.words.proofs.Spellings.{decimal_iff, decimal_first, hexadecimal_iff, hexadecimal_first, hexadecimal_no_decimal, name_iff}
-use Rattle.captext.specs.declared.shapes.Place.{Place}
+use Rattle.std.specs.{Bool.Decides, Char.is_ascii_digit, Fmt.decimal, List.{AllByRecursion, list_all, position_or_len}, Prelude.bytes_eq}
+use Rattle.std.proofs.Common.{[], ℕ, ◌++◌, ◌+◌, ◌<◌, ◌==◌, ◌^◌, ◌↔◌, ◌∙◌, ◌∷◌, ◌≡◌, Bool, List, None, Option, Some, add-one, ap, arith}
+use Rattle.std.proofs.Common.{codes, cond, drop, drop-cons, eqb-true, false, get_or, length, length-append, lit<, lt-ltb, nat_lt, not}
+use Rattle.std.proofs.{Common.{option_map, position, refl, subst, suc, sym, take, true, zero}, Math.Seq.{drop-append-add, take-append_seam}}
+use Rattle.std.proofs.lemmas.{Bool.{and_parts, cond-false, cond-true, Decides.nat_tests}, List.take-append-drop}
+use Rattle.std.proofs.lemmas.{List.Quantifiers.position-Some, Slice.Eq.bytes_eq-Decides}
+use Rattle.base.{specs.{declared.rights.Rights.Rights, Rights.{rights_of_word, rights_word}}, proofs.RightsWords.rights_again}
+use Rattle.base.proofs.RightsWords.{rights_named}
+use Rattle.words.specs.{Name.{is_name, is_name_byte, name_of}, Number.{dec_of, hex_of, hexadecimal}, Parts.IsPart, Text.IsPlainWord}
+use Rattle.words.proofs.{Parts.word_part, Spellings.{decimal_first, decimal_iff, hexadecimal_first, hexadecimal_iff}}
+use Rattle.words.proofs.{Spellings.{hexadecimal_no_decimal, name_iff}, TextLaws.both, WordLaws.{plain_bytes, plain_decimal, plain_name}}
+use Rattle.captext.specs.{declared.shapes.{Place.Place, Term.Term}, Shapes.{first_term, place_of, slot_at, slot_at_dot, slot_of, slot_with}}
 use Rattle.captext.specs.declared.shapes.Place.TheVariants as place
-use Rattle.captext.specs.declared.shapes.Term.{Term}
 use Rattle.captext.specs.declared.shapes.Term.TheVariants as term
-use Rattle.captext.specs.Shapes.{first_term, place_of, slot_at, slot_at_dot, slot_of, slot_with, term_of}
-use Rattle.captext.specs.Spelling.{place_word, slot_word, term_word, IsPlace, IsTerm}
+use Rattle.captext.specs.{Shapes.term_of, Spelling.{IsPlace, IsTerm, place_word, slot_word, term_word}}
 
 -- terms
 

@@ -1,7 +1,6 @@
 -- What a step of a line that was read says of the value or the test it rests on.
-use Rattle.std.proofs.Common.{◌≡◌, Bool, true, false, Option, Some, None, Result, Ok, refl}
-use Rattle.words.specs.declared.faults.Wrong.{Wrong}
-use Rattle.words.specs.Reading.{bind}
+use Rattle.std.proofs.Common.{◌≡◌, Bool, None, Ok, Option, Result, Some, false, refl, true}
+use Rattle.words.specs.{declared.faults.Wrong.Wrong, Reading.bind}
 use Rattle.captext.specs.Tables.{demand, value_or}
 
 -- a test was passed, and reading went on

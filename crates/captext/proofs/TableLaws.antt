@@ -1,44 +1,27 @@
 -- What a table that was read says of its text, and that the text of each table is read back.
-use Rattle.std.proofs.Common.{◌≡◌, ◌↔◌, ℕ, ◌<◌, Bool, true, false, not, cond, length, List, [], ◌∷◌, ◌++◌, map, codes, Option, Some, None, Result, Ok, Err, IfOk, refl, sym, ap, subst, ◌∙◌, append_assoc}
-use Rattle.std.specs.Bool.{⊤, Decides}
-use Rattle.std.specs.List.{AllByRecursion}
-use Rattle.std.specs.Str.{bytes_eq}
-use Rattle.std.proofs.lemmas.List.{append-nil}
-use Rattle.std.proofs.lemmas.List.Quantifiers.{position-Some}
-use Rattle.std.proofs.lemmas.Slice.Eq.{bytes_eq-Decides}
+use Rattle.std.{specs.{Bool.{⊤, Decides}, List.AllByRecursion, Str.bytes_eq}, proofs.Common.{[], ℕ, ◌++◌, ◌<◌, ◌↔◌, ◌∙◌, ◌∷◌, ◌≡◌, Bool}}
+use Rattle.std.proofs.Common.{Err, IfOk, List, None, Ok, Option, Result, Some, ap, append_assoc, codes, cond, false, length, map, not, refl}
+use Rattle.std.proofs.{Common.{subst, sym, true}, lemmas.{List.{append-nil, Quantifiers.position-Some}, Slice.Eq.bytes_eq-Decides}}
 use Rattle.base.specs.declared.ids.SlotRef.{SlotRef}
-use Rattle.machine.specs.declared.layout.Filled.{Filled}
-use Rattle.machine.specs.declared.layout.Version.{Version}
+use Rattle.machine.specs.{declared.{layout.{Filled.Filled, Version.Version}, object.ObjectKind.ObjectKind}, KindWords.object_kind_of}
 use Rattle.machine.specs.declared.layout.Version.TheVariants as version
-use Rattle.machine.specs.declared.object.ObjectKind.{ObjectKind}
 use Rattle.machine.specs.declared.object.ObjectKind.TheVariants as kind
-use Rattle.machine.specs.KindWords.{object_kind_of, object_kind_word}
-use Rattle.machine.specs.Layout.{Layout, empty_layout, initial_of}
-use Rattle.machine.specs.Objects.{kind_of_object}
+use Rattle.machine.specs.{KindWords.object_kind_word, Layout.{Layout, empty_layout, initial_of}, Objects.kind_of_object}
 use Rattle.machine.proofs.KindWords.{kind_takes}
-use Rattle.table.specs.Items.{Item, LabelItem, ObjectItem, CapItem, PairItem, BindingItem, Admits, ComesNow, IsBuiltUp, none, more, with_item}
-use Rattle.table.specs.Rules.{IsDraft, IsLawful, kind_at}
-use Rattle.table.specs.Tree.{is_kin, tree_fault, with_mark, with_originals}
+use Rattle.words.specs.{declared.faults.{Fault.Fault, Wrong.Wrong}, Reading.{IsNotLast, Reads, bind, last_line, or_syntax, read_format}}
+use Rattle.words.{specs.{Reading.{steps, whole_lines, word_at}, Text.{IsPlainLine, IsPlainWord, lines_of, text_of}}, proofs.TextLaws.both}
+use Rattle.words.proofs.{TextLaws.text_lines, TextReading.{whole_text_again, whole_text_takes}, WordLaws.{bind_ok, plain_bytes, plain_name}}
+use Rattle.words.proofs.WordLaws.{word_then}
+use Rattle.table.specs.Items.{Admits, BindingItem, CapItem, ComesNow, IsBuiltUp, Item, LabelItem, ObjectItem, PairItem, more, none}
+use Rattle.table.specs.{Items.with_item, Rules.{IsDraft, IsLawful, kind_at}, Tree.{is_kin, tree_fault, with_mark, with_originals}}
 use Rattle.table.proofs.BuiltUp.{draft_from_built}
-use Rattle.words.specs.declared.faults.Fault.{Fault}
-use Rattle.words.specs.declared.faults.Wrong.{Wrong}
-use Rattle.words.specs.Reading.{bind, last_line, read_format, word_at, or_syntax, steps, whole_lines, IsNotLast, Reads}
-use Rattle.words.specs.Text.{lines_of, text_of, IsPlainLine, IsPlainWord}
-use Rattle.words.proofs.TextLaws.{both, text_lines}
-use Rattle.words.proofs.TextReading.{whole_text_takes, whole_text_again}
-use Rattle.words.proofs.WordLaws.{bind_ok, word_then, plain_bytes, plain_name}
-use Rattle.captext.specs.PolicyText.{label_name}
-use Rattle.captext.specs.Tables.{object_line, declaration, line_by, table_line, grown, grown_by, format_of, version_of, read_table_of}
-use Rattle.captext.specs.TableText.{table_header, content_words, cap_words, item_words, label_lines, object_lines, pair_lines, binding_lines, table_lines, table_text, IsLineOf}
-use Rattle.captext.proofs.BindLines.{bind_line_takes, bind_line_again, binding_plain}
-use Rattle.captext.proofs.CapLines.{cap_line_takes}
-use Rattle.captext.proofs.CapTexts.{cap_line_again, cap_plain}
-use Rattle.captext.proofs.LineLaws.{TakesItem, spelled_then}
-use Rattle.captext.proofs.NameLaws.{is_label_name}
-use Rattle.captext.proofs.ObjectLines.{label_line_takes, label_line_again, object_line_takes, object_line_again}
-use Rattle.captext.proofs.ObjectParts.{plain_content}
-use Rattle.captext.proofs.PairLines.{child_line_takes, child_line_again, pair_plain}
-use Rattle.captext.proofs.TableLines.{item_more}
+use Rattle.captext.specs.{PolicyText.label_name, TableText.{IsLineOf, binding_lines, cap_words, content_words, item_words, label_lines}}
+use Rattle.captext.specs.{TableText.{object_lines, pair_lines, table_header, table_lines, table_text}, Tables.{declaration, format_of}}
+use Rattle.captext.specs.Tables.{grown, grown_by, line_by, object_line, read_table_of, table_line, version_of}
+use Rattle.captext.proofs.{BindLines.{bind_line_again, bind_line_takes, binding_plain}, CapLines.cap_line_takes, CapTexts.cap_line_again}
+use Rattle.captext.proofs.{CapTexts.cap_plain, LineLaws.{TakesItem, spelled_then}, NameLaws.is_label_name, ObjectLines.label_line_again}
+use Rattle.captext.proofs.{ObjectLines.{label_line_takes, object_line_again, object_line_takes}, ObjectParts.plain_content}
+use Rattle.captext.proofs.{PairLines.{child_line_again, child_line_takes, pair_plain}, TableLines.item_more}
 
 -- a line that is read is the line of an item
 

@@ -1,16 +1,12 @@
 -- The lines of a table with one item more are the lines before it and the line of that item.
-use Rattle.std.proofs.Common.{◌≡◌, ℕ, List, [], ◌∷◌, ◌++◌, map, length, refl, sym, ap, ◌∙◌, arith, append_assoc}
+use Rattle.std.{specs.List.zip, proofs.Common.{[], ℕ, ◌++◌, ◌∙◌, ◌∷◌, ◌≡◌, List, ap, append_assoc, arith, length, map, refl, sym}}
 use Rattle.std.proofs.lemmas.List.{append-nil, map_push}
-use Rattle.std.specs.List.{zip}
-use Rattle.machine.specs.declared.layout.Binding.{Binding}
-use Rattle.machine.specs.declared.layout.Filled.{Filled}
-use Rattle.machine.specs.declared.layout.Initial.{Initial}
-use Rattle.machine.specs.declared.layout.Pair.{Pair}
-use Rattle.machine.specs.Layout.{Layout, initial_of}
-use Rattle.table.specs.Building.{with_label, with_initial, with_filled, with_pair, with_binding}
-use Rattle.table.specs.Items.{Item, LabelItem, ObjectItem, CapItem, PairItem, BindingItem, BeforeBindings, BeforePairs, BeforeCaps, BeforeObjects, ComesNow, with_item}
+use Rattle.machine.specs.{declared.layout.{Binding.Binding, Filled.Filled, Initial.Initial, Pair.Pair}, Layout.{Layout, initial_of}}
+use Rattle.table.specs.{Building.{with_binding, with_filled, with_initial, with_label, with_pair}, Items.{BeforeBindings, BeforeCaps}}
+use Rattle.table.specs.Items.{BeforeObjects, BeforePairs, BindingItem, CapItem, ComesNow, Item, LabelItem, ObjectItem, PairItem, with_item}
 use Rattle.table.specs.Rules.{kind_at}
-use Rattle.captext.specs.TableText.{label_words, object_words, cap_words, pair_words, binding_words, item_words, object_lines, cap_lines, pair_lines, binding_lines, table_lines}
+use Rattle.captext.specs.TableText.{binding_lines, binding_words, cap_lines, cap_words, item_words, label_words, object_lines, object_words}
+use Rattle.captext.specs.TableText.{pair_lines, pair_words, table_lines}
 
 zip_push : {X Y : Type 0} (xs : List X) (ys : List Y) (x : X) (y : Y) → length xs ≡ length ys
     → zip (xs ++ x ∷ []) (ys ++ y ∷ []) ≡ zip xs ys ++ (x, y) ∷ []

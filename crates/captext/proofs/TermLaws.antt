@@ -1,19 +1,11 @@
 -- The words left are read as at most two terms just as these are spelled.
-use Rattle.std.proofs.Common.{◌≡◌, ℕ, ◌<◌, Bool, true, false, cond, List, [], ◌∷◌, ◌++◌, codes, Option, Some, None, Ok, refl, sym, ap, subst, ◌∙◌}
-use Rattle.std.specs.List.{AllByRecursion}
-use Rattle.base.specs.declared.rights.Rights.{Rights}
-use Rattle.base.specs.Rights.{letter_of, rights_word}
-use Rattle.words.specs.Parts.{in_turn, IsLastPart}
-use Rattle.words.specs.Reading.{bind, or_syntax}
-use Rattle.words.specs.Text.{IsPlainWord}
-use Rattle.words.proofs.TextLaws.{both}
+use Rattle.std.{specs.List.AllByRecursion, proofs.Common.{[], ℕ, ◌++◌, ◌<◌, ◌∙◌, ◌∷◌, ◌≡◌, Bool, List, None, Ok, Option, Some, ap, codes}}
+use Rattle.std.proofs.Common.{cond, false, refl, subst, sym, true}
+use Rattle.base.specs.{declared.rights.Rights.Rights, Rights.{letter_of, rights_word}}
+use Rattle.words.{specs.{Parts.{IsLastPart, in_turn}, Reading.{bind, or_syntax}, Text.IsPlainWord}, proofs.TextLaws.both}
 use Rattle.words.proofs.WordLaws.{bind_ok, plain_bytes, plain_decimal, plain_hexadecimal}
-use Rattle.captext.specs.declared.shapes.Term.{Term}
-use Rattle.captext.specs.declared.shapes.Term.TheVariants as term
-use Rattle.captext.specs.Shapes.{term_at, term_of, terms_at}
-use Rattle.captext.specs.Spelling.{option_words, term_word, AreTerms, IsTerm}
-use Rattle.captext.proofs.LineLaws.{same_ok, spelled_then}
-use Rattle.captext.proofs.SlotLaws.{term_again, term_takes}
+use Rattle.captext.specs.{declared.shapes.Term.{Term, Term as term}, Shapes.{term_at, term_of, terms_at}, Spelling.{AreTerms, IsTerm}}
+use Rattle.captext.{specs.Spelling.{option_words, term_word}, proofs.{LineLaws.{same_ok, spelled_then}, SlotLaws.{term_again, term_takes}}}
 
 abbrev Terms : Type 0
 Terms = Option Term × Option Term

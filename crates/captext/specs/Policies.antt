@@ -1,19 +1,12 @@
 -- The text of a policy, line by line: each line adds an edge that rises above the one before, or is faulty.
-use Rattle.std.specs.Prelude.{ℕ, ◌==◌, ◌&&◌, ◌||◌, not, Bool, true, nat_lt, List, [], ◌∷◌, ◌++◌, codes, Option, Some, None, Result, Ok}
-use Rattle.std.specs.Ordering.{is_lt}
-use Rattle.base.specs.declared.edge.Edge.{Edge}
-use Rattle.base.specs.declared.kind.Kind.{Kind}
-use Rattle.base.specs.Kinds.{kind_named, kind_number}
+use Rattle.std.specs.{Ordering.is_lt, Prelude.{[], ℕ, ◌&&◌, ◌++◌, ◌==◌, ◌||◌, ◌∷◌, Bool, List, None, Ok, Option, Result, Some, codes}}
+use Rattle.std.specs.Prelude.{nat_lt, not, true}
+use Rattle.base.specs.{declared.{edge.Edge.Edge, kind.Kind.Kind}, Kinds.{kind_named, kind_number}}
 use Rattle.machine.specs.Layout.{Layout}
+use Rattle.words.specs.{declared.faults.{Fault.Fault, Wrong.{Wrong, Wrong as wrong}}, Name.name_at, Parts.{PartReader, in_turn, keyed}}
+use Rattle.words.specs.{Reading.{◌>>=◌, Format, ended_at, list_format, or_syntax, read_format, word_at}, Text.{lines_of, words_of}}
 use Rattle.policy.specs.Policy.{edge_cmp, last_edge}
 use Rattle.table.specs.Names.{label_named}
-use Rattle.words.specs.declared.faults.Fault.{Fault}
-use Rattle.words.specs.declared.faults.Wrong.{Wrong}
-use Rattle.words.specs.declared.faults.Wrong.TheVariants as wrong
-use Rattle.words.specs.Name.{name_at}
-use Rattle.words.specs.Parts.{PartReader, in_turn, keyed}
-use Rattle.words.specs.Reading.{◌>>=◌, list_format, word_at, ended_at, or_syntax, read_format, Format}
-use Rattle.words.specs.Text.{words_of, lines_of}
 use Rattle.captext.specs.Tables.{demand, value_or}
 
 -- the next word as a kind of authority

@@ -1,13 +1,10 @@
 -- The text of a policy for the labels of a table: a header, a line `edge FROM KIND TO` for each edge, and `end` (confine's own;
 -- the edges are those of 'seL4 Enforces Integrity', section 3).
-use Rattle.std.specs.Prelude.{ℕ, ◌<◌, List, [], ◌∷◌, length, map, codes, slice_index_or}
-use Rattle.std.specs.List.{AllByRecursion}
-use Rattle.base.specs.declared.edge.Edge.{Edge}
-use Rattle.base.specs.Kinds.{kind_name}
+use Rattle.std.specs.{List.AllByRecursion, Prelude.{[], ℕ, ◌<◌, ◌∷◌, List, codes, length, map, slice_index_or}}
+use Rattle.base.specs.{declared.edge.Edge.Edge, Kinds.kind_name}
 use Rattle.machine.specs.Layout.{Layout}
+use Rattle.words.specs.{Reading.list_text, Text.{text_of, words_of}}
 use Rattle.policy.specs.Policy.{IsRising}
-use Rattle.words.specs.Reading.{list_text}
-use Rattle.words.specs.Text.{text_of, words_of}
 
 abbrev pub policy_header : List (List ℕ)
 policy_header = words_of (codes "confine-policy 1")

@@ -1,15 +1,10 @@
 -- Parts of a table's lines: names, slots, and what may follow the object in a line for a capability.
-use Rattle.std.specs.Prelude.{ℕ, ◌+◌, ◌==◌, List, [], ◌∷◌, take, drop, position, codes, Option, Some, None, Ok, option_map, if◌then◌else◌}
+use Rattle.std.specs.Prelude.{[], ℕ, ◌+◌, ◌==◌, ◌∷◌, List, None, Ok, Option, Some, codes, drop, if◌then◌else◌, option_map, position, take}
 use Rattle.std.specs.Str.{bytes_eq}
-use Rattle.base.specs.declared.rights.Rights.{Rights}
-use Rattle.base.specs.Rights.{rights_of_word}
-use Rattle.words.specs.Name.{name_at, name_of}
-use Rattle.words.specs.Number.{dec_of, hex_of}
-use Rattle.words.specs.Parts.{PartReader, in_turn}
-use Rattle.words.specs.Reading.{◌>>=◌, word_at, or_syntax}
-use Rattle.captext.specs.declared.shapes.Place.{Place}
+use Rattle.base.specs.{declared.rights.Rights.Rights, Rights.rights_of_word}
+use Rattle.words.specs.{Name.{name_at, name_of}, Number.{dec_of, hex_of}, Parts.{PartReader, in_turn}, Reading.{◌>>=◌, or_syntax, word_at}}
+use Rattle.captext.specs.declared.shapes.{Place.Place, Term.Term}
 use Rattle.captext.specs.declared.shapes.Place.TheVariants as place
-use Rattle.captext.specs.declared.shapes.Term.{Term}
 use Rattle.captext.specs.declared.shapes.Term.TheVariants as term
 
 -- the next two words as names

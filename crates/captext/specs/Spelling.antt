@@ -1,12 +1,10 @@
 -- How the parts of a table's lines are spelled: slots, as `NAME.DEC` or `NAME.root`, and terms, as rights or
 -- numbers (confine's own).
-use Rattle.std.specs.Prelude.{⊤, ℕ, ◌<◌, ◌^◌, List, [], ◌∷◌, ◌++◌, codes, Option, Some, None}
-use Rattle.std.specs.Fmt.{decimal}
-use Rattle.base.specs.Rights.{rights_word, IsRights}
+use Rattle.std.specs.{Fmt.decimal, Prelude.{[], ℕ, ⊤, ◌++◌, ◌<◌, ◌^◌, ◌∷◌, List, None, Option, Some, codes}}
+use Rattle.base.specs.Rights.{IsRights, rights_word}
 use Rattle.words.specs.Number.{hexadecimal}
-use Rattle.captext.specs.declared.shapes.Place.{Place}
+use Rattle.captext.specs.declared.shapes.{Place.Place, Term.Term}
 use Rattle.captext.specs.declared.shapes.Place.TheVariants as place
-use Rattle.captext.specs.declared.shapes.Term.{Term}
 use Rattle.captext.specs.declared.shapes.Term.TheVariants as term
 
 -- a place within a holder

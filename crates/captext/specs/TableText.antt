@@ -1,38 +1,17 @@
 -- The text of a capability table: the header of its version, a line for each label, object, filled slot, pair of the derivation tree and binding,
 -- and `end` (confine's own; what it says is a system's initial state, seL4 manual, "Bootstrapping").
-use Rattle.std.specs.Prelude.{◌≡◌, ℕ, List, [], ◌∷◌, ◌++◌, map, codes, Option, Some, None, slice_index_or}
-use Rattle.std.specs.Fmt.{decimal}
-use Rattle.std.specs.List.{zip}
-use Rattle.base.specs.declared.ids.ObjId.{ObjId}
-use Rattle.base.specs.declared.ids.SlotRef.{SlotRef}
-use Rattle.base.specs.Rights.{rights_word}
-use Rattle.machine.specs.declared.cap.Detail.{Detail}
-use Rattle.machine.specs.declared.cap.Detail.TheVariants as d
-use Rattle.machine.specs.declared.layout.Binding.{Binding}
-use Rattle.machine.specs.declared.layout.Filled.{Filled}
-use Rattle.machine.specs.declared.layout.Initial.{Initial}
-use Rattle.machine.specs.declared.layout.Pair.{Pair}
-use Rattle.machine.specs.declared.layout.Version.{Version}
+use Rattle.std.specs.{Fmt.decimal, List.zip, Prelude.{[], ℕ, ◌++◌, ◌∷◌, ◌≡◌, List, None, Option, Some, codes, map, slice_index_or}}
+use Rattle.base.specs.{declared.ids.{ObjId.ObjId, SlotRef.SlotRef}, Rights.rights_word}
+use Rattle.machine.specs.declared.{cap.Detail.{Detail, Detail as d}, layout.{Binding.Binding, Filled.Filled, Initial.Initial, Pair.Pair}}
+use Rattle.machine.specs.declared.{layout.Version.Version, object.{Object.{Object, Object as o}, ObjectKind.ObjectKind, Share.Share}}
 use Rattle.machine.specs.declared.layout.Version.TheVariants as version
-use Rattle.machine.specs.declared.object.Object.{Object}
-use Rattle.machine.specs.declared.object.Object.TheVariants as o
-use Rattle.machine.specs.declared.object.ObjectKind.{ObjectKind}
 use Rattle.machine.specs.declared.object.ObjectKind.TheVariants as kind
-use Rattle.machine.specs.declared.object.Share.{Share}
-use Rattle.machine.specs.declared.thread.RunState.{RunState}
-use Rattle.machine.specs.declared.thread.RunState.TheVariants as run
-use Rattle.machine.specs.KindWords.{object_kind_word}
-use Rattle.machine.specs.Layout.{Layout}
+use Rattle.machine.specs.{declared.thread.RunState.{RunState, RunState as run}, KindWords.object_kind_word, Layout.Layout}
 use Rattle.machine.specs.Objects.{kind_of_object}
-use Rattle.table.specs.Items.{Item, LabelItem, ObjectItem, CapItem, PairItem, BindingItem, Admits, ComesNow, with_item}
-use Rattle.table.specs.Rules.{kind_at}
-use Rattle.words.specs.Number.{hexadecimal}
-use Rattle.words.specs.Reading.{whole_lines}
-use Rattle.words.specs.Text.{words_of, text_of}
-use Rattle.captext.specs.declared.shapes.Place.{Place}
+use Rattle.words.specs.{Number.hexadecimal, Reading.whole_lines, Text.{text_of, words_of}}
+use Rattle.table.specs.{Items.{Admits, BindingItem, CapItem, ComesNow, Item, LabelItem, ObjectItem, PairItem, with_item}, Rules.kind_at}
+use Rattle.captext.specs.{declared.shapes.Place.Place, PolicyText.label_name, Spelling.slot_word}
 use Rattle.captext.specs.declared.shapes.Place.TheVariants as place
-use Rattle.captext.specs.PolicyText.{label_name}
-use Rattle.captext.specs.Spelling.{slot_word}
 
 -- the header of the texts of a version
 abbrev pub table_header : Version → List (List ℕ)

@@ -1,49 +1,26 @@
 -- The text of a capability table, line by line: each line adds one item to the table, or is faulty. Of the faults of one line the
 -- first in this order is told: form and order of lines, unknown name, double, wrong kind, limit, place in memory.
-use Rattle.std.specs.Prelude.{ℕ, ◌+◌, ◌^◌, ◌&&◌, not, Bool, true, false, nat_lt, nat_le, List, [], ◌∷◌, length, codes, Option, Some, None, is_some, Result, Ok, Err, if◌then◌else◌}
-use Rattle.std.specs.List.{find}
-use Rattle.std.specs.Str.{bytes_eq}
+use Rattle.std.specs.{List.find, Prelude.{[], ℕ, ◌&&◌, ◌+◌, ◌^◌, ◌∷◌, Bool, Err, List, None, Ok, Option, Result, Some, codes, false}}
+use Rattle.std.specs.{Prelude.{if◌then◌else◌, is_some, length, nat_le, nat_lt, not, true}, Str.bytes_eq}
 use Rattle.base.specs.declared.core_number.TheConstants.CoreNo as CoreNo
-use Rattle.base.specs.declared.ids.ObjId.{ObjId}
-use Rattle.base.specs.declared.ids.SlotRef.{SlotRef}
-use Rattle.base.specs.declared.limits.TheConstants.{ADDRESS_END, MAX_PERIOD, MAX_RADIX}
-use Rattle.machine.specs.declared.cap.Cap.{Cap}
-use Rattle.machine.specs.declared.cap.Detail.{Detail}
-use Rattle.machine.specs.declared.cap.Detail.TheVariants as d
-use Rattle.machine.specs.declared.layout.Version.{Version}
-use Rattle.machine.specs.declared.layout.Version.TheVariants as version
-use Rattle.machine.specs.declared.object.Object.{Object}
-use Rattle.machine.specs.declared.object.Object.TheVariants as o
-use Rattle.machine.specs.declared.object.ObjectKind.{ObjectKind}
-use Rattle.machine.specs.declared.object.ObjectKind.TheVariants as kind
-use Rattle.machine.specs.declared.object.ReplyState.TheVariants as reply
-use Rattle.machine.specs.declared.object.Share.{Share}
-use Rattle.machine.specs.declared.thread.Inbox.TheVariants as inbox
-use Rattle.machine.specs.declared.thread.RunState.{RunState}
-use Rattle.machine.specs.declared.thread.RunState.TheVariants as run
-use Rattle.machine.specs.KindWords.{object_kind_of}
-use Rattle.machine.specs.Layout.{Layout, empty_layout, initial_of, most_labels}
-use Rattle.machine.specs.Objects.{end_of}
-use Rattle.table.specs.Building.{declares_slot, has_cap_to, has_room, repeats_control, is_free, is_above_caps, is_above_pairs, is_above_bindings, is_bound, with_label, with_initial, with_filled, with_pair, with_binding}
-use Rattle.table.specs.Names.{label_named, object_named}
-use Rattle.table.specs.Placement.{is_aligned}
-use Rattle.table.specs.Rules.{kind_at}
-use Rattle.table.specs.Tree.{tree_fault, with_originals}
-use Rattle.words.specs.declared.faults.Fault.{Fault}
-use Rattle.words.specs.declared.faults.Wrong.{Wrong}
-use Rattle.words.specs.declared.faults.Wrong.TheVariants as wrong
-use Rattle.words.specs.Name.{name_at}
-use Rattle.words.specs.Number.{hex_at, number_at}
-use Rattle.words.specs.Parts.{PartReader, in_turn, read_as}
-use Rattle.words.specs.Reading.{◌>>=◌, word_at, ended_at, or_syntax, read_format, Format, Whole}
-use Rattle.words.specs.Text.{line_is, lines_of}
-use Rattle.captext.specs.declared.shapes.Place.{Place}
-use Rattle.captext.specs.declared.shapes.Place.TheVariants as place
-use Rattle.captext.specs.declared.shapes.Term.{Term}
-use Rattle.captext.specs.declared.shapes.Term.TheVariants as term
-use Rattle.captext.specs.Shapes.{NamedSlot, names_at, slot_at, terms_at}
-use Rattle.captext.specs.TableText.{start_word, table_header}
+use Rattle.base.specs.declared.{ids.{ObjId.ObjId, SlotRef.SlotRef}, limits.TheConstants.{ADDRESS_END, MAX_PERIOD, MAX_RADIX}}
 use Rattle.base.specs.declared.rights.Rights.{Rights}
+use Rattle.machine.specs.declared.{cap.{Cap.Cap, Detail.{Detail, Detail as d}}, layout.Version.Version, object.Object.{Object, Object as o}}
+use Rattle.machine.specs.declared.layout.Version.TheVariants as version
+use Rattle.machine.specs.declared.{object.{ObjectKind.ObjectKind, ReplyState.ReplyState as reply, Share.Share}, thread.RunState.RunState}
+use Rattle.machine.specs.declared.object.ObjectKind.TheVariants as kind
+use Rattle.machine.specs.declared.thread.Inbox.TheVariants as inbox
+use Rattle.machine.specs.declared.thread.RunState.TheVariants as run
+use Rattle.machine.specs.{KindWords.object_kind_of, Layout.{Layout, empty_layout, initial_of, most_labels}, Objects.end_of}
+use Rattle.words.specs.{declared.faults.{Fault.Fault, Wrong.{Wrong, Wrong as wrong}}, Name.name_at, Number.{hex_at, number_at}}
+use Rattle.words.specs.{Parts.{PartReader, in_turn, read_as}, Reading.{◌>>=◌, Format, Whole, ended_at, or_syntax, read_format, word_at}}
+use Rattle.words.specs.Text.{line_is, lines_of}
+use Rattle.table.specs.Building.{declares_slot, has_cap_to, has_room, is_above_bindings, is_above_caps, is_above_pairs, is_bound, is_free}
+use Rattle.table.specs.{Building.{repeats_control, with_binding, with_filled, with_initial, with_label, with_pair}, Names.label_named}
+use Rattle.table.specs.{Names.object_named, Placement.is_aligned, Rules.kind_at, Tree.{tree_fault, with_originals}}
+use Rattle.captext.specs.{declared.shapes.{Place.Place, Term.{Term, Term as term}}, Shapes.{NamedSlot, names_at, slot_at, terms_at}}
+use Rattle.captext.specs.declared.shapes.Place.TheVariants as place
+use Rattle.captext.specs.TableText.{start_word, table_header}
 
 -- what a line asks for, else a fault
 abbrev pub demand : Bool → Wrong → Result (Unit {0}) Wrong

@@ -1,8 +1,8 @@
-ghost use Rattle.std.specs.Prelude.{◌≡◌, true, Some, OnErr};
+ghost use Rattle.std.specs.Prelude.{◌≡◌, OnErr, Some, true};
+ghost use Rattle.words.specs.Reading.{GivesOrStops};
+ghost use Rattle.table.specs.Building.{is_above_caps, is_above_pairs};
 ghost use Rattle.captext.specs.Spelling.{AreTerms};
 ghost use Rattle.captext.specs.Tables as text;
-ghost use Rattle.table.specs.Building.{is_above_caps, is_above_pairs};
-ghost use Rattle.words.specs.Reading.{GivesOrStops};
 
 use crate::objects::{takes_caps, takes_pairs};
 use crate::shapes::{Place, Term, slot, terms};

@@ -1,11 +1,7 @@
-ghost use Rattle.std.specs.Prelude.{◌≡◌, ◌<◌, true, false, length, is_some, None, if◌then◌else◌, IfOk, OnErr, OnOk};
+ghost use Rattle.std.specs.Prelude.{◌<◌, ◌≡◌, IfOk, None, OnErr, OnOk, false, if◌then◌else◌, is_some, length, true};
+ghost use Rattle.words.specs.{Name.is_name, Parts.read_as, Reading.{Gives, GivesOrStops}};
+ghost use Rattle.table.specs.{Building.repeats_control, Names.object_named, Rules.IsBlank};
 ghost use Rattle.captext.specs.Tables as text;
-ghost use Rattle.table.specs.Building.{repeats_control};
-ghost use Rattle.table.specs.Names.{object_named};
-ghost use Rattle.words.specs.Name.{is_name};
-ghost use Rattle.table.specs.Rules.{IsBlank};
-ghost use Rattle.words.specs.Parts.{read_as};
-ghost use Rattle.words.specs.Reading.{Gives, GivesOrStops};
 
 use base::{CoreNo, Label, MAX_PERIOD};
 use machine::{

@@ -1,15 +1,11 @@
-ghost use Rattle.std.specs.Prelude.{◌≡◌, ◌≢◌, ◌↔◌, ◌<◌, ℕ, List, length, Some, Ok, Err, IfOk, IfErr, OnErr};
+ghost use Rattle.std.specs.Prelude.{ℕ, ◌<◌, ◌↔◌, ◌≡◌, ◌≢◌, Err, IfErr, IfOk, List, Ok, OnErr, Some, length};
 ghost use Rattle.base.specs.declared.edge.Edge.{Edge as EdgeOf};
-ghost use Rattle.captext.specs.Policies as policies;
-ghost use Rattle.captext.specs.PolicyText.{label_name, policy_text, IsPolicyOf};
 ghost use Rattle.machine.specs.Layout.{Layout};
-ghost use Rattle.table.specs.Names.{label_named};
-ghost use Rattle.table.specs.Rules.{IsLawful};
-ghost use Rattle.words.specs.declared.faults.Wrong.{Wrong};
-ghost use Rattle.words.specs.Fault.{fault_at, no_memory};
-ghost use Rattle.words.specs.FirstFault.{IsFirstFault, TellsFirst};
-ghost use Rattle.words.specs.Reading.{Gives, GivesOrStops, Reads};
-ghost use Rattle.words.specs.Text.{lines_of};
+ghost use Rattle.words.specs.{declared.faults.Wrong.Wrong, Fault.{fault_at, no_memory}, FirstFault.{IsFirstFault, TellsFirst}};
+ghost use Rattle.words.specs.{Reading.{Gives, GivesOrStops, Reads}, Text.lines_of};
+ghost use Rattle.table.specs.{Names.label_named, Rules.IsLawful};
+ghost use Rattle.captext.specs.Policies as policies;
+ghost use Rattle.captext.specs.PolicyText.{IsPolicyOf, label_name, policy_text};
 
 use base::{Edge, Kind, Label};
 use policy::Policy;

@@ -1,6 +1,6 @@
-ghost use Rattle.std.specs.Prelude.{◌≡◌, ◌==◌, position, option_map};
-ghost use Rattle.captext.specs.Shapes as shape;
+ghost use Rattle.std.specs.Prelude.{◌==◌, ◌≡◌, option_map, position};
 ghost use Rattle.words.specs.Reading.{Gives};
+ghost use Rattle.captext.specs.Shapes as shape;
 
 use base::Rights;
 use words::{Words, Wrong, decimal_of, hexadecimal_of, name_of};

@@ -1,9 +1,7 @@
-ghost use Rattle.std.specs.Prelude.{◌≡◌, ◌↔◌, ℕ, List, Some, true};
+ghost use Rattle.std.specs.Prelude.{ℕ, ◌↔◌, ◌≡◌, List, Some, true};
 ghost use Rattle.words.specs.Name.{is_name};
-ghost use Rattle.captext.specs.Shapes.{slot_of, term_of};
-ghost use Rattle.captext.specs.Spelling.{slot_word, term_word, IsPlace, IsTerm};
-ghost use Rattle.captext.specs.declared.shapes.Place.{Place as PlaceOf};
-ghost use Rattle.captext.specs.declared.shapes.Term.{Term as TermOf};
+ghost use Rattle.captext.specs.{declared.shapes.{Place.Place as PlaceOf, Term.Term as TermOf}, Shapes.{slot_of, term_of}, Spelling.IsPlace};
+ghost use Rattle.captext.specs.Spelling.{IsTerm, slot_word, term_word};
 
 /// A law about the words of slots: a word is read as a slot just where it is that slot's word, the
 /// holder's name being a name and the index below 2^64. So different slots have different words.

@@ -1,16 +1,11 @@
-ghost use Rattle.std.specs.Prelude.{◌≡◌, ◌≢◌, ◌<◌, ◌+◌, ◌^◌, ◌↔◌, ◌++◌, ◌∷◌, [], ℕ, length, List, Ok, Err, IfOk, IfErr, MatchResult, OnErr};
-ghost use Rattle.captext.specs.Tables as tables;
-ghost use Rattle.captext.specs.TableText as texts;
-ghost use Rattle.captext.specs.TableText.{table_text, IsLineOf};
+ghost use Rattle.std.specs.Prelude.{[], ℕ, ◌++◌, ◌+◌, ◌<◌, ◌^◌, ◌↔◌, ◌∷◌, ◌≡◌, ◌≢◌, Err, IfErr, IfOk, List, MatchResult, Ok, OnErr, length};
 ghost use Rattle.machine.specs.Layout.{Layout};
-ghost use Rattle.table.specs.Items.{Item};
-ghost use Rattle.table.specs.Rules.{IsDraft, IsLawful};
-ghost use Rattle.words.specs.declared.faults.Wrong.{Wrong};
-ghost use Rattle.words.specs.declared.faults.Wrong.TheVariants.{Tree};
-ghost use Rattle.words.specs.Fault.{fault_at, no_memory};
-ghost use Rattle.words.specs.FirstFault.{IsFirstFault, TellsFirst};
-ghost use Rattle.words.specs.Reading.{header_at, Gives, GivesOrStops, Reads};
-ghost use Rattle.words.specs.Text.{line_text, lines_of, words_of};
+ghost use Rattle.words.specs.{declared.faults.Wrong.{Wrong, TheVariants.Tree}, Fault.{fault_at, no_memory}, FirstFault.IsFirstFault};
+ghost use Rattle.words.specs.{FirstFault.TellsFirst, Reading.{Gives, GivesOrStops, Reads, header_at}, Text.{line_text, lines_of, words_of}};
+ghost use Rattle.table.specs.{Items.Item, Rules.{IsDraft, IsLawful}};
+ghost use Rattle.captext.specs.TableText.{IsLineOf, table_text};
+ghost use Rattle.captext.specs.TableText as texts;
+ghost use Rattle.captext.specs.Tables as tables;
 
 use crate::caps::{bind_line, cap_line, child_line};
 use crate::objects::{label_line, object_line};

@@ -1,16 +1,11 @@
-ghost use Rattle.std.specs.Prelude.{◌≡◌, ◌++◌, ℕ, List, map, Ok, IfOk, IfErr, OnOk, Some, string_bytes};
-ghost use Rattle.std.specs.List.{AllByRecursion};
+ghost use Rattle.std.specs.{List.AllByRecursion, Prelude.{ℕ, ◌++◌, ◌≡◌, IfErr, IfOk, List, Ok, OnOk, Some, map, string_bytes}};
 ghost use Rattle.base.specs.Refusals.{out_of_memory};
-ghost use Rattle.captext.specs.Policies.{read_policy_of};
-ghost use Rattle.captext.specs.PolicyText.{edge_lines, edge_words, label_name, policy_text, IsEdgeOf};
-ghost use Rattle.captext.specs.Spelling.{place_word};
-ghost use Rattle.captext.specs.Tables.{read_table_of};
-ghost use Rattle.captext.specs.TableText.{binding_words, cap_words, label_lines, object_lines, object_name, object_words, pair_words};
-ghost use Rattle.captext.specs.TableText.{place_in, table_lines, table_text};
-ghost use Rattle.machine.specs.KindWords.{object_kind_word};
-ghost use Rattle.machine.specs.Layout.{Layout};
-ghost use Rattle.table.specs.Rules.{kind_at};
+ghost use Rattle.machine.specs.{KindWords.object_kind_word, Layout.Layout};
 ghost use Rattle.words.specs.Text.{line_text, text_of};
+ghost use Rattle.table.specs.Rules.{kind_at};
+ghost use Rattle.captext.specs.{Policies.read_policy_of, PolicyText.{IsEdgeOf, edge_lines, edge_words, label_name, policy_text}};
+ghost use Rattle.captext.specs.{Spelling.place_word, TableText.{binding_words, cap_words, label_lines, object_lines, object_name}};
+ghost use Rattle.captext.specs.{TableText.{object_words, pair_words, place_in, table_lines, table_text}, Tables.read_table_of};
 
 use crate::shapes::Place;
 use crate::tables::{table_header, tables_are_read_back};

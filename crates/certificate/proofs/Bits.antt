@@ -1,14 +1,9 @@
 -- Sets of kinds by their bits: a kind that rises above a set goes last among its kinds, and a set is that of its kinds.
-use Rattle.std.proofs.Common.{◌≡◌, ℕ, ◌<◌, ◌≤◌, ◌+◌, ◌^◌, ◌*◌, ◌==◌, ◌≢◌, inl, inr, zero, suc, Bool, true, false, cond, List, [], ◌∷◌, ◌++◌, length, max, filter, fold, bit_and, bit_or, refl, sym, ap, subst, ◌∙◌, arith}
-use Rattle.std.specs.Int.{bit_at}
-use Rattle.std.proofs.lemmas.Bool.{eq-eqb, ne_eqb, cond-true, cond-false}
-use Rattle.std.proofs.lemmas.Bool.Decides.{eqb_tells}
-use Rattle.std.proofs.lemmas.Nat.{or_lt, pow_pos, pow_below}
-use Rattle.std.proofs.lemmas.Nat.Bits.{and_pow, bit_at-lt, bit_at-pow_same, bit_at-pow_other, bit_at_above, bit_at_or, same_from_bits_below}
-use Rattle.base.specs.declared.kind.Kind.{Kind}
-use Rattle.base.specs.declared.kind.Kinds.{Kinds}
-use Rattle.base.specs.declared.kind.TheConstants.Kind.{ALL}
-use Rattle.base.specs.Kinds.{is_among, kind_bit, kind_number}
+use Rattle.std.{specs.Int.bit_at, proofs.Common.{[], ℕ, ◌*◌, ◌++◌, ◌+◌, ◌<◌, ◌==◌, ◌^◌, ◌∙◌, ◌∷◌, ◌≡◌, ◌≢◌, ◌≤◌, Bool, List, ap, arith}}
+use Rattle.std.proofs.Common.{bit_and, bit_or, cond, false, filter, fold, inl, inr, length, max, refl, subst, suc, sym, true, zero}
+use Rattle.std.proofs.lemmas.{Bool.{cond-false, cond-true, eq-eqb, ne_eqb, Decides.eqb_tells}, Nat.{or_lt, pow_below, pow_pos}}
+use Rattle.std.proofs.lemmas.Nat.Bits.{and_pow, bit_at-lt, bit_at-pow_other, bit_at-pow_same, bit_at_above, bit_at_or, same_from_bits_below}
+use Rattle.base.specs.{declared.kind.{Kind.Kind, Kinds.Kinds, TheConstants.Kind.ALL}, Kinds.{is_among, kind_bit, kind_number}}
 use Rattle.base.proofs.KindNames.{bit_at_number, number_below, number_once}
 use Rattle.certificate.specs.Kinds.{members, with_kind}
 

@@ -1,14 +1,12 @@
 -- The first line where two lists differ, and lists that never do.
-use Rattle.std.proofs.Common.{◌≡◌, ◌≢◌, ℕ, ◌+◌, ◌<◌, min, suc, inl, inr, List, [], ◌∷◌, length, slice_get, refl, sym, ◌∙◌, arith}
+use Rattle.std.proofs.Common.{[], ℕ, ◌+◌, ◌<◌, ◌∙◌, ◌∷◌, ◌≡◌, ◌≢◌, List, arith, inl, inr, length, min, refl, slice_get, suc, sym}
 use Rattle.std.proofs.lemmas.Option.{none-some, slice_get_cases, slice_get_past}
 use Rattle.base.specs.declared.edge.Edge.{Edge}
 use Rattle.machine.specs.Layout.{Layout}
 use Rattle.policy.specs.Policy.{allows}
-use Rattle.verdict.specs.declared.denial.Denial.{Denial}
+use Rattle.verdict.specs.{declared.denial.Denial.Denial, Verdict.IsLeastBroken}
 use Rattle.verdict.specs.declared.denial.Denial.TheVariants as denial
-use Rattle.verdict.specs.Verdict.{IsLeastBroken}
-use Rattle.certificate.specs.declared.line.Line.{Line}
-use Rattle.certificate.specs.Verified.{DiffersFirst, IsDenied}
+use Rattle.certificate.specs.{declared.line.Line.Line, Verified.{DiffersFirst, IsDenied}}
 
 -- lists agree below a place
 abbrev pub Agree : List Line → List Line → ℕ → Type 0

@@ -1,28 +1,18 @@
 -- A word is read as a set of kinds just where it is the set's word: its names between commas are those of the set's kinds.
-use Rattle.std.proofs.Common.{◌≡◌, ◌≢◌, ℕ, ◌+◌, ◌-◌, ◌<◌, ◌^◌, ◌==◌, zero, suc, Bool, true, false, nat_lt, List, [], ◌∷◌, ◌++◌, length, map, take, drop, position, Some, None, Result, Ok, Err, refl, sym, ap, subst, ◌∙◌, ltb-true, lt-ltb, lit<, codes, arith, append_assoc}
+use Rattle.std.{specs.List.{AllByRecursion, join_with_byte, list_all, slice_split}, proofs.Common.{[], ℕ, ◌++◌, ◌+◌, ◌-◌, ◌<◌, ◌==◌, ◌^◌}}
+use Rattle.std.proofs.Common.{◌∙◌, ◌∷◌, ◌≡◌, ◌≢◌, Bool, Err, List, None, Ok, Result, Some, ap, append_assoc, arith, codes, drop, false}
+use Rattle.std.proofs.Common.{length, lit<, lt-ltb, ltb-true, map, nat_lt, position, refl, subst, suc, sym, take, true, zero}
+use Rattle.std.proofs.lemmas.{Bool.{and_parts, ne_eqb}, List.{append-nil, map-append, Splits.join_with_byte-slice_split}}
+use Rattle.base.specs.{declared.kind.{Kind.{Kind, TheVariants.Control}, Kinds.Kinds}, Kinds.{kind_bit, kind_name, kind_named}}
+use Rattle.base.proofs.KindNames.{kind_again, kind_is_named}
+use Rattle.words.specs.{declared.faults.Wrong.Wrong, Parts.IsPart, Reading.{bind, or_syntax, word_at}, Text.IsPlainWord}
+use Rattle.words.specs.declared.faults.Wrong.TheVariants as wrong
+use Rattle.words.proofs.{Splits.{parts_some, split_nowhere, split_round}, TextLaws.{both, each, first_part, one_part}, WordLaws.bind_ok}
+use Rattle.captext.proofs.{LineLaws.{same_ok, spelled_then}, StepLaws.demand_then}
+use Rattle.certificate.specs.Kinds.{IsKinds, kinds_at, kinds_of, kinds_word, members, set_of, with_kind, with_name, with_names}
+use Rattle.certificate.proofs.Bits.{Joins, all_joined, members_join, members_more, one_joins, with_kind_small}
 use denote.Shadow.{shadow}
 use denote.Text.{Utf8}
-use Rattle.std.specs.List.{slice_split, join_with_byte, list_all, AllByRecursion}
-use Rattle.std.proofs.lemmas.Bool.{and_parts, ne_eqb}
-use Rattle.std.proofs.lemmas.List.{append-nil, map-append}
-use Rattle.std.proofs.lemmas.List.Splits.{join_with_byte-slice_split}
-use Rattle.base.specs.declared.kind.Kind.{Kind}
-use Rattle.base.specs.declared.kind.Kind.TheVariants.{Control}
-use Rattle.base.specs.declared.kind.Kinds.{Kinds}
-use Rattle.base.specs.Kinds.{kind_bit, kind_name, kind_named}
-use Rattle.base.proofs.KindNames.{kind_is_named, kind_again}
-use Rattle.words.specs.declared.faults.Wrong.{Wrong}
-use Rattle.words.specs.declared.faults.Wrong.TheVariants as wrong
-use Rattle.words.specs.Parts.{IsPart}
-use Rattle.words.specs.Reading.{bind, word_at, or_syntax}
-use Rattle.words.specs.Text.{IsPlainWord}
-use Rattle.words.proofs.Splits.{parts_some, split_nowhere, split_round}
-use Rattle.words.proofs.TextLaws.{both, each, first_part, one_part}
-use Rattle.words.proofs.WordLaws.{bind_ok}
-use Rattle.captext.proofs.LineLaws.{same_ok, spelled_then}
-use Rattle.captext.proofs.StepLaws.{demand_then}
-use Rattle.certificate.specs.Kinds.{kinds_at, kinds_of, kinds_word, members, set_of, with_kind, with_name, with_names, IsKinds}
-use Rattle.certificate.proofs.Bits.{members_join, members_more, with_kind_small, Joins, all_joined, one_joins}
 
 abbrev comma : ℕ → Bool
 comma b = b == 44

@@ -1,42 +1,22 @@
 -- A line of a certificate is read just where it is the line of something that the table has.
-use Rattle.std.proofs.Common.{◌≡◌, ℕ, ◌&&◌, true, List, [], ◌∷◌, ◌++◌, codes, Option, Some, Ok, refl, sym, ap, subst, ◌∙◌}
-use Rattle.std.specs.List.{AllByRecursion}
-use Rattle.std.proofs.lemmas.Bool.{and_parts, and_from, false≢true}
-use Rattle.base.specs.declared.ids.ObjId.{ObjId}
-use Rattle.base.specs.declared.ids.SlotRef.{SlotRef}
-use Rattle.base.specs.declared.kind.Kinds.{Kinds}
-use Rattle.machine.specs.declared.object.ObjectKind.{ObjectKind}
-use Rattle.machine.specs.declared.object.ObjectKind.TheVariants as kind
-use Rattle.machine.specs.Layout.{Layout}
-use Rattle.table.specs.Building.{declares_slot}
-use Rattle.table.specs.Names.{label_named, object_named}
-use Rattle.table.specs.Rules.{kind_at, IsDraft}
-use Rattle.words.specs.declared.faults.Wrong.TheVariants as wrong
-use Rattle.words.specs.Name.{is_name, name_at}
-use Rattle.words.specs.Parts.{by_word, in_turn, keyed, IsPart}
-use Rattle.words.specs.Reading.{bind, word_at, IsNotLast}
-use Rattle.words.specs.Text.{IsPlainLine, IsPlainWord}
-use Rattle.words.proofs.Parts.{after_word, alone_again, alone_takes, both_parts, keyed_part, name_part, read_as_again}
-use Rattle.words.proofs.WordLaws.{bind_ok, plain_bytes}
-use Rattle.captext.specs.declared.shapes.Place.{Place}
+use Rattle.std.{specs.List.AllByRecursion, proofs.Common.{[], ℕ, ◌&&◌, ◌++◌, ◌∙◌, ◌∷◌, ◌≡◌, List, Ok, Option, Some, ap, codes, refl, subst}}
+use Rattle.std.proofs.{Common.{sym, true}, lemmas.Bool.{and_from, and_parts, false≢true}}
+use Rattle.base.specs.declared.{ids.{ObjId.ObjId, SlotRef.SlotRef}, kind.Kinds.Kinds}
+use Rattle.machine.specs.{declared.object.ObjectKind.{ObjectKind, ObjectKind as kind}, Layout.Layout}
+use Rattle.words.specs.{declared.faults.Wrong.Wrong as wrong, Name.{is_name, name_at}, Parts.{IsPart, by_word, in_turn, keyed}}
+use Rattle.words.{specs.{Reading.{IsNotLast, bind, word_at}, Text.{IsPlainLine, IsPlainWord}}, proofs.Parts.{after_word, alone_again}}
+use Rattle.words.proofs.{Parts.{alone_takes, both_parts, keyed_part, name_part, read_as_again}, WordLaws.{bind_ok, plain_bytes}}
+use Rattle.table.specs.{Building.declares_slot, Names.{label_named, object_named}, Rules.{IsDraft, kind_at}}
+use Rattle.captext.specs.{declared.shapes.Place.Place, PolicyText.label_name, Shapes.{NamedSlot, slot_at}, Spelling.slot_word}
 use Rattle.captext.specs.declared.shapes.Place.TheVariants as place
-use Rattle.captext.specs.PolicyText.{label_name}
-use Rattle.captext.specs.Shapes.{NamedSlot, slot_at}
-use Rattle.captext.specs.Spelling.{slot_word}
-use Rattle.captext.specs.TableText.{object_name, place_in, slot_name}
-use Rattle.captext.specs.Tables.{fits_holder, is_thread_and_context, slot_in}
-use Rattle.captext.proofs.BindLines.{has_name, kinds_take}
-use Rattle.captext.proofs.CapLines.{slot_spelled}
-use Rattle.captext.proofs.CapTexts.{placed}
-use Rattle.captext.proofs.LineLaws.{same_ok}
-use Rattle.captext.proofs.NameLaws.{label_again, label_takes, object_again, object_takes, is_label_name, is_object_name}
-use Rattle.captext.proofs.SlotLaws.{slot_part, IsSlotName}
-use Rattle.captext.proofs.StepLaws.{demand_then, value_then}
-use Rattle.certificate.specs.declared.line.Line.{Line}
+use Rattle.captext.specs.{TableText.{object_name, place_in, slot_name}, Tables.{fits_holder, is_thread_and_context, slot_in}}
+use Rattle.captext.proofs.{BindLines.{has_name, kinds_take}, CapLines.slot_spelled, CapTexts.placed, LineLaws.same_ok}
+use Rattle.captext.proofs.NameLaws.{is_label_name, is_object_name, label_again, label_takes, object_again, object_takes}
+use Rattle.captext.proofs.{SlotLaws.{IsSlotName, slot_part}, StepLaws.{demand_then, value_then}}
+use Rattle.certificate.specs.{declared.line.Line.Line, Kinds.{IsKinds, kinds_at, kinds_word}, Line.{AreLabels, IsLineFor, line_words}}
 use Rattle.certificate.specs.declared.line.Line.TheVariants as line
-use Rattle.certificate.specs.Kinds.{kinds_at, kinds_word, IsKinds}
-use Rattle.certificate.specs.Line.{line_words, AreLabels, IsLineFor}
-use Rattle.certificate.specs.Reading.{cap_at, space_at, derive_at, runs_at, named_line_at, labels_named, is_in_cnode, is_root, declared, line_named, line_by, line_of, NamedLabels, NamedLine, NamedCap, NamedSpace, NamedDerive, NamedRuns}
+use Rattle.certificate.specs.Reading.{NamedCap, NamedDerive, NamedLabels, NamedLine, NamedRuns, NamedSpace, cap_at, declared, derive_at}
+use Rattle.certificate.specs.Reading.{is_in_cnode, is_root, labels_named, line_by, line_named, line_of, named_line_at, runs_at, space_at}
 use Rattle.certificate.proofs.KindWords.{kinds_part}
 
 -- the words of a line

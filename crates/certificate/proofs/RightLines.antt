@@ -1,31 +1,17 @@
 -- The right certificate is one for its table: its slots, objects and labels are the table's.
-use Rattle.std.proofs.Common.{◌≡◌, ℕ, ◌<◌, ◌^◌, suc, Bool, true, false, cond, List, [], ◌∷◌, ◌++◌, length, get_or, drop, map, filter, fold, Option, Some, None, option_map, unwrap_or, slice_get, refl, sym, ap, subst, ◌∙◌, lit<, arith}
-use Rattle.std.specs.List.{AllByRecursion}
-use Rattle.std.proofs.lemmas.Bool.{false≢true}
-use Rattle.std.proofs.lemmas.Nat.{le_or_l}
-use Rattle.std.proofs.lemmas.Option.{get_or_from_slice_get, slice_get_within}
-use Rattle.base.specs.declared.ids.ObjId.{ObjId}
-use Rattle.base.specs.declared.kind.Kind.{Kind}
-use Rattle.base.specs.declared.kind.Kinds.{Kinds}
-use Rattle.base.specs.declared.kind.TheConstants.Kind.{ALL}
-use Rattle.base.specs.Kinds.{is_among, kind_bit}
-use Rattle.machine.specs.declared.cap.Detail.{Detail}
+use Rattle.std.{specs.List.AllByRecursion, proofs.Common.{[], ℕ, ◌++◌, ◌<◌, ◌^◌, ◌∙◌, ◌∷◌, ◌≡◌, Bool, List, None, Option, Some, ap, arith}}
+use Rattle.std.proofs.Common.{cond, drop, false, filter, fold, get_or, length, lit<, map, option_map, refl, slice_get, subst, suc, sym}
+use Rattle.std.proofs.{Common.{true, unwrap_or}, lemmas.{Bool.false≢true, Nat.le_or_l, Option.{get_or_from_slice_get, slice_get_within}}}
+use Rattle.base.specs.{declared.{ids.ObjId.ObjId, kind.{Kind.Kind, Kinds.Kinds, TheConstants.Kind.ALL}}, Kinds.{is_among, kind_bit}}
+use Rattle.machine.specs.{declared.{cap.Detail.Detail, layout.Initial.Initial, object.ObjectKind.ObjectKind}, Capabilities.gives}
 use Rattle.machine.specs.declared.cap.Detail.TheVariants as d
-use Rattle.machine.specs.declared.layout.Initial.{Initial}
-use Rattle.machine.specs.declared.object.ObjectKind.{ObjectKind}
 use Rattle.machine.specs.declared.object.ObjectKind.TheVariants as kind
-use Rattle.machine.specs.Capabilities.{gives}
-use Rattle.machine.specs.Layout.{Layout, declared_label, initial_of}
-use Rattle.machine.specs.Objects.{kind_of_object}
-use Rattle.table.specs.Rules.{kind_at, IsDraft, IsLawful, IsOfKind}
-use Rattle.table.proofs.Slots.{slot_declared}
+use Rattle.machine.specs.{Layout.{Layout, declared_label, initial_of}, Objects.kind_of_object}
 use Rattle.words.proofs.TextLaws.{both}
-use Rattle.certificate.specs.declared.line.Line.{Line}
-use Rattle.certificate.specs.Certificate.{IsCertificateOf}
-use Rattle.certificate.specs.Kinds.{with_kind, IsKinds}
-use Rattle.certificate.specs.Line.{IsLineFor}
-use Rattle.certificate.specs.Right.{cap_line, cap_lines, derive_line, is_cnode, is_thread, kinds_given, label_in, right_certificate, runs_line, space_line, space_lines}
-use Rattle.certificate.proofs.Bits.{joins_fold, members_join, with_kind_small}
+use Rattle.table.{specs.Rules.{IsDraft, IsLawful, IsOfKind, kind_at}, proofs.Slots.slot_declared}
+use Rattle.certificate.specs.{declared.line.Line.Line, Certificate.IsCertificateOf, Kinds.{IsKinds, with_kind}, Line.IsLineFor}
+use Rattle.certificate.specs.Right.{cap_line, cap_lines, derive_line, is_cnode, is_thread, kinds_given, label_in, right_certificate}
+use Rattle.certificate.{specs.Right.{runs_line, space_line, space_lines}, proofs.Bits.{joins_fold, members_join, with_kind_small}}
 
 -- the kinds that a capability gives
 

@@ -1,19 +1,14 @@
 -- What is said of a table that is made one of version 2 is what was said of it before.
-use Rattle.std.proofs.Common.{◌≡◌, ◌↔◌, List, refl, subst, sym}
-use Rattle.certificate.specs.declared.line.Line.{Line}
-use Rattle.certificate.specs.declared.line.Line.TheVariants as line
-use Rattle.certificate.specs.Certificate.{certificate_header, certificate_text}
-use Rattle.certificate.specs.Line.{line_words}
-use Rattle.certificate.specs.Right.{right_certificate}
+use Rattle.std.proofs.Common.{◌↔◌, ◌≡◌, List, refl, subst, sym}
 use Rattle.machine.specs.Layout.{Layout, bound_context, declared_label, initial_cap, initial_of, initial_parent, upgraded}
+use Rattle.words.specs.Reading.{list_text}
 use Rattle.policy.specs.Domain.{EdgeTest}
 use Rattle.table.specs.Rules.{kind_at}
-use Rattle.verdict.specs.declared.denial.Denial.{Denial}
-use Rattle.verdict.specs.declared.denial.Denial.TheVariants as denial
-use Rattle.verdict.specs.Rules.{Excess, capability, root, pair, binding, holding, recorded, Exceeds}
-use Rattle.verdict.specs.Sources.{Sources, of_table}
-use Rattle.verdict.specs.Verdict.{Breaks}
-use Rattle.words.specs.Reading.{list_text}
+use Rattle.verdict.specs.{declared.denial.Denial.{Denial, Denial as denial}, Rules.{Exceeds, Excess, binding, capability, holding, pair}}
+use Rattle.verdict.specs.{Rules.{recorded, root}, Sources.{Sources, of_table}, Verdict.Breaks}
+use Rattle.certificate.specs.{declared.line.Line.Line, Certificate.{certificate_header, certificate_text}, Line.line_words}
+use Rattle.certificate.specs.declared.line.Line.TheVariants as line
+use Rattle.certificate.specs.Right.{right_certificate}
 
 same_sources : (t : Layout) → of_table (upgraded t) ≡ of_table t
 unfolding bound_context declared_label initial_cap initial_of initial_parent kind_at

@@ -1,17 +1,10 @@
 -- Sets of kinds of authority as certificates spell them: the names of their kinds, rising by number, with commas between them
 -- (confine's own).
-use Rattle.std.specs.Prelude.{ℕ, ◌^◌, ◌<◌, ◌==◌, nat_lt, List, [], ◌∷◌, map, filter, fold, Result, Ok}
-use Rattle.std.specs.Int.RustNames.{bit_or}
-use Rattle.std.specs.List.{join_with_byte, slice_split}
-use Rattle.base.specs.declared.kind.Kind.{Kind}
-use Rattle.base.specs.declared.kind.Kinds.{Kinds}
-use Rattle.base.specs.declared.kind.TheConstants.Kind.{ALL}
-use Rattle.base.specs.Kinds.{is_among, kind_bit, kind_name, kind_named}
+use Rattle.std.specs.{Int.RustNames.bit_or, List.{join_with_byte, slice_split}, Prelude.{[], ℕ, ◌<◌, ◌==◌, ◌^◌, ◌∷◌, List, Ok, Result}}
+use Rattle.std.specs.Prelude.{filter, fold, map, nat_lt}
+use Rattle.base.specs.{declared.kind.{Kind.Kind, Kinds.Kinds, TheConstants.Kind.ALL}, Kinds.{is_among, kind_bit, kind_name, kind_named}}
+use Rattle.words.specs.{declared.faults.Wrong.{Wrong, Wrong as wrong}, Parts.PartReader, Reading.{◌>>=◌, or_syntax, word_at}}
 use Rattle.captext.specs.Tables.{demand}
-use Rattle.words.specs.declared.faults.Wrong.{Wrong}
-use Rattle.words.specs.declared.faults.Wrong.TheVariants as wrong
-use Rattle.words.specs.Parts.{PartReader}
-use Rattle.words.specs.Reading.{◌>>=◌, word_at, or_syntax}
 
 -- the kinds of a set, by their numbers
 abbrev pub members : Kinds → List Kind

@@ -1,17 +1,13 @@
 -- The lines of a certificate: what each slot, pair of the derivation tree and binding of a capability table gives, with the labels
 -- between which it is (confine's own; the authority is that of 'seL4 Enforces Integrity', section 3).
-use Rattle.std.specs.Prelude.{◌≡◌, ℕ, ◌<◌, true, List, [], ◌∷◌, length, codes, Some}
+use Rattle.std.specs.Prelude.{[], ℕ, ◌<◌, ◌∷◌, ◌≡◌, List, Some, codes, length, true}
 use Rattle.base.specs.declared.ids.SlotRef.{SlotRef}
-use Rattle.machine.specs.declared.object.ObjectKind.{ObjectKind}
+use Rattle.machine.specs.{declared.object.ObjectKind.ObjectKind, Layout.Layout}
 use Rattle.machine.specs.declared.object.ObjectKind.TheVariants as kind
-use Rattle.machine.specs.Layout.{Layout}
-use Rattle.table.specs.Building.{declares_slot}
-use Rattle.table.specs.Rules.{kind_at}
-use Rattle.captext.specs.PolicyText.{label_name}
-use Rattle.captext.specs.TableText.{object_name, slot_name}
-use Rattle.certificate.specs.declared.line.Line.{Line}
+use Rattle.table.specs.{Building.declares_slot, Rules.kind_at}
+use Rattle.captext.specs.{PolicyText.label_name, TableText.{object_name, slot_name}}
+use Rattle.certificate.specs.{declared.line.Line.Line, Kinds.{IsKinds, kinds_word}}
 use Rattle.certificate.specs.declared.line.Line.TheVariants as line
-use Rattle.certificate.specs.Kinds.{kinds_word, IsKinds}
 
 -- the words of a line
 abbrev pub line_words : Layout → Line → List (List ℕ)

@@ -1,28 +1,15 @@
 -- How a line of a certificate is read: first its words, by their form, then the names in them, by a capability table (confine's own).
-use Rattle.std.specs.Prelude.{ℕ, ◌&&◌, Bool, true, false, List, [], ◌∷◌, ◌++◌, codes, Option, Some, Result, Ok}
-use Rattle.base.specs.declared.ids.ObjId.{ObjId}
-use Rattle.base.specs.declared.ids.SlotRef.{SlotRef}
-use Rattle.base.specs.declared.kind.Kinds.{Kinds}
-use Rattle.machine.specs.declared.object.ObjectKind.{ObjectKind}
-use Rattle.machine.specs.declared.object.ObjectKind.TheVariants as kind
-use Rattle.machine.specs.Layout.{Layout}
-use Rattle.table.specs.Building.{declares_slot}
-use Rattle.table.specs.Names.{label_named}
-use Rattle.table.specs.Rules.{kind_at}
-use Rattle.words.specs.declared.faults.Fault.{Fault}
-use Rattle.words.specs.declared.faults.Wrong.{Wrong}
-use Rattle.words.specs.declared.faults.Wrong.TheVariants as wrong
-use Rattle.words.specs.Name.{name_at}
-use Rattle.words.specs.Parts.{PartReader, in_turn, keyed, read_as}
-use Rattle.words.specs.Reading.{◌>>=◌, ended_at, list_format, read_format, Format}
-use Rattle.words.specs.Text.{words_of, lines_of}
-use Rattle.captext.specs.declared.shapes.Place.{Place}
+use Rattle.std.specs.Prelude.{[], ℕ, ◌&&◌, ◌++◌, ◌∷◌, Bool, List, Ok, Option, Result, Some, codes, false, true}
+use Rattle.base.specs.declared.{ids.{ObjId.ObjId, SlotRef.SlotRef}, kind.Kinds.Kinds}
+use Rattle.machine.specs.{declared.object.ObjectKind.{ObjectKind, ObjectKind as kind}, Layout.Layout}
+use Rattle.words.specs.{declared.faults.{Fault.Fault, Wrong.{Wrong, Wrong as wrong}}, Name.name_at, Parts.{PartReader, in_turn, keyed}}
+use Rattle.words.specs.{Parts.read_as, Reading.{◌>>=◌, Format, ended_at, list_format, read_format}, Text.{lines_of, words_of}}
+use Rattle.table.specs.{Building.declares_slot, Names.label_named, Rules.kind_at}
+use Rattle.captext.specs.{declared.shapes.Place.Place, Shapes.{NamedSlot, slot_at}, Tables.{demand, fits_holder, is_thread_and_context}}
 use Rattle.captext.specs.declared.shapes.Place.TheVariants as place
-use Rattle.captext.specs.Shapes.{NamedSlot, slot_at}
-use Rattle.captext.specs.Tables.{demand, value_or, named, slot_in, fits_holder, is_thread_and_context}
-use Rattle.certificate.specs.declared.line.Line.{Line}
+use Rattle.captext.specs.Tables.{named, slot_in, value_or}
+use Rattle.certificate.specs.{declared.line.Line.Line, Kinds.kinds_at}
 use Rattle.certificate.specs.declared.line.Line.TheVariants as line
-use Rattle.certificate.specs.Kinds.{kinds_at}
 
 -- the labels of a line, by their names
 abbrev pub NamedLabels : Type 0

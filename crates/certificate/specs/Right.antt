@@ -1,22 +1,13 @@
 -- The one right certificate of a capability table: a line for each filled slot of a CNode, then for each root slot that is filled,
 -- each pair of the derivation tree and each binding, in the order of the table ('seL4 Enforces Integrity', section 3, "Authority",
 -- read off an initial state).
-use Rattle.std.specs.Prelude.{ℕ, Bool, true, false, List, ◌++◌, map, filter, Option, Some, unwrap_or}
-use Rattle.base.specs.declared.ids.ObjId.{ObjId}
-use Rattle.base.specs.declared.kind.Kinds.{Kinds}
-use Rattle.base.specs.declared.kind.TheConstants.Kind.{ALL}
-use Rattle.machine.specs.declared.cap.Detail.{Detail}
-use Rattle.machine.specs.declared.layout.Binding.{Binding}
-use Rattle.machine.specs.declared.layout.Filled.{Filled}
-use Rattle.machine.specs.declared.layout.Pair.{Pair}
-use Rattle.machine.specs.declared.object.ObjectKind.{ObjectKind}
-use Rattle.machine.specs.declared.object.ObjectKind.TheVariants as kind
-use Rattle.machine.specs.Capabilities.{gives}
-use Rattle.machine.specs.Layout.{Layout, declared_label}
+use Rattle.std.specs.Prelude.{ℕ, ◌++◌, Bool, List, Option, Some, false, filter, map, true, unwrap_or}
+use Rattle.base.specs.declared.{ids.ObjId.ObjId, kind.{Kinds.Kinds, TheConstants.Kind.ALL}}
+use Rattle.machine.specs.declared.{cap.Detail.Detail, layout.{Binding.Binding, Filled.Filled, Pair.Pair}, object.ObjectKind.ObjectKind}
+use Rattle.machine.specs.{declared.object.ObjectKind.ObjectKind as kind, Capabilities.gives, Layout.{Layout, declared_label}}
 use Rattle.table.specs.Rules.{kind_at}
-use Rattle.certificate.specs.declared.line.Line.{Line}
+use Rattle.certificate.specs.{declared.line.Line.Line, Kinds.set_of}
 use Rattle.certificate.specs.declared.line.Line.TheVariants as line
-use Rattle.certificate.specs.Kinds.{set_of}
 
 -- the label of an object; every object that a table names has one
 abbrev pub label_in : Layout → ObjId → ℕ

@@ -1,16 +1,12 @@
 -- What it means that a capability table, a policy and a certificate are accepted or not: the rules on the first two come first, then
 -- C1, that the certificate is the right one (confine's own).
-use Rattle.std.specs.Prelude.{◌≡◌, ◌≢◌, ℕ, ◌+◌, ◌<◌, List, Result, Ok, Err, slice_get}
+use Rattle.std.specs.Prelude.{ℕ, ◌+◌, ◌<◌, ◌≡◌, ◌≢◌, Err, List, Ok, Result, slice_get}
 use Rattle.base.specs.declared.edge.Edge.{Edge}
 use Rattle.machine.specs.Layout.{Layout}
 use Rattle.policy.specs.Policy.{allows}
-use Rattle.verdict.specs.declared.denial.Denial.{Denial}
+use Rattle.verdict.specs.{declared.denial.Denial.Denial, System.{IsVerdict, System}, Verdict.IsAccepted}
 use Rattle.verdict.specs.declared.denial.Denial.TheVariants as denial
-use Rattle.verdict.specs.System.{System, IsVerdict}
-use Rattle.verdict.specs.Verdict.{IsAccepted}
-use Rattle.certificate.specs.declared.line.Line.{Line}
-use Rattle.certificate.specs.declared.verifying.NotAccepted.{NotAccepted}
-use Rattle.certificate.specs.declared.verifying.NotAccepted.TheVariants.{Denied, NoMemory}
+use Rattle.certificate.specs.declared.{line.Line.Line, verifying.NotAccepted.{NotAccepted, TheVariants.{Denied, NoMemory}}}
 use Rattle.certificate.specs.Right.{right_certificate}
 
 -- the first line, from 1, where two lists differ: those before it agree, and there the lines differ or one list has ended

@@ -1,7 +1,6 @@
-ghost use Rattle.std.specs.Prelude.{◌≡◌, ◌==◌, position, string_bytes, IfOk};
-ghost use Rattle.std.specs.List.{slice_split};
-ghost use Rattle.certificate.specs.Kinds as spelled;
+ghost use Rattle.std.specs.{List.slice_split, Prelude.{◌==◌, ◌≡◌, IfOk, position, string_bytes}};
 ghost use Rattle.words.specs.Reading.{Gives};
+ghost use Rattle.certificate.specs.Kinds as spelled;
 
 use base::{Kind, Kinds};
 use bitflags::Flags;

@@ -1,11 +1,8 @@
-ghost use Rattle.std.specs.Prelude.{◌≡◌, ◌↔◌, List};
-ghost use Rattle.certificate.specs.declared.line.Line.{Line};
-ghost use Rattle.certificate.specs.Certificate.{certificate_text};
-ghost use Rattle.certificate.specs.Right.{right_certificate};
+ghost use Rattle.std.specs.Prelude.{◌↔◌, ◌≡◌, List};
 ghost use Rattle.machine.specs.Layout.{Layout, upgraded};
 ghost use Rattle.policy.specs.Domain.{EdgeTest};
-ghost use Rattle.verdict.specs.declared.denial.Denial.{Denial};
-ghost use Rattle.verdict.specs.Verdict.{Breaks};
+ghost use Rattle.verdict.specs.{declared.denial.Denial.Denial, Verdict.Breaks};
+ghost use Rattle.certificate.specs.{declared.line.Line.Line, Certificate.certificate_text, Right.right_certificate};
 
 /// A law: an upgraded table keeps its verdict with each policy, its certificate, and the texts of
 /// certificates, which don't depend on the version.

@@ -1,8 +1,8 @@
-ghost use Rattle.std.specs.Prelude.{◌≡◌, ◌++◌, IfOk, IfErr, OnOk, filter, map};
+ghost use Rattle.std.specs.Prelude.{◌++◌, ◌≡◌, IfErr, IfOk, OnOk, filter, map};
 ghost use Rattle.base.specs.Refusals.{out_of_memory};
+ghost use Rattle.table.specs.Rules.{kind_at};
 ghost use Rattle.certificate.specs.Certificate.{IsCertificateOf};
 ghost use Rattle.certificate.specs.Right as right;
-ghost use Rattle.table.specs.Rules.{kind_at};
 
 use crate::line::{Certificate, Line};
 use base::{Label, ObjId, Refusal};

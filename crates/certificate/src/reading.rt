@@ -1,13 +1,9 @@
-ghost use Rattle.std.specs.Prelude.{◌≡◌, ◌≢◌, ℕ, List, Ok, Err, IfOk, IfErr};
-ghost use Rattle.certificate.specs.Certificate.{certificate_text, IsCertificateOf};
-ghost use Rattle.certificate.specs.declared.line.Line.{Line as LineOf};
-ghost use Rattle.certificate.specs.Reading as reading;
+ghost use Rattle.std.specs.Prelude.{ℕ, ◌≡◌, ◌≢◌, Err, IfErr, IfOk, List, Ok};
+ghost use Rattle.words.specs.{declared.faults.Wrong.Wrong, Fault.{fault_at, no_memory}, FirstFault.{IsFirstFault, TellsFirst}};
+ghost use Rattle.words.specs.{Reading.Reads, Text.lines_of};
 ghost use Rattle.captext.specs.Tables.{named};
-ghost use Rattle.words.specs.declared.faults.Wrong.{Wrong};
-ghost use Rattle.words.specs.Fault.{fault_at, no_memory};
-ghost use Rattle.words.specs.FirstFault.{IsFirstFault, TellsFirst};
-ghost use Rattle.words.specs.Reading.{Reads};
-ghost use Rattle.words.specs.Text.{lines_of};
+ghost use Rattle.certificate.specs.{declared.line.Line.Line as LineOf, Certificate.{IsCertificateOf, certificate_text}};
+ghost use Rattle.certificate.specs.Reading as reading;
 
 use crate::kinds::kinds;
 use crate::line::{Certificate, Line};

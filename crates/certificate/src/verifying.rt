@@ -1,7 +1,7 @@
-ghost use Rattle.std.specs.Prelude.{◌≡◌, ◌↔◌, IfOk, IfNone, IfSome, IsTrue};
-ghost use Rattle.certificate.specs.Verified.{DiffersFirst, IsVerified};
+ghost use Rattle.std.specs.Prelude.{◌↔◌, ◌≡◌, IfNone, IfOk, IfSome, IsTrue};
 ghost use Rattle.policy.specs.Policy.{allows};
-ghost use Rattle.verdict.specs.Safe.{LabelsObjects, StaysConfined, KeepsIntegrity, KeepsBounds, GuardsBudgets};
+ghost use Rattle.verdict.specs.Safe.{GuardsBudgets, KeepsBounds, KeepsIntegrity, LabelsObjects, StaysConfined};
+ghost use Rattle.certificate.specs.Verified.{DiffersFirst, IsVerified};
 
 use crate::line::{Certificate, Line};
 use crate::making::make;

@@ -1,9 +1,7 @@
-ghost use Rattle.std.specs.Prelude.{◌≡◌, ◌++◌, Ok, IfOk, IfErr, OnOk, string_bytes};
+ghost use Rattle.std.specs.Prelude.{◌++◌, ◌≡◌, IfErr, IfOk, Ok, OnOk, string_bytes};
 ghost use Rattle.base.specs.Refusals.{out_of_memory};
-ghost use Rattle.certificate.specs.Certificate.{certificate_text, IsCertificateOf};
-ghost use Rattle.certificate.specs.Line.{line_words};
-ghost use Rattle.certificate.specs.Reading.{read_certificate_of};
 ghost use Rattle.words.specs.Text.{line_text};
+ghost use Rattle.certificate.specs.{Certificate.{IsCertificateOf, certificate_text}, Line.line_words, Reading.read_certificate_of};
 
 use crate::kinds::kinds_string;
 use crate::line::{Certificate, Line};

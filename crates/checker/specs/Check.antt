@@ -1,16 +1,12 @@
 -- What the checker answers to a capability table and a policy (confine's own).
-use Rattle.std.specs.Prelude.{◌≡◌, List, Ok, Err}
-use Rattle.base.specs.declared.edge.Edge.{Edge}
-use Rattle.base.specs.declared.refusal.Misuse.TheVariants as misuse
-use Rattle.base.specs.declared.refusal.Refusal.{Refusal}
+use Rattle.std.specs.Prelude.{◌≡◌, Err, List, Ok}
+use Rattle.base.specs.declared.{edge.Edge.Edge, refusal.{Misuse.Misuse as misuse, Refusal.Refusal}}
 use Rattle.base.specs.Refusals as refusals
-use Rattle.certificate.specs.Right.{right_certificate}
-use Rattle.checker.specs.declared.checking.CheckError.{CheckError}
-use Rattle.checker.specs.declared.checking.CheckError.TheVariants.{NoMemory, WorkerCount}
-use Rattle.checker.specs.declared.checking.Verdict.{Verdict}
-use Rattle.checker.specs.declared.checking.Verdict.TheVariants.{Accept, Deny}
 use Rattle.machine.specs.Layout.{Layout}
 use Rattle.verdict.specs.System.{IsVerdict}
+use Rattle.certificate.specs.Right.{right_certificate}
+use Rattle.checker.specs.declared.checking.{CheckError.{CheckError, TheVariants.{NoMemory, WorkerCount}}, Verdict.Verdict}
+use Rattle.checker.specs.declared.checking.Verdict.TheVariants.{Accept, Deny}
 
 -- the verdict on this table and this policy, and with an acceptance the table's certificate
 abbrev pub IsCheck : Layout → List Edge → Verdict → Type 0

@@ -1,34 +1,21 @@
 -- What claims that were read say of their text, and that the text of all claims is read back.
-use Rattle.std.proofs.Common.{◌≡◌, ◌≢◌, ◌↔◌, ℕ, ◌<◌, ◌==◌, not, Bool, true, false, nat_le, nat_lt, List, [], ◌∷◌, ◌++◌, length, codes, Option, Some, None, Ok, IfSome, refl, sym, ap, subst, ◌∙◌, arith}
-use Rattle.std.specs.Prelude.{bytes_eq, if◌then◌else◌}
-use Rattle.std.specs.declared.cmp.Ordering.{Ordering}
-use Rattle.std.specs.declared.cmp.Ordering.TheVariants.{Less, Equal, Greater}
-use Rattle.std.specs.Bool.{⊤, Decides}
-use Rattle.std.specs.Ordering.{is_lt, nat_cmp, ordering_then}
-use Rattle.std.specs.List.Sorted.{IsStrictlySortedBy}
-use Rattle.std.proofs.lemmas.Bool.Decides.{nat_tests}
+use Rattle.std.specs.{declared.cmp.Ordering.{Ordering, TheVariants.{Equal, Greater, Less}}, Bool.{⊤, Decides}}
+use Rattle.std.specs.{List.Sorted.IsStrictlySortedBy, Ordering.{is_lt, nat_cmp, ordering_then}, Prelude.{bytes_eq, if◌then◌else◌}}
+use Rattle.std.proofs.Common.{[], ℕ, ◌++◌, ◌<◌, ◌==◌, ◌↔◌, ◌∙◌, ◌∷◌, ◌≡◌, ◌≢◌, Bool, IfSome, List, None, Ok, Option, Some, ap, arith, codes}
+use Rattle.std.proofs.{Common.{false, length, nat_le, nat_lt, not, refl, subst, sym, true}, lemmas.Bool.Decides.nat_tests}
 use Rattle.std.proofs.lemmas.Slice.Eq.{bytes_eq-Decides}
 use Rattle.machine.specs.Layout.{Layout}
-use Rattle.table.specs.Names.{label_named}
-use Rattle.table.specs.Rules.{IsLawful}
-use Rattle.words.specs.declared.faults.Wrong.TheVariants as wrong
-use Rattle.words.specs.Name.{is_name, name_at}
-use Rattle.words.specs.Parts.{in_turn, IsPart}
-use Rattle.words.specs.Reading.{bind, last_line, word_at, IsNotLast}
-use Rattle.words.specs.Text.{IsPlainLine}
-use Rattle.words.proofs.ListLaws.{IsListFormat, all_front, all_last, list_again, list_once, list_takes}
-use Rattle.words.proofs.Parts.{alone_again, alone_takes, both_parts, name_part, word_part}
-use Rattle.words.proofs.TextLaws.{both}
-use Rattle.words.proofs.WordLaws.{plain_bytes, plain_name}
-use Rattle.captext.specs.PolicyText.{label_name}
-use Rattle.captext.proofs.NameLaws.{label_takes, label_again, is_label_name}
-use Rattle.captext.proofs.StepLaws.{demand_then, value_then}
-use Rattle.claims.specs.Claims.{claim_cmp, last_claim, most_named, most_word, AreClaimsOf, IsClaimOf, IsRising}
-use Rattle.claims.specs.ClaimsText.{claim_words, claims_header, claims_text}
-use Rattle.claims.specs.Reading.{claim_line, follows, labelled_claim, may_follow, most_at, named_claim_at, read_claims_of, with_claim}
-use Rattle.claims.specs.declared.claim.Claim.{Claim}
-use Rattle.claims.specs.declared.claim.Most.{Most}
+use Rattle.words.specs.{declared.faults.Wrong.Wrong as wrong, Name.{is_name, name_at}, Parts.{IsPart, in_turn}, Reading.{IsNotLast, bind}}
+use Rattle.words.{specs.{Reading.{last_line, word_at}, Text.IsPlainLine}, proofs.ListLaws.{IsListFormat, all_front, all_last, list_again}}
+use Rattle.words.proofs.{ListLaws.{list_once, list_takes}, Parts.{alone_again, alone_takes, both_parts, name_part, word_part}}
+use Rattle.words.proofs.{TextLaws.both, WordLaws.{plain_bytes, plain_name}}
+use Rattle.table.specs.{Names.label_named, Rules.IsLawful}
+use Rattle.captext.{specs.PolicyText.label_name, proofs.{NameLaws.{is_label_name, label_again, label_takes}, StepLaws.demand_then}}
+use Rattle.captext.proofs.StepLaws.{value_then}
+use Rattle.claims.specs.{declared.claim.{Claim.Claim, Most.Most}, Claims.{AreClaimsOf, IsClaimOf, IsRising, claim_cmp, last_claim}}
 use Rattle.claims.specs.declared.claim.Most.TheVariants as most
+use Rattle.claims.specs.{Claims.{most_named, most_word}, ClaimsText.{claim_words, claims_header, claims_text}, Reading.claim_line}
+use Rattle.claims.specs.Reading.{follows, labelled_claim, may_follow, most_at, named_claim_at, read_claims_of, with_claim}
 use Rattle.claims.proofs.Order.{rising_appended, rising_front, rising_last}
 
 -- the words of a line

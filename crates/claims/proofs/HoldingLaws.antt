@@ -1,18 +1,11 @@
 -- Claims that hold, by how far an authority goes, and that what they claim is kept.
-use Rattle.std.proofs.Common.{◌≡◌, ℕ, Bool, true, false, List, All, Option, Some, None, subst}
-use Rattle.std.specs.Prelude.{IfNone}
+use Rattle.std.{specs.Prelude.IfNone, proofs.Common.{ℕ, ◌≡◌, All, Bool, List, None, Option, Some, false, subst, true}}
 use Rattle.std.proofs.lemmas.List.Elements.{All-weaker}
-use Rattle.claims.specs.Holding.{HasAtMost, Holds, IsExact, IsKept, KeepsAtMost, extent_of, is_within, most_of}
-use Rattle.claims.specs.declared.claim.Claim.{Claim}
-use Rattle.claims.specs.declared.claim.Most.{Most}
-use Rattle.claims.specs.declared.claim.Most.TheVariants as most
 use Rattle.machine.specs.Layout.{Layout}
-use Rattle.policy.specs.Domain.{EdgeTest}
-use Rattle.policy.specs.Full.{IsFull}
-use Rattle.policy.specs.Take.{MayTake}
-use Rattle.verdict.specs.Apart.{GoesTo, NeverChanges, OnlyTakes}
-use Rattle.verdict.specs.declared.extent.Extent.{Extent}
-use Rattle.verdict.specs.declared.extent.Extent.TheVariants as extent
+use Rattle.policy.specs.{Domain.EdgeTest, Full.IsFull, Take.MayTake}
+use Rattle.verdict.specs.{declared.extent.Extent.{Extent, Extent as extent}, Apart.{GoesTo, NeverChanges, OnlyTakes}}
+use Rattle.claims.specs.{declared.claim.{Claim.Claim, Most.{Most, Most as most}}, Holding.{HasAtMost, Holds, IsExact, IsKept, KeepsAtMost}}
+use Rattle.claims.specs.Holding.{extent_of, is_within, most_of}
 
 module _ (test : EdgeTest) (a l : ℕ) where
   pub within_holds : (m : Most) (e : Extent) → GoesTo test a l e → is_within m e ≡ true → HasAtMost test a l m

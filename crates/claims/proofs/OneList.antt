@@ -1,27 +1,18 @@
 -- Of a table and a policy there is one list of the strongest claims, and of claims that don't all hold one that is the first broken.
-use Rattle.std.proofs.Common.{◌≡◌, ℕ, ◌+◌, ◌<◌, ◌⊎◌, List, [], ◌∷◌, All, Contains, get_or, refl, sym, ap, subst, ◌∙◌, inl, inr, arith}
-use Rattle.std.specs.Prelude.{Some, slice_get, slice_index_or}
-use Rattle.std.specs.declared.cmp.Ordering.{Ordering}
-use Rattle.std.specs.declared.cmp.Ordering.TheVariants.{Less, Equal, Greater}
-use Rattle.std.specs.List.{AllByRecursion}
-use Rattle.std.specs.List.Sorted.{IsStrictlySortedBy}
-use Rattle.std.specs.Ordering.{nat_cmp, ordering_reverse, ordering_then}
-use Rattle.std.proofs.lemmas.Bool.{cases_order}
-use Rattle.std.proofs.lemmas.Bool.Decides.{nat_tests}
-use Rattle.std.proofs.lemmas.List.Elements.{All-contains, All-from_recursion, Contains-append_cases, Contains-append_left, Contains-append_right, Contains-push, Contains-push_cases}
-use Rattle.std.proofs.lemmas.Option.{get_or_from_slice_get, same_Some, slice_get-get_or, slice_get_within}
+use Rattle.std.specs.{declared.cmp.Ordering.{Ordering, TheVariants.{Equal, Greater, Less}}, List.AllByRecursion}
+use Rattle.std.specs.{List.Sorted.IsStrictlySortedBy, Ordering.{nat_cmp, ordering_reverse, ordering_then}, Prelude.{Some, slice_get}}
+use Rattle.std.{specs.Prelude.slice_index_or, proofs.Common.{[], ℕ, ◌+◌, ◌<◌, ◌∙◌, ◌∷◌, ◌≡◌, ◌⊎◌, All, Contains, List, ap, arith, get_or}}
+use Rattle.std.proofs.{Common.{inl, inr, refl, subst, sym}, lemmas.{Bool.{cases_order, Decides.nat_tests}, List.Elements.All-contains}}
+use Rattle.std.proofs.lemmas.List.Elements.{All-from_recursion, Contains-append_cases, Contains-append_left, Contains-append_right}
+use Rattle.std.proofs.lemmas.{List.Elements.{Contains-push, Contains-push_cases}, Option.{get_or_from_slice_get, same_Some}}
+use Rattle.std.proofs.lemmas.Option.{slice_get-get_or, slice_get_within}
 use Rattle.machine.specs.Layout.{Layout}
 use Rattle.policy.specs.Domain.{EdgeTest}
-use Rattle.verdict.specs.Apart.{GoesTo}
-use Rattle.verdict.specs.declared.extent.Extent.{Extent}
+use Rattle.verdict.specs.{declared.extent.Extent.Extent, Apart.GoesTo}
 use Rattle.verdict.specs.declared.extent.Extent.TheVariants as extent
-use Rattle.claims.specs.Claims.{IsClaimOf, IsRising, claim_cmp}
-use Rattle.claims.specs.Holding.{AreStrongest, Holds, IsExact, IsFirstBroken, extent_of}
-use Rattle.claims.specs.declared.claim.Claim.{Claim}
-use Rattle.claims.specs.declared.claim.Most.{Most}
+use Rattle.claims.specs.{declared.{claim.{Claim.Claim, Most.Most}, holding.BrokenClaim.BrokenClaim}, Claims.{IsClaimOf, IsRising}}
 use Rattle.claims.specs.declared.claim.Most.TheVariants as most
-use Rattle.claims.specs.declared.holding.BrokenClaim.{BrokenClaim}
-use Rattle.claims.proofs.Order.{claim_total}
+use Rattle.claims.{specs.{Claims.claim_cmp, Holding.{AreStrongest, Holds, IsExact, IsFirstBroken, extent_of}}, proofs.Order.claim_total}
 
 -- an authority goes so far, and no other way
 

@@ -1,23 +1,14 @@
 -- The strongest claims, gathered pair by pair.
-use Rattle.std.proofs.Common.{◌≡◌, ◌≢◌, ℕ, ◌+◌, ◌-◌, ◌<◌, ◌==◌, true, false, ◌⊎◌, List, [], ◌∷◌, ◌++◌, length, All, Any, Some, None, refl, sym, ap, subst, ◌∙◌, inl, inr, arith}
-use Rattle.std.specs.Prelude.{IfSome, get_or, slice_get}
-use Rattle.std.specs.declared.cmp.Ordering.TheVariants.{Less}
-use Rattle.std.specs.List.Sorted.{IsStrictlySortedBy}
-use Rattle.std.specs.Ordering.{nat_cmp, ordering_then}
-use Rattle.std.proofs.lemmas.Bool.{cases_lt}
-use Rattle.std.proofs.lemmas.Bool.Decides.{nat_tests}
-use Rattle.std.proofs.lemmas.List.{get_or_append_left, length_push}
-use Rattle.std.proofs.lemmas.List.Elements.{All-nil, All-push, All-weaker}
-use Rattle.std.proofs.lemmas.List.Quantifiers.{Any-push}
-use Rattle.std.proofs.lemmas.Option.{slice_get-get_or}
+use Rattle.std.specs.{declared.cmp.Ordering.TheVariants.Less, List.Sorted.IsStrictlySortedBy, Ordering.{nat_cmp, ordering_then}}
+use Rattle.std.{specs.Prelude.{IfSome, get_or, slice_get}, proofs.Common.{[], ℕ, ◌++◌, ◌+◌, ◌-◌, ◌<◌, ◌==◌, ◌∙◌, ◌∷◌, ◌≡◌, ◌≢◌, ◌⊎◌, All}}
+use Rattle.std.proofs.{Common.{Any, List, None, Some, ap, arith, false, inl, inr, length, refl, subst, sym, true}, lemmas.Bool.cases_lt}
+use Rattle.std.proofs.lemmas.{Bool.Decides.nat_tests, List.{get_or_append_left, length_push, Elements.{All-nil, All-push, All-weaker}}}
+use Rattle.std.proofs.lemmas.{List.Quantifiers.Any-push, Option.slice_get-get_or}
 use Rattle.machine.specs.Layout.{Layout}
-use Rattle.policy.specs.Domain.{EdgeTest}
-use Rattle.policy.specs.Full.{IsFull}
 use Rattle.words.proofs.TextLaws.{both}
-use Rattle.claims.specs.Claims.{IsAboveLast, IsClaimOf, claim_cmp, last_claim}
-use Rattle.claims.specs.Holding.{AreStrongest, AreStrongestBefore, ComesBefore, IsClaimed, IsExact}
-use Rattle.claims.specs.declared.claim.Claim.{Claim}
-use Rattle.claims.proofs.Order.{rising_appended}
+use Rattle.policy.specs.{Domain.EdgeTest, Full.IsFull}
+use Rattle.claims.specs.{declared.claim.Claim.Claim, Claims.{IsAboveLast, IsClaimOf, claim_cmp, last_claim}, Holding.AreStrongest}
+use Rattle.claims.{specs.Holding.{AreStrongestBefore, ComesBefore, IsClaimed, IsExact}, proofs.Order.rising_appended}
 
 -- whether two labels are one
 

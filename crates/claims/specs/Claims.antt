@@ -1,15 +1,10 @@
 -- Claims: at most how much authority a label has on another (confine's own; the authority is that of 'seL4 Enforces Integrity',
 -- section 4, restated), their words, and their order.
-use Rattle.std.specs.Prelude.{◌≡◌, ◌≢◌, ℕ, ◌<◌, ◌-◌, List, length, codes, Option, None, Some, IfSome, slice_get, bytes_eq, if◌then◌else◌}
-use Rattle.std.specs.List.{AllByRecursion}
-use Rattle.std.specs.List.Sorted.{IsStrictlySortedBy}
-use Rattle.std.specs.declared.cmp.Ordering.{Ordering}
-use Rattle.std.specs.declared.cmp.Ordering.TheVariants.{Less}
-use Rattle.std.specs.Ordering.{nat_cmp, on, then_cmp}
-use Rattle.claims.specs.declared.claim.Claim.{Claim}
-use Rattle.claims.specs.declared.claim.Most.{Most}
-use Rattle.claims.specs.declared.claim.Most.TheVariants as most
+use Rattle.std.specs.{declared.cmp.Ordering.{Ordering, TheVariants.Less}, List.{AllByRecursion, Sorted.IsStrictlySortedBy}}
+use Rattle.std.specs.{Ordering.{nat_cmp, on, then_cmp}, Prelude.{ℕ, ◌-◌, ◌<◌, ◌≡◌, ◌≢◌, IfSome, List, None, Option, Some, bytes_eq, codes}}
+use Rattle.std.specs.Prelude.{if◌then◌else◌, length, slice_get}
 use Rattle.machine.specs.Layout.{Layout}
+use Rattle.claims.specs.declared.claim.{Claim.Claim, Most.{Most, Most as most}}
 
 -- the word of what a claim leaves
 abbrev pub most_word : Most → List ℕ

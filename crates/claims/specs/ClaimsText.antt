@@ -1,11 +1,9 @@
 -- The text of claims for the labels of a table: a header, a line `none A B` or `take A B` for each claim, and `end` (confine's own).
-use Rattle.std.specs.Prelude.{ℕ, List, [], ◌∷◌, codes}
-use Rattle.captext.specs.PolicyText.{label_name}
-use Rattle.claims.specs.Claims.{most_word}
-use Rattle.claims.specs.declared.claim.Claim.{Claim}
+use Rattle.std.specs.Prelude.{[], ℕ, ◌∷◌, List, codes}
 use Rattle.machine.specs.Layout.{Layout}
-use Rattle.words.specs.Reading.{list_text}
-use Rattle.words.specs.Text.{words_of}
+use Rattle.words.specs.{Reading.list_text, Text.words_of}
+use Rattle.captext.specs.PolicyText.{label_name}
+use Rattle.claims.specs.{declared.claim.Claim.Claim, Claims.most_word}
 
 abbrev pub claims_header : List (List ℕ)
 claims_header = words_of (codes "confine-claims 1")

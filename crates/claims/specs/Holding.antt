@@ -1,21 +1,13 @@
 -- When claims hold: how far the authority of a label on another goes at most, what is then kept in every run from a table's boot state,
 -- the first claim that doesn't hold, and the strongest claims that do (the authority and what is kept are those of 'seL4 Enforces
 -- Integrity', section 4, restated; claims are confine's own).
-use Rattle.std.specs.Prelude.{◌≡◌, ◌≢◌, ◌↔◌, ◌⊎◌, ℕ, ◌+◌, ◌<◌, Bool, true, false, List, length, All, Any, Option, Some, None, slice_get}
+use Rattle.std.specs.Prelude.{ℕ, ◌+◌, ◌<◌, ◌↔◌, ◌≡◌, ◌≢◌, ◌⊎◌, All, Any, Bool, List, None, Option, Some, false, length, slice_get, true}
 use Rattle.base.specs.Labels.{is_in}
-use Rattle.claims.specs.Claims.{AreClaimsOf}
-use Rattle.claims.specs.declared.claim.Claim.{Claim}
-use Rattle.claims.specs.declared.claim.Most.{Most}
-use Rattle.claims.specs.declared.claim.Most.TheVariants as most
-use Rattle.claims.specs.declared.extents.Extents.{Extents}
-use Rattle.claims.specs.declared.holding.BrokenClaim.{BrokenClaim}
 use Rattle.machine.specs.Layout.{Layout}
-use Rattle.policy.specs.Domain.{EdgeTest}
-use Rattle.policy.specs.Full.{IsFull}
-use Rattle.policy.specs.Take.{MayTake}
-use Rattle.verdict.specs.Apart.{GoesTo, NeverChanges, OnlyTakes}
-use Rattle.verdict.specs.declared.extent.Extent.{Extent}
-use Rattle.verdict.specs.declared.extent.Extent.TheVariants as extent
+use Rattle.policy.specs.{Domain.EdgeTest, Full.IsFull, Take.MayTake}
+use Rattle.verdict.specs.{declared.extent.Extent.{Extent, Extent as extent}, Apart.{GoesTo, NeverChanges, OnlyTakes}}
+use Rattle.claims.specs.declared.{claim.{Claim.Claim, Most.{Most, Most as most}}, extents.Extents.Extents, holding.BrokenClaim.BrokenClaim}
+use Rattle.claims.specs.Claims.{AreClaimsOf}
 
 -- a label has no more authority on another than this
 abbrev pub HasAtMost : EdgeTest → ℕ → ℕ → Most → Type 0

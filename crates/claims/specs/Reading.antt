@@ -1,19 +1,12 @@
 -- The text of claims, line by line: each line adds a claim that rises above the one before, or is faulty (confine's own).
-use Rattle.std.specs.Prelude.{ℕ, ◌==◌, not, Bool, true, nat_le, List, [], ◌∷◌, ◌++◌, codes, Option, Some, None, Result, Ok}
-use Rattle.std.specs.Ordering.{is_lt}
-use Rattle.captext.specs.Tables.{demand, value_or}
-use Rattle.claims.specs.Claims.{claim_cmp, last_claim, most_named}
-use Rattle.claims.specs.declared.claim.Claim.{Claim}
-use Rattle.claims.specs.declared.claim.Most.{Most}
+use Rattle.std.specs.{Ordering.is_lt, Prelude.{[], ℕ, ◌++◌, ◌==◌, ◌∷◌, Bool, List, None, Ok, Option, Result, Some, codes, nat_le, not}}
+use Rattle.std.specs.Prelude.{true}
 use Rattle.machine.specs.Layout.{Layout}
+use Rattle.words.specs.{declared.faults.{Fault.Fault, Wrong.{Wrong, Wrong as wrong}}, Name.name_at, Parts.{PartReader, in_turn}}
+use Rattle.words.specs.{Reading.{◌>>=◌, Format, ended_at, list_format, or_syntax, read_format, word_at}, Text.{lines_of, words_of}}
 use Rattle.table.specs.Names.{label_named}
-use Rattle.words.specs.declared.faults.Fault.{Fault}
-use Rattle.words.specs.declared.faults.Wrong.{Wrong}
-use Rattle.words.specs.declared.faults.Wrong.TheVariants as wrong
-use Rattle.words.specs.Name.{name_at}
-use Rattle.words.specs.Parts.{PartReader, in_turn}
-use Rattle.words.specs.Reading.{◌>>=◌, list_format, word_at, ended_at, or_syntax, read_format, Format}
-use Rattle.words.specs.Text.{lines_of, words_of}
+use Rattle.captext.specs.Tables.{demand, value_or}
+use Rattle.claims.specs.{declared.claim.{Claim.Claim, Most.Most}, Claims.{claim_cmp, last_claim, most_named}}
 
 -- the next word as what is left
 unfoldable pub most_at : PartReader Most

@@ -1,8 +1,7 @@
 ghost use Rattle.std.specs.Prelude.{◌≡◌, IfSome};
-ghost use Rattle.claims.specs.Holding.{AreExtents};
-ghost use Rattle.policy.specs.Domain.{EdgeTest};
-ghost use Rattle.policy.specs.Policy.{allows};
+ghost use Rattle.policy.specs.{Domain.EdgeTest, Policy.allows};
 ghost use Rattle.verdict.specs.Apart.{GoesTo};
+ghost use Rattle.claims.specs.Holding.{AreExtents};
 
 use base::{Label, Labels};
 use policy::Policy;

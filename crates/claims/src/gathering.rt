@@ -1,9 +1,8 @@
-ghost use Rattle.std.specs.Prelude.{◌≡◌, ◌+◌, ◌<◌, All, IfErr, IfOk, OnOk, length};
+ghost use Rattle.std.specs.Prelude.{◌+◌, ◌<◌, ◌≡◌, All, IfErr, IfOk, OnOk, length};
 ghost use Rattle.base.specs.Refusals.{out_of_memory};
-ghost use Rattle.claims.specs.Holding.{AreExtents, AreStrongest, AreStrongestBefore, IsKept, most_of};
 ghost use Rattle.machine.specs.Layout.{Layout};
-ghost use Rattle.policy.specs.Domain.{EdgeTest};
-ghost use Rattle.policy.specs.Policy.{allows};
+ghost use Rattle.policy.specs.{Domain.EdgeTest, Policy.allows};
+ghost use Rattle.claims.specs.Holding.{AreExtents, AreStrongest, AreStrongestBefore, IsKept, most_of};
 
 use crate::claim::{Claim, Claims, Most};
 use crate::extents::Extents;

@@ -1,6 +1,6 @@
 ghost use Rattle.std.specs.Prelude.{◌≡◌, All, IfNone, IfSome};
-ghost use Rattle.claims.specs.Holding.{Holds, IsFirstBroken, IsKept, is_within};
 ghost use Rattle.policy.specs.Policy.{allows};
+ghost use Rattle.claims.specs.Holding.{Holds, IsFirstBroken, IsKept, is_within};
 
 use crate::claim::{Claim, Claims, Most};
 use crate::extents::Extents;

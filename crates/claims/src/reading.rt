@@ -1,15 +1,10 @@
-ghost use Rattle.std.specs.Prelude.{◌≡◌, ◌≢◌, ◌↔◌, ◌<◌, ℕ, List, Ok, Err, IfOk, IfErr, OnErr};
-ghost use Rattle.claims.specs.Claims.{AreClaimsOf};
-ghost use Rattle.claims.specs.ClaimsText.{claims_text};
-ghost use Rattle.claims.specs.Reading as reading;
-ghost use Rattle.claims.specs.declared.claim.Claim.{Claim as ClaimOf};
+ghost use Rattle.std.specs.Prelude.{ℕ, ◌<◌, ◌↔◌, ◌≡◌, ◌≢◌, Err, IfErr, IfOk, List, Ok, OnErr};
 ghost use Rattle.machine.specs.Layout.{Layout};
+ghost use Rattle.words.specs.{declared.faults.Wrong.Wrong, Fault.{fault_at, no_memory}, FirstFault.{IsFirstFault, TellsFirst}};
+ghost use Rattle.words.specs.{Reading.{Gives, GivesOrStops, Reads}, Text.lines_of};
 ghost use Rattle.table.specs.Rules.{IsLawful};
-ghost use Rattle.words.specs.declared.faults.Wrong.{Wrong};
-ghost use Rattle.words.specs.Fault.{fault_at, no_memory};
-ghost use Rattle.words.specs.FirstFault.{IsFirstFault, TellsFirst};
-ghost use Rattle.words.specs.Reading.{Gives, GivesOrStops, Reads};
-ghost use Rattle.words.specs.Text.{lines_of};
+ghost use Rattle.claims.specs.{declared.claim.Claim.Claim as ClaimOf, Claims.AreClaimsOf, ClaimsText.claims_text};
+ghost use Rattle.claims.specs.Reading as reading;
 
 use crate::claim::{Claim, Claims, Most};
 use base::Label;

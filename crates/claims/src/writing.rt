@@ -1,8 +1,6 @@
-ghost use Rattle.std.specs.Prelude.{◌≡◌, Ok, IfOk, IfErr, string_bytes};
+ghost use Rattle.std.specs.Prelude.{◌≡◌, IfErr, IfOk, Ok, string_bytes};
 ghost use Rattle.base.specs.Refusals.{out_of_memory};
-ghost use Rattle.claims.specs.Claims.{AreClaimsOf};
-ghost use Rattle.claims.specs.ClaimsText.{claims_text};
-ghost use Rattle.claims.specs.Reading.{read_claims_of};
+ghost use Rattle.claims.specs.{Claims.AreClaimsOf, ClaimsText.claims_text, Reading.read_claims_of};
 
 use crate::claim::{Claim, Claims};
 use base::Refusal;

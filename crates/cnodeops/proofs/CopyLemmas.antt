@@ -1,35 +1,17 @@
 -- What copying, minting and moving a capability need of the slots that the call names, and what these calls keep.
-use Rattle.std.proofs.Common.{◌≡◌, ◌≢◌, Bool, true, false, refl, sym, ap, subst, ◌∙◌}
-use Rattle.std.specs.Prelude.{Option, Some, None, Ok, IsTrue, IsSome, nat_lt, option_map, if◌then◌else◌}
-use Rattle.std.proofs.lemmas.Bool.{false≢true, ltb-true}
-use Rattle.base.specs.declared.ids.ObjId.{ObjId}
-use Rattle.base.specs.declared.ids.SlotRef.{SlotRef}
-use Rattle.base.specs.declared.rights.Rights.{Rights}
-use Rattle.machine.specs.declared.call.Answer.TheVariants as answer
-use Rattle.machine.specs.declared.call.CapData.{CapData}
-use Rattle.machine.specs.declared.call.Made.TheVariants.{Done}
-use Rattle.machine.specs.declared.cap.Cap.{Cap}
-use Rattle.machine.specs.declared.cap.Detail.{Detail}
-use Rattle.machine.specs.declared.object.Object.{Object}
+use Rattle.std.{specs.Prelude.{IsSome, IsTrue, None, Ok, Option, Some, if◌then◌else◌, nat_lt, option_map}, proofs.Common.{◌∙◌, ◌≡◌, ◌≢◌}}
+use Rattle.std.proofs.{Common.{Bool, ap, false, refl, subst, sym, true}, lemmas.Bool.{false≢true, ltb-true}}
+use Rattle.base.specs.declared.{ids.{ObjId.ObjId, SlotRef.SlotRef}, rights.Rights.Rights}
+use Rattle.machine.specs.declared.{call.{Answer.Answer as answer, CapData.CapData, Made.TheVariants.Done}, cap.{Cap.Cap, Detail.Detail}}
+use Rattle.machine.specs.{declared.{object.Object.Object, slot_address.{Ends.Ends, SlotAddress.SlotAddress}}, Capabilities.kind_of_detail}
 use Rattle.machine.specs.declared.object.Object.TheVariants as o
 use Rattle.machine.specs.declared.object.ObjectKind.TheVariants as kind
-use Rattle.machine.specs.declared.slot_address.Ends.{Ends}
-use Rattle.machine.specs.declared.slot_address.SlotAddress.{SlotAddress}
-use Rattle.machine.specs.Capabilities.{kind_of_detail}
-use Rattle.machine.specs.Machine.{Machine, cap_of, has_slot, object_of, parent_of, same_slot, with_cap}
-use Rattle.machine.specs.Objects.{kind_of_object, slot_count}
-use Rattle.machine.specs.Step.Copy.{copy_of, copyable, masked}
-use Rattle.machine.specs.Step.Mint.{mint_of, minted}
-use Rattle.machine.specs.Step.Move.{move_of}
-use Rattle.machine.specs.Step.Target.{ends_of}
-use Rattle.machine.specs.Tree.{IsAlone, copied, parent_of_copy, with_copy, with_moved}
-use Rattle.machine.specs.WellFormed.{IsWellFormed, kind_of}
-use Rattle.machine.proofs.Exchange.{slot_itself}
-use Rattle.machine.proofs.FillsFormed.{Takes, derives_formed, fills_formed}
-use Rattle.machine.proofs.LedSlots.{led_slot, node_slot}
-use Rattle.machine.proofs.LookUps.{cap_of-with_cap, parent_of-with_cap}
-use Rattle.machine.proofs.MovesFormed.{move_formed}
-use Rattle.machine.proofs.SlotRows.{copy_done, empty_alone, ends_found, mint_done, move_done, with_copy_fills}
+use Rattle.machine.specs.{Machine.{Machine, cap_of, has_slot, object_of, parent_of, same_slot, with_cap}, Objects.kind_of_object}
+use Rattle.machine.specs.{Objects.slot_count, Step.{Copy.{copy_of, copyable, masked}, Mint.{mint_of, minted}, Move.move_of, Target.ends_of}}
+use Rattle.machine.specs.{Tree.{IsAlone, copied, parent_of_copy, with_copy, with_moved}, WellFormed.{IsWellFormed, kind_of}}
+use Rattle.machine.proofs.{Exchange.slot_itself, FillsFormed.{Takes, derives_formed, fills_formed}, LedSlots.{led_slot, node_slot}}
+use Rattle.machine.proofs.{LookUps.{cap_of-with_cap, parent_of-with_cap}, MovesFormed.move_formed, SlotRows.{copy_done, empty_alone}}
+use Rattle.machine.proofs.SlotRows.{ends_found, mint_done, move_done, with_copy_fills}
 
 -- the slot that a call names as its target is there
 pub target_there :

@@ -1,10 +1,7 @@
-ghost use Rattle.std.specs.Prelude.{◌≡◌, ◌≢◌, IsTrue, Some, None};
+ghost use Rattle.std.specs.Prelude.{◌≡◌, ◌≢◌, IsTrue, None, Some};
 ghost use Rattle.machine.specs.declared.object.ObjectKind.TheVariants as kind;
-ghost use Rattle.machine.specs.Capabilities.{kind_of_detail};
-ghost use Rattle.machine.specs.Machine.{cap_of, has_slot, parent_of};
-ghost use Rattle.machine.specs.Step.Copy.{copyable, masked};
-ghost use Rattle.machine.specs.Tree.{copied, parent_of_copy, with_copy};
-ghost use Rattle.machine.specs.WellFormed.{IsWellFormed, kind_of};
+ghost use Rattle.machine.specs.{Capabilities.kind_of_detail, Machine.{cap_of, has_slot, parent_of}, Step.Copy.{copyable, masked}};
+ghost use Rattle.machine.specs.{Tree.{copied, parent_of_copy, with_copy}, WellFormed.{IsWellFormed, kind_of}};
 
 use base::{Cause, Rights, SlotRef};
 use bitflags::Flags;

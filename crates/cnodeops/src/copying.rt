@@ -1,7 +1,5 @@
 ghost use Rattle.std.specs.Prelude.{◌≡◌};
-ghost use Rattle.machine.specs.Makes.{Makes};
-ghost use Rattle.machine.specs.Step.Copy.{copy_of};
-ghost use Rattle.machine.specs.WellFormed.{IsWellFormed};
+ghost use Rattle.machine.specs.{Makes.Makes, Step.Copy.copy_of, WellFormed.IsWellFormed};
 
 use crate::copies::{copyable, derive, masked};
 use crate::slots::ends;

@@ -1,8 +1,6 @@
-ghost use Rattle.std.specs.Prelude.{◌≡◌, ◌==◌, ◌≤◌, ◌%◌, ◌^◌, Ok, Err, if◌then◌else◌};
+ghost use Rattle.std.specs.Prelude.{◌%◌, ◌==◌, ◌^◌, ◌≡◌, ◌≤◌, Err, Ok, if◌then◌else◌};
 ghost use Rattle.base.specs.declared.refusal.Cause.TheVariants.{IllegalOperation};
-ghost use Rattle.machine.specs.Makes.{Makes};
-ghost use Rattle.machine.specs.Step.Mint.{mint_of, minted, guarded};
-ghost use Rattle.machine.specs.WellFormed.{IsWellFormed};
+ghost use Rattle.machine.specs.{Makes.Makes, Step.Mint.{guarded, mint_of, minted}, WellFormed.IsWellFormed};
 
 use crate::copies::{copyable, derive, masked};
 use crate::slots::ends;

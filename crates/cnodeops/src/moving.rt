@@ -1,9 +1,5 @@
-ghost use Rattle.std.specs.Prelude.{◌≡◌, IsTrue, Some, None};
-ghost use Rattle.machine.specs.Makes.{Makes};
-ghost use Rattle.machine.specs.Machine.{cap_of, has_slot};
-ghost use Rattle.machine.specs.Tree.{with_moved};
-ghost use Rattle.machine.specs.Step.Move.{move_of};
-ghost use Rattle.machine.specs.WellFormed.{IsWellFormed};
+ghost use Rattle.std.specs.Prelude.{◌≡◌, IsTrue, None, Some};
+ghost use Rattle.machine.specs.{Machine.{cap_of, has_slot}, Makes.Makes, Step.Move.move_of, Tree.with_moved, WellFormed.IsWellFormed};
 
 use crate::slots::ends;
 use base::{Cause, ObjId};

@@ -1,8 +1,7 @@
 ghost use Rattle.std.specs.Prelude.{◌≡◌, IsOkAnd, Some};
+ghost use Rattle.machine.specs.{Lookup.{level_at, lookup_of}, Machine.cap_of, Step.Target.{ends_of, of_cnode, source_of, target_of}};
+ghost use Rattle.machine.specs.Step.Target.{vacant};
 ghost use Rattle.cspace.specs.Strings.{level_shown};
-ghost use Rattle.machine.specs.Lookup.{level_at, lookup_of};
-ghost use Rattle.machine.specs.Machine.{cap_of};
-ghost use Rattle.machine.specs.Step.Target.{ends_of, of_cnode, source_of, target_of, vacant};
 ghost use Rattle.cnodeops.specs.Below.{source_below};
 
 use base::{Cause, LookupFailure, ObjId, SlotRef};
@@ -57,11 +56,7 @@ fn unfilled(state: &State, slot: SlotRef) -> Result<(), Cause>
 
 // The slot of a source below a CNode, and the capability in it.
 #[tactic(auto, unfolding(crate::specs::Below::source_below))]
-fn source_below(
-    state: &State,
-    level: &Level,
-    address: SlotAddress,
-) -> Result<(SlotRef, Cap), Cause>
+fn source_below(state: &State, level: &Level, address: SlotAddress) -> Result<(SlotRef, Cap), Cause>
     ensures { result ≡ source_below state.now (level_shown level.now) address }
 {
     let slot = target_below(state, level, address.index, address.depth)?;

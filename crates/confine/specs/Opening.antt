@@ -1,26 +1,13 @@
 -- What is done with files that were opened by the names that a request gives (confine's own).
-use Rattle.std.specs.Prelude.{◌≡◌, ℕ, List, Option, Some, None, Result}
-use Rattle.std.specs.declared.io.Error.{Error}
-use Rattle.confine.specs.declared.files.Files.{Files}
-use Rattle.confine.specs.declared.files.Files.TheVariants.{One, Two, Three}
-use Rattle.confine.specs.declared.request.Request.{Request}
-use Rattle.confine.specs.declared.request.Request.TheVariants.{Check, Verify, Run, Replay, Close, Why, Draw, Claims}
-use Rattle.confine.specs.declared.request.Request.TheVariants as request
-use Rattle.confine.specs.declared.request.SplitRun.{SplitRun}
-use Rattle.devices.specs.Opened.{bytes_left, opened}
-use Rattle.devices.specs.Watched.{device_of, failed_of, is_flushed_of}
-use Rattle.devices.specs.declared.opened.Unopened.{Unopened}
-use Rattle.devices.specs.declared.watched.Watched.{Watched}
+use Rattle.std.specs.{declared.io.Error.Error, Prelude.{ℕ, ◌≡◌, List, None, Option, Result, Some}}
 use Rattle.either.specs.declared.Either.{Either}
-use Rattle.report.specs.Alone.{IsListed}
-use Rattle.report.specs.Answers.{IsChecked, IsRun, IsRunSplit, IsVerifiedWith}
-use Rattle.report.specs.Claimed.{AreJudged, AreWritten}
-use Rattle.report.specs.Closings.{IsClosedOver, IsStarted}
-use Rattle.report.specs.Commands.{Input, Output, input, output}
-use Rattle.report.specs.Ends.{status_of}
-use Rattle.report.specs.Questions.{IsDrawn, IsTold}
-use Rattle.report.specs.Replays.{IsReplayed}
-use Rattle.report.specs.declared.end.End.{End}
+use Rattle.devices.specs.{declared.{opened.Unopened.Unopened, watched.Watched.Watched}, Opened.{bytes_left, opened}, Watched.device_of}
+use Rattle.devices.specs.Watched.{failed_of, is_flushed_of}
+use Rattle.report.specs.{declared.end.End.End, Alone.IsListed, Answers.{IsChecked, IsRun, IsRunSplit, IsVerifiedWith}, Claimed.AreJudged}
+use Rattle.report.specs.{Claimed.AreWritten, Closings.{IsClosedOver, IsStarted}, Commands.{Input, Output, input, output}, Ends.status_of}
+use Rattle.report.specs.{Questions.{IsDrawn, IsTold}, Replays.IsReplayed}
+use Rattle.confine.specs.declared.{files.Files.{Files, TheVariants.{One, Three, Two}}, request.Request.{Request, Request as request}}
+use Rattle.confine.specs.declared.request.{Request.TheVariants.{Check, Claims, Close, Draw, Replay, Run, Verify, Why}, SplitRun.SplitRun}
 
 -- what is written to, before and after
 abbrev pub written : {W : Type 0} → (W → Option (List ℕ)) → Watched W → Watched W → Output (Watched W)

@@ -1,9 +1,7 @@
 -- What a command line may ask for (confine's own).
 use Rattle.std.specs.Prelude.{◌≤◌}
-use Rattle.confine.specs.declared.request.CommandLine.{CommandLine}
-use Rattle.confine.specs.declared.request.CommandLine.TheVariants.{InTurn, Split}
-use Rattle.confine.specs.declared.request.Request.{Request}
-use Rattle.confine.specs.declared.request.Request.TheVariants.{Check, Verify, Run, Replay, Close, Why, Draw, Claims, List}
+use Rattle.confine.specs.declared.request.{CommandLine.{CommandLine, TheVariants.{InTurn, Split}}, Request.{Request, TheVariants.Check}}
+use Rattle.confine.specs.declared.request.Request.TheVariants.{Claims, Close, Draw, List, Replay, Run, Verify, Why}
 
 -- a check has 1 to 16 workers
 abbrev pub IsWithinLimits : Request → Type 0

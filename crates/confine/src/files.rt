@@ -1,4 +1,4 @@
-ghost use Rattle.std.specs.Prelude.{◌≡◌, Some, IfOk};
+ghost use Rattle.std.specs.Prelude.{◌≡◌, IfOk, Some};
 ghost use Rattle.devices.specs.Bounded.{bytes_allowed};
 ghost use Rattle.confine.specs.declared.files.TheConstants.{MOST_BYTES};
 

@@ -1,13 +1,11 @@
 //! The program `confine`: its command line, its files and its exit status.
 #![tactic(auto)]
 
-ghost use Rattle.std.specs.Prelude.{◌≡◌, ◌≤◌, false, IfOk, IsErr, None, OnErr, Some};
-ghost use Rattle.std.specs.Fn.{FnReturnsAt};
+ghost use Rattle.std.specs.{Fn.FnReturnsAt, Prelude.{◌≡◌, ◌≤◌, IfOk, IsErr, None, OnErr, Some, false}};
 ghost use Rattle.devices.specs.Watched.{failed_of};
 ghost use Rattle.report.specs.Ends.{status_of};
-ghost use Rattle.confine.specs.Opening.{IsStatusOf, Serves, ServesSplit, written};
-ghost use Rattle.confine.specs.Requests.{IsWithinLimits, OnInTurn};
-ghost use Rattle.confine.specs.declared.request.Request.TheVariants.{Check, Verify, Run, Replay, Close, Why, Draw, Claims, List};
+ghost use Rattle.confine.specs.declared.request.Request.TheVariants.{Check, Claims, Close, Draw, List, Replay, Run, Verify, Why};
+ghost use Rattle.confine.specs.{Opening.{IsStatusOf, Serves, ServesSplit, written}, Requests.{IsWithinLimits, OnInTurn}};
 
 mod explaining;
 mod files;

@@ -1,28 +1,13 @@
 -- A call's way: the seat visits the keeper, its entry is recorded, and it leaves again. What becomes of the views, and that the history
 -- stays legal, and exact for the seat.
-use Rattle.std.proofs.Common.{◌≡◌, ◌∙◌, ◌+◌, ◌<◌, ◌≤◌, ◌^◌, arith, ℕ, List, [], ◌∷◌, ◌++◌, Some, None, length, refl, ap, sym, subst}
-use Rattle.std.specs.Prelude.{slice_get}
-use Rattle.std.proofs.lemmas.List.{length_push}
-use Rattle.std.proofs.lemmas.List.Elements.{All-push}
-use Rattle.kernel.specs.Legal.{Entry, Leads}
-use Rattle.kernel.proofs.LegalLemmas.{led_further}
-use Rattle.machine.specs.declared.call.Event.{Event}
-use Rattle.machine.specs.declared.call.Outcome.{Outcome}
-use Rattle.machine.specs.Machine.{Machine}
-use Rattle.machine.specs.Step.{Step}
-use Rattle.machine.specs.WellFormed.{IsWellFormed}
-use Rattle.cores.specs.declared.view.Noted.{Noted}
-use Rattle.cores.specs.declared.view.About.{About}
-use Rattle.cores.specs.declared.view.Keeping.{Keeping}
-use Rattle.cores.specs.declared.view.Hand.{Hand}
-use Rattle.cores.specs.declared.view.View.{View}
-use Rattle.cores.specs.History.{IsExactFor, IsLegal, OnCores, log_of}
-use Rattle.cores.specs.Moves.{Shows, after_record, hand_as_guest, recorded, with_guest, without_guest}
-use Rattle.cores.specs.Rule.{about, keeper_view}
-use Rattle.cores.specs.Seats.{Calls, InOrder, Known, Ticket, history_of, keeping_in, known, seat_view}
-use Rattle.cores.specs.Tokens.{CanRecord, IsAt, Token}
-use Rattle.cores.proofs.Lists.{log_grows, own_grows}
-use Rattle.cores.proofs.Visiting.{Knowing, known_as, known_is}
+use Rattle.std.{specs.Prelude.slice_get, proofs.Common.{[], ℕ, ◌++◌, ◌+◌, ◌<◌, ◌^◌, ◌∙◌, ◌∷◌, ◌≡◌, ◌≤◌, List, None, Some, ap, arith}}
+use Rattle.std.proofs.{Common.{length, refl, subst, sym}, lemmas.List.{length_push, Elements.All-push}}
+use Rattle.machine.specs.{declared.call.{Event.Event, Outcome.Outcome}, Machine.Machine, Step.Step, WellFormed.IsWellFormed}
+use Rattle.kernel.{specs.Legal.{Entry, Leads}, proofs.LegalLemmas.led_further}
+use Rattle.cores.specs.{declared.view.{About.About, Hand.Hand, Keeping.Keeping, Noted.Noted, View.View}, History.{IsExactFor, IsLegal}}
+use Rattle.cores.specs.{History.{OnCores, log_of}, Moves.{Shows, after_record, hand_as_guest, recorded, with_guest, without_guest}}
+use Rattle.cores.specs.{Rule.{about, keeper_view}, Seats.{Calls, InOrder, Known, Ticket, history_of, keeping_in, known, seat_view}}
+use Rattle.cores.{specs.Tokens.{CanRecord, IsAt, Token}, proofs.{Lists.{log_grows, own_grows}, Visiting.{Knowing, known_as, known_is}}}
 
 -- the keeper while a seat visits it
 abbrev pub host_view : About → Keeping → Hand → View

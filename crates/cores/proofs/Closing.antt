@@ -1,7 +1,6 @@
 -- A list that is gone through from its beginning, each element changed in turn.
-use Rattle.std.proofs.Common.{◌≡◌, ◌∙◌, ◌+◌, ◌<◌, ◌≤◌, inl, inr, ℕ, List, length, slice_index_or, slice_set, arith, sym, subst}
-use Rattle.std.proofs.lemmas.Bool.{cases_order}
-use Rattle.std.proofs.lemmas.List.{get_or-set_other, get_or-set_same}
+use Rattle.std.proofs.Common.{ℕ, ◌+◌, ◌<◌, ◌∙◌, ◌≡◌, ◌≤◌, List, arith, inl, inr, length, slice_index_or, slice_set, subst, sym}
+use Rattle.std.proofs.lemmas.{Bool.cases_order, List.{get_or-set_other, get_or-set_same}}
 
 -- a relation that holds of all elements before this one, and now of this one, holds of all up to it
 pub done_further :

@@ -1,24 +1,17 @@
 -- Each step on the word keeps its rule.
-use Rattle.std.proofs.Common.{◌≡◌, ◌≢◌, ◌∙◌, ◌+◌, ◌*◌, ◌%◌, ◌^◌, ◌<◌, ◌==◌, ℕ, zero, suc, cond, List, [], ◌∷◌, ◌++◌, length, inl, inr, refl, ap, sym, subst, arith, length-append, length-set, mod-eq_of_lt}
-use Rattle.std.specs.Prelude.{Option, Some, None, IfSome, slice_index, slice_set}
-use Rattle.std.proofs.lemmas.Option.{same_Some}
-use Rattle.cores.proofs.Seating.{none_legal}
+use Rattle.std.{specs.Prelude.{IfSome, None, Option, Some, slice_index, slice_set}, proofs.Common.{[], ℕ, ◌%◌, ◌*◌, ◌++◌, ◌+◌, ◌<◌, ◌==◌}}
+use Rattle.std.proofs.Common.{◌^◌, ◌∙◌, ◌∷◌, ◌≡◌, ◌≢◌, List, ap, arith, cond, inl, inr, length, length-append, length-set, mod-eq_of_lt}
+use Rattle.std.proofs.{Common.{refl, subst, suc, sym, zero}, lemmas.Option.same_Some}
+use Rattle.atomic_table.{specs.Table.{Allows, Joins, Me, Splits, State as Table, keeps, opening}, proofs.Lists.{at_set, set_else}}
+use Rattle.machine.specs.Machine.{Machine}
+use Rattle.cores.specs.{declared.view.{About.About, Hand.Hand, Keeping.Keeping, Noted.Noted, View.View}, History.{IsLegal, own}}
+use Rattle.cores.specs.Moves.{Records, Sees, Shows, after_deal, after_record, blank, guest_as_hand, hand_as_guest, newcomer, with_guest}
+use Rattle.cores.specs.{Moves.{with_hand, with_seen, without_guest, without_hand}, Rule.{Fits, Kept, Knows, about, first_view}}
+use Rattle.cores.{specs.Tokens.CanRecord, proofs.Lists.{at_end, at_inside, changed, if_is, if_map, if_some, own_grows, own_stays}}
+use Rattle.cores.proofs.{Lists.{prefix_longer, prefix_same, prefix_self, unchanged}, Seating.none_legal}
+use lib.ListN.{get_elem?}
 use mathlib.Core.List.{IsPrefix}
 use mathlib.Core.Option.{some, some-injective, some-ne-none}
-use lib.ListN.{get_elem?}
-use Rattle.atomic_table.specs.Table.{State as Table, Me, keeps, Allows, Splits, Joins, opening}
-use Rattle.atomic_table.proofs.Lists.{at_set, set_else}
-use Rattle.machine.specs.Machine.{Machine}
-use Rattle.cores.specs.declared.view.Noted.{Noted}
-use Rattle.cores.specs.declared.view.About.{About}
-use Rattle.cores.specs.declared.view.Keeping.{Keeping}
-use Rattle.cores.specs.declared.view.Hand.{Hand}
-use Rattle.cores.specs.declared.view.View.{View}
-use Rattle.cores.specs.History.{IsLegal, own}
-use Rattle.cores.specs.Rule.{about, first_view, Fits, Knows, Kept}
-use Rattle.cores.specs.Moves.{blank, without_hand, without_guest, hand_as_guest, guest_as_hand, with_guest, with_hand, with_seen, after_deal, newcomer, after_record, Shows, Sees, Records}
-use Rattle.cores.specs.Tokens.{CanRecord}
-use Rattle.cores.proofs.Lists.{prefix_self, prefix_same, prefix_longer, at_inside, at_end, if_some, if_map, if_is, changed, unchanged, own_grows, own_stays}
 
 -- the numbers that stood at one place stand at another
 abbrev moved : ℕ → ℕ → (ℕ → ℕ) → ℕ → ℕ

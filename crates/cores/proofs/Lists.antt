@@ -1,13 +1,11 @@
 -- Beginnings of lists, lists read at a place, and what an option holds.
-use Rattle.std.proofs.Common.{◌≡◌, ◌≢◌, ◌⊎◌, ◌∙◌, ◌<◌, ◌==◌, ℕ, zero, suc, cond, List, [], ◌∷◌, ◌++◌, length, inl, inr, refl, ap, sym, subst, arith, append_assoc, eq-eqb, ne_eqb}
-use Rattle.std.proofs.lemmas.List.{append-nil, map_push}
-use Rattle.std.proofs.lemmas.List.Elements.{filter-append}
-use Rattle.std.specs.Prelude.{Option, Some, None, IfSome, option_map}
+use Rattle.std.{specs.Prelude.{IfSome, None, Option, Some, option_map}, proofs.Common.{[], ℕ, ◌++◌, ◌<◌, ◌==◌, ◌∙◌, ◌∷◌, ◌≡◌, ◌≢◌, ◌⊎◌}}
+use Rattle.std.proofs.Common.{List, ap, append_assoc, arith, cond, eq-eqb, inl, inr, length, ne_eqb, refl, subst, suc, sym, zero}
+use Rattle.std.proofs.lemmas.List.{append-nil, map_push, Elements.filter-append}
+use Rattle.cores.specs.{declared.view.Noted.Noted, History.{log_of, own}}
+use lib.ListN.{get_elem?}
 use mathlib.Core.List.{IsPrefix}
 use mathlib.Core.Option.{some, some-injective, some-ne-none}
-use lib.ListN.{get_elem?}
-use Rattle.cores.specs.declared.view.Noted.{Noted}
-use Rattle.cores.specs.History.{log_of, own}
 
 -- each list begins with itself
 pub prefix_self : {A : Type 0} (xs : List A) → IsPrefix xs xs

@@ -1,16 +1,10 @@
 -- On a legal history each state is one that is reached.
-use Rattle.std.proofs.Common.{ℕ, List}
-use Rattle.std.specs.Prelude.{map}
-use Rattle.machine.specs.Boot.{IsBoot}
-use Rattle.machine.specs.Layout.{Layout}
-use Rattle.machine.specs.Machine.{Machine}
-use Rattle.kernel.specs.Legal.{Entry, Leads}
+use Rattle.std.{specs.Prelude.map, proofs.Common.{ℕ, List}}
+use Rattle.machine.specs.{Boot.IsBoot, Layout.Layout, Machine.Machine}
 use Rattle.policy.specs.Policy.{allows}
-use Rattle.verdict.specs.Safe.{IsReached}
-use Rattle.verdict.specs.System.{IsAcceptedSystem, System}
-use Rattle.cores.specs.declared.view.Noted.{Noted}
-use Rattle.cores.specs.History.{IsLegal, log_of}
-use Rattle.cores.specs.Safety.{IsSafeHistory}
+use Rattle.kernel.specs.Legal.{Entry, Leads}
+use Rattle.verdict.specs.{Safe.IsReached, System.{IsAcceptedSystem, System}}
+use Rattle.cores.specs.{declared.view.Noted.Noted, History.{IsLegal, log_of}, Safety.IsSafeHistory}
 
 reached :
     (t : Layout) (boot : Machine) (before : List Noted) (m : Machine) → IsBoot t boot → Leads boot (log_of before) m → IsReached t m

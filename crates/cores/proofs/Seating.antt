@@ -1,21 +1,11 @@
 -- What the token of a seat knows.
-use Rattle.std.proofs.Common.{◌≡◌, ◌∙◌, ◌+◌, ◌<◌, ◌⊎◌, inl, inr, ℕ, List, [], ◌∷◌, ◌++◌, Some, length, slice_index_or, arith, refl, sym, ap, subst}
-use Rattle.std.specs.Prelude.{All, slice_get}
-use Rattle.std.proofs.Math.ListN.{get_or-append}
-use Rattle.std.proofs.Math.Seq.{get_or-append_seam}
-use Rattle.std.proofs.lemmas.Bool.{cases_order}
-use Rattle.std.proofs.lemmas.List.{length_push}
-use Rattle.std.proofs.lemmas.Option.{get_or_from_slice_get, same_Some, slice_get-get_or, slice_get_read}
-use Rattle.std.proofs.lemmas.List.Elements.{All-nil}
+use Rattle.std.{specs.Prelude.{All, slice_get}, proofs.Common.{[], ℕ, ◌++◌, ◌+◌, ◌<◌, ◌∙◌, ◌∷◌, ◌≡◌, ◌⊎◌, List, Some, ap, arith, inl, inr}}
+use Rattle.std.proofs.{Common.{length, refl, slice_index_or, subst, sym}, Math.{ListN.get_or-append, Seq.get_or-append_seam}}
+use Rattle.std.proofs.lemmas.{Bool.cases_order, List.{length_push, Elements.All-nil}, Option.{get_or_from_slice_get, same_Some}}
+use Rattle.std.proofs.lemmas.Option.{slice_get-get_or, slice_get_read}
 use Rattle.machine.specs.Machine.{Machine}
-use Rattle.cores.specs.declared.view.Noted.{Noted}
-use Rattle.cores.specs.declared.view.About.{About}
-use Rattle.cores.specs.declared.view.View.{View}
-use Rattle.cores.specs.History.{IsLegal}
-use Rattle.cores.specs.Moves.{newcomer}
-use Rattle.cores.specs.Rule.{about, keeper_view}
-use Rattle.cores.specs.Seats.{AreNew, IsOf, IsSeated, Known, Ticket, new_seat}
-use Rattle.cores.specs.Tokens.{Token}
+use Rattle.cores.specs.{declared.view.{About.About, Noted.Noted, View.View}, History.IsLegal, Moves.newcomer, Rule.{about, keeper_view}}
+use Rattle.cores.specs.{Seats.{AreNew, IsOf, IsSeated, Known, Ticket, new_seat}, Tokens.Token}
 
 -- no entry is a run of no event
 pub none_legal : (boot : Machine) (cores : List ℕ) → IsLegal boot cores []

@@ -1,17 +1,9 @@
 -- A seat that visits another: what becomes of both views when the host looks and the visitor leaves again.
-use Rattle.std.proofs.Common.{◌≡◌, ◌∙◌, ℕ, List, [], Some, None, ap}
-use Rattle.std.specs.Prelude.{Option, slice_get}
-use Rattle.atomic_table.specs.Table.{Me}
-use Rattle.atomic_table.specs.Seated.{TableId}
-use Rattle.cores.specs.declared.view.Noted.{Noted}
-use Rattle.cores.specs.declared.view.About.{About}
-use Rattle.cores.specs.declared.view.Hand.{Hand}
-use Rattle.cores.specs.declared.view.View.{View}
-use Rattle.cores.specs.History.{IsExactFor, IsLegal}
-use Rattle.cores.specs.Moves.{Sees, Shows, guest_as_hand, hand_as_guest, seeing, with_guest, with_hand, with_seen, without_guest, without_hand}
-use Rattle.cores.specs.Seats.{IsSeated, Known, about_in, hand_in, known, seat_view}
-use Rattle.cores.specs.Tokens.{Token}
-use Rattle.cores.proofs.Lists.{if_is}
+use Rattle.std.{specs.Prelude.{Option, slice_get}, proofs.Common.{[], ℕ, ◌∙◌, ◌≡◌, List, None, Some, ap}}
+use Rattle.atomic_table.specs.{Seated.TableId, Table.Me}
+use Rattle.cores.specs.{declared.view.{About.About, Hand.Hand, Noted.Noted, View.View}, History.{IsExactFor, IsLegal}, Moves.{Sees, Shows}}
+use Rattle.cores.specs.Moves.{guest_as_hand, hand_as_guest, seeing, with_guest, with_hand, with_seen, without_guest, without_hand}
+use Rattle.cores.{specs.{Seats.{IsSeated, Known, about_in, hand_in, known, seat_view}, Tokens.Token}, proofs.Lists.if_is}
 
 abbrev pub Knowing : Type 0
 Knowing = Me (Unit {0}) View

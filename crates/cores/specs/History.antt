@@ -1,8 +1,7 @@
 -- The history of a kernel that several threads share, and what makes it legal, and exact for one seat (confine's own).
-use Rattle.std.specs.Prelude.{◌≡◌, ◌==◌, ℕ, List, All, Some, map, slice_get}
-use Rattle.std.specs.List.{filter}
-use Rattle.kernel.specs.Legal.{Entry, Leads}
+use Rattle.std.specs.{List.filter, Prelude.{ℕ, ◌==◌, ◌≡◌, All, List, Some, map, slice_get}}
 use Rattle.machine.specs.Machine.{Machine}
+use Rattle.kernel.specs.Legal.{Entry, Leads}
 use Rattle.cores.specs.declared.view.Noted.{Noted}
 
 -- the history without the seats, as a log has it

@@ -1,15 +1,9 @@
 -- What the steps on the word do to the views of the seats, and what they tell (confine's own).
-use Rattle.std.specs.Prelude.{◌≡◌, ◌+◌, ℕ, Option, List, [], ◌∷◌, ◌++◌, Some, None, IfSome, length}
-use Rattle.std.specs.Prelude.{option_map}
-use mathlib.Core.List.{IsPrefix}
+use Rattle.std.specs.Prelude.{[], ℕ, ◌++◌, ◌+◌, ◌∷◌, ◌≡◌, IfSome, List, None, Option, Some, length, option_map}
 use Rattle.atomic_table.specs.Table.{Me}
-use Rattle.machine.specs.declared.call.Call.TheVariants.{Fetch}
-use Rattle.machine.specs.declared.call.Outcome.TheVariants.{Blocked}
-use Rattle.cores.specs.declared.view.Noted.{Noted}
-use Rattle.cores.specs.declared.view.Keeping.{Keeping}
-use Rattle.cores.specs.declared.view.Hand.{Hand}
-use Rattle.cores.specs.declared.view.View.{View}
-use Rattle.cores.specs.History.{IsLegal, IsExactFor}
+use Rattle.machine.specs.declared.call.{Call.TheVariants.Fetch, Outcome.TheVariants.Blocked}
+use Rattle.cores.specs.{declared.view.{Hand.Hand, Keeping.Keeping, Noted.Noted, View.View}, History.{IsExactFor, IsLegal}}
+use mathlib.Core.List.{IsPrefix}
 
 -- a seat that knows nothing
 abbrev pub blank : View

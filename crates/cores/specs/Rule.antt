@@ -1,17 +1,12 @@
 -- The rule of the word that all seats share: it is the length of the history, and what each seat knows of that is true (confine's
 -- own).
-use Rattle.std.specs.Prelude.{◌≡◌, ◌+◌, ◌*◌, ◌<◌, ℕ, List, [], ◌∷◌, Some, None, IfSome, length}
-use mathlib.Core.List.{IsPrefix}
-use mathlib.Core.Option.{some}
-use lib.ListN.{get_elem?}
+use Rattle.std.specs.Prelude.{[], ℕ, ◌*◌, ◌+◌, ◌<◌, ◌∷◌, ◌≡◌, IfSome, List, None, Some, length}
 use Rattle.atomic_table.specs.Table.{State as Table}
 use Rattle.machine.specs.Machine.{Machine}
-use Rattle.cores.specs.declared.view.Noted.{Noted}
-use Rattle.cores.specs.declared.view.About.{About}
-use Rattle.cores.specs.declared.view.Keeping.{Keeping}
-use Rattle.cores.specs.declared.view.Hand.{Hand}
-use Rattle.cores.specs.declared.view.View.{View}
-use Rattle.cores.specs.History.{IsLegal, IsExactFor}
+use Rattle.cores.specs.{declared.view.{About.About, Hand.Hand, Keeping.Keeping, Noted.Noted, View.View}, History.{IsExactFor, IsLegal}}
+use lib.ListN.{get_elem?}
+use mathlib.Core.List.{IsPrefix}
+use mathlib.Core.Option.{some}
 
 abbrev pub about : Machine → List ℕ → About
 about boot cores = record { boot = boot; cores = cores }

@@ -1,20 +1,12 @@
 -- A history that stays within a policy, state by state and step by step ('seL4 Enforces Integrity', sections 4 and 5, authority confinement
 -- and integrity, of a history in place of a run).
-use Rattle.std.specs.Prelude.{◌≡◌, ℕ, List, ◌∷◌, ◌++◌, Some}
+use Rattle.std.specs.Prelude.{ℕ, ◌++◌, ◌∷◌, ◌≡◌, List, Some}
 use Rattle.base.specs.declared.ids.ObjId.{ObjId}
-use Rattle.machine.specs.declared.object.Object.{Object}
-use Rattle.machine.specs.Authority.{label_of}
-use Rattle.machine.specs.Layout.{Layout}
-use Rattle.machine.specs.Machine.{Machine, object_of}
-use Rattle.machine.specs.Step.{Step}
-use Rattle.kernel.specs.Legal.{Leads}
+use Rattle.machine.specs.{declared.object.Object.Object, Authority.label_of, Layout.Layout, Machine.{Machine, object_of}, Step.Step}
 use Rattle.policy.specs.Domain.{EdgeTest}
-use Rattle.verdict.specs.Allowed.{IsAllowedStep}
-use Rattle.verdict.specs.Bounded.{IsBoundedStep}
-use Rattle.verdict.specs.Budgets.{KeepsBudgets}
-use Rattle.verdict.specs.Confined.{IsConfined}
-use Rattle.cores.specs.declared.view.Noted.{Noted}
-use Rattle.cores.specs.History.{log_of}
+use Rattle.kernel.specs.Legal.{Leads}
+use Rattle.verdict.specs.{Allowed.IsAllowedStep, Bounded.IsBoundedStep, Budgets.KeepsBudgets, Confined.IsConfined}
+use Rattle.cores.specs.{declared.view.Noted.Noted, History.log_of}
 
 -- each state on it, after any of its beginnings, is confined, and its objects have labels; each step on it is allowed, takes away only
 -- from where its caller's label may take, and keeps the budgets

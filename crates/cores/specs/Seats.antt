@@ -1,21 +1,12 @@
 -- What contracts see of a seat and of a kernel, and what the kernel's calls do to what a seat has seen and made (confine's own).
-use Rattle.std.specs.Prelude.{◌≡◌, ◌<◌, ◌≤◌, ◌^◌, ℕ, List, [], ◌∷◌, ◌++◌, Some, None, refl, unwrap_or, length, slice_get, slice_index_or}
-use Rattle.std.specs.Coded.{Coded, code_by, coded×, coded_list, coded_ℕ}
-use mathlib.Core.List.{IsPrefix}
+use Rattle.std.specs.{Coded.{Coded, code_by, coded_list, coded_ℕ, coded×}, Prelude.{[], ℕ, ◌++◌, ◌<◌, ◌^◌, ◌∷◌, ◌≡◌, ◌≤◌, List, None, Some}}
+use Rattle.std.specs.Prelude.{length, refl, slice_get, slice_index_or, unwrap_or}
 use Rattle.atomic_table.specs.Seated.{TableId, table_id_coded}
+use Rattle.machine.specs.{declared.call.{Event.Event, Outcome.Outcome}, Machine.{Machine, empty_machine}, WellFormed.IsWellFormed}
 use Rattle.kernel.specs.Legal.{Entry, Leads}
-use Rattle.machine.specs.declared.call.Event.{Event}
-use Rattle.machine.specs.declared.call.Outcome.{Outcome}
-use Rattle.machine.specs.Machine.{Machine, empty_machine}
-use Rattle.machine.specs.WellFormed.{IsWellFormed}
-use Rattle.cores.specs.declared.view.Noted.{Noted}
-use Rattle.cores.specs.declared.view.About.{About}
-use Rattle.cores.specs.declared.view.Keeping.{Keeping}
-use Rattle.cores.specs.declared.view.Hand.{Hand}
-use Rattle.cores.specs.declared.view.View.{View}
-use Rattle.cores.specs.History.{log_of, IsExactFor, IsLegal, OnCores}
-use Rattle.cores.specs.Rule.{about, keeper_view}
-use Rattle.cores.specs.Tokens.{IsAt, Token}
+use Rattle.cores.specs.{declared.view.{About.About, Hand.Hand, Keeping.Keeping, Noted.Noted, View.View}, History.{IsExactFor, IsLegal}}
+use Rattle.cores.specs.{History.{OnCores, log_of}, Rule.{about, keeper_view}, Tokens.{IsAt, Token}}
+use mathlib.Core.List.{IsPrefix}
 
 -- a seat: which word it is of, what its kernel was opened with, the kernel's number, its own number and core, the beginning of the
 -- history that it has seen, and its own entries

@@ -1,13 +1,7 @@
 -- When a token may step on the word, and what its steps leave as it was (confine's own).
-use Rattle.std.specs.Prelude.{◌≡◌, ◌<◌, ◌^◌, [], ◌∷◌, ◌++◌, Some, length}
-use Rattle.atomic_table.specs.Seated.{TableId}
-use Rattle.atomic_table.specs.declared.shared.Seat.{Seat}
-use Rattle.cores.specs.declared.view.Noted.{Noted}
-use Rattle.cores.specs.declared.view.About.{About}
-use Rattle.cores.specs.declared.view.Keeping.{Keeping}
-use Rattle.cores.specs.declared.view.Hand.{Hand}
-use Rattle.cores.specs.declared.view.View.{View}
-use Rattle.cores.specs.History.{IsLegal}
+use Rattle.std.specs.Prelude.{[], ◌++◌, ◌<◌, ◌^◌, ◌∷◌, ◌≡◌, Some, length}
+use Rattle.atomic_table.specs.{declared.shared.Seat.Seat, Seated.TableId}
+use Rattle.cores.specs.{declared.view.{About.About, Hand.Hand, Keeping.Keeping, Noted.Noted, View.View}, History.IsLegal}
 
 abbrev pub Token : Type 0
 Token = Seat (Unit {0}) View

@@ -47,7 +47,7 @@ impl Split<View> for Deal {
 pub(crate) struct Visit;
 
 impl Split<View> for Visit {
-    ghost use Rattle.cores.specs.Moves.{without_hand, hand_as_guest};
+    ghost use Rattle.cores.specs.Moves.{hand_as_guest, without_hand};
 
     ghost left = { without_hand };
 
@@ -55,7 +55,7 @@ impl Split<View> for Visit {
 }
 
 impl Join<View> for Visit {
-    ghost use Rattle.cores.specs.Moves.{with_guest, blank};
+    ghost use Rattle.cores.specs.Moves.{blank, with_guest};
 
     ghost both = { with_guest };
 
@@ -66,7 +66,7 @@ impl Join<View> for Visit {
 pub(crate) struct Leave;
 
 impl Split<View> for Leave {
-    ghost use Rattle.cores.specs.Moves.{without_guest, guest_as_hand};
+    ghost use Rattle.cores.specs.Moves.{guest_as_hand, without_guest};
 
     ghost left = { without_guest };
 
@@ -74,7 +74,7 @@ impl Split<View> for Leave {
 }
 
 impl Join<View> for Leave {
-    ghost use Rattle.cores.specs.Moves.{with_hand, blank};
+    ghost use Rattle.cores.specs.Moves.{blank, with_hand};
 
     ghost both = { with_hand };
 

@@ -1,11 +1,9 @@
 //! What lies under a kernel's lock.
-ghost use Rattle.std.specs.Prelude.{◌≡◌, ◌≢◌, ◌<◌, ◌≤◌, ◌^◌, ◌↔◌, Bool, length};
+ghost use Rattle.std.specs.Prelude.{◌<◌, ◌^◌, ◌↔◌, ◌≡◌, ◌≢◌, ◌≤◌, Bool, length};
 ghost use Rattle.base.specs.Refusals.{plain};
+ghost use Rattle.machine.specs.{declared.call.Outcome.TheVariants.Refused, WellFormed.IsWellFormed};
 ghost use Rattle.kernel.specs.Legal.{Leads};
-ghost use Rattle.machine.specs.WellFormed.{IsWellFormed};
-ghost use Rattle.machine.specs.declared.call.Outcome.TheVariants.{Refused};
-ghost use Rattle.cores.specs.History.{OnCores, log_of};
-ghost use Rattle.cores.specs.Seats.{Calls, IsAtTicket, IsOf, Looks};
+ghost use Rattle.cores.specs.{History.{OnCores, log_of}, Seats.{Calls, IsAtTicket, IsOf, Looks}};
 
 use crate::board::{Board, Token};
 use crate::naming::Naming;
@@ -29,8 +27,7 @@ pub(crate) struct Desk<J: Naming> {
 
 impl<J: Naming> Model for Desk<J> {
     ghost use Rattle.std.specs.Prelude.{List, vec_capacity};
-    ghost use Rattle.cores.specs.declared.view.Noted.{Noted};
-    ghost use Rattle.cores.specs.Seats.{InOrder, history_of};
+    ghost use Rattle.cores.specs.{declared.view.Noted.Noted, Seats.{InOrder, history_of}};
 
     ghost Value = { List Noted };
 

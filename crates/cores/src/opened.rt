@@ -1,10 +1,8 @@
 //! A kernel that was opened, and has no name yet.
-ghost use Rattle.std.specs.Prelude.{◌≡◌, ◌<◌, ◌≤◌, ◌⊎◌, ◌^◌, [], All, length, IfErr, IfOk, IsErrOf};
+ghost use Rattle.std.specs.Prelude.{[], ◌<◌, ◌^◌, ◌≡◌, ◌≤◌, ◌⊎◌, All, IfErr, IfOk, IsErrOf, length};
 ghost use Rattle.base.specs.Refusals.{plain};
-ghost use Rattle.machine.specs.Boot.{IsBoot};
-ghost use Rattle.machine.specs.WellFormed.{IsWellFormed};
-ghost use Rattle.cores.specs.Seats.{AreFresh, AreNew, CanDeal, IsOf, about_in};
-ghost use Rattle.cores.specs.Tokens.{IsAt, IsSame};
+ghost use Rattle.machine.specs.{Boot.IsBoot, WellFormed.IsWellFormed};
+ghost use Rattle.cores.specs.{Seats.{AreFresh, AreNew, CanDeal, IsOf, about_in}, Tokens.{IsAt, IsSame}};
 
 use crate::board::{Board, Key, Token};
 use crate::desk::Desk;
@@ -40,9 +38,9 @@ impl Model for Opened {
     ghost use Rattle.std.specs.Prelude.{vec_capacity};
     ghost use Rattle.base.specs.contracts.ids.ObjId as id;
     ghost use Rattle.base.specs.contracts.ids.SlotRef as slot;
-    ghost use Rattle.machine.specs.contracts.object.Object as object;
-    ghost use Rattle.machine.specs.contracts.cap.Cap as capability;
     ghost use Rattle.machine.specs.Machine.{machine_code};
+    ghost use Rattle.machine.specs.contracts.cap.Cap as capability;
+    ghost use Rattle.machine.specs.contracts.object.Object as object;
     ghost use Rattle.cores.specs.Seats.{IsOpened, Ticket, ticket_code, ticket_of};
 
     ghost Value = { Ticket };

@@ -1,5 +1,5 @@
 //! A kernel that several threads call at once.
-ghost use Rattle.std.specs.Prelude.{◌≡◌, ◌≢◌, ◌<◌, ◌≤◌, ◌⊎◌, ◌↔◌, ◌==◌, ℕ, All, Decides, IfErr, IfOk, length, slice_index_or};
+ghost use Rattle.std.specs.Prelude.{ℕ, ◌<◌, ◌==◌, ◌↔◌, ◌≡◌, ◌≢◌, ◌≤◌, ◌⊎◌, All, Decides, IfErr, IfOk, length, slice_index_or};
 ghost use Rattle.base.specs.Refusals.{plain};
 ghost use Rattle.machine.specs.declared.call.Outcome.TheVariants.{Refused};
 ghost use Rattle.cores.specs.Seats.{Calls, Closes, IsAtBoard, IsAtTicket, IsOf, Known, Looks, Meet};
@@ -30,9 +30,9 @@ pub struct Kernel<J: Naming> {
 impl<J: Naming> Model for Kernel<J> {
     ghost use Rattle.base.specs.contracts.ids.ObjId as id;
     ghost use Rattle.base.specs.contracts.ids.SlotRef as slot;
-    ghost use Rattle.machine.specs.contracts.object.Object as object;
-    ghost use Rattle.machine.specs.contracts.cap.Cap as capability;
     ghost use Rattle.machine.specs.Machine.{machine_code};
+    ghost use Rattle.machine.specs.contracts.cap.Cap as capability;
+    ghost use Rattle.machine.specs.contracts.object.Object as object;
     ghost use Rattle.cores.specs.Seats.{IsKernel, Ticket, ticket_code, ticket_of};
 
     ghost Value = { Ticket };

@@ -1,12 +1,9 @@
 //! What the headline says of all that seats have seen.
 ghost use Rattle.std.specs.Prelude.{ℕ, List};
-ghost use Rattle.cores.specs.History.{IsLegal};
-ghost use Rattle.cores.specs.Safety.{IsSafeHistory};
-ghost use Rattle.cores.specs.declared.view.Noted.{Noted as Entered};
-ghost use Rattle.machine.specs.Boot.{IsBoot};
-ghost use Rattle.machine.specs.Machine.{Machine};
+ghost use Rattle.machine.specs.{Boot.IsBoot, Machine.Machine};
 ghost use Rattle.policy.specs.Policy.{allows};
 ghost use Rattle.verdict.specs.System.{IsAcceptedSystem, System};
+ghost use Rattle.cores.specs.{declared.view.Noted.Noted as Entered, History.IsLegal, Safety.IsSafeHistory};
 
 /// A law: on a legal history from the boot state of an accepted system each state is confined, each object in it has a label, and
 /// each step is allowed, takes away only from where its caller's label may take, and keeps the budgets.

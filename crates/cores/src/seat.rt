@@ -1,8 +1,6 @@
 //! A seat, by which one thread calls the kernel. It has no lock, and no part of the state.
-ghost use Rattle.std.specs.Prelude.{◌≡◌, [], Some, slice_get};
-ghost use Rattle.cores.specs.Moves.{after_deal};
-ghost use Rattle.cores.specs.Seats.{CanSeat, about_in};
-ghost use Rattle.cores.specs.Tokens.{IsAt, IsSame};
+ghost use Rattle.std.specs.Prelude.{[], ◌≡◌, Some, slice_get};
+ghost use Rattle.cores.specs.{Moves.after_deal, Seats.{CanSeat, about_in}, Tokens.{IsAt, IsSame}};
 
 use crate::board::{Board, Token};
 use crate::steps::deal;
@@ -22,11 +20,11 @@ pub struct Seat {
 impl Model for Seat {
     ghost use Rattle.base.specs.contracts.ids.ObjId as id;
     ghost use Rattle.base.specs.contracts.ids.SlotRef as slot;
-    ghost use Rattle.machine.specs.contracts.object.Object as object;
-    ghost use Rattle.machine.specs.contracts.cap.Cap as capability;
     ghost use Rattle.machine.specs.Machine.{machine_code};
+    ghost use Rattle.machine.specs.contracts.cap.Cap as capability;
+    ghost use Rattle.machine.specs.contracts.object.Object as object;
+    ghost use Rattle.cores.specs.Seats.{IsSeated, Known, known, known_code};
     ghost use Rattle.cores.specs.contracts.view.Noted as noted;
-    ghost use Rattle.cores.specs.Seats.{Known, known_code, known, IsSeated};
 
     ghost Value = { Known };
 

@@ -2,13 +2,10 @@
 //!
 //! A call visits the keeper, records, and leaves, so that one step on the word changes what both know. The word is
 //! loaded at each coming and going, and added to once.
-ghost use Rattle.std.specs.Prelude.{◌≡◌, ◌∷◌, [], IfOk, Some, None, IfSome, length};
-ghost use Rattle.cores.specs.declared.view.About.{About};
-ghost use Rattle.cores.specs.declared.view.Keeping.{Keeping};
-ghost use Rattle.cores.specs.declared.view.Hand.{Hand};
-ghost use Rattle.cores.specs.Rule.{first_view};
-ghost use Rattle.cores.specs.Moves.{without_hand, without_guest, hand_as_guest, guest_as_hand, with_guest, with_hand, with_seen, after_deal, after_record, newcomer, Sees, Shows};
-ghost use Rattle.cores.specs.Tokens.{IsAt, IsSame, CanRecord};
+ghost use Rattle.std.specs.Prelude.{[], ◌∷◌, ◌≡◌, IfOk, IfSome, None, Some, length};
+ghost use Rattle.cores.specs.{declared.view.{About.About, Hand.Hand, Keeping.Keeping}, Moves.{Sees, Shows, after_deal, after_record}};
+ghost use Rattle.cores.specs.Moves.{guest_as_hand, hand_as_guest, newcomer, with_guest, with_hand, with_seen, without_guest, without_hand};
+ghost use Rattle.cores.specs.{Rule.first_view, Tokens.{CanRecord, IsAt, IsSame}};
 
 use crate::board::{Board, Deal, Key, Leave, Record, Saying, See, Token, Visit};
 use crate::view::Noted;

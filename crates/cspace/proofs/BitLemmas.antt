@@ -1,11 +1,8 @@
 -- Strings of bits by quotients and remainders of powers of two.
-use Rattle.std.proofs.Common.{◌≡◌, ◌≢◌, ℕ, zero, suc, ◌+◌, ◌-◌, ◌*◌, ◌/◌, ◌%◌, ◌^◌, ◌<◌, ◌≤◌, ◌==◌, Bool, true, false, List, []}
-use Rattle.std.proofs.Common.{◌∷◌, length, Some, None, refl, sym, ap, ◌∙◌, arith}
-use Rattle.std.specs.Int.{bit_at}
-use Rattle.std.proofs.lemmas.Nat.{pow_pos, shr-shr, mod-pow-add, mod_below, same_from_place}
-use Rattle.std.proofs.Math.Nat.{pow-suc, div-one}
-use Rattle.std.proofs.lemmas.Nat.Bits.{bit_at-lt}
-use Rattle.machine.specs.Bits.{bits, number, number_from, after, split}
+use Rattle.std.{specs.Int.bit_at, proofs.Common.{[], ℕ, ◌%◌, ◌*◌, ◌+◌, ◌-◌, ◌/◌, ◌<◌, ◌==◌, ◌^◌, ◌∙◌, ◌∷◌, ◌≡◌, ◌≢◌, ◌≤◌, Bool, List, None}}
+use Rattle.std.proofs.{Common.{Some, ap, arith, false, length, refl, suc, sym, true, zero}, Math.Nat.{div-one, pow-suc}}
+use Rattle.std.proofs.lemmas.Nat.{mod-pow-add, mod_below, pow_pos, same_from_place, shr-shr, Bits.bit_at-lt}
+use Rattle.machine.specs.Bits.{after, bits, number, number_from, split}
 
 -- the highest of one more bit stands apart
 mod-pow-suc : (n k : ℕ) → n % 2 ^ suc k ≡ bit_at n k * 2 ^ k + n % 2 ^ k

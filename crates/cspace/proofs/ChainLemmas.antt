@@ -1,16 +1,11 @@
 -- A walk ends just where a chain does.
-use Rattle.std.proofs.Common.{◌≡◌, ℕ, zero, suc, ◌+◌, ◌<◌, ◌⊎◌, inl, inr, Bool, true, false, List, [], ◌∷◌, ◌++◌, length, Option}
-use Rattle.std.proofs.Common.{Some, None, Result, Ok, Err, refl, sym, ap, subst, ◌∙◌, arith, append_assoc, length-append}
-use Rattle.base.specs.declared.ids.SlotRef.{SlotRef}
-use Rattle.base.specs.declared.refusal.LookupFailure.{LookupFailure}
-use Rattle.base.specs.declared.refusal.LookupFailure.TheVariants.{InvalidRoot, MissingCapability, DepthMismatch, GuardMismatch}
-use Rattle.machine.specs.Bits.{after, split}
-use Rattle.machine.specs.Lookup.{Level, level_at, hop, walk, onward}
-use Rattle.machine.specs.Machine.{Machine}
-use Rattle.cspace.specs.Chain.{Link, taken, spelled, selected, IsWhole, Joins, Leads, Resolves, BeginsWith, Hinders, Misses}
-use Rattle.cspace.specs.Chain.{TakesBits}
-use Rattle.cspace.proofs.HopLemmas.{hop-apart, hop-deep, hop-slot}
-use Rattle.cspace.proofs.WalkLemmas.{walk-err, walk-done, walk-none}
+use Rattle.std.proofs.Common.{[], ℕ, ◌++◌, ◌+◌, ◌<◌, ◌∙◌, ◌∷◌, ◌≡◌, ◌⊎◌, Bool, Err, List, None, Ok, Option, Result, Some, ap, append_assoc}
+use Rattle.std.proofs.Common.{arith, false, inl, inr, length, length-append, refl, subst, suc, sym, true, zero}
+use Rattle.base.specs.declared.{ids.SlotRef.SlotRef, refusal.LookupFailure.{LookupFailure, TheVariants.{DepthMismatch, GuardMismatch}}}
+use Rattle.base.specs.declared.refusal.LookupFailure.TheVariants.{InvalidRoot, MissingCapability}
+use Rattle.machine.specs.{Bits.{after, split}, Lookup.{Level, hop, level_at, onward, walk}, Machine.Machine}
+use Rattle.cspace.specs.Chain.{BeginsWith, Hinders, IsWhole, Joins, Leads, Link, Misses, Resolves, TakesBits, selected, spelled, taken}
+use Rattle.cspace.proofs.{HopLemmas.{hop-apart, hop-deep, hop-slot}, WalkLemmas.{walk-done, walk-err, walk-none}}
 
 -- beginnings of strings
 

@@ -1,22 +1,14 @@
 -- Where each CNode takes bits, a lookup's result says where the chain ends.
-use Rattle.std.proofs.Common.{◌≡◌, ℕ, ◌↔◌, ◌⊎◌, inl, inr, Bool, List, [], Some, None, Result, Ok, Err, length, refl, sym, ap}
-use Rattle.std.proofs.Common.{subst, ◌∙◌, ◌++◌, arith}
-use Rattle.std.proofs.lemmas.Option.{same_Some}
-use Rattle.base.specs.declared.ids.ObjId.{ObjId}
-use Rattle.base.specs.declared.ids.SlotRef.{SlotRef}
-use Rattle.base.specs.declared.refusal.Cause.{Cause}
-use Rattle.base.specs.declared.refusal.Cause.TheVariants.{FailedLookup}
-use Rattle.base.specs.declared.refusal.LookupFailure.{LookupFailure}
-use Rattle.base.specs.declared.refusal.LookupFailure.TheVariants.{InvalidRoot, MissingCapability, DepthMismatch, GuardMismatch}
-use Rattle.base.specs.declared.refusal.Refusal.{Refusal}
-use Rattle.base.specs.Refusals.{refusal_of, failure_detail}
-use Rattle.machine.specs.Bits.{bits}
-use Rattle.machine.specs.Lookup.{Level, level_at, lookup_of}
-use Rattle.machine.specs.Machine.{Machine, cap_of}
-use Rattle.cspace.specs.Chain.{Link, Leads, IsWhole, spelled, taken, selected, Resolves, Misses, Finds, Fails, TakesBits}
-use Rattle.cspace.specs.Roots.{root_level}
-use Rattle.cspace.proofs.LookupLemmas.{finds, found, fails, failed}
-use Rattle.cspace.proofs.UniqueLemmas.{same_chain, same_miss, not_both}
+use Rattle.std.proofs.Common.{[], ℕ, ◌++◌, ◌↔◌, ◌∙◌, ◌≡◌, ◌⊎◌, Bool, Err, List, None, Ok, Result, Some, ap, arith, inl, inr, length, refl}
+use Rattle.std.proofs.{Common.{subst, sym}, lemmas.Option.same_Some}
+use Rattle.base.specs.declared.{ids.{ObjId.ObjId, SlotRef.SlotRef}, refusal.Cause.{Cause, TheVariants.FailedLookup}}
+use Rattle.base.specs.declared.refusal.LookupFailure.{LookupFailure, TheVariants.{DepthMismatch, GuardMismatch, InvalidRoot}}
+use Rattle.base.specs.{declared.refusal.{LookupFailure.TheVariants.MissingCapability, Refusal.Refusal}, Refusals.failure_detail}
+use Rattle.base.specs.Refusals.{refusal_of}
+use Rattle.machine.specs.{Bits.bits, Lookup.{Level, level_at, lookup_of}, Machine.{Machine, cap_of}}
+use Rattle.cspace.specs.Chain.{Fails, Finds, IsWhole, Leads, Link, Misses, Resolves, TakesBits, selected, spelled, taken}
+use Rattle.cspace.{specs.Roots.root_level, proofs.{LookupLemmas.{failed, fails, finds, found}, UniqueLemmas.{not_both, same_chain}}}
+use Rattle.cspace.proofs.UniqueLemmas.{same_miss}
 
 -- an ordinary lookup looks for no capability, so none is missing
 pub never_missing : (m : Machine) (thread : ObjId) (address : ℕ) → Fails m thread address MissingCapability → ⊥

@@ -1,8 +1,7 @@
 -- Where a hop ends, from what the guard and the radix leave.
-use Rattle.std.proofs.Common.{◌≡◌, Bool, List, Some, None, Ok, Err, refl}
+use Rattle.std.proofs.Common.{◌≡◌, Bool, Err, List, None, Ok, Some, refl}
 use Rattle.base.specs.declared.refusal.LookupFailure.TheVariants.{DepthMismatch, GuardMismatch}
-use Rattle.machine.specs.Bits.{number, after, split}
-use Rattle.machine.specs.Lookup.{Level, hop}
+use Rattle.machine.specs.{Bits.{after, number, split}, Lookup.{Level, hop}}
 
 pub hop-apart : (level : Level) (string : List Bool) → after level.guard string ≡ None → hop level string ≡ Err GuardMismatch
 unfolding hop

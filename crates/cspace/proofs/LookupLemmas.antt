@@ -1,21 +1,11 @@
 -- A lookup ends just where a chain from the thread's root does.
-use Rattle.std.proofs.Common.{◌≡◌, ℕ, ◌⊎◌, inl, inr, Bool, List, length, Option, Some, None, Result, Ok, Err, refl, sym, ap}
-use Rattle.std.proofs.Common.{subst, ◌∙◌, arith}
-use Rattle.base.specs.declared.ids.ObjId.{ObjId}
-use Rattle.base.specs.declared.ids.SlotRef.{SlotRef}
-use Rattle.base.specs.declared.refusal.Cause.{Cause}
-use Rattle.base.specs.declared.refusal.Cause.TheVariants as cause
-use Rattle.base.specs.declared.refusal.LookupFailure.{LookupFailure}
-use Rattle.machine.specs.declared.object.Object.{Object}
-use Rattle.machine.specs.declared.object.Object.TheVariants as o
-use Rattle.machine.specs.Bits.{bits}
-use Rattle.machine.specs.Lookup.{Level, level_at, walk, counted, lookup_of, root_of}
-use Rattle.machine.specs.Machine.{Machine, object_of}
-use Rattle.cspace.specs.Chain.{Finds, Fails, TakesBits}
-use Rattle.cspace.specs.Roots.{root_level, level_of_root}
-use Rattle.cspace.proofs.BitLemmas.{length-bits}
-use Rattle.cspace.proofs.ChainLemmas.{Ends, ends-walk, walk-ends}
-use Rattle.cspace.proofs.RootLemmas.{lookup_of-none, lookup_of-some}
+use Rattle.std.proofs.Common.{ℕ, ◌∙◌, ◌≡◌, ◌⊎◌, Bool, Err, List, None, Ok, Option, Result, Some, ap, arith, inl, inr, length, refl, subst}
+use Rattle.std.proofs.Common.{sym}
+use Rattle.base.specs.declared.{ids.{ObjId.ObjId, SlotRef.SlotRef}, refusal.{Cause.{Cause, Cause as cause}, LookupFailure.LookupFailure}}
+use Rattle.machine.specs.{declared.object.Object.{Object, Object as o}, Bits.bits, Lookup.{Level, counted, level_at, lookup_of, root_of}}
+use Rattle.machine.specs.{Lookup.walk, Machine.{Machine, object_of}}
+use Rattle.cspace.{specs.{Chain.{Fails, Finds, TakesBits}, Roots.{level_of_root, root_level}}, proofs.BitLemmas.length-bits}
+use Rattle.cspace.proofs.{ChainLemmas.{Ends, ends-walk, walk-ends}, RootLemmas.{lookup_of-none, lookup_of-some}}
 
 -- a root is a CNode whose capability a slot holds
 root_held :

@@ -1,16 +1,9 @@
 -- Each CNode that a capability shows takes bits, where each CNode of the machine does.
-use Rattle.std.proofs.Common.{◌≡◌, ◌<◌, ◌≤◌, Bool, Option, Some, None, refl, subst}
-use Rattle.std.proofs.lemmas.Option.{same_Some}
+use Rattle.std.proofs.{Common.{◌<◌, ◌≡◌, ◌≤◌, Bool, None, Option, Some, refl, subst}, lemmas.Option.same_Some}
 use Rattle.base.specs.declared.ids.ObjId.{ObjId}
-use Rattle.machine.specs.declared.cap.Cap.{Cap}
-use Rattle.machine.specs.declared.cap.Detail.{Detail}
-use Rattle.machine.specs.declared.cap.Detail.TheVariants as d
-use Rattle.machine.specs.declared.cap.Guard.{Guard}
-use Rattle.machine.specs.declared.object.CNode.{CNode}
-use Rattle.machine.specs.declared.object.Object.{Object}
-use Rattle.machine.specs.declared.object.Object.TheVariants as o
-use Rattle.machine.specs.Lookup.{Level, level_at, level_of_cap, level_through}
-use Rattle.machine.specs.Machine.{Machine, object_of, cap_of}
+use Rattle.machine.specs.declared.{cap.{Cap.Cap, Detail.{Detail, Detail as d}, Guard.Guard}, object.{CNode.CNode, Object.Object}}
+use Rattle.machine.specs.{declared.object.Object.Object as o, Lookup.{Level, level_at, level_of_cap, level_through}, Machine.Machine}
+use Rattle.machine.specs.Machine.{cap_of, object_of}
 use Rattle.cspace.specs.Chain.{TakesBits}
 
 pub takes_bits :

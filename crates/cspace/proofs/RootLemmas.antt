@@ -1,21 +1,12 @@
 -- Lookup from a thread's root, by a walk.
-use Rattle.std.proofs.Common.{◌≡◌, ℕ, Option, Some, None, Result, Ok, Err, refl, ap, ◌∙◌}
-use Rattle.base.specs.declared.ids.ObjId.{ObjId}
-use Rattle.base.specs.declared.ids.SlotRef.{SlotRef}
-use Rattle.base.specs.declared.refusal.Cause.{Cause}
-use Rattle.base.specs.declared.refusal.Cause.TheVariants as cause
-use Rattle.base.specs.declared.refusal.LookupFailure.{LookupFailure}
-use Rattle.base.specs.declared.refusal.LookupFailure.TheVariants.{InvalidRoot}
-use Rattle.std.specs.Result.{MatchResult, IsErrAnd}
+use Rattle.std.{specs.Result.{IsErrAnd, MatchResult}, proofs.Common.{ℕ, ◌∙◌, ◌≡◌, Err, None, Ok, Option, Result, Some, ap, refl}}
 use Rattle.std.proofs.lemmas.Result.{err_from_is_err_and}
-use Rattle.machine.specs.declared.object.Object.{Object}
-use Rattle.machine.specs.declared.object.Object.TheVariants as o
-use Rattle.machine.specs.Bits.{bits}
-use Rattle.machine.specs.Lookup.{Level, walk, counted, lookup_of}
+use Rattle.base.specs.declared.{ids.{ObjId.ObjId, SlotRef.SlotRef}, refusal.{Cause.Cause, LookupFailure.LookupFailure}}
+use Rattle.base.specs.declared.refusal.Cause.TheVariants as cause
+use Rattle.base.specs.declared.refusal.LookupFailure.TheVariants.{InvalidRoot}
+use Rattle.machine.specs.{declared.object.Object.{Object, Object as o}, Bits.bits, Lookup.{Level, counted, lookup_of, walk}}
 use Rattle.machine.specs.Machine.{Machine, object_of}
-use Rattle.cspace.specs.Roots.{root_level, level_of_root}
-use Rattle.cspace.specs.Strings.{place_shown}
-use Rattle.cspace.proofs.BitLemmas.{length-bits}
+use Rattle.cspace.{specs.{Roots.{level_of_root, root_level}, Strings.place_shown}, proofs.BitLemmas.length-bits}
 
 -- a thread without a root
 pub lookup_of-none :

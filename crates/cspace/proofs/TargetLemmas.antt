@@ -1,25 +1,14 @@
 -- The lookup of a target ends just where a chain does.
-use Rattle.std.proofs.Common.{◌≡◌, ℕ, ◌<◌, ◌≤◌, ◌⊎◌, ◌↔◌, inl, inr, Bool, true, false, List, [], ◌∷◌, length, Option, Some, None}
-use Rattle.std.proofs.Common.{Result, Ok, Err, refl, sym, ap, subst, ◌∙◌, arith, nat_le}
-use Rattle.std.proofs.lemmas.Bool.{ne_eqb, le-leb, lt-leb, leb-true, leb-false}
+use Rattle.std.proofs.Common.{[], ℕ, ◌<◌, ◌↔◌, ◌∙◌, ◌∷◌, ◌≡◌, ◌≤◌, ◌⊎◌, Bool, Err, List, None, Ok, Option, Result, Some, ap, arith, false}
+use Rattle.std.proofs.{Common.{inl, inr, length, nat_le, refl, subst, sym, true}, lemmas.Bool.{le-leb, leb-false, leb-true, lt-leb, ne_eqb}}
 use Rattle.std.proofs.lemmas.Option.{same_Some}
-use Rattle.base.specs.declared.ids.SlotRef.{SlotRef}
-use Rattle.base.specs.declared.refusal.Cause.{Cause}
-use Rattle.base.specs.declared.refusal.Cause.TheVariants.{FailedLookup, RangeError}
-use Rattle.base.specs.declared.refusal.LookupFailure.{LookupFailure}
-use Rattle.base.specs.declared.refusal.LookupFailure.TheVariants.{InvalidRoot, MissingCapability, DepthMismatch}
-use Rattle.base.specs.declared.refusal.Refusal.{Refusal}
-use Rattle.base.specs.Refusals.{refusal_of}
-use Rattle.machine.specs.Bits.{bits}
-use Rattle.machine.specs.Lookup.{Level, level_at, walk, counted}
-use Rattle.machine.specs.Machine.{Machine}
-use Rattle.machine.specs.Refusing.{◌>>=◌}
-use Rattle.machine.specs.Step.Target.{exactly, in_depth, lookup_target_of}
-use Rattle.cspace.specs.Below.{target_below}
-use Rattle.cspace.specs.Chain.{Resolves, TargetStarts, TargetFinds, TargetFails, TakesBits, Leads, Hinders}
-use Rattle.cspace.proofs.BitLemmas.{length-bits}
-use Rattle.cspace.proofs.ChainLemmas.{Ends, ends-walk, walk-ends}
-use Rattle.cspace.proofs.EndLemmas.{unique, same_cause}
+use Rattle.base.specs.declared.{ids.SlotRef.SlotRef, refusal.Cause.{Cause, TheVariants.{FailedLookup, RangeError}}}
+use Rattle.base.specs.declared.refusal.LookupFailure.{LookupFailure, TheVariants.{DepthMismatch, InvalidRoot, MissingCapability}}
+use Rattle.base.specs.{declared.refusal.Refusal.Refusal, Refusals.refusal_of}
+use Rattle.machine.specs.{Bits.bits, Lookup.{Level, counted, level_at, walk}, Machine.Machine, Refusing.◌>>=◌, Step.Target.exactly}
+use Rattle.machine.specs.Step.Target.{in_depth, lookup_target_of}
+use Rattle.cspace.specs.{Below.target_below, Chain.{Hinders, Leads, Resolves, TakesBits, TargetFails, TargetFinds, TargetStarts}}
+use Rattle.cspace.proofs.{BitLemmas.length-bits, ChainLemmas.{Ends, ends-walk, walk-ends}, EndLemmas.{same_cause, unique}}
 
 -- so many bits of an index can be looked up
 pub deep : (depth : ℕ) → 1 ≤ depth → depth ≤ 64 → in_depth depth ≡ Ok tt

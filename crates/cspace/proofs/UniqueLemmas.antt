@@ -1,15 +1,10 @@
 -- A chain for a string is the only one.
-use Rattle.std.proofs.Common.{◌≡◌, ◌<◌, ◌⊎◌, inl, inr, Bool, List, [], ◌∷◌, ◌++◌, length, Some, None, Result, Ok, Err, refl, sym}
-use Rattle.std.proofs.Common.{ap, subst, ◌∙◌, arith, append_assoc, length-append}
-use Rattle.std.proofs.lemmas.List.{append_cancel_left}
-use Rattle.std.proofs.lemmas.Option.{same_Some}
-use Rattle.base.specs.declared.ids.SlotRef.{SlotRef}
-use Rattle.base.specs.declared.refusal.LookupFailure.{LookupFailure}
-use Rattle.machine.specs.Bits.{split}
-use Rattle.machine.specs.Lookup.{Level, level_at, hop}
-use Rattle.machine.specs.Machine.{Machine}
-use Rattle.cspace.specs.Chain.{Link, taken, spelled, selected, IsWhole, Joins, Leads, Hinders, TakesBits}
-use Rattle.cspace.proofs.ChainLemmas.{split-append, hop-link, hop-hinders, leads-radix}
+use Rattle.std.proofs.Common.{[], ◌++◌, ◌<◌, ◌∙◌, ◌∷◌, ◌≡◌, ◌⊎◌, Bool, Err, List, None, Ok, Result, Some, ap, append_assoc, arith, inl, inr}
+use Rattle.std.proofs.{Common.{length, length-append, refl, subst, sym}, lemmas.{List.append_cancel_left, Option.same_Some}}
+use Rattle.base.specs.declared.{ids.SlotRef.SlotRef, refusal.LookupFailure.LookupFailure}
+use Rattle.machine.specs.{Bits.split, Lookup.{Level, hop, level_at}, Machine.Machine}
+use Rattle.cspace.{specs.Chain.{Hinders, IsWhole, Joins, Leads, Link, TakesBits, selected, spelled, taken}, proofs.ChainLemmas.hop-hinders}
+use Rattle.cspace.proofs.ChainLemmas.{hop-link, leads-radix, split-append}
 
 -- at one CNode a string has one link
 same_link :

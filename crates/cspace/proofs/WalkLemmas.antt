@@ -1,10 +1,7 @@
 -- What a walk makes of one hop.
-use Rattle.std.proofs.Common.{◌≡◌, ℕ, zero, suc, ◌<◌, Bool, List, [], ◌∷◌, Some, None, Result, Ok, Err, refl, sym, ap, ◌∙◌, arith}
-use Rattle.base.specs.declared.ids.SlotRef.{SlotRef}
-use Rattle.base.specs.declared.refusal.LookupFailure.{LookupFailure}
-use Rattle.machine.specs.Bits.{bits}
-use Rattle.machine.specs.Lookup.{Level, level_at, hop, walk, onward}
-use Rattle.machine.specs.Machine.{Machine}
+use Rattle.std.proofs.Common.{[], ℕ, ◌<◌, ◌∙◌, ◌∷◌, ◌≡◌, Bool, Err, List, None, Ok, Result, Some, ap, arith, refl, suc, sym, zero}
+use Rattle.base.specs.declared.{ids.SlotRef.SlotRef, refusal.LookupFailure.LookupFailure}
+use Rattle.machine.specs.{Bits.bits, Lookup.{Level, hop, level_at, onward, walk}, Machine.Machine}
 
 pub walk-err :
     (most : ℕ) (m : Machine) (level : Level) (string : List Bool) (failure : LookupFailure) → 0 < most

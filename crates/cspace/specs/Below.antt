@@ -1,12 +1,7 @@
 -- The lookup of a target from a CNode that was found (seL4 manual, "Capability Address Lookup").
 use Rattle.std.specs.Prelude.{ℕ, Result}
-use Rattle.base.specs.declared.ids.SlotRef.{SlotRef}
-use Rattle.base.specs.declared.refusal.Cause.{Cause}
-use Rattle.machine.specs.Bits.{bits}
-use Rattle.machine.specs.Lookup.{Level, walk, counted}
-use Rattle.machine.specs.Machine.{Machine}
-use Rattle.machine.specs.Refusing.{◌>>=◌}
-use Rattle.machine.specs.Step.Target.{exactly, in_depth}
+use Rattle.base.specs.declared.{ids.SlotRef.SlotRef, refusal.Cause.Cause}
+use Rattle.machine.specs.{Bits.bits, Lookup.{Level, counted, walk}, Machine.Machine, Refusing.◌>>=◌, Step.Target.{exactly, in_depth}}
 
 -- the slot to which the low `depth` bits of an index lead from a CNode
 unfoldable pub target_below : Machine → Level → ℕ → ℕ → Result SlotRef Cause

@@ -1,16 +1,9 @@
 -- Guarded lookup by chains of CNode capabilities: guards and indices, joined, are a beginning of the address (seL4 manual,
 -- "Capability Address Lookup").
-use Rattle.std.specs.Prelude.{◌≡◌, ℕ, ◌+◌, ◌<◌, ◌≤◌, ◌⊎◌, Bool, List, [], ◌∷◌, ◌++◌, length, Some, None}
-use Rattle.std.specs.List.{flat_map}
-use Rattle.base.specs.declared.ids.ObjId.{ObjId}
-use Rattle.base.specs.declared.ids.SlotRef.{SlotRef}
-use Rattle.base.specs.declared.refusal.Cause.{Cause}
-use Rattle.base.specs.declared.refusal.Cause.TheVariants.{FailedLookup, RangeError}
-use Rattle.base.specs.declared.refusal.LookupFailure.{LookupFailure}
-use Rattle.base.specs.declared.refusal.LookupFailure.TheVariants.{InvalidRoot, DepthMismatch, GuardMismatch}
-use Rattle.machine.specs.Bits.{bits, number}
-use Rattle.machine.specs.Lookup.{Level, level_at}
-use Rattle.machine.specs.Machine.{Machine}
+use Rattle.std.specs.{List.flat_map, Prelude.{[], ℕ, ◌++◌, ◌+◌, ◌<◌, ◌∷◌, ◌≡◌, ◌≤◌, ◌⊎◌, Bool, List, None, Some, length}}
+use Rattle.base.specs.declared.{ids.{ObjId.ObjId, SlotRef.SlotRef}, refusal.Cause.{Cause, TheVariants.{FailedLookup, RangeError}}}
+use Rattle.base.specs.declared.refusal.LookupFailure.{LookupFailure, TheVariants.{DepthMismatch, GuardMismatch, InvalidRoot}}
+use Rattle.machine.specs.{Bits.{bits, number}, Lookup.{Level, level_at}, Machine.Machine}
 use Rattle.cspace.specs.Roots.{root_level}
 
 -- a CNode as a capability shows it, with the bits that select one of its slots

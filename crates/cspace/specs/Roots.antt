@@ -1,10 +1,7 @@
 -- Where the lookup of a thread's addresses begins (seL4 manual, "Capability Address Lookup").
-use Rattle.std.specs.Prelude.{Option, Some, None}
+use Rattle.std.specs.Prelude.{None, Option, Some}
 use Rattle.base.specs.declared.ids.ObjId.{ObjId}
-use Rattle.machine.specs.declared.object.Object.{Object}
-use Rattle.machine.specs.declared.object.Object.TheVariants as o
-use Rattle.machine.specs.Machine.{Machine, object_of}
-use Rattle.machine.specs.Lookup.{Level, level_at, root_of}
+use Rattle.machine.specs.{declared.object.Object.{Object, Object as o}, Lookup.{Level, level_at, root_of}, Machine.{Machine, object_of}}
 
 -- the CNode at an object's root slot, if the object is a thread
 abbrev pub level_of_root : Machine → ObjId → Option Object → Option Level

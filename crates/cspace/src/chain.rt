@@ -1,13 +1,8 @@
-ghost use Rattle.std.specs.Prelude.{◌≡◌, ℕ, ◌↔◌, ◌⊎◌, Ok, Err, Some, None, Bool, List, ◌++◌, length};
-ghost use Rattle.base.specs.declared.ids.ObjId.{ObjId as Id};
-ghost use Rattle.base.specs.declared.ids.SlotRef.{SlotRef as Slot};
-ghost use Rattle.base.specs.declared.refusal.Cause.TheVariants.{FailedLookup};
-ghost use Rattle.base.specs.declared.refusal.LookupFailure.{LookupFailure as Failure};
-ghost use Rattle.base.specs.declared.refusal.LookupFailure.TheVariants.{MissingCapability};
-ghost use Rattle.machine.specs.Bits.{bits};
-ghost use Rattle.machine.specs.Lookup.{Level, lookup_of};
-ghost use Rattle.machine.specs.Machine.{Machine, cap_of};
-ghost use Rattle.cspace.specs.Chain.{Link, Leads, IsWhole, spelled, taken, selected, Resolves, Misses, Finds, Fails, TakesBits};
+ghost use Rattle.std.specs.Prelude.{ℕ, ◌++◌, ◌↔◌, ◌≡◌, ◌⊎◌, Bool, Err, List, None, Ok, Some, length};
+ghost use Rattle.base.specs.declared.{ids.{ObjId.ObjId as Id, SlotRef.SlotRef as Slot}, refusal.Cause.TheVariants.FailedLookup};
+ghost use Rattle.base.specs.declared.refusal.LookupFailure.{LookupFailure as Failure, TheVariants.MissingCapability};
+ghost use Rattle.machine.specs.{Bits.bits, Lookup.{Level, lookup_of}, Machine.{Machine, cap_of}};
+ghost use Rattle.cspace.specs.Chain.{Fails, Finds, IsWhole, Leads, Link, Misses, Resolves, TakesBits, selected, spelled, taken};
 ghost use Rattle.cspace.specs.Roots.{root_level};
 
 /// A law: a lookup ends just where a chain of CNode capabilities does whose guards and indices,

@@ -1,6 +1,6 @@
 ghost use Rattle.std.specs.Prelude.{◌≡◌};
-ghost use Rattle.machine.specs.Step.Find.{find_cap, find_context, find_control, find_endpoint, find_frame};
-ghost use Rattle.machine.specs.Step.Find.{find_notification, find_reply, find_tcb, permitted};
+ghost use Rattle.machine.specs.Step.Find.{find_cap, find_context, find_control, find_endpoint, find_frame, find_notification, find_reply};
+ghost use Rattle.machine.specs.Step.Find.{find_tcb, permitted};
 
 use crate::resolve;
 use base::{Cause, ObjId, Rights, SlotRef};

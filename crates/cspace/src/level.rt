@@ -1,7 +1,5 @@
-ghost use Rattle.std.specs.Prelude.{◌≡◌, ◌<◌, ◌≤◌, IfOk, IfSome};
-ghost use Rattle.std.specs.Option.{option_map};
-ghost use Rattle.machine.specs.Bits.{bits, after};
-ghost use Rattle.machine.specs.Lookup.{hop};
+ghost use Rattle.std.specs.{Option.option_map, Prelude.{◌<◌, ◌≡◌, ◌≤◌, IfOk, IfSome}};
+ghost use Rattle.machine.specs.{Bits.{after, bits}, Lookup.hop};
 ghost use Rattle.cspace.specs.Strings.{level_shown, place_shown};
 
 use crate::word::field;

@@ -1,13 +1,8 @@
-ghost use Rattle.std.specs.Prelude.{◌≡◌, ◌≢◌, ◌↔◌, ◌⊎◌, IfOk, IfErr, IsErrAnd};
-ghost use Rattle.base.specs.declared.ids.SlotRef.{SlotRef as Slot};
-ghost use Rattle.base.specs.declared.refusal.Cause.{Cause as Why};
-ghost use Rattle.base.specs.declared.refusal.Cause.TheVariants.{FailedLookup};
-ghost use Rattle.base.specs.declared.refusal.LookupFailure.TheVariants.{MissingCapability};
-ghost use Rattle.base.specs.Refusals.{refusal_of};
+ghost use Rattle.std.specs.Prelude.{◌↔◌, ◌≡◌, ◌≢◌, ◌⊎◌, IfErr, IfOk, IsErrAnd};
+ghost use Rattle.base.specs.declared.{ids.SlotRef.SlotRef as Slot, refusal.Cause.{Cause as Why, TheVariants.FailedLookup}};
+ghost use Rattle.base.specs.{declared.refusal.LookupFailure.TheVariants.MissingCapability, Refusals.refusal_of};
 ghost use Rattle.machine.specs.Step.Target.{exactly, lookup_target_of};
-ghost use Rattle.cspace.specs.Below.{target_below};
-ghost use Rattle.cspace.specs.Chain.{TargetFinds, TargetFails};
-ghost use Rattle.cspace.specs.Strings.{level_shown};
+ghost use Rattle.cspace.specs.{Below.target_below, Chain.{TargetFails, TargetFinds}, Strings.level_shown};
 
 use crate::level::Level;
 use crate::walk::{level_at, walk};

@@ -1,15 +1,8 @@
-ghost use Rattle.std.specs.Prelude.{◌≡◌, ◌≢◌, ℕ, ◌<◌, ◌≤◌, ◌↔◌, ◌⊎◌, IfOk, IfErr, IsErrAnd};
-ghost use Rattle.std.specs.Option.{option_map};
-ghost use Rattle.base.specs.declared.ids.SlotRef.{SlotRef as Slot};
-ghost use Rattle.base.specs.declared.refusal.Cause.TheVariants.{FailedLookup};
-ghost use Rattle.base.specs.declared.refusal.LookupFailure.{LookupFailure as Failure};
-ghost use Rattle.base.specs.declared.refusal.LookupFailure.TheVariants.{MissingCapability};
-ghost use Rattle.base.specs.Refusals.{refusal_of};
-ghost use Rattle.machine.specs.Bits.{bits};
-ghost use Rattle.machine.specs.Lookup.{level_at, walk, lookup_of};
-ghost use Rattle.cspace.specs.Strings.{level_shown, place_shown};
-ghost use Rattle.cspace.specs.Chain.{Finds, Fails};
-ghost use Rattle.cspace.specs.Roots.{root_level};
+ghost use Rattle.std.specs.{Option.option_map, Prelude.{ℕ, ◌<◌, ◌↔◌, ◌≡◌, ◌≢◌, ◌≤◌, ◌⊎◌, IfErr, IfOk, IsErrAnd}};
+ghost use Rattle.base.specs.declared.{ids.SlotRef.SlotRef as Slot, refusal.Cause.TheVariants.FailedLookup};
+ghost use Rattle.base.specs.{declared.refusal.LookupFailure.{LookupFailure as Failure, TheVariants.MissingCapability}, Refusals.refusal_of};
+ghost use Rattle.machine.specs.{Bits.bits, Lookup.{level_at, lookup_of, walk}};
+ghost use Rattle.cspace.specs.{Chain.{Fails, Finds}, Roots.root_level, Strings.{level_shown, place_shown}};
 
 use crate::level::Level;
 use base::{Cause, LookupFailure, ObjId, Refusal, SlotRef};

@@ -1,4 +1,4 @@
-ghost use Rattle.std.specs.Prelude.{◌≡◌, ◌+◌, ◌/◌, ◌%◌, ◌^◌, ◌≤◌};
+ghost use Rattle.std.specs.Prelude.{◌%◌, ◌+◌, ◌/◌, ◌^◌, ◌≡◌, ◌≤◌};
 
 /// The `size` bits of a word from bit `low` on.
 pub fn field(word: u64, low: u32, size: u32) -> u64

@@ -1,8 +1,6 @@
 -- Shares one after another are the list that was dealt.
-use Rattle.std.proofs.Common.{◌≡◌, ℕ, ◌+◌, ◌≤◌, List, ◌++◌, length, map, drop, sym, ap, ◌∙◌, arith, slice_range}
-use Rattle.std.proofs.lemmas.List.{map-append, append_assoc}
-use Rattle.std.proofs.lemmas.List.Folds.{drop_split}
-use Rattle.std.proofs.lemmas.Nat.{rows}
+use Rattle.std.proofs.{Common.{ℕ, ◌++◌, ◌+◌, ◌∙◌, ◌≡◌, ◌≤◌, List, ap, arith, drop, length, map, slice_range, sym}, lemmas.List.append_assoc}
+use Rattle.std.proofs.lemmas.{List.{map-append, Folds.drop_split}, Nat.rows}
 use Rattle.deal.specs.Shares.{share_of, start_of}
 
 starts_rise : (items workers worker : ℕ) → start_of items workers worker ≤ start_of items workers (worker + 1)

@@ -1,5 +1,5 @@
 -- How a list is dealt to workers: contiguous shares in order, whose lengths differ by at most one. It is confine's own.
-use Rattle.std.specs.Prelude.{ℕ, ◌+◌, ◌*◌, ◌/◌, ◌%◌, min, List, length, slice_range}
+use Rattle.std.specs.Prelude.{ℕ, ◌%◌, ◌*◌, ◌+◌, ◌/◌, List, length, min, slice_range}
 
 -- where the share of a worker begins; the first shares have one item more, where the workers don't divide the items
 abbrev pub start_of : ℕ → ℕ → ℕ → ℕ

@@ -1,4 +1,4 @@
-ghost use Rattle.std.specs.Prelude.{◌≡◌, ℕ, ◌+◌, ◌*◌, ◌/◌, ◌%◌, ◌<◌, ◌≤◌, min, length, slice_get, IfErr, IfOk, IfSome, map};
+ghost use Rattle.std.specs.Prelude.{ℕ, ◌%◌, ◌*◌, ◌+◌, ◌/◌, ◌<◌, ◌≡◌, ◌≤◌, IfErr, IfOk, IfSome, length, map, min, slice_get};
 ghost use Rattle.base.specs.Refusals.{out_of_memory};
 ghost use Rattle.deal.specs.Shares.{share_of, start_of};
 

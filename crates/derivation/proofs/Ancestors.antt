@@ -1,9 +1,8 @@
 -- Ways up a tree to the first slot that isn't gone: they end in one place, and some changes of the tree leave that as it was.
-use Rattle.std.proofs.Common.{◌≡◌, Bool, false, ◌⊎◌, inl, inr, refl, sym, subst, ◌∙◌}
-use Rattle.std.specs.Prelude.{Option, Some, None}
+use Rattle.std.{specs.Prelude.{None, Option, Some}, proofs.Common.{◌∙◌, ◌≡◌, ◌⊎◌, Bool, false, inl, inr, refl, subst, sym}}
 use Rattle.std.proofs.lemmas.Bool.{false≢true}
 use Rattle.base.specs.declared.ids.SlotRef.{SlotRef}
-use Rattle.machine.specs.Orphans.{Nearest, no_ancestor, survives, climbs}
+use Rattle.machine.specs.Orphans.{Nearest, climbs, no_ancestor, survives}
 
 -- from where a way ends no other way goes on
 pub ended :

@@ -1,10 +1,8 @@
 -- What a slot descends from, by its parent, and when two slots are one.
-use Rattle.std.proofs.Common.{◌≡◌, ◌≢◌, ℕ, false, ◌&&◌, eqb, ◌⊎◌, inl, inr, ap, subst, arith}
+use Rattle.std.{specs.Prelude.Some, proofs.Common.{ℕ, ◌&&◌, ◌≡◌, ◌≢◌, ◌⊎◌, ap, arith, eqb, false, inl, inr, subst}}
 use Rattle.std.proofs.lemmas.Bool.Decides.{nat_tests}
-use Rattle.std.specs.Prelude.{Some}
 use Rattle.base.specs.declared.ids.SlotRef.{SlotRef}
-use Rattle.machine.specs.Machine.{Machine, parent_of}
-use Rattle.machine.specs.WellFormed.{Descends, child, further}
+use Rattle.machine.specs.{Machine.{Machine, parent_of}, WellFormed.{Descends, child, further}}
 
 -- a slot descends from its parent, and from what that descends from
 pub descends_by :

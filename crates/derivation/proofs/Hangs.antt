@@ -1,24 +1,13 @@
 -- The empty slots from one on upwards, which are hung one after another below the first filled one above them.
-use Rattle.std.proofs.Common.{◌≡◌, ◌<◌, Bool, true, false, ◌⊎◌, inl, inr, refl, sym, ap, subst, ◌∙◌, cond, arith}
-use Rattle.std.specs.Prelude.{Option, Some, None, IfSome, not, if◌then◌else◌}
-use Rattle.std.specs.Option.{is_none, is_some}
-use Rattle.std.proofs.lemmas.Bool.{false≢true}
+use Rattle.std.{specs.{Option.{is_none, is_some}, Prelude.{IfSome, None, Option, Some, if◌then◌else◌, not}}, proofs.Common.{◌<◌, ◌∙◌, ◌≡◌}}
+use Rattle.std.proofs.{Common.{◌⊎◌, Bool, ap, arith, cond, false, inl, inr, refl, subst, sym, true}, lemmas.Bool.false≢true}
 use Rattle.base.specs.declared.ids.SlotRef.{SlotRef}
-use Rattle.machine.specs.declared.cap.Cap.{Cap}
-use Rattle.machine.specs.Machine.{Machine, cap_of, parent_of, same_slot, with_parent, without_parent}
-use Rattle.machine.specs.Orphans.{Nearest, climbs, survives}
-use Rattle.machine.specs.Tree.{IsRanked}
-use Rattle.machine.specs.WellFormed.{Descends, child, further}
-use Rattle.machine.proofs.Exchange.{slot_itself}
-use Rattle.machine.proofs.LookUps.{one_slot, parent_of-with_parent}
-use Rattle.machine.proofs.OrphanLemmas.{climbed}
-use Rattle.machine.proofs.RemovalStays.{further_on}
-use Rattle.derivation.specs.Raising.{AreRaised, AreRaisedFrom, IsOnWay, is_empty, parent_hung, start, further as higher}
-use Rattle.derivation.specs.Removing.{HasParents}
-use Rattle.derivation.proofs.Ancestors.{end_stays, ways_kept}
-use Rattle.derivation.proofs.Pairs.{parent_of-without_parent}
-use Rattle.derivation.proofs.Raises.{both_raised, each_raised, raised_alike, same_empties}
-use Rattle.derivation.proofs.Ranks.{ranked_without, stays_ranked}
+use Rattle.machine.specs.{declared.cap.Cap.Cap, Machine.{Machine, cap_of, parent_of, same_slot, with_parent, without_parent}}
+use Rattle.machine.specs.{Orphans.{Nearest, climbs, survives}, Tree.IsRanked, WellFormed.{Descends, child, further}}
+use Rattle.machine.proofs.{Exchange.slot_itself, LookUps.{one_slot, parent_of-with_parent}, OrphanLemmas.climbed, RemovalStays.further_on}
+use Rattle.derivation.specs.Raising.{AreRaised, AreRaisedFrom, IsOnWay, further as higher, is_empty, parent_hung, start}
+use Rattle.derivation.{specs.Removing.HasParents, proofs.{Ancestors.{end_stays, ways_kept}, Pairs.parent_of-without_parent}}
+use Rattle.derivation.proofs.{Raises.{both_raised, each_raised, raised_alike, same_empties}, Ranks.{ranked_without, stays_ranked}}
 
 -- a test of what a slot holds tells whether it is empty
 seen : (cap : Option Cap) (answer : Bool) → is_some cap ≡ not answer → is_none cap ≡ answer

@@ -1,17 +1,11 @@
 -- Slots leave the derivation tree: one, and some and then others; they are alone then, and who was alone stays so.
-use Rattle.std.proofs.Common.{◌≡◌, ◌≢◌, Bool, true, false, ◌||◌, inl, inr, refl, sym, ap, subst, ◌∙◌, cond}
-use Rattle.std.specs.Prelude.{Option, Some, None, option_and_then, if◌then◌else◌}
-use Rattle.std.proofs.lemmas.Bool.{false≢true}
+use Rattle.std.{specs.Prelude.{None, Option, Some, if◌then◌else◌, option_and_then}, proofs.Common.{◌||◌, ◌∙◌, ◌≡◌, ◌≢◌, Bool, ap, cond}}
+use Rattle.std.proofs.{Common.{false, inl, inr, refl, subst, sym, true}, lemmas.Bool.false≢true}
 use Rattle.base.specs.declared.ids.SlotRef.{SlotRef}
-use Rattle.machine.specs.Machine.{Machine, parent_of, same_slot, without_parent}
-use Rattle.machine.specs.Orphans.{Nearest, climbs, no_ancestor, past, survives}
-use Rattle.machine.specs.Tree.{IsAlone}
-use Rattle.machine.proofs.LookUps.{one_slot}
-use Rattle.machine.proofs.RoundLemmas.{or_second}
-use Rattle.derivation.specs.Raising.{AreRaised, is_empty}
-use Rattle.derivation.specs.Removing.{HasParents, HaveLeft, parent_without}
-use Rattle.derivation.proofs.Ancestors.{end_stays, none_above}
-use Rattle.derivation.proofs.Pairs.{apart_slots, parent_of-without_parent}
+use Rattle.machine.specs.{Machine.{Machine, parent_of, same_slot, without_parent}, Orphans.{Nearest, climbs, no_ancestor, past, survives}}
+use Rattle.machine.{specs.Tree.IsAlone, proofs.{LookUps.one_slot, RoundLemmas.or_second}}
+use Rattle.derivation.{specs.{Raising.{AreRaised, is_empty}, Removing.{HasParents, HaveLeft, parent_without}}, proofs.Ancestors.end_stays}
+use Rattle.derivation.proofs.{Ancestors.none_above, Pairs.{apart_slots, parent_of-without_parent}}
 
 -- one slot leaves
 module _ (old new : Machine) (slot : SlotRef) (not_below : parent_of old slot ≢ Some slot)

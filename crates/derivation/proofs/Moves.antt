@@ -1,22 +1,14 @@
 -- A place that is taken over in two steps is exchanged.
-use Rattle.std.proofs.Common.{◌≡◌, ◌≢◌, Bool, true, false, List, [], ◌∷◌, refl, sym, ap, ◌∙◌, cond}
-use Rattle.std.specs.Prelude.{Option, Some, None, IsSome, IsTrue, map, option_map, if◌then◌else◌}
-use Rattle.std.proofs.lemmas.Bool.{false≢true}
-use Rattle.std.specs.FinMap.{entries, get-entries, get-from_entries}
-use Rattle.std.specs.FinMap.Entries.{find}
-use Rattle.base.specs.declared.ids.ObjId.{ObjId}
-use Rattle.std.proofs.lemmas.Option.{same_Some}
-use Rattle.base.specs.declared.ids.SlotRef.{SlotRef}
-use Rattle.machine.specs.declared.cap.Cap.{Cap}
-use Rattle.machine.specs.Machine.{Machine, object_of, queue_of, words_of, cap_of, parent_of, same_slot, slot_cmp}
-use Rattle.machine.specs.Machine.{has_slot, with_parent, without_parent}
-use Rattle.machine.specs.Tree.{IsAlone, exchange, under, with_exchanged}
-use Rattle.machine.proofs.Exchange.{exchange_twice, parent_of-with_exchanged, slot_itself}
-use Rattle.machine.proofs.LookUps.{object_of-with_parent, one_slot, parent_of-with_parent, same_machine, slot_total}
-use Rattle.objects.specs.Pairs.{IsFilledOrGoing}
-use Rattle.objects.proofs.PairLemmas.{place-with_parent, place-without_parent}
-use Rattle.derivation.specs.Moving.{handed_over, in_place, lifted}
-use Rattle.derivation.proofs.Pairs.{apart_slots, parent_of-without_parent}
+use Rattle.std.specs.{FinMap.{entries, get-entries, get-from_entries, Entries.find}, Prelude.{IsSome, IsTrue, None, Option, Some}}
+use Rattle.std.{specs.Prelude.{if◌then◌else◌, map, option_map}, proofs.Common.{[], ◌∙◌, ◌∷◌, ◌≡◌, ◌≢◌, Bool, List, ap, cond, false, refl}}
+use Rattle.std.proofs.{Common.{sym, true}, lemmas.{Bool.false≢true, Option.same_Some}}
+use Rattle.base.specs.declared.ids.{ObjId.ObjId, SlotRef.SlotRef}
+use Rattle.machine.specs.{declared.cap.Cap.Cap, Machine.{Machine, cap_of, has_slot, object_of, parent_of, queue_of, same_slot, slot_cmp}}
+use Rattle.machine.specs.{Machine.{with_parent, without_parent, words_of}, Tree.{IsAlone, exchange, under, with_exchanged}}
+use Rattle.machine.proofs.{Exchange.{exchange_twice, parent_of-with_exchanged, slot_itself}, LookUps.{object_of-with_parent, one_slot}}
+use Rattle.machine.proofs.LookUps.{parent_of-with_parent, same_machine, slot_total}
+use Rattle.objects.{specs.Pairs.IsFilledOrGoing, proofs.PairLemmas.{place-with_parent, place-without_parent}}
+use Rattle.derivation.{specs.Moving.{handed_over, in_place, lifted}, proofs.Pairs.{apart_slots, parent_of-without_parent}}
 
 -- a change of each value changes what is found
 find_in_place :

@@ -1,11 +1,9 @@
 -- What is named one after another from a slot on is what descends and comes behind it, each once.
-use Rattle.std.proofs.Common.{◌≡◌, ◌≢◌, ℕ, zero, suc, ◌<◌, ◌⊎◌, inl, inr, List, ◌∷◌, length, refl, sym, ap, subst, ◌∙◌, arith}
-use Rattle.std.specs.Prelude.{Option, Some, None, AllPairs, Contains, ◌↔◌, slice_index_or}
-use Rattle.std.proofs.lemmas.List.Elements.{All-contains_itself}
-use Rattle.std.proofs.lemmas.List.Kept.{AllPairs-cons}
+use Rattle.std.{specs.Prelude.{◌↔◌, AllPairs, Contains, None, Option, Some, slice_index_or}, proofs.Common.{ℕ, ◌<◌, ◌∙◌, ◌∷◌, ◌≡◌, ◌≢◌}}
+use Rattle.std.proofs.Common.{◌⊎◌, List, ap, arith, inl, inr, length, refl, subst, suc, sym, zero}
+use Rattle.std.proofs.lemmas.List.{Elements.All-contains_itself, Kept.AllPairs-cons}
 use Rattle.base.specs.declared.ids.SlotRef.{SlotRef}
-use Rattle.machine.specs.Machine.{Machine, parent_of}
-use Rattle.machine.specs.WellFormed.{Descends, child, further}
+use Rattle.machine.specs.{Machine.{Machine, parent_of}, WellFormed.{Descends, child, further}}
 use Rattle.derivation.specs.Descendants.{AreAllDescendants, AreNamed, IsBehind, IsLower, next, none}
 
 -- numbers in order

@@ -1,11 +1,8 @@
 -- The pairs of the derivation tree after one is taken away.
-use Rattle.std.proofs.Common.{◌≡◌, ◌≢◌, Bool, true, false, refl, sym, ap, ◌∙◌, cond}
-use Rattle.std.specs.Prelude.{Some, None}
-use Rattle.std.specs.FinMap.{get-remove}
+use Rattle.std.{specs.{FinMap.get-remove, Prelude.{None, Some}}, proofs.Common.{◌∙◌, ◌≡◌, ◌≢◌, Bool, ap, cond, false, refl, sym, true}}
 use Rattle.base.specs.declared.ids.SlotRef.{SlotRef}
-use Rattle.machine.specs.Machine.{Machine, parent_of, same_slot, without_parent}
-use Rattle.machine.proofs.Exchange.{slot_itself}
-use Rattle.machine.proofs.LookUps.{one_slot, slot_total}
+use Rattle.machine.{specs.Machine.{Machine, parent_of, same_slot, without_parent}, proofs.{Exchange.slot_itself, LookUps.one_slot}}
+use Rattle.machine.proofs.LookUps.{slot_total}
 
 -- one slot has no parent, and all else is as it was
 pub parent_of-without_parent :

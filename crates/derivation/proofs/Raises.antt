@@ -1,13 +1,10 @@
 -- Empty slots come below their first filled ancestor: some and then others, or each on the way from one.
-use Rattle.std.proofs.Common.{◌≡◌, Bool, true, false, ◌||◌, ◌⊎◌, inl, inr, refl, sym, ap, subst, ◌∙◌}
-use Rattle.std.specs.Prelude.{Option, Some}
+use Rattle.std.{specs.Prelude.{Option, Some}, proofs.Common.{◌||◌, ◌∙◌, ◌≡◌, ◌⊎◌, Bool, ap, false, inl, inr, refl, subst, sym, true}}
 use Rattle.std.proofs.lemmas.Bool.{false≢true}
 use Rattle.base.specs.declared.ids.SlotRef.{SlotRef}
-use Rattle.machine.specs.Machine.{Machine, cap_of, parent_of}
-use Rattle.machine.specs.Orphans.{Nearest}
-use Rattle.machine.proofs.RoundLemmas.{or_second}
-use Rattle.derivation.specs.Raising.{AreRaised, AreRaisedFrom, IsOnWay, is_empty, further, start}
-use Rattle.derivation.proofs.Ancestors.{ended, end_stays, only_nearest, ways_led}
+use Rattle.machine.{specs.{Machine.{Machine, cap_of, parent_of}, Orphans.Nearest}, proofs.RoundLemmas.or_second}
+use Rattle.derivation.{specs.Raising.{AreRaised, AreRaisedFrom, IsOnWay, further, is_empty, start}, proofs.Ancestors.{end_stays, ended}}
+use Rattle.derivation.proofs.Ancestors.{only_nearest, ways_led}
 
 -- where only pairs of the tree have changed each slot holds what it held
 pub same_caps : (old new : Machine) → new ≡ record old { parents = new.parents } → (q : SlotRef) → cap_of new q ≡ cap_of old q

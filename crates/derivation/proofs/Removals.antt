@@ -1,16 +1,11 @@
 -- The pairs of a derivation tree that a slot leaves.
-use Rattle.std.proofs.Common.{◌≡◌, ◌≢◌, ◌<◌, Bool, true, false, refl, sym, ap, ◌∙◌, cond, arith}
-use Rattle.std.specs.Prelude.{Option, Some, None, option_map, option_and_then, if◌then◌else◌}
+use Rattle.std.{specs.Prelude.{None, Option, Some, if◌then◌else◌, option_and_then, option_map}, proofs.Common.{◌<◌, ◌∙◌, ◌≡◌, ◌≢◌, Bool}}
+use Rattle.std.proofs.Common.{ap, arith, cond, false, refl, sym, true}
 use Rattle.base.specs.declared.ids.SlotRef.{SlotRef}
-use Rattle.machine.specs.Machine.{Machine, parent_of, same_slot, without_parent}
-use Rattle.machine.specs.Orphans.{past}
-use Rattle.machine.specs.Tree.{IsRanked}
-use Rattle.machine.proofs.Exchange.{slot_itself}
-use Rattle.machine.proofs.LookUps.{one_slot}
-use Rattle.derivation.specs.Moving.{StandsNoLower, handed_over, in_place}
-use Rattle.derivation.specs.Removing.{HasParents, parent_past, parent_without}
-use Rattle.derivation.proofs.Moves.{parent_of-handed_over}
-use Rattle.derivation.proofs.Pairs.{apart_slots, parent_of-without_parent}
+use Rattle.machine.specs.{Machine.{Machine, parent_of, same_slot, without_parent}, Orphans.past, Tree.IsRanked}
+use Rattle.machine.proofs.{Exchange.slot_itself, LookUps.one_slot}
+use Rattle.derivation.specs.{Moving.{StandsNoLower, handed_over, in_place}, Removing.{HasParents, parent_past, parent_without}}
+use Rattle.derivation.proofs.{Moves.parent_of-handed_over, Pairs.{apart_slots, parent_of-without_parent}}
 
 -- a child of the slot gets what is handed to it
 past-itself : (slot : SlotRef) (above : Option SlotRef) → past slot above slot ≡ above

@@ -1,21 +1,12 @@
 -- A derivation tree that slots are leaving stays so by each step of a removal, and once they are alone it is what the removal makes.
-use Rattle.std.proofs.Common.{◌≡◌, ◌≢◌, Bool, true, false, inl, refl, sym, ap, subst, ◌∙◌}
-use Rattle.std.specs.Prelude.{Option, Some, None, filter, if◌then◌else◌}
-use Rattle.std.specs.FinMap.{values}
-use Rattle.std.proofs.lemmas.Bool.{false≢true}
+use Rattle.std.{specs.{FinMap.values, Prelude.{None, Option, Some, filter, if◌then◌else◌}}, proofs.Common.{◌∙◌, ◌≡◌, ◌≢◌, Bool, ap, false}}
+use Rattle.std.proofs.{Common.{inl, refl, subst, sym, true}, lemmas.Bool.false≢true}
 use Rattle.base.specs.declared.ids.SlotRef.{SlotRef}
-use Rattle.machine.specs.Machine.{Machine, parent_of, same_slot, without_parent}
-use Rattle.machine.specs.Orphans.{Nearest, climbs, no_ancestor, survives, without_nodes}
-use Rattle.machine.specs.Removal.{parent_after}
-use Rattle.machine.specs.Tree.{IsAlone}
-use Rattle.machine.specs.WellFormed.{Descends, child, further}
-use Rattle.machine.proofs.LookUps.{one_slot}
-use Rattle.machine.proofs.OrphanLemmas.{climbed, nearest_stays}
-use Rattle.machine.proofs.RemovalStays.{further_on}
-use Rattle.derivation.specs.Removing.{HasParents, HaveLeft, parent_without}
-use Rattle.derivation.specs.Thinning.{IsThinned}
-use Rattle.derivation.proofs.Ancestors.{only_nearest, parents_kept}
-use Rattle.derivation.proofs.Leavings.{leaf_left, node_left}
+use Rattle.machine.specs.{Machine.{Machine, parent_of, same_slot, without_parent}, Orphans.{Nearest, climbs, no_ancestor, survives}}
+use Rattle.machine.specs.{Orphans.without_nodes, Removal.parent_after, Tree.IsAlone, WellFormed.{Descends, child, further}}
+use Rattle.machine.proofs.{LookUps.one_slot, OrphanLemmas.{climbed, nearest_stays}, RemovalStays.further_on}
+use Rattle.derivation.{specs.{Removing.{HasParents, HaveLeft, parent_without}, Thinning.IsThinned}, proofs.Ancestors.only_nearest}
+use Rattle.derivation.proofs.{Ancestors.parents_kept, Leavings.{leaf_left, node_left}}
 
 -- at first nothing has left
 pub thinned_at_first : (m : Machine) (gone : SlotRef → Bool) → IsThinned m gone m

@@ -1,29 +1,16 @@
 -- Where the objects that vanish are going, and the chosen slots have left the tree, the slots of these objects are what still goes in it,
 -- and once they have left it is the tree after the removal.
-use Rattle.std.proofs.Common.{◌≡◌, ℕ, zero, suc, ◌<◌, Bool, true, false, ◌&&◌, ◌||◌, ◌⊎◌, inl, inr, List, [], ◌∷◌, length, refl, sym, ap, subst, ◌∙◌, arith}
-use Rattle.std.specs.Prelude.{Option, Some, None, Contains, IsTrue, ◌↔◌, nat_lt, slice_index_or}
-use Rattle.std.specs.List.{list_any}
-use Rattle.std.proofs.lemmas.Bool.{false≢true}
-use Rattle.std.proofs.lemmas.Bool.Decides.{nat_tests}
-use Rattle.std.proofs.lemmas.List.Elements.{Contains-append_left, Contains-append_right, Contains-push}
-use Rattle.base.specs.declared.ids.ObjId.{ObjId}
-use Rattle.base.specs.declared.ids.SlotRef.{SlotRef}
-use Rattle.machine.specs.declared.object.Object.{Object}
-use Rattle.machine.specs.declared.object.Object.TheVariants as o
-use Rattle.machine.specs.Gone.{IsGone, given, gone_of, has_slots, with_last}
-use Rattle.machine.specs.Machine.{Machine, has_slot, object_of, parent_of, same_id}
-use Rattle.machine.specs.Removal.{parent_after, vanishes}
-use Rattle.machine.specs.Tree.{IsAlone}
-use Rattle.machine.specs.WellFormed.{Descends}
-use Rattle.machine.proofs.GoneLemmas.{gone_decided, gone_least, losing_decided}
-use Rattle.machine.proofs.Ids.{itself}
-use Rattle.machine.proofs.LookUps.{one_id}
+use Rattle.std.{specs.{List.list_any, Prelude.{◌↔◌, Contains, IsTrue, None, Option, Some, nat_lt, slice_index_or}}, proofs.Common.{[], ℕ}}
+use Rattle.std.proofs.Common.{◌&&◌, ◌<◌, ◌||◌, ◌∙◌, ◌∷◌, ◌≡◌, ◌⊎◌, Bool, List, ap, arith, false, inl, inr, length, refl, subst, suc, sym}
+use Rattle.std.proofs.{Common.{true, zero}, lemmas.{Bool.{false≢true, Decides.nat_tests}, List.Elements.Contains-append_left}}
+use Rattle.std.proofs.lemmas.List.Elements.{Contains-append_right, Contains-push}
+use Rattle.base.specs.declared.ids.{ObjId.ObjId, SlotRef.SlotRef}
+use Rattle.machine.specs.{declared.object.Object.{Object, Object as o}, Gone.{IsGone, given, gone_of, has_slots, with_last}}
+use Rattle.machine.specs.{Machine.{Machine, has_slot, object_of, parent_of, same_id}, Removal.{parent_after, vanishes}, Tree.IsAlone}
+use Rattle.machine.{specs.WellFormed.Descends, proofs.{GoneLemmas.{gone_decided, gone_least, losing_decided}, Ids.itself, LookUps.one_id}}
 use Rattle.machine.proofs.RoundLemmas.{both_pass, or_second}
-use Rattle.derivation.specs.OwnSlots.{is_going_slot, is_slot_of}
-use Rattle.derivation.specs.Removing.{HaveLeft}
-use Rattle.derivation.specs.Thinning.{IsThinned}
-use Rattle.derivation.proofs.Leavings.{alone_where_left, left_alone}
-use Rattle.derivation.proofs.Thinnings.{thinned_out, thinned_where_left}
+use Rattle.derivation.specs.{OwnSlots.{is_going_slot, is_slot_of}, Removing.HaveLeft, Thinning.IsThinned}
+use Rattle.derivation.proofs.{Leavings.{alone_where_left, left_alone}, Thinnings.{thinned_out, thinned_where_left}}
 
 -- a test finds an element of a list that passes, if there is one
 pub any_listed :

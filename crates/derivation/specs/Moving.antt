@@ -1,9 +1,7 @@
 -- A place in the derivation tree is taken over in two steps: first what is above it, then what is below.
-use Rattle.std.specs.Prelude.{◌≤◌, map, if◌then◌else◌}
-use Rattle.std.specs.FinMap.{entries, from_entries}
+use Rattle.std.specs.{FinMap.{entries, from_entries}, Prelude.{◌≤◌, if◌then◌else◌, map}}
 use Rattle.base.specs.declared.ids.SlotRef.{SlotRef}
-use Rattle.machine.specs.Machine.{Machine, parent_of, same_slot, without_parent}
-use Rattle.machine.specs.Tree.{IsRanked, under}
+use Rattle.machine.specs.{Machine.{Machine, parent_of, same_slot, without_parent}, Tree.{IsRanked, under}}
 
 -- one slot has no parent, and another has the one that it had
 unfoldable pub lifted : Machine → SlotRef → SlotRef → Machine

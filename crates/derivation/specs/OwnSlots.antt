@@ -1,8 +1,6 @@
 -- The slots of one object, filled or not (seL4 manual, "Capability Spaces").
-use Rattle.std.specs.Prelude.{Bool, ◌&&◌, ℕ, nat_lt, List}
-use Rattle.std.specs.List.{list_any}
-use Rattle.base.specs.declared.ids.ObjId.{ObjId}
-use Rattle.base.specs.declared.ids.SlotRef.{SlotRef}
+use Rattle.std.specs.{List.list_any, Prelude.{ℕ, ◌&&◌, Bool, List, nat_lt}}
+use Rattle.base.specs.declared.ids.{ObjId.ObjId, SlotRef.SlotRef}
 use Rattle.machine.specs.Machine.{Machine, has_slot, same_id}
 
 -- whether a slot is one of the object's

@@ -1,4 +1,4 @@
-ghost use Rattle.std.specs.Prelude.{None, Decides, List};
+ghost use Rattle.std.specs.Prelude.{Decides, List, None};
 ghost use Rattle.base.specs.declared.ids.SlotRef.{SlotRef as Slot};
 ghost use Rattle.machine.specs.Machine.{Machine};
 ghost use Rattle.derivation.specs.Descendants.{AreAllDescendants, AreNamed, IsBehind, IsNextDescendant, IsNextOf};

@@ -1,9 +1,7 @@
-ghost use Rattle.std.specs.Prelude.{◌≡◌, Some, None, Contains};
+ghost use Rattle.std.specs.Prelude.{◌≡◌, Contains, None, Some};
 ghost use Rattle.base.specs.declared.ids.SlotRef.{SlotRef as Slot};
 ghost use Rattle.machine.specs.Machine.{cap_of, parent_of};
-ghost use Rattle.derivation.specs.OwnSlots.{is_going_slot};
-ghost use Rattle.derivation.specs.Raising.{AreRaisedFrom};
-ghost use Rattle.derivation.specs.Removing.{HaveLeft};
+ghost use Rattle.derivation.specs.{OwnSlots.is_going_slot, Raising.AreRaisedFrom, Removing.HaveLeft};
 
 use crate::raising::raise_slots_of;
 use crate::removing::remove_slots_of;

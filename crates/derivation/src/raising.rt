@@ -1,10 +1,6 @@
-ghost use Rattle.std.specs.Prelude.{Some, IfSome};
-ghost use Rattle.machine.specs.Machine.{parent_of, same_slot};
-ghost use Rattle.machine.specs.Orphans.{Nearest};
-ghost use Rattle.machine.specs.WellFormed.{Descends};
-ghost use Rattle.derivation.specs.OwnSlots.{is_slot_of};
-ghost use Rattle.derivation.specs.Raising.{AreRaisedFrom, is_empty, parent_hung};
-ghost use Rattle.derivation.specs.Removing.{HasParents};
+ghost use Rattle.std.specs.Prelude.{IfSome, Some};
+ghost use Rattle.machine.specs.{Machine.{parent_of, same_slot}, Orphans.Nearest, WellFormed.Descends};
+ghost use Rattle.derivation.specs.{OwnSlots.is_slot_of, Raising.{AreRaisedFrom, is_empty, parent_hung}, Removing.HasParents};
 
 use crate::slots::slot_count;
 use base::{ObjId, SlotRef};

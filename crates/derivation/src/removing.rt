@@ -1,8 +1,7 @@
-ghost use Rattle.std.specs.Prelude.{◌≡◌, Some, None};
+ghost use Rattle.std.specs.Prelude.{◌≡◌, None, Some};
 ghost use Rattle.base.specs.declared.ids.SlotRef.{SlotRef as Slot};
 ghost use Rattle.machine.specs.Machine.{parent_of, same_slot};
-ghost use Rattle.derivation.specs.OwnSlots.{is_slot_of};
-ghost use Rattle.derivation.specs.Removing.{HasParents, HaveLeft, parent_past, parent_without};
+ghost use Rattle.derivation.specs.{OwnSlots.is_slot_of, Removing.{HasParents, HaveLeft, parent_past, parent_without}};
 
 use crate::slots::slot_count;
 use crate::tree::hand_over;

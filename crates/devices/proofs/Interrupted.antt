@@ -1,7 +1,6 @@
 -- Calls that were interrupted, and the one that wasn't.
-use Rattle.std.proofs.Common.{ℕ, List, Option, None, Some, Result, Ok, Err, IsErrAnd, take}
-use Rattle.std.proofs.KnownBytes.{Keeps-refl, Keeps-trans}
-use Rattle.std.specs.Io.KnownBytes.{Appends, Consumes, Keeps, ReadConsumes, WriteAppends}
+use Rattle.std.{specs.Io.KnownBytes.{Appends, Consumes, Keeps, ReadConsumes, WriteAppends}, proofs.Common.{ℕ, Err, IsErrAnd, List, None}}
+use Rattle.std.proofs.{Common.{Ok, Option, Result, Some, take}, KnownBytes.{Keeps-refl, Keeps-trans}}
 
 -- no call was made
 pub none_made : (a : Option (List ℕ)) → Keeps a a

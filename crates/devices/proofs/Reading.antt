@@ -1,7 +1,6 @@
 -- Bytes that are read in several calls.
-use Rattle.std.proofs.Common.{◌≡◌, ℕ, ◌-◌, List, [], ◌∷◌, ◌++◌, take, Option, None, Some, IfSome, refl, sym, ap, subst, ◌∙◌, append-nil, arith}
-use Rattle.std.proofs.KnownBytes.{Consumes-nil, Consumes-trans}
-use Rattle.std.specs.Io.KnownBytes.{Consumes, IsAtEnd}
+use Rattle.std.{specs.Io.KnownBytes.{Consumes, IsAtEnd}, proofs.Common.{[], ℕ, ◌++◌, ◌-◌, ◌∙◌, ◌∷◌, ◌≡◌, IfSome, List, None, Option, Some}}
+use Rattle.std.proofs.{Common.{ap, append-nil, arith, refl, subst, sym, take}, KnownBytes.{Consumes-nil, Consumes-trans}}
 
 take_none : (xs : List ℕ) → take 0 xs ≡ []
 take_none [] = refl

@@ -1,9 +1,7 @@
 -- Bytes that are written in several calls.
-use Rattle.std.proofs.Common.{ℕ, ◌+◌, ◌-◌, ◌≤◌, List, take, drop, length, Option, subst, sym, length-drop, take_all, arith}
-use Rattle.std.proofs.Math.Seq.{take-add}
+use Rattle.std.{specs.Io.KnownBytes.{Appends, Keeps}, proofs.Common.{ℕ, ◌+◌, ◌-◌, ◌≤◌, List, Option, arith, drop, length, length-drop}}
+use Rattle.std.proofs.{Common.{subst, sym, take, take_all}, KnownBytes.{Appends-kept, Appends-trans}, Math.Seq.take-add}
 use Rattle.std.proofs.lemmas.List.{take_rest}
-use Rattle.std.proofs.KnownBytes.{Appends-kept, Appends-trans}
-use Rattle.std.specs.Io.KnownBytes.{Appends, Keeps}
 use Rattle.devices.specs.Devices.{AppendsBeginning}
 
 -- after the first `written` bytes, a call took the next `n` of them

@@ -1,5 +1,5 @@
 -- A reader of which so many bytes can be read (confine's own).
-use Rattle.std.specs.Prelude.{ℕ, ◌-◌, List, Option, Some, None, leb, if◌then◌else◌}
+use Rattle.std.specs.Prelude.{ℕ, ◌-◌, List, None, Option, Some, if◌then◌else◌, leb}
 use Rattle.devices.specs.declared.bounded.Bounded.{Bounded}
 
 -- one of which so many bytes can be read

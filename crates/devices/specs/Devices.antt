@@ -1,10 +1,7 @@
 -- What a call of a device tells: whether the device failed, and what was written if it did (confine's own).
-use Rattle.std.specs.Prelude.{ℕ, Bool, true, false, List, Option, Result, Ok, Err, take}
-use Rattle.std.specs.Io.KnownBytes.{Appends}
-use Rattle.std.specs.declared.io.ErrorKind.{ErrorKind}
-use Rattle.std.specs.declared.io.ErrorKind.TheVariants.{OutOfMemory}
-use Rattle.devices.specs.declared.source.ReadError.{ReadError}
-use Rattle.devices.specs.declared.source.ReadError.TheVariants.{NoMemory, Failed}
+use Rattle.std.specs.{declared.io.ErrorKind.{ErrorKind, TheVariants.OutOfMemory}, Io.KnownBytes.Appends, Prelude.{ℕ, Bool, Err, List, Ok}}
+use Rattle.std.specs.Prelude.{Option, Result, false, take, true}
+use Rattle.devices.specs.declared.source.ReadError.{ReadError, TheVariants.{Failed, NoMemory}}
 
 -- known bytes grow by a beginning of bs, which may be none or all of it
 abbrev pub AppendsBeginning : Option (List ℕ) → Option (List ℕ) → List ℕ → Type 0

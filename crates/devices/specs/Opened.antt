@@ -1,14 +1,7 @@
 -- What opening a file gave, as a source: the file, or why it couldn't be opened (confine's own).
-use Rattle.std.specs.Prelude.{ℕ, List, Option, None, Result, Ok, Err}
-use Rattle.std.specs.IoError.{error_kind}
-use Rattle.std.specs.declared.io.Error.{Error}
-use Rattle.std.specs.declared.io.ErrorKind.{ErrorKind}
-use Rattle.either.specs.Either.{either}
-use Rattle.either.specs.declared.Either.{Either}
-use Rattle.either.specs.declared.Either.TheVariants.{Left, Right}
-use Rattle.devices.specs.Watched.{watched, device_of}
-use Rattle.devices.specs.declared.opened.Unopened.{Unopened}
-use Rattle.devices.specs.declared.watched.Watched.{Watched}
+use Rattle.std.specs.{declared.io.{Error.Error, ErrorKind.ErrorKind}, IoError.error_kind, Prelude.{ℕ, Err, List, None, Ok, Option, Result}}
+use Rattle.either.specs.{declared.Either.{Either, TheVariants.{Left, Right}}, Either.either}
+use Rattle.devices.specs.{declared.{opened.Unopened.Unopened, watched.Watched.Watched}, Watched.{device_of, watched}}
 
 -- a file that couldn't be opened, for this reason
 abbrev pub unopened : ErrorKind → Unopened

@@ -1,6 +1,5 @@
 -- A reader or a writer, and what is kept of its calls (confine's own).
-use Rattle.std.specs.Prelude.{Bool, true, false, None, Option}
-use Rattle.std.specs.declared.io.ErrorKind.{ErrorKind}
+use Rattle.std.specs.{declared.io.ErrorKind.ErrorKind, Prelude.{Bool, None, Option, false, true}}
 use Rattle.devices.specs.declared.watched.Watched.{Watched}
 
 -- one that hasn't been called

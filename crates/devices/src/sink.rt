@@ -1,7 +1,5 @@
-ghost use Rattle.std.specs.Prelude.{◌≡◌, ◌<◌, ℕ, Bool, true, false, List, length, Option, OnOk, OnErr, Ok};
-ghost use Rattle.std.specs.Io.{WritesAtMost};
-ghost use Rattle.std.specs.Io.KnownBytes.{Appends, Keeps, WriteAppends};
-ghost use Rattle.std.specs.Result.{is_err};
+ghost use Rattle.std.specs.{Io.{WritesAtMost, KnownBytes.{Appends, Keeps, WriteAppends}}, Prelude.{ℕ, ◌<◌, ◌≡◌, Bool, List, Ok, OnErr}};
+ghost use Rattle.std.specs.{Prelude.{OnOk, Option, false, length, true}, Result.is_err};
 ghost use Rattle.devices.specs.Devices.{AppendsBeginning};
 
 use thiserror::Error;

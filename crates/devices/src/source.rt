@@ -1,7 +1,5 @@
-ghost use Rattle.std.specs.Prelude.{◌≡◌, ℕ, Bool, false, List, Option, IfOk, IfSome};
-ghost use Rattle.std.specs.Io.{ReadsAtMost};
-ghost use Rattle.std.specs.Io.KnownBytes.{ReadConsumes};
-ghost use Rattle.std.specs.IoError.{error_kind};
+ghost use Rattle.std.specs.{Io.{ReadsAtMost, KnownBytes.ReadConsumes}, IoError.error_kind, Prelude.{ℕ, ◌≡◌, Bool, IfOk, IfSome, List}};
+ghost use Rattle.std.specs.Prelude.{Option, false};
 ghost use Rattle.devices.specs.Devices.{is_failure, read_error_of};
 
 use std::alloc::Global;

@@ -1,7 +1,5 @@
-ghost use Rattle.std.specs.Prelude.{◌≡◌, ◌≢◌, ◌<◌, ◌↔◌, Ok, IfErr, IfOk, OnErr, OnOk, IsErr, IsErrAnd, IsOk, IsTrue};
-ghost use Rattle.std.specs.Io.{ReadsAtMost, WritesAtMost};
-ghost use Rattle.std.specs.Io.KnownBytes.{Keeps, ReadConsumes, WriteAppends};
-ghost use Rattle.std.specs.IoError.{error_kind};
+ghost use Rattle.std.specs.{Io.{ReadsAtMost, WritesAtMost, KnownBytes.{Keeps, ReadConsumes, WriteAppends}}, IoError.error_kind};
+ghost use Rattle.std.specs.Prelude.{◌<◌, ◌↔◌, ◌≡◌, ◌≢◌, IfErr, IfOk, IsErr, IsErrAnd, IsOk, IsTrue, Ok, OnErr, OnOk};
 
 use crate::{ReadError, Sink, Source, WriteError};
 use std::io::{self, ErrorKind, Read, Write};
@@ -18,7 +16,7 @@ pub struct Watched<D> {
 }
 
 impl<D> Watched<D> {
-    ghost use Rattle.devices.specs.Watched.{watched, device_of, why_unread};
+    ghost use Rattle.devices.specs.Watched.{device_of, watched, why_unread};
 
     /// A device that hasn't failed.
     pub fn new(device: D) -> Watched<D>

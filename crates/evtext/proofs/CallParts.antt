@@ -1,33 +1,20 @@
 -- The operands of calls: what was read is what they spell, and each spelling is read back.
-use Rattle.std.proofs.Common.{◌≡◌, ℕ, ◌<◌, ◌^◌, Bool, true, false, cond, List, [], ◌∷◌, ◌++◌, Option, Some, None, Ok, codes, refl, sym, ap, subst, ◌∙◌, if◌then◌else◌}
-use Rattle.std.specs.Bool.{Decides, ⊤}
-use Rattle.std.specs.Fmt.{decimal}
-use Rattle.std.specs.List.{AllByRecursion}
-use Rattle.std.specs.Option.{option_map}
-use Rattle.std.specs.Str.{bytes_eq}
-use Rattle.std.proofs.lemmas.Option.{none-some, same_Some}
-use Rattle.std.proofs.lemmas.Slice.Eq.{bytes_eq-Decides}
+use Rattle.std.{specs.{Bool.{⊤, Decides}, Fmt.decimal, List.AllByRecursion, Option.option_map, Str.bytes_eq}, proofs.Common.{[], ℕ, ◌++◌}}
+use Rattle.std.proofs.Common.{◌<◌, ◌^◌, ◌∙◌, ◌∷◌, ◌≡◌, Bool, List, None, Ok, Option, Some, ap, codes, cond, false, if◌then◌else◌, refl}
+use Rattle.std.proofs.{Common.{subst, sym, true}, lemmas.{Option.{none-some, same_Some}, Slice.Eq.bytes_eq-Decides}}
+use Rattle.base.specs.{declared.rights.Rights.Rights, Rights.{IsRights, letter_of, rights_of_word, rights_word}}
 use Rattle.base.proofs.RightsWords.{rights_again, rights_named}
-use Rattle.base.specs.declared.rights.Rights.{Rights}
-use Rattle.base.specs.Rights.{letter_of, rights_of_word, rights_word, IsRights}
-use Rattle.machine.specs.declared.call.CapData.{CapData}
-use Rattle.machine.specs.declared.call.CapData.TheVariants.{Badge, Guard}
-use Rattle.machine.specs.declared.object.MemoryKind.{MemoryKind}
-use Rattle.machine.specs.declared.object.MemoryKind.TheVariants.{Untyped, CNode, Tcb, Endpoint, Notification, Reply, Context, Frame}
-use Rattle.machine.specs.KindWords.{memory_kind_of, memory_kind_word}
-use Rattle.machine.specs.declared.slot_address.SlotAddress.{SlotAddress}
-use Rattle.machine.specs.Spelling.{data_words, four_words, optional_slot_words, optional_word, slot_address_words}
-use Rattle.machine.proofs.KindWords.{memory_again, memory_takes}
-use Rattle.words.specs.Number.{dec_of, number_at}
-use Rattle.words.specs.Parts.{by_word, in_turn, keyed, read_as, IsPart}
-use Rattle.words.specs.Reading.{bind, word_at}
-use Rattle.words.specs.Text.{IsPlainWord}
-use Rattle.words.proofs.Parts.{after_word, both_parts, keyed_part, number_part, part_as, read_as_again, takes_as, word_part}
-use Rattle.words.proofs.Spellings.{decimal_iff}
-use Rattle.words.proofs.TextLaws.{both}
-use Rattle.words.proofs.WordLaws.{plain_bytes, plain_decimal, word_then}
-use Rattle.evtext.specs.Event.{data_at, four_at, four_of, guard_of, memory_kind_at, message_at, optional_at, optional_of, optional_slot_at}
-use Rattle.evtext.specs.Event.{rights_at, slot_address_at, slot_address_of, two_at, AreFour, IsData, IsOptional, IsOptionalSlot, IsSlotAddress}
+use Rattle.machine.specs.declared.{call.CapData.{CapData, TheVariants.{Badge, Guard}}, object.MemoryKind.{MemoryKind, TheVariants.CNode}}
+use Rattle.machine.specs.declared.object.MemoryKind.TheVariants.{Context, Endpoint, Frame, Notification, Reply, Tcb, Untyped}
+use Rattle.machine.specs.{declared.slot_address.SlotAddress.SlotAddress, KindWords.{memory_kind_of, memory_kind_word}, Spelling.data_words}
+use Rattle.machine.{specs.Spelling.{four_words, optional_slot_words, optional_word, slot_address_words}, proofs.KindWords.memory_again}
+use Rattle.machine.proofs.KindWords.{memory_takes}
+use Rattle.words.specs.{Number.{dec_of, number_at}, Parts.{IsPart, by_word, in_turn, keyed, read_as}, Reading.{bind, word_at}}
+use Rattle.words.{specs.Text.IsPlainWord, proofs.Parts.{after_word, both_parts, keyed_part, number_part, part_as, read_as_again, takes_as}}
+use Rattle.words.proofs.{Parts.word_part, Spellings.decimal_iff, TextLaws.both, WordLaws.{plain_bytes, plain_decimal, word_then}}
+use Rattle.evtext.specs.Event.{AreFour, IsData, IsOptional, IsOptionalSlot, IsSlotAddress, data_at, four_at, four_of, guard_of}
+use Rattle.evtext.specs.Event.{memory_kind_at, message_at, optional_at, optional_of, optional_slot_at, rights_at, slot_address_at}
+use Rattle.evtext.specs.Event.{slot_address_of, two_at}
 
 -- a slot is three numbers
 pub slot_address_part : IsPart slot_address_at slot_address_words IsSlotAddress

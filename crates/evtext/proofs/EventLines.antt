@@ -1,19 +1,12 @@
 -- A line of a script, or of a log, is read just where it spells an event, or an entry, that is within the limits.
-use Rattle.std.proofs.Common.{◌≡◌, ℕ, ◌<◌, ◌&&◌, nat_lt, Bool, true, false, cond, List, Ok, Err, refl, ap, subst, ◌∙◌, ltb-true, lt-ltb}
+use Rattle.std.proofs.Common.{ℕ, ◌&&◌, ◌<◌, ◌∙◌, ◌≡◌, Bool, Err, List, Ok, ap, cond, false, lt-ltb, ltb-true, nat_lt, refl, subst, true}
 use Rattle.std.proofs.lemmas.Bool.{and_from, and_parts, cond-true}
 use Rattle.base.specs.declared.core_number.TheConstants.CoreNo as CoreNo
 use Rattle.base.specs.declared.limits.TheConstants.{MAX_EVENTS}
-use Rattle.machine.specs.declared.call.Event.{Event}
-use Rattle.machine.specs.declared.call.Outcome.{Outcome}
-use Rattle.machine.specs.Spelling.{entry_words, event_words}
-use Rattle.words.specs.declared.faults.Wrong.TheVariants.{Limit}
-use Rattle.words.specs.Reading.{bind}
-use Rattle.words.proofs.Parts.{alone_again, alone_takes, last_again, last_takes}
-use Rattle.words.proofs.WordLaws.{bind_ok}
-use Rattle.evtext.specs.Event.{within_limits, HasNumbers}
-use Rattle.evtext.specs.Log.{log_line, IsEntry}
-use Rattle.evtext.specs.Script.{script_line}
-use Rattle.evtext.proofs.EntryWords.{entry_part}
+use Rattle.machine.specs.{declared.call.{Event.Event, Outcome.Outcome}, Spelling.{entry_words, event_words}}
+use Rattle.words.{specs.{declared.faults.Wrong.TheVariants.Limit, Reading.bind}, proofs.Parts.{alone_again, alone_takes, last_again}}
+use Rattle.words.proofs.{Parts.last_takes, WordLaws.bind_ok}
+use Rattle.evtext.{specs.{Event.{HasNumbers, within_limits}, Log.{IsEntry, log_line}, Script.script_line}, proofs.EntryWords.entry_part}
 use Rattle.evtext.proofs.EventWords.{event_part}
 
 -- words that spell an event

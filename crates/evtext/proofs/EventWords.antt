@@ -1,23 +1,17 @@
 -- The words of calls and of events: what was read is what they spell, and each spelling is read back.
-use Rattle.std.proofs.Common.{◌≡◌, ℕ, ◌<◌, ◌^◌, List, ◌∷◌, ◌++◌, codes, Ok, refl, subst}
-use Rattle.std.specs.Bool.{⊤}
-use Rattle.std.specs.List.{AllByRecursion}
-use Rattle.machine.specs.declared.call.Call.{Call}
-use Rattle.machine.specs.declared.call.Call.TheVariants.{Signal, Poll, Wait, Send, Receive, Reply, Fetch, Copy, Mint, Move, Delete, Revoke, Retype}
-use Rattle.machine.specs.declared.call.Call.TheVariants.{Read, Write, SetSpace, ClearSpace, Suspend, Resume, Configure, Bind, Unbind}
+use Rattle.std.{specs.{Bool.⊤, List.AllByRecursion}, proofs.Common.{ℕ, ◌++◌, ◌<◌, ◌^◌, ◌∷◌, ◌≡◌, List, Ok, codes, refl, subst}}
+use Rattle.machine.specs.declared.call.Call.{Call, TheVariants.{Bind, ClearSpace, Configure, Copy, Delete, Fetch, Mint, Move, Poll, Read}}
+use Rattle.machine.specs.declared.call.Call.TheVariants.{Receive, Reply, Resume, Retype, Revoke, Send, SetSpace, Signal, Suspend, Unbind}
+use Rattle.machine.specs.{declared.call.{Call.TheVariants.{Wait, Write}, Event.Event}, Spelling.{call_words, event_words}}
 use Rattle.machine.specs.declared.call.Call.TheVariants as call
-use Rattle.machine.specs.declared.call.Event.{Event}
-use Rattle.machine.specs.Spelling.{call_words, event_words}
-use Rattle.words.specs.Parts.{by_word, keyed, IsPart}
-use Rattle.words.specs.Reading.{bind, word_at}
-use Rattle.words.specs.Text.{IsPlainLine, IsPlainWord}
-use Rattle.words.proofs.Parts.{after_word, both_parts, keyed_part, number_part, part_as, read_as_again, IsChoice}
-use Rattle.words.proofs.WordLaws.{plain_bytes, plain_decimal}
-use Rattle.evtext.specs.Event.{call_at, copy_at, copy_call, endpoint_call, event_at, event_of, fetch_at, mint_at, mint_call, move_at, move_call}
-use Rattle.evtext.specs.Event.{bind_call, configure_at, configure_call, read_call, set_space_call, thread_calls, write_at, write_call}
-use Rattle.evtext.specs.Event.{receive_at, receive_call, reply_at, reply_call, retype_at, retype_call, send_call, HasNumbers, HasWords}
-use Rattle.evtext.proofs.CallParts.{copy_operands, message_operands, mint_operands, move_operands, receive_operands, reply_operands}
-use Rattle.evtext.proofs.CallParts.{configure_operands, retype_operands, slot_address_part, two_part, write_operands}
+use Rattle.words.{specs.{Parts.{IsPart, by_word, keyed}, Reading.{bind, word_at}, Text.{IsPlainLine, IsPlainWord}}, proofs.Parts.IsChoice}
+use Rattle.words.proofs.{Parts.{after_word, both_parts, keyed_part, number_part, part_as, read_as_again}, WordLaws.plain_bytes}
+use Rattle.words.proofs.WordLaws.{plain_decimal}
+use Rattle.evtext.specs.Event.{HasNumbers, HasWords, bind_call, call_at, configure_at, configure_call, copy_at, copy_call, endpoint_call}
+use Rattle.evtext.specs.Event.{event_at, event_of, fetch_at, mint_at, mint_call, move_at, move_call, read_call, receive_at, receive_call}
+use Rattle.evtext.specs.Event.{reply_at, reply_call, retype_at, retype_call, send_call, set_space_call, thread_calls, write_at, write_call}
+use Rattle.evtext.proofs.CallParts.{configure_operands, copy_operands, message_operands, mint_operands, move_operands, receive_operands}
+use Rattle.evtext.proofs.CallParts.{reply_operands, retype_operands, slot_address_part, two_part, write_operands}
 
 -- the numbers of a retype, part by part
 retype_fits : {untyped bits to offset count : ℕ}

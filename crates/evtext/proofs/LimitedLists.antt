@@ -1,15 +1,9 @@
 -- A list of at most 1,000,000 values, with a line for each: the laws of its lines are those of one line.
-use Rattle.std.proofs.Common.{◌≡◌, ℕ, ◌<◌, ◌≤◌, List, [], ◌∷◌, ◌++◌, length, Result, Ok, ap, subst, arith, length-append}
-use Rattle.std.proofs.lemmas.List.{length_push}
-use Rattle.std.specs.List.{AllByRecursion}
+use Rattle.std.{specs.List.AllByRecursion, proofs.Common.{[], ℕ, ◌++◌, ◌<◌, ◌∷◌, ◌≡◌, ◌≤◌, List, Ok, Result, ap, arith, length}}
+use Rattle.std.proofs.{Common.{length-append, subst}, lemmas.List.length_push}
 use Rattle.base.specs.declared.limits.TheConstants.{MAX_EVENTS}
-use Rattle.words.specs.declared.faults.Wrong.{Wrong}
-use Rattle.words.specs.FirstFault.{Line}
-use Rattle.words.specs.Reading.{bind, IsNotLast}
-use Rattle.words.specs.Text.{IsPlainLine}
-use Rattle.words.proofs.ListLaws.{IsListFormat, all_front, all_last}
-use Rattle.words.proofs.TextLaws.{both}
-use Rattle.words.proofs.WordLaws.{bind_ok}
+use Rattle.words.specs.{declared.faults.Wrong.Wrong, FirstFault.Line, Reading.{IsNotLast, bind}, Text.IsPlainLine}
+use Rattle.words.proofs.{ListLaws.{IsListFormat, all_front, all_last}, TextLaws.both, WordLaws.bind_ok}
 
 -- a line after so many others is read just where it is that of a value, and they are below the limit
 pub record IsLimitedLine {X : Type 0} (line : X → Line) (read : ℕ → Line → Result X Wrong) (Is : X → Type 0) : Type 0 where

@@ -1,5 +1,5 @@
 -- A line is written at the end of a text word by word.
-use Rattle.std.proofs.Common.{◌≡◌, ℕ, List, [], ◌∷◌, ◌++◌, refl, sym, ap, ◌∙◌, append_assoc}
+use Rattle.std.proofs.Common.{[], ℕ, ◌++◌, ◌∙◌, ◌∷◌, ◌≡◌, List, ap, append_assoc, refl, sym}
 use Rattle.machine.specs.Spelling.{spelled}
 use Rattle.words.specs.Text.{line_text}
 use Rattle.evtext.specs.Written.{written}

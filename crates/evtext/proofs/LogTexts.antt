@@ -1,16 +1,9 @@
 -- A log is a list of events and their outcomes: the laws of whole logs, from those of its lines.
-use Rattle.std.proofs.Common.{◌≡◌, ◌↔◌, ℕ, List, codes, Ok, refl}
-use Rattle.std.proofs.lemmas.Bool.{and_right}
-use Rattle.machine.specs.declared.call.Event.{Event}
-use Rattle.machine.specs.declared.call.Outcome.{Outcome}
-use Rattle.machine.specs.Spelling.{entry_words}
-use Rattle.words.specs.Text.{IsPlainLine}
-use Rattle.words.proofs.ListLaws.{IsListFormat, list_again, list_takes}
-use Rattle.words.proofs.WordLaws.{plain_bytes}
-use Rattle.evtext.specs.Log.{log_header, log_line, log_step, log_text, read_log_of, IsEntry, IsLog, IsSpellableEntry}
-use Rattle.evtext.proofs.EntryWords.{plain_entry}
-use Rattle.evtext.proofs.EventLines.{entry_read, entry_read_back}
-use Rattle.evtext.proofs.LimitedLists.{limited_format, IsLimitedLine}
+use Rattle.std.proofs.{Common.{ℕ, ◌↔◌, ◌≡◌, List, Ok, codes, refl}, lemmas.Bool.and_right}
+use Rattle.machine.specs.{declared.call.{Event.Event, Outcome.Outcome}, Spelling.entry_words}
+use Rattle.words.{specs.Text.IsPlainLine, proofs.{ListLaws.{IsListFormat, list_again, list_takes}, WordLaws.plain_bytes}}
+use Rattle.evtext.specs.Log.{IsEntry, IsLog, IsSpellableEntry, log_header, log_line, log_step, log_text, read_log_of}
+use Rattle.evtext.proofs.{EntryWords.plain_entry, EventLines.{entry_read, entry_read_back}, LimitedLists.{IsLimitedLine, limited_format}}
 use Rattle.evtext.proofs.Scripts.{numbers}
 
 entry_numbers : (entry : Event × Outcome) → IsSpellableEntry entry → IsEntry entry

@@ -1,18 +1,10 @@
 -- The text of a log grows by a line with each entry.
-use Rattle.std.proofs.Common.{◌≡◌, ℕ, ◌+◌, ◌<◌, List, [], ◌∷◌, ◌++◌, length, take, map, min, get_or, sym, ap, ◌∙◌, arith, codes}
-use Rattle.std.specs.Fmt.{decimal}
-use Rattle.std.proofs.lemmas.List.{map-append, take_all, take_more, flat_map_more}
-use Rattle.std.proofs.lemmas.Slice.Zip.{length-zip, get_or-zip}
-use Rattle.std.proofs.lemmas.List.Sums.{fold-append}
-use Rattle.std.specs.List.{zip}
-use Rattle.machine.specs.declared.call.Event.{Event}
-use Rattle.machine.specs.declared.call.Outcome.{Outcome}
-use Rattle.machine.specs.Spelling.{call_words, entry_words, outcome_words, spelled}
-use Rattle.words.specs.Reading.{last_line}
-use Rattle.words.specs.Text.{line_text, text_of}
-use Rattle.evtext.specs.Log.{log_header, log_text}
-use Rattle.evtext.specs.Written.{written}
-use Rattle.evtext.proofs.Lines.{line_written}
+use Rattle.std.{specs.{Fmt.decimal, List.zip}, proofs.Common.{[], ℕ, ◌++◌, ◌+◌, ◌<◌, ◌∙◌, ◌∷◌, ◌≡◌, List, ap, arith, codes, get_or, length}}
+use Rattle.std.proofs.{Common.{map, min, sym, take}, lemmas.List.{flat_map_more, map-append, take_all, take_more, Sums.fold-append}}
+use Rattle.std.proofs.lemmas.Slice.Zip.{get_or-zip, length-zip}
+use Rattle.machine.specs.{declared.call.{Event.Event, Outcome.Outcome}, Spelling.{call_words, entry_words, outcome_words, spelled}}
+use Rattle.words.specs.{Reading.last_line, Text.{line_text, text_of}}
+use Rattle.evtext.{specs.{Log.{log_header, log_text}, Written.written}, proofs.Lines.line_written}
 
 -- the line of an entry: its event, ` =`, and its outcome
 pub entry_written : (text : List ℕ) (event : Event) (outcome : Outcome)

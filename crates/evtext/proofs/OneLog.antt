@@ -1,17 +1,9 @@
 -- A text is the text of one script, or of one log.
-use Rattle.std.proofs.Common.{◌≡◌, List, [], sym, ◌∙◌}
-use Rattle.std.proofs.lemmas.List.{append-nil}
-use Rattle.std.specs.List.{AllByRecursion}
-use Rattle.machine.specs.declared.call.Event.{Event}
-use Rattle.machine.specs.declared.call.Outcome.{Outcome}
-use Rattle.machine.specs.Spelling.{event_words, entry_words}
-use Rattle.words.proofs.ListLaws.{one_list}
-use Rattle.words.proofs.Parts.{last_once, part_once}
-use Rattle.evtext.specs.Event.{HasNumbers}
-use Rattle.evtext.specs.Log.{log_header, log_text, IsEntry}
-use Rattle.evtext.specs.Script.{script_header, script_text}
-use Rattle.evtext.proofs.EntryWords.{entry_part, plain_entry}
-use Rattle.evtext.proofs.EventWords.{event_part, plain_event}
+use Rattle.std.{specs.List.AllByRecursion, proofs.{Common.{[], ◌∙◌, ◌≡◌, List, sym}, lemmas.List.append-nil}}
+use Rattle.machine.specs.{declared.call.{Event.Event, Outcome.Outcome}, Spelling.{entry_words, event_words}}
+use Rattle.words.proofs.{ListLaws.one_list, Parts.{last_once, part_once}}
+use Rattle.evtext.specs.{Event.HasNumbers, Log.{IsEntry, log_header, log_text}, Script.{script_header, script_text}}
+use Rattle.evtext.proofs.{EntryWords.{entry_part, plain_entry}, EventWords.{event_part, plain_event}}
 use Rattle.evtext.proofs.LogTexts as logs
 use Rattle.evtext.proofs.Scripts as scripts
 

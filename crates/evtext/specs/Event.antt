@@ -1,26 +1,15 @@
 -- How the words of a line are read as an event: its core, its thread, then a call by its name and operands (confine's own).
-use Rattle.std.specs.Prelude.{ℕ, ◌<◌, ◌^◌, ◌&&◌, nat_lt, List, [], ◌∷◌, codes, Option, Some, None, Result, Ok, Err, if◌then◌else◌}
-use Rattle.std.specs.Option.{option_map}
-use Rattle.std.specs.Str.{bytes_eq}
+use Rattle.std.specs.{Option.option_map, Prelude.{[], ℕ, ◌&&◌, ◌<◌, ◌^◌, ◌∷◌, Err, List, None, Ok, Option, Result, Some, codes}}
+use Rattle.std.specs.{Prelude.{if◌then◌else◌, nat_lt}, Str.bytes_eq}
 use Rattle.base.specs.declared.core_number.TheConstants.CoreNo as CoreNo
-use Rattle.base.specs.declared.limits.TheConstants.{MAX_EVENTS}
-use Rattle.base.specs.declared.rights.Rights.{Rights}
-use Rattle.base.specs.Rights.{rights_of_word, IsRights}
-use Rattle.machine.specs.declared.call.Call.{Call}
-use Rattle.machine.specs.declared.call.Call.TheVariants.{Signal, Poll, Wait, Send, Receive, Reply, Fetch, Copy, Mint, Move, Delete, Revoke, Retype}
-use Rattle.machine.specs.declared.call.Call.TheVariants.{Read, Write, SetSpace, ClearSpace, Suspend, Resume, Configure, Bind, Unbind}
+use Rattle.base.specs.{declared.{limits.TheConstants.MAX_EVENTS, rights.Rights.Rights}, Rights.{IsRights, rights_of_word}}
+use Rattle.machine.specs.declared.call.Call.{Call, TheVariants.{Bind, ClearSpace, Configure, Copy, Delete, Fetch, Mint, Move, Poll, Read}}
+use Rattle.machine.specs.declared.call.Call.TheVariants.{Receive, Reply, Resume, Retype, Revoke, Send, SetSpace, Signal, Suspend, Unbind}
+use Rattle.machine.specs.declared.call.{Call.TheVariants.{Wait, Write}, CapData.{CapData, TheVariants.{Badge, Guard}}, Event.Event}
 use Rattle.machine.specs.declared.call.Call.TheVariants as call
-use Rattle.machine.specs.declared.call.CapData.{CapData}
-use Rattle.machine.specs.declared.call.CapData.TheVariants.{Badge, Guard}
-use Rattle.machine.specs.declared.call.Event.{Event}
-use Rattle.machine.specs.declared.object.MemoryKind.{MemoryKind}
-use Rattle.machine.specs.declared.slot_address.SlotAddress.{SlotAddress}
-use Rattle.machine.specs.KindWords.{memory_kind_of}
-use Rattle.words.specs.declared.faults.Wrong.{Wrong}
-use Rattle.words.specs.declared.faults.Wrong.TheVariants.{Limit}
-use Rattle.words.specs.Number.{dec_of, number_at}
-use Rattle.words.specs.Parts.{PartReader, in_turn, keyed, read_as}
-use Rattle.words.specs.Reading.{◌>>=◌, word_at, or_syntax}
+use Rattle.machine.specs.{declared.{object.MemoryKind.MemoryKind, slot_address.SlotAddress.SlotAddress}, KindWords.memory_kind_of}
+use Rattle.words.specs.{declared.faults.Wrong.{Wrong, TheVariants.Limit}, Number.{dec_of, number_at}, Parts.{PartReader, in_turn, keyed}}
+use Rattle.words.specs.{Parts.read_as, Reading.{◌>>=◌, or_syntax, word_at}}
 
 -- the slot of three numbers: root, index and depth
 abbrev pub slot_address_of : ℕ × (ℕ × ℕ) → SlotAddress

@@ -1,18 +1,11 @@
 -- The text of a log, and which log, or which fault at which line, a text is read as: the header, a line for each event and its
 -- outcome, `end` (confine's own).
-use Rattle.std.specs.Prelude.{ℕ, ◌≤◌, List, [], ◌∷◌, ◌++◌, length, codes, Result, Ok}
-use Rattle.std.specs.List.{AllByRecursion}
+use Rattle.std.specs.{List.AllByRecursion, Prelude.{[], ℕ, ◌++◌, ◌∷◌, ◌≤◌, List, Ok, Result, codes, length}}
 use Rattle.base.specs.declared.limits.TheConstants.{MAX_EVENTS}
-use Rattle.machine.specs.declared.call.Event.{Event}
-use Rattle.machine.specs.declared.call.Outcome.{Outcome}
-use Rattle.machine.specs.Spelling.{entry_words}
-use Rattle.words.specs.declared.faults.Wrong.{Wrong}
-use Rattle.words.specs.declared.faults.Fault.{Fault}
-use Rattle.words.specs.Parts.{PartReader, in_turn}
-use Rattle.words.specs.Reading.{◌>>=◌, ended_at, list_format, list_text, read_format, Format}
-use Rattle.words.specs.Text.{words_of, lines_of}
-use Rattle.evtext.specs.Event.{event_at, within_limits, HasNumbers, IsSpellable}
-use Rattle.evtext.specs.Outcome.{equals_at, IsOutcome}
+use Rattle.machine.specs.{declared.call.{Event.Event, Outcome.Outcome}, Spelling.entry_words}
+use Rattle.words.specs.{declared.faults.{Fault.Fault, Wrong.Wrong}, Parts.{PartReader, in_turn}, Reading.{◌>>=◌, Format, ended_at}}
+use Rattle.words.specs.{Reading.{list_format, list_text, read_format}, Text.{lines_of, words_of}}
+use Rattle.evtext.specs.{Event.{HasNumbers, IsSpellable, event_at, within_limits}, Outcome.{IsOutcome, equals_at}}
 
 abbrev pub log_header : List (List ℕ)
 log_header = words_of (codes "confine-log 1")

@@ -1,16 +1,11 @@
 -- How the words of a line are read as an outcome: that the call is done, and what it answers, that it is blocked, or that it is
 -- refused (confine's own).
-use Rattle.std.specs.Prelude.{ℕ, ◌<◌, ◌^◌, Bool, true, false, List, [], ◌∷◌, codes, Option, Some, None, Ok, if◌then◌else◌}
-use Rattle.std.specs.Str.{bytes_eq}
-use Rattle.machine.specs.declared.call.Answer.{Answer}
+use Rattle.std.specs.{Prelude.{[], ℕ, ◌<◌, ◌^◌, ◌∷◌, Bool, List, None, Ok, Option, Some, codes, false, if◌then◌else◌, true}, Str.bytes_eq}
+use Rattle.machine.specs.declared.{call.{Answer.Answer, Outcome.Outcome}, thread.Message.Message}
 use Rattle.machine.specs.declared.call.Answer.TheVariants as answer
-use Rattle.machine.specs.declared.call.Outcome.{Outcome}
 use Rattle.machine.specs.declared.call.Outcome.TheVariants as outcome
-use Rattle.machine.specs.declared.thread.Message.{Message}
-use Rattle.words.specs.Number.{number_at}
-use Rattle.words.specs.Parts.{PartReader, in_turn, keyed, read_as}
-use Rattle.words.specs.Reading.{◌>>=◌, word_at, or_syntax}
-use Rattle.evtext.specs.Event.{four_at, AreFour}
+use Rattle.words.specs.{Number.number_at, Parts.{PartReader, in_turn, keyed, read_as}, Reading.{◌>>=◌, or_syntax, word_at}}
+use Rattle.evtext.specs.Event.{AreFour, four_at}
 
 -- 1 for yes, 0 for no
 abbrev pub flag_of : List ℕ → Option Bool

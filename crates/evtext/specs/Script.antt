@@ -1,15 +1,11 @@
 -- The text of a script, and which script, or which fault at which line, a text is read as: the header, a line for each event,
 -- `end` (confine's own).
-use Rattle.std.specs.Prelude.{ℕ, ◌≤◌, List, [], ◌∷◌, ◌++◌, length, codes, Result, Ok}
-use Rattle.std.specs.List.{AllByRecursion}
+use Rattle.std.specs.{List.AllByRecursion, Prelude.{[], ℕ, ◌++◌, ◌∷◌, ◌≤◌, List, Ok, Result, codes, length}}
 use Rattle.base.specs.declared.limits.TheConstants.{MAX_EVENTS}
-use Rattle.machine.specs.declared.call.Event.{Event}
-use Rattle.machine.specs.Spelling.{event_words}
-use Rattle.words.specs.declared.faults.Wrong.{Wrong}
-use Rattle.words.specs.declared.faults.Fault.{Fault}
-use Rattle.words.specs.Reading.{◌>>=◌, ended_at, list_format, list_text, read_format, Format}
-use Rattle.words.specs.Text.{words_of, lines_of}
-use Rattle.evtext.specs.Event.{event_at, within_limits, IsSpellable}
+use Rattle.machine.specs.{declared.call.Event.Event, Spelling.event_words}
+use Rattle.words.specs.{declared.faults.{Fault.Fault, Wrong.Wrong}, Reading.{◌>>=◌, Format, ended_at, list_format, list_text, read_format}}
+use Rattle.words.specs.Text.{lines_of, words_of}
+use Rattle.evtext.specs.Event.{IsSpellable, event_at, within_limits}
 
 abbrev pub script_header : List (List ℕ)
 script_header = words_of (codes "confine-script 1")

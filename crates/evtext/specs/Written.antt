@@ -1,6 +1,5 @@
 -- What a text is after words are written at its end, each after a space (confine's own).
-use Rattle.std.specs.Prelude.{ℕ, List, ◌∷◌, ◌++◌}
-use Rattle.std.specs.List.{fold}
+use Rattle.std.specs.{List.fold, Prelude.{ℕ, ◌++◌, ◌∷◌, List}}
 
 abbrev pub written : List ℕ → List (List ℕ) → List ℕ
 written text words = fold (λ so_far word. so_far ++ 32 ∷ word) text words

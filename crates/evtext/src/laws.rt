@@ -1,10 +1,6 @@
-ghost use Rattle.std.specs.Prelude.{◌≡◌, ◌↔◌, ℕ, List, Ok};
-ghost use Rattle.std.specs.List.{AllByRecursion};
-ghost use Rattle.machine.specs.declared.call.Event.{Event};
-ghost use Rattle.machine.specs.declared.call.Outcome.{Outcome};
-ghost use Rattle.evtext.specs.Event.{HasNumbers};
-ghost use Rattle.evtext.specs.Log.{log_text, read_log_of, IsEntry, IsLog};
-ghost use Rattle.evtext.specs.Script.{script_text};
+ghost use Rattle.std.specs.{List.AllByRecursion, Prelude.{ℕ, ◌↔◌, ◌≡◌, List, Ok}};
+ghost use Rattle.machine.specs.declared.call.{Event.Event, Outcome.Outcome};
+ghost use Rattle.evtext.specs.{Event.HasNumbers, Log.{IsEntry, IsLog, log_text, read_log_of}, Script.script_text};
 
 /// A law: the text of a script is the text of no other one. Its numbers are of 64 bits, as all that
 /// the code has are, and its rights are sets of the four, as all that are read.

@@ -1,9 +1,8 @@
 ghost use Rattle.std.specs.Prelude.{◌≡◌};
-ghost use Rattle.words.specs.Parts.{by_word};
-ghost use Rattle.words.specs.Reading.{Gives};
-ghost use Rattle.evtext.specs.Event.{call_at, copy_at, data_at, event_at, four_at, memory_kind_at, message_at, mint_at};
-ghost use Rattle.evtext.specs.Event.{move_at, optional_at, optional_slot_at, receive_at, reply_at, retype_at, rights_at};
-ghost use Rattle.evtext.specs.Event.{configure_at, slot_address_at, thread_calls, two_at, within_limits, write_at};
+ghost use Rattle.words.specs.{Parts.by_word, Reading.Gives};
+ghost use Rattle.evtext.specs.Event.{call_at, configure_at, copy_at, data_at, event_at, four_at, memory_kind_at, message_at, mint_at};
+ghost use Rattle.evtext.specs.Event.{move_at, optional_at, optional_slot_at, receive_at, reply_at, retype_at, rights_at, slot_address_at};
+ghost use Rattle.evtext.specs.Event.{thread_calls, two_at, within_limits, write_at};
 
 use base::{CoreNo, MAX_EVENTS, ObjId, Rights};
 use machine::{Call, CapData, Event, MemoryKind, SlotAddress};

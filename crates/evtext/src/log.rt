@@ -1,15 +1,9 @@
-ghost use Rattle.std.specs.Prelude.{◌≡◌, ◌≢◌, ◌++◌, ℕ, IfOk, IfErr, Ok, Err, OnOk, List};
-ghost use Rattle.std.specs.List.{zip};
+ghost use Rattle.std.specs.{List.zip, Prelude.{ℕ, ◌++◌, ◌≡◌, ◌≢◌, Err, IfErr, IfOk, List, Ok, OnOk}};
 ghost use Rattle.base.specs.Refusals.{out_of_memory};
-ghost use Rattle.machine.specs.declared.call.Event.{Event as EventOf};
-ghost use Rattle.machine.specs.declared.call.Outcome.{Outcome as OutcomeOf};
-ghost use Rattle.machine.specs.Spelling.{entry_words};
-ghost use Rattle.words.specs.declared.faults.Wrong.{Wrong};
-ghost use Rattle.words.specs.Fault.{fault_at, no_memory};
-ghost use Rattle.words.specs.FirstFault.{IsFirstFault, TellsFirst};
-ghost use Rattle.words.specs.Reading.{Reads};
-ghost use Rattle.words.specs.Text.{line_text, lines_of};
-ghost use Rattle.evtext.specs.Log.{log_format, log_line, log_step, log_text, read_log_of, IsLog};
+ghost use Rattle.machine.specs.{declared.call.{Event.Event as EventOf, Outcome.Outcome as OutcomeOf}, Spelling.entry_words};
+ghost use Rattle.words.specs.{declared.faults.Wrong.Wrong, Fault.{fault_at, no_memory}, FirstFault.{IsFirstFault, TellsFirst}};
+ghost use Rattle.words.specs.{Reading.Reads, Text.{line_text, lines_of}};
+ghost use Rattle.evtext.specs.Log.{IsLog, log_format, log_line, log_step, log_text, read_log_of};
 
 use crate::line::next_event;
 use crate::outcome::next_result;

@@ -1,13 +1,9 @@
-ghost use Rattle.std.specs.Prelude.{◌≡◌, ◌≢◌, ℕ, ◌++◌, IfOk, IfErr, Ok, List, OnOk};
+ghost use Rattle.std.specs.Prelude.{ℕ, ◌++◌, ◌≡◌, ◌≢◌, IfErr, IfOk, List, Ok, OnOk};
 ghost use Rattle.base.specs.Refusals.{out_of_memory};
-ghost use Rattle.machine.specs.declared.call.Event.{Event as EventOf};
-ghost use Rattle.machine.specs.Spelling.{event_words};
-ghost use Rattle.words.specs.declared.faults.Wrong.{Wrong};
-ghost use Rattle.words.specs.Fault.{fault_at, no_memory};
-ghost use Rattle.words.specs.FirstFault.{IsFirstFault, TellsFirst};
-ghost use Rattle.words.specs.Reading.{Reads};
-ghost use Rattle.words.specs.Text.{line_text, lines_of};
-ghost use Rattle.evtext.specs.Script.{read_script_of, script_format, script_line, script_step, script_text, IsScript};
+ghost use Rattle.machine.specs.{declared.call.Event.Event as EventOf, Spelling.event_words};
+ghost use Rattle.words.specs.{declared.faults.Wrong.Wrong, Fault.{fault_at, no_memory}, FirstFault.{IsFirstFault, TellsFirst}};
+ghost use Rattle.words.specs.{Reading.Reads, Text.{line_text, lines_of}};
+ghost use Rattle.evtext.specs.Script.{IsScript, read_script_of, script_format, script_line, script_step, script_text};
 
 use crate::line::next_event;
 use crate::writing::write_event;

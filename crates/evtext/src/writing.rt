@@ -1,12 +1,10 @@
 //! Words of events and of what they answer, each written after a space at the end of a text. No word is made by itself.
-ghost use Rattle.std.specs.Prelude.{◌≡◌, Bool, ◌==◌, ◌+◌, ◌≤◌, ◌++◌, ◌∷◌, [], length, map, vec_len, vec_capacity, OnOk};
-ghost use Rattle.std.specs.Fmt.{decimal};
-ghost use Rattle.std.specs.Int.RustNames.{bit_and};
+ghost use Rattle.std.specs.{Fmt.decimal, Int.RustNames.bit_and, Prelude.{[], ◌++◌, ◌+◌, ◌==◌, ◌∷◌, ◌≡◌, ◌≤◌, Bool, OnOk, length, map}};
+ghost use Rattle.std.specs.Prelude.{vec_capacity, vec_len};
 ghost use Rattle.base.specs.Rights.{letter_of, rights_word};
 ghost use Rattle.machine.specs.declared.call.Call.TheVariants as calls;
-ghost use Rattle.machine.specs.Spelling.{answer_words, call_words, data_words, four_words, message_words};
-ghost use Rattle.machine.specs.Spelling.{optional_slot_words, optional_word, outcome_words, slot_address_words};
-ghost use Rattle.machine.specs.Step.{takes_memory};
+ghost use Rattle.machine.specs.Spelling.{answer_words, call_words, data_words, four_words, message_words, optional_slot_words};
+ghost use Rattle.machine.specs.{Spelling.{optional_word, outcome_words, slot_address_words}, Step.takes_memory};
 ghost use Rattle.evtext.specs.Written.{written};
 
 use base::Rights;

@@ -1,9 +1,7 @@
 -- The edge that a denial asks a policy for (confine's own; edges and what they say are those of 'seL4 Enforces Integrity',
 -- section 3).
-use Rattle.std.specs.Prelude.{ℕ, Option, Some, None}
-use Rattle.base.specs.declared.edge.Edge.{Edge}
-use Rattle.base.specs.declared.kind.Kind.{Kind}
-use Rattle.base.specs.declared.kind.Kind.TheVariants.{Space, Derive, Runs, Holds}
+use Rattle.std.specs.Prelude.{ℕ, None, Option, Some}
+use Rattle.base.specs.declared.{edge.Edge.Edge, kind.Kind.{Kind, TheVariants.{Derive, Holds, Runs, Space}}}
 use Rattle.machine.specs.Layout.{Layout, declared_label}
 use Rattle.policy.specs.declared.broken.Broken.{Broken}
 use Rattle.policy.specs.declared.broken.Broken.TheVariants as broken

@@ -1,10 +1,9 @@
-ghost use Rattle.std.specs.Prelude.{◌≡◌, false, Some};
+ghost use Rattle.std.specs.Prelude.{◌≡◌, Some, false};
 ghost use Rattle.base.specs.declared.edge.Edge.{Edge as EdgeOf};
-ghost use Rattle.explain.specs.Asked.{edge_asked, edge_by_rule, joined};
 ghost use Rattle.machine.specs.Layout.{Layout};
 ghost use Rattle.policy.specs.Domain.{EdgeTest};
-ghost use Rattle.verdict.specs.Verdict.{IsLeastBroken};
-ghost use Rattle.verdict.specs.declared.denial.Denial.{Denial as DenialOf};
+ghost use Rattle.verdict.specs.{declared.denial.Denial.Denial as DenialOf, Verdict.IsLeastBroken};
+ghost use Rattle.explain.specs.Asked.{edge_asked, edge_by_rule, joined};
 
 use base::{Edge, Kind, Label};
 use labels::declared_label;

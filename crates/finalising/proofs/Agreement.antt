@@ -1,28 +1,17 @@
 -- Queues, replies and contexts stay linked at both ends where threads are halted, aborted and unbound.
-use Rattle.std.proofs.Common.{◌≡◌, ◌≢◌, ℕ, Bool, true, false, not, cond, ◌||◌, List, refl, sym, ap, subst, ◌∙◌}
-use Rattle.std.specs.Prelude.{Option, Some, None, AllPairs, Contains, option_map}
-use Rattle.std.proofs.lemmas.Bool.{false≢true}
-use Rattle.std.proofs.lemmas.List.Elements.{All-weaker, All-contains_itself}
-use Rattle.std.proofs.lemmas.List.Kept.{AllPairs-filter}
-use Rattle.std.proofs.lemmas.Option.{none-some, same_Some}
+use Rattle.std.{specs.Prelude.{AllPairs, Contains, None, Option, Some, option_map}, proofs.Common.{ℕ, ◌||◌, ◌∙◌, ◌≡◌, ◌≢◌, Bool, List, ap}}
+use Rattle.std.proofs.{Common.{cond, false, not, refl, subst, sym, true}, lemmas.{Bool.false≢true, List.Elements.All-contains_itself}}
+use Rattle.std.proofs.lemmas.{List.{Elements.All-weaker, Kept.AllPairs-filter}, Option.{none-some, same_Some}}
 use Rattle.base.specs.declared.ids.ObjId.{ObjId}
-use Rattle.machine.specs.declared.object.Context.{Context}
-use Rattle.machine.specs.declared.object.Object.{Object}
-use Rattle.machine.specs.declared.object.Object.TheVariants as o
-use Rattle.machine.specs.declared.object.ReplyState.{ReplyState}
+use Rattle.machine.specs.declared.{object.{Context.Context, Object.{Object, Object as o}, ReplyState.ReplyState}, thread.RunState.RunState}
 use Rattle.machine.specs.declared.object.ReplyState.TheVariants as reply
-use Rattle.machine.specs.declared.thread.RunState.{RunState}
 use Rattle.machine.specs.declared.thread.RunState.TheVariants as state
-use Rattle.machine.specs.declared.thread.Tcb.{Tcb}
-use Rattle.machine.specs.Finalising.{IsHolding, link_after}
-use Rattle.machine.specs.Machine.{Machine, object_of, queue_of}
-use Rattle.machine.specs.Objects.{kind_of_object}
+use Rattle.machine.specs.{declared.thread.Tcb.Tcb, Finalising.{IsHolding, link_after}, Machine.{Machine, object_of, queue_of}}
+use Rattle.machine.specs.{Objects.kind_of_object, Releasing.{reply_by, with_aborted, with_halted, with_unbound}}
 use Rattle.machine.specs.WellFormed.{IsCallingThrough, IsReceivingWith, IsSending, IsThread, LinksAgree, WaitsAt, WaitsAtKind, kind_of}
-use Rattle.finalising.specs.Reached.{IsReached, Reach, and_aborted, and_halted, and_unbound, has_left, nobody, object_by, queue_by, state_by}
-use Rattle.machine.specs.Releasing.{reply_by, with_aborted, with_halted, with_unbound}
-use Rattle.machine.proofs.Filters.{filter_all}
-use Rattle.machine.proofs.Leaving.{rest_itself}
-use Rattle.finalising.proofs.Linked.{holder_was, in_its_queue, member_was, tcb_now, thread_now, thread_was}
+use Rattle.machine.proofs.{Filters.filter_all, Leaving.rest_itself}
+use Rattle.finalising.specs.Reached.{IsReached, Reach, and_aborted, and_halted, and_unbound, has_left, nobody, object_by, queue_by}
+use Rattle.finalising.{specs.Reached.state_by, proofs.Linked.{holder_was, in_its_queue, member_was, tcb_now, thread_now, thread_was}}
 use Rattle.finalising.proofs.Releases.{aborted_step, halted_step, unbound_step}
 
 module _ (old now : Machine) (reach : Reach) (reached : IsReached old reach now) (links : LinksAgree old) where

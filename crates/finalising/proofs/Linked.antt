@@ -1,27 +1,15 @@
 -- The links of a thread of a machine whose links agree still agree at both ends where some of the machine's threads were halted,
 -- aborted or unbound.
-use Rattle.std.proofs.Common.{◌≡◌, Bool, true, false, not, cond, ◌||◌, List, refl, sym, ap, subst, ◌∙◌}
-use Rattle.std.specs.Prelude.{Option, Some, None, Contains, option_map}
-use Rattle.std.proofs.lemmas.Bool.{false≢true}
-use Rattle.std.proofs.lemmas.List.Elements.{All-contains, filter_passes}
+use Rattle.std.{specs.Prelude.{Contains, None, Option, Some, option_map}, proofs.Common.{◌||◌, ◌∙◌, ◌≡◌, Bool, List, ap, cond, false, not}}
+use Rattle.std.proofs.{Common.{refl, subst, sym, true}, lemmas.{Bool.false≢true, List.Elements.{All-contains, filter_passes}}}
 use Rattle.std.proofs.lemmas.Option.{none-some, same_Some}
 use Rattle.base.specs.declared.ids.ObjId.{ObjId}
-use Rattle.machine.specs.declared.object.Object.{Object}
-use Rattle.machine.specs.declared.object.Object.TheVariants as o
-use Rattle.machine.specs.declared.object.Reply.{Reply}
-use Rattle.machine.specs.declared.object.ReplyState.{ReplyState}
+use Rattle.machine.specs.declared.{object.{Object.{Object, Object as o}, Reply.Reply, ReplyState.ReplyState}, thread.RunState.RunState}
 use Rattle.machine.specs.declared.object.ReplyState.TheVariants as reply
-use Rattle.machine.specs.declared.thread.RunState.{RunState}
 use Rattle.machine.specs.declared.thread.RunState.TheVariants as state
-use Rattle.machine.specs.declared.thread.Tcb.{Tcb}
-use Rattle.machine.specs.Finalising.{IsHolding}
-use Rattle.machine.specs.Machine.{Machine, object_of, queue_of}
-use Rattle.machine.specs.WellFormed.{IsThread, LinksAgree, WaitsAt}
-use Rattle.machine.proofs.HeldThreads.{links_of}
-use Rattle.machine.proofs.Leaving.{HasLinks, Names}
-use Rattle.machine.proofs.RemovalLinks.{in_whole, into_part}
-use Rattle.machine.proofs.RoundLemmas.{not_passes}
-use Rattle.machine.specs.Releasing.{IsInItsQueue, reply_by}
+use Rattle.machine.specs.{declared.thread.Tcb.Tcb, Finalising.IsHolding, Machine.{Machine, object_of, queue_of}, Releasing.IsInItsQueue}
+use Rattle.machine.{specs.{Releasing.reply_by, WellFormed.{IsThread, LinksAgree, WaitsAt}}, proofs.{HeldThreads.links_of, Leaving.HasLinks}}
+use Rattle.machine.proofs.{Leaving.Names, RemovalLinks.{in_whole, into_part}, RoundLemmas.not_passes}
 use Rattle.finalising.specs.Reached.{IsReached, Reach, has_left, object_by, queue_by, state_by, tcb_by}
 
 module _ (old now : Machine) (reach : Reach) (reached : IsReached old reach now) where

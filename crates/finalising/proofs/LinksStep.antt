@@ -1,28 +1,14 @@
 -- Where one more object of any kind loses its links, the threads that are reached are those of the set with it.
-use Rattle.std.proofs.Common.{◌≡◌, ◌≢◌, Bool, true, false, ◌||◌, refl, sym, ap, subst, ◌∙◌}
-use Rattle.std.specs.Prelude.{Option, Some, None, option_map}
-use Rattle.std.proofs.lemmas.Option.{none-some, same_Some}
+use Rattle.std.{specs.Prelude.{None, Option, Some, option_map}, proofs.Common.{◌||◌, ◌∙◌, ◌≡◌, ◌≢◌, Bool, ap, false, refl, subst, sym}}
+use Rattle.std.proofs.{Common.true, lemmas.Option.{none-some, same_Some}}
 use Rattle.base.specs.declared.ids.ObjId.{ObjId}
-use Rattle.machine.specs.declared.object.Context.{Context}
-use Rattle.machine.specs.declared.object.Object.{Object}
-use Rattle.machine.specs.declared.object.Object.TheVariants as o
-use Rattle.machine.specs.declared.object.ObjectKind.{ObjectKind}
+use Rattle.machine.specs.declared.object.{Context.Context, Object.{Object, Object as o}, ObjectKind.ObjectKind, Reply.Reply}
 use Rattle.machine.specs.declared.object.ObjectKind.TheVariants as kind
-use Rattle.machine.specs.declared.object.Reply.{Reply}
-use Rattle.machine.specs.declared.thread.RunState.{RunState}
-use Rattle.machine.specs.declared.thread.RunState.TheVariants as state
-use Rattle.machine.specs.declared.thread.Tcb.{Tcb}
-use Rattle.machine.specs.Machine.{Machine, object_of, same_id}
-use Rattle.machine.specs.Objects.{kind_of_object}
-use Rattle.machine.specs.WellFormed.{LinksAgree, WaitsAtKind, kind_of}
+use Rattle.machine.specs.{declared.thread.{RunState.{RunState, RunState as state}, Tcb.Tcb}, Machine.{Machine, object_of, same_id}}
+use Rattle.machine.specs.{Objects.kind_of_object, Releasing.with_holder_halted, WellFormed.{LinksAgree, WaitsAtKind, kind_of}}
 use Rattle.machine.proofs.LookUps.{one_id}
-use Rattle.finalising.specs.Finalised.{with_links_cut}
-use Rattle.machine.specs.Releasing.{with_holder_halted}
-use Rattle.finalising.specs.Reached.{object_by}
-use Rattle.finalising.proofs.Part.{Follows}
-use Rattle.finalising.proofs.PartSteps.{context_step, thread_step, unlinked_step}
-use Rattle.finalising.proofs.Tests.{or_false, plus}
-use Rattle.finalising.proofs.WaitersStep.{waiters_step}
+use Rattle.finalising.{specs.{Finalised.with_links_cut, Reached.object_by}, proofs.{Part.Follows, PartSteps.{context_step, thread_step}}}
+use Rattle.finalising.proofs.{PartSteps.unlinked_step, Tests.{or_false, plus}, WaitersStep.waiters_step}
 
 -- a kind of object at which nobody waits
 abbrev IsUnwaited : ObjectKind → Type 0

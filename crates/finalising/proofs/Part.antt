@@ -1,28 +1,15 @@
 -- Which threads are reached where some objects have lost their links, and that all is finalised where each that goes has.
-use Rattle.std.proofs.Common.{◌≡◌, ℕ, Bool, true, false, not, cond, ◌||◌, ◌&&◌, List, [], ◌∷◌, refl, sym, ap, ◌∙◌}
-use Rattle.std.specs.Prelude.{Option, Some, None, Contains, option_map}
-use Rattle.std.proofs.lemmas.Bool.{false≢true}
-use Rattle.std.proofs.lemmas.List.Elements.{All-weaker, All-contains_itself}
+use Rattle.std.{specs.Prelude.{Contains, None, Option, Some, option_map}, proofs.Common.{[], ℕ, ◌&&◌, ◌||◌, ◌∙◌, ◌∷◌, ◌≡◌, Bool, List, ap}}
+use Rattle.std.proofs.{Common.{cond, false, not, refl, sym, true}, lemmas.{Bool.false≢true, List.Elements.All-contains_itself}}
+use Rattle.std.proofs.lemmas.List.Elements.{All-weaker}
 use Rattle.base.specs.declared.ids.ObjId.{ObjId}
-use Rattle.machine.specs.declared.object.Context.{Context}
-use Rattle.machine.specs.declared.object.Object.{Object}
-use Rattle.machine.specs.declared.object.Object.TheVariants as o
-use Rattle.machine.specs.declared.object.ReplyState.{ReplyState}
-use Rattle.machine.specs.declared.object.ReplyState.TheVariants as reply
-use Rattle.machine.specs.declared.thread.Tcb.{Tcb}
-use Rattle.machine.specs.Changes.{first_waiting}
-use Rattle.machine.specs.Finalising.{aborted, finalised, halted, is_aborted, is_halted, is_released, leads_nowhere, leaves, link_after}
-use Rattle.machine.specs.Finalising.{reply_after, staying_in, tcb_after, unbound}
-use Rattle.machine.specs.Machine.{Machine, object_of, queue_of}
-use Rattle.machine.specs.Objects.{slot_count}
-use Rattle.machine.specs.Releasing.{reply_by}
-use Rattle.machine.specs.WellFormed.{IsThread, LinksAgree}
-use Rattle.machine.proofs.Queues.{first_in}
-use Rattle.machine.proofs.RemovalTable.{waits_aborted}
+use Rattle.machine.specs.declared.object.{Context.Context, Object.{Object, Object as o}, ReplyState.{ReplyState, ReplyState as reply}}
+use Rattle.machine.specs.{declared.thread.Tcb.Tcb, Changes.first_waiting, Finalising.{aborted, finalised, halted, is_aborted, is_halted}}
+use Rattle.machine.specs.Finalising.{is_released, leads_nowhere, leaves, link_after, reply_after, staying_in, tcb_after, unbound}
+use Rattle.machine.specs.{Machine.{Machine, object_of, queue_of}, Objects.slot_count, Releasing.reply_by, WellFormed.{IsThread, LinksAgree}}
+use Rattle.machine.proofs.{Filters.filter_same, Queues.first_in, RemovalTable.waits_aborted}
 use Rattle.objects.specs.Waiting.{WaitsNowhere}
-use Rattle.finalising.specs.Pass.{IsFinalised}
-use Rattle.finalising.specs.Reached.{IsReached, Reach, has_left, object_by, queue_by, tcb_by}
-use Rattle.machine.proofs.Filters.{filter_same}
+use Rattle.finalising.specs.{Pass.IsFinalised, Reached.{IsReached, Reach, has_left, object_by, queue_by, tcb_by}}
 use Rattle.finalising.proofs.Linked.{member_was}
 
 -- which threads are reached where the objects of a set have lost their links: of those outside the set it is exact; those in the set

@@ -1,34 +1,15 @@
 -- Where one more object has lost its links, the threads that are reached are those of the set with it.
-use Rattle.std.proofs.Common.{◌≡◌, ◌≢◌, Bool, true, false, not, cond, ◌||◌, ◌&&◌, refl, sym, ap, subst, ◌∙◌}
-use Rattle.std.specs.Prelude.{Option, Some, None, option_map}
-use Rattle.std.proofs.lemmas.Bool.{false≢true}
-use Rattle.std.proofs.lemmas.Option.{none-some, same_Some}
+use Rattle.std.{specs.Prelude.{None, Option, Some, option_map}, proofs.Common.{◌&&◌, ◌||◌, ◌∙◌, ◌≡◌, ◌≢◌, Bool, ap, cond, false, not, refl}}
+use Rattle.std.proofs.{Common.{subst, sym, true}, lemmas.{Bool.false≢true, Option.{none-some, same_Some}}}
 use Rattle.base.specs.declared.ids.ObjId.{ObjId}
-use Rattle.machine.specs.declared.object.Context.{Context}
-use Rattle.machine.specs.declared.object.Object.TheVariants as o
-use Rattle.machine.specs.declared.object.ObjectKind.{ObjectKind}
-use Rattle.machine.specs.declared.object.ObjectKind.TheVariants as kind
-use Rattle.machine.specs.declared.object.Reply.{Reply}
-use Rattle.machine.specs.declared.thread.RunState.{RunState}
-use Rattle.machine.specs.declared.thread.RunState.TheVariants as state
-use Rattle.machine.specs.declared.thread.Tcb.{Tcb}
-use Rattle.machine.specs.Finalising.{is_aborted, is_halted, leads_nowhere, link_after}
-use Rattle.machine.specs.Machine.{Machine, object_of, same_id}
-use Rattle.machine.specs.WellFormed.{IsThread, LinksAgree, WaitsAtKind, kind_of}
-use Rattle.machine.specs.Objects.{kind_of_object}
-use Rattle.machine.proofs.Ids.{itself}
-use Rattle.machine.proofs.LookUps.{one_id}
-use Rattle.machine.proofs.RemovalTable.{one_thread}
-use Rattle.machine.proofs.RoundLemmas.{or_second}
-use Rattle.finalising.specs.Finalised.{with_link_cut}
-use Rattle.finalising.specs.Reached.{Reach, and_halted, and_unbound}
-use Rattle.machine.specs.Releasing.{with_halted, with_unbound}
-use Rattle.finalising.proofs.Agreement.{link_was}
-use Rattle.machine.proofs.Leaving.{apart_ids}
-use Rattle.finalising.proofs.Part.{Follows, IsPart}
-use Rattle.finalising.proofs.Releases.{halted_step, unbound_step}
-use Rattle.finalising.proofs.Tests.{alone, both_aborted, both_halted, both_links, is_link, link_is, neither}
-use Rattle.finalising.proofs.Tests.{no_context, no_queue, no_reply, or_false, plus, refuted}
+use Rattle.machine.specs.declared.object.{Context.Context, Object.Object as o, ObjectKind.{ObjectKind, ObjectKind as kind}, Reply.Reply}
+use Rattle.machine.specs.{declared.thread.{RunState.{RunState, RunState as state}, Tcb.Tcb}, Finalising.{is_aborted, is_halted}}
+use Rattle.machine.specs.{Finalising.{leads_nowhere, link_after}, Machine.{Machine, object_of, same_id}, Objects.kind_of_object}
+use Rattle.machine.specs.{Releasing.{with_halted, with_unbound}, WellFormed.{IsThread, LinksAgree, WaitsAtKind, kind_of}}
+use Rattle.machine.proofs.{Ids.itself, Leaving.apart_ids, LookUps.one_id, RemovalTable.one_thread, RoundLemmas.or_second}
+use Rattle.finalising.{specs.{Finalised.with_link_cut, Reached.{Reach, and_halted, and_unbound}}, proofs.{Agreement.link_was, Part.Follows}}
+use Rattle.finalising.proofs.{Part.IsPart, Releases.{halted_step, unbound_step}, Tests.{alone, both_aborted, both_halted, both_links}}
+use Rattle.finalising.proofs.Tests.{is_link, link_is, neither, no_context, no_queue, no_reply, or_false, plus, refuted}
 
 module _ (old : Machine) (links : LinksAgree old) (done : ObjId → Bool) (x : ObjId) where
   -- who is reached by one more object that is no reply, or at which nobody waits, or that is no context

@@ -1,33 +1,15 @@
 -- The two rounds of the pass: replies let go of their threads, and then all else loses its links.
-use Rattle.std.proofs.Common.{◌≡◌, ◌≢◌, ℕ, ◌+◌, ◌<◌, Bool, true, false, not, ◌||◌, ◌&&◌, List, [], ◌∷◌, ◌++◌, length, take, get_or, add-one, refl, sym, ap, subst, ◌∙◌}
-use Rattle.std.specs.Prelude.{Option, Some, None, Contains, slice_get}
-use Rattle.std.specs.List.{list_any}
-use Rattle.std.proofs.lemmas.Bool.{false≢true}
-use Rattle.std.proofs.Math.Seq.{take-suc}
-use Rattle.std.proofs.lemmas.List.Elements.{Contains-get_or}
-use Rattle.std.proofs.lemmas.Option.{get_or_from_slice_get, none-some, slice_get-get_or, slice_get_within}
+use Rattle.std.{specs.{List.list_any, Prelude.{Contains, None, Option, Some, slice_get}}, proofs.Common.{[], ℕ, ◌&&◌, ◌++◌, ◌+◌, ◌<◌, ◌||◌}}
+use Rattle.std.proofs.Common.{◌∙◌, ◌∷◌, ◌≡◌, ◌≢◌, Bool, List, add-one, ap, false, get_or, length, not, refl, subst, sym, take, true}
+use Rattle.std.proofs.{Math.Seq.take-suc, lemmas.{Bool.false≢true, List.Elements.Contains-get_or, Option.get_or_from_slice_get}}
+use Rattle.std.proofs.lemmas.Option.{none-some, slice_get-get_or, slice_get_within}
 use Rattle.base.specs.declared.ids.ObjId.{ObjId}
-use Rattle.machine.specs.declared.object.Object.{Object}
-use Rattle.machine.specs.declared.object.Object.TheVariants as o
-use Rattle.machine.specs.declared.object.Reply.{Reply}
-use Rattle.machine.specs.declared.thread.RunState.{RunState}
-use Rattle.machine.specs.declared.thread.RunState.TheVariants as state
-use Rattle.machine.specs.declared.thread.Tcb.{Tcb}
-use Rattle.machine.specs.Finalising.{is_aborted, is_halted, leads_nowhere}
-use Rattle.machine.specs.Machine.{Machine, object_of, same_id}
-use Rattle.machine.specs.WellFormed.{LinksAgree}
-use Rattle.machine.proofs.LookUps.{one_id}
-use Rattle.machine.proofs.RoundLemmas.{or_second}
-use Rattle.finalising.specs.Finalised.{with_links_cut}
-use Rattle.machine.specs.Releasing.{with_holder_halted}
-use Rattle.finalising.specs.Pass.{IsFinalised}
-use Rattle.finalising.specs.Reached.{nobody}
-use Rattle.finalising.proofs.Agreement.{links_reached, reached_nobody}
-use Rattle.finalising.proofs.LinksStep.{links_step, no_holder}
-use Rattle.finalising.proofs.Part.{Follows, finalised_end}
-use Rattle.finalising.proofs.ReplyStep.{reply_step}
-use Rattle.finalising.proofs.WaitersStep.{in_any}
-use Rattle.finalising.proofs.Tests.{and_false, or_false, plus}
+use Rattle.machine.specs.declared.{object.{Object.{Object, Object as o}, Reply.Reply}, thread.RunState.{RunState, RunState as state}}
+use Rattle.machine.specs.{declared.thread.Tcb.Tcb, Finalising.{is_aborted, is_halted, leads_nowhere}, Machine.{Machine, object_of, same_id}}
+use Rattle.machine.{specs.{Releasing.with_holder_halted, WellFormed.LinksAgree}, proofs.{LookUps.one_id, RoundLemmas.or_second}}
+use Rattle.finalising.{specs.{Finalised.with_links_cut, Pass.IsFinalised, Reached.nobody}, proofs.Agreement.{links_reached, reached_nobody}}
+use Rattle.finalising.proofs.{LinksStep.{links_step, no_holder}, Part.{Follows, finalised_end}, ReplyStep.reply_step, Tests.and_false}
+use Rattle.finalising.proofs.{Tests.{or_false, plus}, WaitersStep.in_any}
 
 -- whether an object is in a list
 abbrev pub among : List ObjId → ObjId → Bool

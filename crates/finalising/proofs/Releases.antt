@@ -1,29 +1,16 @@
 -- Where one more thread is halted, aborted or unbound, the machine is told by one more thread that is.
-use Rattle.std.proofs.Common.{◌≡◌, ◌≢◌, ◌⊎◌, inl, inr, Bool, true, false, not, cond, ◌||◌, ◌&&◌, List, refl, sym, ap, subst, ◌∙◌}
-use Rattle.std.specs.Prelude.{Option, Some, None, option_map}
-use Rattle.std.proofs.lemmas.List.Elements.{filter_agree}
-use Rattle.std.proofs.lemmas.Option.{none-some, same_Some}
+use Rattle.std.{specs.Prelude.{None, Option, Some, option_map}, proofs.Common.{◌&&◌, ◌||◌, ◌∙◌, ◌≡◌, ◌≢◌, ◌⊎◌, Bool, List, ap, cond, false}}
+use Rattle.std.proofs.{Common.{inl, inr, not, refl, subst, sym, true}, lemmas.{List.Elements.filter_agree, Option.{none-some, same_Some}}}
 use Rattle.base.specs.declared.ids.ObjId.{ObjId}
-use Rattle.machine.specs.declared.object.Context.{Context}
-use Rattle.machine.specs.declared.object.Object.{Object}
-use Rattle.machine.specs.declared.object.Object.TheVariants as o
-use Rattle.machine.specs.declared.object.ReplyState.{ReplyState}
-use Rattle.machine.specs.declared.object.ReplyState.TheVariants as reply
-use Rattle.machine.specs.declared.thread.Tcb.{Tcb}
-use Rattle.machine.specs.Changes.{with_context, with_tcb}
-use Rattle.machine.specs.Finalising.{aborted, halted, link_after}
-use Rattle.machine.specs.Machine.{Machine, object_of, queue_of, same_id, with_object}
-use Rattle.machine.specs.WellFormed.{IsThread, LinksAgree}
-use Rattle.machine.proofs.Ids.{at_other, itself, one_or_two}
-use Rattle.machine.proofs.LookUps.{object_of-with_object, one_id, queue_of-with_object}
-use Rattle.machine.proofs.RemovalTable.{one_thread}
+use Rattle.machine.specs.declared.object.{Context.Context, Object.{Object, Object as o}, ReplyState.{ReplyState, ReplyState as reply}}
+use Rattle.machine.specs.{declared.thread.Tcb.Tcb, Changes.{with_context, with_tcb}, Finalising.{aborted, halted, link_after}}
+use Rattle.machine.specs.{Machine.{Machine, object_of, queue_of, same_id, with_object}, Releasing.{reply_by, unblocked, with_aborted}}
+use Rattle.machine.specs.{Releasing.{with_halted, with_idle_context, with_unbound}, WellFormed.{IsThread, LinksAgree}}
+use Rattle.machine.proofs.{Filters.filter_twice, Ids.{at_other, itself, one_or_two}, Leaving.{HasLinks, aborted_is, apart_ids, freed}}
+use Rattle.machine.proofs.Leaving.{halted_is, released_objects, released_queues, released_rest, rest-with_object, rest_along, tcb_is}
+use Rattle.machine.proofs.{Leaving.without, LookUps.{object_of-with_object, one_id, queue_of-with_object}, RemovalTable.one_thread}
 use Rattle.machine.proofs.RoundLemmas.{or_second}
-use Rattle.finalising.specs.Reached.{IsReached, Reach, and_aborted, and_halted, and_unbound, has_left, object_by, queue_by}
-use Rattle.finalising.specs.Reached.{tcb_by}
-use Rattle.machine.specs.Releasing.{reply_by, unblocked, with_aborted, with_halted, with_idle_context, with_unbound}
-use Rattle.machine.proofs.Filters.{filter_twice}
-use Rattle.machine.proofs.Leaving.{HasLinks, aborted_is, apart_ids, freed, halted_is, released_objects, released_queues, released_rest}
-use Rattle.machine.proofs.Leaving.{rest-with_object, rest_along, tcb_is, without}
+use Rattle.finalising.specs.Reached.{IsReached, Reach, and_aborted, and_halted, and_unbound, has_left, object_by, queue_by, tcb_by}
 use Rattle.finalising.proofs.Linked.{links_now, tcb_now, thread_now}
 
 -- tests of who left

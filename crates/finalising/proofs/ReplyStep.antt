@@ -1,35 +1,17 @@
 -- Where one more reply lets go of its thread, the threads that are reached are those of the set with it.
-use Rattle.std.proofs.Common.{◌≡◌, ℕ, Bool, true, false, not, ◌||◌, ◌&&◌, refl, sym, ap, subst, ◌∙◌}
-use Rattle.std.specs.Prelude.{Some, option_map}
-use Rattle.std.proofs.lemmas.Bool.{false≢true}
-use Rattle.std.proofs.lemmas.Option.{same_Some}
+use Rattle.std.{specs.Prelude.{Some, option_map}, proofs.Common.{ℕ, ◌&&◌, ◌||◌, ◌∙◌, ◌≡◌, Bool, ap, false, not, refl, subst, sym, true}}
+use Rattle.std.proofs.lemmas.{Bool.false≢true, Option.same_Some}
 use Rattle.base.specs.declared.ids.ObjId.{ObjId}
-use Rattle.machine.specs.declared.object.Object.TheVariants as o
-use Rattle.machine.specs.declared.object.ObjectKind.{ObjectKind}
-use Rattle.machine.specs.declared.object.ObjectKind.TheVariants as kind
-use Rattle.machine.specs.declared.object.Reply.{Reply}
-use Rattle.machine.specs.declared.object.ReplyState.{ReplyState}
+use Rattle.machine.specs.declared.object.{Object.Object as o, ObjectKind.{ObjectKind, ObjectKind as kind}, Reply.Reply}
+use Rattle.machine.specs.{declared.{object.ReplyState.ReplyState, thread.{RunState.RunState, Tcb.Tcb}}, Finalising.{IsHolding, is_aborted}}
 use Rattle.machine.specs.declared.object.ReplyState.TheVariants as reply
-use Rattle.machine.specs.declared.thread.RunState.{RunState}
 use Rattle.machine.specs.declared.thread.RunState.TheVariants as state
-use Rattle.machine.specs.declared.thread.Tcb.{Tcb}
-use Rattle.machine.specs.Finalising.{IsHolding, is_aborted, is_halted}
-use Rattle.machine.specs.Machine.{Machine, object_of, same_id}
-use Rattle.machine.specs.Objects.{kind_of_object}
-use Rattle.machine.specs.WellFormed.{IsThread, LinksAgree, WaitsAtKind, kind_of}
-use Rattle.machine.proofs.Ids.{itself}
-use Rattle.machine.proofs.RemovalTable.{one_thread}
-use Rattle.machine.proofs.RoundLemmas.{or_second}
-use Rattle.finalising.specs.Reached.{Reach, and_halted, has_left, object_by}
-use Rattle.machine.specs.Releasing.{reply_by, with_halted, with_holder_halted}
-use Rattle.machine.proofs.Leaving.{Names, apart_ids}
-use Rattle.machine.proofs.HeldThreads.{links_of}
-use Rattle.finalising.proofs.Linked.{holder_now, holder_was}
-use Rattle.finalising.proofs.Part.{Follows, IsPart}
-use Rattle.finalising.proofs.PartSteps.{NoContext, NoThread, part_added, plain_aborted, plain_bound}
-use Rattle.finalising.proofs.Releases.{halted_step}
-use Rattle.finalising.proofs.Tests.{alone, and_false, both_halted, it_is_named, names_it}
-use Rattle.finalising.proofs.Tests.{or_false, plus, refuted, waited_kind, waits_in}
+use Rattle.machine.specs.{Finalising.is_halted, Machine.{Machine, object_of, same_id}, Objects.kind_of_object, Releasing.reply_by}
+use Rattle.machine.specs.{Releasing.{with_halted, with_holder_halted}, WellFormed.{IsThread, LinksAgree, WaitsAtKind, kind_of}}
+use Rattle.machine.proofs.{HeldThreads.links_of, Ids.itself, Leaving.{Names, apart_ids}, RemovalTable.one_thread, RoundLemmas.or_second}
+use Rattle.finalising.{specs.Reached.{Reach, and_halted, has_left, object_by}, proofs.{Linked.{holder_now, holder_was}, Part.Follows}}
+use Rattle.finalising.proofs.{Part.IsPart, PartSteps.{NoContext, NoThread, part_added, plain_aborted, plain_bound}, Releases.halted_step}
+use Rattle.finalising.proofs.Tests.{alone, and_false, both_halted, it_is_named, names_it, or_false, plus, refuted, waited_kind, waits_in}
 
 holder_none :
     (m : Machine) (x : ObjId) (address : ℕ) → object_of m x ≡ Some (o.Reply (record { address = address; state = reply.Free }))

@@ -1,23 +1,12 @@
 -- What one more object in a set adds to the tests of who is reached.
-use Rattle.std.proofs.Common.{◌≡◌, ◌≢◌, Bool, true, false, ◌||◌, ◌&&◌, refl, sym, ap, subst, ◌∙◌}
-use Rattle.std.specs.Prelude.{Option, Some, None}
+use Rattle.std.{specs.Prelude.{None, Option, Some}, proofs.Common.{◌&&◌, ◌||◌, ◌∙◌, ◌≡◌, ◌≢◌, Bool, ap, false, refl, subst, sym, true}}
 use Rattle.std.proofs.lemmas.Bool.{false≢true}
 use Rattle.base.specs.declared.ids.ObjId.{ObjId}
-use Rattle.machine.specs.declared.object.Context.{Context}
-use Rattle.machine.specs.declared.object.Object.TheVariants as o
-use Rattle.machine.specs.declared.object.ObjectKind.{ObjectKind}
-use Rattle.machine.specs.declared.object.Reply.{Reply}
-use Rattle.machine.specs.declared.thread.RunState.{RunState}
-use Rattle.machine.specs.declared.thread.RunState.TheVariants as state
-use Rattle.machine.specs.declared.thread.Tcb.{Tcb}
-use Rattle.machine.specs.Finalising.{is_aborted, is_halted, leads_nowhere}
-use Rattle.machine.specs.Machine.{Machine, object_of, same_id}
-use Rattle.machine.specs.WellFormed.{IsThread, LinksAgree, WaitsAt, WaitsAtKind, kind_of}
-use Rattle.machine.proofs.Ids.{itself}
-use Rattle.machine.proofs.LookUps.{one_id}
+use Rattle.machine.specs.declared.object.{Context.Context, Object.Object as o, ObjectKind.ObjectKind, Reply.Reply}
+use Rattle.machine.specs.{declared.thread.{RunState.{RunState, RunState as state}, Tcb.Tcb}, Finalising.{is_aborted, is_halted}}
+use Rattle.machine.specs.{Finalising.leads_nowhere, Machine.{Machine, object_of, same_id}, WellFormed.{IsThread, LinksAgree, WaitsAt}}
+use Rattle.machine.{specs.WellFormed.{WaitsAtKind, kind_of}, proofs.{HeldThreads.links_of, Ids.itself, Leaving.Names, LookUps.one_id}}
 use Rattle.machine.proofs.RemovalTable.{one_thread}
-use Rattle.machine.proofs.Leaving.{Names}
-use Rattle.machine.proofs.HeldThreads.{links_of}
 
 -- one object alone, and a set with one more
 abbrev pub alone : ObjId → ObjId → Bool

@@ -1,19 +1,11 @@
 -- Where the first that waits is aborted, the others are left to be.
-use Rattle.std.proofs.Common.{◌≡◌, ◌<◌, List, [], ◌∷◌, length, refl, sym, ap, ◌∙◌, arith}
-use Rattle.std.specs.Prelude.{Option, Some, None, option_map}
-use Rattle.std.specs.List.{fold}
+use Rattle.std.{specs.{List.fold, Prelude.{None, Option, Some, option_map}}, proofs.Common.{[], ◌<◌, ◌∙◌, ◌∷◌, ◌≡◌, List, ap, arith}}
+use Rattle.std.proofs.Common.{length, refl, sym}
 use Rattle.base.specs.declared.ids.ObjId.{ObjId}
-use Rattle.machine.specs.declared.thread.Tcb.{Tcb}
-use Rattle.machine.specs.Changes.{first_waiting}
-use Rattle.machine.specs.Finalising.{aborted}
-use Rattle.machine.specs.Machine.{Machine, queue_of}
-use Rattle.machine.specs.WellFormed.{IsThread, LinksAgree}
-use Rattle.machine.proofs.Queues.{first_in, once_first, queue_by_first}
-use Rattle.finalising.specs.Finalised.{members, with_waiters_aborted}
-use Rattle.machine.specs.Releasing.{with_aborted}
-use Rattle.finalising.proofs.Agreement.{links_aborted}
-use Rattle.machine.proofs.Leaving.{aborted_is, released_queues, without, without_itself}
-use Rattle.machine.proofs.HeldThreads.{links_of}
+use Rattle.machine.specs.{declared.thread.Tcb.Tcb, Changes.first_waiting, Finalising.aborted, Machine.{Machine, queue_of}}
+use Rattle.machine.{specs.{Releasing.with_aborted, WellFormed.{IsThread, LinksAgree}}, proofs.{HeldThreads.links_of, Leaving.aborted_is}}
+use Rattle.machine.proofs.{Leaving.{released_queues, without, without_itself}, Queues.{first_in, once_first, queue_by_first}}
+use Rattle.finalising.{specs.Finalised.{members, with_waiters_aborted}, proofs.Agreement.links_aborted}
 
 pub record FirstAborted (m : Machine) (id first : ObjId) : Type 0 where
   pub agreed : LinksAgree (with_aborted m first)

@@ -1,28 +1,15 @@
 -- Where all that wait at one more object are aborted, the threads that are reached are those of the set with it.
-use Rattle.std.proofs.Common.{◌≡◌, Bool, true, false, not, ◌||◌, ◌&&◌, List, [], ◌∷◌, refl, sym, ap, subst, ◌∙◌}
-use Rattle.std.specs.Prelude.{Option, Some, None, All, Contains}
-use Rattle.std.specs.List.{fold, list_any}
-use Rattle.std.proofs.lemmas.Bool.{false≢true}
-use Rattle.std.proofs.lemmas.List.Elements.{All-cons, All-contains, All-nil, All-weaker}
+use Rattle.std.{specs.{List.{fold, list_any}, Prelude.{All, Contains, None, Option, Some}}, proofs.Common.{[], ◌&&◌, ◌||◌, ◌∙◌, ◌∷◌, ◌≡◌}}
+use Rattle.std.proofs.{Common.{Bool, List, ap, false, not, refl, subst, sym, true}, lemmas.{Bool.false≢true, List.Elements.All-cons}}
+use Rattle.std.proofs.lemmas.List.Elements.{All-contains, All-nil, All-weaker}
 use Rattle.base.specs.declared.ids.ObjId.{ObjId}
-use Rattle.machine.specs.declared.thread.Tcb.{Tcb}
-use Rattle.machine.specs.Finalising.{is_aborted, is_halted}
-use Rattle.machine.specs.Machine.{Machine, queue_of, same_id}
-use Rattle.machine.specs.WellFormed.{IsThread, LinksAgree, WaitsAt}
-use Rattle.machine.proofs.Ids.{itself}
-use Rattle.machine.proofs.LookUps.{one_id}
-use Rattle.machine.proofs.Queues.{first_in, other_in}
-use Rattle.machine.proofs.RemovalTable.{one_thread, waits_aborted}
-use Rattle.machine.proofs.RoundLemmas.{or_second}
-use Rattle.finalising.specs.Finalised.{members, with_waiters_aborted}
-use Rattle.finalising.specs.Reached.{IsReached, Reach, and_aborted, has_left}
-use Rattle.machine.specs.Releasing.{with_aborted}
-use Rattle.finalising.proofs.Linked.{member_now, member_was}
-use Rattle.finalising.proofs.Part.{Follows}
-use Rattle.finalising.proofs.PartSteps.{NoContext, NoReply, NoThread, part_added, plain_bound, plain_halted}
-use Rattle.finalising.proofs.Releases.{aborted_step}
-use Rattle.finalising.proofs.Tests.{alone, both_aborted, neither}
-use Rattle.finalising.proofs.Tests.{or_false, plus, waits_there}
+use Rattle.machine.specs.{declared.thread.Tcb.Tcb, Finalising.{is_aborted, is_halted}, Machine.{Machine, queue_of, same_id}}
+use Rattle.machine.{specs.{Releasing.with_aborted, WellFormed.{IsThread, LinksAgree, WaitsAt}}, proofs.{Ids.itself, LookUps.one_id}}
+use Rattle.machine.proofs.{Queues.{first_in, other_in}, RemovalTable.{one_thread, waits_aborted}, RoundLemmas.or_second}
+use Rattle.finalising.specs.{Finalised.{members, with_waiters_aborted}, Reached.{IsReached, Reach, and_aborted, has_left}}
+use Rattle.finalising.proofs.{Linked.{member_now, member_was}, Part.Follows, PartSteps.{NoContext, NoReply, NoThread, part_added}}
+use Rattle.finalising.proofs.{PartSteps.{plain_bound, plain_halted}, Releases.aborted_step, Tests.{alone, both_aborted, neither, or_false}}
+use Rattle.finalising.proofs.Tests.{plus, waits_there}
 
 -- who is in a list, by a test
 

@@ -1,13 +1,10 @@
 -- What a machine is where some of its objects go and nothing is linked to them any more: who stays is finalised, and who goes is in no
 -- queue, has no one in its own, and can be removed (seL4 manual, "Deletion, Revocation, and Recycling").
-use Rattle.std.specs.Prelude.{◌≡◌, Bool, true, false, None, option_map}
+use Rattle.std.specs.Prelude.{◌≡◌, Bool, None, false, option_map, true}
 use Rattle.base.specs.declared.ids.ObjId.{ObjId}
-use Rattle.machine.specs.Changes.{first_waiting}
-use Rattle.machine.specs.Finalising.{finalised, staying_in}
-use Rattle.machine.specs.Machine.{Machine, object_of, queue_of}
-use Rattle.machine.specs.Objects.{slot_count}
+use Rattle.machine.specs.{Changes.first_waiting, Finalising.{finalised, staying_in}, Machine.{Machine, object_of, queue_of}}
+use Rattle.machine.specs.{Objects.slot_count, Releasing.SameRest}
 use Rattle.objects.specs.Waiting.{WaitsNowhere}
-use Rattle.machine.specs.Releasing.{SameRest}
 
 pub record IsFinalised (old : Machine) (goes : ObjId → Bool) (now : Machine) : Type 0 where
   pub objects : (id : ObjId) → goes id ≡ false → object_of now id ≡ option_map (finalised old goes) (object_of old id)

@@ -1,17 +1,12 @@
 -- What a machine is where some of its threads were halted, some aborted and some unbound from their scheduling contexts, in whatever
 -- order: read off the machine as it was, object by object and queue by queue (seL4 manual, "Threads and Execution", "Endpoints",
 -- "Notifications" and "Scheduling Contexts").
-use Rattle.std.specs.Prelude.{◌≡◌, Bool, false, not, ◌||◌, List, filter, None, option_map, if◌then◌else◌}
+use Rattle.std.specs.Prelude.{◌||◌, ◌≡◌, Bool, List, None, false, filter, if◌then◌else◌, not, option_map}
 use Rattle.base.specs.declared.ids.ObjId.{ObjId}
-use Rattle.machine.specs.declared.object.Object.{Object}
-use Rattle.machine.specs.declared.object.Object.TheVariants as o
+use Rattle.machine.specs.{declared.{object.Object.{Object, Object as o}, thread.{RunState.RunState, Tcb.Tcb}}, Finalising.link_after}
 use Rattle.machine.specs.declared.thread.Inbox.TheVariants as inbox
-use Rattle.machine.specs.declared.thread.RunState.{RunState}
 use Rattle.machine.specs.declared.thread.RunState.TheVariants as state
-use Rattle.machine.specs.declared.thread.Tcb.{Tcb}
-use Rattle.machine.specs.Finalising.{link_after}
-use Rattle.machine.specs.Machine.{Machine, object_of, queue_of, same_id}
-use Rattle.machine.specs.Releasing.{SameRest, reply_by}
+use Rattle.machine.specs.{Machine.{Machine, object_of, queue_of, same_id}, Releasing.{SameRest, reply_by}}
 
 -- which threads were halted, aborted and unbound
 pub record Reach : Type 0 where

@@ -1,6 +1,5 @@
 ghost use Rattle.std.specs.Prelude.{◌≡◌};
-ghost use Rattle.machine.specs.WellFormed.{LinksAgree};
-ghost use Rattle.machine.specs.Releasing.{IsInItsQueue, with_halted, with_unbound};
+ghost use Rattle.machine.specs.{Releasing.{IsInItsQueue, with_halted, with_unbound}, WellFormed.LinksAgree};
 ghost use Rattle.finalising.specs.Finalised.{with_link_cut, with_links_cut, with_waiters_aborted};
 
 use base::ObjId;

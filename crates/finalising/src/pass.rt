@@ -1,7 +1,5 @@
-ghost use Rattle.std.specs.Prelude.{◌≡◌};
-ghost use Rattle.std.specs.List.{list_any};
-ghost use Rattle.machine.specs.Machine.{same_id};
-ghost use Rattle.machine.specs.WellFormed.{LinksAgree};
+ghost use Rattle.std.specs.{List.list_any, Prelude.◌≡◌};
+ghost use Rattle.machine.specs.{Machine.same_id, WellFormed.LinksAgree};
 ghost use Rattle.finalising.specs.Pass.{IsFinalised};
 
 use crate::kinds::cut_links;

@@ -1,6 +1,6 @@
 -- Which seats a kernel may be given (confine's own).
 use Rattle.std.specs.Prelude.{◌≡◌}
-use Rattle.cores.specs.Seats.{Known, Ticket, IsOf}
+use Rattle.cores.specs.Seats.{IsOf, Known, Ticket}
 
 -- a seat with the kernel's number is one of its own
 abbrev pub IsFit : Ticket → Known → Type 0

@@ -1,32 +1,19 @@
 -- The boot state of a table with one object, one capability or one pair more, and which slots a boot state has.
-use Rattle.std.proofs.Common.{◌≡◌, ◌≢◌, ℕ, zero, suc, ◌+◌, ◌<◌, Bool, true, false, cond, List, [], ◌∷◌, ◌++◌, length, get_or, replicate, take, refl, sym, ap, ◌∙◌, arith}
-use Rattle.std.specs.Prelude.{Option, Some, None, is_some, IsSome, option_map, slice_get, IsTrue}
-use Rattle.std.specs.List.{find, AllPairs}
-use Rattle.std.specs.Option.{option_or}
-use Rattle.std.specs.Cmp.{tied_itself}
-use Rattle.std.specs.Ordering.{is_eq}
-use Rattle.std.specs.declared.cmp.Ordering.TheVariants.{Less}
-use Rattle.std.proofs.lemmas.Bool.{false≢true, lt-ltb}
-use Rattle.std.proofs.lemmas.Cmp.{eq_by_cmp_equiv}
-use Rattle.std.proofs.lemmas.List.{length_push, length-take-le, take_more, get_or-take}
-use Rattle.std.proofs.lemmas.List.Folds.{find-append}
-use Rattle.base.specs.declared.ids.ObjId.{ObjId}
-use Rattle.base.specs.declared.ids.SlotRef.{SlotRef}
-use Rattle.machine.specs.declared.cap.Cap.{Cap}
-use Rattle.machine.specs.declared.layout.Filled.{Filled}
-use Rattle.machine.specs.declared.layout.Initial.{Initial}
-use Rattle.machine.specs.declared.layout.Pair.{Pair}
-use Rattle.machine.specs.declared.object.Object.{Object}
-use Rattle.machine.specs.Boot.{IsBoot, bound, booted}
-use Rattle.machine.proofs.Bound.{slot_count-bound}
-use Rattle.machine.specs.Layout.{Layout, initial_of, initial_cap, initial_parent, bound_context, bound_thread}
-use Rattle.machine.specs.Machine.{Machine, same_id, slot_cmp, same_slot, empty_machine, object_of, cap_of, has_slot, with_new, with_cap, with_parent}
-use Rattle.machine.proofs.LookUps.{id_total, one_id, one_slot, slot_total}
-use Rattle.machine.proofs.LookUps.{object_of-empty, queue_of-empty, words_of-empty, cap_of-empty, parent_of-empty}
-use Rattle.machine.proofs.LookUps.{object_of-with_new, queue_of-with_new, words_of-with_new, cap_of-with_new, parent_of-with_new}
-use Rattle.machine.proofs.LookUps.{object_of-with_cap, queue_of-with_cap, words_of-with_cap, cap_of-with_cap, parent_of-with_cap}
-use Rattle.machine.proofs.LookUps.{object_of-with_parent, queue_of-with_parent, words_of-with_parent, cap_of-with_parent, parent_of-with_parent}
-use Rattle.machine.specs.Objects.{slot_count, word_count}
+use Rattle.std.specs.{declared.cmp.Ordering.TheVariants.Less, Cmp.tied_itself, List.{AllPairs, find}, Option.option_or, Ordering.is_eq}
+use Rattle.std.{specs.Prelude.{IsSome, IsTrue, None, Option, Some, is_some, option_map, slice_get}, proofs.Common.{[], ℕ, ◌++◌, ◌+◌, ◌<◌}}
+use Rattle.std.proofs.Common.{◌∙◌, ◌∷◌, ◌≡◌, ◌≢◌, Bool, List, ap, arith, cond, false, get_or, length, refl, replicate, suc, sym, take, true}
+use Rattle.std.proofs.{Common.zero, lemmas.{Bool.{false≢true, lt-ltb}, Cmp.eq_by_cmp_equiv, List.{get_or-take, length-take-le}}}
+use Rattle.std.proofs.lemmas.List.{length_push, take_more, Folds.find-append}
+use Rattle.base.specs.declared.ids.{ObjId.ObjId, SlotRef.SlotRef}
+use Rattle.machine.specs.{declared.{cap.Cap.Cap, layout.{Filled.Filled, Initial.Initial, Pair.Pair}, object.Object.Object}, Boot.IsBoot}
+use Rattle.machine.specs.{Boot.{booted, bound}, Layout.{Layout, bound_context, bound_thread, initial_cap, initial_of, initial_parent}}
+use Rattle.machine.specs.Machine.{Machine, cap_of, empty_machine, has_slot, object_of, same_id, same_slot, slot_cmp, with_cap, with_new}
+use Rattle.machine.{specs.{Machine.with_parent, Objects.{slot_count, word_count}}, proofs.{Bound.slot_count-bound, LookUps.cap_of-empty}}
+use Rattle.machine.proofs.LookUps.{cap_of-with_cap, cap_of-with_new, cap_of-with_parent, id_total, object_of-empty, object_of-with_cap}
+use Rattle.machine.proofs.LookUps.{object_of-with_new, object_of-with_parent, one_id, one_slot, parent_of-empty, parent_of-with_cap}
+use Rattle.machine.proofs.LookUps.{parent_of-with_new, parent_of-with_parent, queue_of-empty, queue_of-with_cap, queue_of-with_new}
+use Rattle.machine.proofs.LookUps.{queue_of-with_parent, slot_total, words_of-empty, words_of-with_cap, words_of-with_new}
+use Rattle.machine.proofs.LookUps.{words_of-with_parent}
 use Rattle.table.specs.Rules.{HasSlot}
 
 -- ids that don't tie differ

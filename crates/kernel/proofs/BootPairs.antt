@@ -1,16 +1,10 @@
 -- The next pair of a table, whose earlier pairs are a state's derivation tree, may come to the tree.
-use Rattle.std.proofs.Common.{◌≡◌, ℕ, zero, suc, ◌+◌, ◌<◌, Bool, true, false, cond, List, [], ◌∷◌, length, get_or, take, refl, sym, ap, ◌∙◌}
-use Rattle.std.specs.Prelude.{Option, Some, None, IsSome, IsTrue, option_map, AllPairs}
-use Rattle.std.specs.List.{find}
-use Rattle.std.proofs.lemmas.Bool.{false≢true}
-use Rattle.std.specs.Ordering.{is_eq}
-use Rattle.std.specs.declared.cmp.Ordering.TheVariants.{Less}
+use Rattle.std.specs.{declared.cmp.Ordering.TheVariants.Less, List.find, Ordering.is_eq, Prelude.{AllPairs, IsSome, IsTrue, None, Option}}
+use Rattle.std.{specs.Prelude.{Some, option_map}, proofs.Common.{[], ℕ, ◌+◌, ◌<◌, ◌∙◌, ◌∷◌, ◌≡◌, Bool, List, ap, cond, false, get_or}}
+use Rattle.std.proofs.{Common.{length, refl, suc, sym, take, true, zero}, lemmas.Bool.false≢true}
 use Rattle.base.specs.declared.ids.SlotRef.{SlotRef}
-use Rattle.machine.specs.declared.cap.Cap.{Cap}
-use Rattle.machine.specs.declared.layout.Pair.{Pair}
-use Rattle.machine.specs.Boot.{IsBoot}
-use Rattle.machine.specs.Layout.{Layout, initial_cap, initial_parent}
-use Rattle.machine.specs.Machine.{Machine, cap_of, has_slot, parent_of, slot_cmp, same_slot, with_parent}
+use Rattle.machine.specs.{declared.{cap.Cap.Cap, layout.Pair.Pair}, Boot.IsBoot, Layout.{Layout, initial_cap, initial_parent}}
+use Rattle.machine.specs.Machine.{Machine, cap_of, has_slot, parent_of, same_slot, slot_cmp, with_parent}
 use Rattle.table.specs.Tree.{IsPairOf}
 use Rattle.kernel.proofs.BootLemmas.{below_next, boot-derived, find-missing}
 

@@ -1,29 +1,15 @@
 -- Which entries are steps; and a log that stops at an entry is no run, since of two steps of an event with one outcome both lead to
 -- one machine.
-use Rattle.std.proofs.Common.{◌≡◌, ◌≢◌, ℕ, zero, suc, Bool, ◌<◌, ◌⊎◌, inl, inr, List, [], ◌∷◌, ◌++◌, Some, None, Result, Ok, Err, refl, sym, ap, subst, ◌∙◌, arith}
-use Rattle.std.specs.Prelude.{Option, is_some, map, not, take, slice_get, length}
-use Rattle.std.specs.List.{All, zip}
-use Rattle.std.proofs.Math.Seq.{take-length}
-use Rattle.std.proofs.lemmas.Bool.{cases_order}
-use Rattle.std.proofs.lemmas.List.{map_push}
-use Rattle.std.proofs.lemmas.Option.{same_Some, slice_get_within}
-use Rattle.base.specs.declared.refusal.Cause.{Cause}
-use Rattle.base.specs.declared.refusal.Refusal.{Refusal}
-use Rattle.base.specs.Refusals.{out_of_memory, refusal_of}
+use Rattle.std.{specs.{List.{All, zip}, Prelude.{Option, is_some, length, map, not, slice_get, take}}, proofs.Common.{[], ℕ, ◌++◌, ◌<◌}}
+use Rattle.std.proofs.Common.{◌∙◌, ◌∷◌, ◌≡◌, ◌≢◌, ◌⊎◌, Bool, Err, List, None, Ok, Result, Some, ap, arith, inl, inr, refl, subst, suc, sym}
+use Rattle.std.proofs.{Common.zero, Math.Seq.take-length, lemmas.{Bool.cases_order, List.map_push, Option.{same_Some, slice_get_within}}}
+use Rattle.base.specs.{declared.refusal.{Cause.Cause, Refusal.Refusal}, Refusals.{out_of_memory, refusal_of}}
 use Rattle.base.proofs.CauseLemmas.{cause_no_memory}
-use Rattle.machine.specs.declared.call.Event.{Event}
-use Rattle.machine.specs.declared.call.Made.{Made}
-use Rattle.machine.specs.declared.call.Outcome.{Outcome}
-use Rattle.machine.specs.declared.call.Outcome.TheVariants.{Refused}
-use Rattle.machine.specs.Machine.{Machine}
-use Rattle.machine.specs.Outcomes.{IsRefused}
-use Rattle.machine.specs.Step.{LacksMemory, Step, made_by, takes_memory}
-use Rattle.machine.specs.Step.Step.{lacks}
-use Rattle.machine.proofs.Steps.{Ended, refused_changes_nothing, refused_steps, runs_end, steps_agree}
+use Rattle.machine.specs.{declared.call.{Event.Event, Made.Made, Outcome.{Outcome, TheVariants.Refused}}, Machine.Machine}
+use Rattle.machine.{specs.{Outcomes.IsRefused, Step.{LacksMemory, Step, made_by, takes_memory, Step.lacks}}, proofs.Steps.Ended}
+use Rattle.machine.proofs.Steps.{refused_changes_nothing, refused_steps, runs_end, steps_agree}
 use Rattle.untyped.specs.Making.{refusal_in}
-use Rattle.kernel.specs.Legal.{Entry, Follows, Leads, StopsAt}
-use Rattle.kernel.specs.Refusals.{lasting_refusal}
-use Rattle.kernel.proofs.RunLemmas.{run_further}
+use Rattle.kernel.{specs.{Legal.{Entry, Follows, Leads, StopsAt}, Refusals.lasting_refusal}, proofs.RunLemmas.run_further}
 
 -- of a call that takes memory, what it is refused in any case is what its row says
 lasting_is : (m : Machine) (event : Event) → takes_memory event.call ≡ Bool.true → lasting_refusal m event ≡ refusal_in (made_by m event)

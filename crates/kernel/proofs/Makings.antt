@@ -1,18 +1,8 @@
 -- What the code of an event came to is a step: it was made, or refused by a condition or for want of memory.
-use Rattle.std.proofs.Common.{◌≡◌, Bool, Result, Ok, Err, refl, sym, ap, subst}
-use Rattle.std.specs.Prelude.{IsOk}
-use Rattle.base.specs.declared.refusal.Cause.{Cause}
-use Rattle.base.specs.Refusals.{refusal_of}
-use Rattle.machine.specs.declared.call.Event.{Event}
-use Rattle.machine.specs.declared.call.Made.{Made}
-use Rattle.machine.specs.declared.call.Outcome.TheVariants.{Refused}
-use Rattle.machine.specs.declared.call.Unmade.{Unmade}
-use Rattle.machine.specs.declared.call.Unmade.TheVariants as unmade
-use Rattle.machine.specs.Machine.{Machine}
-use Rattle.machine.specs.Makes.{MakesWithMemory}
-use Rattle.machine.specs.Outcomes.{unmade_refusal}
-use Rattle.machine.specs.Step.{Step, made_by, takes_memory}
-use Rattle.machine.specs.Step.Step.{lacks}
+use Rattle.std.{specs.Prelude.IsOk, proofs.Common.{◌≡◌, Bool, Err, Ok, Result, ap, refl, subst, sym}}
+use Rattle.base.specs.{declared.refusal.Cause.Cause, Refusals.refusal_of}
+use Rattle.machine.specs.declared.call.{Event.Event, Made.Made, Outcome.TheVariants.Refused, Unmade.{Unmade, Unmade as unmade}}
+use Rattle.machine.specs.{Machine.Machine, Makes.MakesWithMemory, Outcomes.unmade_refusal, Step.{Step, made_by, takes_memory, Step.lacks}}
 use Rattle.machine.proofs.Steps.{refused_steps}
 
 pub refused_by_row :

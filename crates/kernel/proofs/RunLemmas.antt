@@ -1,10 +1,6 @@
 -- A run that goes one step further.
-use Rattle.std.proofs.Common.{List, [], ◌∷◌, ◌++◌, sym, subst, refl}
-use Rattle.machine.specs.declared.call.Event.{Event}
-use Rattle.machine.specs.declared.call.Outcome.{Outcome}
-use Rattle.machine.specs.Machine.{Machine}
-use Rattle.machine.specs.Run.{Run}
-use Rattle.machine.specs.Step.{Step}
+use Rattle.std.proofs.Common.{[], ◌++◌, ◌∷◌, List, refl, subst, sym}
+use Rattle.machine.specs.{declared.call.{Event.Event, Outcome.Outcome}, Machine.Machine, Run.Run, Step.Step}
 
 pub run_further :
     (first : Machine) (events : List Event) (outcomes : List Outcome) (last : Machine) (event : Event) (outcome : Outcome)

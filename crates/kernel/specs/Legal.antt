@@ -1,12 +1,8 @@
 -- Legal logs: their events and outcomes are a run; and where a log stops to be one (confine's own).
-use Rattle.std.specs.Prelude.{◌≡◌, ◌≢◌, ℕ, Bool, List, Some, map, take, slice_get}
+use Rattle.std.specs.Prelude.{ℕ, ◌≡◌, ◌≢◌, Bool, List, Some, map, slice_get, take}
 use Rattle.base.specs.Refusals.{out_of_memory}
-use Rattle.machine.specs.declared.call.Event.{Event}
-use Rattle.machine.specs.declared.call.Outcome.{Outcome}
-use Rattle.machine.specs.declared.call.Outcome.TheVariants.{Refused}
-use Rattle.machine.specs.Machine.{Machine}
-use Rattle.machine.specs.Run.{Run}
-use Rattle.machine.specs.Step.{Step, takes_memory}
+use Rattle.machine.specs.{declared.call.{Event.Event, Outcome.{Outcome, TheVariants.Refused}}, Machine.Machine, Run.Run, Step.Step}
+use Rattle.machine.specs.Step.{takes_memory}
 
 abbrev pub Entry : Type 0
 Entry = Event × Outcome

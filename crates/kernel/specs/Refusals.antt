@@ -1,9 +1,7 @@
 -- What a call that takes memory is refused whatever the memory (confine's own).
-use Rattle.std.specs.Prelude.{Bool, Option, None}
+use Rattle.std.specs.Prelude.{Bool, None, Option}
 use Rattle.base.specs.declared.refusal.Refusal.{Refusal}
-use Rattle.machine.specs.declared.call.Event.{Event}
-use Rattle.machine.specs.Machine.{Machine}
-use Rattle.machine.specs.Step.{made_by, takes_memory}
+use Rattle.machine.specs.{declared.call.Event.Event, Machine.Machine, Step.{made_by, takes_memory}}
 use Rattle.untyped.specs.Making.{refusal_in}
 
 -- of a call that takes no memory nothing is said

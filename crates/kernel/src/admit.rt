@@ -1,6 +1,5 @@
 ghost use Rattle.std.specs.Prelude.{◌≡◌};
-ghost use Rattle.machine.specs.Step.{admitted, thread_in, share_of, running_share};
-ghost use Rattle.machine.specs.Machine.{object_of};
+ghost use Rattle.machine.specs.{Machine.object_of, Step.{admitted, running_share, share_of, thread_in}};
 
 use base::{Cause, CoreNo, ObjId};
 use machine::{Context, Object, RunState, Share, Tcb};

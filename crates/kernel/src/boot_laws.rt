@@ -1,7 +1,5 @@
 ghost use Rattle.std.specs.Prelude.{◌≡◌};
-ghost use Rattle.machine.specs.Boot.{IsBoot};
-ghost use Rattle.machine.specs.Layout.{Layout};
-ghost use Rattle.machine.specs.Machine.{Machine};
+ghost use Rattle.machine.specs.{Boot.IsBoot, Layout.Layout, Machine.Machine};
 
 /// A law: each capability table has one boot state.
 pub fn each_table_has_one_boot_state()

@@ -1,7 +1,6 @@
-ghost use Rattle.std.specs.Prelude.{◌≡◌, IfOk, IfErr};
+ghost use Rattle.std.specs.Prelude.{◌≡◌, IfErr, IfOk};
 ghost use Rattle.base.specs.Refusals.{plain};
-ghost use Rattle.machine.specs.Boot.{IsBoot, IsFresh, bound};
-ghost use Rattle.machine.specs.WellFormed.{IsWellFormed};
+ghost use Rattle.machine.specs.{Boot.{IsBoot, IsFresh, bound}, WellFormed.IsWellFormed};
 ghost use Rattle.table.specs.Rules.{IsLawful};
 ghost use Rattle.kernel.specs.Parts.{objects_alone, without_tree};
 

@@ -1,5 +1,4 @@
-ghost use Rattle.machine.specs.Makes.{Makes};
-ghost use Rattle.machine.specs.Step.Poll.{poll_of};
+ghost use Rattle.machine.specs.{Makes.Makes, Step.Poll.poll_of};
 
 use crate::signal::pending;
 use base::{Cause, ObjId, Rights};

@@ -1,10 +1,8 @@
-ghost use Rattle.std.specs.Prelude.{◌≡◌, ℕ, Bool, List, All, Decides, IfErr, IfOk, MatchOption, take};
+ghost use Rattle.std.specs.Prelude.{ℕ, ◌≡◌, All, Bool, Decides, IfErr, IfOk, List, MatchOption, take};
 ghost use Rattle.base.specs.Refusals.{out_of_memory};
-ghost use Rattle.kernel.specs.Legal.{Entry, Follows, IsLack, LacksMemoryIn, Leads, MayLack, StopsAt};
-ghost use Rattle.machine.specs.Machine.{Machine};
-ghost use Rattle.machine.specs.Step.{MayEnd, takes_memory};
+ghost use Rattle.machine.specs.{declared.call.Outcome.TheVariants.Refused, Machine.Machine, Step.{MayEnd, takes_memory}};
 ghost use Rattle.machine.specs.WellFormed.{IsWellFormed};
-ghost use Rattle.machine.specs.declared.call.Outcome.TheVariants.{Refused};
+ghost use Rattle.kernel.specs.Legal.{Entry, Follows, IsLack, LacksMemoryIn, Leads, MayLack, StopsAt};
 
 use crate::calls::{retype_refusal, step};
 use base::Refusal;

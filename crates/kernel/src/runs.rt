@@ -1,10 +1,7 @@
-ghost use Rattle.std.specs.Prelude.{◌≡◌, ◌+◌, ◌≤◌, ◌++◌, List, All, drop, length, vec_len, vec_capacity, IfErr, IsOk, OnOk, OnErr};
-ghost use Rattle.std.specs.List.{zip};
+ghost use Rattle.std.specs.{List.zip, Prelude.{◌++◌, ◌+◌, ◌≡◌, ◌≤◌, All, IfErr, IsOk, List, OnErr, OnOk, drop, length, vec_capacity}};
+ghost use Rattle.std.specs.Prelude.{vec_len};
 ghost use Rattle.base.specs.Refusals.{plain};
-ghost use Rattle.machine.specs.declared.call.Outcome.{Outcome as Ended};
-ghost use Rattle.machine.specs.Run.{Run};
-ghost use Rattle.machine.specs.Step.{MayEnd};
-ghost use Rattle.machine.specs.WellFormed.{IsWellFormed};
+ghost use Rattle.machine.specs.{declared.call.Outcome.Outcome as Ended, Run.Run, Step.MayEnd, WellFormed.IsWellFormed};
 
 use crate::calls::step;
 use base::Refusal;

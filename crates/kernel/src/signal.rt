@@ -1,7 +1,5 @@
 ghost use Rattle.std.specs.Prelude.{◌≡◌};
-ghost use Rattle.machine.specs.Makes.{Makes};
-ghost use Rattle.machine.specs.Machine.{object_of};
-ghost use Rattle.machine.specs.Step.Signal.{pending_in, signal_of, signalled, woken};
+ghost use Rattle.machine.specs.{Machine.object_of, Makes.Makes, Step.Signal.{pending_in, signal_of, signalled, woken}};
 
 use base::{Cause, ObjId, Rights};
 use bitflags::Flags;

@@ -1,5 +1,4 @@
-ghost use Rattle.machine.specs.Makes.{Makes};
-ghost use Rattle.machine.specs.Step.Wait.{wait_of};
+ghost use Rattle.machine.specs.{Makes.Makes, Step.Wait.wait_of};
 ghost use Rattle.objects.specs.Waiting.{WaitsNowhere};
 
 use crate::signal::pending;

@@ -1,15 +1,10 @@
 -- The labels that the authority of a boot state joins are those of the table.
-use Rattle.std.proofs.Common.{◌≡◌, ℕ, ◌<◌, length, Option, Some, None, option_map, refl, sym, ap, subst, ◌∙◌}
-use Rattle.std.proofs.lemmas.Option.{none-some, same_Some}
-use Rattle.base.specs.declared.ids.ObjId.{ObjId}
-use Rattle.base.specs.declared.kind.Kind.{Kind}
-use Rattle.machine.specs.declared.layout.Initial.{Initial}
-use Rattle.machine.specs.Authority.{HasAuthority, by_cap, by_root, by_pair, by_link, label_of}
-use Rattle.machine.specs.Boot.{IsBoot}
-use Rattle.machine.specs.Layout.{Layout, initial_of, declared_label}
-use Rattle.machine.specs.Machine.{Machine}
-use Rattle.table.specs.Rules.{IsLawful}
-use Rattle.table.proofs.AtBoot.{boot_label, initial_lawful}
+use Rattle.std.proofs.{Common.{ℕ, ◌<◌, ◌∙◌, ◌≡◌, None, Option, Some, ap, length, option_map, refl, subst, sym}, lemmas.Option.none-some}
+use Rattle.std.proofs.lemmas.Option.{same_Some}
+use Rattle.base.specs.declared.{ids.ObjId.ObjId, kind.Kind.Kind}
+use Rattle.machine.specs.{declared.layout.Initial.Initial, Authority.{HasAuthority, by_cap, by_link, by_pair, by_root, label_of}}
+use Rattle.machine.specs.{Boot.IsBoot, Layout.{Layout, declared_label, initial_of}, Machine.Machine}
+use Rattle.table.{specs.Rules.IsLawful, proofs.AtBoot.{boot_label, initial_lawful}}
 
 module _ (t : Layout) (boot : Machine) (lawful : IsLawful t) (booted : IsBoot t boot) where
   -- a label that a table declares is one of its labels

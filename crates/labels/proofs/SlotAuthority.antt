@@ -1,26 +1,16 @@
 -- The edges of a slot of a table are the authority that the slot gives in the table's boot state.
-use Rattle.std.proofs.Common.{◌≡◌, ◌↔◌, ℕ, true, [], flat_map, Option, Some, None, refl, sym, ap, subst, ◌∙◌, inl, inr}
-use mathlib.Core.Bool.{false≢true}
+use Rattle.std.proofs.Common.{[], ℕ, ◌↔◌, ◌∙◌, ◌≡◌, None, Option, Some, ap, flat_map, inl, inr, refl, subst, sym, true}
 use Rattle.std.proofs.lemmas.Bool.{or_cases}
-use Rattle.base.specs.declared.ids.SlotRef.{SlotRef}
-use Rattle.base.specs.declared.kind.Kind.{Kind}
-use Rattle.base.specs.declared.kind.Kind.TheVariants.{Space, Derive}
+use Rattle.base.specs.{declared.{ids.SlotRef.SlotRef, kind.Kind.{Kind, TheVariants.{Derive, Space}}}, Kinds.kind_number}
 use Rattle.base.specs.declared.kind.TheConstants.Kind as Kinds
-use Rattle.base.specs.Kinds.{kind_number}
-use Rattle.machine.specs.declared.cap.Cap.{Cap}
-use Rattle.machine.specs.declared.object.ObjectKind.{ObjectKind}
-use Rattle.machine.specs.declared.object.ObjectKind.TheVariants as object
-use Rattle.machine.specs.Boot.{IsBoot}
-use Rattle.machine.specs.Capabilities.{gives}
-use Rattle.machine.specs.Layout.{Layout, declared_label, initial_cap, initial_parent}
-use Rattle.machine.specs.Machine.{Machine}
-use Rattle.policy.specs.Policy.{allows}
-use Rattle.policy.proofs.KindNumbers.{kind_stands}
-use Rattle.table.specs.Rules.{kind_at}
-use Rattle.table.proofs.AtBoot.{boot_kind, boot_label}
-use Rattle.labels.specs.SlotAuthority.{GivesBySlot, by_cap, by_root, by_pair}
-use Rattle.labels.specs.SlotEdges.{cap_edges, edge_between, kinds_in, pair_edges, slot_edges_of}
-use Rattle.labels.proofs.EdgeLists.{allows-append, allows_before, allows_after, none_allowed, edge_in, edge_has, edges_in, edges_have}
+use Rattle.machine.specs.{declared.{cap.Cap.Cap, object.ObjectKind.{ObjectKind, ObjectKind as object}}, Boot.IsBoot, Capabilities.gives}
+use Rattle.machine.specs.{Layout.{Layout, declared_label, initial_cap, initial_parent}, Machine.Machine}
+use Rattle.policy.{specs.Policy.allows, proofs.KindNumbers.kind_stands}
+use Rattle.table.{specs.Rules.kind_at, proofs.AtBoot.{boot_kind, boot_label}}
+use Rattle.labels.specs.{SlotAuthority.{GivesBySlot, by_cap, by_pair, by_root}, SlotEdges.{cap_edges, edge_between, kinds_in, pair_edges}}
+use Rattle.labels.{specs.SlotEdges.slot_edges_of, proofs.EdgeLists.{allows-append, allows_after, allows_before, edge_has, edge_in}}
+use Rattle.labels.proofs.EdgeLists.{edges_have, edges_in, none_allowed}
+use mathlib.Core.Bool.{false≢true}
 
 module _ (t : Layout) (m : Machine) (boot : IsBoot t m) (slot : SlotRef) (from : ℕ) (k : Kind) (to : ℕ) where
   -- the edges of a capability

@@ -1,38 +1,22 @@
 -- What a table declares is the authority of its boot state.
-use Rattle.std.proofs.Common.{◌≡◌, ◌↔◌, ℕ, ◌+◌, ◌<◌, true, ◌||◌, List, [], ◌∷◌, ◌++◌, length, get_or, take, flat_map, slice_get, Option, Some, None, option_map, suc, zero, refl, sym, ap, subst, ◌∙◌, inl, inr, append_assoc}
-use mathlib.Core.Bool.{false≢true}
-use Rattle.std.proofs.lemmas.Bool.{or_cases}
-use Rattle.std.proofs.lemmas.List.{append-nil, take_more}
-use Rattle.std.proofs.lemmas.List.Concat.{flat_map-append}
-use Rattle.std.proofs.lemmas.Option.{none-some, same_Some, slice_get_within, get_or_from_slice_get}
-use Rattle.base.specs.declared.edge.Edge.{Edge}
-use Rattle.base.specs.declared.ids.ObjId.{ObjId}
-use Rattle.base.specs.declared.ids.SlotRef.{SlotRef}
-use Rattle.base.specs.declared.kind.Kind.{Kind}
-use Rattle.base.specs.declared.kind.Kind.TheVariants as authority
-use Rattle.machine.specs.declared.cap.Cap.{Cap}
-use Rattle.machine.specs.declared.layout.Binding.{Binding}
-use Rattle.machine.specs.declared.layout.Initial.{Initial}
-use Rattle.machine.specs.declared.object.Object.{Object}
-use Rattle.machine.specs.declared.object.Object.TheVariants as o
+use Rattle.std.proofs.Common.{[], ℕ, ◌++◌, ◌+◌, ◌<◌, ◌||◌, ◌↔◌, ◌∙◌, ◌∷◌, ◌≡◌, List, None, Option, Some, ap, append_assoc, flat_map, get_or}
+use Rattle.std.proofs.{Common.{inl, inr, length, option_map, refl, slice_get, subst, suc, sym, take, true, zero}, lemmas.Bool.or_cases}
+use Rattle.std.proofs.lemmas.{List.{append-nil, take_more, Concat.flat_map-append}, Option.{get_or_from_slice_get, none-some, same_Some}}
+use Rattle.std.proofs.lemmas.Option.{slice_get_within}
+use Rattle.base.specs.declared.{edge.Edge.Edge, ids.{ObjId.ObjId, SlotRef.SlotRef}, kind.Kind.{Kind, Kind as authority}}
+use Rattle.machine.specs.declared.{cap.Cap.Cap, layout.{Binding.Binding, Initial.Initial}, object.Object.{Object, Object as o}}
 use Rattle.machine.specs.declared.object.ObjectKind.TheVariants as kind
-use Rattle.machine.specs.Authority.{HasAuthority, by_cap, by_root, by_pair, by_link, holds_thread, links}
-use Rattle.machine.specs.Boot.{IsBoot, bound}
-use Rattle.machine.specs.Layout.{Layout, initial_of, initial_cap, declared_label, bound_context}
-use Rattle.machine.specs.Machine.{Machine}
-use Rattle.machine.specs.Objects.{kind_of_object}
+use Rattle.machine.specs.{Authority.{HasAuthority, by_cap, by_link, by_pair, by_root, holds_thread, links}, Boot.{IsBoot, bound}}
+use Rattle.machine.specs.{Layout.{Layout, bound_context, declared_label, initial_cap, initial_of}, Machine.Machine, Objects.kind_of_object}
 use Rattle.machine.proofs.RunsLinks.{runs_bound, runs_by}
 use Rattle.policy.specs.Policy.{allows}
-use Rattle.table.specs.Rules.{IsBlank, IsBindingOf, IsLawful}
-use Rattle.table.proofs.AtBoot.{boot_label, declared_at, initial_lawful, rest_lends, rest_links}
-use Rattle.table.proofs.BootParts.{pair-law}
-use Rattle.table.proofs.Lookups.{bound_at, bound_from, filled_at}
+use Rattle.table.{specs.Rules.{IsBindingOf, IsBlank, IsLawful}, proofs.AtBoot.{boot_label, declared_at, initial_lawful, rest_lends}}
+use Rattle.table.proofs.{AtBoot.rest_links, BootParts.pair-law, Lookups.{bound_at, bound_from, filled_at}}
+use Rattle.labels.specs.{SlotAuthority.GivesBySlot, SlotEdges.slot_edges_of, TableEdges.{edges_of_binding, edges_of_filled, table_edges}}
 use Rattle.labels.specs.SlotAuthority as slot
-use Rattle.labels.specs.SlotAuthority.{GivesBySlot}
-use Rattle.labels.specs.SlotEdges.{slot_edges_of}
-use Rattle.labels.specs.TableEdges.{edges_of_binding, edges_of_filled, table_edges}
-use Rattle.labels.proofs.EdgeLists.{allows-append, allows_before, allows_after, none_allowed, edge_in, edge_has}
+use Rattle.labels.proofs.EdgeLists.{allows-append, allows_after, allows_before, edge_has, edge_in, none_allowed}
 use Rattle.labels.proofs.SlotAuthority.{slot_authority}
+use mathlib.Core.Bool.{false≢true}
 
 -- an edge is among those of several things where it is among those of one
 

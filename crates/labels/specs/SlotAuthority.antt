@@ -1,15 +1,9 @@
 -- The authority of a state that a single slot accounts for ('seL4 Enforces Integrity', section 3, "Authority").
-use Rattle.std.specs.Prelude.{◌≡◌, ℕ, true, Some}
-use Rattle.base.specs.declared.ids.SlotRef.{SlotRef}
-use Rattle.base.specs.declared.kind.Kind.{Kind}
+use Rattle.std.specs.Prelude.{ℕ, ◌≡◌, Some, true}
+use Rattle.base.specs.declared.{ids.SlotRef.SlotRef, kind.Kind.Kind}
 use Rattle.base.specs.declared.kind.Kind.TheVariants as authority
-use Rattle.machine.specs.declared.cap.Cap.{Cap}
-use Rattle.machine.specs.declared.object.ObjectKind.TheVariants as kind
-use Rattle.machine.specs.Authority.{label_of}
-use Rattle.machine.specs.Capabilities.{gives}
-use Rattle.machine.specs.Layout.{Layout}
-use Rattle.machine.specs.Machine.{Machine, cap_of, parent_of}
-use Rattle.machine.specs.WellFormed.{kind_of}
+use Rattle.machine.specs.{declared.{cap.Cap.Cap, object.ObjectKind.ObjectKind as kind}, Authority.label_of, Capabilities.gives}
+use Rattle.machine.specs.{Layout.Layout, Machine.{Machine, cap_of, parent_of}, WellFormed.kind_of}
 
 -- why a slot gives an edge of authority from one label to another: its capability does, in a CNode or as a thread's root, or the
 -- pair of the derivation tree whose child it is

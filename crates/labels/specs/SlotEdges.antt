@@ -1,17 +1,11 @@
 -- The edges of authority that a slot of a capability table gives at boot: those of its capability, and that of the pair of the
 -- derivation tree whose child it is ('seL4 Enforces Integrity', section 3, "Authority", read off an initial state).
-use Rattle.std.specs.Prelude.{ℕ, List, [], ◌∷◌, ◌++◌, Option, Some, None, filter, flat_map}
-use Rattle.base.specs.declared.edge.Edge.{Edge}
-use Rattle.base.specs.declared.ids.SlotRef.{SlotRef}
-use Rattle.base.specs.declared.kind.Kind.{Kind}
-use Rattle.base.specs.declared.kind.Kind.TheVariants.{Space, Derive}
+use Rattle.std.specs.Prelude.{[], ℕ, ◌++◌, ◌∷◌, List, None, Option, Some, filter, flat_map}
+use Rattle.base.specs.declared.{edge.Edge.Edge, ids.SlotRef.SlotRef, kind.Kind.{Kind, TheVariants.{Derive, Space}}}
 use Rattle.base.specs.declared.kind.TheConstants.Kind as Kinds
-use Rattle.machine.specs.declared.cap.Cap.{Cap}
-use Rattle.machine.specs.declared.cap.Detail.{Detail}
-use Rattle.machine.specs.declared.object.ObjectKind.{ObjectKind}
+use Rattle.machine.specs.{declared.{cap.{Cap.Cap, Detail.Detail}, object.ObjectKind.ObjectKind}, Capabilities.gives, Layout.Layout}
 use Rattle.machine.specs.declared.object.ObjectKind.TheVariants as object
-use Rattle.machine.specs.Capabilities.{gives}
-use Rattle.machine.specs.Layout.{Layout, declared_label, initial_cap, initial_parent}
+use Rattle.machine.specs.Layout.{declared_label, initial_cap, initial_parent}
 use Rattle.table.specs.Rules.{kind_at}
 
 -- the kinds of authority that a capability gives in a slot of an object of this kind: its own in a CNode's, in a thread's root

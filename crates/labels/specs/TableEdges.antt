@@ -1,11 +1,8 @@
 -- The edges of authority that a capability table declares: those of its slots, and a runs edge for each thread that it binds to a
 -- context ('seL4 Enforces Integrity', section 3, "Authority", read off an initial state).
-use Rattle.std.specs.Prelude.{List, ◌++◌, flat_map}
-use Rattle.base.specs.declared.edge.Edge.{Edge}
-use Rattle.base.specs.declared.kind.Kind.TheVariants.{Runs}
-use Rattle.machine.specs.declared.layout.Binding.{Binding}
-use Rattle.machine.specs.declared.layout.Filled.{Filled}
-use Rattle.machine.specs.Layout.{Layout, declared_label}
+use Rattle.std.specs.Prelude.{◌++◌, List, flat_map}
+use Rattle.base.specs.declared.{edge.Edge.Edge, kind.Kind.TheVariants.Runs}
+use Rattle.machine.specs.{declared.layout.{Binding.Binding, Filled.Filled}, Layout.{Layout, declared_label}}
 use Rattle.labels.specs.SlotEdges.{edge_between, slot_edges_of}
 
 abbrev pub edges_of_filled : Layout → Filled → List Edge

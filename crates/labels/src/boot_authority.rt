@@ -1,13 +1,9 @@
-ghost use Rattle.std.specs.Prelude.{◌≡◌, ◌↔◌, ◌||◌, ℕ, true, IfErr, IfOk, OnOk};
-ghost use Rattle.base.specs.declared.kind.Kind.{Kind as KindOf};
-ghost use Rattle.base.specs.Refusals.{out_of_memory};
-ghost use Rattle.labels.specs.SlotEdges.{slot_edges_of};
-ghost use Rattle.labels.specs.TableEdges.{edges_of_binding, table_edges};
-ghost use Rattle.machine.specs.Authority.{HasAuthority};
-ghost use Rattle.machine.specs.Boot.{IsBoot};
-ghost use Rattle.machine.specs.Machine.{Machine};
+ghost use Rattle.std.specs.Prelude.{ℕ, ◌||◌, ◌↔◌, ◌≡◌, IfErr, IfOk, OnOk, true};
+ghost use Rattle.base.specs.{declared.kind.Kind.Kind as KindOf, Refusals.out_of_memory};
+ghost use Rattle.machine.specs.{Authority.HasAuthority, Boot.IsBoot, Machine.Machine};
 ghost use Rattle.policy.specs.Policy.{IsRising, allows};
 ghost use Rattle.table.specs.Rules.{IsLawful};
+ghost use Rattle.labels.specs.{SlotEdges.slot_edges_of, TableEdges.{edges_of_binding, table_edges}};
 
 use crate::edges::{edge_between, slot_edges};
 use base::{Edge, Kind, Refusal, SlotRef};

@@ -1,9 +1,8 @@
-ghost use Rattle.std.specs.Prelude.{◌≡◌, ◌++◌, IfErr, IfOk, OnOk, filter, flat_map, Some, option_to_list, [], if◌then◌else◌};
+ghost use Rattle.std.specs.Prelude.{[], ◌++◌, ◌≡◌, IfErr, IfOk, OnOk, Some, filter, flat_map, if◌then◌else◌, option_to_list};
 ghost use Rattle.base.specs.declared.kind.TheConstants.Kind as Kinds;
 ghost use Rattle.base.specs.Refusals.{out_of_memory};
-ghost use Rattle.machine.specs.Capabilities.{gives};
-ghost use Rattle.machine.specs.Layout.{declared_label, initial_parent};
-ghost use Rattle.labels.specs.SlotEdges.{slot_edges_of, edges_with, cap_edges, pair_edges, edge_between};
+ghost use Rattle.machine.specs.{Capabilities.gives, Layout.{declared_label, initial_parent}};
+ghost use Rattle.labels.specs.SlotEdges.{cap_edges, edge_between, edges_with, pair_edges, slot_edges_of};
 
 use crate::label::declared_label;
 use base::{Edge, Kind, ObjId, Refusal, SlotRef};

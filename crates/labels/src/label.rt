@@ -1,6 +1,5 @@
 ghost use Rattle.std.specs.Prelude.{◌≡◌};
-ghost use Rattle.machine.specs.Authority.{label_of};
-ghost use Rattle.machine.specs.Layout.{declared_label};
+ghost use Rattle.machine.specs.{Authority.label_of, Layout.declared_label};
 
 use base::{Label, ObjId};
 use objects::State;

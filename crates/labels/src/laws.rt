@@ -1,14 +1,9 @@
-ghost use Rattle.std.specs.Prelude.{◌≡◌, ◌↔◌, ◌<◌, ℕ, true, length};
-ghost use Rattle.base.specs.declared.ids.SlotRef.{SlotRef as Slot};
-ghost use Rattle.base.specs.declared.kind.Kind.{Kind as KindOf};
-ghost use Rattle.labels.specs.SlotAuthority.{GivesBySlot};
-ghost use Rattle.labels.specs.SlotEdges.{slot_edges_of};
-ghost use Rattle.machine.specs.Authority.{HasAuthority};
-ghost use Rattle.machine.specs.Boot.{IsBoot};
-ghost use Rattle.machine.specs.Layout.{Layout};
-ghost use Rattle.machine.specs.Machine.{Machine};
+ghost use Rattle.std.specs.Prelude.{ℕ, ◌<◌, ◌↔◌, ◌≡◌, length, true};
+ghost use Rattle.base.specs.declared.{ids.SlotRef.SlotRef as Slot, kind.Kind.Kind as KindOf};
+ghost use Rattle.machine.specs.{Authority.HasAuthority, Boot.IsBoot, Layout.Layout, Machine.Machine};
 ghost use Rattle.policy.specs.Policy.{allows};
 ghost use Rattle.table.specs.Rules.{IsLawful};
+ghost use Rattle.labels.specs.{SlotAuthority.GivesBySlot, SlotEdges.slot_edges_of};
 
 /// A law about tables, with nothing to run: the edges of a slot are the authority that the table's boot
 /// state has by that slot, through its capability or as a child in the derivation tree.

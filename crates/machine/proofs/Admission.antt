@@ -1,17 +1,10 @@
 -- Who is admitted: a thread that is there and ready.
-use Rattle.std.proofs.Common.{◌≡◌, ℕ, Bool, true, false, refl, arith}
-use Rattle.std.specs.Prelude.{Option, Some, Ok}
+use Rattle.std.{specs.Prelude.{Ok, Option, Some}, proofs.Common.{ℕ, ◌≡◌, Bool, arith, false, refl, true}}
 use Rattle.base.specs.declared.ids.ObjId.{ObjId}
-use Rattle.machine.specs.declared.object.Object.{Object}
-use Rattle.machine.specs.declared.object.Object.TheVariants as o
-use Rattle.machine.specs.declared.object.Share.{Share}
-use Rattle.machine.specs.declared.thread.RunState.{RunState}
-use Rattle.machine.specs.declared.thread.RunState.TheVariants as state
-use Rattle.machine.specs.declared.thread.Tcb.{Tcb}
-use Rattle.machine.specs.Machine.{Machine, object_of}
-use Rattle.machine.specs.Step.{admitted, is_ready, running_share, thread_in}
-pub use Rattle.machine.specs.WellFormed.{IsCaller}
+use Rattle.machine.specs.declared.{object.{Object.{Object, Object as o}, Share.Share}, thread.RunState.{RunState, RunState as state}}
+use Rattle.machine.specs.{declared.thread.Tcb.Tcb, Machine.{Machine, object_of}, Step.{admitted, is_ready, running_share, thread_in}}
 use Rattle.machine.proofs.Conditions.{both_done}
+pub use Rattle.machine.specs.WellFormed.{IsCaller}
 
 thread_there :
     (object : Option Object) (thread : Tcb) → thread_in object ≡ Ok thread → object ≡ Some (o.Tcb thread)

@@ -1,27 +1,13 @@
 -- What is known of a capability that arrives with a message: the slots between which it travels, and what changes by it.
-use Rattle.std.proofs.Common.{◌≡◌, ◌≢◌, ℕ, true, refl, sym, ap, subst}
-use Rattle.std.specs.Prelude.{Option, Some, None, Result, Ok, Err}
-use Rattle.base.specs.declared.ids.ObjId.{ObjId}
-use Rattle.base.specs.declared.refusal.Cause.{Cause}
-use Rattle.machine.specs.declared.object.ObjectKind.TheVariants as kind
-use Rattle.machine.specs.declared.slot_address.Ends.{Ends}
-use Rattle.machine.specs.declared.slot_address.SlotAddress.{SlotAddress}
-use Rattle.machine.specs.declared.thread.Sending.{Sending}
-use Rattle.machine.specs.Capabilities.{kind_of_detail}
-use Rattle.machine.specs.Machine.{Machine, cap_of, object_of, queue_of}
-use Rattle.machine.specs.Step.Copy.{copyable}
-use Rattle.machine.specs.Step.Deliver.{arrival_of, named, with_arrival}
-use Rattle.machine.specs.Step.Find.{find_cap, permitted}
-use Rattle.machine.specs.Step.Target.{target_of, vacant}
-use Rattle.machine.specs.Tree.{copied, parent_of_copy}
-use Rattle.machine.specs.WellFormed.{IsWellFormed}
-use Rattle.machine.proofs.Conditions.{both_done, same_ok}
-use Rattle.machine.proofs.Copies.{is_copyable}
-use Rattle.machine.proofs.FillsFormed.{fills_formed, node_takes}
-use Rattle.machine.proofs.Finding.{FindsCap, finds_cap, is_permitted}
-use Rattle.machine.proofs.LedSlots.{led_slot}
-use Rattle.machine.proofs.SlotChanges.{Fills, SameObjects}
-use Rattle.machine.proofs.SlotRows.{LeadsTo, is_vacant, target_leads, with_copy_fills}
+use Rattle.std.{specs.Prelude.{Err, None, Ok, Option, Result, Some}, proofs.Common.{ℕ, ◌≡◌, ◌≢◌, ap, refl, subst, sym, true}}
+use Rattle.base.specs.declared.{ids.ObjId.ObjId, refusal.Cause.Cause}
+use Rattle.machine.specs.declared.{object.ObjectKind.ObjectKind as kind, slot_address.{Ends.Ends, SlotAddress.SlotAddress}}
+use Rattle.machine.specs.{declared.thread.Sending.Sending, Capabilities.kind_of_detail, Machine.{Machine, cap_of, object_of, queue_of}}
+use Rattle.machine.specs.Step.{Copy.copyable, Deliver.{arrival_of, named, with_arrival}, Find.{find_cap, permitted}, Target.target_of}
+use Rattle.machine.{specs.{Step.Target.vacant, Tree.{copied, parent_of_copy}, WellFormed.IsWellFormed}, proofs.Conditions.both_done}
+use Rattle.machine.proofs.{Conditions.same_ok, Copies.is_copyable, FillsFormed.{fills_formed, node_takes}, Finding.{FindsCap, finds_cap}}
+use Rattle.machine.proofs.{Finding.is_permitted, LedSlots.led_slot, SlotChanges.{Fills, SameObjects}, SlotRows.{LeadsTo, is_vacant}}
+use Rattle.machine.proofs.SlotRows.{target_leads, with_copy_fills}
 
 -- a message's capability arrives: the sender may grant and has it, and the receiver has an empty slot for it
 pub record Arrives (m : Machine) (sender : ObjId) (sending : Sending) (receiver : ObjId) (slot : Option SlotAddress) (ends : Ends)

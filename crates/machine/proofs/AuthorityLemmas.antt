@@ -1,25 +1,12 @@
 -- Authority grows with rights and with capabilities.
-use Rattle.std.proofs.Common.{◌≡◌, ℕ, Bool, true, false, ◌&&◌, ◌||◌, option_map, option_and_then, refl, ap, ◌∙◌, length, nat_lt}
-use Rattle.std.proofs.Common.{if◌then◌else◌}
-use Rattle.std.proofs.lemmas.Bool.{and_from, and_parts}
-use Rattle.base.specs.declared.ids.ObjId.{ObjId}
-use Rattle.base.specs.declared.kind.Kind.{Kind}
-use Rattle.base.specs.declared.kind.Kind.TheVariants as authority
-use Rattle.base.specs.declared.rights.Rights.{Rights}
-use Rattle.base.specs.Kinds.{is_structural}
-use Rattle.machine.specs.declared.cap.Badged.{Badged}
-use Rattle.machine.specs.declared.cap.Detail.{Detail}
+use Rattle.std.proofs.Common.{ℕ, ◌&&◌, ◌||◌, ◌∙◌, ◌≡◌, Bool, ap, false, if◌then◌else◌, length, nat_lt, option_and_then, option_map, refl}
+use Rattle.std.proofs.{Common.true, lemmas.Bool.{and_from, and_parts}}
+use Rattle.base.specs.{declared.{ids.ObjId.ObjId, kind.Kind.{Kind, Kind as authority}, rights.Rights.Rights}, Kinds.is_structural}
+use Rattle.machine.specs.{declared.{cap.{Badged.Badged, Detail.Detail, Guard.Guard}, object.Object.Object}, Authority.HasAuthority}
 use Rattle.machine.specs.declared.cap.Detail.TheVariants as d
-use Rattle.machine.specs.declared.cap.Guard.{Guard}
-use Rattle.machine.specs.declared.object.Object.{Object}
-use Rattle.machine.specs.Authority.{HasAuthority, label_at, label_of}
-use Rattle.machine.specs.Authority.HasAuthority.{by_cap, by_root, by_pair, by_link}
-use Rattle.machine.specs.Capabilities.{gives}
-use Rattle.machine.specs.Layout.{Layout, declared_label}
-use Rattle.machine.specs.Machine.{Machine, object_of}
-use Rattle.machine.specs.Narrower.{HasFewer, HasMoreCaps, IsNarrower}
-use Rattle.machine.specs.Objects.{kind_of_object, address_of}
-use Rattle.machine.specs.WellFormed.{kind_of}
+use Rattle.machine.specs.{Authority.{label_at, label_of, HasAuthority.{by_cap, by_link, by_pair, by_root}}, Capabilities.gives}
+use Rattle.machine.specs.{Layout.{Layout, declared_label}, Machine.{Machine, object_of}, Narrower.{HasFewer, HasMoreCaps, IsNarrower}}
+use Rattle.machine.specs.{Objects.{address_of, kind_of_object}, WellFormed.kind_of}
 
 both : (a b c d : Bool) → (a ≡ true → c ≡ true) → (b ≡ true → d ≡ true) → (a && b) ≡ true → (c && d) ≡ true
 both a b c d one two e = let parts = and_parts a b e in and_from c d (one parts.0) (two parts.1)

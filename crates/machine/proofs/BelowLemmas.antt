@@ -1,18 +1,10 @@
 -- The test whether a slot descends from another decides it.
-use Rattle.std.proofs.Common.{◌≡◌, Bool, true, false, not, List, refl, sym, ap, ◌∙◌}
-use Rattle.std.specs.Prelude.{Option, Some, None, is_some, ◌||◌, ◌&&◌}
-use Rattle.std.specs.Bool.{Decides}
-use Rattle.std.specs.FinMap.{keys, contains_key-keys}
-use Rattle.std.specs.List.{list_any}
-use Rattle.std.proofs.lemmas.Bool.{false≢true}
+use Rattle.std.specs.{Bool.Decides, FinMap.{contains_key-keys, keys}, List.list_any, Prelude.{◌&&◌, ◌||◌, None, Option, Some, is_some}}
+use Rattle.std.proofs.{Common.{◌∙◌, ◌≡◌, Bool, List, ap, false, not, refl, sym, true}, lemmas.Bool.false≢true}
 use Rattle.base.specs.declared.ids.SlotRef.{SlotRef}
-use Rattle.machine.specs.Below.{is_child_beside, has_parent_below, is_below}
-use Rattle.machine.specs.Machine.{Machine, parent_of, same_slot, slot_cmp}
-use Rattle.machine.specs.Rounds.{staying}
-use Rattle.machine.specs.WellFormed.{Descends, child, further}
-use Rattle.machine.proofs.Exchange.{slot_itself}
-use Rattle.machine.proofs.LookUps.{one_slot}
-use Rattle.machine.proofs.RoundLemmas.{both_pass, not_passes, or_second, leaves, stays}
+use Rattle.machine.specs.{Below.{has_parent_below, is_below, is_child_beside}, Machine.{Machine, parent_of, same_slot, slot_cmp}}
+use Rattle.machine.{specs.{Rounds.staying, WellFormed.{Descends, child, further}}, proofs.{Exchange.slot_itself, LookUps.one_slot}}
+use Rattle.machine.proofs.RoundLemmas.{both_pass, leaves, not_passes, or_second, stays}
 
 pub parent_listed : (m : Machine) (slot : SlotRef) → is_some (parent_of m slot) ≡ list_any (same_slot slot) (keys m.parents)
 unfolding parent_of

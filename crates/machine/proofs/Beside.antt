@@ -1,26 +1,15 @@
 -- What is beside a thread that leaves its queue and its reply: other threads, endpoints and free replies stay as they were, and
 -- the reply that it named is free. The same of the thread that a reply holds, where that is halted.
-use Rattle.std.proofs.Common.{◌≡◌, ◌≢◌, ◌⊎◌, inl, inr, refl, sym, ap, subst, ◌∙◌}
-use Rattle.std.specs.Prelude.{Option, Some, None}
+use Rattle.std.{specs.Prelude.{None, Option, Some}, proofs.Common.{◌∙◌, ◌≡◌, ◌≢◌, ◌⊎◌, ap, inl, inr, refl, subst, sym}}
 use Rattle.base.specs.declared.ids.ObjId.{ObjId}
-use Rattle.machine.specs.declared.object.Endpoint.{Endpoint}
-use Rattle.machine.specs.declared.object.Object.{Object}
-use Rattle.machine.specs.declared.object.Object.TheVariants as o
-use Rattle.machine.specs.declared.object.Reply.{Reply}
-use Rattle.machine.specs.declared.object.ReplyState.{ReplyState}
+use Rattle.machine.specs.declared.object.{Endpoint.Endpoint, Object.{Object, Object as o}, Reply.Reply, ReplyState.ReplyState}
 use Rattle.machine.specs.declared.object.ReplyState.TheVariants as reply
-use Rattle.machine.specs.declared.thread.Tcb.{Tcb}
-use Rattle.machine.specs.Finalising.{halted}
-use Rattle.machine.specs.Machine.{Machine, object_of}
-use Rattle.machine.specs.Releasing.{with_halted, with_holder_halted, with_released}
-use Rattle.machine.specs.Step.Receive.{with_reply_ended}
-use Rattle.machine.specs.WellFormed.{IsFree, IsIdle, IsReceivingWith, IsThread, IsWellFormed, LinksAgree}
-use Rattle.machine.proofs.HeldThreads.{calling_names, receiving_names}
-use Rattle.machine.proofs.Idle.{idle_names}
-use Rattle.machine.proofs.Leaving.{Names}
-use Rattle.machine.proofs.MessageFormed.{holder_halted_formed, holder_halted_free}
-use Rattle.machine.proofs.Releases.{IsReleased, other_now, released_is, released_thread, reply_freed, reply_stays}
-use Rattle.machine.proofs.RemovalTable.{one_thread}
+use Rattle.machine.specs.{declared.thread.Tcb.Tcb, Finalising.halted, Machine.{Machine, object_of}, Releasing.with_halted}
+use Rattle.machine.specs.{Releasing.{with_holder_halted, with_released}, Step.Receive.with_reply_ended, WellFormed.{IsFree, IsIdle}}
+use Rattle.machine.{specs.WellFormed.{IsReceivingWith, IsThread, IsWellFormed, LinksAgree}, proofs.HeldThreads.calling_names}
+use Rattle.machine.proofs.{HeldThreads.receiving_names, Idle.idle_names, Leaving.Names, MessageFormed.holder_halted_formed}
+use Rattle.machine.proofs.{MessageFormed.holder_halted_free, Releases.{IsReleased, other_now, released_is, released_thread, reply_freed}}
+use Rattle.machine.proofs.{Releases.reply_stays, RemovalTable.one_thread}
 
 module _ (m : Machine) (thread : ObjId) (tcb : Tcb) (change : Tcb → Tcb) (links : LinksAgree m)
     (there : IsThread m thread tcb) where

@@ -1,11 +1,8 @@
 -- What the binding of an object leaves as it is.
 use Rattle.std.specs.Prelude.{◌≡◌, refl}
 use Rattle.base.specs.declared.ids.ObjId.{ObjId}
-use Rattle.machine.specs.declared.object.Object.{Object}
-use Rattle.machine.specs.declared.object.Object.TheVariants as o
-use Rattle.machine.specs.Boot.{bound}
-use Rattle.machine.specs.Layout.{Layout}
-use Rattle.machine.specs.Objects.{kind_of_object, slot_count, address_of, end_of}
+use Rattle.machine.specs.{declared.object.Object.{Object, Object as o}, Boot.bound, Layout.Layout, Objects.{address_of, end_of}}
+use Rattle.machine.specs.Objects.{kind_of_object, slot_count}
 
 pub kind-bound : (t : Layout) (id : ObjId) (object : Object) → kind_of_object (bound t id object) ≡ kind_of_object object
 kind-bound t id (o.Tcb _) = refl

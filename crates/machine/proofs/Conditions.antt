@@ -1,6 +1,5 @@
 -- What is known where conditions in order were all met.
-use Rattle.std.proofs.Common.{◌≡◌, refl}
-use Rattle.std.specs.Prelude.{Result, Ok, Err}
+use Rattle.std.{specs.Prelude.{Err, Ok, Result}, proofs.Common.{◌≡◌, refl}}
 use Rattle.base.specs.declared.refusal.Cause.{Cause}
 use Rattle.machine.specs.Refusing.{◌>>=◌}
 

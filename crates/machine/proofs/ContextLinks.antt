@@ -1,19 +1,12 @@
 -- Where only shares, words of notifications, and the links between threads and scheduling contexts change, queues and replies stay
 -- linked at both ends, and the machine is well formed if those links agree.
-use Rattle.std.proofs.Common.{◌≡◌, refl, sym, ap, subst, ◌∙◌}
-use Rattle.std.specs.Prelude.{Some, None, option_map}
+use Rattle.std.{specs.Prelude.{None, Some, option_map}, proofs.Common.{◌∙◌, ◌≡◌, ap, refl, subst, sym}}
 use Rattle.base.specs.declared.ids.ObjId.{ObjId}
-use Rattle.machine.specs.declared.object.Context.{Context}
-use Rattle.machine.specs.declared.object.Object.{Object}
-use Rattle.machine.specs.declared.object.Object.TheVariants as o
-use Rattle.machine.specs.declared.object.Reply.{Reply}
-use Rattle.machine.specs.declared.thread.RunState.{RunState}
-use Rattle.machine.specs.declared.thread.Tcb.{Tcb}
-use Rattle.machine.specs.Machine.{Machine, object_of, queue_of, with_object}
-use Rattle.machine.specs.WellFormed.{IsCallingThrough, IsReceivingWith, IsSending, IsThread, IsWellFormed, LinksAgree, WaitsAt, WaitsAtKind}
-use Rattle.machine.proofs.LookUps.{object_of-with_object, queue_of-with_object}
-use Rattle.machine.proofs.Outlines.{Steady, object_steady, outline, same_kinds, shown_kept, shown_there, steady_formed}
-use Rattle.machine.proofs.Outlines.{steady_steady}
+use Rattle.machine.specs.declared.{object.{Context.Context, Object.{Object, Object as o}, Reply.Reply}, thread.{RunState.RunState, Tcb.Tcb}}
+use Rattle.machine.specs.{Machine.{Machine, object_of, queue_of, with_object}, WellFormed.{IsCallingThrough, IsReceivingWith, IsSending}}
+use Rattle.machine.{specs.WellFormed.{IsThread, IsWellFormed, LinksAgree, WaitsAt, WaitsAtKind}, proofs.LookUps.object_of-with_object}
+use Rattle.machine.proofs.{LookUps.queue_of-with_object, Outlines.{Steady, object_steady, outline, same_kinds, shown_kept, shown_there}}
+use Rattle.machine.proofs.Outlines.{steady_formed, steady_steady}
 
 -- an object without the link between a thread and its scheduling context, without a share, and without a notification's word
 abbrev pub loosened : Object → Object

@@ -1,18 +1,11 @@
 -- What a configure, a bind and an unbind do that are made: a scheduling context gets a share of a core, a thread runs on one, or
 -- on none.
-use Rattle.std.proofs.Common.{◌≡◌, ℕ, refl, sym, ap}
-use Rattle.std.specs.Prelude.{Option, Some, None, Ok}
+use Rattle.std.{specs.Prelude.{None, Ok, Option, Some}, proofs.Common.{ℕ, ◌≡◌, ap, refl, sym}}
 use Rattle.base.specs.declared.ids.ObjId.{ObjId}
-use Rattle.machine.specs.declared.call.Made.{Made}
-use Rattle.machine.specs.declared.cap.Detail.TheVariants as d
-use Rattle.machine.specs.declared.object.Share.{Share}
-use Rattle.machine.specs.Machine.{Machine, object_of}
+use Rattle.machine.specs.{declared.{call.Made.Made, cap.Detail.Detail as d, object.Share.Share}, Machine.{Machine, object_of}}
 use Rattle.machine.specs.Step.Bind.{bind_of, context_under, thread_on, unbind_of, unlinked, with_bound, without_thread}
-use Rattle.machine.specs.Step.Configure.{configure_of, core_in, in_limits, with_share}
-use Rattle.machine.specs.Step.Find.{find_context, find_control, find_tcb}
-use Rattle.machine.proofs.Conditions.{both_done, same_ok}
-use Rattle.machine.proofs.Finding.{FindsObject}
-use Rattle.machine.proofs.FoundObjects.{finds_context, finds_control, finds_thread}
+use Rattle.machine.specs.Step.{Configure.{configure_of, core_in, in_limits, with_share}, Find.{find_context, find_control, find_tcb}}
+use Rattle.machine.proofs.{Conditions.{both_done, same_ok}, Finding.FindsObject, FoundObjects.{finds_context, finds_control, finds_thread}}
 
 pub record ConfigureDone (m : Machine) (caller : ObjId) (control address budget period : ℕ) (next : Machine) : Type 0 where
   pub governs : ObjId

@@ -1,27 +1,15 @@
 -- A configure, a bind and an unbind keep a well-formed machine well formed: a scheduling context's share changes, or the link of
 -- a thread and a scheduling context that agree on it before and after.
-use Rattle.std.proofs.Common.{◌≡◌, ◌≢◌, ℕ, ◌⊎◌, inl, inr, refl, sym, ap, subst, ◌∙◌}
-use Rattle.std.specs.Prelude.{Option, Some, None}
+use Rattle.std.{specs.Prelude.{None, Option, Some}, proofs.Common.{ℕ, ◌∙◌, ◌≡◌, ◌≢◌, ◌⊎◌, ap, inl, inr, refl, subst, sym}}
 use Rattle.std.proofs.lemmas.Option.{none-some, same_Some}
 use Rattle.base.specs.declared.ids.ObjId.{ObjId}
-use Rattle.machine.specs.declared.object.Context.{Context}
-use Rattle.machine.specs.declared.object.Object.{Object}
-use Rattle.machine.specs.declared.object.Object.TheVariants as o
-use Rattle.machine.specs.declared.object.Share.{Share}
-use Rattle.machine.specs.declared.thread.Tcb.{Tcb}
-use Rattle.machine.specs.Changes.{with_context, with_tcb}
-use Rattle.machine.specs.Machine.{Machine, object_of, with_object}
-use Rattle.machine.specs.Releasing.{with_idle_context, with_unbound}
-use Rattle.machine.specs.Step.Bind.{context_under, thread_on, with_bound, with_handed, without_thread}
-use Rattle.machine.specs.Step.Configure.{with_share}
-use Rattle.machine.specs.WellFormed.{IsThread, IsWellFormed}
-use Rattle.machine.proofs.ContextLinks.{binds_binds, binds_formed, object_binds}
-use Rattle.machine.proofs.ContextRow.{BindDone, ConfigureDone, UnbindDone}
-use Rattle.machine.proofs.Ids.{one_or_two}
-use Rattle.machine.proofs.LookUps.{object_of-with_object}
-use Rattle.machine.proofs.RemovalTable.{one_thread}
-use Rattle.machine.proofs.Threads.{with_tcb_there}
-use Rattle.machine.proofs.SetObject.{SetsObject, other_after, other_before, set_elsewhere, set_there}
+use Rattle.machine.specs.declared.{object.{Context.Context, Object.{Object, Object as o}, Share.Share}, thread.Tcb.Tcb}
+use Rattle.machine.specs.{Changes.{with_context, with_tcb}, Machine.{Machine, object_of, with_object}, Releasing.with_idle_context}
+use Rattle.machine.specs.{Releasing.with_unbound, Step.Bind.{context_under, thread_on, with_bound, with_handed, without_thread}}
+use Rattle.machine.{specs.{Step.Configure.with_share, WellFormed.{IsThread, IsWellFormed}}, proofs.ContextLinks.{binds_binds, binds_formed}}
+use Rattle.machine.proofs.{ContextLinks.object_binds, ContextRow.{BindDone, ConfigureDone, UnbindDone}, Ids.one_or_two}
+use Rattle.machine.proofs.{LookUps.object_of-with_object, RemovalTable.one_thread, SetObject.{SetsObject, other_after, other_before}}
+use Rattle.machine.proofs.{SetObject.{set_elsewhere, set_there}, Threads.with_tcb_there}
 
 -- changes of what is there
 

@@ -1,23 +1,11 @@
 -- What a copy and a mint put into a slot: a capability of the same kind, not untyped, with rights that the source has too.
-use Rattle.std.proofs.Common.{◌≡◌, ◌≢◌, ℕ, ◌+◌, ◌%◌, ◌^◌, ◌==◌, Bool, true, false, refl, sym, ap, subst, ◌∙◌, arith}
-use Rattle.std.specs.Prelude.{Option, Some, Ok, nat_le}
-use Rattle.std.specs.Int.RustNames.{bit_and}
-use Rattle.std.specs.Int.Bits.{and_self}
-use Rattle.std.proofs.lemmas.Nat.{and_assoc}
+use Rattle.std.{specs.{Int.{Bits.and_self, RustNames.bit_and}, Prelude.{Ok, Option, Some, nat_le}}, proofs.Common.{ℕ, ◌%◌, ◌+◌, ◌==◌, ◌^◌}}
+use Rattle.std.proofs.{Common.{◌∙◌, ◌≡◌, ◌≢◌, Bool, ap, arith, false, refl, subst, sym, true}, lemmas.Nat.and_assoc}
 use Rattle.base.specs.declared.rights.Rights.{Rights}
-use Rattle.machine.specs.declared.call.CapData.{CapData}
+use Rattle.machine.specs.declared.{call.CapData.CapData, cap.{Badged.Badged, Detail.{Detail, Detail as d}, Guard.Guard}}
 use Rattle.machine.specs.declared.call.CapData.TheVariants as given
-use Rattle.machine.specs.declared.cap.Badged.{Badged}
-use Rattle.machine.specs.declared.cap.Detail.{Detail}
-use Rattle.machine.specs.declared.cap.Detail.TheVariants as d
-use Rattle.machine.specs.declared.cap.Guard.{Guard}
-use Rattle.machine.specs.declared.object.Object.{Object}
-use Rattle.machine.specs.declared.object.Object.TheVariants as o
-use Rattle.machine.specs.declared.object.ObjectKind.TheVariants as kind
-use Rattle.machine.specs.Capabilities.{kind_of_detail}
-use Rattle.machine.specs.Narrower.{HasFewer, IsNarrower}
-use Rattle.machine.specs.Step.Copy.{both, copyable, masked}
-use Rattle.machine.specs.Step.Mint.{badged, guarded, minted}
+use Rattle.machine.specs.{declared.object.{Object.{Object, Object as o}, ObjectKind.ObjectKind as kind}, Capabilities.kind_of_detail}
+use Rattle.machine.specs.{Narrower.{HasFewer, IsNarrower}, Step.{Copy.{both, copyable, masked}, Mint.{badged, guarded, minted}}}
 use Rattle.machine.proofs.Conditions.{same_ok}
 
 pub kinds_alike : (few many : Detail) → IsNarrower few many → kind_of_detail few ≡ kind_of_detail many

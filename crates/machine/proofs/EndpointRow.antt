@@ -1,31 +1,16 @@
 -- What the rows of messages have in common: the endpoint or the reply that was found by a capability, and who waits first at an
 -- endpoint.
-use Rattle.std.proofs.Common.{◌≡◌, ℕ, Bool, true, List, [], ◌∷◌, refl, sym, ap, subst, ◌∙◌, arith}
-use Rattle.std.specs.Prelude.{Option, Some, None, Result, Ok, Contains}
-use Rattle.std.proofs.lemmas.Option.{none-some, same_Some}
-use Rattle.base.specs.declared.ids.ObjId.{ObjId}
-use Rattle.base.specs.declared.refusal.Cause.{Cause}
-use Rattle.machine.specs.declared.cap.Badged.{Badged}
-use Rattle.machine.specs.declared.cap.Detail.TheVariants as d
-use Rattle.machine.specs.declared.object.Endpoint.{Endpoint}
-use Rattle.machine.specs.declared.object.Object.TheVariants as o
-use Rattle.machine.specs.declared.object.ObjectKind.{ObjectKind}
-use Rattle.machine.specs.declared.object.ObjectKind.TheVariants as kind
-use Rattle.machine.specs.declared.thread.Receiving.{Receiving}
-use Rattle.machine.specs.declared.thread.RunState.{RunState}
+use Rattle.std.{specs.Prelude.{Contains, None, Ok, Option, Result, Some}, proofs.Common.{[], ℕ, ◌∙◌, ◌∷◌, ◌≡◌, Bool, List, ap, arith, refl}}
+use Rattle.std.proofs.{Common.{subst, sym, true}, lemmas.Option.{none-some, same_Some}}
+use Rattle.base.specs.declared.{ids.ObjId.ObjId, refusal.Cause.Cause}
+use Rattle.machine.specs.declared.{cap.{Badged.Badged, Detail.Detail as d}, object.{Endpoint.Endpoint, Object.Object as o}}
+use Rattle.machine.specs.declared.{object.ObjectKind.{ObjectKind, ObjectKind as kind}, thread.{Receiving.Receiving, RunState.RunState}}
 use Rattle.machine.specs.declared.thread.RunState.TheVariants as state
-use Rattle.machine.specs.declared.thread.Sending.{Sending}
-use Rattle.machine.specs.declared.thread.Tcb.{Tcb}
-use Rattle.machine.specs.Changes.{first_waiting}
-use Rattle.machine.specs.Machine.{Machine, object_of, queue_of}
-use Rattle.machine.specs.Refusing.{◌>>=◌}
-use Rattle.machine.specs.Step.Deliver.{first_at, receiver_in, sender_in}
-use Rattle.machine.specs.Step.Find.{find_endpoint, permitted}
+use Rattle.machine.specs.{declared.thread.{Sending.Sending, Tcb.Tcb}, Changes.first_waiting, Machine.{Machine, object_of, queue_of}}
+use Rattle.machine.specs.{Refusing.◌>>=◌, Step.{Deliver.{first_at, receiver_in, sender_in}, Find.{find_endpoint, permitted}}}
 use Rattle.machine.specs.WellFormed.{IsAlike, IsSending, IsThread, IsWellFormed, WaitsAt, WaitsAtKind, kind_of}
-use Rattle.machine.proofs.Conditions.{both_done}
-use Rattle.machine.proofs.Finding.{FindsObject, found_kind, is_permitted}
-use Rattle.machine.proofs.FoundObjects.{endpoint_of_kind, finds_endpoint}
-use Rattle.machine.proofs.Queues.{first_in}
+use Rattle.machine.proofs.{Conditions.both_done, Finding.{FindsObject, found_kind, is_permitted}, FoundObjects.endpoint_of_kind}
+use Rattle.machine.proofs.{FoundObjects.finds_endpoint, Queues.first_in}
 
 -- an endpoint that is found, by a capability with a right
 pub record IsEndOpen (m : Machine) (caller : ObjId) (address : ℕ) (allows : Badged → Bool) : Type 0 where

@@ -1,10 +1,7 @@
 -- What a fetch does that is made: the caller's inbox becomes empty.
-use Rattle.std.proofs.Common.{◌≡◌, sym, ap}
-use Rattle.std.specs.Prelude.{Ok}
+use Rattle.std.{specs.Prelude.Ok, proofs.Common.{◌≡◌, ap, sym}}
 use Rattle.base.specs.declared.ids.ObjId.{ObjId}
-use Rattle.machine.specs.declared.call.Made.{Made}
-use Rattle.machine.specs.Machine.{Machine, object_of}
-use Rattle.machine.specs.Step.Fetch.{emptied, fetch_of, fetched_in}
+use Rattle.machine.specs.{declared.call.Made.Made, Machine.{Machine, object_of}, Step.Fetch.{emptied, fetch_of, fetched_in}}
 use Rattle.machine.proofs.Conditions.{both_done, same_ok}
 
 pub record FetchDone (m : Machine) (caller : ObjId) (next : Machine) : Type 0 where

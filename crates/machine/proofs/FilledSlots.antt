@@ -1,13 +1,9 @@
 -- What slots hold and whose children they are, where an empty one gets a capability, under a filled one or under none.
-use Rattle.std.proofs.Common.{◌≡◌, ◌≢◌, ◌⊎◌, inl, inr, Bool, true, false, refl, sym, ap, ◌∙◌}
-use Rattle.std.specs.Prelude.{Option, Some, None, if◌then◌else◌}
+use Rattle.std.{specs.Prelude.{None, Option, Some, if◌then◌else◌}, proofs.Common.{◌∙◌, ◌≡◌, ◌≢◌, ◌⊎◌, Bool, ap, false, inl, inr, refl, sym}}
+use Rattle.std.proofs.Common.{true}
 use Rattle.base.specs.declared.ids.SlotRef.{SlotRef}
-use Rattle.machine.specs.declared.cap.Cap.{Cap}
-use Rattle.machine.specs.Machine.{Machine, cap_of, parent_of, same_slot}
-use Rattle.machine.specs.WellFormed.{Descends, SlotsFit}
-use Rattle.machine.specs.WellFormed.Descends.{child, further}
-use Rattle.machine.proofs.Exchange.{slot_itself}
-use Rattle.machine.proofs.LookUps.{one_slot}
+use Rattle.machine.specs.{declared.cap.Cap.Cap, Machine.{Machine, cap_of, parent_of, same_slot}, WellFormed.{Descends, SlotsFit}}
+use Rattle.machine.{specs.WellFormed.Descends.{child, further}, proofs.{Exchange.slot_itself, LookUps.one_slot}}
 
 -- an empty slot gets a capability, as a child of a filled slot if it has a parent
 pub record FillsUnder (m : Machine) (slot : SlotRef) (above : Option SlotRef) (new : Cap) (next : Machine) : Type 0 where

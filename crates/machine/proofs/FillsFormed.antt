@@ -1,27 +1,14 @@
 -- A machine stays well formed where an empty slot gets a copy of a capability.
-use Rattle.std.proofs.Common.{◌≡◌, ◌≢◌, ◌<◌, ◌⊎◌, inl, inr, Bool, true, false, refl, sym, ap, subst, ◌∙◌, arith}
-use Rattle.std.specs.Prelude.{Some, None, option_map, if◌then◌else◌}
-use Rattle.std.proofs.lemmas.Option.{same_Some}
-use Rattle.base.specs.declared.ids.ObjId.{ObjId}
-use Rattle.base.specs.declared.ids.SlotRef.{SlotRef}
-use Rattle.machine.specs.declared.cap.Cap.{Cap}
-use Rattle.machine.specs.declared.cap.Detail.{Detail}
-use Rattle.machine.specs.declared.object.Object.{Object}
-use Rattle.machine.specs.declared.object.Object.TheVariants as o
-use Rattle.machine.specs.declared.object.ObjectKind.TheVariants as kind
-use Rattle.machine.specs.declared.slot_address.SlotAddress.{SlotAddress}
-use Rattle.machine.specs.Capabilities.{kind_of_detail}
-use Rattle.machine.specs.Machine.{Machine, object_of, cap_of, parent_of}
-use Rattle.machine.specs.Objects.{kind_of_object, slot_count}
-use Rattle.machine.specs.Tree.{copied, parent_of_copy}
-use Rattle.machine.specs.WellFormed.{Descends, IsWellFormed, SlotsFit, kind_of}
-use Rattle.machine.specs.WellFormed.Descends.{child, further}
-use Rattle.machine.proofs.Copies.{kinds_alike}
-use Rattle.machine.proofs.FilledSlots.{FillsUnder, cap_here, cap_stays, cap_was, child_filled, descent_stays, no_cycle, not_filled}
-use Rattle.machine.proofs.FilledSlots.{old_cap, parent_filled, parent_here, parent_was}
-use Rattle.machine.proofs.LedSlots.{InNode, led_slot}
-use Rattle.machine.proofs.SameObjects.{KeepsDescent, Kin, OneCap, kin_same, kinds_same, links_same, numbers_same, parts_same}
-use Rattle.machine.proofs.SlotChanges.{Fills}
+use Rattle.std.{specs.Prelude.{None, Some, if◌then◌else◌, option_map}, proofs.Common.{◌<◌, ◌∙◌, ◌≡◌, ◌≢◌, ◌⊎◌, Bool, ap, arith, false, inl}}
+use Rattle.std.proofs.{Common.{inr, refl, subst, sym, true}, lemmas.Option.same_Some}
+use Rattle.base.specs.declared.ids.{ObjId.ObjId, SlotRef.SlotRef}
+use Rattle.machine.specs.declared.{cap.{Cap.Cap, Detail.Detail}, object.{Object.{Object, Object as o}, ObjectKind.ObjectKind as kind}}
+use Rattle.machine.specs.{declared.slot_address.SlotAddress.SlotAddress, Capabilities.kind_of_detail, Machine.{Machine, cap_of, object_of}}
+use Rattle.machine.specs.{Machine.parent_of, Objects.{kind_of_object, slot_count}, Tree.{copied, parent_of_copy}, WellFormed.Descends}
+use Rattle.machine.{specs.WellFormed.{IsWellFormed, SlotsFit, kind_of, Descends.{child, further}}, proofs.Copies.kinds_alike}
+use Rattle.machine.proofs.FilledSlots.{FillsUnder, cap_here, cap_stays, cap_was, child_filled, descent_stays, no_cycle, not_filled, old_cap}
+use Rattle.machine.proofs.{FilledSlots.{parent_filled, parent_here, parent_was}, LedSlots.{InNode, led_slot}, SameObjects.KeepsDescent}
+use Rattle.machine.proofs.{SameObjects.{Kin, OneCap, kin_same, kinds_same, links_same, numbers_same, parts_same}, SlotChanges.Fills}
 use Rattle.machine.proofs.SlotRows.{Derives}
 
 -- a slot is there, and takes what a capability says: a root slot, if that is a CNode's

@@ -1,6 +1,5 @@
 -- Who stays in a list that some leave, one after another.
-use Rattle.std.proofs.Common.{◌≡◌, Bool, true, false, cond, ◌&&◌, List, [], ◌∷◌, refl, ap, ◌∙◌}
-use Rattle.std.specs.Prelude.{All, filter}
+use Rattle.std.{specs.Prelude.{All, filter}, proofs.Common.{[], ◌&&◌, ◌∙◌, ◌∷◌, ◌≡◌, Bool, List, ap, cond, false, refl, true}}
 use Rattle.std.proofs.lemmas.List.Elements.{All-head, All-tail}
 
 pub filter_twice : {A : Type 0} (p q : A → Bool) (xs : List A) → filter p (filter q xs) ≡ filter (λ x. q x && p x) xs

@@ -1,17 +1,8 @@
 -- What a call found at an address: the capability in the slot where the lookup ends.
-use Rattle.std.proofs.Common.{◌≡◌, ℕ, Bool, true, false, refl, sym, ap, ◌∙◌}
-use Rattle.std.specs.Prelude.{Option, Some, None, Result, Ok}
-use Rattle.base.specs.declared.ids.ObjId.{ObjId}
-use Rattle.base.specs.declared.ids.SlotRef.{SlotRef}
-use Rattle.base.specs.declared.refusal.Cause.{Cause}
-use Rattle.machine.specs.declared.cap.Cap.{Cap}
-use Rattle.machine.specs.declared.cap.Detail.{Detail}
-use Rattle.machine.specs.Capabilities.{kind_of_detail}
-use Rattle.machine.specs.Lookup.{lookup_of}
-use Rattle.machine.specs.Machine.{Machine, cap_of}
-use Rattle.machine.specs.Refusing.{◌>>=◌}
-use Rattle.machine.specs.Step.Find.{find_cap, held_in, permitted}
-use Rattle.machine.specs.WellFormed.{IsWellFormed, kind_of}
+use Rattle.std.{specs.Prelude.{None, Ok, Option, Result, Some}, proofs.Common.{ℕ, ◌∙◌, ◌≡◌, Bool, ap, false, refl, sym, true}}
+use Rattle.base.specs.declared.{ids.{ObjId.ObjId, SlotRef.SlotRef}, refusal.Cause.Cause}
+use Rattle.machine.specs.{declared.cap.{Cap.Cap, Detail.Detail}, Capabilities.kind_of_detail, Lookup.lookup_of, Machine.{Machine, cap_of}}
+use Rattle.machine.specs.{Refusing.◌>>=◌, Step.Find.{find_cap, held_in, permitted}, WellFormed.{IsWellFormed, kind_of}}
 use Rattle.machine.proofs.Conditions.{both_done, same_ok}
 
 -- the lookup of a thread's address ends at a slot that holds this capability

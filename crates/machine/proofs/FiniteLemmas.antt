@@ -1,12 +1,8 @@
 -- A tabulated map has the function's values.
-use Rattle.std.proofs.Common.{◌≡◌, ℕ, ◌+◌, ◌≤◌, Bool, true, false, cond, List, [], ◌∷◌, length, arith, refl, sym, ap, subst, ◌∙◌}
-use Rattle.std.specs.Prelude.{Option, Some, None, IsSome, ◌||◌}
-use Rattle.std.specs.declared.cmp.Ordering.{Ordering}
-use Rattle.std.specs.Ordering.{eq_by_cmp, is_eq}
-use Rattle.std.specs.Cmp.{Equal-is, IsTotalOrder, tied_itself}
-use Rattle.std.specs.List.{list_any}
+use Rattle.std.specs.{declared.cmp.Ordering.Ordering, Cmp.{Equal-is, IsTotalOrder, tied_itself}, FinMap.{FinMap, IsAntisymmetric}}
 use Rattle.std.specs.FinMap as map
-use Rattle.std.specs.FinMap.{FinMap, IsAntisymmetric}
+use Rattle.std.{specs.{List.list_any, Ordering.{eq_by_cmp, is_eq}, Prelude.{◌||◌, IsSome, None, Option, Some}}, proofs.Common.{[], ℕ, ◌+◌}}
+use Rattle.std.proofs.Common.{◌∙◌, ◌∷◌, ◌≡◌, ◌≤◌, Bool, List, ap, arith, cond, false, length, refl, subst, sym, true}
 use Rattle.std.proofs.lemmas.Bool.{false≢true}
 use Rattle.machine.specs.Finite.{put_some, tabulate}
 

@@ -1,16 +1,10 @@
 -- Sums over the values of a finite map: what comes to the map adds to them, and what goes is missing from them.
-use Rattle.std.proofs.Common.{◌≡◌, ℕ, zero, suc, ◌+◌, ◌-◌, List, [], ◌∷◌, Bool, true, false, cond, length, refl, sym, ap, ◌∙◌, arith}
-use Rattle.std.specs.Prelude.{Option, Some, None, is_some, sum_by}
-use Rattle.std.specs.Cmp.{IsTotalOrder}
-use Rattle.std.specs.Ordering.{eq_by_cmp, is_eq}
-use Rattle.std.specs.declared.cmp.Ordering.{Ordering}
-use Rattle.std.specs.declared.cmp.Ordering.TheVariants.{Less, Equal, Greater}
+use Rattle.std.specs.{declared.cmp.Ordering.{Ordering, TheVariants.{Equal, Greater, Less}}, Cmp.IsTotalOrder, FinMap.FinMap}
+use Rattle.std.specs.{FinMap.{IsAntisymmetric, entries, find, Entries.{by_order, put}}, Ordering.{eq_by_cmp, is_eq}, Prelude.{None, Option}}
 use Rattle.std.specs.FinMap as map
-use Rattle.std.specs.FinMap.{FinMap, IsAntisymmetric, entries, find}
-use Rattle.std.specs.FinMap.Entries.{by_order, put}
-use Rattle.std.proofs.lemmas.List.{nil_from_length}
+use Rattle.std.{specs.Prelude.{Some, is_some, sum_by}, proofs.Common.{[], ℕ, ◌+◌, ◌-◌, ◌∙◌, ◌∷◌, ◌≡◌, Bool, List, ap, arith, cond, false}}
+use Rattle.std.proofs.{Common.{length, refl, suc, sym, true, zero}, Math.Nat.{add_assoc, add_comm}, lemmas.List.nil_from_length}
 use Rattle.std.proofs.lemmas.List.Sums.{sum_by-cons}
-use Rattle.std.proofs.Math.Nat.{add_assoc, add_comm}
 use Rattle.machine.proofs.FiniteLemmas.{by_key, cond_here}
 
 -- so much by each value

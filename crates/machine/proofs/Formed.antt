@@ -1,50 +1,20 @@
 -- Each step keeps a well-formed machine well formed.
-use Rattle.std.proofs.Common.{◌≡◌, ◌≢◌, ℕ, ◌⊎◌, inl, inr, List, [], ◌∷◌, refl, sym, ap, subst}
-use Rattle.std.specs.Prelude.{Bool, Some, None, Result, Ok, Err, option_map}
-use Rattle.base.specs.declared.refusal.Cause.{Cause}
-use Rattle.base.specs.declared.ids.ObjId.{ObjId}
-use Rattle.base.specs.declared.ids.SlotRef.{SlotRef}
-use Rattle.machine.specs.declared.call.Call.{Call}
-use Rattle.machine.specs.declared.call.Call.TheVariants as call
-use Rattle.machine.specs.declared.call.Event.{Event}
-use Rattle.machine.specs.declared.call.Made.{Made}
-use Rattle.machine.specs.declared.call.Outcome.{Outcome}
-use Rattle.machine.specs.declared.cap.Cap.{Cap}
-use Rattle.machine.specs.declared.object.Notification.{Notification}
-use Rattle.machine.specs.declared.object.Object.{Object}
-use Rattle.machine.specs.declared.object.Object.TheVariants as o
-use Rattle.machine.specs.declared.object.ObjectKind.TheVariants as kind
-use Rattle.machine.specs.declared.slot_address.SlotAddress.{SlotAddress}
-use Rattle.machine.specs.declared.thread.RunState.TheVariants as state
-use Rattle.machine.specs.Below.{is_below}
-use Rattle.machine.specs.Machine.{Machine, cap_of, object_of, same_slot, with_object}
-use Rattle.machine.specs.Objects.{kind_of_object}
-use Rattle.machine.specs.Makes.{Makes}
-use Rattle.machine.specs.Releasing.{with_blocked}
-use Rattle.machine.specs.Removal.{removed}
-use Rattle.machine.specs.Run.{Run}
-use Rattle.machine.specs.Step.{ChangesCaller, Step, call_of}
-use Rattle.machine.specs.WellFormed.{IsWellFormed}
-use Rattle.machine.proofs.Admission.{IsCaller}
-use Rattle.machine.proofs.ContextLinks.{binds_formed, object_binds}
-use Rattle.machine.proofs.ContextsFormed.{bind_formed, configure_formed, unbind_formed}
-use Rattle.machine.proofs.FillsFormed.{derives_formed}
-use Rattle.machine.proofs.MessageFormed.{blocked_formed, released_formed}
-use Rattle.machine.proofs.MessageRows.{caller_idle, endpoint_call_formed, fetch_formed, receive_formed, reply_formed, send_formed}
-use Rattle.machine.proofs.MovesFormed.{move_formed}
-use Rattle.machine.proofs.Inversion.{CallDone, EventDone, call_done, step_done}
-use Rattle.machine.proofs.LookUps.{object_of-with_object}
-use Rattle.machine.proofs.NotificationRow.{none_sends}
-use Rattle.machine.proofs.PollRow.{PollDone}
-use Rattle.machine.proofs.RemovalLinks.{removed_formed}
-use Rattle.machine.proofs.RemovalRows.{RemovalDone}
-use Rattle.machine.proofs.RetypeFormed.{retype_formed}
-use Rattle.machine.proofs.SetObject.{other_after, other_before}
-use Rattle.machine.proofs.SignalRow.{SignalDone, Wakes, marked, roused}
-use Rattle.machine.proofs.SpaceFormed.{clear_formed, set_formed}
-use Rattle.machine.proofs.ThreadFormed.{resume_formed, suspend_formed}
-use Rattle.machine.proofs.WaitRow.{WaitDone}
-use Rattle.machine.proofs.WordsFormed.{read_formed, write_formed}
+use Rattle.std.{specs.Prelude.{Bool, Err, None, Ok, Result, Some, option_map}, proofs.Common.{[], ℕ, ◌∷◌, ◌≡◌, ◌≢◌, ◌⊎◌, List, ap, inl}}
+use Rattle.std.proofs.Common.{inr, refl, subst, sym}
+use Rattle.base.specs.declared.{ids.{ObjId.ObjId, SlotRef.SlotRef}, refusal.Cause.Cause}
+use Rattle.machine.specs.declared.{call.{Call.{Call, Call as call}, Event.Event, Made.Made, Outcome.Outcome}, cap.Cap.Cap}
+use Rattle.machine.specs.declared.object.{Notification.Notification, Object.{Object, Object as o}, ObjectKind.ObjectKind as kind}
+use Rattle.machine.specs.{declared.{slot_address.SlotAddress.SlotAddress, thread.RunState.RunState as state}, Below.is_below}
+use Rattle.machine.specs.{Machine.{Machine, cap_of, object_of, same_slot, with_object}, Makes.Makes, Objects.kind_of_object}
+use Rattle.machine.specs.{Releasing.with_blocked, Removal.removed, Run.Run, Step.{ChangesCaller, Step, call_of}, WellFormed.IsWellFormed}
+use Rattle.machine.proofs.{Admission.IsCaller, ContextLinks.{binds_formed, object_binds}, ContextsFormed.{bind_formed, configure_formed}}
+use Rattle.machine.proofs.{ContextsFormed.unbind_formed, FillsFormed.derives_formed, Inversion.{CallDone, EventDone, call_done, step_done}}
+use Rattle.machine.proofs.{LookUps.object_of-with_object, MessageFormed.{blocked_formed, released_formed}, MessageRows.caller_idle}
+use Rattle.machine.proofs.MessageRows.{endpoint_call_formed, fetch_formed, receive_formed, reply_formed, send_formed}
+use Rattle.machine.proofs.{MovesFormed.move_formed, NotificationRow.none_sends, PollRow.PollDone, RemovalLinks.removed_formed}
+use Rattle.machine.proofs.{RemovalRows.RemovalDone, RetypeFormed.retype_formed, SetObject.{other_after, other_before}, SignalRow.SignalDone}
+use Rattle.machine.proofs.{SignalRow.{Wakes, marked, roused}, SpaceFormed.{clear_formed, set_formed}, ThreadFormed.resume_formed}
+use Rattle.machine.proofs.{ThreadFormed.suspend_formed, WaitRow.WaitDone, WordsFormed.{read_formed, write_formed}}
 
 -- a notification's word changes
 module _ (m : Machine) (id : ObjId) (old new : Notification) (was : object_of m id ≡ Some (o.Notification old))

@@ -1,28 +1,14 @@
 -- The notification, the endpoint, the reply, the frame, the thread, the scheduling context and the control that a call found by
 -- their capabilities.
-use Rattle.std.proofs.Common.{◌≡◌, ℕ, Bool, refl, ap}
-use Rattle.std.specs.Prelude.{Option, Some, Ok, option_map}
-use Rattle.base.specs.declared.ids.ObjId.{ObjId}
-use Rattle.base.specs.declared.ids.SlotRef.{SlotRef}
-use Rattle.base.specs.declared.rights.Rights.{Rights}
-use Rattle.machine.specs.declared.cap.Badged.{Badged}
-use Rattle.machine.specs.declared.cap.Cap.{Cap}
-use Rattle.machine.specs.declared.cap.Detail.{Detail}
-use Rattle.machine.specs.declared.cap.Detail.TheVariants as d
-use Rattle.machine.specs.declared.object.Context.{Context}
-use Rattle.machine.specs.declared.object.Endpoint.{Endpoint}
-use Rattle.machine.specs.declared.object.Notification.{Notification}
-use Rattle.machine.specs.declared.object.Object.{Object}
-use Rattle.machine.specs.declared.object.Object.TheVariants as o
+use Rattle.std.{specs.Prelude.{Ok, Option, Some, option_map}, proofs.Common.{ℕ, ◌≡◌, Bool, ap, refl}}
+use Rattle.base.specs.declared.{ids.{ObjId.ObjId, SlotRef.SlotRef}, rights.Rights.Rights}
+use Rattle.machine.specs.declared.{cap.{Badged.Badged, Cap.Cap, Detail.{Detail, Detail as d}}, object.{Context.Context, Endpoint.Endpoint}}
+use Rattle.machine.specs.declared.{object.{Notification.Notification, Object.{Object, Object as o}, Reply.Reply}, thread.Tcb.Tcb}
 use Rattle.machine.specs.declared.object.ObjectKind.TheVariants as kind
-use Rattle.machine.specs.declared.object.Reply.{Reply}
-use Rattle.machine.specs.declared.thread.Tcb.{Tcb}
-use Rattle.machine.specs.Machine.{Machine}
-use Rattle.machine.specs.Objects.{kind_of_object}
-use Rattle.machine.specs.Step.Find.{context_in, control_in, endpoint_in, find_cap, find_context, find_control, find_endpoint}
-use Rattle.machine.specs.Step.Find.{find_frame, find_notification, find_reply, find_tcb, frame_in, notification_in, of_tcb, reply_in}
-use Rattle.machine.proofs.Conditions.{both_done, same_ok}
-use Rattle.machine.proofs.Finding.{FindsObject, finds_cap, finds_object}
+use Rattle.machine.specs.{Machine.Machine, Objects.kind_of_object, Step.Find.{context_in, control_in, endpoint_in, find_cap, find_context}}
+use Rattle.machine.specs.Step.Find.{find_control, find_endpoint, find_frame, find_notification, find_reply, find_tcb, frame_in}
+use Rattle.machine.{specs.Step.Find.{notification_in, of_tcb, reply_in}, proofs.{Conditions.{both_done, same_ok}, Finding.FindsObject}}
+use Rattle.machine.proofs.Finding.{finds_cap, finds_object}
 
 -- a capability of each kind
 

@@ -1,22 +1,12 @@
 -- The slots that go are the least closed set, and those with a reason.
-use Rattle.std.proofs.Common.{◌≡◌, Bool, true, false, not, List, refl, sym, ap, subst, ◌∙◌}
-use Rattle.std.specs.Prelude.{Option, Some, None, is_some, ◌||◌, ◌&&◌}
-use Rattle.std.specs.Bool.{Decides}
-use Rattle.std.specs.FinMap.{keys, contains_key-keys}
-use Rattle.std.specs.List.{list_any}
-use Rattle.std.proofs.lemmas.Bool.{false≢true}
-use Rattle.base.specs.declared.ids.ObjId.{ObjId}
-use Rattle.base.specs.declared.ids.SlotRef.{SlotRef}
-use Rattle.machine.specs.declared.cap.Cap.{Cap}
-use Rattle.machine.specs.declared.object.Object.{Object}
-use Rattle.machine.specs.declared.object.Object.TheVariants as o
-use Rattle.machine.specs.Gone.{has_slots, is_holder, LosesAll, IsClosedSet, IsLeastSet, IsGone, given, with_last}
-use Rattle.machine.specs.Gone.{is_filled_with, some_cap, is_for, stays_for, loses_all, holders, goes_beside, gone_of}
-use Rattle.machine.specs.Machine.{Machine, object_of, cap_of, same_id, same_slot}
-use Rattle.machine.specs.Rounds.{staying}
-use Rattle.machine.proofs.FiniteLemmas.{ties_itself}
-use Rattle.machine.proofs.LookUps.{id_total, id_apart, one_id, one_slot}
-use Rattle.machine.proofs.RoundLemmas.{both_pass, not_passes, or_second, any_found, any_weaker, into_filter, leaves, stays}
+use Rattle.std.specs.{Bool.Decides, FinMap.{contains_key-keys, keys}, List.list_any, Prelude.{◌&&◌, ◌||◌, None, Option, Some, is_some}}
+use Rattle.std.proofs.{Common.{◌∙◌, ◌≡◌, Bool, List, ap, false, not, refl, subst, sym, true}, lemmas.Bool.false≢true}
+use Rattle.base.specs.declared.ids.{ObjId.ObjId, SlotRef.SlotRef}
+use Rattle.machine.specs.{declared.{cap.Cap.Cap, object.Object.{Object, Object as o}}, Gone.{IsClosedSet, IsGone, IsLeastSet, LosesAll}}
+use Rattle.machine.specs.Gone.{given, goes_beside, gone_of, has_slots, holders, is_filled_with, is_for, is_holder, loses_all, some_cap}
+use Rattle.machine.specs.{Gone.{stays_for, with_last}, Machine.{Machine, cap_of, object_of, same_id, same_slot}, Rounds.staying}
+use Rattle.machine.proofs.{FiniteLemmas.ties_itself, LookUps.{id_apart, id_total, one_id, one_slot}, RoundLemmas.{any_found, any_weaker}}
+use Rattle.machine.proofs.RoundLemmas.{both_pass, into_filter, leaves, not_passes, or_second, stays}
 
 pub id_itself : (id : ObjId) → same_id id id ≡ true
 id_itself id = ties_itself id_total id_apart id

@@ -1,18 +1,10 @@
 -- The links of a thread agree at both ends in a machine whose links agree.
-use Rattle.std.proofs.Common.{◌≡◌, List, refl, sym, ap, subst, ◌∙◌}
-use Rattle.std.specs.Prelude.{Some, Contains}
+use Rattle.std.{specs.Prelude.{Contains, Some}, proofs.Common.{◌∙◌, ◌≡◌, List, ap, refl, subst, sym}}
 use Rattle.base.specs.declared.ids.ObjId.{ObjId}
-use Rattle.machine.specs.declared.object.Object.TheVariants as o
-use Rattle.machine.specs.declared.object.Reply.{Reply}
-use Rattle.machine.specs.declared.object.ReplyState.{ReplyState}
-use Rattle.machine.specs.declared.object.ReplyState.TheVariants as reply
-use Rattle.machine.specs.declared.thread.RunState.{RunState}
+use Rattle.machine.specs.declared.object.{Object.Object as o, Reply.Reply, ReplyState.{ReplyState, ReplyState as reply}}
+use Rattle.machine.specs.{declared.thread.{RunState.RunState, Tcb.Tcb}, Finalising.IsHolding, Machine.{Machine, object_of, queue_of}}
 use Rattle.machine.specs.declared.thread.RunState.TheVariants as state
-use Rattle.machine.specs.declared.thread.Tcb.{Tcb}
-use Rattle.machine.specs.Finalising.{IsHolding}
-use Rattle.machine.specs.Machine.{Machine, object_of, queue_of}
-use Rattle.machine.specs.WellFormed.{IsCallingThrough, IsReceivingWith, IsThread, LinksAgree, WaitsAt}
-use Rattle.machine.proofs.Leaving.{HasLinks, Names}
+use Rattle.machine.{specs.WellFormed.{IsCallingThrough, IsReceivingWith, IsThread, LinksAgree, WaitsAt}, proofs.Leaving.{HasLinks, Names}}
 use Rattle.machine.proofs.RemovalTable.{one_thread}
 
 pub receiving_names : (run : RunState) (id : ObjId) → IsReceivingWith run id → Names run id

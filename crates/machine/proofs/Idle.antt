@@ -1,18 +1,9 @@
 -- A thread whose run state waits at nothing and names nothing is in no queue, and no reply holds it.
-use Rattle.std.proofs.Common.{◌≡◌, ◌≢◌, List, refl, subst}
-use Rattle.std.specs.Prelude.{Some, Contains}
+use Rattle.std.{specs.Prelude.{Contains, Some}, proofs.Common.{◌≡◌, ◌≢◌, List, refl, subst}}
 use Rattle.base.specs.declared.ids.ObjId.{ObjId}
-use Rattle.machine.specs.declared.object.Object.TheVariants as o
-use Rattle.machine.specs.declared.object.Reply.{Reply}
-use Rattle.machine.specs.declared.thread.RunState.{RunState}
-use Rattle.machine.specs.declared.thread.RunState.TheVariants as state
-use Rattle.machine.specs.declared.thread.Tcb.{Tcb}
-use Rattle.machine.specs.Finalising.{IsHolding}
-use Rattle.machine.specs.Machine.{Machine, object_of, queue_of}
-use Rattle.machine.specs.Releasing.{unblocked}
-use Rattle.machine.specs.WellFormed.{IsCallingThrough, IsIdle, IsReceivingWith, IsThread, LinksAgree, WaitsAt}
-use Rattle.machine.proofs.HeldThreads.{links_of}
-use Rattle.machine.proofs.Leaving.{Names}
+use Rattle.machine.specs.declared.{object.{Object.Object as o, Reply.Reply}, thread.{RunState.{RunState, RunState as state}, Tcb.Tcb}}
+use Rattle.machine.specs.{Finalising.IsHolding, Machine.{Machine, object_of, queue_of}, Releasing.unblocked, WellFormed.IsCallingThrough}
+use Rattle.machine.{specs.WellFormed.{IsIdle, IsReceivingWith, IsThread, LinksAgree, WaitsAt}, proofs.{HeldThreads.links_of, Leaving.Names}}
 
 pub idle_waits : (run : RunState) → IsIdle run → (id : ObjId) → ¬ (WaitsAt run id)
 idle_waits state.Inactive idle id waits = waits

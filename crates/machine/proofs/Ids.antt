@@ -1,14 +1,8 @@
 -- Cases on whether two numbers of objects are one, and when two slots are.
-use Rattle.std.proofs.Common.{◌≡◌, ◌≢◌, ℕ, ◌⊎◌, inl, inr, Bool, true, false, ◌&&◌, eqb, refl, sym, ap, subst, ◌∙◌, arith}
-use Rattle.std.specs.Prelude.{if◌then◌else◌}
-use Rattle.std.specs.Ordering.{is_eq}
-use Rattle.std.specs.Cmp.{tied_itself}
-use Rattle.std.proofs.lemmas.Bool.{false≢true}
-use Rattle.std.proofs.lemmas.Bool.Decides.{nat_tests}
-use Rattle.base.specs.declared.ids.ObjId.{ObjId}
-use Rattle.base.specs.declared.ids.SlotRef.{SlotRef}
-use Rattle.machine.specs.Machine.{same_id}
-use Rattle.machine.proofs.LookUps.{id_total, one_id}
+use Rattle.std.{specs.{Cmp.tied_itself, Ordering.is_eq, Prelude.if◌then◌else◌}, proofs.Common.{ℕ, ◌&&◌, ◌∙◌, ◌≡◌, ◌≢◌, ◌⊎◌, Bool, ap}}
+use Rattle.std.proofs.{Common.{arith, eqb, false, inl, inr, refl, subst, sym, true}, lemmas.Bool.{false≢true, Decides.nat_tests}}
+use Rattle.base.specs.declared.ids.{ObjId.ObjId, SlotRef.SlotRef}
+use Rattle.machine.{specs.Machine.same_id, proofs.LookUps.{id_total, one_id}}
 
 pub itself : (id : ObjId) → same_id id id ≡ true
 itself id = ap is_eq (tied_itself id_total id)

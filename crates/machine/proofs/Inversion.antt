@@ -1,33 +1,16 @@
 -- What is known of a step that was made: its caller was admitted, and its call did what its row says.
-use Rattle.std.proofs.Common.{◌≡◌, ◌⊎◌, inl, inr, refl, sym, ap, ◌∙◌}
-use Rattle.std.specs.Prelude.{Result, Ok, Err}
-use Rattle.base.specs.declared.ids.ObjId.{ObjId}
-use Rattle.base.specs.declared.refusal.Cause.{Cause}
-use Rattle.machine.specs.declared.call.Call.{Call}
+use Rattle.std.{specs.Prelude.{Err, Ok, Result}, proofs.Common.{◌∙◌, ◌≡◌, ◌⊎◌, ap, inl, inr, refl, sym}}
+use Rattle.base.specs.declared.{ids.ObjId.ObjId, refusal.Cause.Cause}
+use Rattle.machine.specs.{declared.call.{Call.Call, Event.Event, Made.Made, Outcome.Outcome}, Below.is_below, Machine.{Machine, same_slot}}
 use Rattle.machine.specs.declared.call.Call.TheVariants as call
-use Rattle.machine.specs.declared.call.Event.{Event}
-use Rattle.machine.specs.declared.call.Made.{Made}
-use Rattle.machine.specs.declared.call.Outcome.{Outcome}
-use Rattle.machine.specs.Below.{is_below}
-use Rattle.machine.specs.Machine.{Machine, same_slot}
-use Rattle.machine.specs.Step.{Step, step_of, settled, made_by, call_of, admitted}
-use Rattle.machine.specs.Step.Step.{ends, lacks}
-use Rattle.machine.specs.WellFormed.{IsWellFormed}
-use Rattle.machine.proofs.Admission.{IsCaller, admits}
-use Rattle.machine.proofs.Conditions.{both_done}
-use Rattle.machine.proofs.ContextRow.{BindDone, ConfigureDone, UnbindDone, bind_done, configure_done, unbind_done}
-use Rattle.machine.proofs.PollRow.{PollDone, poll_done}
-use Rattle.machine.proofs.FetchRow.{FetchDone, fetch_done}
-use Rattle.machine.proofs.ReceiveRow.{ReceiveDone, receive_done}
-use Rattle.machine.proofs.RemovalRows.{RemovalDone, delete_done, revoke_done}
-use Rattle.machine.proofs.ReplyRow.{ReplyDone, reply_done}
-use Rattle.machine.proofs.RetypeRow.{RetypeDone, retype_done}
-use Rattle.machine.proofs.SendRow.{EndpointCallDone, SendDone, endpoint_call_done, send_done}
-use Rattle.machine.proofs.SignalRow.{SignalDone, signal_done}
-use Rattle.machine.proofs.SlotRows.{Derives, MoveDone, copy_done, mint_done, move_done}
-use Rattle.machine.proofs.SpaceRow.{ClearDone, SetDone, clear_done, set_done}
-use Rattle.machine.proofs.ThreadRow.{ResumeDone, SuspendDone, resume_done, suspend_done}
-use Rattle.machine.proofs.WaitRow.{WaitDone, wait_done}
+use Rattle.machine.specs.{Step.{Step, admitted, call_of, made_by, settled, step_of, Step.{ends, lacks}}, WellFormed.IsWellFormed}
+use Rattle.machine.proofs.{Admission.{IsCaller, admits}, Conditions.both_done, ContextRow.{BindDone, ConfigureDone, UnbindDone, bind_done}}
+use Rattle.machine.proofs.{ContextRow.{configure_done, unbind_done}, FetchRow.{FetchDone, fetch_done}, PollRow.{PollDone, poll_done}}
+use Rattle.machine.proofs.{ReceiveRow.{ReceiveDone, receive_done}, RemovalRows.{RemovalDone, delete_done, revoke_done}, ReplyRow.ReplyDone}
+use Rattle.machine.proofs.{ReplyRow.reply_done, RetypeRow.{RetypeDone, retype_done}, SendRow.{EndpointCallDone, SendDone}}
+use Rattle.machine.proofs.{SendRow.{endpoint_call_done, send_done}, SignalRow.{SignalDone, signal_done}, SlotRows.{Derives, MoveDone}}
+use Rattle.machine.proofs.{SlotRows.{copy_done, mint_done, move_done}, SpaceRow.{ClearDone, SetDone, clear_done, set_done}}
+use Rattle.machine.proofs.{ThreadRow.{ResumeDone, SuspendDone, resume_done, suspend_done}, WaitRow.{WaitDone, wait_done}}
 use Rattle.machine.proofs.WordsRow.{WriteDone, read_done, write_done}
 
 -- what a call did, row by row

@@ -1,29 +1,16 @@
 -- Queues, replies and contexts stay linked at both ends where a thread that is idle comes to wait at an object, or for an answer.
-use Rattle.std.proofs.Common.{◌≡◌, ◌≢◌, ℕ, ◌⊎◌, inl, inr, List, [], ◌∷◌, ◌++◌, get_or, refl, sym, ap, subst, ◌∙◌}
-use Rattle.std.specs.Prelude.{Some, AllPairs, Contains}
-use Rattle.std.proofs.lemmas.List.Elements.{Contains-append_left, Contains-get_or, Contains-push, Contains-push_cases}
-use Rattle.std.proofs.lemmas.List.Quantifiers.{all_pairs_push}
-use Rattle.std.proofs.lemmas.Option.{same_Some}
+use Rattle.std.{specs.Prelude.{AllPairs, Contains, Some}, proofs.Common.{[], ℕ, ◌++◌, ◌∙◌, ◌∷◌, ◌≡◌, ◌≢◌, ◌⊎◌, List, ap, get_or, inl, inr}}
+use Rattle.std.proofs.{Common.{refl, subst, sym}, lemmas.List.Elements.{Contains-append_left, Contains-get_or, Contains-push}}
+use Rattle.std.proofs.lemmas.{List.{Elements.Contains-push_cases, Quantifiers.all_pairs_push}, Option.same_Some}
 use Rattle.base.specs.declared.ids.ObjId.{ObjId}
-use Rattle.machine.specs.declared.object.Context.{Context}
-use Rattle.machine.specs.declared.object.Object.TheVariants as o
-use Rattle.machine.specs.declared.object.ObjectKind.{ObjectKind}
+use Rattle.machine.specs.declared.object.{Context.Context, Object.Object as o, ObjectKind.ObjectKind, Reply.Reply, ReplyState.ReplyState}
 use Rattle.machine.specs.declared.object.ObjectKind.TheVariants as kind
-use Rattle.machine.specs.declared.object.Reply.{Reply}
-use Rattle.machine.specs.declared.object.ReplyState.{ReplyState}
 use Rattle.machine.specs.declared.object.ReplyState.TheVariants as reply
-use Rattle.machine.specs.declared.thread.RunState.{RunState}
+use Rattle.machine.specs.{declared.thread.{RunState.RunState, Tcb.Tcb}, Finalising.IsHolding, Machine.{Machine, object_of, queue_of}}
 use Rattle.machine.specs.declared.thread.RunState.TheVariants as state
-use Rattle.machine.specs.declared.thread.Tcb.{Tcb}
-use Rattle.machine.specs.Finalising.{IsHolding}
-use Rattle.machine.specs.Machine.{Machine, object_of, queue_of}
 use Rattle.machine.specs.WellFormed.{IsAlike, IsCallingThrough, IsIdle, IsReceivingWith, IsSending, IsThread, LinksAgree, WaitsAt}
-use Rattle.machine.specs.WellFormed.{WaitsAtKind, kind_of}
-use Rattle.machine.proofs.Idle.{idle_held_by_none, idle_in_none}
-use Rattle.machine.proofs.Ids.{one_or_two}
-use Rattle.machine.proofs.Joins.{IsJoined, hold_for, names_or_not, waits_or_not}
-use Rattle.machine.proofs.Leaving.{Names}
-use Rattle.machine.proofs.Outlines.{Steady, same_kinds}
+use Rattle.machine.{specs.WellFormed.{WaitsAtKind, kind_of}, proofs.{Idle.{idle_held_by_none, idle_in_none}, Ids.one_or_two}}
+use Rattle.machine.proofs.{Joins.{IsJoined, hold_for, names_or_not, waits_or_not}, Leaving.Names, Outlines.{Steady, same_kinds}}
 use Rattle.machine.proofs.RemovalTable.{one_thread}
 
 -- where a run state waits, it waits as goes with the kind of the object, and as the others there do

@@ -1,16 +1,9 @@
 -- Each way between a kind of object and its word.
-use Rattle.std.proofs.Common.{◌≡◌, ℕ, Bool, true, false, cond, List, [], ◌∷◌, Option, Some, None, refl, subst}
-use Rattle.std.specs.Prelude.{⊤}
-use Rattle.std.specs.Bool.{Decides}
-use Rattle.std.specs.List.{find, AllByRecursion}
-use Rattle.std.specs.Str.{bytes_eq}
-use Rattle.std.proofs.lemmas.Option.{same_Some}
-use Rattle.std.proofs.lemmas.Slice.Eq.{bytes_eq-Decides}
-use Rattle.machine.specs.declared.object.MemoryKind.{MemoryKind}
-use Rattle.machine.specs.declared.object.MemoryKind.TheVariants as memory
-use Rattle.machine.specs.declared.object.ObjectKind.{ObjectKind}
+use Rattle.std.{specs.{Bool.Decides, List.{AllByRecursion, find}, Prelude.⊤, Str.bytes_eq}, proofs.Common.{[], ℕ, ◌∷◌, ◌≡◌, Bool, List}}
+use Rattle.std.proofs.{Common.{None, Option, Some, cond, false, refl, subst, true}, lemmas.{Option.same_Some, Slice.Eq.bytes_eq-Decides}}
+use Rattle.machine.specs.{declared.object.{MemoryKind.{MemoryKind, MemoryKind as memory}, ObjectKind.ObjectKind}, KindWords.kind_of_memory}
 use Rattle.machine.specs.declared.object.ObjectKind.TheVariants as kind
-use Rattle.machine.specs.KindWords.{kind_of_memory, memory_kind_in, memory_kind_of, memory_kind_word, object_kind_of, object_kind_word, object_kinds}
+use Rattle.machine.specs.KindWords.{memory_kind_in, memory_kind_of, memory_kind_word, object_kind_of, object_kind_word, object_kinds}
 
 -- a word that was found among the words of values is the word of the one that was found
 pub found_word : {X : Type 0} (spell : X → List ℕ) (P : X → Type 0) (word : List ℕ) (xs : List X) (x : X) → AllByRecursion P xs

@@ -1,26 +1,17 @@
 -- A thread whose links agree at both ends leaves its queue and its reply: no queue has it, no reply holds it, and all else is as it was.
-use Rattle.std.proofs.Common.{◌≡◌, ◌≢◌, ◌⊎◌, inl, inr, Bool, true, false, not, cond, List, ◌∷◌, refl, sym, ap, subst, ◌∙◌}
-use Rattle.std.specs.Prelude.{Option, Some, None, Contains, filter, option_map, if◌then◌else◌}
-use Rattle.std.proofs.lemmas.List.Elements.{All-weaker, All-contains_itself}
-use Rattle.std.proofs.lemmas.Option.{none-some, same_Some}
+use Rattle.std.{specs.Prelude.{Contains, None, Option, Some, filter, if◌then◌else◌, option_map}, proofs.Common.{◌∙◌, ◌∷◌, ◌≡◌, ◌≢◌, ◌⊎◌}}
+use Rattle.std.proofs.Common.{Bool, List, ap, cond, false, inl, inr, not, refl, subst, sym, true}
+use Rattle.std.proofs.lemmas.{List.Elements.{All-contains_itself, All-weaker}, Option.{none-some, same_Some}}
 use Rattle.base.specs.declared.ids.ObjId.{ObjId}
-use Rattle.machine.specs.declared.object.Object.{Object}
-use Rattle.machine.specs.declared.object.Object.TheVariants as o
-use Rattle.machine.specs.declared.object.Reply.{Reply}
-use Rattle.machine.specs.declared.object.ReplyState.{ReplyState}
+use Rattle.machine.specs.declared.{object.{Object.{Object, Object as o}, Reply.Reply, ReplyState.ReplyState}, thread.RunState.RunState}
 use Rattle.machine.specs.declared.object.ReplyState.TheVariants as reply
-use Rattle.machine.specs.declared.thread.RunState.{RunState}
 use Rattle.machine.specs.declared.thread.RunState.TheVariants as state
-use Rattle.machine.specs.declared.thread.Tcb.{Tcb}
-use Rattle.machine.specs.Changes.{with_reply, with_tcb, without_first, without_waiting}
-use Rattle.machine.specs.Finalising.{IsHolding, aborted, halted}
-use Rattle.machine.specs.Machine.{Machine, object_of, queue_of, same_id, with_object, with_queue}
+use Rattle.machine.specs.{declared.thread.Tcb.Tcb, Changes.{with_reply, with_tcb, without_first, without_waiting}, Finalising.IsHolding}
+use Rattle.machine.specs.{Finalising.{aborted, halted}, Machine.{Machine, object_of, queue_of, same_id, with_object, with_queue}}
 use Rattle.machine.specs.Releasing.{SameRest, reply_by, unblocked, with_aborted, with_free, with_halted, with_holding, with_named}
-use Rattle.machine.specs.Releasing.{with_released}
-use Rattle.machine.specs.WellFormed.{IsThread, WaitsAt}
-use Rattle.machine.proofs.Filters.{filter_all}
-use Rattle.machine.proofs.Ids.{at_itself, at_other, itself, one_or_two}
-use Rattle.machine.proofs.LookUps.{object_of-with_object, object_of-with_queue, one_id, queue_of-with_object, queue_of-with_queue}
+use Rattle.machine.{specs.{Releasing.with_released, WellFormed.{IsThread, WaitsAt}}, proofs.{Filters.filter_all, Ids.{at_itself, at_other}}}
+use Rattle.machine.proofs.{Ids.{itself, one_or_two}, LookUps.{object_of-with_object, object_of-with_queue, one_id, queue_of-with_object}}
+use Rattle.machine.proofs.LookUps.{queue_of-with_queue}
 
 -- whether a run state names a reply
 abbrev pub Names : RunState → ObjId → Type 0

@@ -1,26 +1,12 @@
 -- A lookup ends at a slot of a CNode.
-use Rattle.std.proofs.Common.{◌≡◌, ℕ, zero, suc, ◌+◌, ◌*◌, ◌^◌, ◌<◌, Bool, true, false, List, [], ◌∷◌, length, refl, sym, ap, subst}
-use Rattle.std.proofs.Common.{◌∙◌, arith}
-use Rattle.std.specs.Prelude.{Option, Some, None, Result, Ok, Err, IsTrue}
-use Rattle.std.proofs.lemmas.Bool.{lt-ltb}
-use Rattle.std.proofs.Math.Nat.{pow-succ'}
-use Rattle.base.specs.declared.ids.ObjId.{ObjId}
-use Rattle.base.specs.declared.ids.SlotRef.{SlotRef}
-use Rattle.base.specs.declared.refusal.LookupFailure.{LookupFailure}
-use Rattle.base.specs.declared.refusal.LookupFailure.TheVariants.{DepthMismatch, GuardMismatch}
-use Rattle.machine.specs.declared.cap.Cap.{Cap}
-use Rattle.machine.specs.declared.cap.Detail.{Detail}
-use Rattle.machine.specs.declared.cap.Detail.TheVariants as d
-use Rattle.machine.specs.declared.cap.Guard.{Guard}
-use Rattle.machine.specs.declared.object.CNode.{CNode}
-use Rattle.machine.specs.declared.object.Object.{Object}
-use Rattle.machine.specs.declared.object.Object.TheVariants as o
-use Rattle.machine.specs.declared.slot_address.SlotAddress.{SlotAddress}
-use Rattle.machine.specs.Bits.{after, number_from, number, split}
-use Rattle.machine.specs.Lookup.{Level, hop, level_at, level_of_cap, level_through, onward, walk}
-use Rattle.machine.specs.Machine.{Machine, cap_of, has_slot, object_of}
-use Rattle.machine.specs.Objects.{slot_count}
-use Rattle.machine.proofs.SlotRows.{LeadsTo}
+use Rattle.std.{specs.Prelude.{Err, IsTrue, None, Ok, Option, Result, Some}, proofs.Common.{[], ℕ, ◌*◌, ◌+◌, ◌<◌, ◌^◌, ◌∙◌, ◌∷◌, ◌≡◌, Bool}}
+use Rattle.std.proofs.{Common.{List, ap, arith, false, length, refl, subst, suc, sym, true, zero}, Math.Nat.pow-succ', lemmas.Bool.lt-ltb}
+use Rattle.base.specs.declared.{ids.{ObjId.ObjId, SlotRef.SlotRef}, refusal.LookupFailure.{LookupFailure, TheVariants.DepthMismatch}}
+use Rattle.base.specs.declared.refusal.LookupFailure.TheVariants.{GuardMismatch}
+use Rattle.machine.specs.declared.{cap.{Cap.Cap, Detail.{Detail, Detail as d}, Guard.Guard}, object.{CNode.CNode, Object.Object}}
+use Rattle.machine.specs.{declared.{object.Object.Object as o, slot_address.SlotAddress.SlotAddress}, Bits.{after, number, number_from}}
+use Rattle.machine.specs.{Bits.split, Lookup.{Level, hop, level_at, level_of_cap, level_through, onward, walk}, Machine.{Machine, cap_of}}
+use Rattle.machine.{specs.{Machine.{has_slot, object_of}, Objects.slot_count}, proofs.SlotRows.LeadsTo}
 
 -- a level is a CNode of that radix
 abbrev pub IsNode : Machine → Level → Type 0

@@ -1,20 +1,11 @@
 -- What a call lends and an answer gives back: whose the context is, and who has none.
-use Rattle.std.proofs.Common.{◌≡◌, ◌⊎◌, inl, inr, Bool, true, false, refl, sym, ap, subst, ◌∙◌}
-use Rattle.std.specs.Prelude.{Option, Some, None, if◌then◌else◌}
-use Rattle.std.proofs.lemmas.Bool.{and_parts, false≢true}
-use Rattle.std.proofs.lemmas.Option.{none-some, same_Some}
+use Rattle.std.{specs.Prelude.{None, Option, Some, if◌then◌else◌}, proofs.Common.{◌∙◌, ◌≡◌, ◌⊎◌, Bool, ap, false, inl, inr, refl, subst}}
+use Rattle.std.proofs.{Common.{sym, true}, lemmas.{Bool.{and_parts, false≢true}, Option.{none-some, same_Some}}}
 use Rattle.base.specs.declared.ids.ObjId.{ObjId}
-use Rattle.machine.specs.declared.object.Object.{Object}
-use Rattle.machine.specs.declared.object.Object.TheVariants as o
-use Rattle.machine.specs.declared.thread.Lent.{Lent}
-use Rattle.machine.specs.declared.thread.Tcb.{Tcb}
-use Rattle.machine.specs.Machine.{Machine, object_of, same_id}
-use Rattle.machine.specs.Step.Bind.{context_under, with_handed}
-use Rattle.machine.specs.Step.Reply.{gives_back, has_on_loan, lent_in, with_returned}
-use Rattle.machine.specs.Step.Send.{lent_by, loan}
-use Rattle.machine.specs.WellFormed.{IsThread, IsWellFormed}
-use Rattle.machine.proofs.ContextsFormed.{handed_there, with_handed_formed}
-use Rattle.machine.proofs.LookUps.{one_id}
+use Rattle.machine.specs.{declared.{object.Object.{Object, Object as o}, thread.{Lent.Lent, Tcb.Tcb}}, Machine.{Machine, object_of}}
+use Rattle.machine.specs.{Machine.same_id, Step.{Bind.{context_under, with_handed}, Reply.{gives_back, has_on_loan, lent_in}}}
+use Rattle.machine.specs.{Step.{Reply.with_returned, Send.{lent_by, loan}}, WellFormed.{IsThread, IsWellFormed}}
+use Rattle.machine.proofs.{ContextsFormed.{handed_there, with_handed_formed}, LookUps.one_id}
 
 -- a caller lends to a receiver what it runs on, and the receiver runs on nothing
 pub record Lends (m : Machine) (caller receiver : ObjId) (lent : Lent) : Type 0 where

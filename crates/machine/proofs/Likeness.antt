@@ -1,17 +1,10 @@
 -- What an object shows where only a watermark changes, and what a new object is like.
-use Rattle.std.proofs.Common.{◌≡◌, ◌≢◌, ℕ, ◌<◌, ◌≤◌, ◌⊎◌, inl, inr, List, [], length, refl, ap, arith}
-use Rattle.std.proofs.lemmas.Bool.{cases_order}
-use Rattle.std.specs.Prelude.{Option, Some, None, Contains, AllPairs, option_map}
+use Rattle.std.{specs.Prelude.{AllPairs, Contains, None, Option, Some, option_map}, proofs.Common.{[], ℕ, ◌<◌, ◌≡◌, ◌≢◌, ◌≤◌, ◌⊎◌, List}}
+use Rattle.std.proofs.{Common.{ap, arith, inl, inr, length, refl}, lemmas.Bool.cases_order}
 use Rattle.base.specs.declared.ids.ObjId.{ObjId}
-use Rattle.machine.specs.declared.object.Object.{Object}
-use Rattle.machine.specs.declared.object.Object.TheVariants as o
-use Rattle.machine.specs.declared.object.ObjectKind.{ObjectKind}
-use Rattle.machine.specs.declared.object.ReplyState.TheVariants as reply
-use Rattle.machine.specs.declared.object.Untyped.{Untyped}
-use Rattle.machine.specs.declared.thread.RunState.TheVariants as state
-use Rattle.machine.specs.Machine.{Machine, object_of}
-use Rattle.machine.specs.Objects.{kind_of_object, slot_count, word_count, address_of, end_of}
-use Rattle.machine.specs.WellFormed.{IsRanged, LiesIn, kind_of}
+use Rattle.machine.specs.declared.object.{Object.{Object, Object as o}, ObjectKind.ObjectKind, ReplyState.ReplyState as reply}
+use Rattle.machine.specs.{declared.{object.Untyped.Untyped, thread.RunState.RunState as state}, Machine.{Machine, object_of}}
+use Rattle.machine.specs.{Objects.{address_of, end_of, kind_of_object, slot_count, word_count}, WellFormed.{IsRanged, LiesIn, kind_of}}
 use Rattle.machine.proofs.ObjectMade.{marked}
 
 -- an object as it is when it is made: it has links to no other, and untyped memory is unused

@@ -1,30 +1,16 @@
 -- A call and the answer to it, with nothing between them, leave each thread on what it ran on: what the call lent comes back.
-use Rattle.std.proofs.Common.{◌≡◌, ◌≢◌, ◌⊎◌, inl, inr, Bool, true, false, List, ℕ, refl, sym, ap, subst, ◌∙◌}
-use Rattle.std.specs.Prelude.{Option, Some, None, option_map, if◌then◌else◌}
-use Rattle.std.proofs.lemmas.Bool.{and_from}
-use Rattle.std.proofs.lemmas.Option.{none-some, same_Some}
+use Rattle.std.{specs.Prelude.{None, Option, Some, if◌then◌else◌, option_map}, proofs.Common.{ℕ, ◌∙◌, ◌≡◌, ◌≢◌, ◌⊎◌, Bool, List, ap, false}}
+use Rattle.std.proofs.{Common.{inl, inr, refl, subst, sym, true}, lemmas.{Bool.and_from, Option.{none-some, same_Some}}}
 use Rattle.base.specs.declared.ids.ObjId.{ObjId}
-use Rattle.machine.specs.declared.object.Context.{Context}
-use Rattle.machine.specs.declared.object.Object.{Object}
-use Rattle.machine.specs.declared.object.Object.TheVariants as o
-use Rattle.machine.specs.declared.thread.Lent.{Lent}
+use Rattle.machine.specs.{declared.{object.{Context.Context, Object.{Object, Object as o}}, thread.{Lent.Lent, Tcb.Tcb}}, Finalising.halted}
 use Rattle.machine.specs.declared.thread.RunState.TheVariants as state
-use Rattle.machine.specs.declared.thread.Tcb.{Tcb}
-use Rattle.machine.specs.Finalising.{halted}
-use Rattle.machine.specs.Machine.{Machine, object_of, same_id}
-use Rattle.machine.specs.Releasing.{given, with_called, with_halted, with_released}
-use Rattle.machine.specs.Step.Bind.{context_under, with_handed}
-use Rattle.machine.specs.Step.Reply.{answered, gives_back, has_on_loan, lent_in, with_returned}
-use Rattle.machine.specs.Step.Send.{called_through, lent_by, with_lent}
-use Rattle.machine.specs.WellFormed.{IsFree, IsThread, IsWellFormed}
-use Rattle.machine.proofs.ContextsFormed.{handed_from, handed_other, handed_there}
-use Rattle.machine.proofs.Ids.{itself, one_or_two}
-use Rattle.machine.proofs.Joins.{IsJoined}
-use Rattle.machine.proofs.Leaving.{freed}
-use Rattle.machine.proofs.Lending.{GivesBack, Lends, lends, returned_formed, returned_or_same, returned_there}
-use Rattle.machine.proofs.LookUps.{one_id}
-use Rattle.machine.proofs.MessageRows.{called_through_formed, lending_formed, lending_receiver, lending_there, waits_joins}
-use Rattle.machine.proofs.Releases.{released_is}
+use Rattle.machine.specs.{Machine.{Machine, object_of, same_id}, Releasing.{given, with_called, with_halted, with_released}}
+use Rattle.machine.specs.Step.{Bind.{context_under, with_handed}, Reply.{answered, gives_back, has_on_loan, lent_in, with_returned}}
+use Rattle.machine.specs.{Step.Send.{called_through, lent_by, with_lent}, WellFormed.{IsFree, IsThread, IsWellFormed}}
+use Rattle.machine.proofs.{ContextsFormed.{handed_from, handed_other, handed_there}, Ids.{itself, one_or_two}, Joins.IsJoined}
+use Rattle.machine.proofs.{Leaving.freed, Lending.{GivesBack, Lends, lends, returned_formed, returned_or_same, returned_there}}
+use Rattle.machine.proofs.{LookUps.one_id, MessageRows.{called_through_formed, lending_formed, lending_receiver, lending_there}}
+use Rattle.machine.proofs.{MessageRows.waits_joins, Releases.released_is}
 
 -- a thread that leaves its queue and its reply keeps its context
 freed_under : (thread : ObjId) (content : Option Object) → context_under (option_map (freed thread) content) ≡ context_under content

@@ -1,20 +1,14 @@
 -- What each look-up answers after each change: a change is seen where it is made, and nowhere else. Objects and slots are totally
 -- ordered by their numbers.
-use Rattle.std.specs.Prelude.{◌≡◌, true, cond, List, [], Some, None, replicate, refl}
-use Rattle.std.proofs.Common.{T, sym, ap, subst}
-use Rattle.std.specs.Ordering.{nat_cmp, ordering_then, is_eq}
-use Rattle.std.specs.declared.cmp.Ordering.TheVariants.{Less, Equal, Greater}
-use Rattle.std.specs.declared.cmp.Ordering.{Ordering}
-use Rattle.std.specs.Cmp.{Equal-is, IsTotalOrder, on_total, then_total, nat_cmp_total}
+use Rattle.std.specs.{declared.cmp.Ordering.{Ordering, TheVariants.{Equal, Greater, Less}}, Cmp.{Equal-is, IsTotalOrder, nat_cmp_total}}
+use Rattle.std.specs.{Cmp.{on_total, then_total}, FinMap.{IsAntisymmetric, nat_cmp-IsAntisymmetric, same_map}, Ordering.{is_eq, nat_cmp}}
 use Rattle.std.specs.FinMap as map
-use Rattle.std.specs.FinMap.{IsAntisymmetric, nat_cmp-IsAntisymmetric, same_map}
-use Rattle.base.specs.declared.ids.ObjId.{ObjId}
-use Rattle.base.specs.declared.ids.SlotRef.{SlotRef}
-use Rattle.machine.specs.declared.cap.Cap.{Cap}
-use Rattle.machine.specs.declared.object.Object.{Object}
-use Rattle.machine.specs.Objects.{word_count}
-use Rattle.machine.specs.Machine.{Machine, empty_machine, id_cmp, slot_cmp, same_id, same_slot, object_of, queue_of, words_of}
-use Rattle.machine.specs.Machine.{cap_of, parent_of, with_object, with_queue, with_cap, with_parent, with_new}
+use Rattle.std.{specs.{Ordering.ordering_then, Prelude.{[], ◌≡◌, List, None, Some, cond, refl, replicate, true}}, proofs.Common.{T, ap}}
+use Rattle.std.proofs.Common.{subst, sym}
+use Rattle.base.specs.declared.ids.{ObjId.ObjId, SlotRef.SlotRef}
+use Rattle.machine.specs.{declared.{cap.Cap.Cap, object.Object.Object}, Machine.{Machine, cap_of, empty_machine, id_cmp, object_of}}
+use Rattle.machine.specs.Machine.{parent_of, queue_of, same_id, same_slot, slot_cmp, with_cap, with_new, with_object, with_parent}
+use Rattle.machine.specs.{Machine.{with_queue, words_of}, Objects.word_count}
 
 pub id_total : IsTotalOrder id_cmp
 id_total = on_total (λ (id : ObjId). id.0) nat_cmp_total

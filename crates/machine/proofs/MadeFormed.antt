@@ -1,34 +1,17 @@
 -- A machine stays well formed where an object is made at the end of what is in use of untyped memory.
-use Rattle.std.proofs.Common.{◌≡◌, ◌≢◌, ℕ, ◌<◌, ◌≤◌, ◌⊎◌, inl, inr, true, List, [], length, sym, ap, subst, ◌∙◌, arith}
-use Rattle.std.proofs.lemmas.List.{length-replicate}
-use Rattle.std.proofs.lemmas.Option.{same_Some}
-use Rattle.std.specs.Prelude.{Some, None, Contains, AllPairs, option_map, replicate}
-use Rattle.base.specs.declared.ids.ObjId.{ObjId}
-use Rattle.base.specs.declared.ids.SlotRef.{SlotRef}
-use Rattle.machine.specs.declared.cap.Cap.{Cap}
-use Rattle.machine.specs.declared.cap.Detail.{Detail}
-use Rattle.machine.specs.declared.object.Object.{Object}
-use Rattle.machine.specs.declared.object.Object.TheVariants as o
-use Rattle.machine.specs.declared.object.ObjectKind.{ObjectKind}
-use Rattle.machine.specs.declared.object.ObjectKind.TheVariants as kind
-use Rattle.machine.specs.declared.object.Untyped.{Untyped}
-use Rattle.machine.specs.declared.thread.RunState.{RunState}
-use Rattle.machine.specs.declared.thread.Tcb.{Tcb}
-use Rattle.machine.specs.Capabilities.{kind_of_detail}
-use Rattle.machine.specs.Machine.{Machine, object_of, queue_of, words_of, cap_of, parent_of}
-use Rattle.machine.specs.Memory.{Source}
-use Rattle.machine.specs.Objects.{kind_of_object, slot_count, word_count, address_of, end_of}
-use Rattle.machine.specs.WellFormed.{Descends, IsCallingThrough, IsRanged, IsReceivingWith, IsSending, IsThread, IsWellFormed, LiesIn}
-use Rattle.machine.specs.WellFormed.{LinksAgree, Meets, NumbersFit, PartsFit, SlotsFit, WaitsAt, WaitsAtKind, kind_of}
-use Rattle.machine.specs.WellFormed.Descends.{child, further}
-use Rattle.machine.proofs.FilledSlots.{FillsUnder, cap_here, cap_stays, cap_was, child_filled, descent_stays, no_cycle}
-use Rattle.machine.proofs.FilledSlots.{not_filled, old_cap, parent_filled, parent_here, parent_was}
-use Rattle.machine.proofs.Ids.{at_itself, at_other, one_or_two}
-use Rattle.machine.proofs.LedSlots.{InNode}
-use Rattle.machine.proofs.Likeness.{IsLike, IsUnlinked, in_order, lies_marked, lies_within, like_itself, like_marked}
-use Rattle.machine.proofs.Likeness.{nobody_in, nobody_twice, of_kind, range_within}
-use Rattle.machine.proofs.ObjectMade.{MakesObject, following, marked}
-use Rattle.machine.proofs.SameObjects.{Kin}
+use Rattle.std.{specs.Prelude.{AllPairs, Contains, None, Some, option_map, replicate}, proofs.Common.{[], ℕ, ◌<◌, ◌∙◌, ◌≡◌, ◌≢◌, ◌≤◌, ◌⊎◌}}
+use Rattle.std.proofs.{Common.{List, ap, arith, inl, inr, length, subst, sym, true}, lemmas.{List.length-replicate, Option.same_Some}}
+use Rattle.base.specs.declared.ids.{ObjId.ObjId, SlotRef.SlotRef}
+use Rattle.machine.specs.declared.{cap.{Cap.Cap, Detail.Detail}, object.{Object.{Object, Object as o}, ObjectKind.ObjectKind}}
+use Rattle.machine.specs.declared.{object.{ObjectKind.ObjectKind as kind, Untyped.Untyped}, thread.{RunState.RunState, Tcb.Tcb}}
+use Rattle.machine.specs.{Capabilities.kind_of_detail, Machine.{Machine, cap_of, object_of, parent_of, queue_of, words_of}, Memory.Source}
+use Rattle.machine.specs.{Objects.{address_of, end_of, kind_of_object, slot_count, word_count}, WellFormed.{Descends, IsCallingThrough}}
+use Rattle.machine.specs.WellFormed.{IsRanged, IsReceivingWith, IsSending, IsThread, IsWellFormed, LiesIn, LinksAgree, Meets, NumbersFit}
+use Rattle.machine.specs.WellFormed.{PartsFit, SlotsFit, WaitsAt, WaitsAtKind, kind_of, Descends.{child, further}}
+use Rattle.machine.proofs.FilledSlots.{FillsUnder, cap_here, cap_stays, cap_was, child_filled, descent_stays, no_cycle, not_filled, old_cap}
+use Rattle.machine.proofs.{FilledSlots.{parent_filled, parent_here, parent_was}, Ids.{at_itself, at_other, one_or_two}, LedSlots.InNode}
+use Rattle.machine.proofs.Likeness.{IsLike, IsUnlinked, in_order, lies_marked, lies_within, like_itself, like_marked, nobody_in}
+use Rattle.machine.proofs.{Likeness.{nobody_twice, of_kind, range_within}, ObjectMade.{MakesObject, following, marked}, SameObjects.Kin}
 
 -- an object can be made so: from memory that is there with a capability, in which nothing with a higher number lies past the
 -- object's address, and into an empty slot of a CNode

@@ -1,39 +1,21 @@
 -- A thread that is released, or waits, or calls through a reply keeps a well-formed machine well formed.
-use Rattle.std.proofs.Common.{◌≡◌, ℕ, List, refl, sym, ap, subst, ◌∙◌}
-use Rattle.std.specs.Prelude.{Option, Some, None, option_map}
+use Rattle.std.{specs.Prelude.{None, Option, Some, option_map}, proofs.Common.{ℕ, ◌∙◌, ◌≡◌, List, ap, refl, subst, sym}}
 use Rattle.std.proofs.lemmas.Option.{none-some}
 use Rattle.base.specs.declared.ids.ObjId.{ObjId}
-use Rattle.machine.specs.declared.object.Object.{Object}
-use Rattle.machine.specs.declared.object.Object.TheVariants as o
-use Rattle.machine.specs.declared.object.ObjectKind.{ObjectKind}
+use Rattle.machine.specs.declared.object.{Object.{Object, Object as o}, ObjectKind.ObjectKind, Reply.Reply, ReplyState.ReplyState}
 use Rattle.machine.specs.declared.object.ObjectKind.TheVariants as kind
-use Rattle.machine.specs.declared.object.Reply.{Reply}
-use Rattle.machine.specs.declared.object.ReplyState.{ReplyState}
 use Rattle.machine.specs.declared.object.ReplyState.TheVariants as reply
-use Rattle.machine.specs.declared.thread.Calling.{Calling}
+use Rattle.machine.specs.declared.thread.{Calling.Calling, Message.Message, Receiving.Receiving, RunState.RunState, Tcb.Tcb}
 use Rattle.machine.specs.declared.thread.Inbox.TheVariants as inbox
-use Rattle.machine.specs.declared.thread.Message.{Message}
-use Rattle.machine.specs.declared.thread.Receiving.{Receiving}
-use Rattle.machine.specs.declared.thread.RunState.{RunState}
 use Rattle.machine.specs.declared.thread.RunState.TheVariants as state
-use Rattle.machine.specs.declared.thread.Tcb.{Tcb}
-use Rattle.machine.specs.Changes.{with_tcb}
-use Rattle.machine.specs.Finalising.{IsHolding, aborted, halted}
-use Rattle.machine.specs.Machine.{Machine, object_of, queue_of}
-use Rattle.machine.specs.Objects.{kind_of_object}
-use Rattle.machine.specs.Releasing.{given, ready, suspended, with_aborted, with_blocked, with_called, with_given, with_halted}
-use Rattle.machine.specs.Releasing.{with_holder_halted, with_ready, with_released, with_suspended}
-use Rattle.machine.specs.Step.Fetch.{emptied}
-use Rattle.machine.specs.Step.Receive.{awaiting_message}
-use Rattle.machine.specs.WellFormed.{IsAlike, IsFree, IsIdle, IsReceivingWith, IsThread, IsWellFormed, WaitsAt, WaitsAtKind}
-use Rattle.machine.specs.WellFormed.{kind_of}
-use Rattle.machine.proofs.Idle.{idle_stays}
-use Rattle.machine.proofs.JoinedLinks.{FitsIn, links_joined}
-use Rattle.machine.proofs.Joins.{IsJoined, awaiting_joins, blocked_joins, called_joins, joined_steady, waits_at_one}
-use Rattle.machine.proofs.Leaving.{Names, released_there}
-use Rattle.machine.proofs.Outlines.{steady_formed}
-use Rattle.machine.proofs.ReleasedLinks.{links_released}
-use Rattle.machine.proofs.Releases.{released_is, released_steady, reply_freed}
+use Rattle.machine.specs.{Changes.with_tcb, Finalising.{IsHolding, aborted, halted}, Machine.{Machine, object_of, queue_of}}
+use Rattle.machine.specs.{Objects.kind_of_object, Releasing.{given, ready, suspended, with_aborted, with_blocked, with_called, with_given}}
+use Rattle.machine.specs.{Releasing.{with_halted, with_holder_halted, with_ready, with_released, with_suspended}, Step.Fetch.emptied}
+use Rattle.machine.specs.{Step.Receive.awaiting_message, WellFormed.{IsAlike, IsFree, IsIdle, IsReceivingWith, IsThread, IsWellFormed}}
+use Rattle.machine.{specs.WellFormed.{WaitsAt, WaitsAtKind, kind_of}, proofs.{Idle.idle_stays, JoinedLinks.{FitsIn, links_joined}}}
+use Rattle.machine.proofs.{Joins.{IsJoined, awaiting_joins, blocked_joins, called_joins, joined_steady, waits_at_one}, Leaving.Names}
+use Rattle.machine.proofs.{Leaving.released_there, Outlines.steady_formed, ReleasedLinks.links_released, Releases.released_is}
+use Rattle.machine.proofs.Releases.{released_steady, reply_freed}
 
 -- a thread leaves its queue and its reply
 pub released_formed :

@@ -1,46 +1,22 @@
 -- What sends, calls, receives, replies and fetches do keeps a machine well formed, and so are the machines between.
-use Rattle.std.proofs.Common.{◌≡◌, ◌≢◌, ℕ, inl, inr, Bool, true, false, List, refl, sym, ap, subst, ◌∙◌}
-use Rattle.std.specs.Prelude.{Option, Some, None, is_ok, option_map, if◌then◌else◌}
-use Rattle.std.proofs.lemmas.Option.{none-some}
+use Rattle.std.{specs.Prelude.{None, Option, Some, if◌then◌else◌, is_ok, option_map}, proofs.Common.{ℕ, ◌∙◌, ◌≡◌, ◌≢◌, Bool, List, ap}}
+use Rattle.std.proofs.{Common.{false, inl, inr, refl, subst, sym, true}, lemmas.Option.none-some}
 use Rattle.base.specs.declared.ids.ObjId.{ObjId}
-use Rattle.machine.specs.declared.object.Object.TheVariants as o
-use Rattle.machine.specs.declared.object.ObjectKind.TheVariants as kind
+use Rattle.machine.specs.declared.{object.{Object.Object as o, ObjectKind.ObjectKind as kind}, slot_address.SlotAddress.SlotAddress}
 use Rattle.machine.specs.declared.object.ReplyState.TheVariants as reply
-use Rattle.machine.specs.declared.slot_address.SlotAddress.{SlotAddress}
-use Rattle.machine.specs.declared.thread.Calling.{Calling}
-use Rattle.machine.specs.declared.thread.Lent.{Lent}
-use Rattle.machine.specs.declared.thread.Message.{Message}
-use Rattle.machine.specs.declared.thread.Receiving.{Receiving}
-use Rattle.machine.specs.declared.thread.RunState.{RunState}
+use Rattle.machine.specs.declared.thread.{Calling.Calling, Lent.Lent, Message.Message, Receiving.Receiving, RunState.RunState}
 use Rattle.machine.specs.declared.thread.RunState.TheVariants as state
-use Rattle.machine.specs.declared.thread.Sending.{Sending}
-use Rattle.machine.specs.declared.thread.Tcb.{Tcb}
-use Rattle.machine.specs.Finalising.{halted}
-use Rattle.machine.specs.Machine.{Machine, object_of}
-use Rattle.machine.specs.Objects.{kind_of_object}
-use Rattle.machine.specs.Releasing.{given, ready, with_called, with_given, with_halted, with_ready}
-use Rattle.machine.specs.Step.Bind.{context_under}
-use Rattle.machine.specs.Step.Deliver.{answer_through, arrival_of, delivered, linked, message_of, sending_by, sent, with_arrival}
-use Rattle.machine.specs.Step.Receive.{with_reply_ended}
-use Rattle.machine.specs.Step.Reply.{with_returned}
-use Rattle.machine.specs.Step.Send.{called_through, lent_by, with_lent}
-use Rattle.machine.specs.WellFormed.{IsFree, IsIdle, IsReceivingWith, IsThread, IsWellFormed}
-use Rattle.machine.proofs.Admission.{IsCaller}
-use Rattle.machine.proofs.Arrival.{arrival_formed, arrival_same}
-use Rattle.machine.proofs.Beside.{ended_endpoint, ended_formed, ended_free, ended_idle, free_stays, leaver_now, named_free}
-use Rattle.machine.proofs.Beside.{other_stays}
-use Rattle.machine.proofs.ContextsFormed.{with_handed_formed}
-use Rattle.machine.proofs.EndpointRow.{IsReceiver, IsSender}
-use Rattle.machine.proofs.Finding.{found_kind}
-use Rattle.machine.proofs.FoundObjects.{reply_of_kind}
-use Rattle.machine.proofs.FetchRow.{FetchDone}
-use Rattle.machine.proofs.Joins.{IsJoined, called_joins}
-use Rattle.machine.proofs.Lending.{lends, returned_formed}
-use Rattle.machine.proofs.MessageFormed.{awaiting_formed, blocked_formed, called_formed, emptied_formed, given_formed}
-use Rattle.machine.proofs.MessageFormed.{released_formed}
-use Rattle.machine.proofs.ReceiveRow.{ReceiveDone}
-use Rattle.machine.proofs.ReplyRow.{ReplyDone}
-use Rattle.machine.proofs.SendRow.{EndpointCallDone, SendDone}
+use Rattle.machine.specs.{declared.thread.{Sending.Sending, Tcb.Tcb}, Finalising.halted, Machine.{Machine, object_of}}
+use Rattle.machine.specs.{Objects.kind_of_object, Releasing.{given, ready, with_called, with_given, with_halted, with_ready}}
+use Rattle.machine.specs.Step.{Bind.context_under, Deliver.{answer_through, arrival_of, delivered, linked, message_of, sending_by, sent}}
+use Rattle.machine.specs.Step.{Deliver.with_arrival, Receive.with_reply_ended, Reply.with_returned, Send.{called_through, lent_by}}
+use Rattle.machine.specs.{Step.Send.with_lent, WellFormed.{IsFree, IsIdle, IsReceivingWith, IsThread, IsWellFormed}}
+use Rattle.machine.proofs.{Admission.IsCaller, Arrival.{arrival_formed, arrival_same}, Beside.{ended_endpoint, ended_formed, ended_free}}
+use Rattle.machine.proofs.{Beside.{ended_idle, free_stays, leaver_now, named_free, other_stays}, ContextsFormed.with_handed_formed}
+use Rattle.machine.proofs.{EndpointRow.{IsReceiver, IsSender}, FetchRow.FetchDone, Finding.found_kind, FoundObjects.reply_of_kind}
+use Rattle.machine.proofs.{Joins.{IsJoined, called_joins}, Lending.{lends, returned_formed}, MessageFormed.awaiting_formed}
+use Rattle.machine.proofs.MessageFormed.{blocked_formed, called_formed, emptied_formed, given_formed, released_formed}
+use Rattle.machine.proofs.{ReceiveRow.ReceiveDone, ReplyRow.ReplyDone, SendRow.{EndpointCallDone, SendDone}}
 
 -- a caller waits for nothing
 pub caller_idle : (m : Machine) (caller : ObjId) (is : IsCaller m caller) → IsIdle is.thread.state

@@ -1,25 +1,13 @@
 -- A machine stays well formed where a capability moves: two of its slots have changed names.
-use Rattle.std.proofs.Common.{◌≡◌, ◌<◌, ◌⊎◌, inl, inr, Bool, true, false, refl, sym, ap, subst, ◌∙◌}
-use Rattle.std.specs.Prelude.{Option, Some, None, option_map, if◌then◌else◌}
-use Rattle.base.specs.declared.ids.ObjId.{ObjId}
-use Rattle.base.specs.declared.ids.SlotRef.{SlotRef}
-use Rattle.machine.specs.declared.cap.Cap.{Cap}
-use Rattle.machine.specs.declared.object.Object.{Object}
-use Rattle.machine.specs.declared.object.Object.TheVariants as o
-use Rattle.machine.specs.declared.object.ObjectKind.TheVariants as kind
-use Rattle.machine.specs.declared.slot_address.SlotAddress.{SlotAddress}
-use Rattle.machine.specs.Capabilities.{kind_of_detail}
-use Rattle.machine.specs.Machine.{Machine, object_of, cap_of, parent_of, same_slot}
-use Rattle.machine.specs.Objects.{slot_count}
-use Rattle.machine.specs.Tree.{exchange}
-use Rattle.machine.specs.WellFormed.{Descends, IsWellFormed, SlotsFit, kind_of}
-use Rattle.machine.specs.WellFormed.Descends.{child, further}
-use Rattle.machine.proofs.Exchange.{exchange_twice}
-use Rattle.machine.proofs.LedSlots.{InNode, led_slot}
-use Rattle.machine.proofs.LookUps.{one_slot}
-use Rattle.machine.proofs.SameObjects.{KeepsDescent, OneCap, kin_same, kinds_same, links_same, numbers_same, parts_same}
-use Rattle.machine.proofs.SlotChanges.{Moves}
-use Rattle.machine.proofs.SlotRows.{MoveDone}
+use Rattle.std.{specs.Prelude.{None, Option, Some, if◌then◌else◌, option_map}, proofs.Common.{◌<◌, ◌∙◌, ◌≡◌, ◌⊎◌, Bool, ap, false, inl}}
+use Rattle.std.proofs.Common.{inr, refl, subst, sym, true}
+use Rattle.base.specs.declared.ids.{ObjId.ObjId, SlotRef.SlotRef}
+use Rattle.machine.specs.declared.{cap.Cap.Cap, object.{Object.{Object, Object as o}, ObjectKind.ObjectKind as kind}}
+use Rattle.machine.specs.{declared.slot_address.SlotAddress.SlotAddress, Capabilities.kind_of_detail, Machine.{Machine, cap_of, object_of}}
+use Rattle.machine.specs.{Machine.{parent_of, same_slot}, Objects.slot_count, Tree.exchange, WellFormed.{Descends, IsWellFormed, SlotsFit}}
+use Rattle.machine.{specs.WellFormed.{kind_of, Descends.{child, further}}, proofs.{Exchange.exchange_twice, LedSlots.{InNode, led_slot}}}
+use Rattle.machine.proofs.{LookUps.one_slot, SameObjects.{KeepsDescent, OneCap, kin_same, kinds_same, links_same, numbers_same, parts_same}}
+use Rattle.machine.proofs.{SlotChanges.Moves, SlotRows.MoveDone}
 
 module _ (m next : Machine) (source target : SlotRef) (held : Cap) (formed : IsWellFormed m) (moves : Moves m source target held next)
     (within : InNode m target) (empty : cap_of m target ≡ None) (full : cap_of m source ≡ Some held) where

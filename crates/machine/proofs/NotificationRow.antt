@@ -1,26 +1,13 @@
 -- What the rows of notifications have in common: the notification that was found by a capability with a right, its word, and who
 -- waits there.
-use Rattle.std.proofs.Common.{◌≡◌, ℕ, Bool, true, List, refl, sym, ap, subst, ◌∙◌}
-use Rattle.std.specs.Prelude.{Contains, Option, Some, Result, Ok, option_map}
-use Rattle.std.proofs.lemmas.Option.{same_Some}
-use Rattle.base.specs.declared.ids.ObjId.{ObjId}
-use Rattle.base.specs.declared.refusal.Cause.{Cause}
-use Rattle.machine.specs.declared.cap.Badged.{Badged}
-use Rattle.machine.specs.declared.cap.Detail.TheVariants as d
-use Rattle.machine.specs.declared.object.Notification.{Notification}
-use Rattle.machine.specs.declared.object.Object.TheVariants as o
-use Rattle.machine.specs.declared.object.ObjectKind.TheVariants as kind
-use Rattle.machine.specs.declared.thread.RunState.{RunState}
-use Rattle.machine.specs.declared.thread.RunState.TheVariants as state
-use Rattle.machine.specs.declared.thread.Tcb.{Tcb}
-use Rattle.machine.specs.Changes.{with_pending}
-use Rattle.machine.specs.Machine.{Machine, object_of, queue_of, with_object}
-use Rattle.machine.specs.Objects.{kind_of_object}
-use Rattle.machine.specs.Refusing.{◌>>=◌}
-use Rattle.machine.specs.Step.Find.{find_notification, permitted}
-use Rattle.machine.specs.WellFormed.{IsAlike, IsSending, IsThread, IsWellFormed, LinksAgree, WaitsAt, WaitsAtKind}
-use Rattle.machine.proofs.Conditions.{both_done}
-use Rattle.machine.proofs.Finding.{FindsObject, found_kind, is_permitted}
+use Rattle.std.{specs.Prelude.{Contains, Ok, Option, Result, Some, option_map}, proofs.Common.{ℕ, ◌∙◌, ◌≡◌, Bool, List, ap, refl, subst}}
+use Rattle.std.proofs.{Common.{sym, true}, lemmas.Option.same_Some}
+use Rattle.base.specs.declared.{ids.ObjId.ObjId, refusal.Cause.Cause}
+use Rattle.machine.specs.declared.{cap.{Badged.Badged, Detail.Detail as d}, object.{Notification.Notification, Object.Object as o}}
+use Rattle.machine.specs.declared.{object.ObjectKind.ObjectKind as kind, thread.{RunState.{RunState, RunState as state}, Tcb.Tcb}}
+use Rattle.machine.specs.{Changes.with_pending, Machine.{Machine, object_of, queue_of, with_object}, Objects.kind_of_object, Refusing.◌>>=◌}
+use Rattle.machine.specs.{Step.Find.{find_notification, permitted}, WellFormed.{IsAlike, IsSending, IsThread, IsWellFormed, LinksAgree}}
+use Rattle.machine.{specs.WellFormed.{WaitsAt, WaitsAtKind}, proofs.{Conditions.both_done, Finding.{FindsObject, found_kind, is_permitted}}}
 use Rattle.machine.proofs.FoundObjects.{finds_notification, notification_of_kind}
 
 -- a notification that is found, by a capability with a right

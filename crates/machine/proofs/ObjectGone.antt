@@ -1,14 +1,9 @@
 -- What each look-up answers after an object has gone: it is missed where it was, and nothing else is.
-use Rattle.std.proofs.Common.{◌≡◌, cond, refl, sym, ap, ◌∙◌}
-use Rattle.std.specs.Prelude.{Option, None}
 use Rattle.std.specs.FinMap as map
-use Rattle.base.specs.declared.ids.ObjId.{ObjId}
-use Rattle.base.specs.declared.ids.SlotRef.{SlotRef}
-use Rattle.machine.specs.Changes.{without_object}
-use Rattle.machine.specs.Counts.{caps_to}
-use Rattle.machine.specs.Machine.{Machine, same_id, object_of, queue_of, words_of, cap_of, parent_of}
-use Rattle.machine.proofs.FiniteLemmas.{by_key}
-use Rattle.machine.proofs.LookUps.{id_total, id_apart, same_machine}
+use Rattle.std.{specs.Prelude.{None, Option}, proofs.Common.{◌∙◌, ◌≡◌, ap, cond, refl, sym}}
+use Rattle.base.specs.declared.ids.{ObjId.ObjId, SlotRef.SlotRef}
+use Rattle.machine.specs.{Changes.without_object, Counts.caps_to, Machine.{Machine, cap_of, object_of, parent_of, queue_of, same_id}}
+use Rattle.machine.{specs.Machine.words_of, proofs.{FiniteLemmas.by_key, LookUps.{id_apart, id_total, same_machine}}}
 
 pub object_of-without_object :
     (m : Machine) (id q : ObjId) → object_of (without_object m id) q ≡ cond (same_id q id) None (object_of m q)

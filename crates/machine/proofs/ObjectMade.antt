@@ -1,19 +1,11 @@
 -- What a machine is after one object was made from untyped memory, pointwise.
-use Rattle.std.proofs.Common.{◌≡◌, ℕ, ◌+◌, true, [], refl, ap, ◌∙◌}
-use Rattle.std.specs.FinMap.{insert, get-insert}
-use Rattle.std.specs.Prelude.{Some, replicate, if◌then◌else◌}
-use Rattle.base.specs.declared.ids.ObjId.{ObjId}
-use Rattle.base.specs.declared.ids.SlotRef.{SlotRef}
-use Rattle.machine.specs.declared.cap.Detail.{Detail}
-use Rattle.machine.specs.declared.object.MemoryKind.{MemoryKind}
-use Rattle.machine.specs.declared.object.Object.{Object}
-use Rattle.machine.specs.declared.object.Object.TheVariants as o
-use Rattle.machine.specs.declared.object.Untyped.{Untyped}
-use Rattle.machine.specs.Machine.{Machine, object_of, queue_of, words_of, cap_of, parent_of, same_id, same_slot, with_object}
-use Rattle.machine.specs.Machine.{with_new, with_cap, with_parent}
-use Rattle.machine.specs.Memory.{Source, new_cap, new_detail, new_object, new_size, placed, taken, with_made}
-use Rattle.machine.specs.Objects.{word_count}
-use Rattle.machine.proofs.LookUps.{id_total, slot_total}
+use Rattle.std.{specs.{FinMap.{get-insert, insert}, Prelude.{Some, if◌then◌else◌, replicate}}, proofs.Common.{[], ℕ, ◌+◌, ◌∙◌, ◌≡◌, ap}}
+use Rattle.std.proofs.Common.{refl, true}
+use Rattle.base.specs.declared.ids.{ObjId.ObjId, SlotRef.SlotRef}
+use Rattle.machine.specs.declared.{cap.Detail.Detail, object.{MemoryKind.MemoryKind, Object.{Object, Object as o}, Untyped.Untyped}}
+use Rattle.machine.specs.Machine.{Machine, cap_of, object_of, parent_of, queue_of, same_id, same_slot, with_cap, with_new, with_object}
+use Rattle.machine.specs.{Machine.{with_parent, words_of}, Memory.{Source, new_cap, new_detail, new_object, new_size, placed, taken}}
+use Rattle.machine.{specs.{Memory.with_made, Objects.word_count}, proofs.LookUps.{id_total, slot_total}}
 
 -- the number of the next object
 abbrev pub following : Machine → ObjId

@@ -1,23 +1,15 @@
 -- Slots, numbers and ranges fit as before where objects keep their kinds, sizes and addresses, and slots are as they were.
-use Rattle.std.proofs.Common.{◌≡◌, ◌<◌, ◌≤◌, ◌⊎◌, inl, inr, refl, sym, ap, subst, ◌∙◌, arith}
-use Rattle.std.specs.Prelude.{Bool, true, false, cond, List, length, Option, Some, None, is_some, option_map}
-use Rattle.std.proofs.lemmas.Option.{none-some, same_Some}
-use Rattle.base.specs.declared.ids.ObjId.{ObjId}
-use Rattle.base.specs.declared.ids.SlotRef.{SlotRef}
-use Rattle.machine.specs.declared.cap.Cap.{Cap}
-use Rattle.machine.specs.declared.object.Object.{Object}
-use Rattle.machine.specs.declared.object.Object.TheVariants as o
-use Rattle.machine.specs.declared.object.ReplyState.TheVariants as reply
-use Rattle.machine.specs.declared.object.Untyped.{Untyped}
+use Rattle.std.{specs.Prelude.{Bool, List, None, Option, Some, cond, false, is_some, length, option_map, true}, proofs.Common.{◌<◌, ◌∙◌}}
+use Rattle.std.proofs.{Common.{◌≡◌, ◌≤◌, ◌⊎◌, ap, arith, inl, inr, refl, subst, sym}, lemmas.Option.{none-some, same_Some}}
+use Rattle.base.specs.declared.ids.{ObjId.ObjId, SlotRef.SlotRef}
+use Rattle.machine.specs.declared.{cap.Cap.Cap, object.{Object.{Object, Object as o}, ReplyState.ReplyState as reply, Untyped.Untyped}}
 use Rattle.machine.specs.declared.thread.Inbox.TheVariants as inbox
 use Rattle.machine.specs.declared.thread.RunState.TheVariants as state
-use Rattle.machine.specs.Machine.{Machine, object_of, queue_of, words_of, cap_of, parent_of, same_id, with_object}
-use Rattle.machine.specs.Objects.{kind_of_object, slot_count, word_count, address_of, end_of}
-use Rattle.machine.specs.WellFormed.{kind_of, Descends, IsRanged, IsWellFormed, LiesIn, LinksAgree, Meets}
-use Rattle.machine.specs.WellFormed.{NumbersFit, PartsFit, SlotsFit}
-use Rattle.machine.proofs.LookUps.{one_id, object_of-with_object, queue_of-with_object}
-use Rattle.machine.proofs.LookUps.{words_of-with_object, cap_of-with_object}
-use Rattle.machine.proofs.LookUps.{parent_of-with_object, number_of-with_object, going-with_object}
+use Rattle.machine.specs.{Machine.{Machine, cap_of, object_of, parent_of, queue_of, same_id, with_object, words_of}, Objects.address_of}
+use Rattle.machine.specs.{Objects.{end_of, kind_of_object, slot_count, word_count}, WellFormed.{Descends, IsRanged, IsWellFormed, LiesIn}}
+use Rattle.machine.{specs.WellFormed.{LinksAgree, Meets, NumbersFit, PartsFit, SlotsFit, kind_of}, proofs.LookUps.cap_of-with_object}
+use Rattle.machine.proofs.LookUps.{going-with_object, number_of-with_object, object_of-with_object, one_id, parent_of-with_object}
+use Rattle.machine.proofs.LookUps.{queue_of-with_object, words_of-with_object}
 
 -- an object without what threads, notifications, replies and contexts hold for a time
 abbrev pub outline : Object → Object

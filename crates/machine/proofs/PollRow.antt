@@ -1,19 +1,10 @@
 -- What a poll does that is made: the word of the notification that it found is answered and taken.
-use Rattle.std.proofs.Common.{◌≡◌, ℕ, sym, ap, ◌∙◌}
-use Rattle.std.specs.Prelude.{None, Ok, unwrap_or}
+use Rattle.std.{specs.Prelude.{None, Ok, unwrap_or}, proofs.Common.{ℕ, ◌∙◌, ◌≡◌, ap, sym}}
 use Rattle.base.specs.declared.ids.ObjId.{ObjId}
-use Rattle.machine.specs.declared.call.Answer.TheVariants as answer
-use Rattle.machine.specs.declared.call.Made.{Made}
-use Rattle.machine.specs.declared.call.Made.TheVariants.{Done}
-use Rattle.machine.specs.declared.object.Object.TheVariants as o
-use Rattle.machine.specs.Capabilities.{can_read}
-use Rattle.machine.specs.Changes.{with_pending}
-use Rattle.machine.specs.Machine.{Machine, object_of, with_object}
-use Rattle.machine.specs.Step.Poll.{poll_of}
-use Rattle.machine.specs.Step.Signal.{pending_in}
-use Rattle.machine.specs.WellFormed.{IsWellFormed}
-use Rattle.machine.proofs.Conditions.{same_ok}
-use Rattle.machine.proofs.NotificationRow.{IsOpen, opens, with_pending_there}
+use Rattle.machine.specs.declared.{call.{Answer.Answer as answer, Made.{Made, TheVariants.Done}}, object.Object.Object as o}
+use Rattle.machine.specs.{Capabilities.can_read, Changes.with_pending, Machine.{Machine, object_of, with_object}, Step.Poll.poll_of}
+use Rattle.machine.{specs.{Step.Signal.pending_in, WellFormed.IsWellFormed}, proofs.{Conditions.same_ok, NotificationRow.{IsOpen, opens}}}
+use Rattle.machine.proofs.NotificationRow.{with_pending_there}
 
 pub record PollDone (m : Machine) (caller : ObjId) (address : ℕ) (next : Machine) : Type 0 where
   pub open_to : IsOpen m caller address (λ end. can_read end.rights)

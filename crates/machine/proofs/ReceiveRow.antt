@@ -1,30 +1,15 @@
 -- What a receive does that is made: the thread that the reply held is halted, and the message of the thread that waits first to
 -- send is received; where none does, the caller waits.
-use Rattle.std.proofs.Common.{◌≡◌, ℕ, ◌⊎◌, inl, inr, refl, sym, ap, ◌∙◌}
-use Rattle.std.specs.Prelude.{Option, Some, None, Ok, option_map}
+use Rattle.std.{specs.Prelude.{None, Ok, Option, Some, option_map}, proofs.Common.{ℕ, ◌∙◌, ◌≡◌, ◌⊎◌, ap, inl, inr, refl, sym}}
 use Rattle.std.proofs.lemmas.Option.{none-some, same_Some}
 use Rattle.base.specs.declared.ids.ObjId.{ObjId}
-use Rattle.machine.specs.declared.call.Made.{Made}
-use Rattle.machine.specs.declared.cap.Detail.TheVariants as d
-use Rattle.machine.specs.declared.object.Endpoint.{Endpoint}
-use Rattle.machine.specs.declared.object.Object.TheVariants as o
-use Rattle.machine.specs.declared.slot_address.SlotAddress.{SlotAddress}
-use Rattle.machine.specs.declared.thread.Receiving.{Receiving}
-use Rattle.machine.specs.declared.thread.RunState.TheVariants as state
-use Rattle.machine.specs.declared.thread.Sending.{Sending}
-use Rattle.machine.specs.Capabilities.{can_read}
-use Rattle.machine.specs.Machine.{Machine, object_of}
-use Rattle.machine.specs.Objects.{kind_of_object}
-use Rattle.machine.specs.Refusing.{◌>>=◌}
-use Rattle.machine.specs.Step.Deliver.{arrival_of, first_at, sender_in, sent, with_arrival}
-use Rattle.machine.specs.Step.Find.{find_reply}
-use Rattle.machine.specs.Step.Receive.{awaiting_message, find_named_reply, receive_of, received, received_or_waits}
-use Rattle.machine.specs.Step.Receive.{with_reply_ended}
-use Rattle.machine.specs.WellFormed.{IsAlike, IsWellFormed}
-use Rattle.machine.proofs.Beside.{ended_endpoint, ended_formed}
-use Rattle.machine.proofs.Conditions.{both_done, same_ok}
-use Rattle.machine.proofs.EndpointRow.{IsEndOpen, IsSender, no_sender, opens_end, sender_first}
-use Rattle.machine.proofs.Finding.{FindsObject}
+use Rattle.machine.specs.declared.{call.Made.Made, cap.Detail.Detail as d, object.{Endpoint.Endpoint, Object.Object as o}}
+use Rattle.machine.specs.declared.{slot_address.SlotAddress.SlotAddress, thread.{Receiving.Receiving, RunState.RunState as state}}
+use Rattle.machine.specs.{declared.thread.Sending.Sending, Capabilities.can_read, Machine.{Machine, object_of}, Objects.kind_of_object}
+use Rattle.machine.specs.{Refusing.◌>>=◌, Step.{Deliver.{arrival_of, first_at, sender_in, sent, with_arrival}, Find.find_reply}}
+use Rattle.machine.specs.Step.Receive.{awaiting_message, find_named_reply, receive_of, received, received_or_waits, with_reply_ended}
+use Rattle.machine.{specs.WellFormed.{IsAlike, IsWellFormed}, proofs.{Beside.{ended_endpoint, ended_formed}, Conditions.both_done}}
+use Rattle.machine.proofs.{Conditions.same_ok, EndpointRow.{IsEndOpen, IsSender, no_sender, opens_end, sender_first}, Finding.FindsObject}
 use Rattle.machine.proofs.FoundObjects.{finds_reply}
 
 pub record ReceiveDone (m : Machine) (caller : ObjId) (address : ℕ) (named : Option ℕ) (slot : Option SlotAddress)

@@ -1,25 +1,14 @@
 -- Queues, replies and contexts stay linked at both ends where a thread leaves its queue and its reply.
-use Rattle.std.proofs.Common.{◌≡◌, ◌≢◌, ◌⊎◌, inl, inr, not, List, refl, sym, ap, subst, ◌∙◌}
-use Rattle.std.specs.Prelude.{Option, Some, None, AllPairs, Contains, option_map}
-use Rattle.std.proofs.lemmas.List.Kept.{AllPairs-filter}
-use Rattle.std.proofs.lemmas.Option.{none-some, same_Some}
+use Rattle.std.{specs.Prelude.{AllPairs, Contains, None, Option, Some, option_map}, proofs.Common.{◌∙◌, ◌≡◌, ◌≢◌, ◌⊎◌, List, ap, inl, inr}}
+use Rattle.std.proofs.{Common.{not, refl, subst, sym}, lemmas.{List.Kept.AllPairs-filter, Option.{none-some, same_Some}}}
 use Rattle.base.specs.declared.ids.ObjId.{ObjId}
-use Rattle.machine.specs.declared.object.Context.{Context}
-use Rattle.machine.specs.declared.object.Object.TheVariants as o
-use Rattle.machine.specs.declared.object.ObjectKind.TheVariants as kind
-use Rattle.machine.specs.declared.object.Reply.{Reply}
+use Rattle.machine.specs.declared.{object.{Context.Context, Object.Object as o, ObjectKind.ObjectKind as kind, Reply.Reply}, thread.Tcb.Tcb}
 use Rattle.machine.specs.declared.object.ReplyState.TheVariants as reply
-use Rattle.machine.specs.declared.thread.Tcb.{Tcb}
-use Rattle.machine.specs.Finalising.{IsHolding}
-use Rattle.machine.specs.Machine.{Machine, object_of, queue_of, same_id}
-use Rattle.machine.specs.WellFormed.{IsCallingThrough, IsIdle, IsReceivingWith, IsSending, IsThread, LinksAgree, WaitsAt, kind_of}
-use Rattle.machine.proofs.Idle.{idle_called, idle_receives, idle_waits}
-use Rattle.machine.proofs.Ids.{one_or_two}
-use Rattle.machine.proofs.Leaving.{without}
-use Rattle.machine.proofs.Outlines.{Steady, same_kinds}
-use Rattle.machine.proofs.Releases.{IsReleased, holds_one, member_now, member_was, other_now, other_was, released_thread}
-use Rattle.machine.proofs.Releases.{reply_stays, reply_was}
-use Rattle.machine.proofs.RemovalTable.{one_thread}
+use Rattle.machine.specs.{Finalising.IsHolding, Machine.{Machine, object_of, queue_of, same_id}, WellFormed.{IsCallingThrough, IsIdle}}
+use Rattle.machine.{specs.WellFormed.{IsReceivingWith, IsSending, IsThread, LinksAgree, WaitsAt, kind_of}, proofs.Idle.idle_called}
+use Rattle.machine.proofs.{Idle.{idle_receives, idle_waits}, Ids.one_or_two, Leaving.without, Outlines.{Steady, same_kinds}}
+use Rattle.machine.proofs.Releases.{IsReleased, holds_one, member_now, member_was, other_now, other_was, released_thread, reply_stays}
+use Rattle.machine.proofs.{Releases.reply_was, RemovalTable.one_thread}
 
 module _ (m next : Machine) (thread : ObjId) (old new : Tcb) (links : LinksAgree m) (was : IsThread m thread old)
     (runs : new.context ≡ old.context) (idle : IsIdle new.state) (released : IsReleased m thread new next)

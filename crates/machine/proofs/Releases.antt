@@ -1,31 +1,19 @@
 -- What changes where a thread leaves its queue and its reply: read off the machine as it was, object by object and queue by
 -- queue.
-use Rattle.std.proofs.Common.{◌≡◌, ◌≢◌, ℕ, ◌⊎◌, inl, inr, Bool, true, false, not, cond, List, refl, sym, ap, subst, ◌∙◌}
-use Rattle.std.specs.Prelude.{Option, Some, None, Contains, is_some, length, option_map, if◌then◌else◌}
 use Rattle.std.specs.FinMap as map
-use Rattle.std.proofs.lemmas.List.Elements.{All-contains, filter_passes}
-use Rattle.std.proofs.lemmas.Option.{none-some, same_Some}
-use Rattle.base.specs.declared.ids.ObjId.{ObjId}
-use Rattle.base.specs.declared.ids.SlotRef.{SlotRef}
-use Rattle.machine.specs.declared.object.Object.{Object}
-use Rattle.machine.specs.declared.object.Object.TheVariants as o
-use Rattle.machine.specs.declared.object.Reply.{Reply}
-use Rattle.machine.specs.declared.object.ReplyState.{ReplyState}
+use Rattle.std.{specs.Prelude.{Contains, None, Option, Some, if◌then◌else◌, is_some, length, option_map}, proofs.Common.{ℕ, ◌∙◌, ◌≡◌, ◌≢◌}}
+use Rattle.std.proofs.{Common.{◌⊎◌, Bool, List, ap, cond, false, inl, inr, not, refl, subst, sym, true}, lemmas.List.Elements.All-contains}
+use Rattle.std.proofs.lemmas.{List.Elements.filter_passes, Option.{none-some, same_Some}}
+use Rattle.base.specs.declared.ids.{ObjId.ObjId, SlotRef.SlotRef}
+use Rattle.machine.specs.declared.{object.{Object.{Object, Object as o}, Reply.Reply, ReplyState.ReplyState}, thread.Tcb.Tcb}
 use Rattle.machine.specs.declared.object.ReplyState.TheVariants as reply
 use Rattle.machine.specs.declared.thread.Inbox.TheVariants as inbox
 use Rattle.machine.specs.declared.thread.RunState.TheVariants as state
-use Rattle.machine.specs.declared.thread.Tcb.{Tcb}
-use Rattle.machine.specs.Finalising.{IsHolding}
-use Rattle.machine.specs.Machine.{Machine, cap_of, object_of, parent_of, queue_of, same_id, words_of}
-use Rattle.machine.specs.Releasing.{SameRest, reply_by, with_released}
-use Rattle.machine.specs.WellFormed.{IsThread, LinksAgree}
-use Rattle.machine.proofs.HeldThreads.{links_of}
-use Rattle.machine.proofs.Ids.{at_itself, at_other, one_or_two, two_ids}
-use Rattle.machine.proofs.Leaving.{apart_ids, freed, held_freed, others_kept, released_objects, released_queues}
-use Rattle.machine.proofs.Leaving.{released_rest, released_there, without}
-use Rattle.machine.proofs.Outlines.{Steady, outline}
-use Rattle.machine.proofs.RemovalLinks.{in_whole, into_part}
-use Rattle.machine.proofs.RoundLemmas.{not_passes}
+use Rattle.machine.specs.{Finalising.IsHolding, Machine.{Machine, cap_of, object_of, parent_of, queue_of, same_id, words_of}}
+use Rattle.machine.{specs.{Releasing.{SameRest, reply_by, with_released}, WellFormed.{IsThread, LinksAgree}}, proofs.HeldThreads.links_of}
+use Rattle.machine.proofs.{Ids.{at_itself, at_other, one_or_two, two_ids}, Leaving.{apart_ids, freed, held_freed, others_kept}}
+use Rattle.machine.proofs.{Leaving.{released_objects, released_queues, released_rest, released_there, without}, Outlines.{Steady, outline}}
+use Rattle.machine.proofs.{RemovalLinks.{in_whole, into_part}, RoundLemmas.not_passes}
 
 pub record IsReleased (m : Machine) (thread : ObjId) (new : Tcb) (next : Machine) : Type 0 where
   pub objects :

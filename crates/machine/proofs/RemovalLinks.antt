@@ -1,32 +1,19 @@
 -- Queues, replies and contexts of a well-formed machine stay linked at both ends after a removal.
-use Rattle.std.proofs.Common.{◌≡◌, ◌≢◌, ℕ, Bool, true, false, not, cond, List, [], ◌∷◌, refl, sym, ap, subst, ◌∙◌}
-use Rattle.std.specs.Prelude.{Option, Some, None, All, AllPairs, Contains, filter, option_map, ◌||◌}
-use Rattle.std.proofs.lemmas.Bool.{false≢true}
-use Rattle.std.proofs.lemmas.List.Elements.{All-contains, All-contains_itself, All-filter, All-nil, All-cons, All-weaker}
-use Rattle.std.proofs.lemmas.List.Elements.{Contains-append_left, Contains-append_right, Contains-push}
-use Rattle.std.proofs.lemmas.List.Kept.{AllPairs-filter}
+use Rattle.std.{specs.Prelude.{◌||◌, All, AllPairs, Contains, None, Option, Some, filter, option_map}, proofs.Common.{[], ℕ, ◌∙◌, ◌∷◌, ◌≡◌}}
+use Rattle.std.proofs.{Common.{◌≢◌, Bool, List, ap, cond, false, not, refl, subst, sym, true}, lemmas.Bool.false≢true}
+use Rattle.std.proofs.lemmas.List.Elements.{All-cons, All-contains, All-contains_itself, All-filter, All-nil, All-weaker}
+use Rattle.std.proofs.lemmas.List.{Elements.{Contains-append_left, Contains-append_right, Contains-push}, Kept.AllPairs-filter}
 use Rattle.std.proofs.lemmas.Option.{none-some, same_Some}
-use Rattle.base.specs.declared.ids.ObjId.{ObjId}
-use Rattle.base.specs.declared.ids.SlotRef.{SlotRef}
-use Rattle.machine.specs.declared.object.Context.{Context}
-use Rattle.machine.specs.declared.object.Object.{Object}
-use Rattle.machine.specs.declared.object.Object.TheVariants as o
-use Rattle.machine.specs.declared.object.Reply.{Reply}
-use Rattle.machine.specs.declared.object.ReplyState.{ReplyState}
-use Rattle.machine.specs.declared.object.ReplyState.TheVariants as reply
-use Rattle.machine.specs.declared.thread.RunState.{RunState}
+use Rattle.base.specs.declared.ids.{ObjId.ObjId, SlotRef.SlotRef}
+use Rattle.machine.specs.declared.object.{Context.Context, Object.{Object, Object as o}, Reply.Reply, ReplyState.ReplyState}
+use Rattle.machine.specs.{declared.{object.ReplyState.ReplyState as reply, thread.{RunState.RunState, Tcb.Tcb}}, Finalising.aborted}
 use Rattle.machine.specs.declared.thread.RunState.TheVariants as state
-use Rattle.machine.specs.declared.thread.Tcb.{Tcb}
-use Rattle.machine.specs.Finalising.{aborted, finalised, halted, is_aborted, is_halted, is_released, leaves, link_after, reply_after}
-use Rattle.machine.specs.Finalising.{staying_in, tcb_after, unbound}
-use Rattle.machine.specs.Machine.{Machine, object_of, queue_of}
-use Rattle.machine.specs.Removal.{removed, vanishes}
+use Rattle.machine.specs.Finalising.{finalised, halted, is_aborted, is_halted, is_released, leaves, link_after, reply_after, staying_in}
+use Rattle.machine.specs.{Finalising.{tcb_after, unbound}, Machine.{Machine, object_of, queue_of}, Removal.{removed, vanishes}}
 use Rattle.machine.specs.WellFormed.{IsCallingThrough, IsReceivingWith, IsSending, IsThread, IsWellFormed, LinksAgree, WaitsAt}
-use Rattle.machine.proofs.RemovalLooks.{going-removed, queue_of-removed}
-use Rattle.machine.proofs.RemovalNumbers.{numbers_fit}
-use Rattle.machine.proofs.RemovalSlots.{kind_now, parts_fit, queue_was, slots_fit}
-use Rattle.machine.proofs.RemovalStays.{object_was}
-use Rattle.machine.proofs.RemovalTable.{calling_halted, finalised_there, one_thread, queue_left, receiver_halted, reply_stays, waits_aborted}
+use Rattle.machine.proofs.{RemovalLooks.{going-removed, queue_of-removed}, RemovalNumbers.numbers_fit, RemovalSlots.{kind_now, parts_fit}}
+use Rattle.machine.proofs.{RemovalSlots.{queue_was, slots_fit}, RemovalStays.object_was, RemovalTable.{calling_halted, finalised_there}}
+use Rattle.machine.proofs.RemovalTable.{one_thread, queue_left, receiver_halted, reply_stays, waits_aborted}
 
 neither : (a b : Bool) → (a || b) ≡ false → (a ≡ false) × (b ≡ false)
 neither true b e = absurd (false≢true (sym e))

@@ -1,19 +1,11 @@
 -- What each look-up of a machine answers after a removal.
-use Rattle.std.proofs.Common.{◌≡◌, Bool, true, false, cond, List, refl, sym, ap, ◌∙◌}
-use Rattle.std.specs.Prelude.{Option, Some, None, ℕ, [], filter, is_some, option_map}
-use Rattle.std.specs.FinMap.{keys, values, contains_key-keys}
-use Rattle.std.proofs.lemmas.Bool.{false≢true}
-use Rattle.base.specs.declared.ids.ObjId.{ObjId}
-use Rattle.base.specs.declared.ids.SlotRef.{SlotRef}
-use Rattle.machine.specs.Finalising.{finalised, staying_in}
-use Rattle.machine.specs.Machine.{Machine, object_of, queue_of, words_of, cap_of, parent_of}
-use Rattle.machine.specs.Orphans.{Nearest, without_nodes}
-use Rattle.machine.specs.Gone.{gone_of}
-use Rattle.machine.specs.Removal.{object_after, queue_after, words_after, cap_after, parent_after, without_slots, vanishes, removed}
-use Rattle.machine.specs.WellFormed.{Descends}
-use Rattle.machine.proofs.FiniteLemmas.{get-tabulate}
-use Rattle.machine.proofs.LookUps.{id_total, id_apart, slot_total, slot_apart}
-use Rattle.machine.proofs.OrphanLemmas.{nearest_stays, rootless}
+use Rattle.std.specs.{FinMap.{contains_key-keys, keys, values}, Prelude.{[], ℕ, None, Option, Some, filter, is_some, option_map}}
+use Rattle.std.proofs.{Common.{◌∙◌, ◌≡◌, Bool, List, ap, cond, false, refl, sym, true}, lemmas.Bool.false≢true}
+use Rattle.base.specs.declared.ids.{ObjId.ObjId, SlotRef.SlotRef}
+use Rattle.machine.specs.{Finalising.{finalised, staying_in}, Gone.gone_of, Machine.{Machine, cap_of, object_of, parent_of, queue_of}}
+use Rattle.machine.specs.{Machine.words_of, Orphans.{Nearest, without_nodes}, Removal.{cap_after, object_after, parent_after, queue_after}}
+use Rattle.machine.{specs.{Removal.{removed, vanishes, without_slots, words_after}, WellFormed.Descends}, proofs.FiniteLemmas.get-tabulate}
+use Rattle.machine.proofs.{LookUps.{id_apart, id_total, slot_apart, slot_total}, OrphanLemmas.{nearest_stays, rootless}}
 
 -- what isn't there doesn't come to be
 left_some : {A : Type 0} (b : Bool) (found : Option A) → is_some (cond b None found) ≡ true → is_some found ≡ true

@@ -1,18 +1,10 @@
 -- Numbers and ranges of a well-formed machine fit after a removal.
-use Rattle.std.proofs.Common.{◌≡◌, ◌<◌, ◌≤◌, Bool, false, sym, ap, subst, ◌∙◌}
-use Rattle.std.specs.Prelude.{Some}
-use Rattle.base.specs.declared.ids.ObjId.{ObjId}
-use Rattle.base.specs.declared.ids.SlotRef.{SlotRef}
-use Rattle.machine.specs.declared.object.Object.{Object}
-use Rattle.machine.specs.declared.object.Object.TheVariants as o
-use Rattle.machine.specs.declared.object.Untyped.{Untyped}
-use Rattle.machine.specs.Finalising.{finalised}
-use Rattle.machine.specs.Machine.{Machine, object_of}
-use Rattle.machine.specs.Objects.{address_of, end_of}
-use Rattle.machine.specs.Removal.{removed, vanishes}
-use Rattle.machine.specs.WellFormed.{IsRanged, IsWellFormed, LiesIn, Meets, NumbersFit}
-use Rattle.machine.proofs.RemovalLooks.{next-removed}
-use Rattle.machine.proofs.RemovalStays.{cap_stays, cap_was, descends_now, like_finalised, object_was, untyped_was}
+use Rattle.std.{specs.Prelude.Some, proofs.Common.{◌<◌, ◌∙◌, ◌≡◌, ◌≤◌, Bool, ap, false, subst, sym}}
+use Rattle.base.specs.declared.ids.{ObjId.ObjId, SlotRef.SlotRef}
+use Rattle.machine.specs.{declared.object.{Object.{Object, Object as o}, Untyped.Untyped}, Finalising.finalised, Machine.Machine}
+use Rattle.machine.specs.{Machine.object_of, Objects.{address_of, end_of}, Removal.{removed, vanishes}, WellFormed.{IsRanged, IsWellFormed}}
+use Rattle.machine.{specs.WellFormed.{LiesIn, Meets, NumbersFit}, proofs.{RemovalLooks.next-removed, RemovalStays.{cap_stays, cap_was}}}
+use Rattle.machine.proofs.RemovalStays.{descends_now, like_finalised, object_was, untyped_was}
 
 module _ (m : Machine) (chosen : SlotRef → Bool) (formed : IsWellFormed m) where
   abbrev after : Machine

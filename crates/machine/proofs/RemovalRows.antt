@@ -1,28 +1,13 @@
 -- What a delete and a revoke do that are made: the slot that they found, and the machine after it.
-use Rattle.std.proofs.Common.{◌≡◌, ◌⊎◌, inl, inr, Bool, true, false, cond, refl, sym, ap, subst, ◌∙◌}
-use Rattle.std.specs.Prelude.{Option, Some, None, Ok}
-use Rattle.std.proofs.lemmas.Bool.{false≢true}
-use Rattle.std.proofs.lemmas.Option.{none-some}
-use Rattle.base.specs.declared.ids.ObjId.{ObjId}
-use Rattle.base.specs.declared.ids.SlotRef.{SlotRef}
-use Rattle.machine.specs.declared.call.Made.{Made}
-use Rattle.machine.specs.declared.cap.Cap.{Cap}
-use Rattle.machine.specs.declared.slot_address.SlotAddress.{SlotAddress}
-use Rattle.machine.specs.Below.{is_below}
-use Rattle.machine.specs.Gone.{given, gone_of}
-use Rattle.machine.specs.Machine.{Machine, cap_of, parent_of, same_slot}
-use Rattle.machine.specs.Orphans.{Nearest}
-use Rattle.machine.specs.Removal.{removed}
-use Rattle.machine.specs.Step.Delete.{delete_of, deleted}
-use Rattle.machine.specs.Step.Revoke.{revoke_of, revoked}
-use Rattle.machine.specs.Step.Target.{target_of}
-use Rattle.machine.specs.WellFormed.{Descends, IsWellFormed, child, further}
-use Rattle.machine.proofs.BelowLemmas.{below_decided}
-use Rattle.machine.proofs.Conditions.{both_done, same_ok}
-use Rattle.machine.proofs.Exchange.{slot_itself}
-use Rattle.machine.proofs.GoneLemmas.{gone_decided}
-use Rattle.machine.proofs.OrphanLemmas.{climbed}
-use Rattle.machine.proofs.RemovalLooks.{cap_of-removed, gone_has_no_parent, nearest_survives}
+use Rattle.std.{specs.Prelude.{None, Ok, Option, Some}, proofs.Common.{◌∙◌, ◌≡◌, ◌⊎◌, Bool, ap, cond, false, inl, inr, refl, subst, sym}}
+use Rattle.std.proofs.{Common.true, lemmas.{Bool.false≢true, Option.none-some}}
+use Rattle.base.specs.declared.ids.{ObjId.ObjId, SlotRef.SlotRef}
+use Rattle.machine.specs.{declared.{call.Made.Made, cap.Cap.Cap, slot_address.SlotAddress.SlotAddress}, Below.is_below, Gone.given}
+use Rattle.machine.specs.{Gone.gone_of, Machine.{Machine, cap_of, parent_of, same_slot}, Orphans.Nearest, Removal.removed}
+use Rattle.machine.specs.{Step.{Delete.{delete_of, deleted}, Revoke.{revoke_of, revoked}, Target.target_of}, WellFormed.Descends}
+use Rattle.machine.{specs.WellFormed.{IsWellFormed, child, further}, proofs.{BelowLemmas.below_decided, Conditions.{both_done, same_ok}}}
+use Rattle.machine.proofs.{Exchange.slot_itself, GoneLemmas.gone_decided, OrphanLemmas.climbed, RemovalLooks.cap_of-removed}
+use Rattle.machine.proofs.RemovalLooks.{gone_has_no_parent, nearest_survives}
 
 -- a removal was made: of nothing where the slot was empty, and else of those that go with the slot
 pub record RemovalDone (m : Machine) (caller : ObjId) (address : SlotAddress) (chosen : SlotRef → SlotRef → Bool) (next : Machine) : Type 0 where

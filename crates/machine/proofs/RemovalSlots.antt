@@ -1,23 +1,13 @@
 -- Slots, the parts of objects, and numbers and ranges of a well-formed machine fit after a removal.
-use Rattle.std.proofs.Common.{◌≡◌, ◌<◌, ◌≤◌, ◌⊎◌, inl, inr, Bool, true, false, cond, List, refl, sym, ap, subst, ◌∙◌, arith}
-use Rattle.std.specs.Prelude.{ℕ, Option, Some, None, option_map}
-use Rattle.std.proofs.lemmas.Option.{none-some, same_Some}
-use Rattle.base.specs.declared.ids.ObjId.{ObjId}
-use Rattle.base.specs.declared.ids.SlotRef.{SlotRef}
-use Rattle.machine.specs.declared.cap.Cap.{Cap}
-use Rattle.machine.specs.declared.object.Object.{Object}
-use Rattle.machine.specs.declared.object.Object.TheVariants as o
-use Rattle.machine.specs.declared.object.Untyped.{Untyped}
-use Rattle.machine.specs.Finalising.{finalised, staying_in}
-use Rattle.machine.specs.Machine.{Machine, object_of, queue_of, words_of, cap_of}
-use Rattle.machine.specs.Objects.{kind_of_object, slot_count, word_count}
-use Rattle.machine.specs.Removal.{removed, vanishes}
-use Rattle.machine.specs.WellFormed.{Descends, IsWellFormed, LiesIn, PartsFit, SlotsFit, child, further, kind_of}
-use Rattle.machine.proofs.RemovalLooks.{queue_of-removed, words_of-removed}
-use Rattle.machine.proofs.RemovalStays.{cap_now, cap_was, descends_was, holder_stays, like_finalised}
-use Rattle.machine.proofs.RemovalStays.{object_stays, object_was, parent_was}
-use Rattle.machine.proofs.RemovalTable.{finalised_there}
-use Rattle.machine.proofs.SameObjects.{Kin}
+use Rattle.std.{specs.Prelude.{ℕ, None, Option, Some, option_map}, proofs.Common.{◌<◌, ◌∙◌, ◌≡◌, ◌≤◌, ◌⊎◌, Bool, List, ap, arith, cond}}
+use Rattle.std.proofs.{Common.{false, inl, inr, refl, subst, sym, true}, lemmas.Option.{none-some, same_Some}}
+use Rattle.base.specs.declared.ids.{ObjId.ObjId, SlotRef.SlotRef}
+use Rattle.machine.specs.{declared.{cap.Cap.Cap, object.{Object.{Object, Object as o}, Untyped.Untyped}}, Finalising.finalised}
+use Rattle.machine.specs.{Finalising.staying_in, Machine.{Machine, cap_of, object_of, queue_of, words_of}, Objects.kind_of_object}
+use Rattle.machine.specs.{Objects.{slot_count, word_count}, Removal.{removed, vanishes}, WellFormed.{Descends, IsWellFormed, LiesIn}}
+use Rattle.machine.{specs.WellFormed.{PartsFit, SlotsFit, child, further, kind_of}, proofs.RemovalLooks.queue_of-removed}
+use Rattle.machine.proofs.{RemovalLooks.words_of-removed, RemovalStays.{cap_now, cap_was, descends_was, holder_stays, like_finalised}}
+use Rattle.machine.proofs.{RemovalStays.{object_stays, object_was, parent_was}, RemovalTable.finalised_there, SameObjects.Kin}
 
 -- what lies in memory that lies in other memory lies there
 lies_through : (outer inner : Untyped) (object : Object) → LiesIn outer (o.Untyped inner) → LiesIn inner object → LiesIn outer object

@@ -1,30 +1,16 @@
 -- What stays where slots are removed: objects alike, capabilities as they were, and the ways up the derivation tree.
-use Rattle.std.proofs.Common.{◌≡◌, ◌<◌, ◌⊎◌, inl, inr, Bool, true, false, cond, refl, sym, ap, subst, ◌∙◌, arith}
-use Rattle.std.specs.Prelude.{ℕ, Option, Some, None, option_map}
-use Rattle.std.proofs.lemmas.Bool.{false≢true}
-use Rattle.std.proofs.lemmas.Option.{none-some, same_Some}
-use Rattle.base.specs.declared.ids.ObjId.{ObjId}
-use Rattle.base.specs.declared.ids.SlotRef.{SlotRef}
-use Rattle.machine.specs.declared.cap.Cap.{Cap}
-use Rattle.machine.specs.declared.object.Object.{Object}
-use Rattle.machine.specs.declared.object.Object.TheVariants as o
-use Rattle.machine.specs.declared.object.Untyped.{Untyped}
-use Rattle.machine.specs.declared.thread.Inbox.{Inbox}
+use Rattle.std.{specs.Prelude.{ℕ, None, Option, Some, option_map}, proofs.Common.{◌<◌, ◌∙◌, ◌≡◌, ◌⊎◌, Bool, ap, arith, cond, false, inl}}
+use Rattle.std.proofs.{Common.{inr, refl, subst, sym, true}, lemmas.{Bool.false≢true, Option.{none-some, same_Some}}}
+use Rattle.base.specs.declared.ids.{ObjId.ObjId, SlotRef.SlotRef}
+use Rattle.machine.specs.declared.{cap.Cap.Cap, object.{Object.{Object, Object as o}, Untyped.Untyped}, thread.Inbox.Inbox}
 use Rattle.machine.specs.declared.thread.Inbox.TheVariants as inbox
-use Rattle.machine.specs.declared.thread.RunState.{RunState}
+use Rattle.machine.specs.{declared.thread.{RunState.RunState, Tcb.Tcb}, Finalising.{aborted, finalised, halted, is_aborted, is_halted}}
 use Rattle.machine.specs.declared.thread.RunState.TheVariants as state
-use Rattle.machine.specs.declared.thread.Tcb.{Tcb}
-use Rattle.machine.specs.Finalising.{aborted, finalised, halted, is_aborted, is_halted, link_after, unbound}
-use Rattle.machine.specs.Gone.{gone_of, has_slots}
-use Rattle.machine.specs.Machine.{Machine, object_of, cap_of, parent_of}
-use Rattle.machine.specs.Objects.{slot_count}
-use Rattle.machine.specs.Orphans.{Nearest, no_ancestor, survives, climbs}
-use Rattle.machine.specs.Removal.{removed, vanishes}
-use Rattle.machine.specs.WellFormed.{Descends, child, further}
-use Rattle.machine.proofs.GoneLemmas.{gone_least, losing_decided, one_stays}
-use Rattle.machine.proofs.Likeness.{IsLike, like_itself}
-use Rattle.machine.proofs.OrphanLemmas.{climbed}
-use Rattle.machine.proofs.RemovalLooks.{object_of-removed, cap_of-removed, gone_has_no_parent, nearest_survives}
+use Rattle.machine.specs.{Finalising.{link_after, unbound}, Gone.{gone_of, has_slots}, Machine.{Machine, cap_of, object_of, parent_of}}
+use Rattle.machine.specs.{Objects.slot_count, Orphans.{Nearest, climbs, no_ancestor, survives}, Removal.{removed, vanishes}}
+use Rattle.machine.{specs.WellFormed.{Descends, child, further}, proofs.GoneLemmas.{gone_least, losing_decided, one_stays}}
+use Rattle.machine.proofs.{Likeness.{IsLike, like_itself}, OrphanLemmas.climbed, RemovalLooks.{cap_of-removed, gone_has_no_parent}}
+use Rattle.machine.proofs.RemovalLooks.{nearest_survives, object_of-removed}
 
 like_tcb :
     (tcb : Tcb) (run : RunState) (learnt : Inbox) (bound : Option ObjId)

@@ -1,27 +1,16 @@
 -- What each kind of vanished object does to the rest.
-use Rattle.std.proofs.Common.{◌≡◌, Bool, true, false, not, cond, List, refl, sym, ap, subst, ◌∙◌}
-use Rattle.std.specs.Prelude.{Option, Some, None, All, Contains, option_map, if◌then◌else◌}
-use Rattle.std.proofs.lemmas.Bool.{false≢true}
-use Rattle.std.proofs.lemmas.List.Elements.{All-contains, filter_passes}
-use Rattle.std.proofs.lemmas.Option.{none-some, same_Some}
-use Rattle.base.specs.declared.ids.ObjId.{ObjId}
-use Rattle.base.specs.declared.ids.SlotRef.{SlotRef}
-use Rattle.machine.specs.declared.object.Context.{Context}
-use Rattle.machine.specs.declared.object.Object.{Object}
-use Rattle.machine.specs.declared.object.Object.TheVariants as o
-use Rattle.machine.specs.declared.object.Reply.{Reply}
-use Rattle.machine.specs.declared.object.ReplyState.{ReplyState}
+use Rattle.std.{specs.Prelude.{All, Contains, None, Option, Some, if◌then◌else◌, option_map}, proofs.Common.{◌∙◌, ◌≡◌, Bool, List, ap}}
+use Rattle.std.proofs.{Common.{cond, false, not, refl, subst, sym, true}, lemmas.{Bool.false≢true, List.Elements.All-contains}}
+use Rattle.std.proofs.lemmas.{List.Elements.filter_passes, Option.{none-some, same_Some}}
+use Rattle.base.specs.declared.ids.{ObjId.ObjId, SlotRef.SlotRef}
+use Rattle.machine.specs.declared.object.{Context.Context, Object.{Object, Object as o}, Reply.Reply, ReplyState.ReplyState}
 use Rattle.machine.specs.declared.object.ReplyState.TheVariants as reply
-use Rattle.machine.specs.declared.thread.RunState.{RunState}
+use Rattle.machine.specs.{declared.thread.{RunState.RunState, Tcb.Tcb}, Finalising.{IsHolding, aborted, finalised, halted, has_links}}
 use Rattle.machine.specs.declared.thread.RunState.TheVariants as state
-use Rattle.machine.specs.declared.thread.Tcb.{Tcb}
-use Rattle.machine.specs.Finalising.{IsHolding, is_halted, is_aborted, aborted, halted, unbound, tcb_after, link_after, leads_nowhere, leaves}
-use Rattle.machine.specs.Finalising.{has_links, reply_after, finalised, staying_in}
-use Rattle.machine.specs.Machine.{Machine, object_of, queue_of}
-use Rattle.machine.specs.Removal.{removed, vanishes}
-use Rattle.machine.specs.WellFormed.{IsCallingThrough, IsThread, IsWellFormed, IsReceivingWith, WaitsAt}
-use Rattle.machine.proofs.RemovalLooks.{object_of-removed, queue_of-removed}
-use Rattle.machine.proofs.RoundLemmas.{not_passes}
+use Rattle.machine.specs.Finalising.{is_aborted, is_halted, leads_nowhere, leaves, link_after, reply_after, staying_in, tcb_after, unbound}
+use Rattle.machine.specs.{Machine.{Machine, object_of, queue_of}, Removal.{removed, vanishes}, WellFormed.IsCallingThrough}
+use Rattle.machine.{specs.WellFormed.{IsReceivingWith, IsThread, IsWellFormed, WaitsAt}, proofs.RemovalLooks.object_of-removed}
+use Rattle.machine.proofs.{RemovalLooks.queue_of-removed, RoundLemmas.not_passes}
 
 -- a run state that waits at a vanished object is aborted, or halted
 pub waits_aborted :

@@ -1,21 +1,11 @@
 -- What a reply does that is made: the thread that has called through it gets the words, after the context that it lent to the caller;
 -- where none has, nothing changes.
-use Rattle.std.proofs.Common.{◌≡◌, ℕ, ◌⊎◌, inl, inr, false, List, refl, sym, ap, ◌∙◌}
-use Rattle.std.specs.Prelude.{Option, Some, Ok}
+use Rattle.std.{specs.Prelude.{Ok, Option, Some}, proofs.Common.{ℕ, ◌∙◌, ◌≡◌, ◌⊎◌, List, ap, false, inl, inr, refl, sym}}
 use Rattle.base.specs.declared.ids.ObjId.{ObjId}
-use Rattle.machine.specs.declared.call.Made.{Made}
-use Rattle.machine.specs.declared.cap.Detail.TheVariants as d
-use Rattle.machine.specs.declared.object.Object.{Object}
-use Rattle.machine.specs.declared.object.Object.TheVariants as o
-use Rattle.machine.specs.declared.object.ReplyState.{ReplyState}
+use Rattle.machine.specs.declared.{call.Made.Made, cap.Detail.Detail as d, object.{Object.{Object, Object as o}, ReplyState.ReplyState}}
 use Rattle.machine.specs.declared.object.ReplyState.TheVariants as reply
-use Rattle.machine.specs.Machine.{Machine, object_of}
-use Rattle.machine.specs.Releasing.{with_given}
-use Rattle.machine.specs.Step.Find.{find_reply}
-use Rattle.machine.specs.Step.Reply.{answered, caller_in, reply_of, with_returned}
-use Rattle.machine.proofs.Conditions.{both_done, same_ok}
-use Rattle.machine.proofs.Finding.{FindsObject}
-use Rattle.machine.proofs.FoundObjects.{finds_reply}
+use Rattle.machine.specs.{Machine.{Machine, object_of}, Releasing.with_given, Step.{Find.find_reply, Reply.{answered, caller_in, reply_of}}}
+use Rattle.machine.{specs.Step.Reply.with_returned, proofs.{Conditions.{both_done, same_ok}, Finding.FindsObject, FoundObjects.finds_reply}}
 
 -- a thread that has called through a reply is answered, where one has
 abbrev pub Answers : Machine → ObjId → ObjId → List ℕ → Machine → Type 0

@@ -1,42 +1,18 @@
 -- A made retype makes its objects one after another, and keeps a well-formed machine well formed.
-use Rattle.std.proofs.Common.{◌≡◌, ◌≢◌, ℕ, zero, suc, ◌+◌, ◌<◌, ◌≤◌, ◌^◌, ◌||◌, ◌⊎◌, inl, inr, Bool, true, false, List, [], ◌∷◌, refl}
-use Rattle.std.proofs.Common.{sym, ap, subst, ◌∙◌, arith}
-use Rattle.std.proofs.Math.Nat.{eq-or-lt_of_le}
-use Rattle.std.proofs.lemmas.Bool.{or_right}
-use Rattle.std.specs.FinMap.{entries, get-entries}
-use Rattle.std.specs.FinMap.Entries.{find}
-use Rattle.std.specs.List.{list_any}
-use Rattle.std.specs.Prelude.{Some, None, Ok, cond, if◌then◌else◌}
-use Rattle.base.specs.declared.ids.ObjId.{ObjId}
-use Rattle.base.specs.declared.ids.SlotRef.{SlotRef}
-use Rattle.base.specs.declared.limits.TheConstants.{ADDRESS_END}
-use Rattle.machine.specs.declared.call.Made.{Made}
-use Rattle.machine.specs.declared.cap.Cap.{Cap}
-use Rattle.machine.specs.declared.object.CNode.{CNode}
-use Rattle.machine.specs.declared.object.MemoryKind.{MemoryKind}
+use Rattle.std.specs.{FinMap.{entries, get-entries, Entries.find}, List.list_any, Prelude.{None, Ok, Some, cond, if◌then◌else◌}}
+use Rattle.std.proofs.Common.{[], ℕ, ◌+◌, ◌<◌, ◌^◌, ◌||◌, ◌∙◌, ◌∷◌, ◌≡◌, ◌≢◌, ◌≤◌, ◌⊎◌, Bool, List, ap, arith, false, inl, inr, refl, subst}
+use Rattle.std.proofs.{Common.{suc, sym, true, zero}, Math.Nat.eq-or-lt_of_le, lemmas.Bool.or_right}
+use Rattle.base.specs.declared.{ids.{ObjId.ObjId, SlotRef.SlotRef}, limits.TheConstants.ADDRESS_END}
+use Rattle.machine.specs.declared.{call.Made.Made, cap.Cap.Cap, object.{CNode.CNode, MemoryKind.MemoryKind, Object.{Object, Object as o}}}
 use Rattle.machine.specs.declared.object.MemoryKind.TheVariants as kind
-use Rattle.machine.specs.declared.object.Object.{Object}
-use Rattle.machine.specs.declared.object.Object.TheVariants as o
-use Rattle.machine.specs.declared.object.Untyped.{Untyped}
-use Rattle.machine.specs.Capabilities.{kind_of_detail}
-use Rattle.machine.specs.Machine.{Machine, object_of, cap_of, parent_of, same_slot, slot_cmp}
-use Rattle.machine.specs.Memory.{Source, all_taken, begun, has_child, new_cap, new_detail, new_object, new_size, placed, taken}
-use Rattle.machine.specs.Memory.{with_made, with_all_made}
-use Rattle.machine.specs.Objects.{kind_of_object, address_of, end_of}
-use Rattle.machine.specs.Step.Retype.{all_vacant, retype_of, window}
-use Rattle.machine.specs.Step.Target.{vacant}
-use Rattle.machine.specs.WellFormed.{Descends, IsRanged, IsWellFormed, Meets}
-use Rattle.machine.specs.WellFormed.Descends.{child, further}
-use Rattle.machine.proofs.Conditions.{both_done}
-use Rattle.machine.proofs.Exchange.{slot_itself}
-use Rattle.machine.proofs.FilledSlots.{cap_stays}
-use Rattle.machine.proofs.LedSlots.{node_at}
-use Rattle.machine.proofs.Likeness.{IsLike, IsUnlinked}
-use Rattle.machine.proofs.LookUps.{one_slot}
-use Rattle.machine.proofs.MadeFormed.{CanMake, before, fills, linked_stays, made_formed, memory_there}
-use Rattle.machine.proofs.ObjectMade.{MakesObject, following, made_makes, marked}
-use Rattle.machine.proofs.RetypeRow.{IsSized, RetypeDone, retype_done}
-use Rattle.machine.proofs.SlotRows.{is_vacant}
+use Rattle.machine.specs.{declared.object.Untyped.Untyped, Capabilities.kind_of_detail, Machine.{Machine, cap_of, object_of, parent_of}}
+use Rattle.machine.specs.{Machine.{same_slot, slot_cmp}, Memory.{Source, all_taken, begun, has_child, new_cap, new_detail, new_object}}
+use Rattle.machine.specs.{Memory.{new_size, placed, taken, with_all_made, with_made}, Objects.{address_of, end_of, kind_of_object}}
+use Rattle.machine.specs.{Step.{Retype.{all_vacant, retype_of, window}, Target.vacant}, WellFormed.{Descends, IsRanged, IsWellFormed}}
+use Rattle.machine.{specs.WellFormed.{Meets, Descends.{child, further}}, proofs.{Conditions.both_done, Exchange.slot_itself}}
+use Rattle.machine.proofs.{FilledSlots.cap_stays, LedSlots.node_at, Likeness.{IsLike, IsUnlinked}, LookUps.one_slot, MadeFormed.CanMake}
+use Rattle.machine.proofs.{MadeFormed.{before, fills, linked_stays, made_formed, memory_there}, ObjectMade.{MakesObject, following}}
+use Rattle.machine.proofs.{ObjectMade.{made_makes, marked}, RetypeRow.{IsSized, RetypeDone, retype_done}, SlotRows.is_vacant}
 
 -- objects of one kind are made one after another, a slot for each
 pub data MakesAll (of : MemoryKind) (bits : ℕ) : Machine → Source → List SlotRef → Machine → Type 0 where

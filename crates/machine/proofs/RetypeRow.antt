@@ -1,28 +1,14 @@
 -- What a retype found that is made, and the objects that it made one after another.
-use Rattle.std.proofs.Common.{◌≡◌, ℕ, ◌+◌, ◌^◌, ◌≤◌, Bool, true, false, refl, sym, ap, subst, leb-true, ltb-false}
-use Rattle.std.specs.Prelude.{Option, Some, None, Ok, Err, nat_le, nat_lt}
-use Rattle.base.specs.declared.ids.ObjId.{ObjId}
-use Rattle.base.specs.declared.ids.SlotRef.{SlotRef}
-use Rattle.base.specs.declared.limits.TheConstants.{MAX_RADIX}
-use Rattle.base.specs.declared.refusal.Cause.TheVariants as cause
-use Rattle.machine.specs.declared.call.Made.{Made}
-use Rattle.machine.specs.declared.cap.Cap.{Cap}
-use Rattle.machine.specs.declared.cap.Detail.{Detail}
-use Rattle.machine.specs.declared.cap.Detail.TheVariants as d
-use Rattle.machine.specs.declared.object.MemoryKind.{MemoryKind}
+use Rattle.std.{specs.Prelude.{Err, None, Ok, Option, Some, nat_le, nat_lt}, proofs.Common.{ℕ, ◌+◌, ◌^◌, ◌≡◌, ◌≤◌, Bool, ap, false}}
+use Rattle.std.proofs.Common.{leb-true, ltb-false, refl, subst, sym, true}
+use Rattle.base.specs.declared.{ids.{ObjId.ObjId, SlotRef.SlotRef}, limits.TheConstants.MAX_RADIX, refusal.Cause.Cause as cause}
+use Rattle.machine.specs.declared.{call.Made.Made, cap.{Cap.Cap, Detail.{Detail, Detail as d}}, object.MemoryKind.MemoryKind}
 use Rattle.machine.specs.declared.object.MemoryKind.TheVariants as kind
-use Rattle.machine.specs.declared.object.Object.{Object}
-use Rattle.machine.specs.declared.object.Object.TheVariants as o
-use Rattle.machine.specs.declared.object.Untyped.{Untyped}
-use Rattle.machine.specs.Lookup.{Level, level_at, lookup_of}
-use Rattle.machine.specs.Machine.{Machine, object_of}
-use Rattle.machine.specs.Memory.{Source, all_taken, begun, new_object, new_size, with_all_made}
-use Rattle.machine.specs.Objects.{end_of}
-use Rattle.machine.specs.Step.Find.{find_cap}
-use Rattle.machine.specs.Step.Retype.{a_few, all_vacant, between, find_taker, find_untyped, in_node, memory_in, of_untyped}
-use Rattle.machine.specs.Step.Retype.{retype_of, roomy, sized, taker, window, within_limits}
-use Rattle.machine.proofs.Conditions.{both_done, same_ok}
-use Rattle.machine.proofs.Finding.{FindsCap, finds_cap}
+use Rattle.machine.specs.{declared.object.{Object.{Object, Object as o}, Untyped.Untyped}, Lookup.{Level, level_at, lookup_of}}
+use Rattle.machine.specs.{Machine.{Machine, object_of}, Memory.{Source, all_taken, begun, new_object, new_size, with_all_made}}
+use Rattle.machine.specs.{Objects.end_of, Step.{Find.find_cap, Retype.{a_few, all_vacant, between, find_taker, find_untyped, in_node}}}
+use Rattle.machine.specs.Step.Retype.{memory_in, of_untyped, retype_of, roomy, sized, taker, window, within_limits}
+use Rattle.machine.proofs.{Conditions.{both_done, same_ok}, Finding.{FindsCap, finds_cap}}
 
 -- a size that may be asked for
 abbrev pub IsSized : MemoryKind → ℕ → Type 0

@@ -1,8 +1,6 @@
 -- Who leaves a list in rounds has fallen, and who stays doesn't fall.
-use Rattle.std.proofs.Common.{◌≡◌, ℕ, zero, suc, ◌<◌, ◌≤◌, ◌⊎◌, inl, inr, Bool, true, false, not, List, [], ◌∷◌, length, refl, sym, ap, subst, ◌∙◌, arith}
-use Rattle.std.specs.Prelude.{filter, ◌||◌, ◌&&◌, cond}
-use Rattle.std.specs.List.{list_any}
-use Rattle.std.proofs.lemmas.Bool.{false≢true}
+use Rattle.std.{specs.{List.list_any, Prelude.{◌&&◌, ◌||◌, cond, filter}}, proofs.Common.{[], ℕ, ◌<◌, ◌∙◌, ◌∷◌, ◌≡◌, ◌≤◌, ◌⊎◌, Bool, List}}
+use Rattle.std.proofs.{Common.{ap, arith, false, inl, inr, length, not, refl, subst, suc, sym, true, zero}, lemmas.Bool.false≢true}
 use Rattle.machine.specs.Rounds.{rounds, staying}
 
 -- both tests pass

@@ -1,13 +1,8 @@
 -- What a thread runs on: the context that it is bound to, or the one that it lent.
-use Rattle.std.proofs.Common.{◌≡◌, ◌⊎◌, inl, inr, true, Option, Some, None, ap, ◌∙◌}
-use Rattle.std.proofs.lemmas.Bool.{or_cases, or_left, or_right}
-use Rattle.base.specs.declared.ids.ObjId.{ObjId}
-use Rattle.base.specs.declared.kind.Kind.TheVariants as authority
-use Rattle.machine.specs.declared.object.Object.TheVariants as o
-use Rattle.machine.specs.declared.thread.Tcb.{Tcb}
-use Rattle.machine.specs.Authority.{lent_of, links, names_reply}
-use Rattle.machine.proofs.Ids.{itself}
-use Rattle.machine.proofs.LookUps.{one_id}
+use Rattle.std.proofs.{Common.{◌∙◌, ◌≡◌, ◌⊎◌, None, Option, Some, ap, inl, inr, true}, lemmas.Bool.{or_cases, or_left, or_right}}
+use Rattle.base.specs.declared.{ids.ObjId.ObjId, kind.Kind.Kind as authority}
+use Rattle.machine.specs.{declared.{object.Object.Object as o, thread.Tcb.Tcb}, Authority.{lent_of, links, names_reply}}
+use Rattle.machine.proofs.{Ids.itself, LookUps.one_id}
 
 -- a link that names an object is there
 pub named_so : (named : Option ObjId) (end : ObjId) → names_reply named end ≡ true → named ≡ Some end

@@ -1,19 +1,10 @@
 -- What stays where nothing but slots differs: parts, links, and numbers as far as capabilities are found again.
-use Rattle.std.proofs.Common.{◌≡◌, ◌<◌, ◌⊎◌, inl, inr, refl, sym, ap, subst, ◌∙◌}
-use Rattle.std.specs.Prelude.{Some, option_map}
-use Rattle.base.specs.declared.ids.ObjId.{ObjId}
-use Rattle.base.specs.declared.ids.SlotRef.{SlotRef}
-use Rattle.machine.specs.declared.cap.Cap.{Cap}
-use Rattle.machine.specs.declared.object.Object.{Object}
-use Rattle.machine.specs.declared.object.Object.TheVariants as o
-use Rattle.machine.specs.declared.object.ObjectKind.TheVariants as kind
-use Rattle.machine.specs.declared.object.Untyped.{Untyped}
-use Rattle.machine.specs.Capabilities.{kind_of_detail}
-use Rattle.machine.specs.Machine.{Machine, object_of, queue_of, words_of, cap_of, parent_of}
-use Rattle.machine.specs.Objects.{kind_of_object}
-use Rattle.machine.specs.WellFormed.{Descends, LiesIn, LinksAgree, NumbersFit, PartsFit, kind_of}
-use Rattle.machine.proofs.LookUps.{same_machine}
-use Rattle.machine.proofs.SlotChanges.{SameObjects}
+use Rattle.std.{specs.Prelude.{Some, option_map}, proofs.Common.{◌<◌, ◌∙◌, ◌≡◌, ◌⊎◌, ap, inl, inr, refl, subst, sym}}
+use Rattle.base.specs.declared.ids.{ObjId.ObjId, SlotRef.SlotRef}
+use Rattle.machine.specs.declared.{cap.Cap.Cap, object.{Object.{Object, Object as o}, ObjectKind.ObjectKind as kind, Untyped.Untyped}}
+use Rattle.machine.specs.{Capabilities.kind_of_detail, Machine.{Machine, cap_of, object_of, parent_of, queue_of, words_of}}
+use Rattle.machine.specs.{Objects.kind_of_object, WellFormed.{Descends, LiesIn, LinksAgree, NumbersFit, PartsFit, kind_of}}
+use Rattle.machine.proofs.{LookUps.same_machine, SlotChanges.SameObjects}
 
 -- a machine with the slots of another
 abbrev with_slots : Machine → Machine → Machine

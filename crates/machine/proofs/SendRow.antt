@@ -1,24 +1,13 @@
 -- What a send and a call do that are made: the message goes to the thread that waits first to receive, and a call waits for the
 -- answer, with its context lent; where none does, the caller waits.
-use Rattle.std.proofs.Common.{◌≡◌, ℕ, ◌⊎◌, inl, inr, true, false, List, refl, sym, ap}
-use Rattle.std.specs.Prelude.{Option, Some, None, Ok, option_map}
+use Rattle.std.{specs.Prelude.{None, Ok, Option, Some, option_map}, proofs.Common.{ℕ, ◌≡◌, ◌⊎◌, List, ap, false, inl, inr, refl, sym, true}}
 use Rattle.base.specs.declared.ids.ObjId.{ObjId}
-use Rattle.machine.specs.declared.call.Made.{Made}
-use Rattle.machine.specs.declared.call.Made.TheVariants.{Blocked}
-use Rattle.machine.specs.declared.object.Endpoint.{Endpoint}
-use Rattle.machine.specs.declared.object.Object.TheVariants as o
-use Rattle.machine.specs.declared.thread.Receiving.{Receiving}
-use Rattle.machine.specs.declared.thread.RunState.TheVariants as state
-use Rattle.machine.specs.declared.thread.Sending.{Sending}
-use Rattle.machine.specs.Capabilities.{can_write}
-use Rattle.machine.specs.Machine.{Machine, object_of}
-use Rattle.machine.specs.Objects.{kind_of_object}
-use Rattle.machine.specs.Releasing.{with_blocked}
-use Rattle.machine.specs.Step.Deliver.{answer_through, delivered, first_at, receiver_in, sending_by}
-use Rattle.machine.specs.Step.Send.{called_or_waits, called_through, endpoint_call_of, send_of, sent_or_waits}
-use Rattle.machine.specs.WellFormed.{IsAlike, IsWellFormed}
-use Rattle.machine.proofs.Conditions.{same_ok}
-use Rattle.machine.proofs.EndpointRow.{IsEndOpen, IsReceiver, no_receiver, opens_end, receiver_first}
+use Rattle.machine.specs.declared.{call.Made.{Made, TheVariants.Blocked}, object.{Endpoint.Endpoint, Object.Object as o}}
+use Rattle.machine.specs.{declared.thread.{Receiving.Receiving, RunState.RunState as state, Sending.Sending}, Capabilities.can_write}
+use Rattle.machine.specs.{Machine.{Machine, object_of}, Objects.kind_of_object, Releasing.with_blocked, Step.Deliver.answer_through}
+use Rattle.machine.specs.Step.{Deliver.{delivered, first_at, receiver_in, sending_by}, Send.{called_or_waits, called_through}}
+use Rattle.machine.specs.{Step.Send.{endpoint_call_of, send_of, sent_or_waits}, WellFormed.{IsAlike, IsWellFormed}}
+use Rattle.machine.proofs.{Conditions.same_ok, EndpointRow.{IsEndOpen, IsReceiver, no_receiver, opens_end, receiver_first}}
 
 -- a message goes to a receiver that waits at an endpoint, or its sender waits there
 abbrev pub Sends : Machine → ObjId → ObjId → Sending → (ObjId → Receiving → Machine) → Machine → Type 0

@@ -1,10 +1,8 @@
 -- One object's content becomes another, and the others' stay as they were.
-use Rattle.std.proofs.Common.{◌≡◌, ◌≢◌, ◌⊎◌, inl, inr, sym, ap, ◌∙◌}
-use Rattle.std.specs.Prelude.{Some, if◌then◌else◌}
+use Rattle.std.{specs.Prelude.{Some, if◌then◌else◌}, proofs.Common.{◌∙◌, ◌≡◌, ◌≢◌, ◌⊎◌, ap, inl, inr, sym}}
 use Rattle.base.specs.declared.ids.ObjId.{ObjId}
-use Rattle.machine.specs.declared.object.Object.{Object}
-use Rattle.machine.specs.Machine.{Machine, object_of, same_id}
-use Rattle.machine.proofs.Ids.{one_or_two, at_itself, at_other}
+use Rattle.machine.{specs.{declared.object.Object.Object, Machine.{Machine, object_of, same_id}}, proofs.Ids.{at_itself, at_other}}
+use Rattle.machine.proofs.Ids.{one_or_two}
 
 -- one object's content is this, and the others' are as they were
 abbrev pub SetsObject : Machine → ObjId → Object → Machine → Type 0

@@ -1,28 +1,16 @@
 -- What a signal does that is made: the first thread that waits gets the badge and is ready; where nobody waits, the badge joins
 -- the word.
-use Rattle.std.proofs.Common.{◌≡◌, ℕ, ◌⊎◌, inl, inr, List, [], ◌∷◌, refl, sym, ap, subst, ◌∙◌}
-use Rattle.std.specs.Prelude.{Contains, Option, Some, None, Ok, unwrap_or}
-use Rattle.std.specs.Int.RustNames.{bit_or}
+use Rattle.std.{specs.{Int.RustNames.bit_or, Prelude.{Contains, None, Ok, Option, Some, unwrap_or}}, proofs.Common.{[], ℕ, ◌∙◌, ◌∷◌, ◌≡◌}}
+use Rattle.std.proofs.Common.{◌⊎◌, List, ap, inl, inr, refl, subst, sym}
 use Rattle.base.specs.declared.ids.ObjId.{ObjId}
-use Rattle.machine.specs.declared.call.Answer.TheVariants as answer
-use Rattle.machine.specs.declared.call.Made.{Made}
-use Rattle.machine.specs.declared.call.Made.TheVariants.{Done}
-use Rattle.machine.specs.declared.object.Notification.{Notification}
-use Rattle.machine.specs.declared.object.Object.TheVariants as o
+use Rattle.machine.specs.declared.{call.{Answer.Answer as answer, Made.{Made, TheVariants.Done}}, object.Notification.Notification}
+use Rattle.machine.specs.{declared.{object.Object.Object as o, thread.{RunState.RunState, Tcb.Tcb}}, Capabilities.can_write}
 use Rattle.machine.specs.declared.thread.Inbox.TheVariants as inbox
-use Rattle.machine.specs.declared.thread.RunState.{RunState}
 use Rattle.machine.specs.declared.thread.RunState.TheVariants as state
-use Rattle.machine.specs.declared.thread.Tcb.{Tcb}
-use Rattle.machine.specs.Capabilities.{can_write}
-use Rattle.machine.specs.Changes.{first_waiting, with_tcb, without_waiting}
-use Rattle.machine.specs.Machine.{Machine, object_of, queue_of, with_object}
-use Rattle.machine.specs.Releasing.{unblocked, with_released}
-use Rattle.machine.specs.Step.Signal.{signal_of, signalled, woken, pending_in}
-use Rattle.machine.specs.WellFormed.{IsWellFormed, IsThread}
-use Rattle.machine.proofs.Conditions.{same_ok}
-use Rattle.machine.proofs.Leaving.{first_leaves, objects_unqueued, released_there}
-use Rattle.machine.proofs.NotificationRow.{IsOpen, opens, waits_for, with_pending_there}
-use Rattle.machine.proofs.Queues.{first_in, once_first}
+use Rattle.machine.specs.{Changes.{first_waiting, with_tcb, without_waiting}, Machine.{Machine, object_of, queue_of, with_object}}
+use Rattle.machine.specs.{Releasing.{unblocked, with_released}, Step.Signal.{pending_in, signal_of, signalled, woken}, WellFormed.IsThread}
+use Rattle.machine.{specs.WellFormed.IsWellFormed, proofs.{Conditions.same_ok, Leaving.{first_leaves, objects_unqueued, released_there}}}
+use Rattle.machine.proofs.{NotificationRow.{IsOpen, opens, waits_for, with_pending_there}, Queues.{first_in, once_first}}
 
 -- a thread with a word in its inbox, ready
 abbrev pub roused : ℕ → Tcb → Tcb

@@ -1,10 +1,7 @@
 -- What a machine is after an empty slot was filled, and after a capability has moved, slot by slot.
-use Rattle.std.proofs.Common.{◌≡◌}
-use Rattle.std.specs.Prelude.{Option, Some, None, option_map, if◌then◌else◌}
-use Rattle.base.specs.declared.ids.ObjId.{ObjId}
-use Rattle.base.specs.declared.ids.SlotRef.{SlotRef}
-use Rattle.machine.specs.declared.cap.Cap.{Cap}
-use Rattle.machine.specs.Machine.{Machine, object_of, queue_of, words_of, cap_of, parent_of, same_slot}
+use Rattle.std.{specs.Prelude.{None, Option, Some, if◌then◌else◌, option_map}, proofs.Common.◌≡◌}
+use Rattle.base.specs.declared.ids.{ObjId.ObjId, SlotRef.SlotRef}
+use Rattle.machine.specs.{declared.cap.Cap.Cap, Machine.{Machine, cap_of, object_of, parent_of, queue_of, same_slot, words_of}}
 use Rattle.machine.specs.Tree.{exchange}
 
 -- nothing but slots differs

@@ -1,39 +1,18 @@
 -- What a copy, a mint and a move do that are made: the slots that they found, and what changed.
-use Rattle.std.proofs.Common.{◌≡◌, ◌≢◌, ℕ, Bool, true, false, List, [], ◌∷◌, length, refl, sym, ap, subst, ◌∙◌, arith}
-use Rattle.std.specs.FinMap.{get-remove}
-use Rattle.std.specs.Prelude.{Option, cond, Some, None, Result, Ok, Err, if◌then◌else◌}
-use Rattle.base.specs.declared.ids.ObjId.{ObjId}
-use Rattle.base.specs.declared.ids.SlotRef.{SlotRef}
-use Rattle.base.specs.declared.refusal.LookupFailure.{LookupFailure}
-use Rattle.base.specs.declared.rights.Rights.{Rights}
-use Rattle.machine.specs.declared.call.CapData.{CapData}
-use Rattle.machine.specs.declared.call.Made.{Made}
-use Rattle.machine.specs.declared.cap.Cap.{Cap}
-use Rattle.machine.specs.declared.cap.Detail.{Detail}
+use Rattle.std.{specs.{FinMap.get-remove, Prelude.{Err, None, Ok, Option, Result, Some, cond, if◌then◌else◌}}, proofs.Common.{[], ℕ, ◌∙◌}}
+use Rattle.std.proofs.Common.{◌∷◌, ◌≡◌, ◌≢◌, Bool, List, ap, arith, false, length, refl, subst, sym, true}
+use Rattle.base.specs.declared.{ids.{ObjId.ObjId, SlotRef.SlotRef}, refusal.LookupFailure.LookupFailure, rights.Rights.Rights}
+use Rattle.machine.specs.declared.{call.{CapData.CapData, Made.Made}, cap.{Cap.Cap, Detail.Detail}, slot_address.Ends.Ends}
 use Rattle.machine.specs.declared.object.ObjectKind.TheVariants as kind
-use Rattle.machine.specs.declared.slot_address.Ends.{Ends}
-use Rattle.machine.specs.declared.slot_address.SlotAddress.{SlotAddress}
-use Rattle.machine.specs.Bits.{bits}
-use Rattle.machine.specs.Capabilities.{kind_of_detail}
-use Rattle.machine.specs.Lookup.{Level, counted, level_at, lookup_of, walk}
-use Rattle.machine.specs.Machine.{Machine, object_of, queue_of, words_of, cap_of, parent_of, same_slot, with_cap, with_parent}
-use Rattle.machine.specs.Machine.{without_cap}
-use Rattle.machine.specs.Narrower.{IsNarrower}
-use Rattle.machine.specs.Step.Copy.{copy_of, copyable, masked}
-use Rattle.machine.specs.Step.Find.{find_cap}
-use Rattle.machine.specs.Step.Mint.{mint_of, minted}
-use Rattle.machine.specs.Step.Move.{move_of}
-use Rattle.machine.specs.Step.Target.{ends_of, exactly, filled, in_depth, lookup_target_of, of_cnode, rooted, source_of}
-use Rattle.machine.specs.Step.Target.{target_of, vacant}
-use Rattle.machine.specs.Tree.{copied, parent_of_copy, under, with_copy, with_exchanged, with_moved}
-use Rattle.machine.specs.WellFormed.{IsWellFormed}
-use Rattle.machine.proofs.Conditions.{both_done, same_ok}
-use Rattle.machine.proofs.Copies.{is_copyable, masked_narrower, minted_narrower}
-use Rattle.machine.proofs.Exchange.{parent_of-with_exchanged}
-use Rattle.machine.proofs.Finding.{finds_cap}
-use Rattle.machine.proofs.LookUps.{cap_of-with_cap, cap_of-with_parent, one_slot, parent_of-with_cap, parent_of-with_parent}
-use Rattle.machine.proofs.LookUps.{slot_total}
-use Rattle.machine.proofs.SlotChanges.{Fills, Moves}
+use Rattle.machine.specs.{declared.slot_address.SlotAddress.SlotAddress, Bits.bits, Capabilities.kind_of_detail, Lookup.{Level, counted}}
+use Rattle.machine.specs.{Lookup.{level_at, lookup_of, walk}, Machine.{Machine, cap_of, object_of, parent_of, queue_of, same_slot}}
+use Rattle.machine.specs.{Machine.{with_cap, with_parent, without_cap, words_of}, Narrower.IsNarrower, Step.Copy.{copy_of, copyable}}
+use Rattle.machine.specs.Step.{Copy.masked, Find.find_cap, Mint.{mint_of, minted}, Move.move_of, Target.{ends_of, exactly, filled}}
+use Rattle.machine.specs.{Step.Target.{in_depth, lookup_target_of, of_cnode, rooted, source_of, target_of, vacant}, Tree.copied}
+use Rattle.machine.specs.{Tree.{parent_of_copy, under, with_copy, with_exchanged, with_moved}, WellFormed.IsWellFormed}
+use Rattle.machine.proofs.{Conditions.{both_done, same_ok}, Copies.{is_copyable, masked_narrower, minted_narrower}}
+use Rattle.machine.proofs.{Exchange.parent_of-with_exchanged, Finding.finds_cap, LookUps.{cap_of-with_cap, cap_of-with_parent, one_slot}}
+use Rattle.machine.proofs.{LookUps.{parent_of-with_cap, parent_of-with_parent, slot_total}, SlotChanges.{Fills, Moves}}
 
 -- a slot address leads to a slot: an ordinary lookup to that of a CNode's capability, and a target lookup on from there
 pub record LeadsTo (m : Machine) (caller : ObjId) (address : SlotAddress) (slot : SlotRef) : Type 0 where

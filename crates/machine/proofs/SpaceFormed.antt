@@ -1,29 +1,12 @@
 -- A thread that loses its root slot's capability, or gets a CNode's there, keeps a well-formed machine well formed.
-use Rattle.std.proofs.Common.{◌≡◌, ℕ, ◌⊎◌, inl, inr, refl, sym, ap, subst, ◌∙◌, arith}
-use Rattle.std.specs.Prelude.{IsTrue, Option, Some, None}
-use Rattle.std.proofs.lemmas.Bool.{lt-ltb}
-use Rattle.std.proofs.lemmas.Option.{same_Some}
-use Rattle.base.specs.declared.ids.ObjId.{ObjId}
-use Rattle.base.specs.declared.ids.SlotRef.{SlotRef}
-use Rattle.machine.specs.declared.cap.Cap.{Cap}
-use Rattle.machine.specs.declared.cap.Detail.{Detail}
-use Rattle.machine.specs.declared.cap.Detail.TheVariants as d
-use Rattle.machine.specs.declared.object.Object.TheVariants as o
-use Rattle.machine.specs.declared.object.ObjectKind.TheVariants as kind
-use Rattle.machine.specs.Capabilities.{kind_of_detail}
-use Rattle.machine.specs.Lookup.{root_of}
-use Rattle.machine.specs.Machine.{Machine, cap_of, has_slot, object_of, same_slot}
-use Rattle.machine.specs.Step.Delete.{deleted}
-use Rattle.machine.specs.Step.Space.{with_root, without_root}
-use Rattle.machine.specs.Tree.{copied, with_copy}
-use Rattle.machine.specs.WellFormed.{IsWellFormed, kind_of}
-use Rattle.machine.proofs.Exchange.{slot_itself}
-use Rattle.machine.proofs.FillsFormed.{Takes, fills_formed}
-use Rattle.machine.proofs.FoundObjects.{tcb_of_kind}
-use Rattle.machine.proofs.RemovalLinks.{removed_formed}
-use Rattle.machine.proofs.RemovalRows.{chosen_empty}
-use Rattle.machine.proofs.RemovalStays.{cap_was}
-use Rattle.machine.proofs.SlotRows.{with_copy_fills}
+use Rattle.std.{specs.Prelude.{IsTrue, None, Option, Some}, proofs.Common.{ℕ, ◌∙◌, ◌≡◌, ◌⊎◌, ap, arith, inl, inr, refl, subst, sym}}
+use Rattle.std.proofs.lemmas.{Bool.lt-ltb, Option.same_Some}
+use Rattle.base.specs.declared.ids.{ObjId.ObjId, SlotRef.SlotRef}
+use Rattle.machine.specs.declared.{cap.{Cap.Cap, Detail.{Detail, Detail as d}}, object.{Object.Object as o, ObjectKind.ObjectKind as kind}}
+use Rattle.machine.specs.{Capabilities.kind_of_detail, Lookup.root_of, Machine.{Machine, cap_of, has_slot, object_of, same_slot}}
+use Rattle.machine.specs.{Step.{Delete.deleted, Space.{with_root, without_root}}, Tree.{copied, with_copy}, WellFormed.IsWellFormed}
+use Rattle.machine.{specs.WellFormed.kind_of, proofs.{Exchange.slot_itself, FillsFormed.{Takes, fills_formed}, FoundObjects.tcb_of_kind}}
+use Rattle.machine.proofs.{RemovalLinks.removed_formed, RemovalRows.chosen_empty, RemovalStays.cap_was, SlotRows.with_copy_fills}
 use Rattle.machine.proofs.SpaceRow.{ClearDone, RootFilled, SetDone, root_filled}
 
 -- a root slot that is cleared

@@ -1,22 +1,10 @@
 -- What a clearspace and a setspace do that are made: the thread that they found, the CNode's capability, and the machine after it.
-use Rattle.std.proofs.Common.{◌≡◌, ℕ, ◌⊎◌, inl, inr, refl, sym, ap, ◌∙◌}
-use Rattle.std.specs.Prelude.{Option, Some, None, Ok}
-use Rattle.base.specs.declared.ids.ObjId.{ObjId}
-use Rattle.base.specs.declared.ids.SlotRef.{SlotRef}
-use Rattle.machine.specs.declared.call.Made.{Made}
-use Rattle.machine.specs.declared.cap.Cap.{Cap}
-use Rattle.machine.specs.declared.cap.Detail.{Detail}
-use Rattle.machine.specs.declared.cap.Detail.TheVariants as d
-use Rattle.machine.specs.declared.cap.Guard.{Guard}
-use Rattle.machine.specs.Lookup.{root_of}
-use Rattle.machine.specs.Machine.{Machine, cap_of}
-use Rattle.machine.specs.Step.Find.{find_cap, find_tcb}
-use Rattle.machine.specs.Step.Space.{clear_space_of, find_node, set_space_of, with_root, without_root}
-use Rattle.machine.specs.Step.Target.{of_cnode}
-use Rattle.machine.specs.Tree.{with_copy}
-use Rattle.machine.proofs.Conditions.{both_done, same_ok}
-use Rattle.machine.proofs.Finding.{FindsCap, FindsObject, finds_cap}
-use Rattle.machine.proofs.FoundObjects.{finds_thread}
+use Rattle.std.{specs.Prelude.{None, Ok, Option, Some}, proofs.Common.{ℕ, ◌∙◌, ◌≡◌, ◌⊎◌, ap, inl, inr, refl, sym}}
+use Rattle.base.specs.declared.ids.{ObjId.ObjId, SlotRef.SlotRef}
+use Rattle.machine.specs.{declared.{call.Made.Made, cap.{Cap.Cap, Detail.{Detail, Detail as d}, Guard.Guard}}, Lookup.root_of}
+use Rattle.machine.specs.{Machine.{Machine, cap_of}, Step.{Find.{find_cap, find_tcb}, Space.{clear_space_of, find_node, set_space_of}}}
+use Rattle.machine.{specs.{Step.{Space.{with_root, without_root}, Target.of_cnode}, Tree.with_copy}, proofs.Conditions.{both_done, same_ok}}
+use Rattle.machine.proofs.{Finding.{FindsCap, FindsObject, finds_cap}, FoundObjects.finds_thread}
 
 pub record ClearDone (m : Machine) (caller : ObjId) (address : ℕ) (next : Machine) : Type 0 where
   pub thread : ObjId

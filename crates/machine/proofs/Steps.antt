@@ -1,22 +1,12 @@
 -- What is a step, when two steps of one event agree, and that a refused one changes nothing.
-use Rattle.std.proofs.Common.{◌≡◌, ◌≢◌, ◌⊎◌, inl, inr, List, [], ◌∷◌, refl, sym, ap, subst, ◌∙◌}
-use Rattle.std.specs.Prelude.{Result, Ok, Err}
-use Rattle.std.specs.List.{All, zip}
-use Rattle.std.proofs.lemmas.List.Elements.{All-cons, All-nil}
-use Rattle.base.specs.declared.refusal.Cause.{Cause}
-use Rattle.base.specs.declared.refusal.Misuse.{Misuse}
-use Rattle.base.specs.Refusals.{misuse_refusal, out_of_memory, refusal_of}
+use Rattle.std.{specs.{List.{All, zip}, Prelude.{Err, Ok, Result}}, proofs.Common.{[], ◌∙◌, ◌∷◌, ◌≡◌, ◌≢◌, ◌⊎◌, List, ap, inl, inr, refl}}
+use Rattle.std.proofs.{Common.{subst, sym}, lemmas.List.Elements.{All-cons, All-nil}}
+use Rattle.base.specs.{declared.refusal.{Cause.Cause, Misuse.Misuse}, Refusals.{misuse_refusal, out_of_memory, refusal_of}}
 use Rattle.base.proofs.CauseLemmas.{cause_no_misuse, memory_no_misuse, of_condition}
-use Rattle.machine.specs.declared.call.Event.{Event}
-use Rattle.machine.specs.declared.call.Made.{Made}
+use Rattle.machine.specs.{declared.call.{Event.Event, Made.Made, Outcome.{Outcome, TheVariants.Refused}}, Machine.Machine}
 use Rattle.machine.specs.declared.call.Made.TheVariants as made
-use Rattle.machine.specs.declared.call.Outcome.{Outcome}
-use Rattle.machine.specs.declared.call.Outcome.TheVariants.{Refused}
-use Rattle.machine.specs.Machine.{Machine}
-use Rattle.machine.specs.Outcomes.{IsRefused, outcome_of}
-use Rattle.machine.specs.Run.{Run}
-use Rattle.machine.specs.Step.{LacksMemory, MayEnd, Step, made_by, settled, step_of}
-use Rattle.machine.specs.Step.Step.{ends, lacks}
+use Rattle.machine.specs.{Outcomes.{IsRefused, outcome_of}, Run.Run, Step.{LacksMemory, MayEnd, Step, made_by, settled, step_of, Step.ends}}
+use Rattle.machine.specs.Step.Step.{lacks}
 
 -- an event that was made is a step, and so is one that was refused
 

@@ -1,17 +1,10 @@
 -- A thread that is suspended or resumed keeps a well-formed machine well formed.
-use Rattle.std.proofs.Common.{◌≡◌, ℕ, sym, refl, subst}
-use Rattle.std.specs.Prelude.{Option, Some, None}
+use Rattle.std.{specs.Prelude.{None, Option, Some}, proofs.Common.{ℕ, ◌≡◌, refl, subst, sym}}
 use Rattle.base.specs.declared.ids.ObjId.{ObjId}
-use Rattle.machine.specs.declared.object.Object.{Object}
-use Rattle.machine.specs.declared.object.Object.TheVariants as o
-use Rattle.machine.specs.declared.thread.RunState.{RunState}
+use Rattle.machine.specs.{declared.{object.Object.{Object, Object as o}, thread.{RunState.RunState, Tcb.Tcb}}, Machine.{Machine, object_of}}
 use Rattle.machine.specs.declared.thread.RunState.TheVariants as state
-use Rattle.machine.specs.declared.thread.Tcb.{Tcb}
-use Rattle.machine.specs.Machine.{Machine, object_of}
-use Rattle.machine.specs.Step.Suspend.{with_resumed}
-use Rattle.machine.specs.WellFormed.{IsThread, IsWellFormed}
-use Rattle.machine.proofs.MessageFormed.{aborted_formed, ready_formed, suspended_formed}
-use Rattle.machine.proofs.ThreadRow.{ResumeDone, SuspendDone}
+use Rattle.machine.{specs.{Step.Suspend.with_resumed, WellFormed.{IsThread, IsWellFormed}}, proofs.MessageFormed.aborted_formed}
+use Rattle.machine.proofs.{MessageFormed.{ready_formed, suspended_formed}, ThreadRow.{ResumeDone, SuspendDone}}
 
 pub resumed_formed : (m : Machine) (thread : ObjId) → IsWellFormed m → IsWellFormed (with_resumed m thread)
 unfolding with_resumed

@@ -1,15 +1,8 @@
 -- What a suspend and a resume do that are made: the thread that they found, and the machine after it.
-use Rattle.std.proofs.Common.{◌≡◌, ℕ, sym, ap}
-use Rattle.std.specs.Prelude.{Ok}
+use Rattle.std.{specs.Prelude.Ok, proofs.Common.{ℕ, ◌≡◌, ap, sym}}
 use Rattle.base.specs.declared.ids.ObjId.{ObjId}
-use Rattle.machine.specs.declared.call.Made.{Made}
-use Rattle.machine.specs.declared.cap.Detail.TheVariants as d
-use Rattle.machine.specs.Machine.{Machine}
-use Rattle.machine.specs.Releasing.{with_suspended}
-use Rattle.machine.specs.Step.Find.{find_tcb}
-use Rattle.machine.specs.Step.Suspend.{resume_of, suspend_of, with_resumed}
-use Rattle.machine.proofs.Conditions.{both_done, same_ok}
-use Rattle.machine.proofs.Finding.{FindsObject}
+use Rattle.machine.specs.{declared.{call.Made.Made, cap.Detail.Detail as d}, Machine.Machine, Releasing.with_suspended, Step.Find.find_tcb}
+use Rattle.machine.{specs.Step.Suspend.{resume_of, suspend_of, with_resumed}, proofs.{Conditions.{both_done, same_ok}, Finding.FindsObject}}
 use Rattle.machine.proofs.FoundObjects.{finds_thread}
 
 pub record SuspendDone (m : Machine) (caller : ObjId) (address : ℕ) (next : Machine) : Type 0 where

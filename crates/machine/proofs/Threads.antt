@@ -1,18 +1,9 @@
 -- What is seen where a thread's content changes, and that a caller waits nowhere.
-use Rattle.std.proofs.Common.{◌≡◌, ℕ, List, refl, sym, subst, ◌∙◌}
-use Rattle.std.specs.Prelude.{Some, Ok, Contains}
+use Rattle.std.{specs.Prelude.{Contains, Ok, Some}, proofs.Common.{ℕ, ◌∙◌, ◌≡◌, List, refl, subst, sym}}
 use Rattle.base.specs.declared.ids.ObjId.{ObjId}
-use Rattle.machine.specs.declared.object.Object.TheVariants as o
-use Rattle.machine.specs.declared.object.Share.{Share}
-use Rattle.machine.specs.declared.thread.Tcb.{Tcb}
-use Rattle.machine.specs.Changes.{with_tcb}
-use Rattle.machine.specs.Machine.{Machine, object_of, queue_of, with_object}
-use Rattle.machine.specs.Step.{admitted}
-use Rattle.machine.specs.WellFormed.{IsCaller, IsIdle, IsThread, IsWellFormed}
-use Rattle.machine.proofs.Admission.{admits}
-use Rattle.machine.proofs.Idle.{idle_in_none}
-use Rattle.machine.proofs.Ids.{at_itself}
-use Rattle.machine.proofs.LookUps.{object_of-with_object, queue_of-with_object}
+use Rattle.machine.specs.{declared.{object.{Object.Object as o, Share.Share}, thread.Tcb.Tcb}, Changes.with_tcb, Machine.Machine}
+use Rattle.machine.specs.{Machine.{object_of, queue_of, with_object}, Step.admitted, WellFormed.{IsCaller, IsIdle, IsThread, IsWellFormed}}
+use Rattle.machine.proofs.{Admission.admits, Idle.idle_in_none, Ids.at_itself, LookUps.{object_of-with_object, queue_of-with_object}}
 
 pub with_tcb_there :
     (m : Machine) (id : ObjId) (old new : Tcb) → IsThread m id old → with_tcb m id new ≡ with_object m id (o.Tcb new)

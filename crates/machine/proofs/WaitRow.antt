@@ -1,17 +1,9 @@
 -- What a wait does that is made: the word of the notification that it found is taken; where there is none, the caller waits.
-use Rattle.std.proofs.Common.{◌≡◌, ℕ, ◌⊎◌, inl, inr, sym, ap, ◌∙◌}
-use Rattle.std.specs.Prelude.{Option, Some, None, Ok}
+use Rattle.std.{specs.Prelude.{None, Ok, Option, Some}, proofs.Common.{ℕ, ◌∙◌, ◌≡◌, ◌⊎◌, ap, inl, inr, sym}}
 use Rattle.base.specs.declared.ids.ObjId.{ObjId}
-use Rattle.machine.specs.declared.call.Made.{Made}
-use Rattle.machine.specs.declared.object.Object.TheVariants as o
-use Rattle.machine.specs.declared.thread.RunState.TheVariants as state
-use Rattle.machine.specs.Capabilities.{can_read}
-use Rattle.machine.specs.Machine.{Machine, object_of, with_object}
-use Rattle.machine.specs.Releasing.{with_blocked}
-use Rattle.machine.specs.Step.Signal.{pending_in}
-use Rattle.machine.specs.Step.Wait.{taken_or_awaited, wait_of}
-use Rattle.machine.specs.WellFormed.{IsWellFormed}
-use Rattle.machine.proofs.Conditions.{same_ok}
+use Rattle.machine.specs.{declared.{call.Made.Made, object.Object.Object as o, thread.RunState.RunState as state}, Capabilities.can_read}
+use Rattle.machine.specs.{Machine.{Machine, object_of, with_object}, Releasing.with_blocked, Step.Signal.pending_in}
+use Rattle.machine.{specs.{Step.Wait.{taken_or_awaited, wait_of}, WellFormed.IsWellFormed}, proofs.Conditions.same_ok}
 use Rattle.machine.proofs.NotificationRow.{IsOpen, opens, with_pending_there}
 
 pub record WaitDone (m : Machine) (caller : ObjId) (address : ℕ) (next : Machine) : Type 0 where

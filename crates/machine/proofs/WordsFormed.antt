@@ -1,14 +1,10 @@
 -- A read and a write keep a well-formed machine well formed: an object has as many words as it had, and all else is as it was.
-use Rattle.std.proofs.Common.{◌≡◌, ℕ, List, length, refl, sym, ap, subst, ◌∙◌}
-use Rattle.std.specs.Prelude.{Option, Some, None, cond, option_map, slice_set}
 use Rattle.std.specs.FinMap as map
-use Rattle.std.proofs.lemmas.List.{length-set}
+use Rattle.std.{specs.Prelude.{None, Option, Some, cond, option_map, slice_set}, proofs.Common.{ℕ, ◌∙◌, ◌≡◌, List, ap, length, refl, subst}}
+use Rattle.std.proofs.{Common.sym, lemmas.List.length-set}
 use Rattle.base.specs.declared.ids.ObjId.{ObjId}
-use Rattle.machine.specs.Changes.{with_word, with_words}
-use Rattle.machine.specs.Machine.{Machine, cap_of, object_of, parent_of, queue_of, same_id, words_of}
-use Rattle.machine.specs.WellFormed.{IsWellFormed, LinksAgree}
-use Rattle.machine.proofs.LookUps.{id_total}
-use Rattle.machine.proofs.Outlines.{Steady, shown_kept, steady_formed}
+use Rattle.machine.specs.{Changes.{with_word, with_words}, Machine.{Machine, cap_of, object_of, parent_of, queue_of, same_id, words_of}}
+use Rattle.machine.{specs.WellFormed.{IsWellFormed, LinksAgree}, proofs.{LookUps.id_total, Outlines.{Steady, shown_kept, steady_formed}}}
 use Rattle.machine.proofs.WordsRow.{WriteDone}
 
 words_of-with_words :

@@ -1,19 +1,10 @@
 -- What a read and a write do that are made: a read changes nothing, a write one word of the frame that was found.
-use Rattle.std.proofs.Common.{◌≡◌, ℕ, ◌<◌, Bool, true, false, refl, sym, ap, arith}
+use Rattle.std.{specs.Prelude.{Ok, nat_lt}, proofs.Common.{ℕ, ◌<◌, ◌≡◌, Bool, ap, arith, false, refl, sym, true}}
 use Rattle.std.proofs.lemmas.Bool.Decides.{nat_tests}
-use Rattle.std.specs.Prelude.{Ok, nat_lt}
-use Rattle.base.specs.declared.ids.ObjId.{ObjId}
-use Rattle.base.specs.declared.rights.Rights.{Rights}
-use Rattle.machine.specs.declared.call.Made.{Made}
-use Rattle.machine.specs.declared.cap.Detail.TheVariants as d
-use Rattle.machine.specs.Capabilities.{can_read, can_write}
-use Rattle.machine.specs.Changes.{with_word}
-use Rattle.machine.specs.Machine.{Machine}
-use Rattle.machine.specs.Step.Find.{find_frame, permitted}
-use Rattle.machine.specs.Step.Words.{in_frame, read_of, write_of}
-use Rattle.machine.proofs.Conditions.{both_done, same_ok}
-use Rattle.machine.proofs.Finding.{FindsObject, is_permitted}
-use Rattle.machine.proofs.FoundObjects.{finds_frame}
+use Rattle.base.specs.declared.{ids.ObjId.ObjId, rights.Rights.Rights}
+use Rattle.machine.specs.{declared.{call.Made.Made, cap.Detail.Detail as d}, Capabilities.{can_read, can_write}, Changes.with_word}
+use Rattle.machine.specs.{Machine.Machine, Step.{Find.{find_frame, permitted}, Words.{in_frame, read_of, write_of}}}
+use Rattle.machine.proofs.{Conditions.{both_done, same_ok}, Finding.{FindsObject, is_permitted}, FoundObjects.finds_frame}
 
 pub record WriteDone (m : Machine) (caller : ObjId) (address index word : ℕ) (next : Machine) : Type 0 where
   pub id : ObjId

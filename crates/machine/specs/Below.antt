@@ -1,10 +1,7 @@
 -- Which slots descend from a slot, as a test (seL4 manual, "Capability Derivation Tree").
-use Rattle.std.specs.Prelude.{Bool, false, not, ◌||◌, ◌&&◌, List, Option, Some, None, is_some}
-use Rattle.std.specs.FinMap.{keys}
-use Rattle.std.specs.List.{list_any}
+use Rattle.std.specs.{FinMap.keys, List.list_any, Prelude.{◌&&◌, ◌||◌, Bool, List, None, Option, Some, false, is_some, not}}
 use Rattle.base.specs.declared.ids.SlotRef.{SlotRef}
-use Rattle.machine.specs.Machine.{Machine, parent_of, same_slot}
-use Rattle.machine.specs.Rounds.{staying}
+use Rattle.machine.specs.{Machine.{Machine, parent_of, same_slot}, Rounds.staying}
 
 -- a slot has a parent and isn't among those that don't descend
 abbrev pub is_child_beside : Machine → List SlotRef → SlotRef → Bool

@@ -1,6 +1,6 @@
 -- Numbers as strings of bits, the highest first.
-use Rattle.std.specs.Prelude.{ℕ, zero, suc, ◌+◌, ◌*◌, ◌==◌, Bool, true, false, List, [], ◌∷◌, Option, Some, None, if◌then◌else◌}
-use Rattle.std.specs.Int.{bit_at}
+use Rattle.std.specs.{Int.bit_at, Prelude.{[], ℕ, ◌*◌, ◌+◌, ◌==◌, ◌∷◌, Bool, List, None, Option, Some, false, if◌then◌else◌, suc, true}}
+use Rattle.std.specs.Prelude.{zero}
 
 -- the low `size` bits of a number
 abbrev pub bits : ℕ → ℕ → List Bool

@@ -1,22 +1,12 @@
 -- The boot state of a capability table (compare the seL4 manual, "Bootstrapping"; the rule is confine's own).
-use Rattle.std.specs.Prelude.{◌≡◌, ◌⊎◌, true, List, [], Option, Some, None, option_map, length, replicate}
-use Rattle.base.specs.declared.ids.ObjId.{ObjId}
-use Rattle.base.specs.declared.ids.SlotRef.{SlotRef}
-use Rattle.machine.specs.declared.cap.Cap.{Cap}
-use Rattle.machine.specs.declared.layout.Initial.{Initial}
-use Rattle.machine.specs.declared.object.Frame.{Frame}
-use Rattle.machine.specs.declared.object.Notification.{Notification}
-use Rattle.machine.specs.declared.object.Object.{Object}
-use Rattle.machine.specs.declared.object.Object.TheVariants as o
-use Rattle.machine.specs.declared.object.Reply.{Reply}
+use Rattle.std.specs.Prelude.{[], ◌≡◌, ◌⊎◌, List, None, Option, Some, length, option_map, replicate, true}
+use Rattle.base.specs.declared.ids.{ObjId.ObjId, SlotRef.SlotRef}
+use Rattle.machine.specs.declared.{cap.Cap.Cap, layout.Initial.Initial, object.{Frame.Frame, Notification.Notification, Object.Object}}
+use Rattle.machine.specs.declared.{object.{Object.Object as o, Reply.Reply, Untyped.Untyped}, thread.{RunState.RunState as run, Tcb.Tcb}}
 use Rattle.machine.specs.declared.object.ReplyState.TheVariants as reply
-use Rattle.machine.specs.declared.object.Untyped.{Untyped}
 use Rattle.machine.specs.declared.thread.Inbox.TheVariants as inbox
-use Rattle.machine.specs.declared.thread.RunState.TheVariants as run
-use Rattle.machine.specs.declared.thread.Tcb.{Tcb}
-use Rattle.machine.specs.Layout.{Layout, initial_of, initial_cap, initial_parent, bound_context, bound_thread}
-use Rattle.machine.specs.Machine.{Machine, object_of, queue_of, words_of, cap_of, parent_of}
-use Rattle.machine.specs.Objects.{word_count}
+use Rattle.machine.specs.{Layout.{Layout, bound_context, bound_thread, initial_cap, initial_of, initial_parent}, Machine.{Machine, cap_of}}
+use Rattle.machine.specs.{Machine.{object_of, parent_of, queue_of, words_of}, Objects.word_count}
 
 -- an object with the links that the table's bindings give it
 abbrev pub bound : Layout → ObjId → Object → Object

@@ -1,13 +1,9 @@
 -- What a capability says by itself: the kind of object that it is for, and the kinds of authority that it gives from a slot of a
 -- CNode ('seL4 Enforces Integrity', section 3, "Authority", with the kinds of this profile).
-use Rattle.std.specs.Prelude.{ℕ, Bool, true, false, ◌&&◌, ◌||◌, ◌==◌}
-use Rattle.std.specs.Int.RustNames.{bit_and}
-use Rattle.base.specs.declared.kind.Kind.{Kind}
+use Rattle.std.specs.{Int.RustNames.bit_and, Prelude.{ℕ, ◌&&◌, ◌==◌, ◌||◌, Bool, false, true}}
+use Rattle.base.specs.declared.{kind.Kind.Kind, rights.Rights.Rights}
 use Rattle.base.specs.declared.kind.Kind.TheVariants as authority
-use Rattle.base.specs.declared.rights.Rights.{Rights}
-use Rattle.machine.specs.declared.cap.Detail.{Detail}
-use Rattle.machine.specs.declared.cap.Detail.TheVariants as d
-use Rattle.machine.specs.declared.object.ObjectKind.{ObjectKind}
+use Rattle.machine.specs.declared.{cap.Detail.{Detail, Detail as d}, object.ObjectKind.ObjectKind}
 use Rattle.machine.specs.declared.object.ObjectKind.TheVariants as kind
 
 abbrev pub kind_of_detail : Detail → ObjectKind

@@ -1,15 +1,11 @@
 -- Changes of a machine that leave it as it is where the object isn't there or is of another kind: to untyped memory's watermark, a
 -- notification's word, a thread, a reply and a scheduling context, a frame's words, and to who waits; an object goes, and what is going is noted (seL4
 -- manual, "Untyped Memory", "Notifications", "Threads and Execution", "Endpoints" and "Scheduling Contexts").
-use Rattle.std.specs.Prelude.{ℕ, List, [], ◌∷◌, ◌++◌, filter, not, Option, Some, None, option_and_then, slice_get, slice_set}
 use Rattle.std.specs.FinMap as map
+use Rattle.std.specs.Prelude.{[], ℕ, ◌++◌, ◌∷◌, List, None, Option, Some, filter, not, option_and_then, slice_get, slice_set}
 use Rattle.base.specs.declared.ids.ObjId.{ObjId}
-use Rattle.machine.specs.declared.object.Object.{Object}
-use Rattle.machine.specs.declared.object.Object.TheVariants as o
-use Rattle.machine.specs.declared.object.Context.{Context}
-use Rattle.machine.specs.declared.object.Reply.{Reply}
-use Rattle.machine.specs.declared.thread.Tcb.{Tcb}
-use Rattle.machine.specs.Machine.{Machine, object_of, queue_of, same_id, with_object, with_queue, words_of}
+use Rattle.machine.specs.{declared.{object.{Context.Context, Object.{Object, Object as o}, Reply.Reply}, thread.Tcb.Tcb}, Machine.Machine}
+use Rattle.machine.specs.Machine.{object_of, queue_of, same_id, with_object, with_queue, words_of}
 
 -- the watermark of untyped memory
 unfoldable pub with_watermark : Machine → ObjId → ℕ → Machine

@@ -1,11 +1,7 @@
 -- How much a machine has at one time: objects, slots and threads, and capabilities for one object (confine's own).
-use Rattle.std.specs.Prelude.{ℕ, List, map, length, sum, count_by}
-use Rattle.std.specs.FinMap.{entries}
+use Rattle.std.specs.{FinMap.entries, Prelude.{ℕ, List, count_by, length, map, sum}}
 use Rattle.base.specs.declared.ids.ObjId.{ObjId}
-use Rattle.machine.specs.declared.object.Object.{Object}
-use Rattle.machine.specs.Gone.{is_for}
-use Rattle.machine.specs.Machine.{Machine}
-use Rattle.machine.specs.Objects.{slot_count, thread_count}
+use Rattle.machine.specs.{declared.object.Object.Object, Gone.is_for, Machine.Machine, Objects.{slot_count, thread_count}}
 
 -- the objects that are there, by number
 abbrev pub present : Machine → List Object

@@ -1,8 +1,6 @@
 -- The finite map that takes its values from a function, at the keys of a list.
-use Rattle.std.specs.Prelude.{List, [], ◌∷◌, Option, Some, None}
-use Rattle.std.specs.declared.cmp.Ordering.{Ordering}
+use Rattle.std.specs.{declared.cmp.Ordering.Ordering, FinMap.FinMap, Prelude.{[], ◌∷◌, List, None, Option, Some}}
 use Rattle.std.specs.FinMap as map
-use Rattle.std.specs.FinMap.{FinMap}
 
 -- the map with this at the key, if there is something to put there
 abbrev pub put_some : {K X : Type 0} {R : K → K → Ordering} → FinMap R X → K → Option X → FinMap R X

@@ -1,14 +1,8 @@
 -- The slots whose capabilities go where those of some slots are removed: with the last capability of a CNode or a thread all its
 -- slots go (seL4 manual, "Capability Spaces"; that they go at once, also where they hold each other's, is confine's own).
-use Rattle.std.specs.Prelude.{◌≡◌, Bool, true, false, not, ◌||◌, ◌&&◌, List, Option, Some, None, filter}
-use Rattle.std.specs.FinMap.{keys}
-use Rattle.std.specs.List.{list_any}
-use Rattle.base.specs.declared.ids.ObjId.{ObjId}
-use Rattle.base.specs.declared.ids.SlotRef.{SlotRef}
-use Rattle.machine.specs.declared.cap.Cap.{Cap}
-use Rattle.machine.specs.declared.object.Object.{Object}
-use Rattle.machine.specs.declared.object.Object.TheVariants as o
-use Rattle.machine.specs.Machine.{Machine, object_of, cap_of, same_id}
+use Rattle.std.specs.{FinMap.keys, List.list_any, Prelude.{◌&&◌, ◌||◌, ◌≡◌, Bool, List, None, Option, Some, false, filter, not, true}}
+use Rattle.base.specs.declared.ids.{ObjId.ObjId, SlotRef.SlotRef}
+use Rattle.machine.specs.{declared.{cap.Cap.Cap, object.Object.{Object, Object as o}}, Machine.{Machine, cap_of, object_of, same_id}}
 use Rattle.machine.specs.Rounds.{staying}
 
 -- an object has slots: it is a CNode or a thread

@@ -1,10 +1,7 @@
 -- The words for kinds of object, in tables and in scripts (confine's own).
-use Rattle.std.specs.Prelude.{ℕ, List, [], ◌∷◌, codes, Option, Some, None}
-use Rattle.std.specs.List.{find}
-use Rattle.std.specs.Str.{bytes_eq}
-use Rattle.machine.specs.declared.object.MemoryKind.{MemoryKind}
+use Rattle.std.specs.{List.find, Prelude.{[], ℕ, ◌∷◌, List, None, Option, Some, codes}, Str.bytes_eq}
+use Rattle.machine.specs.declared.object.{MemoryKind.MemoryKind, ObjectKind.ObjectKind}
 use Rattle.machine.specs.declared.object.MemoryKind.TheVariants as memory
-use Rattle.machine.specs.declared.object.ObjectKind.{ObjectKind}
 use Rattle.machine.specs.declared.object.ObjectKind.TheVariants as kind
 
 abbrev pub object_kind_word : ObjectKind → List ℕ

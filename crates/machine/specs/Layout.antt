@@ -1,19 +1,12 @@
 -- What a capability table says: its version, the labels, the initial objects with their names and labels, the slots that hold
 -- capabilities, the pairs of the derivation tree, and which thread runs on which context (compare the seL4 manual,
 -- "Bootstrapping", and 'seL4 Enforces Integrity', section 3: the initial state and its labelling).
-use Rattle.std.specs.Prelude.{ℕ, List, [], Option, slice_get, option_map, find, refl}
-use Rattle.std.specs.Coded.{Coded, code_by, coded×, coded_list, coded_ℕ}
-use Rattle.base.specs.declared.ids.ObjId.{ObjId}
-use Rattle.base.specs.declared.ids.SlotRef.{SlotRef}
+use Rattle.std.specs.{Coded.{Coded, code_by, coded_list, coded_ℕ, coded×}, Prelude.{[], ℕ, List, Option, find, option_map, refl, slice_get}}
+use Rattle.base.specs.declared.ids.{ObjId.ObjId, SlotRef.SlotRef}
 use Rattle.base.specs.declared.label.TheConstants.Label as Label
-use Rattle.machine.specs.declared.cap.Cap.{Cap}
-use Rattle.machine.specs.declared.layout.Initial.{Initial}
-use Rattle.machine.specs.declared.layout.Filled.{Filled}
-use Rattle.machine.specs.declared.layout.Pair.{Pair}
-use Rattle.machine.specs.declared.layout.Binding.{Binding}
-use Rattle.machine.specs.declared.layout.Version.{Version}
+use Rattle.machine.specs.declared.{cap.Cap.Cap, layout.{Binding.Binding, Filled.Filled, Initial.Initial, Pair.Pair, Version.Version}}
 use Rattle.machine.specs.declared.layout.Version.TheVariants as version
-use Rattle.machine.specs.Machine.{same_slot, same_id}
+use Rattle.machine.specs.Machine.{same_id, same_slot}
 
 -- labels and objects are numbered from 0 in the order of their lists
 pub record Layout : Type 0 where

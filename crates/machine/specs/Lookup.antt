@@ -1,19 +1,10 @@
 -- Guarded lookup: the slot that an address names in a capability space (seL4 manual, "Capability Address Lookup").
-use Rattle.std.specs.Prelude.{ℕ, zero, suc, Bool, List, [], ◌∷◌, Option, Some, None, Result, Ok, Err, length}
-use Rattle.base.specs.declared.ids.ObjId.{ObjId}
-use Rattle.base.specs.declared.ids.SlotRef.{SlotRef}
-use Rattle.base.specs.declared.refusal.Cause.{Cause}
+use Rattle.std.specs.Prelude.{[], ℕ, ◌∷◌, Bool, Err, List, None, Ok, Option, Result, Some, length, suc, zero}
+use Rattle.base.specs.declared.{ids.{ObjId.ObjId, SlotRef.SlotRef}, refusal.{Cause.Cause, LookupFailure.LookupFailure}}
 use Rattle.base.specs.declared.refusal.Cause.TheVariants as cause
-use Rattle.base.specs.declared.refusal.LookupFailure.{LookupFailure}
-use Rattle.base.specs.declared.refusal.LookupFailure.TheVariants.{InvalidRoot, DepthMismatch, GuardMismatch}
-use Rattle.machine.specs.declared.cap.Cap.{Cap}
-use Rattle.machine.specs.declared.cap.Detail.{Detail}
-use Rattle.machine.specs.declared.cap.Detail.TheVariants as d
-use Rattle.machine.specs.declared.cap.Guard.{Guard}
-use Rattle.machine.specs.declared.object.Object.{Object}
-use Rattle.machine.specs.declared.object.Object.TheVariants as o
-use Rattle.machine.specs.Bits.{bits, number, after, split}
-use Rattle.machine.specs.Machine.{Machine, object_of, cap_of}
+use Rattle.base.specs.declared.refusal.LookupFailure.TheVariants.{DepthMismatch, GuardMismatch, InvalidRoot}
+use Rattle.machine.specs.declared.{cap.{Cap.Cap, Detail.{Detail, Detail as d}, Guard.Guard}, object.Object.{Object, Object as o}}
+use Rattle.machine.specs.{Bits.{after, bits, number, split}, Machine.{Machine, cap_of, object_of}}
 
 -- a CNode as a capability shows it: the bits that an address has to go on with, and how many select a slot
 pub record Level : Type 0 where

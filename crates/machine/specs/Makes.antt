@@ -1,11 +1,8 @@
 -- How the code of a call meets the call's definition: it comes to what the definition says and leaves the machine that it says, or
 -- refuses with its cause and leaves the machine as it was.
-use Rattle.std.specs.Prelude.{◌≡◌, Result, Ok, Err, IsOk}
+use Rattle.std.specs.Prelude.{◌≡◌, Err, IsOk, Ok, Result}
 use Rattle.base.specs.declared.refusal.Cause.{Cause}
-use Rattle.machine.specs.declared.call.Made.{Made}
-use Rattle.machine.specs.declared.call.Unmade.{Unmade}
-use Rattle.machine.specs.declared.call.Unmade.TheVariants.{OutOfMemory, Refused}
-use Rattle.machine.specs.Machine.{Machine}
+use Rattle.machine.specs.{declared.call.{Made.Made, Unmade.{Unmade, TheVariants.{OutOfMemory, Refused}}}, Machine.Machine}
 
 abbrev pub Makes : Machine → Machine → Result Made Cause → Result (Made × Machine) Cause → Type 0
 Makes old new (Ok made) defined = defined ≡ Ok (made, new)

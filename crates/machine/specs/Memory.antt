@@ -1,25 +1,14 @@
 -- Untyped memory becomes objects: what is made, where, and the machine after it (seL4 manual, "Untyped Memory" and "Object
 -- Creation"; where an object lies is confine's own).
-use Rattle.std.specs.Prelude.{ℕ, zero, suc, ◌+◌, Bool, true, List, [], ◌∷◌, None, if◌then◌else◌}
-use Rattle.std.specs.FinMap.{entries}
-use Rattle.std.specs.Int.{next_multiple_of}
-use Rattle.std.specs.List.{list_any}
-use Rattle.base.specs.declared.ids.ObjId.{ObjId}
-use Rattle.base.specs.declared.ids.SlotRef.{SlotRef}
-use Rattle.base.specs.Rights.{rights_with}
-use Rattle.machine.specs.declared.cap.Cap.{Cap}
-use Rattle.machine.specs.declared.cap.Detail.{Detail}
-use Rattle.machine.specs.declared.cap.Detail.TheVariants as d
-use Rattle.machine.specs.declared.object.MemoryKind.{MemoryKind}
+use Rattle.std.specs.{FinMap.entries, Int.next_multiple_of, List.list_any, Prelude.{[], ℕ, ◌+◌, ◌∷◌, Bool, List, None, if◌then◌else◌, suc}}
+use Rattle.std.specs.Prelude.{true, zero}
+use Rattle.base.specs.{declared.ids.{ObjId.ObjId, SlotRef.SlotRef}, Rights.rights_with}
+use Rattle.machine.specs.declared.{cap.{Cap.Cap, Detail.{Detail, Detail as d}}, object.{MemoryKind.MemoryKind, Object.Object}}
 use Rattle.machine.specs.declared.object.MemoryKind.TheVariants as kind
-use Rattle.machine.specs.declared.object.Object.{Object}
-use Rattle.machine.specs.declared.object.Object.TheVariants as o
-use Rattle.machine.specs.declared.object.ReplyState.TheVariants as reply
-use Rattle.machine.specs.declared.object.Untyped.{Untyped}
+use Rattle.machine.specs.{declared.object.{Object.Object as o, ReplyState.ReplyState as reply, Untyped.Untyped}, Machine.Machine}
 use Rattle.machine.specs.declared.thread.Inbox.TheVariants as inbox
 use Rattle.machine.specs.declared.thread.RunState.TheVariants as state
-use Rattle.machine.specs.Machine.{Machine, same_slot, with_object, with_new, with_cap, with_parent}
-use Rattle.machine.specs.Objects.{size_of}
+use Rattle.machine.specs.{Machine.{same_slot, with_cap, with_new, with_object, with_parent}, Objects.size_of}
 
 -- a new object of a kind at an address; untyped memory and CNodes come in several sizes
 abbrev pub new_object : MemoryKind → ℕ → ℕ → Object

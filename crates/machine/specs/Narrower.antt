@@ -1,14 +1,9 @@
 -- Capabilities that differ in rights, badge or guard alone, and machines that differ in capabilities alone: how authority grows
 -- with them ('seL4 Enforces Integrity', section 3, "Authority").
-use Rattle.std.specs.Prelude.{◌≡◌, true, Some}
-use Rattle.base.specs.declared.ids.ObjId.{ObjId}
-use Rattle.base.specs.declared.ids.SlotRef.{SlotRef}
-use Rattle.base.specs.declared.rights.Rights.{Rights}
-use Rattle.machine.specs.declared.cap.Cap.{Cap}
-use Rattle.machine.specs.declared.cap.Detail.{Detail}
-use Rattle.machine.specs.declared.cap.Detail.TheVariants as d
-use Rattle.machine.specs.Capabilities.{can_read, can_write, can_grant, can_grant_reply}
-use Rattle.machine.specs.Machine.{Machine, object_of, cap_of, parent_of}
+use Rattle.std.specs.Prelude.{◌≡◌, Some, true}
+use Rattle.base.specs.declared.{ids.{ObjId.ObjId, SlotRef.SlotRef}, rights.Rights.Rights}
+use Rattle.machine.specs.{declared.cap.{Cap.Cap, Detail.{Detail, Detail as d}}, Capabilities.{can_grant, can_grant_reply, can_read}}
+use Rattle.machine.specs.{Capabilities.can_write, Machine.{Machine, cap_of, object_of, parent_of}}
 
 -- each right of the first is one of the second
 pub record HasFewer (few many : Rights) : Type 0 where

@@ -1,10 +1,7 @@
 -- What an object's content says by itself: its kind, its sizes and its range of addresses (seL4 manual, "Kernel Objects";
 -- the sizes are confine's own).
-use Rattle.std.specs.Prelude.{ℕ, ◌+◌, ◌^◌, Option, Some, None}
-use Rattle.machine.specs.declared.object.Object.{Object}
-use Rattle.machine.specs.declared.object.Object.TheVariants as o
-use Rattle.machine.specs.declared.object.ObjectKind.{ObjectKind}
-use Rattle.machine.specs.declared.object.ObjectKind.TheVariants as kind
+use Rattle.std.specs.Prelude.{ℕ, ◌+◌, ◌^◌, None, Option, Some}
+use Rattle.machine.specs.declared.object.{Object.{Object, Object as o}, ObjectKind.{ObjectKind, ObjectKind as kind}}
 
 abbrev pub kind_of_object : Object → ObjectKind
 kind_of_object (o.Untyped _) = kind.Untyped

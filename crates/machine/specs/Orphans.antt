@@ -1,6 +1,6 @@
 -- The derivation tree without slots that leave it: their children come to the nearest ancestor that stays (seL4 manual, "Capability
 -- Derivation Tree"; where the children go is confine's own).
-use Rattle.std.specs.Prelude.{◌≡◌, Bool, true, false, List, [], ◌∷◌, Option, Some, None, option_and_then, if◌then◌else◌}
+use Rattle.std.specs.Prelude.{[], ◌∷◌, ◌≡◌, Bool, List, None, Option, Some, false, if◌then◌else◌, option_and_then, true}
 use Rattle.base.specs.declared.ids.SlotRef.{SlotRef}
 use Rattle.machine.specs.Machine.{same_slot}
 

@@ -1,12 +1,8 @@
 -- How a call ends: made, with an answer or blocked, or refused (seL4 manual, "Errors"; the outcomes are confine's own).
-use Rattle.base.specs.declared.refusal.Refusal.{Refusal}
-use Rattle.base.specs.Refusals.{out_of_memory, refusal_of}
-use Rattle.machine.specs.declared.call.Made.{Made}
+use Rattle.base.specs.{declared.refusal.Refusal.Refusal, Refusals.{out_of_memory, refusal_of}}
+use Rattle.machine.specs.declared.call.{Made.Made, Outcome.{Outcome, TheVariants.{Blocked, Done, Refused}}, Unmade.Unmade}
 use Rattle.machine.specs.declared.call.Made.TheVariants as made
-use Rattle.machine.specs.declared.call.Outcome.{Outcome}
-use Rattle.machine.specs.declared.call.Outcome.TheVariants.{Done, Blocked, Refused}
-use Rattle.machine.specs.declared.call.Unmade.{Unmade}
-use Rattle.machine.specs.declared.call.Unmade.TheVariants as unmade
+use Rattle.machine.specs.declared.call.Unmade.{Unmade as unmade}
 
 -- how a call ends that is made
 abbrev pub outcome_of : Made → Outcome

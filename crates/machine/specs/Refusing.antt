@@ -1,5 +1,5 @@
 -- Conditions in order: the first that fails answers.
-use Rattle.std.specs.Prelude.{Result, Ok, Err}
+use Rattle.std.specs.Prelude.{Err, Ok, Result}
 use Rattle.base.specs.declared.refusal.Cause.{Cause}
 
 -- what follows where a condition holds

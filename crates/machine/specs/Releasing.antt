@@ -1,21 +1,14 @@
 -- Changes by which threads, queues and replies are linked, and are so no more: a thread blocks at an object or calls through a reply,
 -- leaves its queue and its reply and is then ready, halted or aborted; and a thread and its scheduling context are unbound (seL4
 -- manual, "Threads and Execution", "Endpoints", "Notifications" and "Scheduling Contexts").
-use Rattle.std.specs.Prelude.{◌≡◌, Bool, List, Option, Some, None, Contains, if◌then◌else◌}
+use Rattle.std.specs.Prelude.{◌≡◌, Bool, Contains, List, None, Option, Some, if◌then◌else◌}
 use Rattle.base.specs.declared.ids.ObjId.{ObjId}
-use Rattle.machine.specs.declared.object.Object.{Object}
-use Rattle.machine.specs.declared.object.Object.TheVariants as o
-use Rattle.machine.specs.declared.object.ReplyState.{ReplyState}
+use Rattle.machine.specs.declared.{object.{Object.{Object, Object as o}, ReplyState.ReplyState}, thread.{Calling.Calling, Message.Message}}
 use Rattle.machine.specs.declared.object.ReplyState.TheVariants as reply
-use Rattle.machine.specs.declared.thread.Calling.{Calling}
 use Rattle.machine.specs.declared.thread.Inbox.TheVariants as inbox
-use Rattle.machine.specs.declared.thread.Message.{Message}
-use Rattle.machine.specs.declared.thread.RunState.{RunState}
+use Rattle.machine.specs.{declared.thread.{RunState.RunState, Tcb.Tcb}, Changes.{with_context, with_reply, with_tcb, with_waiting}}
 use Rattle.machine.specs.declared.thread.RunState.TheVariants as state
-use Rattle.machine.specs.declared.thread.Tcb.{Tcb}
-use Rattle.machine.specs.Changes.{with_context, with_reply, with_tcb, with_waiting, without_waiting}
-use Rattle.machine.specs.Finalising.{aborted, halted}
-use Rattle.machine.specs.Machine.{Machine, object_of, queue_of}
+use Rattle.machine.specs.{Changes.without_waiting, Finalising.{aborted, halted}, Machine.{Machine, object_of, queue_of}}
 use Rattle.machine.specs.WellFormed.{IsThread, WaitsAt}
 
 -- whom a reply holds

@@ -1,16 +1,9 @@
 -- Removal of capabilities: those that go with them, the objects that lose their last, what becomes of the rest, and the derivation
 -- tree (seL4 manual, "Deletion, Revocation, and Recycling").
-use Rattle.std.specs.Prelude.{Bool, ℕ, List, [], filter, Option, Some, None, option_map, if◌then◌else◌}
-use Rattle.std.specs.FinMap.{keys, values}
-use Rattle.base.specs.declared.ids.ObjId.{ObjId}
-use Rattle.base.specs.declared.ids.SlotRef.{SlotRef}
-use Rattle.machine.specs.declared.cap.Cap.{Cap}
-use Rattle.machine.specs.declared.object.Object.{Object}
-use Rattle.machine.specs.Finalising.{finalised, staying_in}
-use Rattle.machine.specs.Finite.{tabulate}
-use Rattle.machine.specs.Gone.{gone_of, loses_all}
-use Rattle.machine.specs.Machine.{Machine, object_of, queue_of, words_of, cap_of, parent_of}
-use Rattle.machine.specs.Orphans.{without_nodes}
+use Rattle.std.specs.{FinMap.{keys, values}, Prelude.{[], ℕ, Bool, List, None, Option, Some, filter, if◌then◌else◌, option_map}}
+use Rattle.base.specs.declared.ids.{ObjId.ObjId, SlotRef.SlotRef}
+use Rattle.machine.specs.{declared.{cap.Cap.Cap, object.Object.Object}, Finalising.{finalised, staying_in}, Finite.tabulate, Gone.gone_of}
+use Rattle.machine.specs.{Gone.loses_all, Machine.{Machine, cap_of, object_of, parent_of, queue_of, words_of}, Orphans.without_nodes}
 
 -- what each look-up answers where some slots go and some objects vanish
 

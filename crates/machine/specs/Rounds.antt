@@ -1,5 +1,5 @@
 -- Lists that elements leave in rounds, until none does: who falls may depend on who has fallen before (confine's own).
-use Rattle.std.specs.Prelude.{ℕ, zero, suc, Bool, not, List, length, filter}
+use Rattle.std.specs.Prelude.{ℕ, Bool, List, filter, length, not, suc, zero}
 
 -- so many rounds; in each go those of the list that fall where it is what is left
 unfoldable pub rounds : {A : Type 0} → (List A → A → Bool) → ℕ → List A → List A

@@ -1,9 +1,6 @@
 -- Runs: a list of events from a machine, with the outcome of each and the machine after the last.
-use Rattle.std.specs.Prelude.{◌≡◌, List, [], ◌∷◌}
-use Rattle.machine.specs.declared.call.Event.{Event}
-use Rattle.machine.specs.declared.call.Outcome.{Outcome}
-use Rattle.machine.specs.Machine.{Machine}
-use Rattle.machine.specs.Step.{Step}
+use Rattle.std.specs.Prelude.{[], ◌∷◌, ◌≡◌, List}
+use Rattle.machine.specs.{declared.call.{Event.Event, Outcome.Outcome}, Machine.Machine, Step.Step}
 
 -- the events lead from the first machine to the last with these outcomes, one for each event
 abbrev pub Run : Machine → List Event → List Outcome → Machine → Type 0

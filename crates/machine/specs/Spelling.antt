@@ -1,21 +1,12 @@
 -- How calls, events and what they answer are spelled in the texts of scripts and logs: each is a list of words, which single
 -- spaces part.
-use Rattle.std.specs.Prelude.{ℕ, Bool, List, Option, Some, None, [], ◌∷◌, ◌++◌, codes, slice_index}
-use Rattle.std.specs.Fmt.{decimal}
-use Rattle.std.specs.List.{join_with_byte}
+use Rattle.std.specs.{Fmt.decimal, List.join_with_byte, Prelude.{[], ℕ, ◌++◌, ◌∷◌, Bool, List, None, Option, Some, codes, slice_index}}
 use Rattle.base.specs.Rights.{rights_word}
-use Rattle.machine.specs.declared.call.Answer.{Answer}
+use Rattle.machine.specs.declared.call.{Answer.Answer, Call.Call, CapData.{CapData, CapData as given}, Event.Event, Outcome.Outcome}
 use Rattle.machine.specs.declared.call.Answer.TheVariants as answer
-use Rattle.machine.specs.declared.call.Call.{Call}
 use Rattle.machine.specs.declared.call.Call.TheVariants as call
-use Rattle.machine.specs.declared.call.Event.{Event}
-use Rattle.machine.specs.declared.call.CapData.{CapData}
-use Rattle.machine.specs.declared.call.CapData.TheVariants as given
-use Rattle.machine.specs.declared.call.Outcome.{Outcome}
 use Rattle.machine.specs.declared.call.Outcome.TheVariants as outcome
-use Rattle.machine.specs.declared.slot_address.SlotAddress.{SlotAddress}
-use Rattle.machine.specs.declared.thread.Message.{Message}
-use Rattle.machine.specs.KindWords.{memory_kind_word}
+use Rattle.machine.specs.{declared.{slot_address.SlotAddress.SlotAddress, thread.Message.Message}, KindWords.memory_kind_word}
 
 -- a slot as a call names it: root, index and depth
 abbrev pub slot_address_words : SlotAddress → List (List ℕ)

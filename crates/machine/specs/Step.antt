@@ -1,26 +1,17 @@
 -- The kernel step: how an event ends, and the machine after it (seL4 manual, "Kernel Services and Objects"; the order of the
 -- conditions is confine's own). A refusal leaves the machine as it was.
-use Rattle.std.specs.Prelude.{◌≡◌, ◌⊎◌, ℕ, Bool, ◌==◌, Option, Some, None, Result, Ok, Err, if◌then◌else◌}
-use Rattle.base.specs.declared.ids.ObjId.{ObjId}
-use Rattle.base.specs.declared.refusal.Cause.{Cause}
+use Rattle.std.specs.Prelude.{ℕ, ◌==◌, ◌≡◌, ◌⊎◌, Bool, Err, None, Ok, Option, Result, Some, if◌then◌else◌}
+use Rattle.base.specs.{declared.{ids.ObjId.ObjId, refusal.{Cause.Cause, Refusal.Refusal}}, Refusals.{IsOfCondition, out_of_memory}}
 use Rattle.base.specs.declared.refusal.Cause.TheVariants as cause
-use Rattle.base.specs.declared.refusal.Refusal.{Refusal}
-use Rattle.base.specs.Refusals.{IsOfCondition, out_of_memory, refusal_of}
-use Rattle.machine.specs.declared.call.Call.{Call}
+use Rattle.base.specs.Refusals.{refusal_of}
+use Rattle.machine.specs.declared.{call.{Call.Call, Event.Event, Made.Made, Outcome.{Outcome, TheVariants.Refused}}, object.Object.Object}
 use Rattle.machine.specs.declared.call.Call.TheVariants as call
-use Rattle.machine.specs.declared.call.Event.{Event}
-use Rattle.machine.specs.declared.call.Made.{Made}
-use Rattle.machine.specs.declared.call.Outcome.{Outcome}
-use Rattle.machine.specs.declared.call.Outcome.TheVariants.{Refused}
-use Rattle.machine.specs.declared.object.Object.{Object}
-use Rattle.machine.specs.declared.object.Object.TheVariants as o
-use Rattle.machine.specs.declared.object.Share.{Share}
-use Rattle.machine.specs.declared.thread.RunState.{RunState}
-use Rattle.machine.specs.declared.thread.RunState.TheVariants as state
-use Rattle.machine.specs.declared.thread.Tcb.{Tcb}
-use Rattle.machine.specs.Machine.{Machine, object_of}
-use Rattle.machine.specs.Outcomes.{outcome_of}
-use Rattle.machine.specs.Refusing.{◌>>=◌}
+use Rattle.machine.specs.declared.{object.{Object.Object as o, Share.Share}, thread.{RunState.{RunState, RunState as state}, Tcb.Tcb}}
+use Rattle.machine.specs.{Machine.{Machine, object_of}, Outcomes.outcome_of, Refusing.◌>>=◌, Step.Bind.{bind_of, unbind_of}}
+use Rattle.machine.specs.Step.{Configure.configure_of, Copy.copy_of, Delete.delete_of, Fetch.fetch_of, Mint.mint_of, Move.move_of}
+use Rattle.machine.specs.Step.{Poll.poll_of, Receive.receive_of, Reply.reply_of, Retype.retype_of, Revoke.revoke_of, Send.endpoint_call_of}
+use Rattle.machine.specs.Step.{Send.send_of, Signal.signal_of, Space.{clear_space_of, set_space_of}, Suspend.{resume_of, suspend_of}}
+use Rattle.machine.specs.Step.{Wait.wait_of, Words.{read_of, write_of}}
 pub mod Find
 pub mod Signal
 pub mod Poll
@@ -42,24 +33,6 @@ pub mod Suspend
 pub mod Space
 pub mod Configure
 pub mod Bind
-use Rattle.machine.specs.Step.Signal.{signal_of}
-use Rattle.machine.specs.Step.Poll.{poll_of}
-use Rattle.machine.specs.Step.Wait.{wait_of}
-use Rattle.machine.specs.Step.Copy.{copy_of}
-use Rattle.machine.specs.Step.Mint.{mint_of}
-use Rattle.machine.specs.Step.Move.{move_of}
-use Rattle.machine.specs.Step.Delete.{delete_of}
-use Rattle.machine.specs.Step.Revoke.{revoke_of}
-use Rattle.machine.specs.Step.Retype.{retype_of}
-use Rattle.machine.specs.Step.Send.{endpoint_call_of, send_of}
-use Rattle.machine.specs.Step.Receive.{receive_of}
-use Rattle.machine.specs.Step.Reply.{reply_of}
-use Rattle.machine.specs.Step.Fetch.{fetch_of}
-use Rattle.machine.specs.Step.Words.{read_of, write_of}
-use Rattle.machine.specs.Step.Space.{clear_space_of, set_space_of}
-use Rattle.machine.specs.Step.Suspend.{resume_of, suspend_of}
-use Rattle.machine.specs.Step.Configure.{configure_of}
-use Rattle.machine.specs.Step.Bind.{bind_of, unbind_of}
 
 -- the core, budget and period of a context, if it is one and configured
 abbrev pub share_in : Option Object → Option Share

@@ -1,12 +1,9 @@
 -- Changes of the derivation tree: copies come under their source, and a capability moves with its place (seL4 manual, "Capability
 -- Derivation Tree"; who is whose parent is confine's own).
-use Rattle.std.specs.Prelude.{◌≡◌, ◌≢◌, ℕ, ◌<◌, ◌==◌, not, map, Option, Some, None, if◌then◌else◌}
-use Rattle.std.specs.FinMap.{entries, from_entries}
+use Rattle.std.specs.{FinMap.{entries, from_entries}, Prelude.{ℕ, ◌<◌, ◌==◌, ◌≡◌, ◌≢◌, None, Option, Some, if◌then◌else◌, map, not}}
 use Rattle.base.specs.declared.ids.SlotRef.{SlotRef}
-use Rattle.machine.specs.declared.cap.Cap.{Cap}
-use Rattle.machine.specs.declared.cap.Detail.{Detail}
-use Rattle.machine.specs.Capabilities.{badge_of}
-use Rattle.machine.specs.Machine.{Machine, parent_of, same_slot, with_cap, without_cap, with_parent}
+use Rattle.machine.specs.{declared.cap.{Cap.Cap, Detail.Detail}, Capabilities.badge_of, Machine.{Machine, parent_of, same_slot, with_cap}}
+use Rattle.machine.specs.Machine.{with_parent, without_cap}
 
 -- a copy that says this: it is original where its badge differs from the source's
 abbrev pub copied : Cap → Detail → Cap

@@ -1,15 +1,8 @@
-ghost use Rattle.std.specs.Prelude.{◌≡◌, ℕ, true, false};
-ghost use Rattle.base.specs.declared.kind.Kind.{Kind};
-ghost use Rattle.base.specs.Kinds.{is_structural};
-ghost use Rattle.machine.specs.declared.cap.Badged.{Badged};
-ghost use Rattle.machine.specs.declared.cap.Detail.{Detail};
+ghost use Rattle.std.specs.Prelude.{ℕ, ◌≡◌, false, true};
+ghost use Rattle.base.specs.{declared.kind.Kind.Kind, Kinds.is_structural};
+ghost use Rattle.machine.specs.{declared.cap.{Badged.Badged, Detail.Detail, Guard.Guard}, Authority.HasAuthority, Capabilities.gives};
 ghost use Rattle.machine.specs.declared.cap.Detail.TheVariants as d;
-ghost use Rattle.machine.specs.declared.cap.Guard.{Guard};
-ghost use Rattle.machine.specs.Authority.{HasAuthority};
-ghost use Rattle.machine.specs.Capabilities.{gives};
-ghost use Rattle.machine.specs.Layout.{Layout};
-ghost use Rattle.machine.specs.Machine.{Machine};
-ghost use Rattle.machine.specs.Narrower.{HasMoreCaps, IsNarrower};
+ghost use Rattle.machine.specs.{Layout.Layout, Machine.Machine, Narrower.{HasMoreCaps, IsNarrower}};
 
 /// A law: a capability with fewer rights gives no kind of authority that one with more doesn't give;
 /// badges and guards don't matter; and every capability in a CNode gives at least one kind of

@@ -1,8 +1,6 @@
-ghost use Rattle.std.specs.Prelude.{◌≡◌, ◌<◌, ◌^◌, filter};
-ghost use Rattle.base.specs.Kinds.{is_among};
-ghost use Rattle.base.specs.declared.kind.Kind.{Kind as KindOf};
-ghost use Rattle.base.specs.declared.kind.TheConstants.Kind.{ALL};
-ghost use Rattle.machine.specs.Capabilities.{badge_of, kind_of_detail, gives};
+ghost use Rattle.std.specs.Prelude.{◌<◌, ◌^◌, ◌≡◌, filter};
+ghost use Rattle.base.specs.{declared.kind.{Kind.Kind as KindOf, TheConstants.Kind.ALL}, Kinds.is_among};
+ghost use Rattle.machine.specs.Capabilities.{badge_of, gives, kind_of_detail};
 
 use crate::ObjectKind;
 use base::{Kind, Kinds, ObjId, Rights, kind_names_are_read_back};

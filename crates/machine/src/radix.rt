@@ -1,5 +1,5 @@
+ghost use Rattle.std.specs.Prelude.{ℕ, ◌<◌, ◌^◌, ◌↔◌, ◌≡◌, ◌≤◌, IfSome, IsSome};
 ghost use Rattle.base.specs.declared.limits.TheConstants.{MAX_RADIX};
-ghost use Rattle.std.specs.Prelude.{◌≡◌, ℕ, ◌<◌, ◌≤◌, ◌^◌, ◌↔◌, IsSome, IfSome};
 
 use base::MAX_RADIX;
 use std::marker::Model;

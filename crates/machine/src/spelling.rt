@@ -1,6 +1,6 @@
 ghost use Rattle.std.specs.Prelude.{Some};
-ghost use Rattle.machine.specs.Spelling.{answer_words, call_words, data_words, event_words, four_words, message_words};
-ghost use Rattle.machine.specs.Spelling.{optional_slot_words, optional_word, outcome_words, slot_address_words, spelled};
+ghost use Rattle.machine.specs.Spelling.{answer_words, call_words, data_words, event_words, four_words, message_words, optional_slot_words};
+ghost use Rattle.machine.specs.Spelling.{optional_word, outcome_words, slot_address_words, spelled};
 
 use crate::{Answer, Call, CapData, Event, Message, Outcome, SlotAddress};
 use std::fmt;

@@ -1,22 +1,10 @@
-ghost use Rattle.base.specs.declared.ids.ObjId.{ObjId as Number};
-ghost use Rattle.std.specs.Prelude.{◌≡◌, ◌≢◌, ◌⊎◌, ℕ, List, All, Ok, Result};
-ghost use Rattle.std.specs.List.{zip};
-ghost use Rattle.base.specs.declared.refusal.Misuse.{Misuse as Wrong};
+ghost use Rattle.std.specs.{List.zip, Prelude.{ℕ, ◌≡◌, ◌≢◌, ◌⊎◌, All, List, Ok, Result}};
+ghost use Rattle.base.specs.declared.{ids.ObjId.ObjId as Number, refusal.{Cause.Cause as Why, Misuse.Misuse as Wrong}};
 ghost use Rattle.base.specs.Refusals.{misuse_refusal};
-ghost use Rattle.base.specs.declared.refusal.Cause.{Cause as Why};
-ghost use Rattle.machine.specs.declared.call.Call.{Call as Calls};
-ghost use Rattle.machine.specs.declared.call.Event.{Event as Occurs};
-ghost use Rattle.machine.specs.declared.call.Made.{Made as Comes};
-ghost use Rattle.machine.specs.declared.call.Outcome.{Outcome as Ended};
-ghost use Rattle.machine.specs.declared.call.Outcome.TheVariants.{Refused};
-ghost use Rattle.machine.specs.declared.object.MemoryKind.{MemoryKind as Kind};
-ghost use Rattle.machine.specs.Machine.{Machine};
-ghost use Rattle.machine.specs.Makes.{Makes};
-ghost use Rattle.machine.specs.Outcomes.{IsRefused};
-ghost use Rattle.machine.specs.Run.{Run};
-ghost use Rattle.machine.specs.Step.{ChangesCaller, LacksMemory, MayEnd, Step, call_of};
-ghost use Rattle.machine.specs.Step.Retype.{retype_of};
-ghost use Rattle.machine.specs.WellFormed.{IsCaller, IsWellFormed};
+ghost use Rattle.machine.specs.declared.call.{Call.Call as Calls, Event.Event as Occurs, Made.Made as Comes, Outcome.Outcome as Ended};
+ghost use Rattle.machine.specs.{declared.{call.Outcome.TheVariants.Refused, object.MemoryKind.MemoryKind as Kind}, Machine.Machine};
+ghost use Rattle.machine.specs.{Makes.Makes, Outcomes.IsRefused, Run.Run, Step.{ChangesCaller, LacksMemory, MayEnd, Step, call_of}};
+ghost use Rattle.machine.specs.{Step.Retype.retype_of, WellFormed.{IsCaller, IsWellFormed}};
 
 /// A law: two steps of one event from one machine agree, unless one of them lacked memory. A refused
 /// step leaves the machine as it was.

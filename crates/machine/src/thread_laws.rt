@@ -1,11 +1,7 @@
-ghost use Rattle.base.specs.declared.ids.ObjId.{ObjId as Number};
-ghost use Rattle.base.specs.declared.ids.SlotRef.{SlotRef as Slot};
 ghost use Rattle.std.specs.Prelude.{◌≡◌, IsTrue, None, Some};
-ghost use Rattle.machine.specs.declared.cap.Cap.{Cap as Held};
+ghost use Rattle.base.specs.declared.ids.{ObjId.ObjId as Number, SlotRef.SlotRef as Slot};
+ghost use Rattle.machine.specs.{declared.cap.Cap.Cap as Held, Lookup.root_of, Machine.{Machine, cap_of, has_slot}, Step.Space.without_root};
 ghost use Rattle.machine.specs.declared.cap.Detail.TheVariants as d;
-ghost use Rattle.machine.specs.Lookup.{root_of};
-ghost use Rattle.machine.specs.Machine.{Machine, cap_of, has_slot};
-ghost use Rattle.machine.specs.Step.Space.{without_root};
 ghost use Rattle.machine.specs.WellFormed.{IsWellFormed};
 
 /// A law: where a root slot is cleared, the machine stays well formed. The slot is empty, and a slot that is

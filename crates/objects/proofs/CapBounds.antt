@@ -1,29 +1,15 @@
 -- There are no more capabilities for an object than slots, and each is for an object that is there.
-use Rattle.std.proofs.Common.{◌≡◌, ℕ, zero, suc, ◌-◌, ◌*◌, ◌^◌, ◌<◌, ◌≤◌, List, [], ◌∷◌, Bool, true, false, cond, length, inl, inr, refl, sym, ap, subst, ◌∙◌, arith}
-use Rattle.std.specs.Prelude.{Option, Some, None, IsSome}
-use Rattle.std.specs.List.{flat_map}
+use Rattle.std.{specs.{FinMap.FinMap, List.flat_map, Prelude.{IsSome, None, Option, Some}}, proofs.Common.{[], ℕ, ◌*◌, ◌-◌, ◌<◌, ◌^◌, ◌∙◌}}
 use Rattle.std.specs.FinMap as finite
-use Rattle.std.specs.FinMap.{FinMap}
-use Rattle.std.proofs.lemmas.Bool.{false≢true}
-use Rattle.std.proofs.lemmas.List.{length-append, length-map}
-use Rattle.std.proofs.lemmas.List.FromFn.{length-map-range_with_len}
-use Rattle.base.specs.declared.ids.ObjId.{ObjId}
-use Rattle.base.specs.declared.ids.SlotRef.{SlotRef}
-use Rattle.machine.specs.declared.cap.Cap.{Cap}
-use Rattle.machine.specs.Counts.{caps_to}
-use Rattle.machine.specs.Machine.{id_cmp, same_id, cap_of, object_of}
-use Rattle.machine.proofs.CapCounts.{caps_to-few, caps_to-some}
-use Rattle.machine.proofs.FiniteLemmas.{cond_here, cond_elsewhere, len-tabulate}
-use Rattle.machine.proofs.LookUps.{id_total, id_apart, slot_total, slot_apart}
-use Rattle.objects.specs.declared.entry.Entry.{Entry}
-use Rattle.objects.specs.declared.state.State.TheInside.{Inside}
-use Rattle.objects.specs.Entries.{caps_in, entry_of, slot_at}
-use Rattle.objects.specs.Family.{cap_in}
-use Rattle.objects.specs.State.{machine_of, slots_of, IsConsistent, IsSound}
-use Rattle.objects.proofs.CountLemmas.{few_slots}
-use Rattle.objects.proofs.EntryLemmas.{some-none}
-use Rattle.objects.proofs.QueueLemmas.{cases_id}
-use Rattle.objects.proofs.StateLemmas.{tells-machine_of, object_at}
+use Rattle.std.proofs.Common.{◌∷◌, ◌≡◌, ◌≤◌, Bool, List, ap, arith, cond, false, inl, inr, length, refl, subst, suc, sym, true, zero}
+use Rattle.std.proofs.lemmas.{Bool.false≢true, List.{length-append, length-map, FromFn.length-map-range_with_len}}
+use Rattle.base.specs.declared.ids.{ObjId.ObjId, SlotRef.SlotRef}
+use Rattle.machine.specs.{declared.cap.Cap.Cap, Counts.caps_to, Machine.{cap_of, id_cmp, object_of, same_id}}
+use Rattle.machine.proofs.{CapCounts.{caps_to-few, caps_to-some}, FiniteLemmas.{cond_elsewhere, cond_here, len-tabulate}, LookUps.id_apart}
+use Rattle.machine.proofs.LookUps.{id_total, slot_apart, slot_total}
+use Rattle.objects.specs.{declared.{entry.Entry.Entry, state.State.TheInside.Inside}, Entries.{caps_in, entry_of, slot_at}, Family.cap_in}
+use Rattle.objects.{specs.State.{IsConsistent, IsSound, machine_of, slots_of}, proofs.{CountLemmas.few_slots, EntryLemmas.some-none}}
+use Rattle.objects.proofs.{QueueLemmas.cases_id, StateLemmas.{object_at, tells-machine_of}}
 
 -- a map has no more keys than there are numbers below a bound of them
 few_keys :

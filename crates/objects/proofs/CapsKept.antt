@@ -1,22 +1,12 @@
 -- Changes of entries that leave how many capabilities each counts for its object, and the change of one such count.
-use Rattle.std.proofs.Common.{◌≡◌, ℕ, Bool, true, false, cond, refl, sym, ap, subst, ◌∙◌}
-use Rattle.std.specs.Prelude.{Option, Some, None, IsSome, option_map}
-use Rattle.std.specs.Option.{option_or}
-use Rattle.std.proofs.lemmas.Bool.{false≢true}
-use Rattle.base.specs.declared.ids.ObjId.{ObjId}
-use Rattle.base.specs.declared.ids.SlotRef.{SlotRef}
-use Rattle.machine.specs.Machine.{same_id}
-use Rattle.machine.proofs.FiniteLemmas.{same_from_tie}
-use Rattle.machine.proofs.LookUps.{id_total, id_apart}
-use Rattle.objects.specs.declared.entry.Entry.{Entry}
-use Rattle.objects.specs.declared.links.Ends.{Ends}
-use Rattle.objects.specs.declared.links.Standing.{Standing}
-use Rattle.objects.specs.declared.links.TreeLinks.{TreeLinks}
-use Rattle.objects.specs.declared.slots.Slot.{Slot}
-use Rattle.objects.specs.Entries.{Entries, caps_in, entry_of, change_slot_in, with_entry, set_caps_in, set_ends_in, set_standing_in}
-use Rattle.objects.specs.Family.{attached, detached, head_of, leaving, leaving_from, links_at, with_links, with_slot}
-use Rattle.objects.specs.Links.{end_after, pushed, quitted, relinked, standing_of, with_standing}
-use Rattle.objects.proofs.EntryLemmas.{entry_of-with_entry}
+use Rattle.std.{specs.{Option.option_or, Prelude.{IsSome, None, Option, Some, option_map}}, proofs.Common.{ℕ, ◌∙◌, ◌≡◌, Bool, ap, cond}}
+use Rattle.std.proofs.{Common.{false, refl, subst, sym, true}, lemmas.Bool.false≢true}
+use Rattle.base.specs.declared.ids.{ObjId.ObjId, SlotRef.SlotRef}
+use Rattle.machine.{specs.Machine.same_id, proofs.{FiniteLemmas.same_from_tie, LookUps.{id_apart, id_total}}}
+use Rattle.objects.specs.declared.{entry.Entry.Entry, links.{Ends.Ends, Standing.Standing, TreeLinks.TreeLinks}, slots.Slot.Slot}
+use Rattle.objects.specs.Entries.{Entries, caps_in, change_slot_in, entry_of, set_caps_in, set_ends_in, set_standing_in, with_entry}
+use Rattle.objects.specs.{Family.{attached, detached, head_of, leaving, leaving_from, links_at, with_links, with_slot}, Links.end_after}
+use Rattle.objects.{specs.Links.{pushed, quitted, relinked, standing_of, with_standing}, proofs.EntryLemmas.entry_of-with_entry}
 
 -- each entry counts what it counted
 abbrev pub CapsKept : Entries → Entries → Type 0

@@ -1,30 +1,18 @@
 -- What a machine becomes when one entry is changed or added, or threads are linked otherwise.
-use Rattle.std.proofs.Common.{◌≡◌, ◌≢◌, ℕ, ◌+◌, List, [], replicate, Bool, true, false, cond, length, refl, sym, ap}
-use Rattle.std.proofs.Common.{subst, ◌∙◌}
-use Rattle.std.specs.Prelude.{Option, Some, None, option_map, option_and_then, slice_get, slice_set}
 use Rattle.std.specs.FinMap as finite
-use Rattle.base.specs.declared.ids.ObjId.{ObjId}
-use Rattle.base.specs.declared.ids.SlotRef.{SlotRef}
-use Rattle.machine.specs.declared.object.Object.{Object}
-use Rattle.machine.specs.Changes.{with_words}
-use Rattle.machine.specs.Machine.{Machine, same_id, object_of, queue_of}
-use Rattle.machine.proofs.LookUps.{id_total, id_apart, slot_total, slot_apart}
-use Rattle.machine.specs.Machine.{words_of, cap_of, parent_of, with_object, with_queue, with_new}
-use Rattle.machine.proofs.SlotChanges.{SameObjects}
-use Rattle.machine.specs.Objects.{slot_count, word_count}
+use Rattle.std.{specs.Prelude.{None, Option, Some, option_and_then, option_map, slice_get, slice_set}, proofs.Common.{[], ℕ, ◌+◌, ◌∙◌, ◌≡◌}}
+use Rattle.std.proofs.Common.{◌≢◌, Bool, List, ap, cond, false, length, refl, replicate, subst, sym, true}
+use Rattle.base.specs.declared.ids.{ObjId.ObjId, SlotRef.SlotRef}
+use Rattle.machine.specs.{declared.object.Object.Object, Changes.with_words, Machine.{Machine, cap_of, object_of, parent_of, queue_of}}
+use Rattle.machine.specs.{Machine.{same_id, with_new, with_object, with_queue, words_of}, Objects.{slot_count, word_count}}
+use Rattle.machine.proofs.{FiniteLemmas.{by_key, cond_elsewhere, cond_here, same_from_tie}, LookUps.{id_apart, id_total, slot_apart}}
+use Rattle.machine.proofs.{LookUps.slot_total, SlotChanges.SameObjects}
 use Rattle.machine.proofs.LookUps as seen
-use Rattle.objects.specs.declared.entry.Entry.{Entry}
-use Rattle.objects.specs.declared.links.Ends.{Ends}
-use Rattle.objects.specs.declared.links.Standing.{Standing}
-use Rattle.objects.specs.declared.slots.Slot.{Slot}
-use Rattle.objects.specs.Entries.{slot_at, change_slot_in, set_caps_in, set_word_in, replace_in, empty_slot, new_entry}
-use Rattle.objects.specs.Family.{cap_in, parent_in}
-use Rattle.objects.specs.Links.{ends_of, standing_of, queue_in, AreQueued}
-use Rattle.objects.specs.Queues.{walk, AreQueues}
-use Rattle.machine.proofs.FiniteLemmas.{same_from_tie, by_key, cond_here, cond_elsewhere}
-use Rattle.objects.proofs.EditLemmas.{slice_get_edited_other, slice_get_edited_same}
-use Rattle.objects.proofs.EntryLemmas.{read_empty}
-use Rattle.objects.proofs.StateLemmas.{Tells, object_at, words_at}
+use Rattle.objects.specs.{declared.{entry.Entry.Entry, links.{Ends.Ends, Standing.Standing}, slots.Slot.Slot}, Entries.change_slot_in}
+use Rattle.objects.specs.{Entries.{empty_slot, new_entry, replace_in, set_caps_in, set_word_in, slot_at}, Family.{cap_in, parent_in}}
+use Rattle.objects.specs.{Links.{AreQueued, ends_of, queue_in, standing_of}, Queues.{AreQueues, walk}}
+use Rattle.objects.proofs.{EditLemmas.{slice_get_edited_other, slice_get_edited_same}, EntryLemmas.read_empty, StateLemmas.Tells}
+use Rattle.objects.proofs.StateLemmas.{object_at, words_at}
 
 -- one object's entry has changed so
 abbrev pub IsChanged : (ObjId → Option Entry) → (ObjId → Option Entry) → ObjId → (Entry → Entry) → Type 0

@@ -1,46 +1,25 @@
 -- What is true of each state stays true under each change, and what contracts see of the state after it.
-use Rattle.std.proofs.Common.{◌≡◌, ℕ, ◌+◌, ◌<◌, ◌^◌, ◌≤◌, ◌≢◌, List, [], ◌∷◌, ◌++◌, Bool, true, false, cond, length, refl, sym, ap}
-use Rattle.std.proofs.Common.{map, subst, ◌∙◌, arith, inl, inr}
-use Rattle.std.specs.Prelude.{Option, Some, None, is_some, IsSome, IfSome, option_map}
-use Rattle.std.specs.Prelude.{Contains, filter, not, option_and_then, slice_get, slice_set, IsTrue}
-use Rattle.std.specs.List.{fold, AllByRecursion}
-use Rattle.std.proofs.lemmas.Bool.{false≢true, ltb-true}
-use Rattle.std.proofs.lemmas.Option.{same_Some}
-use Rattle.std.proofs.lemmas.List.{length-replicate}
-use Rattle.base.specs.declared.ids.ObjId.{ObjId}
-use Rattle.base.specs.declared.ids.SlotRef.{SlotRef}
-use Rattle.machine.specs.declared.object.Object.{Object}
-use Rattle.machine.specs.Objects.{slot_count}
-use Rattle.machine.specs.Machine.{Machine, id_cmp, same_id, object_of, has_slot, with_object}
-use Rattle.machine.proofs.LookUps.{id_total, id_apart}
-use Rattle.machine.specs.Machine.{with_queue, with_new, empty_machine, queue_of, words_of}
-use Rattle.machine.proofs.LookUps.{object_of-empty, queue_of-empty}
-use Rattle.machine.proofs.LookUps.{words_of-empty, cap_of-empty, parent_of-empty}
-use Rattle.objects.specs.declared.entry.Entry.{Entry}
-use Rattle.objects.specs.declared.links.Standing.{Standing}
-use Rattle.objects.specs.declared.slots.Slot.{Slot}
-use Rattle.objects.specs.declared.state.State.TheInside.{Inside}
-use Rattle.machine.specs.Changes.{first_waiting, with_waiting, with_word, with_words, without_waiting}
-use Rattle.objects.specs.Counts.{one_more}
-use Rattle.objects.specs.Entries.{Entries, caps_in, entry_of, slot_at, with_entry, replace_in, set_caps_in, set_word_in}
 use Rattle.std.specs.FinMap as finite
-use Rattle.objects.specs.Entries.{empty_slot, new_entry, with_more}
-use Rattle.objects.specs.Family.{links_of, AreKin}
-use Rattle.objects.specs.Links.{ends_of, standing_of, queue_in, AreQueued, pushed, quitted}
-use Rattle.objects.specs.Queues.{walk, AreQueues}
-use Rattle.objects.specs.Radices.{HasRadix}
-use Rattle.objects.specs.State.{machine_of, IsSized, IsConsistent}
-use Rattle.objects.specs.Waiting.{WaitsNowhere, WaitsThere}
-use Rattle.objects.proofs.Families.{no_kin, same_kin}
-use Rattle.machine.proofs.FiniteLemmas.{by_key, same_from_tie, cond_here, cond_elsewhere}
-use Rattle.objects.proofs.EntryLemmas.{some-none, entry_of-with_entry}
-use Rattle.objects.proofs.StateLemmas.{Tells, present_kept, tells-machine_of, going-machine_of, next-machine_of, same_from_tells, object_at, words_at}
-use Rattle.objects.proofs.ChangeLemmas.{added_read, reading_kept, slots_kept, tells-caps, tells-replace, tells-queue, tells-same, tells-new, tells-word}
-use Rattle.objects.proofs.ChangeLemmas.{changed_here, changed_other, part_kept, links, rest, links_kept}
-use Rattle.objects.proofs.QueueLemmas.{cases_id, walk_none, walk_first, walk_once, more_numbers, longer_walk}
-use Rattle.objects.proofs.LinkLemmas.{Requeues, stands_nowhere, pushed_requeues, pushed_queue}
-use Rattle.objects.proofs.LinkLemmas.{quitted_requeues, quitted_queue}
-use Rattle.objects.proofs.Quitting.{on_walk_waits}
+use Rattle.std.specs.{List.{AllByRecursion, fold}, Prelude.{Contains, IfSome, IsSome, IsTrue, None, Option, Some, filter, is_some, not}}
+use Rattle.std.{specs.Prelude.{option_and_then, option_map, slice_get, slice_set}, proofs.Common.{[], ℕ, ◌++◌, ◌+◌, ◌<◌, ◌^◌, ◌∙◌, ◌∷◌}}
+use Rattle.std.proofs.Common.{◌≡◌, ◌≢◌, ◌≤◌, Bool, List, ap, arith, cond, false, inl, inr, length, map, refl, subst, sym, true}
+use Rattle.std.proofs.lemmas.{Bool.{false≢true, ltb-true}, List.length-replicate, Option.same_Some}
+use Rattle.base.specs.declared.ids.{ObjId.ObjId, SlotRef.SlotRef}
+use Rattle.machine.specs.{declared.object.Object.Object, Changes.{first_waiting, with_waiting, with_word, with_words, without_waiting}}
+use Rattle.machine.specs.Machine.{Machine, empty_machine, has_slot, id_cmp, object_of, queue_of, same_id, with_new, with_object, with_queue}
+use Rattle.machine.{specs.{Machine.words_of, Objects.slot_count}, proofs.FiniteLemmas.{by_key, cond_elsewhere, cond_here, same_from_tie}}
+use Rattle.machine.proofs.LookUps.{cap_of-empty, id_apart, id_total, object_of-empty, parent_of-empty, queue_of-empty, words_of-empty}
+use Rattle.objects.specs.declared.{entry.Entry.Entry, links.Standing.Standing, slots.Slot.Slot, state.State.TheInside.Inside}
+use Rattle.objects.specs.{Counts.one_more, Entries.{Entries, caps_in, empty_slot, entry_of, new_entry, replace_in, set_caps_in}}
+use Rattle.objects.specs.{Entries.{set_word_in, slot_at, with_entry, with_more}, Family.{AreKin, links_of}, Links.{AreQueued, ends_of}}
+use Rattle.objects.specs.{Links.{pushed, queue_in, quitted, standing_of}, Queues.{AreQueues, walk}, Radices.HasRadix, State.IsConsistent}
+use Rattle.objects.{specs.{State.{IsSized, machine_of}, Waiting.{WaitsNowhere, WaitsThere}}, proofs.ChangeLemmas.{added_read, changed_here}}
+use Rattle.objects.proofs.ChangeLemmas.{changed_other, links, links_kept, part_kept, reading_kept, rest, slots_kept, tells-caps, tells-new}
+use Rattle.objects.proofs.{ChangeLemmas.{tells-queue, tells-replace, tells-same, tells-word}, EntryLemmas.{entry_of-with_entry, some-none}}
+use Rattle.objects.proofs.{Families.{no_kin, same_kin}, LinkLemmas.{Requeues, pushed_queue, pushed_requeues, quitted_queue}}
+use Rattle.objects.proofs.{LinkLemmas.{quitted_requeues, stands_nowhere}, QueueLemmas.{cases_id, longer_walk, more_numbers, walk_first}}
+use Rattle.objects.proofs.{QueueLemmas.{walk_none, walk_once}, Quitting.on_walk_waits, StateLemmas.{Tells, going-machine_of}}
+use Rattle.objects.proofs.StateLemmas.{next-machine_of, object_at, present_kept, same_from_tells, tells-machine_of, words_at}
 
 -- the derivation tree, where slots are as they were
 same_slots :

@@ -1,25 +1,15 @@
 -- How the counts of a machine change where it does: a new object adds to them, and other changes leave them as they are.
-use Rattle.std.proofs.Common.{◌≡◌, ℕ, ◌+◌, ◌≤◌, ◌^◌, List, [], ◌∷◌, map, length, refl, sym, ap, ◌∙◌, arith}
-use Rattle.std.specs.Prelude.{Option, Some, None, sum, sum_by}
+use Rattle.std.{specs.{FinMap.entries, Prelude.{None, Option, Some, sum, sum_by}}, proofs.Common.{[], ℕ, ◌+◌, ◌^◌, ◌∙◌, ◌∷◌, ◌≡◌, ◌≤◌}}
 use Rattle.std.specs.FinMap as finite
-use Rattle.std.specs.FinMap.{entries}
-use Rattle.std.proofs.lemmas.List.Sums.{sum_by-cons}
-use Rattle.std.proofs.Math.Pow.{pow_mono}
-use Rattle.base.specs.declared.ids.ObjId.{ObjId}
-use Rattle.base.specs.declared.ids.SlotRef.{SlotRef}
-use Rattle.machine.specs.declared.cap.Cap.{Cap}
-use Rattle.machine.specs.declared.object.Object.{Object}
+use Rattle.std.proofs.{Common.{List, ap, arith, length, map, refl, sym}, Math.Pow.pow_mono, lemmas.List.Sums.sum_by-cons}
+use Rattle.base.specs.declared.ids.{ObjId.ObjId, SlotRef.SlotRef}
+use Rattle.machine.specs.{declared.{cap.Cap.Cap, object.Object.Object}, Changes.{with_waiting, with_word, with_words, without_object}}
 use Rattle.machine.specs.declared.object.Object.TheVariants as o
-use Rattle.machine.specs.Changes.{with_waiting, with_word, with_words, without_object, without_waiting}
-use Rattle.machine.specs.Counts.{present, objects_in, slots_in, threads_in}
-use Rattle.machine.specs.Machine.{Machine, empty_machine, id_cmp, object_of, queue_of, with_cap, with_new, with_object, words_of}
-use Rattle.machine.specs.Machine.{with_parent, with_queue, without_cap, without_parent}
-use Rattle.machine.specs.Objects.{slot_count, thread_count}
-use Rattle.machine.proofs.FiniteSums.{sum_of, sum-empty, sum-insert, sum-remove, sum-set}
-use Rattle.machine.proofs.LookUps.{id_total, id_apart}
-use Rattle.objects.specs.declared.counts.Counts.{Counts}
-use Rattle.objects.specs.Counts.{counts_in, one_less, one_more}
-use Rattle.objects.specs.Radices.{HasRadix}
+use Rattle.machine.specs.{Changes.without_waiting, Counts.{objects_in, present, slots_in, threads_in}, Machine.{Machine, empty_machine}}
+use Rattle.machine.specs.Machine.{id_cmp, object_of, queue_of, with_cap, with_new, with_object, with_parent, with_queue, without_cap}
+use Rattle.machine.{specs.{Machine.{without_parent, words_of}, Objects.{slot_count, thread_count}}, proofs.FiniteSums.sum-empty}
+use Rattle.machine.proofs.{FiniteSums.{sum-insert, sum-remove, sum-set, sum_of}, LookUps.{id_apart, id_total}}
+use Rattle.objects.specs.{declared.counts.Counts.Counts, Counts.{counts_in, one_less, one_more}, Radices.HasRadix}
 
 -- what is counted is a sum over the objects
 

@@ -1,8 +1,6 @@
 -- Links of a forest stay so where a slot leaves its parent.
-use Rattle.std.proofs.Common.{◌≡◌, ◌≢◌, ◌<◌, ◌⊎◌, inl, inr, sym, ◌∙◌, arith}
-use Rattle.std.specs.Prelude.{Some, None}
-use Rattle.objects.specs.Forest.{Links, IsForest, Leaves}
-use Rattle.objects.proofs.Forests.{cases_link, cases_none, parent_shared}
+use Rattle.std.{specs.Prelude.{None, Some}, proofs.Common.{◌<◌, ◌∙◌, ◌≡◌, ◌≢◌, ◌⊎◌, arith, inl, inr, sym}}
+use Rattle.objects.{specs.Forest.{IsForest, Leaves, Links}, proofs.Forests.{cases_link, cases_none, parent_shared}}
 
 module _ {K : Type 0} (decide : (x y : K) → (x ≡ y) ⊎ (x ≢ y)) (old new : Links K) (c p : K)
     (forest : IsForest old) (leaves : Leaves old new c p) (under : old.parent c ≡ Some p) where

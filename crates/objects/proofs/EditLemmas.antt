@@ -1,6 +1,6 @@
 -- What a list edited at one place has at each place, and how an edit is a write.
-use Rattle.std.proofs.Common.{◌≡◌, ◌≢◌, ℕ, zero, suc, ◌<◌, List, [], ◌∷◌, length, set, refl, sym, ap, arith}
-use Rattle.std.specs.Prelude.{option_map, slice_get, slice_index_or}
+use Rattle.std.{specs.Prelude.{option_map, slice_get, slice_index_or}, proofs.Common.{[], ℕ, ◌<◌, ◌∷◌, ◌≡◌, ◌≢◌, List, ap, arith, length}}
+use Rattle.std.proofs.Common.{refl, set, suc, sym, zero}
 use Rattle.objects.specs.Edits.{edited}
 
 module _ {X : Type 0} (change : X → X) where

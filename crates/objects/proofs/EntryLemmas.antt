@@ -1,16 +1,11 @@
 -- What the entries are after a change: each object has the entry that it had, but for the one that was changed or added.
-use Rattle.std.proofs.Common.{◌≡◌, ◌≢◌, ℕ, zero, suc, cond, replicate, refl, sym, ap, subst, ◌∙◌}
-use Rattle.std.specs.Prelude.{Option, Some, None, is_some, IsSome, option_map, slice_get}
 use Rattle.std.specs.FinMap as map
-use Rattle.std.proofs.lemmas.Bool.{false≢true}
+use Rattle.std.{specs.Prelude.{IsSome, None, Option, Some, is_some, option_map, slice_get}, proofs.Common.{ℕ, ◌∙◌, ◌≡◌, ◌≢◌, ap, cond}}
+use Rattle.std.proofs.{Common.{refl, replicate, subst, suc, sym, zero}, lemmas.Bool.false≢true}
 use Rattle.base.specs.declared.ids.ObjId.{ObjId}
-use Rattle.machine.specs.Machine.{same_id}
-use Rattle.machine.proofs.LookUps.{id_total, id_apart}
-use Rattle.objects.specs.declared.entry.Entry.{Entry}
-use Rattle.objects.specs.declared.slots.Slot.{Slot}
-use Rattle.objects.specs.Entries.{Entries, entry_of, with_entry}
-use Rattle.machine.specs.Finite.{put_some}
-use Rattle.machine.proofs.FiniteLemmas.{by_key, cond_here, cond_elsewhere}
+use Rattle.machine.{specs.{Finite.put_some, Machine.same_id}, proofs.{FiniteLemmas.{by_key, cond_elsewhere, cond_here}, LookUps.id_apart}}
+use Rattle.machine.proofs.LookUps.{id_total}
+use Rattle.objects.specs.{declared.{entry.Entry.Entry, slots.Slot.Slot}, Entries.{Entries, entry_of, with_entry}}
 
 pub some-none : {X : Type 0} (o : Option X) → IsSome o → o ≡ None → ⊥
 some-none o some none = false≢true (sym (ap is_some none) ∙ some)

@@ -1,17 +1,11 @@
 -- The links of slots stay those of a forest, where a slot comes under a parent, and where it leaves its own.
-use Rattle.std.proofs.Common.{◌≡◌, ◌≢◌, ℕ, ◌<◌, inl, inr, refl, sym, ap, subst, ◌∙◌, arith}
-use Rattle.std.specs.Prelude.{Option, Some, None, IsSome}
-use Rattle.base.specs.declared.ids.ObjId.{ObjId}
-use Rattle.base.specs.declared.ids.SlotRef.{SlotRef}
+use Rattle.std.{specs.Prelude.{IsSome, None, Option, Some}, proofs.Common.{ℕ, ◌<◌, ◌∙◌, ◌≡◌, ◌≢◌, ap, arith, inl, inr, refl, subst, sym}}
+use Rattle.base.specs.declared.ids.{ObjId.ObjId, SlotRef.SlotRef}
 use Rattle.machine.specs.declared.cap.Cap.{Cap}
-use Rattle.objects.specs.declared.entry.Entry.{Entry}
-use Rattle.objects.specs.declared.links.TreeLinks.{TreeLinks}
-use Rattle.objects.specs.Entries.{Entries, entry_of, slot_at}
-use Rattle.objects.specs.Family.{cap_in, links_at, with_links, attached, head_of, leaving, by_links, AreKin}
-use Rattle.objects.specs.Forest.{IsForest, Joins, Leaves}
-use Rattle.objects.proofs.Detaching.{left_forest}
-use Rattle.objects.proofs.Forests.{empty_forest, first_of, joined_forest}
-use Rattle.objects.proofs.SlotLemmas.{SetsLinks, SlotsAlone, alone_twice, cases_slot, link_kept, linked_there, sets_links}
+use Rattle.objects.specs.{declared.{entry.Entry.Entry, links.TreeLinks.TreeLinks}, Entries.{Entries, entry_of, slot_at}, Family.AreKin}
+use Rattle.objects.specs.{Family.{attached, by_links, cap_in, head_of, leaving, links_at, with_links}, Forest.{IsForest, Joins, Leaves}}
+use Rattle.objects.proofs.{Detaching.left_forest, Forests.{empty_forest, first_of, joined_forest}, SlotLemmas.{SetsLinks, SlotsAlone}}
+use Rattle.objects.proofs.SlotLemmas.{alone_twice, cases_slot, link_kept, linked_there, sets_links}
 
 -- where links are as they were
 pub same_kin : (old new : ObjId → Option Entry) → ((q : SlotRef) → links_at new q ≡ links_at old q) → AreKin old → AreKin new

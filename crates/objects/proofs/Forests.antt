@@ -1,7 +1,7 @@
 -- Links of a forest: what follows of them, and that they stay so where a root comes under a parent.
-use Rattle.std.proofs.Common.{◌≡◌, ◌≢◌, ℕ, zero, suc, ◌<◌, ◌⊎◌, inl, inr, refl, sym, subst, ◌∙◌, arith}
-use Rattle.std.specs.Prelude.{Option, Some, None}
-use Rattle.objects.specs.Forest.{Links, IsForest, Joins}
+use Rattle.std.{specs.Prelude.{None, Option, Some}, proofs.Common.{ℕ, ◌<◌, ◌∙◌, ◌≡◌, ◌≢◌, ◌⊎◌, arith, inl, inr, refl, subst, suc, sym}}
+use Rattle.std.proofs.Common.{zero}
+use Rattle.objects.specs.Forest.{IsForest, Joins, Links}
 
 pub cases_link : {K : Type 0} → ((x y : K) → (x ≡ y) ⊎ (x ≢ y)) → (link : Option K) (a : K) → (link ≡ Some a) ⊎ (link ≢ Some a)
 cases_link decide None a = inr (λ same. cc)

@@ -1,21 +1,14 @@
 -- What the entries tell of their links after a thread has come to wait or has left.
-use Rattle.std.proofs.Common.{◌≡◌, ◌≢◌, ℕ, ◌<◌, List, [], ◌∷◌, ◌++◌, refl, sym, ap, subst, ◌∙◌, arith, inl, inr}
-use Rattle.std.specs.Prelude.{Option, Some, None, is_some, IsSome, option_map, Contains, filter, not}
-use Rattle.std.specs.Option.{option_or}
-use Rattle.std.proofs.lemmas.Bool.{false≢true}
+use Rattle.std.specs.{Option.option_or, Prelude.{Contains, IsSome, None, Option, Some, filter, is_some, not, option_map}}
+use Rattle.std.proofs.{Common.{[], ℕ, ◌++◌, ◌<◌, ◌∙◌, ◌∷◌, ◌≡◌, ◌≢◌, List, ap, arith, inl, inr, refl, subst, sym}, lemmas.Bool.false≢true}
 use Rattle.base.specs.declared.ids.ObjId.{ObjId}
-use Rattle.objects.specs.declared.entry.Entry.{Entry}
-use Rattle.objects.specs.declared.links.Ends.{Ends}
-use Rattle.objects.specs.declared.links.Standing.{Standing}
-use Rattle.objects.specs.Entries.{Entries, entry_of, with_entry, set_ends_in, set_standing_in}
-use Rattle.objects.specs.Links.{ends_of, standing_of, queue_in, AreQueued, with_standing, relinked, pushed, end_after, quitting}
-use Rattle.objects.specs.Queues.{walk}
-use Rattle.objects.proofs.EntryLemmas.{entry_of-with_entry}
-use Rattle.objects.proofs.StateLemmas.{present_kept}
-use Rattle.objects.proofs.ChangeLemmas.{changed_here, changed_other, rest}
-use Rattle.objects.proofs.QueueLemmas.{Joins, cases_id, walk_none, reaches, joined_queues, joined_here, joined_elsewhere}
-use Rattle.objects.proofs.Quitting.{Quits, quit_queues, quit_here, quit_elsewhere}
 use Rattle.machine.specs.Machine.{same_id}
+use Rattle.objects.specs.{declared.{entry.Entry.Entry, links.{Ends.Ends, Standing.Standing}}, Entries.{Entries, entry_of, set_ends_in}}
+use Rattle.objects.specs.{Entries.{set_standing_in, with_entry}, Links.{AreQueued, end_after, ends_of, pushed, queue_in, quitting}}
+use Rattle.objects.{specs.{Links.{relinked, standing_of, with_standing}, Queues.walk}, proofs.ChangeLemmas.{changed_here, changed_other}}
+use Rattle.objects.proofs.{ChangeLemmas.rest, EntryLemmas.entry_of-with_entry, QueueLemmas.{Joins, cases_id, joined_elsewhere, joined_here}}
+use Rattle.objects.proofs.{QueueLemmas.{joined_queues, reaches, walk_none}, Quitting.{Quits, quit_elsewhere, quit_here, quit_queues}}
+use Rattle.objects.proofs.StateLemmas.{present_kept}
 
 abbrev pub SameRest : (ObjId → Option Entry) → (ObjId → Option Entry) → Type 0
 SameRest old new = (q : ObjId) → option_map rest (new q) ≡ option_map rest (old q)

@@ -1,20 +1,14 @@
 -- What the places of numbers are after the table of the first numbers, or the hash map of the others, has changed; and each number in use
 -- is listed.
-use Rattle.std.proofs.Common.{◌≡◌, ◌≢◌, ℕ, zero, suc, ◌+◌, Bool, true, false, cond, List, [], ◌∷◌, map, length, replicate, arith, eq-eqb, refl, sym, ap, ◌∙◌}
-use Rattle.std.specs.Prelude.{Option, Some, None, nat_eq, is_some, IsSome, option_map, slice_get, ◌||◌}
-use Rattle.std.specs.Cmp.{unsigned_tied}
+use Rattle.std.specs.{Cmp.unsigned_tied, List.list_any, Map.lookup, Prelude.{◌||◌, IsSome, None, Option, Some, is_some, nat_eq, option_map}}
 use Rattle.std.specs.HashMap as hash
-use Rattle.std.specs.List.{list_any}
-use Rattle.std.specs.Map.{lookup}
-use Rattle.std.proofs.lemmas.Bool.{false≢true}
-use Rattle.std.proofs.lemmas.List.{map-append, nil_from_length}
+use Rattle.std.{specs.Prelude.slice_get, proofs.Common.{[], ℕ, ◌+◌, ◌∙◌, ◌∷◌, ◌≡◌, ◌≢◌, Bool, List, ap, arith, cond, eq-eqb, false, length}}
+use Rattle.std.proofs.{Common.{map, refl, replicate, suc, sym, true, zero}, lemmas.{Bool.false≢true, List.{map-append, nil_from_length}}}
 use Rattle.std.proofs.lemmas.List.Folds.{list_any-append}
 use Rattle.base.specs.declared.ids.ObjId.{ObjId}
 use Rattle.machine.specs.Machine.{same_id}
-use Rattle.objects.specs.declared.numbers.Places.{Places}
-use Rattle.objects.specs.Edits.{edited}
-use Rattle.objects.specs.Places.{from_either, numbers_from, numbers_in, places_in}
-use Rattle.objects.proofs.EditLemmas.{slice_get_edited_same, slice_get_edited_other}
+use Rattle.objects.specs.{declared.numbers.Places.Places, Edits.edited, Places.{from_either, numbers_from, numbers_in, places_in}}
+use Rattle.objects.proofs.EditLemmas.{slice_get_edited_other, slice_get_edited_same}
 
 -- a number that the table is for has there what was set
 pub set_early :

@@ -1,8 +1,6 @@
 -- How many of a list pass each of two tests, of which one lets fewer through.
-use Rattle.std.proofs.Common.{◌≡◌, ℕ, ◌≤◌, ◌<◌, Bool, true, false, List, [], ◌∷◌, refl, sym, ap, ◌∙◌, arith, cond}
-use Rattle.std.specs.List.{count_by, list_any}
-use Rattle.std.specs.Prelude.{◌||◌}
-use Rattle.std.proofs.lemmas.List.Sums.{sum_by-cons}
+use Rattle.std.{specs.{List.{count_by, list_any}, Prelude.◌||◌}, proofs.Common.{[], ℕ, ◌<◌, ◌∙◌, ◌∷◌, ◌≡◌, ◌≤◌, Bool, List, ap, arith}}
+use Rattle.std.proofs.{Common.{cond, false, refl, sym, true}, lemmas.List.Sums.sum_by-cons}
 
 -- a test that implies another counts no more
 one_no_more : (few many : Bool) → (few ≡ true → many ≡ true) → cond {A = ℕ} few 1 0 ≤ cond {A = ℕ} many 1 0

@@ -1,26 +1,17 @@
 -- What is placed after a change: each object has the entry that it had, but for the one that was changed or added; and the entries by
 -- number are these.
-use Rattle.std.proofs.Common.{◌≡◌, ◌≢◌, ℕ, true, cond, [], map, refl, sym, ap, subst}
-use Rattle.std.proofs.Common.{◌∙◌, ◌⊎◌, inl, inr}
-use Rattle.std.specs.Prelude.{Option, Some, None, is_some, IsSome, option_map, option_and_then}
 use Rattle.std.specs.FinMap as finite
-use Rattle.std.specs.List.{list_any}
+use Rattle.std.{specs.{List.list_any, Prelude.{IsSome, None, Option, Some, is_some, option_and_then, option_map}}, proofs.Common.{[], ℕ}}
+use Rattle.std.proofs.{Common.{◌∙◌, ◌≡◌, ◌≢◌, ◌⊎◌, ap, cond, inl, inr, map, refl, subst, sym, true}, lemmas.Bool.cases_eq}
 use Rattle.std.proofs.lemmas.Option.{same_Some}
-use Rattle.std.proofs.lemmas.Bool.{cases_eq}
+use Rattle.slab.{specs.Slab.Slab, proofs.SlabLemmas.Updates-with_value}
 use Rattle.slab.specs.Slab as slab
-use Rattle.slab.specs.Slab.{Slab}
-use Rattle.slab.proofs.SlabLemmas.{Updates-with_value}
 use Rattle.base.specs.declared.ids.ObjId.{ObjId}
-use Rattle.machine.specs.Machine.{id_cmp, same_id}
-use Rattle.machine.proofs.LookUps.{id_total, id_apart}
-use Rattle.objects.specs.declared.entry.Entry.{Entry}
-use Rattle.objects.specs.declared.numbers.Places.{Places}
-use Rattle.objects.specs.declared.store.Store.TheInside.{Inside}
-use Rattle.objects.specs.Entries.{Entries, entry_of, with_entry}
-use Rattle.objects.specs.Places.{numbers_in, places_in, placed, entries_by_number, IsPlaced, changed_at, changed, with_placed, AddsEntry, RemovesEntry, SameEntries}
-use Rattle.objects.proofs.EntryLemmas.{some-none, entry_of-with_entry}
-use Rattle.objects.proofs.NumberLemmas.{number_listed, unplaced}
-use Rattle.machine.proofs.FiniteLemmas.{by_key, get-tabulate}
+use Rattle.machine.{specs.Machine.{id_cmp, same_id}, proofs.{FiniteLemmas.{by_key, get-tabulate}, LookUps.{id_apart, id_total}}}
+use Rattle.objects.specs.{declared.{entry.Entry.Entry, numbers.Places.Places, store.Store.TheInside.Inside}, Entries.{Entries, entry_of}}
+use Rattle.objects.specs.{Entries.with_entry, Places.{AddsEntry, IsPlaced, RemovesEntry, SameEntries, changed, changed_at}}
+use Rattle.objects.{specs.Places.{entries_by_number, numbers_in, placed, places_in, with_placed}, proofs.EntryLemmas.entry_of-with_entry}
+use Rattle.objects.proofs.{EntryLemmas.some-none, NumberLemmas.{number_listed, unplaced}}
 
 -- no two numbers share a place
 abbrev pub IsApart : (ℕ → Option ℕ) → Type 0

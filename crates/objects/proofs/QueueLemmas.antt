@@ -1,15 +1,11 @@
 -- Links of queues stay links of queues where a thread joins a queue or leaves it, and what the queues then are.
-use Rattle.std.proofs.Common.{◌≡◌, ◌≢◌, ℕ, zero, suc, ◌+◌, ◌<◌, ◌≤◌, ◌⊎◌, inl, inr, [], ◌∷◌, ◌++◌, refl, sym, ap, subst}
-use Rattle.std.proofs.Common.{◌∙◌, arith}
-use Rattle.std.specs.Prelude.{List, Option, Some, None, Contains, slice_get}
-use Rattle.std.specs.Option.{option_or}
-use Rattle.std.proofs.lemmas.Bool.{cases_eq, cases_lt}
+use Rattle.std.{specs.{Option.option_or, Prelude.{Contains, List, None, Option, Some, slice_get}}, proofs.Common.{[], ℕ, ◌++◌, ◌+◌, ◌<◌}}
+use Rattle.std.proofs.{Common.{◌∙◌, ◌∷◌, ◌≡◌, ◌≢◌, ◌≤◌, ◌⊎◌, ap, arith, inl, inr, refl, subst, suc, sym, zero}, lemmas.Bool.cases_eq}
+use Rattle.std.proofs.lemmas.Bool.{cases_lt}
 use Rattle.slab.proofs.SlabLemmas.{Contains-cons, Contains-cons_cases}
 use Rattle.base.specs.declared.ids.ObjId.{ObjId}
-use Rattle.objects.specs.declared.links.Ends.{Ends}
-use Rattle.objects.specs.declared.links.Standing.{Standing}
-use Rattle.objects.specs.Queues.{walk, AreQueues}
-use Rattle.objects.proofs.RankLemmas.{moved, moved_one_each, moved_below, moved_beyond, moved_later, moved_last}
+use Rattle.objects.{specs.{declared.links.{Ends.Ends, Standing.Standing}, Queues.{AreQueues, walk}}, proofs.RankLemmas.{moved, moved_below}}
+use Rattle.objects.proofs.RankLemmas.{moved_beyond, moved_last, moved_later, moved_one_each}
 
 pub cases_id : (a b : ObjId) → (a ≡ b) ⊎ (a ≢ b)
 cases_id a b =

@@ -1,16 +1,10 @@
 -- Links of queues stay links of queues where any thread of one leaves it, and the others stay in order.
-use Rattle.std.proofs.Common.{◌≡◌, ◌≢◌, ℕ, zero, suc, ◌+◌, ◌<◌, ◌≤◌, ◌⊎◌, inl, inr, Bool, true, false, List, ◌∷◌, refl, sym, ap, subst}
-use Rattle.std.proofs.Common.{◌∙◌, arith, cond}
-use Rattle.std.specs.Prelude.{Option, Some, None, Contains, filter, not}
+use Rattle.std.{specs.Prelude.{Contains, None, Option, Some, filter, not}, proofs.Common.{ℕ, ◌+◌, ◌<◌, ◌∙◌, ◌∷◌, ◌≡◌, ◌≢◌, ◌≤◌, ◌⊎◌, Bool}}
+use Rattle.std.proofs.Common.{List, ap, arith, cond, false, inl, inr, refl, subst, suc, sym, true, zero}
 use Rattle.slab.proofs.SlabLemmas.{Contains-cons_cases}
 use Rattle.base.specs.declared.ids.ObjId.{ObjId}
-use Rattle.machine.specs.Machine.{same_id}
-use Rattle.machine.proofs.Ids.{itself, two_ids}
-use Rattle.machine.proofs.LookUps.{one_id}
-use Rattle.objects.specs.declared.links.Ends.{Ends}
-use Rattle.objects.specs.declared.links.Standing.{Standing}
-use Rattle.objects.specs.Links.{end_after}
-use Rattle.objects.specs.Queues.{walk, AreQueues}
+use Rattle.machine.{specs.Machine.same_id, proofs.{Ids.{itself, two_ids}, LookUps.one_id}}
+use Rattle.objects.specs.{declared.links.{Ends.Ends, Standing.Standing}, Links.end_after, Queues.{AreQueues, walk}}
 use Rattle.objects.proofs.QueueLemmas.{cases_id, cases_some, walk_ends, walk_same}
 
 -- the thread t leaves the queue q, and its neighbours come together

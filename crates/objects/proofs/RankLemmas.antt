@@ -1,6 +1,5 @@
 -- The order of numbers after one of those below a bound has been put last among them.
-use Rattle.std.proofs.Common.{◌≡◌, ◌≢◌, ℕ, ◌-◌, ◌<◌, ◌≤◌, cond, arith}
-use Rattle.std.specs.Prelude.{nat_lt, ◌==◌, ◌&&◌}
+use Rattle.std.{specs.Prelude.{◌&&◌, ◌==◌, nat_lt}, proofs.Common.{ℕ, ◌-◌, ◌<◌, ◌≡◌, ◌≢◌, ◌≤◌, arith, cond}}
 use Rattle.std.proofs.lemmas.Bool.Decides.{nat_tests}
 
 -- where x comes to stand when r, which is below n, is put last

@@ -1,43 +1,22 @@
 -- What is true of each state stays true where an object is removed that nothing holds to, and what contracts see of the state after it.
-use Rattle.std.proofs.Common.{◌≡◌, ◌≢◌, ◌≤◌, Bool, true, false, cond, inl, inr, refl, sym, ap, subst, ◌∙◌, arith}
-use Rattle.std.specs.Prelude.{Option, Some, None, IsSome, option_map, option_and_then, slice_get}
 use Rattle.std.specs.FinMap as finite
-use Rattle.base.specs.declared.ids.ObjId.{ObjId}
-use Rattle.base.specs.declared.ids.SlotRef.{SlotRef}
-use Rattle.machine.specs.declared.object.Object.{Object}
-use Rattle.machine.specs.Changes.{first_waiting, without_object}
-use Rattle.machine.specs.Counts.{caps_to}
-use Rattle.machine.specs.Machine.{Machine, same_id, object_of, cap_of}
-use Rattle.machine.specs.Tree.{IsAlone}
-use Rattle.machine.specs.Objects.{slot_count, thread_count}
-use Rattle.machine.proofs.FiniteLemmas.{by_key, cond_here, cond_elsewhere}
-use Rattle.machine.proofs.LookUps.{id_total, id_apart}
-use Rattle.machine.proofs.ObjectGone.{object_of-without_object, queue_of-without_object, words_of-without_object}
-use Rattle.machine.proofs.ObjectGone.{cap_of-without_object, parent_of-without_object, next-without_object, going-without_object}
-use Rattle.machine.proofs.ObjectGone.{caps_to-without_object, without_absent}
-use Rattle.objects.specs.declared.entry.Entry.{Entry}
-use Rattle.objects.specs.declared.links.Ends.{Ends}
-use Rattle.objects.specs.declared.links.Standing.{Standing}
-use Rattle.objects.specs.declared.links.TreeLinks.{TreeLinks}
-use Rattle.objects.specs.declared.slots.Slot.{Slot}
-use Rattle.objects.specs.declared.state.State.TheInside.{Inside}
-use Rattle.objects.specs.Counts.{counts_in, one_less, one_more}
-use Rattle.objects.specs.Entries.{caps_in, entry_of, slot_at}
-use Rattle.objects.specs.Family.{cap_in, parent_in, links_of, links_at, AreKin}
-use Rattle.objects.specs.Links.{ends_of, standing_of, queue_in, AreQueued}
-use Rattle.objects.specs.Pairs.{AreFilledOrGoing}
-use Rattle.objects.specs.Queues.{walk, AreQueues}
-use Rattle.objects.specs.State.{machine_of, IsConsistent, IsCounted, IsSound, IsTallied}
-use Rattle.objects.specs.Waiting.{WaitsNowhere}
-use Rattle.objects.proofs.ConsistentLemmas.{first_waiting-machine_of}
-use Rattle.objects.proofs.CountLemmas.{counts-without_object, less_one_more}
-use Rattle.objects.proofs.EntryLemmas.{some-none}
-use Rattle.objects.proofs.Families.{same_kin}
-use Rattle.objects.proofs.LinkLemmas.{stands_nowhere}
-use Rattle.objects.proofs.PairLemmas.{paired-without_object}
-use Rattle.objects.proofs.QueueLemmas.{cases_id}
+use Rattle.std.{specs.Prelude.{IsSome, None, Option, Some, option_and_then, option_map, slice_get}, proofs.Common.{◌∙◌, ◌≡◌, ◌≢◌, ◌≤◌}}
+use Rattle.std.proofs.Common.{Bool, ap, arith, cond, false, inl, inr, refl, subst, sym, true}
+use Rattle.base.specs.declared.ids.{ObjId.ObjId, SlotRef.SlotRef}
+use Rattle.machine.specs.{declared.object.Object.Object, Changes.{first_waiting, without_object}, Counts.caps_to, Machine.{Machine, cap_of}}
+use Rattle.machine.{specs.{Machine.{object_of, same_id}, Objects.{slot_count, thread_count}, Tree.IsAlone}, proofs.FiniteLemmas.by_key}
+use Rattle.machine.proofs.{FiniteLemmas.{cond_elsewhere, cond_here}, LookUps.{id_apart, id_total}, ObjectGone.cap_of-without_object}
+use Rattle.machine.proofs.ObjectGone.{caps_to-without_object, going-without_object, next-without_object, object_of-without_object}
+use Rattle.machine.proofs.ObjectGone.{parent_of-without_object, queue_of-without_object, without_absent, words_of-without_object}
+use Rattle.objects.specs.declared.{entry.Entry.Entry, links.{Ends.Ends, Standing.Standing, TreeLinks.TreeLinks}, slots.Slot.Slot}
+use Rattle.objects.specs.{declared.state.State.TheInside.Inside, Counts.{counts_in, one_less, one_more}, Entries.{caps_in, entry_of}}
+use Rattle.objects.specs.{Entries.slot_at, Family.{AreKin, cap_in, links_at, links_of, parent_in}, Links.{AreQueued, ends_of, queue_in}}
+use Rattle.objects.specs.{Links.standing_of, Pairs.AreFilledOrGoing, Queues.{AreQueues, walk}, State.{IsConsistent, IsCounted, IsSound}}
+use Rattle.objects.{specs.{State.{IsTallied, machine_of}, Waiting.WaitsNowhere}, proofs.ConsistentLemmas.first_waiting-machine_of}
+use Rattle.objects.proofs.{CountLemmas.{counts-without_object, less_one_more}, EntryLemmas.some-none, Families.same_kin}
+use Rattle.objects.proofs.{LinkLemmas.stands_nowhere, PairLemmas.paired-without_object, QueueLemmas.cases_id, StateLemmas.Tells}
+use Rattle.objects.proofs.StateLemmas.{going-machine_of, next-machine_of, object_at, same_from_tells, tells-machine_of, words_at}
 use Rattle.objects.proofs.TreeState.{parent_is}
-use Rattle.objects.proofs.StateLemmas.{Tells, tells-machine_of, going-machine_of, next-machine_of, same_from_tells, object_at, words_at}
 
 -- the state without an object
 abbrev pub with_removed : Inside → ObjId → Object → Inside

@@ -1,19 +1,11 @@
 -- What the entries tell of their slots after the capability or the links of one slot have changed.
-use Rattle.std.proofs.Common.{◌≡◌, ◌≢◌, ℕ, zero, suc, ◌<◌, List, [], ◌∷◌, length, arith, ◌⊎◌, inl, inr, refl, sym, ap, subst, ◌∙◌}
-use Rattle.std.specs.Prelude.{Option, Some, None, IsSome, option_map, slice_get}
-use Rattle.std.proofs.lemmas.Bool.{false≢true, cases_eq}
-use Rattle.base.specs.declared.ids.SlotRef.{SlotRef}
-use Rattle.base.specs.declared.ids.ObjId.{ObjId}
-use Rattle.objects.specs.declared.entry.Entry.{Entry}
-use Rattle.objects.specs.declared.links.TreeLinks.{TreeLinks}
-use Rattle.objects.specs.declared.slots.Slot.{Slot}
-use Rattle.objects.specs.Entries.{Entries, entry_of, slot_at, change_slot_in}
-use Rattle.objects.specs.Family.{cap_in, links_of, links_at, with_slot, with_links}
-use Rattle.objects.proofs.ChangeLemmas.{part_kept, slot_here, slot_other, bulk}
-use Rattle.objects.proofs.EditLemmas.{length_edited}
-use Rattle.objects.proofs.EntryLemmas.{entry_of-with_entry}
-use Rattle.objects.proofs.Forests.{cases_link}
-use Rattle.objects.proofs.QueueLemmas.{cases_id}
+use Rattle.std.{specs.Prelude.{IsSome, None, Option, Some, option_map, slice_get}, proofs.Common.{[], ℕ, ◌<◌, ◌∙◌, ◌∷◌, ◌≡◌, ◌≢◌, ◌⊎◌}}
+use Rattle.std.proofs.{Common.{List, ap, arith, inl, inr, length, refl, subst, suc, sym, zero}, lemmas.Bool.{cases_eq, false≢true}}
+use Rattle.base.specs.declared.ids.{ObjId.ObjId, SlotRef.SlotRef}
+use Rattle.objects.specs.{declared.{entry.Entry.Entry, links.TreeLinks.TreeLinks, slots.Slot.Slot}, Entries.{Entries, change_slot_in}}
+use Rattle.objects.specs.{Entries.{entry_of, slot_at}, Family.{cap_in, links_at, links_of, with_links, with_slot}}
+use Rattle.objects.proofs.{ChangeLemmas.{bulk, part_kept, slot_here, slot_other}, EditLemmas.length_edited, EntryLemmas.entry_of-with_entry}
+use Rattle.objects.proofs.{Forests.cases_link, QueueLemmas.cases_id}
 
 pub cases_slot : (a b : SlotRef) → (a ≡ b) ⊎ (a ≢ b)
 cases_slot a b =

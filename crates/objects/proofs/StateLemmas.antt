@@ -1,27 +1,16 @@
 -- How a state's entries and the machine that contracts see go together: what the machine answers, and what each change makes of
 -- it.
-use Rattle.std.proofs.Common.{◌≡◌, ℕ, zero, suc, ◌+◌, ◌<◌, ◌≤◌, List, [], ◌∷◌, Bool, true, length, map, refl, sym}
-use Rattle.std.proofs.Common.{ap, subst, ◌∙◌, arith, inl, inr}
-use Rattle.std.specs.Prelude.{Option, Some, None, is_some, IsSome, option_map, option_and_then, slice_get, ◌||◌}
-use Rattle.std.specs.List.{list_any, flat_map, range_with_len}
-use Rattle.std.proofs.lemmas.List.Folds.{list_any-append}
-use Rattle.std.proofs.lemmas.Bool.{false≢true, cases_eq, or_left, or_right, or_cases}
 use Rattle.std.specs.FinMap as finite
-use Rattle.base.specs.declared.ids.ObjId.{ObjId}
-use Rattle.base.specs.declared.ids.SlotRef.{SlotRef}
-use Rattle.machine.specs.declared.object.Object.{Object}
-use Rattle.machine.specs.Machine.{Machine, same_id, same_slot, object_of, queue_of}
-use Rattle.machine.proofs.LookUps.{id_total, id_apart, slot_total, slot_apart}
-use Rattle.machine.specs.Machine.{words_of, cap_of, parent_of}
-use Rattle.machine.proofs.LookUps.{same_machine}
-use Rattle.objects.specs.declared.entry.Entry.{Entry}
-use Rattle.objects.specs.declared.slots.Slot.{Slot}
-use Rattle.objects.specs.declared.state.State.TheInside.{Inside}
-use Rattle.objects.specs.Entries.{Entries, entry_of, slot_at}
-use Rattle.objects.specs.Family.{cap_in, parent_in}
-use Rattle.objects.specs.Links.{queue_in}
-use Rattle.objects.specs.State.{slots_of, machine_from, machine_of}
-use Rattle.machine.proofs.FiniteLemmas.{get-tabulate, ties_itself, same_from_tie}
+use Rattle.std.specs.{List.{flat_map, list_any, range_with_len}, Prelude.{◌||◌, IsSome, None, Option, Some, is_some, option_and_then}}
+use Rattle.std.{specs.Prelude.{option_map, slice_get}, proofs.Common.{[], ℕ, ◌+◌, ◌<◌, ◌∙◌, ◌∷◌, ◌≡◌, ◌≤◌, Bool, List, ap, arith, inl, inr}}
+use Rattle.std.proofs.{Common.{length, map, refl, subst, suc, sym, true, zero}, lemmas.Bool.{cases_eq, false≢true, or_cases, or_left}}
+use Rattle.std.proofs.lemmas.{Bool.or_right, List.Folds.list_any-append}
+use Rattle.base.specs.declared.ids.{ObjId.ObjId, SlotRef.SlotRef}
+use Rattle.machine.specs.{declared.object.Object.Object, Machine.{Machine, cap_of, object_of, parent_of, queue_of, same_id, same_slot}}
+use Rattle.machine.{specs.Machine.words_of, proofs.{FiniteLemmas.{get-tabulate, same_from_tie, ties_itself}, LookUps.{id_apart, id_total}}}
+use Rattle.machine.proofs.LookUps.{same_machine, slot_apart, slot_total}
+use Rattle.objects.specs.{declared.{entry.Entry.Entry, slots.Slot.Slot, state.State.TheInside.Inside}, Entries.{Entries, entry_of, slot_at}}
+use Rattle.objects.specs.{Family.{cap_in, parent_in}, Links.queue_in, State.{machine_from, machine_of, slots_of}}
 
 -- what is read of an entry, if it is there
 abbrev pub object_at : Option Entry → Option Object

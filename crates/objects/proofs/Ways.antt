@@ -1,15 +1,9 @@
 -- The way up from a slot of the derivation tree: each step makes it shorter.
-use Rattle.std.proofs.Common.{◌≡◌, ℕ, zero, suc, ◌+◌, ◌≤◌, ◌<◌, true, false, refl, sym, ap, ◌∙◌, arith, length}
-use Rattle.std.specs.Prelude.{Option, Some, None, nat_lt}
-use Rattle.std.specs.List.{count_by, list_any}
-use Rattle.std.specs.Option.{is_some}
-use Rattle.std.specs.FinMap.{keys, contains_key-keys}
-use Rattle.std.proofs.lemmas.Bool.Decides.{nat_tests}
-use Rattle.std.proofs.lemmas.List.Sums.{count_by-le-length}
+use Rattle.std.specs.{FinMap.{contains_key-keys, keys}, List.{count_by, list_any}, Option.is_some, Prelude.{None, Option, Some, nat_lt}}
+use Rattle.std.proofs.Common.{ℕ, ◌+◌, ◌<◌, ◌∙◌, ◌≡◌, ◌≤◌, ap, arith, false, length, refl, suc, sym, true, zero}
+use Rattle.std.proofs.lemmas.{Bool.Decides.nat_tests, List.Sums.count_by-le-length}
 use Rattle.base.specs.declared.ids.SlotRef.{SlotRef}
-use Rattle.machine.specs.Machine.{Machine, parent_of, same_slot}
-use Rattle.machine.specs.Tree.{IsRanked}
-use Rattle.machine.proofs.LookUps.{one_slot}
+use Rattle.machine.{specs.{Machine.{Machine, parent_of, same_slot}, Tree.IsRanked}, proofs.LookUps.one_slot}
 use Rattle.objects.proofs.Passing.{fewer_pass}
 
 -- a step up, if there is a parent, and what comes after it

@@ -1,10 +1,8 @@
 -- How much a state counts: objects, slots and threads.
-use Rattle.std.specs.Prelude.{ℕ, ◌+◌, ◌-◌, ◌*◌, ◌^◌, ◌≤◌}
+use Rattle.std.specs.Prelude.{ℕ, ◌*◌, ◌+◌, ◌-◌, ◌^◌, ◌≤◌}
 use Rattle.base.specs.declared.limits.TheConstants.{MAX_RADIX}
-use Rattle.machine.specs.declared.object.Object.{Object}
-use Rattle.machine.specs.Counts.{objects_in, slots_in, threads_in}
-use Rattle.machine.specs.Machine.{Machine}
-use Rattle.machine.specs.Objects.{slot_count, thread_count}
+use Rattle.machine.specs.{declared.object.Object.Object, Counts.{objects_in, slots_in, threads_in}, Machine.Machine, Objects.slot_count}
+use Rattle.machine.specs.Objects.{thread_count}
 use Rattle.objects.specs.declared.counts.Counts.{Counts}
 
 -- the counts with one more object

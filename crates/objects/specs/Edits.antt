@@ -1,6 +1,5 @@
 -- What a list is after a change at one place.
-use Rattle.std.specs.Prelude.{ℕ, List, [], ◌∷◌}
-use Rattle.std.proofs.Common.{zero, suc}
+use Rattle.std.{specs.Prelude.{[], ℕ, ◌∷◌, List}, proofs.Common.{suc, zero}}
 
 -- the list with its element at this place changed, and the list itself if it has none there
 abbrev pub edited : {X : Type 0} → (X → X) → List X → ℕ → List X

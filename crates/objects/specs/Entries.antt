@@ -1,18 +1,10 @@
 -- The entry of each object, what it says, and what the entries are after a change to one.
-use Rattle.std.specs.Prelude.{ℕ, ◌+◌, List, [], ◌∷◌, Option, Some, None, option_map, option_and_then, slice_get, slice_set, replicate}
+use Rattle.std.specs.{FinMap.FinMap, Prelude.{[], ℕ, ◌+◌, ◌∷◌, List, None, Option, Some, option_and_then, option_map, replicate, slice_get}}
 use Rattle.std.specs.FinMap as map
-use Rattle.std.specs.FinMap.{FinMap}
-use Rattle.base.specs.declared.ids.ObjId.{ObjId}
-use Rattle.base.specs.declared.ids.SlotRef.{SlotRef}
-use Rattle.machine.specs.declared.object.Object.{Object}
-use Rattle.machine.specs.Machine.{id_cmp}
-use Rattle.machine.specs.Objects.{slot_count, word_count}
-use Rattle.objects.specs.declared.entry.Entry.{Entry}
-use Rattle.objects.specs.declared.links.Ends.{Ends}
-use Rattle.objects.specs.declared.links.Standing.{Standing}
-use Rattle.objects.specs.declared.slots.Slot.{Slot}
-use Rattle.objects.specs.Edits.{edited}
-use Rattle.machine.specs.Finite.{put_some}
+use Rattle.std.specs.Prelude.{slice_set}
+use Rattle.base.specs.declared.ids.{ObjId.ObjId, SlotRef.SlotRef}
+use Rattle.machine.specs.{declared.object.Object.Object, Finite.put_some, Machine.id_cmp, Objects.{slot_count, word_count}}
+use Rattle.objects.specs.{declared.{entry.Entry.Entry, links.{Ends.Ends, Standing.Standing}, slots.Slot.Slot}, Edits.edited}
 
 -- the entries of the objects, by number
 abbrev pub Entries : Type 0

@@ -1,16 +1,11 @@
 -- The derivation tree in the slots of entries: when the links that slots have are those of a forest, and what the entries are after a
 -- slot has come under a parent or has left its own (confine's own).
-use Rattle.std.specs.Prelude.{Option, Some, None, option_and_then}
-use Rattle.base.specs.declared.ids.ObjId.{ObjId}
-use Rattle.base.specs.declared.ids.SlotRef.{SlotRef}
+use Rattle.std.specs.Prelude.{None, Option, Some, option_and_then}
+use Rattle.base.specs.declared.ids.{ObjId.ObjId, SlotRef.SlotRef}
 use Rattle.machine.specs.declared.cap.Cap.{Cap}
-use Rattle.objects.specs.declared.entry.Entry.{Entry}
-use Rattle.objects.specs.declared.links.TreeLinks.{TreeLinks}
-use Rattle.objects.specs.declared.slots.Slot.{Slot}
-use Rattle.objects.specs.declared.slots.SlotChange.{SlotChange}
+use Rattle.objects.specs.declared.{entry.Entry.Entry, links.TreeLinks.TreeLinks, slots.{Slot.Slot, SlotChange.SlotChange}}
 use Rattle.objects.specs.declared.slots.SlotChange.TheVariants as change
-use Rattle.objects.specs.Entries.{Entries, entry_of, slot_at, with_entry, change_slot_in}
-use Rattle.objects.specs.Forest.{Links, IsForest}
+use Rattle.objects.specs.{Entries.{Entries, change_slot_in, entry_of, slot_at, with_entry}, Forest.{IsForest, Links}}
 
 -- what a slot holds, if it is there
 abbrev pub cap_in : Option Slot → Option Cap

@@ -1,6 +1,6 @@
 -- The derivation tree by links: each slot has its parent, its first child, and the siblings after and before it; when such links are
 -- those of a forest, and what they are after a root has come under a parent, and after a slot has left its parent (confine's own).
-use Rattle.std.specs.Prelude.{◌≡◌, ◌≢◌, ℕ, ◌<◌, Option, Some, None}
+use Rattle.std.specs.Prelude.{ℕ, ◌<◌, ◌≡◌, ◌≢◌, None, Option, Some}
 
 -- the four links of each slot
 pub record Links (K : Type 0) : Type 0 where

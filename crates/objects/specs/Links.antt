@@ -1,12 +1,8 @@
 -- The links that the entries of objects have, and what the entries are after a thread has come to wait or has left (confine's own).
-use Rattle.std.specs.Prelude.{ℕ, List, Option, Some, None, option_map}
-use Rattle.std.specs.Option.{option_or}
+use Rattle.std.specs.{Option.option_or, Prelude.{ℕ, List, None, Option, Some, option_map}}
 use Rattle.base.specs.declared.ids.ObjId.{ObjId}
-use Rattle.objects.specs.declared.entry.Entry.{Entry}
-use Rattle.objects.specs.declared.links.Ends.{Ends}
-use Rattle.objects.specs.declared.links.Standing.{Standing}
-use Rattle.objects.specs.Queues.{walk, AreQueues}
-use Rattle.objects.specs.Entries.{Entries, entry_of, with_entry, set_ends_in, set_standing_in}
+use Rattle.objects.specs.{declared.{entry.Entry.Entry, links.{Ends.Ends, Standing.Standing}}, Entries.{Entries, entry_of, set_ends_in}}
+use Rattle.objects.specs.{Entries.{set_standing_in, with_entry}, Queues.{AreQueues, walk}}
 
 -- the ends of the queue at an object; nobody waits at one that is absent
 abbrev pub ends_of : Option Entry → Ends

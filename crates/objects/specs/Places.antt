@@ -1,15 +1,12 @@
 -- Where the entry of an object is kept: a place for each number in use, and the entries at the places.
-use Rattle.std.specs.Prelude.{◌≡◌, ◌≢◌, ℕ, ◌≤◌, nat_eq, map, List, [], ◌∷◌, ◌++◌, Option, Some, None, IsSome, option_and_then, slice_get}
-use Rattle.std.proofs.Common.{suc}
 use Rattle.std.specs.HashMap as hash
-use Rattle.slab.specs.Slab as slab
+use Rattle.std.specs.Prelude.{[], ℕ, ◌++◌, ◌∷◌, ◌≡◌, ◌≢◌, ◌≤◌, IsSome, List, None, Option, Some, map, nat_eq, option_and_then, slice_get}
+use Rattle.std.proofs.Common.{suc}
 use Rattle.slab.specs.Slab.{Slab}
+use Rattle.slab.specs.Slab as slab
 use Rattle.base.specs.declared.ids.ObjId.{ObjId}
-use Rattle.objects.specs.declared.entry.Entry.{Entry}
-use Rattle.objects.specs.declared.numbers.Places.{Places}
-use Rattle.objects.specs.declared.store.Store.TheInside.{Inside}
-use Rattle.objects.specs.Entries.{Entries}
 use Rattle.machine.specs.Finite.{tabulate}
+use Rattle.objects.specs.{declared.{entry.Entry.Entry, numbers.Places.Places, store.Store.TheInside.Inside}, Entries.Entries}
 
 -- what a table has of a number, and what a hash map has where the table is not for that number
 abbrev pub from_either : Option (Option ℕ) → Option ℕ → Option ℕ

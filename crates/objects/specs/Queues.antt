@@ -1,10 +1,8 @@
 -- Queues of threads as links: the ends of each queue, and where each thread stands; what the queue is, and what is true of the links
 -- (confine's own).
-use Rattle.std.specs.Prelude.{◌≡◌, ℕ, ◌<◌, ◌≤◌, List, [], ◌∷◌, Option, Some, None}
-use Rattle.std.proofs.Common.{zero, suc}
+use Rattle.std.{specs.Prelude.{[], ℕ, ◌<◌, ◌∷◌, ◌≡◌, ◌≤◌, List, None, Option, Some}, proofs.Common.{suc, zero}}
 use Rattle.base.specs.declared.ids.ObjId.{ObjId}
-use Rattle.objects.specs.declared.links.Ends.{Ends}
-use Rattle.objects.specs.declared.links.Standing.{Standing}
+use Rattle.objects.specs.declared.links.{Ends.Ends, Standing.Standing}
 
 -- from this thread on each next one, but no more than so many
 abbrev pub walk : (ObjId → Standing) → ℕ → Option ObjId → List ObjId

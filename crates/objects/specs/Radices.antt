@@ -2,8 +2,7 @@
 -- confine's own).
 use Rattle.std.specs.Prelude.{◌<◌, ◌≤◌}
 use Rattle.base.specs.declared.limits.TheConstants.{MAX_RADIX}
-use Rattle.machine.specs.declared.object.Object.{Object}
-use Rattle.machine.specs.declared.object.Object.TheVariants as o
+use Rattle.machine.specs.declared.object.Object.{Object, Object as o}
 
 -- a CNode takes 1 to 12 bits
 abbrev pub HasRadix : Object → Type 0

@@ -1,22 +1,12 @@
 -- What contracts see of a `State`, and what is true of each.
-use Rattle.std.specs.Prelude.{◌≡◌, ℕ, ◌<◌, ◌≤◌, List, [], map, length, vec_capacity, Option, Some, None, IsSome, option_map}
-use Rattle.std.specs.List.{flat_map, range_with_len}
 use Rattle.std.specs.FinMap as finite
-use Rattle.base.specs.declared.ids.ObjId.{ObjId}
-use Rattle.base.specs.declared.ids.SlotRef.{SlotRef}
-use Rattle.base.specs.declared.limits.TheConstants.{OBJECT_NUMBERS}
-use Rattle.machine.specs.Counts.{caps_to}
-use Rattle.machine.specs.Machine.{Machine}
-use Rattle.machine.specs.Objects.{slot_count}
-use Rattle.objects.specs.declared.entry.Entry.{Entry}
-use Rattle.objects.specs.declared.state.State.TheInside.{Inside}
-use Rattle.objects.specs.Counts.{counts_in, AreOfNumbers}
-use Rattle.objects.specs.Entries.{caps_in, entry_of, slot_at}
-use Rattle.objects.specs.Family.{cap_in, parent_in, AreKin}
-use Rattle.machine.specs.Finite.{tabulate}
-use Rattle.objects.specs.Links.{queue_in, AreQueued}
-use Rattle.objects.specs.Pairs.{AreFilledOrGoing}
-use Rattle.objects.specs.Radices.{HasRadix}
+use Rattle.std.specs.{List.{flat_map, range_with_len}, Prelude.{[], ℕ, ◌<◌, ◌≡◌, ◌≤◌, IsSome, List, None, Option, Some, length, map}}
+use Rattle.std.specs.Prelude.{option_map, vec_capacity}
+use Rattle.base.specs.declared.{ids.{ObjId.ObjId, SlotRef.SlotRef}, limits.TheConstants.OBJECT_NUMBERS}
+use Rattle.machine.specs.{Counts.caps_to, Finite.tabulate, Machine.Machine, Objects.slot_count}
+use Rattle.objects.specs.{declared.{entry.Entry.Entry, state.State.TheInside.Inside}, Counts.{AreOfNumbers, counts_in}, Entries.caps_in}
+use Rattle.objects.specs.{Entries.{entry_of, slot_at}, Family.{AreKin, cap_in, parent_in}, Links.{AreQueued, queue_in}}
+use Rattle.objects.specs.{Pairs.AreFilledOrGoing, Radices.HasRadix}
 
 -- the slots of an object
 abbrev pub slots_of : ObjId → Option Entry → List SlotRef

@@ -1,7 +1,5 @@
-ghost use Rattle.std.specs.Prelude.{◌≡◌, map, IfOk, OnOk};
-ghost use Rattle.std.specs.List.{AllByRecursion};
-ghost use Rattle.objects.specs.Entries.{new_entry};
-ghost use Rattle.objects.specs.Radices.{HasRadix};
+ghost use Rattle.std.specs.{List.AllByRecursion, Prelude.{◌≡◌, IfOk, OnOk, map}};
+ghost use Rattle.objects.specs.{Entries.new_entry, Radices.HasRadix};
 
 use crate::links::{Ends, Standing};
 use crate::slots::Slots;

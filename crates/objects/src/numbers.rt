@@ -1,8 +1,7 @@
 //! From the number of an object to the place of its entry.
-ghost use Rattle.std.specs.Prelude.{◌≡◌, ◌≢◌, ◌+◌, ◌≤◌, ℕ, nat_eq, [], None, Some, replicate, slice_get, IfOk, IsTrue, OnOk};
 ghost use Rattle.std.specs.HashMap as hash;
-ghost use Rattle.objects.specs.Edits.{edited};
-ghost use Rattle.objects.specs.Places.{places_in};
+ghost use Rattle.std.specs.Prelude.{[], ℕ, ◌+◌, ◌≡◌, ◌≢◌, ◌≤◌, IfOk, IsTrue, None, OnOk, Some, nat_eq, replicate, slice_get};
+ghost use Rattle.objects.specs.{Edits.edited, Places.places_in};
 
 use base::MAX_OBJECTS;
 use std::alloc::{AllocError, Global};
@@ -16,7 +15,7 @@ pub struct Table {
 }
 
 impl Model for Table {
-    ghost use Rattle.std.specs.Prelude.{List, Option, ℕ};
+    ghost use Rattle.std.specs.Prelude.{ℕ, List, Option};
 
     ghost Value = { List (Option ℕ) };
 

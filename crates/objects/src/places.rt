@@ -1,9 +1,7 @@
 //! Where the entry of an object is kept: from numbers to places, and the entries at these.
-ghost use Rattle.std.specs.Prelude.{◌≡◌, ◌+◌, ℕ, option_copied, OnOk};
-ghost use Rattle.objects.specs.Entries.{change_slot_in, replace_in, set_ends_in, set_standing_in, set_word_in};
-ghost use Rattle.objects.specs.Entries.{set_caps_in};
-ghost use Rattle.objects.specs.Family.{after};
-ghost use Rattle.objects.specs.Places.{places_in, placed, with_placed, AddsEntry, RemovesEntry, SameEntries, HasRoom};
+ghost use Rattle.std.specs.Prelude.{ℕ, ◌+◌, ◌≡◌, OnOk, option_copied};
+ghost use Rattle.objects.specs.{Entries.{change_slot_in, replace_in, set_caps_in, set_ends_in, set_standing_in, set_word_in}, Family.after};
+ghost use Rattle.objects.specs.Places.{AddsEntry, HasRoom, RemovesEntry, SameEntries, placed, places_in, with_placed};
 
 use crate::entry::Entry;
 use crate::links::{Ends, Standing};

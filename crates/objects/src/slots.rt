@@ -1,7 +1,5 @@
-ghost use Rattle.std.specs.Prelude.{◌≡◌, replicate, slice_get, option_copied, IfOk};
-ghost use Rattle.objects.specs.Edits.{edited};
-ghost use Rattle.objects.specs.Entries.{empty_slot};
-ghost use Rattle.objects.specs.Family.{after};
+ghost use Rattle.std.specs.Prelude.{◌≡◌, IfOk, option_copied, replicate, slice_get};
+ghost use Rattle.objects.specs.{Edits.edited, Entries.empty_slot, Family.after};
 
 use crate::links::TreeLinks;
 use base::SlotRef;

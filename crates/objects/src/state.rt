@@ -22,17 +22,17 @@ pub struct State {
 }
 
 impl Model for State {
-    ghost use Rattle.machine.specs.Machine.{Machine, machine_code};
     ghost use Rattle.base.specs.contracts.ids.ObjId as id;
     ghost use Rattle.base.specs.contracts.ids.SlotRef as slot;
-    ghost use Rattle.machine.specs.contracts.object.Object as object;
+    ghost use Rattle.machine.specs.Machine.{Machine, machine_code};
     ghost use Rattle.machine.specs.contracts.cap.Cap as capability;
+    ghost use Rattle.machine.specs.contracts.object.Object as object;
 
     ghost Value = { Machine };
 
     ghost coded = { machine_code id.the_row.coded slot.the_row.coded object.the_row.coded capability.the_row.coded };
 
-    ghost use Rattle.objects.specs.State.{machine_of, IsSound};
+    ghost use Rattle.objects.specs.State.{IsSound, machine_of};
 
     ghost view = { machine_of };
 
@@ -40,25 +40,18 @@ impl Model for State {
 }
 
 impl State {
-    ghost use Rattle.base.specs.declared.ids.ObjId.{ObjId as Id};
-    ghost use Rattle.base.specs.declared.ids.SlotRef.{SlotRef as Slot};
-    ghost use Rattle.base.specs.declared.limits.TheConstants.{MAX_RADIX, OBJECT_NUMBERS};
-    ghost use Rattle.machine.specs.declared.cap.Cap.{Cap};
-    ghost use Rattle.machine.specs.declared.object.CNode.{CNode};
+    ghost use Rattle.std.specs.{List.fold, Prelude.{◌*◌, ◌+◌, ◌<◌, ◌^◌, ◌≡◌, ◌≢◌, ◌≤◌, IfNone, IfOk, IfSome, IsSome, IsTrue, None, OnErr}};
+    ghost use Rattle.std.specs.Prelude.{OnOk, Some, length, option_and_then, option_copied, slice_get};
+    ghost use Rattle.base.specs.declared.{ids.{ObjId.ObjId as Id, SlotRef.SlotRef as Slot}, limits.TheConstants.MAX_RADIX};
+    ghost use Rattle.base.specs.declared.limits.TheConstants.{OBJECT_NUMBERS};
+    ghost use Rattle.machine.specs.{declared.{cap.Cap.Cap, object.CNode.CNode}, Changes.{first_waiting, with_context, with_going}};
     ghost use Rattle.machine.specs.declared.object.Object.TheVariants as o;
-    ghost use Rattle.std.specs.Prelude.{◌≡◌, ◌≢◌, ◌+◌, ◌*◌, ◌^◌, ◌<◌, ◌≤◌, length, IsTrue, IfOk, OnErr, OnOk, option_copied};
-    ghost use Rattle.std.specs.Prelude.{Some, None, IsSome, IfSome, IfNone, option_and_then, slice_get};
-    ghost use Rattle.std.specs.List.{fold};
-    ghost use Rattle.machine.specs.Machine.{empty_machine, object_of, cap_of, parent_of, has_slot, with_new, with_cap};
-    ghost use Rattle.machine.specs.Machine.{with_parent, with_object, without_cap, without_parent, words_of};
-    ghost use Rattle.machine.specs.Tree.{IsAlone, IsRanked};
-    ghost use Rattle.machine.specs.WellFormed.{Descends};
-    ghost use Rattle.machine.specs.Counts.{objects_in, slots_in, threads_in, caps_to};
-    ghost use Rattle.machine.specs.Objects.{slot_count, thread_count};
-    ghost use Rattle.objects.specs.Pairs.{AreFilled, AreFilledOrGoing, IsFilledOrGoing, MayEmpty};
-    ghost use Rattle.objects.specs.Waiting.{WaitsNowhere, WaitsThere};
-    ghost use Rattle.machine.specs.Changes.{first_waiting, with_pending, with_tcb, with_reply, with_context, with_waiting, without_first};
-    ghost use Rattle.machine.specs.Changes.{with_going, with_none_going, with_watermark, with_word, without_object, without_waiting};
+    ghost use Rattle.machine.specs.Changes.{with_none_going, with_pending, with_reply, with_tcb, with_waiting, with_watermark, with_word};
+    ghost use Rattle.machine.specs.{Changes.{without_first, without_object, without_waiting}, Counts.{caps_to, objects_in, slots_in}};
+    ghost use Rattle.machine.specs.{Counts.threads_in, Machine.{cap_of, empty_machine, has_slot, object_of, parent_of, with_cap, with_new}};
+    ghost use Rattle.machine.specs.{Machine.{with_object, with_parent, without_cap, without_parent, words_of}, Objects.slot_count};
+    ghost use Rattle.machine.specs.{Objects.thread_count, Tree.{IsAlone, IsRanked}, WellFormed.Descends};
+    ghost use Rattle.objects.specs.{Pairs.{AreFilled, AreFilledOrGoing, IsFilledOrGoing, MayEmpty}, Waiting.{WaitsNowhere, WaitsThere}};
 
     /// A state with no objects, which takes its memory from the allocator.
     pub fn new(alloc: Global) -> State

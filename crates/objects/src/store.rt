@@ -1,7 +1,6 @@
 //! The entries of the objects, found by number.
-ghost use Rattle.std.specs.Prelude.{◌≡◌, None, Some, option_copied, option_map, option_and_then, OnOk, OnErr};
-ghost use Rattle.objects.specs.Family.{head_of};
-ghost use Rattle.objects.specs.Links.{end_after};
+ghost use Rattle.std.specs.Prelude.{◌≡◌, None, OnErr, OnOk, Some, option_and_then, option_copied, option_map};
+ghost use Rattle.objects.specs.{Family.head_of, Links.end_after};
 
 use crate::entry::{Entry, new_entries};
 use crate::links::{Ends, Standing, TreeLinks};
@@ -24,8 +23,8 @@ pub struct Store {
 }
 
 impl Model for Store {
-    ghost use Rattle.std.specs.FinMap as finite;
     ghost use Rattle.std.specs.FinMap.{FinMap};
+    ghost use Rattle.std.specs.FinMap as finite;
     ghost use Rattle.base.specs.declared.ids.ObjId.{ObjId as Id};
     ghost use Rattle.base.specs.contracts.ids.ObjId as id;
     ghost use Rattle.machine.specs.Machine.{id_cmp};
@@ -36,7 +35,7 @@ impl Model for Store {
 
     ghost coded = { finite.code id.the_row.coded item.the_row.coded };
 
-    ghost use Rattle.objects.specs.Places.{entries_by_number, IsPlaced};
+    ghost use Rattle.objects.specs.Places.{IsPlaced, entries_by_number};
 
     ghost view = { entries_by_number };
 
@@ -45,15 +44,12 @@ impl Model for Store {
 
 impl Store {
     ghost use Rattle.std.specs.FinMap as finite;
-    ghost use Rattle.objects.specs.Entries.{entry_of, slot_at, with_entry, replace_in};
-    ghost use Rattle.objects.specs.Entries.{new_entry, with_more, set_ends_in, set_standing_in, set_word_in, set_caps_in};
-    ghost use Rattle.objects.specs.Entries.{caps_in};
-    ghost use Rattle.objects.specs.Family.{after, cap_in, parent_in, links_at, with_slot, with_links, attached, leaving, detached};
-    ghost use Rattle.objects.specs.Links.{standing_of, with_standing, pushed, quitted};
-    ghost use Rattle.objects.specs.Radices.{HasRadix};
+    ghost use Rattle.std.specs.{List.AllByRecursion, Prelude.{◌+◌, ◌≤◌, length, map, slice_get}};
     ghost use Rattle.base.specs.declared.limits.TheConstants.{OBJECT_NUMBERS};
-    ghost use Rattle.std.specs.Prelude.{◌+◌, ◌≤◌, length, map, slice_get};
-    ghost use Rattle.std.specs.List.{AllByRecursion};
+    ghost use Rattle.objects.specs.Entries.{caps_in, entry_of, new_entry, replace_in, set_caps_in, set_ends_in, set_standing_in};
+    ghost use Rattle.objects.specs.{Entries.{set_word_in, slot_at, with_entry, with_more}, Family.{after, attached, cap_in, detached}};
+    ghost use Rattle.objects.specs.{Family.{leaving, links_at, parent_in, with_links, with_slot}, Links.{pushed, quitted, standing_of}};
+    ghost use Rattle.objects.specs.{Links.with_standing, Radices.HasRadix};
 
     /// No entries.
     pub fn new(alloc: Global) -> Store

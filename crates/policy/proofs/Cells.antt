@@ -1,20 +1,11 @@
 -- The first place of a rule within the labels that are told for each kind, and within the labels of one kind.
-use Rattle.std.proofs.Common.{◌≡◌, ℕ, ◌<◌, Bool, true, false, List, [], ◌∷◌, Option, Some, None, IfNone, IfSome, inl, inr, sym, ap, ◌∙◌, subst, arith}
-use Rattle.std.specs.Prelude.{◌↔◌}
-use Rattle.std.specs.Option.{option_map}
+use Rattle.std.{specs.{Option.option_map, Ordering.is_lt, Prelude.◌↔◌}, proofs.Common.{[], ℕ, ◌<◌, ◌∙◌, ◌∷◌, ◌≡◌, Bool, IfNone, IfSome}}
+use Rattle.std.proofs.Common.{List, None, Option, Some, ap, arith, false, inl, inr, subst, sym, true}
+use Rattle.base.specs.{declared.{kind.Kind.Kind, labels.Labels.Labels}, Kinds.kind_number, Labels.is_in}
+use Rattle.policy.specs.{declared.broken.Broken.Broken, Broken.{IsBrokenAt, broken_place}, Domain.EdgeTest, Places.ComesBefore}
+use Rattle.policy.{specs.Search.{FindsBroken, FindsCell, IsLeastIn, IsNobody}, proofs.{KindNumbers.same_kind, Places.{IsMade, decided}}}
+use Rattle.policy.proofs.Places.{least_made, none_made}
 use mathlib.Core.Bool.{false≢true}
-use Rattle.std.specs.Ordering.{is_lt}
-use Rattle.base.specs.declared.kind.Kind.{Kind}
-use Rattle.base.specs.declared.labels.Labels.{Labels}
-use Rattle.base.specs.Kinds.{kind_number}
-use Rattle.base.specs.Labels.{is_in}
-use Rattle.policy.specs.declared.broken.Broken.{Broken}
-use Rattle.policy.specs.Broken.{IsBrokenAt, broken_place}
-use Rattle.policy.specs.Domain.{EdgeTest}
-use Rattle.policy.specs.Places.{ComesBefore}
-use Rattle.policy.specs.Search.{FindsBroken, FindsCell, IsNobody, IsLeastIn}
-use Rattle.policy.proofs.KindNumbers.{same_kind}
-use Rattle.policy.proofs.Places.{IsMade, none_made, least_made, decided}
 
 -- what places add where they name a kind and a label, or a label after a kind that is always the same
 

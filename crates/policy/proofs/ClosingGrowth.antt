@@ -1,24 +1,13 @@
 -- Policies that grow: steps of growth make one, and fewer edges are absent after each that adds any.
-use Rattle.std.proofs.Common.{◌≡◌, ℕ, ◌+◌, ◌≤◌, ◌<◌, Bool, true, false, ◌||◌, cond, List, [], ◌∷◌, ◌++◌, inl, inr, refl, sym, ap, ◌∙◌, subst, arith}
-use mathlib.Core.Bool.{false≢true}
-use Rattle.std.specs.List.{list_any}
-use Rattle.std.proofs.Math.Bool.{or-false, or_comm}
-use Rattle.std.proofs.lemmas.Bool.{or_cases}
+use Rattle.std.{specs.List.list_any, proofs.Common.{[], ℕ, ◌++◌, ◌+◌, ◌<◌, ◌||◌, ◌∙◌, ◌∷◌, ◌≡◌, ◌≤◌, Bool, List, ap, arith, cond, false}}
+use Rattle.std.proofs.{Common.{inl, inr, refl, subst, sym, true}, Math.Bool.{or-false, or_comm}, lemmas.Bool.or_cases}
 use Rattle.std.proofs.lemmas.List.Folds.{list_any-append}
-use Rattle.base.specs.declared.edge.Edge.{Edge}
-use Rattle.base.specs.declared.kind.Kind.{Kind}
+use Rattle.base.specs.{declared.{edge.Edge.Edge, kind.Kind.Kind, labels.Labels.Labels}, Labels.is_in}
 use Rattle.base.specs.declared.label.TheConstants.Label as Label
-use Rattle.base.specs.declared.labels.Labels.{Labels}
-use Rattle.base.specs.Labels.{is_in}
-use Rattle.policy.specs.Closed.{IsClosed}
-use Rattle.policy.specs.Closing.{IsLeastClosed, IsWithin}
-use Rattle.policy.specs.Settling.{Grows, IsMissing, Joins}
-use Rattle.policy.specs.Domain.{EdgeTest}
-use Rattle.policy.specs.Policy.{allows, is_edge, JoinsLabels}
-use Rattle.policy.specs.Rows.{all_edges}
-use Rattle.policy.proofs.ClosingRules.{has_asked}
-use Rattle.policy.proofs.KindNumbers.{same_kind}
-use Rattle.policy.proofs.RowEdges.{same_parts, possible}
+use Rattle.policy.specs.{Closed.IsClosed, Closing.{IsLeastClosed, IsWithin}, Domain.EdgeTest, Policy.{JoinsLabels, allows, is_edge}}
+use Rattle.policy.{specs.{Rows.all_edges, Settling.{Grows, IsMissing, Joins}}, proofs.{ClosingRules.has_asked, KindNumbers.same_kind}}
+use Rattle.policy.proofs.RowEdges.{possible, same_parts}
+use mathlib.Core.Bool.{false≢true}
 
 absent_before : (a b : Bool) → (a ≡ true → b ≡ true) → b ≡ false → a ≡ false
 absent_before false b forth is = refl

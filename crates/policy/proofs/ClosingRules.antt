@@ -1,11 +1,9 @@
 -- What the rules ask for: every closed policy has it, and a policy that has all of it is closed.
-use Rattle.std.proofs.Common.{◌≡◌, ℕ, ◌<◌, Bool, true, false, inl, inr, refl, sym, ◌∙◌}
-use Rattle.base.specs.declared.kind.Kind.{Kind}
-use Rattle.base.specs.declared.kind.Kind.TheVariants.{Space, Control, Receive, Grant, Call, Reply, Context, Derive, Runs, Holds}
-use Rattle.policy.specs.Closed.{ComesToDerive, ComesToHold, IsClosed, MayBeGranted, MayBeLent, granted, derived, server, caller}
-use Rattle.policy.specs.Closing.{IsWithin}
-use Rattle.policy.specs.Settling.{Shares, of_its_domain, of_their_domain, by_grant, IsGiven, shared, controlled, IsAskedFor, gives, derives, comes, runs, holds, lends}
-use Rattle.policy.specs.Domain.{EdgeTest, IsInDomain}
+use Rattle.std.proofs.Common.{ℕ, ◌<◌, ◌∙◌, ◌≡◌, Bool, false, inl, inr, refl, sym, true}
+use Rattle.base.specs.declared.kind.Kind.{Kind, TheVariants.{Call, Context, Control, Derive, Grant, Holds, Receive, Reply, Runs, Space}}
+use Rattle.policy.specs.Closed.{ComesToDerive, ComesToHold, IsClosed, MayBeGranted, MayBeLent, caller, derived, granted, server}
+use Rattle.policy.specs.{Closing.IsWithin, Domain.{EdgeTest, IsInDomain}, Settling.{IsAskedFor, IsGiven, Shares, by_grant, comes}}
+use Rattle.policy.specs.Settling.{controlled, derives, gives, holds, lends, of_its_domain, of_their_domain, runs, shared}
 
 -- what is asked for by the edges of one policy, a closed policy has that has these edges
 module _ (one other : EdgeTest) (within : IsWithin one other) (closed : IsClosed other) where

@@ -1,20 +1,14 @@
 -- The sets of labels to which edges are missing, as closing puts them together.
-use Rattle.std.proofs.Common.{◌≡◌, ℕ, ◌+◌, ◌<◌, ◌==◌, Bool, true, false, Some, slice_get, inl, inr, refl, sym, ◌∙◌, subst, arith}
-use mathlib.Core.Bool.{false≢true}
-use Rattle.std.proofs.lemmas.Bool.{cases_order, or_cases, or_left, or_right, eqb-true, eq-eqb}
-use Rattle.base.specs.declared.kind.Kind.{Kind}
-use Rattle.base.specs.declared.kind.Kind.TheVariants as kinds
-use Rattle.base.specs.declared.kind.Kind.TheVariants.{Control, Receive, Grant, Context, Derive, Runs}
-use Rattle.base.specs.declared.labels.Labels.{Labels}
-use Rattle.base.specs.Kinds.{kind_number, is_structural}
-use Rattle.base.specs.Labels.{is_in}
-use Rattle.policy.specs.Broken.{DomainLacks, DeriveLacks, ReplyLacks, LentLacks}
-use Rattle.policy.specs.Closed.{ControlGives}
-use Rattle.policy.specs.Settling.{Shares, of_its_domain, of_their_domain, by_grant, IsGiven, shared, controlled, IsAskedFor, gives, derives, comes, runs, holds, lends, IsMissing, IsSettled}
-use Rattle.policy.specs.Domain.{EdgeTest, IsInDomain}
-use Rattle.policy.proofs.KindNumbers.{all_kinds, number_stands, same_kind}
-use Rattle.policy.proofs.RuleSets.{Holds, IsDomainOf, IsDifference, IsReached, IsReaching, IsUnion, back, out}
+use Rattle.std.proofs.Common.{ℕ, ◌+◌, ◌<◌, ◌==◌, ◌∙◌, ◌≡◌, Bool, Some, arith, false, inl, inr, refl, slice_get, subst, sym, true}
+use Rattle.std.proofs.lemmas.Bool.{cases_order, eq-eqb, eqb-true, or_cases, or_left, or_right}
+use Rattle.base.specs.declared.kind.Kind.{Kind, Kind as kinds, TheVariants.{Context, Control, Derive, Grant, Receive, Runs}}
+use Rattle.base.specs.{declared.labels.Labels.Labels, Kinds.{is_structural, kind_number}, Labels.is_in}
+use Rattle.policy.specs.{Broken.{DeriveLacks, DomainLacks, LentLacks, ReplyLacks}, Closed.ControlGives, Domain.{EdgeTest, IsInDomain}}
+use Rattle.policy.specs.Settling.{IsAskedFor, IsGiven, IsMissing, IsSettled, Shares, by_grant, comes, controlled, derives, gives, holds}
+use Rattle.policy.{specs.Settling.{lends, of_its_domain, of_their_domain, runs, shared}, proofs.KindNumbers.{all_kinds, number_stands}}
+use Rattle.policy.proofs.{KindNumbers.same_kind, RuleSets.{Holds, IsDifference, IsDomainOf, IsReached, IsReaching, IsUnion, back, out}}
 use Rattle.policy.proofs.Stepping.{IsRow, only_kind, source_by, target_by}
+use mathlib.Core.Bool.{false≢true}
 
 -- who shares with a label
 pub givers_told :

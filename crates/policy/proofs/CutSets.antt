@@ -1,19 +1,11 @@
 -- Cut authority as sets of labels, each of which is found by steps along edges.
-use Rattle.std.proofs.Common.{◌≡◌, ℕ, ◌↔◌, Bool, true, not, ◌||◌, ◌==◌, ◌⊎◌, [], ◌∷◌, refl, sym, ap, ◌∙◌, inl, inr}
-use Rattle.std.specs.List.{list_any}
-use Rattle.std.proofs.lemmas.Bool.{or_cases, or_left, or_right, eq-eqb, eqb-true, not-true}
-use Rattle.base.specs.declared.kind.Kind.{Kind}
-use Rattle.base.specs.declared.kind.Kind.TheVariants.{Control, Space, Derive}
-use Rattle.base.specs.declared.labels.Labels.{Labels}
-use Rattle.base.specs.Kinds.{is_structural}
+use Rattle.std.{specs.List.list_any, proofs.Common.{[], ℕ, ◌==◌, ◌||◌, ◌↔◌, ◌∙◌, ◌∷◌, ◌≡◌, ◌⊎◌, Bool, ap, inl, inr, not, refl, sym, true}}
+use Rattle.std.proofs.lemmas.Bool.{eq-eqb, eqb-true, not-true, or_cases, or_left, or_right}
+use Rattle.base.specs.{declared.{kind.Kind.{Kind, TheVariants.{Control, Derive, Space}}, labels.Labels.Labels}, Kinds.is_structural}
 use Rattle.base.specs.Labels.{is_in}
-use Rattle.policy.specs.declared.cut.TheConstants.{HOLDING, LINKS}
-use Rattle.policy.specs.Domain.{EdgeTest}
-use Rattle.policy.specs.Cut.{IsBase, IsCut, IsHolding, IsNear, is_link}
-use Rattle.policy.specs.Cut.IsNear.{stays, along, against}
-use Rattle.policy.specs.Steps.{IsNearSome, IsTarget, IsSource}
-use Rattle.policy.proofs.KindNumbers.{each_kind, is_kind, same_kind}
-use Rattle.policy.proofs.Stepping.{chosen, found_kind, of_kind, only_kind, target_by}
+use Rattle.policy.specs.{declared.cut.TheConstants.{HOLDING, LINKS}, Cut.{IsBase, IsCut, IsHolding, IsNear, is_link, IsNear.against}}
+use Rattle.policy.{specs.{Cut.IsNear.{along, stays}, Domain.EdgeTest, Steps.{IsNearSome, IsSource, IsTarget}}, proofs.KindNumbers.each_kind}
+use Rattle.policy.proofs.{KindNumbers.{is_kind, same_kind}, Stepping.{chosen, found_kind, of_kind, only_kind, target_by}}
 
 -- the labels that a label of a set is near to
 

@@ -1,18 +1,11 @@
 -- Full authority as a union of sets of labels, each of which is found by steps along edges.
-use Rattle.std.proofs.Common.{◌≡◌, ℕ, ◌↔◌, Bool, true, not, ◌||◌, ◌==◌, [], ◌∷◌, inl, inr, refl, sym, ◌∙◌}
-use Rattle.std.specs.List.{list_any}
-use Rattle.std.proofs.lemmas.Bool.{or_cases, or_left, or_right, eq-eqb, eqb-true}
-use Rattle.base.specs.declared.kind.Kind.{Kind}
-use Rattle.base.specs.declared.kind.Kind.TheVariants.{Control, Send, Receive, Grant, Notify, Await, Reply, Holds}
-use Rattle.base.specs.declared.labels.Labels.{Labels}
-use Rattle.base.specs.Labels.{is_in}
-use Rattle.policy.specs.declared.full.TheConstants.{MODIFYING}
-use Rattle.policy.specs.Domain.{EdgeTest}
-use Rattle.policy.specs.Full.{IsFull, is_modifying}
-use Rattle.policy.specs.Full.IsFull.{own, modifies, sends, receives, notifies, links, grants, replies}
-use Rattle.policy.specs.Steps.{is_joined, IsTarget, IsSource}
-use Rattle.policy.proofs.KindNumbers.{each_kind, is_kind}
-use Rattle.policy.proofs.Stepping.{IsRow, chosen, found_kind, only_kind, of_kind, source_by, target_by}
+use Rattle.std.{specs.List.list_any, proofs.Common.{[], ℕ, ◌==◌, ◌||◌, ◌↔◌, ◌∙◌, ◌∷◌, ◌≡◌, Bool, inl, inr, not, refl, sym, true}}
+use Rattle.std.proofs.lemmas.Bool.{eq-eqb, eqb-true, or_cases, or_left, or_right}
+use Rattle.base.specs.declared.kind.Kind.{Kind, TheVariants.{Await, Control, Grant, Holds, Notify, Receive, Reply, Send}}
+use Rattle.base.specs.{declared.labels.Labels.Labels, Labels.is_in}
+use Rattle.policy.specs.{declared.full.TheConstants.MODIFYING, Domain.EdgeTest, Full.{IsFull, is_modifying, IsFull.{grants, links}}}
+use Rattle.policy.specs.{Full.IsFull.{modifies, notifies, own, receives, replies, sends}, Steps.{IsSource, IsTarget, is_joined}}
+use Rattle.policy.proofs.{KindNumbers.{each_kind, is_kind}, Stepping.{IsRow, chosen, found_kind, of_kind, only_kind, source_by, target_by}}
 
 abbrev Sources : EdgeTest → Kind → Labels → ℕ → Bool → Type 0
 Sources test kind tos from here = (here ≡ true) ↔ IsSource test (kind ∷ []) tos from

@@ -1,21 +1,12 @@
 -- Each case of full authority as the walks along a chain of steps.
-use Rattle.std.proofs.Common.{◌≡◌, ℕ, true, not, ◌||◌, List, [], ◌∷◌, Option, Vec, ◌⊎◌, inl, inr, refl, sym, ap, ◌∙◌, subst}
-use Rattle.std.specs.declared.alloc.Global.{Global}
-use Rattle.base.specs.declared.edge.Edge.{Edge}
-use Rattle.base.specs.declared.kind.Kind.{Kind}
-use Rattle.base.specs.declared.kind.Kind.TheVariants.{Control, Send, Receive, Grant, Notify, Await, Reply, Holds}
-use Rattle.policy.specs.declared.full.TheConstants.{MODIFYING}
-use Rattle.policy.specs.declared.walks.Step.{Step}
-use Rattle.policy.specs.Domain.{EdgeTest}
-use Rattle.policy.specs.Full.{IsFull, is_modifying}
-use Rattle.policy.specs.Full.IsFull.{own, modifies, sends, receives, notifies, links, grants, replies}
-use Rattle.policy.specs.Reasons.{IsFullBy, edge, full_edges}
-use Rattle.policy.specs.Walks.{FindsWalk, GoesAgainst, GoesAlong, IsWalk, is_of, lesser_of}
-use Rattle.policy.specs.Walks.Passes.{along}
-use Rattle.policy.proofs.KindNumbers.{each_kind}
-use Rattle.policy.proofs.Stepping.{of_kind}
-use Rattle.policy.proofs.StepWalks.{front_along, ends, one_along, one_against, last_along, last_against, more_along, more_against}
-use Rattle.policy.proofs.WalkOrder.{least_either}
+use Rattle.std.{specs.declared.alloc.Global.Global, proofs.Common.{[], ℕ, ◌||◌, ◌∙◌, ◌∷◌, ◌≡◌, ◌⊎◌, List, Option, Vec, ap, inl, inr, not}}
+use Rattle.std.proofs.Common.{refl, subst, sym, true}
+use Rattle.base.specs.declared.{edge.Edge.Edge, kind.Kind.{Kind, TheVariants.{Await, Control, Grant, Holds, Notify, Receive, Reply, Send}}}
+use Rattle.policy.specs.{declared.{full.TheConstants.MODIFYING, walks.Step.Step}, Domain.EdgeTest, Full.{IsFull, is_modifying}}
+use Rattle.policy.specs.{Full.IsFull.{grants, links, modifies, notifies, own, receives, replies, sends}, Reasons.{IsFullBy, edge}}
+use Rattle.policy.specs.{Reasons.full_edges, Walks.{FindsWalk, GoesAgainst, GoesAlong, IsWalk, is_of, lesser_of, Passes.along}}
+use Rattle.policy.proofs.{KindNumbers.each_kind, StepWalks.{ends, front_along, last_against, last_along, more_against, more_along}}
+use Rattle.policy.proofs.{StepWalks.{one_against, one_along}, Stepping.of_kind, WalkOrder.least_either}
 
 modifying_from : (kind : Kind) → is_of MODIFYING kind ≡ true → is_modifying kind ≡ true
 modifying_from kind is = of_kind (is_of MODIFYING kind) _ is (each_kind (λ k. not (is_of MODIFYING k) || is_modifying k) refl kind)

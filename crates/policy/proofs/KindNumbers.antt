@@ -1,14 +1,10 @@
 -- The kinds in the order of their numbers.
-use Rattle.std.proofs.Common.{◌≡◌, ℕ, ◌<◌, ◌==◌, Bool, true, inl, inr, List, [], ◌∷◌, get_or, Some, slice_get, refl, sym, ap, ◌∙◌, zero-add, arith}
+use Rattle.std.{specs.List.{list_all, list_any}, proofs.Common.{[], ℕ, ◌<◌, ◌==◌, ◌∙◌, ◌∷◌, ◌≡◌, Bool, List, Some, ap, arith, get_or, inl}}
+use Rattle.std.proofs.{Common.{inr, refl, slice_get, sym, true, zero-add}, lemmas.{Bool.{and_parts, eqb-true, or_cases}, List.get_or-map}}
+use Rattle.std.proofs.lemmas.{List.FromFn.get_or-range_with_len, Option.{get_or_from_slice_get, slice_get-get_or, slice_get_within}}
+use Rattle.base.specs.declared.kind.Kind.{Kind, TheVariants.{Await, Call, Context, Control, Derive, Grant, Holds, Notify, Read, Receive}}
+use Rattle.base.specs.{declared.kind.Kind.TheVariants.{Reply, Reset, Runs, SchedControl, Send, Space, Write}, Kinds.kind_number}
 use mathlib.Core.Bool.{false≢true}
-use Rattle.std.specs.List.{list_any, list_all}
-use Rattle.std.proofs.lemmas.Bool.{and_parts, or_cases, eqb-true}
-use Rattle.std.proofs.lemmas.List.{get_or-map}
-use Rattle.std.proofs.lemmas.List.FromFn.{get_or-range_with_len}
-use Rattle.std.proofs.lemmas.Option.{slice_get-get_or, slice_get_within, get_or_from_slice_get}
-use Rattle.base.specs.declared.kind.Kind.{Kind}
-use Rattle.base.specs.declared.kind.Kind.TheVariants.{Control, Reset, Send, Receive, Grant, Call, Notify, Await, Read, Write, Reply, Context, SchedControl, Space, Derive, Runs, Holds}
-use Rattle.base.specs.Kinds.{kind_number}
 
 abbrev pub all_kinds : List Kind
 all_kinds =

@@ -1,20 +1,8 @@
 -- The first edge by which a step leads to a set: of the edges that a label has, and of all.
-use Rattle.std.proofs.Common.{◌≡◌, ℕ, ◌+◌, ◌<◌, ◌↔◌, true, false, Option, Some, None, inl, inr, refl, sym, ◌∙◌, subst, arith}
-use Rattle.std.specs.declared.cmp.Ordering.TheVariants.{Less}
-use Rattle.std.specs.Option.{option_map}
-use Rattle.std.specs.Ordering.{nat_cmp}
-use Rattle.std.proofs.lemmas.Bool.{cases_order}
-use Rattle.base.specs.declared.edge.Edge.{Edge}
-use Rattle.base.specs.declared.kind.Kind.{Kind}
-use Rattle.base.specs.declared.labels.Labels.{Labels}
-use Rattle.base.specs.Kinds.{kind_number}
-use Rattle.base.specs.Labels.{is_in}
-use Rattle.policy.specs.Places.{IsNone}
-use Rattle.policy.specs.Reasons.{edge}
-use Rattle.policy.specs.Search.{FindsCell}
-use Rattle.policy.specs.Walks.{FindsFirst}
-use Rattle.policy.proofs.Cells.{not_both}
-use Rattle.policy.proofs.KindNumbers.{same_kind}
+use Rattle.std.{specs.{declared.cmp.Ordering.TheVariants.Less, Option.option_map, Ordering.nat_cmp}, proofs.Common.{ℕ, ◌+◌, ◌<◌, ◌↔◌, ◌∙◌}}
+use Rattle.std.proofs.{Common.{◌≡◌, None, Option, Some, arith, false, inl, inr, refl, subst, sym, true}, lemmas.Bool.cases_order}
+use Rattle.base.specs.{declared.{edge.Edge.Edge, kind.Kind.Kind, labels.Labels.Labels}, Kinds.kind_number, Labels.is_in}
+use Rattle.policy.{specs.{Places.IsNone, Reasons.edge, Search.FindsCell, Walks.FindsFirst}, proofs.{Cells.not_both, KindNumbers.same_kind}}
 use Rattle.policy.proofs.Places.{decided}
 
 -- of the edges that a label has

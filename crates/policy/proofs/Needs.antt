@@ -1,12 +1,11 @@
 -- For each rule of closed policies a policy that breaks it alone.
-use Rattle.std.proofs.Common.{◌≡◌, ◌≢◌, ℕ, ◌==◌, inl, inr, true, false, refl, sym, ◌+◌}
+use Rattle.std.proofs.Common.{ℕ, ◌+◌, ◌==◌, ◌≡◌, ◌≢◌, false, inl, inr, refl, sym, true}
+use Rattle.base.specs.declared.kind.Kind.{Kind, TheVariants.{Call, Context, Control, Derive, Grant, Receive, Reply, Reset, Runs, Space}}
+use Rattle.policy.specs.Closed.{ContextRuns, ControlGivesAll, DeriveByGrant, DeriveInDomain, GrantShares, IsClosed, LentRuns, ReplyHolds}
+use Rattle.policy.specs.{Closed.{caller, derived, granted, server}, Domain.{EdgeTest, IsInDomain, SubjectsAgree}, Needed.BreaksOnly}
+use Rattle.policy.specs.Needed.{Obeys, Rule, context_runs, control_gives_all, derive_by_grant, derive_in_domain, grant_shares, lent_runs}
+use Rattle.policy.{specs.Needed.{reply_holds, subjects_agree}, proofs.Cells.not_both}
 use mathlib.Core.Bool.{false≢true}
-use Rattle.base.specs.declared.kind.Kind.{Kind}
-use Rattle.base.specs.declared.kind.Kind.TheVariants.{Control, Reset, Receive, Grant, Call, Reply, Context, Space, Derive, Runs}
-use Rattle.policy.specs.Closed.{ControlGivesAll, GrantShares, DeriveInDomain, DeriveByGrant, ContextRuns, ReplyHolds, LentRuns, IsClosed, granted, derived, server, caller}
-use Rattle.policy.specs.Domain.{EdgeTest, IsInDomain, SubjectsAgree}
-use Rattle.policy.proofs.Cells.{not_both}
-use Rattle.policy.specs.Needed.{Rule, subjects_agree, control_gives_all, grant_shares, derive_in_domain, derive_by_grant, context_runs, reply_holds, lent_runs, Obeys, BreaksOnly}
 
 -- whether all edges of a kind are there, or none
 abbrev Lacks : EdgeTest → Kind → Type 0

@@ -1,19 +1,12 @@
 -- The order of edges: it is total, only an edge itself ties with it, and it is the one that the code compares by.
-use Rattle.std.proofs.Common.{◌≡◌, ◌&&◌, ◌==◌, Bool, true, false, Option, Some, refl, sym, ap, ◌∙◌}
-use mathlib.Core.Bool.{false≢true}
-use Rattle.std.specs.List.{list_all}
-use Rattle.std.specs.declared.cmp.Ordering.{Ordering}
-use Rattle.std.specs.declared.cmp.Ordering.TheVariants.{Less, Equal, Greater}
-use Rattle.std.specs.Ordering.{nat_cmp, ordering_then, partial_ordering_then, is_eq}
-use Rattle.std.specs.Cmp.{IsTotalOrder, nat_cmp_total, unsigned_tied}
-use Rattle.std.proofs.lemmas.Cmp.{on_total, then_total}
-use Rattle.base.specs.declared.kind.Kind.{Kind}
-use Rattle.base.specs.declared.edge.Edge.{Edge}
-use Rattle.base.specs.contracts.kind.KindPartialOrd.TheImpl as kind_partial_order
+use Rattle.std.specs.{declared.cmp.Ordering.{Ordering, TheVariants.{Equal, Greater, Less}}, Cmp.{IsTotalOrder, nat_cmp_total}}
+use Rattle.std.specs.{Cmp.unsigned_tied, List.list_all, Ordering.{is_eq, nat_cmp, ordering_then, partial_ordering_then}}
+use Rattle.std.proofs.{Common.{◌&&◌, ◌==◌, ◌∙◌, ◌≡◌, Bool, Option, Some, ap, false, refl, sym, true}, lemmas.Cmp.{on_total, then_total}}
+use Rattle.base.specs.{declared.{edge.Edge.Edge, kind.Kind.Kind}, Kinds.kind_number}
 use Rattle.base.specs.contracts.edge.EdgePartialOrd.TheImpl as edge_partial_order
-use Rattle.base.specs.Kinds.{kind_number}
-use Rattle.policy.specs.Policy.{edge_cmp, is_edge}
-use Rattle.policy.proofs.KindNumbers.{all_kinds, each_kind}
+use Rattle.base.specs.contracts.kind.KindPartialOrd.TheImpl as kind_partial_order
+use Rattle.policy.{specs.Policy.{edge_cmp, is_edge}, proofs.KindNumbers.{all_kinds, each_kind}}
+use mathlib.Core.Bool.{false≢true}
 
 pub edge_total : IsTotalOrder edge_cmp
 edge_total =

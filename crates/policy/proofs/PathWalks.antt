@@ -1,19 +1,11 @@
 -- Walks along a chain of steps each of which may be left out: a derive edge, an edge of a capability, links.
-use Rattle.std.proofs.Common.{◌≡◌, ℕ, true, not, ◌||◌, List, [], ◌∷◌, ◌++◌, ◌⊎◌, inl, inr, refl, sym, ap, ◌∙◌, subst}
-use Rattle.base.specs.declared.edge.Edge.{Edge}
-use Rattle.base.specs.declared.kind.Kind.{Kind}
-use Rattle.policy.specs.declared.cut.TheConstants.{HOLDING, LINKS}
-use Rattle.policy.specs.declared.walks.Step.{Step}
-use Rattle.policy.specs.Cut.{IsHolding, IsNear, is_link}
-use Rattle.policy.specs.Cut.IsNear.{stays, along, against}
-use Rattle.policy.specs.Domain.{EdgeTest}
-use Rattle.policy.specs.Reasons.{edge, if_taken, near_edges}
-use Rattle.policy.specs.Walks.{GoesAlong, GoesEitherWay, IsPartOf, IsThere, IsWalk, Passes, is_of}
-use Rattle.policy.specs.Walks.Passes.{along as passes_along, against as passes_against}
-use Rattle.policy.proofs.CutSets.{holding_from, holding_to, is_holding, linking}
-use Rattle.policy.proofs.KindNumbers.{each_kind}
-use Rattle.policy.proofs.Stepping.{of_kind}
-use Rattle.policy.proofs.StepWalks.{edge_along, of_itself, only_of}
+use Rattle.std.proofs.Common.{[], ℕ, ◌++◌, ◌||◌, ◌∙◌, ◌∷◌, ◌≡◌, ◌⊎◌, List, ap, inl, inr, not, refl, subst, sym, true}
+use Rattle.base.specs.declared.{edge.Edge.Edge, kind.Kind.Kind}
+use Rattle.policy.specs.{declared.{cut.TheConstants.{HOLDING, LINKS}, walks.Step.Step}, Cut.{IsHolding, IsNear, is_link, IsNear.against}}
+use Rattle.policy.specs.{Cut.IsNear.{along, stays}, Domain.EdgeTest, Reasons.{edge, if_taken, near_edges}, Walks.{GoesAlong, GoesEitherWay}}
+use Rattle.policy.specs.Walks.{IsPartOf, IsThere, IsWalk, Passes, is_of, Passes.{against as passes_against, along as passes_along}}
+use Rattle.policy.proofs.{CutSets.{holding_from, holding_to, is_holding, linking}, KindNumbers.each_kind, StepWalks.{edge_along, of_itself}}
+use Rattle.policy.proofs.{StepWalks.only_of, Stepping.of_kind}
 
 linking_from : (kind : Kind) → is_of LINKS kind ≡ true → is_link kind ≡ true
 linking_from kind is = of_kind (is_of LINKS kind) _ is (each_kind (λ k. not (is_of LINKS k) || is_link k) refl kind)

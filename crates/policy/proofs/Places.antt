@@ -1,13 +1,10 @@
 -- The search for the first place: in a list whose elements add rising numbers to a beginning, the first element under which a
 -- place has a property has the first such place under it.
-use Rattle.std.proofs.Common.{◌≡◌, ℕ, ◌+◌, ◌<◌, ◌≤◌, List, [], ◌∷◌, ◌++◌, ◌⊎◌, Some, sym, ap, ◌∙◌, subst, inl, inr, arith, slice_get, length}
+use Rattle.std.{specs.{declared.cmp.Ordering.{Ordering, TheVariants.Less}, Ordering.{is_lt, nat_cmp, ordering_then}}, proofs.Common.{[], ℕ}}
+use Rattle.std.proofs.Common.{◌++◌, ◌+◌, ◌<◌, ◌∙◌, ◌∷◌, ◌≡◌, ◌≤◌, ◌⊎◌, List, Some, ap, arith, inl, inr, length, slice_get, subst, sym}
+use Rattle.std.proofs.lemmas.{Bool.cases_order, Option.{same_Some, slice_get_within}}
+use Rattle.policy.specs.Places.{Begins, ComesBefore, IsLeast, IsNone, IsUnder}
 use mathlib.Core.Bool.{false≢true}
-use Rattle.std.specs.declared.cmp.Ordering.{Ordering}
-use Rattle.std.specs.declared.cmp.Ordering.TheVariants.{Less}
-use Rattle.std.specs.Ordering.{nat_cmp, ordering_then, is_lt}
-use Rattle.std.proofs.lemmas.Bool.{cases_order}
-use Rattle.std.proofs.lemmas.Option.{same_Some, slice_get_within}
-use Rattle.policy.specs.Places.{ComesBefore, Begins, IsLeast, IsNone, IsUnder}
 
 -- what comes first decides
 pub decided : (x y : ℕ) (rest : Ordering) → ordering_then (nat_cmp x y) rest ≡ Less → (x < y) ⊎ ((x ≡ y) × (rest ≡ Less))

@@ -1,33 +1,20 @@
 -- The edges that rows stand for: they rise, and are those whose bits are set.
-use Rattle.std.proofs.Common.{◌≡◌, ℕ, zero, suc, ◌+◌, ◌*◌, ◌/◌, ◌%◌, ◌<◌, ◌≤◌, Bool, true, false, cond, ◌&&◌, ◌||◌, ◌==◌, List, [], ◌∷◌, ◌++◌, map, get_or, set, replicate, length, ◌⊎◌, refl, sym, ap, ◌∙◌, inl, inr, arith}
-use mathlib.Core.Bool.{false≢true}
-use Rattle.std.specs.declared.cmp.Ordering.TheVariants.{Less, Equal, Greater}
-use Rattle.std.specs.Ordering.{nat_cmp, ordering_then}
-use Rattle.std.specs.List.{filter, list_any, range_with_len}
-use Rattle.std.proofs.Math.Bool.{or-false}
-use Rattle.std.proofs.lemmas.Bool.{and_parts, and_from, or_cases, or_left, or_right, cases_eq, cases_order, eq-eqb, eqb-true, eqb-false, false_from_ne_true, le-ltb, lt-ltb}
-use Rattle.std.proofs.lemmas.List.{get_or-set_same, get_or-set_other}
-use Rattle.std.proofs.lemmas.List.Folds.{Any-from_list_any, list_any_at}
-use Rattle.std.proofs.lemmas.List.FromFn.{length-map-range_with_len, get_or-map-range_with_len}
-use Rattle.std.proofs.lemmas.List.Kept.{IsStrictlySortedBy-filter}
-use Rattle.std.proofs.lemmas.Map.Keys.{sorted_from_all_adjacent}
-use Rattle.std.proofs.lemmas.Map.Views.{any-filter_same}
-use Rattle.std.proofs.Math.Nat.{div-add-mod, div-lt_iff_lt-mul, mul-le-mul_left}
-use Rattle.std.proofs.lemmas.Nat.{same_from_place, div-mul-add, mod-mul-add, mul-add-lt}
-use Rattle.std.proofs.lemmas.Option.{slice_get-get_or}
-use Rattle.base.specs.declared.edge.Edge.{Edge}
-use Rattle.base.specs.declared.kind.Kind.{Kind}
-use Rattle.base.specs.declared.kind.Kind.TheVariants.{Control}
-use Rattle.base.specs.declared.labels.Labels.{Labels}
-use Rattle.base.specs.Kinds.{kind_number}
+use Rattle.std.specs.{declared.cmp.Ordering.TheVariants.{Equal, Greater, Less}, List.{filter, list_any, range_with_len}, Ordering.nat_cmp}
+use Rattle.std.{specs.Ordering.ordering_then, proofs.Common.{[], ℕ, ◌%◌, ◌&&◌, ◌*◌, ◌++◌, ◌+◌, ◌/◌, ◌<◌, ◌==◌, ◌||◌, ◌∙◌, ◌∷◌, ◌≡◌, ◌≤◌}}
+use Rattle.std.proofs.Common.{◌⊎◌, Bool, List, ap, arith, cond, false, get_or, inl, inr, length, map, refl, replicate, set, suc, sym, true}
+use Rattle.std.proofs.{Common.zero, Math.{Bool.or-false, Nat.{div-add-mod, div-lt_iff_lt-mul, mul-le-mul_left}}, lemmas.Bool.and_from}
+use Rattle.std.proofs.lemmas.Bool.{and_parts, cases_eq, cases_order, eq-eqb, eqb-false, eqb-true, false_from_ne_true, le-ltb, lt-ltb}
+use Rattle.std.proofs.lemmas.{Bool.{or_cases, or_left, or_right}, List.{get_or-set_other, get_or-set_same, Folds.Any-from_list_any}}
+use Rattle.std.proofs.lemmas.List.{Folds.list_any_at, FromFn.{get_or-map-range_with_len, length-map-range_with_len}}
+use Rattle.std.proofs.lemmas.{List.Kept.IsStrictlySortedBy-filter, Map.{Keys.sorted_from_all_adjacent, Views.any-filter_same}}
+use Rattle.std.proofs.lemmas.{Nat.{div-mul-add, mod-mul-add, mul-add-lt, same_from_place}, Option.slice_get-get_or}
+use Rattle.base.specs.{declared.{edge.Edge.Edge, kind.Kind.{Kind, TheVariants.Control}, labels.Labels.Labels}, Kinds.kind_number}
 use Rattle.base.specs.declared.label.TheConstants.Label as Label
-use Rattle.base.specs.Labels.{is_in, no_labels}
-use Rattle.base.proofs.KindNames.{number_below}
-use Rattle.base.proofs.LabelParts.{in_no_labels}
-use Rattle.policy.specs.Policy.{edge_cmp, allows, is_edge, IsRising, JoinsBelow, JoinsLabels}
-use Rattle.policy.specs.Rows.{kind_count, row_count, row_number, row_of, edge_count, edge_at, all_edges, edges_of_rows, RowsJoin}
-use Rattle.policy.proofs.KindNumbers.{all_kinds, number_stands}
-use Rattle.policy.proofs.Order.{edge_total}
+use Rattle.base.{specs.Labels.{is_in, no_labels}, proofs.{KindNames.number_below, LabelParts.in_no_labels}}
+use Rattle.policy.specs.{Policy.{IsRising, JoinsBelow, JoinsLabels, allows, edge_cmp, is_edge}, Rows.{RowsJoin, all_edges, edge_at}}
+use Rattle.policy.{specs.Rows.{edge_count, edges_of_rows, kind_count, row_count, row_number, row_of}, proofs.KindNumbers.all_kinds}
+use Rattle.policy.proofs.{KindNumbers.number_stands, Order.edge_total}
+use mathlib.Core.Bool.{false≢true}
 
 pub nat_less : (a b : ℕ) → a < b → nat_cmp a b ≡ Less
 nat_less a b lt = ap (λ t. cond t Less (cond (a == b) Equal Greater)) (lt-ltb a b lt)

@@ -1,23 +1,14 @@
 -- Where each broken place is among the rules, and among the numbered places of its rule.
-use Rattle.std.proofs.Common.{◌≡◌, ℕ, ◌+◌, ◌-◌, ◌*◌, ◌/◌, ◌%◌, ◌<◌, zero, suc, List, [], ◌∷◌, Option, Some, None, inl, inr, refl, sym, ap, ◌∙◌, subst, arith, slice_get, true}
-use Rattle.std.proofs.lemmas.List.FromFn.{length-range_with_len}
-use Rattle.std.proofs.lemmas.Nat.{div-mul-add, mod-mul-add, mul-add-lt}
-use Rattle.std.proofs.lemmas.Option.{same_Some, slice_get_within}
-use Rattle.base.specs.declared.kind.Kind.TheVariants.{Space, Control}
-use Rattle.policy.specs.declared.broken.Broken.{Broken}
+use Rattle.std.proofs.Common.{[], ℕ, ◌%◌, ◌*◌, ◌+◌, ◌-◌, ◌/◌, ◌<◌, ◌∙◌, ◌∷◌, ◌≡◌, List, None, Option, Some, ap, arith, inl, inr, refl}
+use Rattle.std.proofs.{Common.{slice_get, subst, suc, sym, true, zero}, lemmas.{List.FromFn.length-range_with_len, Nat.div-mul-add}}
+use Rattle.std.proofs.lemmas.{Nat.{mod-mul-add, mul-add-lt}, Option.{same_Some, slice_get_within}}
+use Rattle.base.specs.declared.kind.Kind.{Kind, TheVariants.{Control, Space}}
+use Rattle.policy.specs.{declared.broken.{Broken.Broken, Rule.Rule}, Broken.{IsBrokenAt, broken_place}, Closed.{ComesToDerive, ComesToHold}}
 use Rattle.policy.specs.declared.broken.Broken.TheVariants as broken
-use Rattle.policy.specs.declared.broken.Rule.{Rule}
 use Rattle.policy.specs.declared.broken.Rule.TheVariants as rule
-use Rattle.policy.specs.Broken.{IsBrokenAt, broken_place}
-use Rattle.policy.specs.Closed.{ComesToDerive, ComesToHold, granted, derived, server, caller}
-use Rattle.policy.specs.Domain.{EdgeTest, IsInDomain}
-use Rattle.policy.specs.Places.{Begins, FindsLeast, IsUnder}
-use Rattle.policy.specs.Search.{FindsBroken}
-use Rattle.policy.specs.Sweep.{rule_number, count_of, place_of}
-use Rattle.policy.proofs.Places.{Searches, IsBelow}
-use Rattle.policy.proofs.RowEdges.{split_rises}
-use Rattle.policy.proofs.Sweep.{numbers, stands, stands_alone}
-use Rattle.base.specs.declared.kind.Kind.{Kind}
+use Rattle.policy.specs.{Closed.{caller, derived, granted, server}, Domain.{EdgeTest, IsInDomain}, Places.{Begins, FindsLeast, IsUnder}}
+use Rattle.policy.{specs.{Search.FindsBroken, Sweep.{count_of, place_of, rule_number}}, proofs.Places.{IsBelow, Searches}}
+use Rattle.policy.proofs.{RowEdges.split_rises, Sweep.{numbers, stands, stands_alone}}
 
 -- the rules in order
 

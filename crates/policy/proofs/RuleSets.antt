@@ -1,19 +1,13 @@
 -- The sets of labels at which P4, P5, P7 and P8 are broken, as the search puts them together.
-use Rattle.std.proofs.Common.{◌≡◌, ℕ, ◌&&◌, ◌||◌, ◌==◌, ◌⊎◌, [], ◌∷◌, Bool, true, false, not, inl, inr, refl, sym, ◌∙◌, subst}
-use Rattle.std.specs.Prelude.{◌↔◌}
-use mathlib.Core.Bool.{false≢true}
-use Rattle.std.proofs.lemmas.Bool.{and_parts, or_cases, or_left, or_right, eqb-true, eq-eqb}
-use Rattle.base.specs.declared.kind.Kind.{Kind}
+use Rattle.std.{specs.Prelude.◌↔◌, proofs.Common.{[], ℕ, ◌&&◌, ◌==◌, ◌||◌, ◌∙◌, ◌∷◌, ◌≡◌, ◌⊎◌, Bool, false, inl, inr, not, refl, subst}}
+use Rattle.std.proofs.{Common.{sym, true}, lemmas.Bool.{and_parts, eq-eqb, eqb-true, or_cases, or_left, or_right}}
+use Rattle.base.specs.declared.{kind.Kind.{Kind, TheVariants.{Call, Derive, Grant, Receive, Reply, Runs}}, labels.Labels.Labels}
 use Rattle.base.specs.declared.kind.Kind.TheVariants as kind
-use Rattle.base.specs.declared.kind.Kind.TheVariants.{Call, Derive, Grant, Receive, Reply, Runs}
-use Rattle.base.specs.declared.labels.Labels.{Labels}
 use Rattle.base.specs.Labels.{is_in}
-use Rattle.policy.specs.Closed.{MayBeGranted, MayBeLent}
-use Rattle.policy.specs.Broken.{DomainLacks, DeriveLacks, ReplyLacks, LentLacks}
-use Rattle.policy.specs.Closed.{ComesToDerive, ComesToHold, granted, derived, server, caller}
-use Rattle.policy.specs.Domain.{EdgeTest, IsInDomain}
-use Rattle.policy.specs.Steps.{IsSource, IsTarget}
+use Rattle.policy.specs.{Broken.{DeriveLacks, DomainLacks, LentLacks, ReplyLacks}, Closed.{ComesToDerive, ComesToHold, MayBeGranted}}
+use Rattle.policy.specs.{Closed.{MayBeLent, caller, derived, granted, server}, Domain.{EdgeTest, IsInDomain}, Steps.{IsSource, IsTarget}}
 use Rattle.policy.proofs.Stepping.{IsRow, only_kind, source_by, target_by}
+use mathlib.Core.Bool.{false≢true}
 
 -- sets by what is in them
 

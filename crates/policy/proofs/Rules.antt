@@ -1,19 +1,12 @@
 -- What each rule's places are made of.
-use Rattle.std.proofs.Common.{◌≡◌, ◌≢◌, ◌↔◌, ℕ, true, false, List, [], ◌∷◌, Option, IfNone, IfSome, refl, sym, arith}
-use Rattle.std.specs.Option.{option_map}
-use Rattle.base.specs.declared.kind.Kind.{Kind}
-use Rattle.base.specs.declared.kind.Kind.TheVariants.{Derive, Runs, Holds}
-use Rattle.base.specs.declared.labels.Labels.{Labels}
-use Rattle.base.specs.Kinds.{kind_number, is_structural}
-use Rattle.base.specs.Labels.{is_in}
-use Rattle.policy.specs.declared.broken.Broken.{Broken}
-use Rattle.policy.specs.declared.broken.Broken.TheVariants as broken
-use Rattle.policy.specs.Broken.{ControlLacks, IsBrokenAt, broken_place, p1, p2, p3, p5, p7, p8}
-use Rattle.policy.specs.Closed.{MayBeGranted}
-use Rattle.policy.specs.Domain.{EdgeTest, IsInDomain}
-use Rattle.policy.specs.Places.{IsUnder}
-use Rattle.policy.specs.Search.{FindsBroken, FindsCell, IsLeastIn, IsNobody}
-use Rattle.policy.proofs.Cells.{AreTold, IsMadeOf, least_cell, least_target, of_cell, of_target}
+use Rattle.std.{specs.Option.option_map, proofs.Common.{[], ℕ, ◌↔◌, ◌∷◌, ◌≡◌, ◌≢◌, IfNone, IfSome, List, Option, arith, false, refl, sym}}
+use Rattle.std.proofs.Common.{true}
+use Rattle.base.specs.{declared.{kind.Kind.{Kind, TheVariants.{Derive, Holds, Runs}}, labels.Labels.Labels}, Kinds.is_structural}
+use Rattle.base.specs.{Kinds.kind_number, Labels.is_in}
+use Rattle.policy.specs.{declared.broken.Broken.{Broken, Broken as broken}, Broken.{ControlLacks, IsBrokenAt, broken_place, p1, p2, p3, p5}}
+use Rattle.policy.specs.{Broken.{p7, p8}, Closed.MayBeGranted, Domain.{EdgeTest, IsInDomain}, Places.IsUnder, Search.FindsBroken}
+use Rattle.policy.{specs.Search.{FindsCell, IsLeastIn, IsNobody}, proofs.Cells.{AreTold, IsMadeOf, least_cell, least_target, of_cell}}
+use Rattle.policy.proofs.Cells.{of_target}
 
 -- the labels that are given for each kind are those with a property
 abbrev Tells : (Kind → Labels → Type 0) → (Kind → ℕ → Type 0) → Type 0

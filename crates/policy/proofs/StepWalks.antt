@@ -1,17 +1,10 @@
 -- Walks step by step: what the first edge of one is, and how one is made longer at its front.
-use Rattle.std.proofs.Common.{◌≡◌, ℕ, true, false, List, [], ◌∷◌, refl, sym, ap, ◌∙◌}
+use Rattle.std.proofs.{Common.{[], ℕ, ◌∙◌, ◌∷◌, ◌≡◌, List, ap, false, refl, sym, true}, Math.Bool.or-false, lemmas.Bool.{eq-eqb, eqb-true}}
+use Rattle.std.proofs.lemmas.Bool.{or_left}
+use Rattle.base.specs.{declared.{edge.Edge.Edge, kind.Kind.Kind}, Kinds.kind_number}
+use Rattle.policy.specs.{declared.walks.Step.Step, Domain.EdgeTest, Reasons.edge, Walks.{GoesAgainst, GoesAlong, IsThere, IsWalk, Passes}}
+use Rattle.policy.{specs.Walks.{is_of, Passes.{against, along}}, proofs.KindNumbers.{is_kind, same_kind}}
 use mathlib.Core.Bool.{false≢true}
-use Rattle.std.proofs.Math.Bool.{or-false}
-use Rattle.std.proofs.lemmas.Bool.{or_left, eq-eqb, eqb-true}
-use Rattle.base.specs.declared.edge.Edge.{Edge}
-use Rattle.base.specs.declared.kind.Kind.{Kind}
-use Rattle.base.specs.Kinds.{kind_number}
-use Rattle.policy.specs.declared.walks.Step.{Step}
-use Rattle.policy.specs.Domain.{EdgeTest}
-use Rattle.policy.specs.Reasons.{edge}
-use Rattle.policy.specs.Walks.{GoesAgainst, GoesAlong, IsThere, IsWalk, Passes, is_of}
-use Rattle.policy.specs.Walks.Passes.{along, against}
-use Rattle.policy.proofs.KindNumbers.{is_kind, same_kind}
 
 -- the only kind of a list
 pub only_of : (kind other : Kind) → is_of (kind ∷ []) other ≡ true → other ≡ kind

@@ -1,18 +1,11 @@
 -- Steps along edges, kind by kind and label by label.
-use Rattle.std.proofs.Common.{◌≡◌, ℕ, ◌+◌, ◌<◌, ◌↔◌, Bool, true, false, not, ◌&&◌, ◌||◌, List, [], ◌∷◌, Option, Some, None, sym, ap, ◌∙◌, subst, inl, inr, arith}
-use mathlib.Core.Bool.{false≢true}
-use Rattle.std.specs.List.{list_any, list_all}
-use Rattle.std.proofs.Math.Bool.{or-false}
-use Rattle.std.specs.Prelude.{IfSome, IfNone, is_some}
+use Rattle.std.{specs.{List.{list_all, list_any}, Prelude.{IfNone, IfSome, is_some}}, proofs.Common.{[], ℕ, ◌&&◌, ◌+◌, ◌<◌, ◌||◌, ◌↔◌, ◌∙◌}}
+use Rattle.std.proofs.Common.{◌∷◌, ◌≡◌, Bool, List, None, Option, Some, ap, arith, false, inl, inr, not, subst, sym, true}
+use Rattle.std.proofs.{Math.Bool.or-false, lemmas.Bool.{and_from, and_parts, cases_order, eqb-true, or_cases, or_left, or_right}}
 use Rattle.std.proofs.lemmas.List.Folds.{Any-from_list_any}
-use Rattle.std.proofs.lemmas.Bool.{and_parts, and_from, or_cases, or_left, or_right, cases_order, eqb-true}
-use Rattle.base.specs.declared.kind.Kind.{Kind}
-use Rattle.base.specs.declared.kind.Kind.TheVariants.{Space, Control}
-use Rattle.base.specs.declared.labels.Labels.{Labels}
-use Rattle.base.specs.Labels.{is_in}
-use Rattle.policy.specs.Domain.{EdgeTest, IsInDomain}
-use Rattle.policy.specs.Steps.{is_joined, IsSource, IsTarget}
-use Rattle.policy.proofs.KindNumbers.{is_kind, same_kind}
+use Rattle.base.specs.{declared.{kind.Kind.{Kind, TheVariants.{Control, Space}}, labels.Labels.Labels}, Labels.is_in}
+use Rattle.policy.{specs.{Domain.{EdgeTest, IsInDomain}, Steps.{IsSource, IsTarget, is_joined}}, proofs.KindNumbers.{is_kind, same_kind}}
+use mathlib.Core.Bool.{false≢true}
 
 -- a kind of a list that passes both tests
 pub chosen : (p q : Kind → Bool) (kinds : List Kind) → list_all p kinds ≡ true → list_any q kinds ≡ true → (kind : Kind) × (p kind ≡ true) × (q kind ≡ true)

@@ -1,13 +1,10 @@
 -- The sweep over the places of a rule: what is found first among numbers, and where each place is among them.
-use Rattle.std.proofs.Common.{◌≡◌, ℕ, ◌<◌, zero, suc, List, [], ◌∷◌, ◌++◌, length, Bool, Option, Some, None, refl, sym, ap, ◌∙◌, subst, arith, zero-add, slice_get}
-use Rattle.std.specs.Prelude.{IsTrue, MatchOption, filter_map}
-use Rattle.std.specs.Borrow.{Bor}
-use Rattle.std.specs.List.{AllZip, range_with_len}
-use Rattle.std.proofs.lemmas.List.FromFn.{get_or-range_with_len, length-range_with_len}
-use Rattle.std.proofs.lemmas.Option.{same_Some, slice_get-get_or, slice_get_within}
+use Rattle.std.{specs.{Borrow.Bor, List.{AllZip, range_with_len}, Prelude.{IsTrue, MatchOption, filter_map}}, proofs.Common.{[], ℕ, ◌++◌}}
+use Rattle.std.proofs.Common.{◌<◌, ◌∙◌, ◌∷◌, ◌≡◌, Bool, List, None, Option, Some, ap, arith, length, refl, slice_get, subst, suc, sym, zero}
+use Rattle.std.proofs.{Common.zero-add, lemmas.{List.FromFn.{get_or-range_with_len, length-range_with_len}, Option.same_Some}}
+use Rattle.std.proofs.lemmas.Option.{slice_get-get_or, slice_get_within}
 use Rattle.rayon.specs.Lists.{filter_by_mask}
-use Rattle.policy.specs.Places.{FindsLeast, IsUnder}
-use Rattle.policy.proofs.Places.{Searches, none_at_all, least_here}
+use Rattle.policy.{specs.Places.{FindsLeast, IsUnder}, proofs.Places.{Searches, least_here, none_at_all}}
 
 -- what is found at the first element at which anything is
 abbrev pub IsFoundFirst : {A B : Type 0} → List A → (A → Option B → Type 0) → Option B → Type 0

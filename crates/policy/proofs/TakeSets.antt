@@ -1,15 +1,10 @@
 -- What a label may take from as a union of sets of labels, each of which is found by steps along edges.
-use Rattle.std.proofs.Common.{◌≡◌, ℕ, ◌↔◌, Bool, true, ◌||◌, [], ◌∷◌, sym, ◌∙◌, inl, inr}
-use Rattle.std.proofs.lemmas.Bool.{or_cases, or_left, or_right}
-use Rattle.base.specs.declared.kind.Kind.TheVariants.{Control, Receive, Reply, Context, Derive, Runs}
-use Rattle.base.specs.declared.labels.Labels.{Labels}
+use Rattle.std.proofs.{Common.{[], ℕ, ◌||◌, ◌↔◌, ◌∙◌, ◌∷◌, ◌≡◌, Bool, inl, inr, sym, true}, lemmas.Bool.{or_cases, or_left, or_right}}
+use Rattle.base.specs.declared.{kind.Kind.TheVariants.{Context, Control, Derive, Receive, Reply, Runs}, labels.Labels.Labels}
 use Rattle.base.specs.Labels.{is_in}
-use Rattle.policy.specs.Domain.{EdgeTest}
-use Rattle.policy.specs.Steps.{IsSource, IsTarget}
-use Rattle.policy.specs.Take.{MayRemoveFrom, MayRemoveNear, MayTake}
-use Rattle.policy.specs.Take.MayTake.{unbinds, ends, removes}
-use Rattle.policy.proofs.CutSets.{IsOnward, derived_is_from}
-use Rattle.policy.proofs.Stepping.{IsRow, only_kind, source_by, target_by}
+use Rattle.policy.specs.{Domain.EdgeTest, Steps.{IsSource, IsTarget}, Take.{MayRemoveFrom, MayRemoveNear, MayTake, MayTake.{ends, removes}}}
+use Rattle.policy.{specs.Take.MayTake.unbinds, proofs.{CutSets.{IsOnward, derived_is_from}, Stepping.{IsRow, only_kind, source_by}}}
+use Rattle.policy.proofs.Stepping.{target_by}
 
 -- where a label may remove capabilities of others
 pub removable_is :

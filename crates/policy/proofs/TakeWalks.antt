@@ -1,20 +1,13 @@
 -- Each way to take from another as the walks along a chain of steps.
-use Rattle.std.proofs.Common.{ℕ, List, [], ◌∷◌, ◌++◌, ◌⊎◌, Option, Vec, inl, inr, refl, sym, ap, ◌∙◌, subst}
-use Rattle.std.specs.declared.alloc.Global.{Global}
-use Rattle.std.proofs.lemmas.List.{append-nil}
-use Rattle.base.specs.declared.edge.Edge.{Edge}
-use Rattle.base.specs.declared.kind.Kind.TheVariants.{Control, Receive, Reply, Context, Derive, Runs}
-use Rattle.policy.specs.declared.cut.TheConstants.{HOLDING, LINKS}
-use Rattle.policy.specs.declared.walks.Step.{Step}
-use Rattle.policy.specs.Domain.{EdgeTest}
-use Rattle.policy.specs.Reasons.{IsRemoveBy, IsTakeBy, edge, if_taken, near_edges, remove_edges, take_edges}
-use Rattle.policy.specs.Take.{MayRemoveNear, MayTake}
-use Rattle.policy.specs.Take.MayTake.{unbinds, ends as ends_wait, removes}
-use Rattle.policy.specs.Walks.{FindsWalk, GoesAgainst, GoesAlong, GoesEitherWay, IsWalk, lesser_of}
-use Rattle.policy.proofs.PathWalks.{IsPath, Nears, along_maybe, maybe_along, maybe_near, maybe_reach, near_maybe, part_of, path_of, reach_maybe}
-use Rattle.policy.proofs.StepWalks.{ends, last_against, last_along, more_against, more_along, one_against, one_along}
-use Rattle.policy.proofs.WalkOrder.{finds_same, least_either}
-use Rattle.policy.proofs.Walking.{IsPartWalk}
+use Rattle.std.{specs.declared.alloc.Global.Global, proofs.Common.{[], ℕ, ◌++◌, ◌∙◌, ◌∷◌, ◌⊎◌, List, Option, Vec, ap, inl, inr, refl}}
+use Rattle.std.proofs.{Common.{subst, sym}, lemmas.List.append-nil}
+use Rattle.base.specs.declared.{edge.Edge.Edge, kind.Kind.TheVariants.{Context, Control, Derive, Receive, Reply, Runs}}
+use Rattle.policy.specs.{declared.{cut.TheConstants.{HOLDING, LINKS}, walks.Step.Step}, Domain.EdgeTest, Reasons.{IsRemoveBy, IsTakeBy}}
+use Rattle.policy.specs.{Reasons.{edge, if_taken, near_edges, remove_edges, take_edges}, Take.{MayRemoveNear, MayTake}}
+use Rattle.policy.specs.{Take.MayTake.{ends as ends_wait, removes, unbinds}, Walks.{FindsWalk, GoesAgainst, GoesAlong, GoesEitherWay}}
+use Rattle.policy.{specs.Walks.{IsWalk, lesser_of}, proofs.PathWalks.{IsPath, Nears, along_maybe, maybe_along, maybe_near, maybe_reach}}
+use Rattle.policy.proofs.{PathWalks.{near_maybe, part_of, path_of, reach_maybe}, StepWalks.{ends, last_against, last_along, more_against}}
+use Rattle.policy.proofs.{StepWalks.{more_along, one_against, one_along}, WalkOrder.{finds_same, least_either}, Walking.IsPartWalk}
 
 -- the steps of a removal, of which all but the first may be left out
 pub record RemoveSteps (control derive reach link : Step) : Type 0 where

@@ -1,12 +1,9 @@
 -- What may be taken may be cut, way by way; and who takes has an edge by which it does.
-use Rattle.std.proofs.Common.{ℕ, inl, inr, refl, sym, ◌∙◌}
+use Rattle.std.proofs.Common.{ℕ, ◌∙◌, inl, inr, refl, sym}
+use Rattle.base.specs.declared.kind.Kind.TheVariants.{Context, Control, Receive, Reply, Runs}
+use Rattle.policy.specs.{Cut.{IsCut, IsNear.{against, along, stays}}, Domain.EdgeTest, Take.{HasNone, MayTake, MayTake.{ends, removes}}}
+use Rattle.policy.specs.Take.MayTake.{unbinds}
 use mathlib.Core.Bool.{false≢true}
-use Rattle.base.specs.declared.kind.Kind.TheVariants.{Control, Receive, Reply, Context, Runs}
-use Rattle.policy.specs.Cut.{IsCut}
-use Rattle.policy.specs.Cut.IsNear.{stays, along, against}
-use Rattle.policy.specs.Domain.{EdgeTest}
-use Rattle.policy.specs.Take.{HasNone, MayTake}
-use Rattle.policy.specs.Take.MayTake.{unbinds, ends, removes}
 
 module _ (test : EdgeTest) (a : ℕ) where
   pub take_is_cut : (l : ℕ) → MayTake test a l → IsCut test a l

@@ -1,12 +1,8 @@
 -- A policy is closed exactly if no rule is broken anywhere.
-use Rattle.std.proofs.Common.{◌≡◌, ◌≢◌, Bool, true, false, refl, sym}
+use Rattle.std.proofs.Common.{◌≡◌, ◌≢◌, Bool, false, refl, sym, true}
+use Rattle.policy.specs.{declared.broken.Broken.{Broken, Broken as broken}, Broken.IsBrokenAt, Closed.{IsClosed, IsLacking}}
+use Rattle.policy.{specs.Domain.EdgeTest, proofs.Cells.not_both}
 use mathlib.Core.Bool.{false≢true}
-use Rattle.policy.specs.declared.broken.Broken.{Broken}
-use Rattle.policy.specs.declared.broken.Broken.TheVariants as broken
-use Rattle.policy.specs.Broken.{IsBrokenAt}
-use Rattle.policy.specs.Closed.{IsClosed, IsLacking}
-use Rattle.policy.specs.Domain.{EdgeTest}
-use Rattle.policy.proofs.Cells.{not_both}
 
 abbrev IsUnbroken : EdgeTest → Type 0
 IsUnbroken test = (b : Broken) → ¬ IsBrokenAt test b

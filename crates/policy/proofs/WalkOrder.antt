@@ -1,25 +1,15 @@
 -- The order of walks: fewer edges come first, of as many the first other edge decides, and the lesser of two least walks is the least.
-use Rattle.std.proofs.Common.{◌≡◌, ℕ, ◌<◌, Bool, true, false, cond, List, [], ◌∷◌, length, nat_eq, nat_lt, Option, Some, None, Vec, ◌⊎◌, inl, inr, refl, sym, ap, ◌∙◌, subst, arith}
-use mathlib.Core.Bool.{false≢true}
-use Rattle.std.specs.declared.alloc.Global.{Global}
-use Rattle.std.specs.declared.cmp.Ordering.{Ordering}
-use Rattle.std.specs.declared.cmp.Ordering.TheVariants.{Less, Equal, Greater}
-use Rattle.std.specs.Ordering.{nat_cmp, ordering_then, ordering_reverse, partial_ordering_then, is_lt}
-use Rattle.std.specs.Cmp.Lexicographic.{slice_cmp, slice_partial_cmp}
-use Rattle.std.proofs.lemmas.Bool.{cases_order, lt-ltb, le-ltb, eqb-true, false_from_ne_true}
-use Rattle.std.proofs.lemmas.Cmp.{nat_list_cmp_total}
-use Rattle.std.proofs.lemmas.Map.Lookups.{exact_bytes}
-use Rattle.base.specs.declared.edge.Edge.{Edge}
+use Rattle.std.specs.declared.{alloc.Global.Global, cmp.Ordering.{Ordering, TheVariants.{Equal, Greater, Less}}}
+use Rattle.std.specs.{Cmp.Lexicographic.{slice_cmp, slice_partial_cmp}, Ordering.{is_lt, nat_cmp, ordering_reverse, ordering_then}}
+use Rattle.std.{specs.Ordering.partial_ordering_then, proofs.Common.{[], ℕ, ◌<◌, ◌∙◌, ◌∷◌, ◌≡◌, ◌⊎◌, Bool, List, None, Option, Some, Vec}}
+use Rattle.std.proofs.{Common.{ap, arith, cond, false, inl, inr, length, nat_eq, nat_lt, refl, subst, sym, true}, lemmas.Bool.cases_order}
+use Rattle.std.proofs.lemmas.{Bool.{eqb-true, false_from_ne_true, le-ltb, lt-ltb}, Cmp.nat_list_cmp_total, Map.Lookups.exact_bytes}
+use Rattle.base.specs.{declared.edge.Edge.Edge, Kinds.kind_number}
 use Rattle.base.specs.contracts.edge.EdgePartialOrd.TheImpl as edge_partial_order
-use Rattle.base.specs.Kinds.{kind_number}
-use Rattle.policy.specs.Places.{ComesBefore}
-use Rattle.policy.specs.Policy.{edge_cmp}
-use Rattle.policy.specs.Reasons.{edge_numbers, reason_place}
-use Rattle.policy.specs.Walks.{FindsWalk, lesser_of}
-use Rattle.policy.proofs.KindNumbers.{same_kind}
-use Rattle.policy.proofs.Order.{partial_cmp-of_code, partial_ordering_then-Some}
-use Rattle.policy.proofs.Places.{decided}
-use Rattle.policy.proofs.RowEdges.{nat_less, nat_same, by_parts}
+use Rattle.policy.specs.{Places.ComesBefore, Policy.edge_cmp, Reasons.{edge_numbers, reason_place}, Walks.{FindsWalk, lesser_of}}
+use Rattle.policy.proofs.{KindNumbers.same_kind, Order.{partial_cmp-of_code, partial_ordering_then-Some}, Places.decided, RowEdges.by_parts}
+use Rattle.policy.proofs.RowEdges.{nat_less, nat_same}
+use mathlib.Core.Bool.{false≢true}
 
 thens : (a b c rest : Ordering)
     → ordering_then (ordering_then a (ordering_then b c)) rest ≡ ordering_then a (ordering_then b (ordering_then c rest))

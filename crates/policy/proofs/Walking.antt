@@ -1,28 +1,14 @@
 -- Walks along chains of steps, edge by edge: from where a step leads to a set, and how the least walk begins.
-use Rattle.std.proofs.Common.{◌≡◌, ℕ, ◌↔◌, ◌||◌, ◌==◌, Bool, not, true, false, cond, List, [], ◌∷◌, ◌++◌, length, append_assoc, Option, Vec, ◌⊎◌, inl, inr, refl, sym, ap, ◌∙◌, subst, arith}
-use mathlib.Core.Bool.{false≢true}
-use Rattle.std.specs.declared.alloc.Global.{Global}
-use Rattle.std.specs.declared.cmp.Ordering.TheVariants.{Less}
-use Rattle.std.specs.List.{list_any, list_all}
-use Rattle.std.proofs.lemmas.Bool.{or_cases, or_left, or_right, eq-eqb, eqb-true}
-use Rattle.base.specs.declared.edge.Edge.{Edge}
-use Rattle.base.specs.declared.kind.Kind.{Kind}
+use Rattle.std.{specs.{declared.{alloc.Global.Global, cmp.Ordering.TheVariants.Less}, List.{list_all, list_any}}, proofs.Common.{[], ℕ}}
+use Rattle.std.proofs.Common.{◌++◌, ◌==◌, ◌||◌, ◌↔◌, ◌∙◌, ◌∷◌, ◌≡◌, ◌⊎◌, Bool, List, Option, Vec, ap, append_assoc, arith, cond, false, inl}
+use Rattle.std.proofs.{Common.{inr, length, not, refl, subst, sym, true}, lemmas.Bool.{eq-eqb, eqb-true, or_cases, or_left, or_right}}
+use Rattle.base.specs.{declared.{edge.Edge.Edge, kind.Kind.Kind, labels.Labels.Labels}, Kinds.kind_number, Labels.is_in}
 use Rattle.base.specs.contracts.kind.KindPartialEq.TheImpl as kind_equal
-use Rattle.base.specs.declared.labels.Labels.{Labels}
-use Rattle.base.specs.Kinds.{kind_number}
-use Rattle.base.specs.Labels.{is_in}
-use Rattle.policy.specs.declared.walks.Step.{Step}
-use Rattle.policy.specs.Domain.{EdgeTest}
-use Rattle.policy.specs.Places.{ComesBefore, IsLeast, IsNone}
-use Rattle.policy.specs.Policy.{edge_cmp}
-use Rattle.policy.specs.Reasons.{reason_place}
-use Rattle.policy.specs.Steps.{is_joined, IsSource, IsTarget}
-use Rattle.policy.specs.Walks.{FindsWalk, IsPartOf, lesser_of, IsThere, IsWalk, Leads, Passes, is_of, other_end}
-use Rattle.policy.specs.Walks.Passes.{along, against}
-use Rattle.policy.proofs.KindNumbers.{all_kinds, each_kind, is_kind}
-use Rattle.policy.proofs.Places.{only_least}
-use Rattle.policy.proofs.Stepping.{found_kind}
-use Rattle.policy.proofs.WalkOrder.{before_front, least_either}
+use Rattle.policy.specs.{declared.walks.Step.Step, Domain.EdgeTest, Places.{ComesBefore, IsLeast, IsNone}, Policy.edge_cmp}
+use Rattle.policy.specs.{Reasons.reason_place, Steps.{IsSource, IsTarget, is_joined}, Walks.{FindsWalk, IsPartOf, IsThere, IsWalk, Leads}}
+use Rattle.policy.{specs.Walks.{Passes, is_of, lesser_of, other_end, Passes.{against, along}}, proofs.KindNumbers.{all_kinds, each_kind}}
+use Rattle.policy.proofs.{KindNumbers.is_kind, Places.only_least, Stepping.found_kind, WalkOrder.{before_front, least_either}}
+use mathlib.Core.Bool.{false≢true}
 
 -- an edge of one of the kinds is one of some kind of them
 joined_of : (test : EdgeTest) (kinds : List Kind) (from to : ℕ) → is_joined test kinds from to ≡ true

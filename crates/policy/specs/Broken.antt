@@ -1,14 +1,10 @@
 -- Where the rules of closed policies (`Closed`) are broken: a rule asks for an edge there, and it is missing. In which order these
 -- places come (compare 'seL4 Enforces Integrity', section 3, well-formed policies; the rules, their places and their order are
 -- confine's own).
-use Rattle.std.specs.Prelude.{◌≢◌, ℕ, List, [], ◌∷◌, codes}
-use Rattle.base.specs.declared.kind.Kind.{Kind}
-use Rattle.base.specs.declared.kind.Kind.TheVariants.{Derive, Runs, Holds}
-use Rattle.base.specs.Kinds.{kind_number}
-use Rattle.policy.specs.declared.broken.Broken.{Broken}
-use Rattle.policy.specs.declared.broken.Broken.TheVariants as broken
-use Rattle.policy.specs.Closed.{ComesToDerive, ComesToHold, ControlGives, GrantGives, IsLacking, MayBeLent, MayBind, ShareDomain}
-use Rattle.policy.specs.Domain.{EdgeTest, ShareUse}
+use Rattle.std.specs.Prelude.{[], ℕ, ◌∷◌, ◌≢◌, List, codes}
+use Rattle.base.specs.{declared.kind.Kind.{Kind, TheVariants.{Derive, Holds, Runs}}, Kinds.kind_number}
+use Rattle.policy.specs.{declared.broken.Broken.{Broken, Broken as broken}, Closed.{ComesToDerive, ComesToHold, ControlGives, GrantGives}}
+use Rattle.policy.specs.{Closed.{IsLacking, MayBeLent, MayBind, ShareDomain}, Domain.{EdgeTest, ShareUse}}
 
 -- the numbers of the rules
 

@@ -1,10 +1,9 @@
 -- Closed policies: what a policy has to have so that no run leads out of it
 -- (the well-formed policies of 'seL4 Enforces Integrity', section 3, restated for this profile).
 -- Each rule is in two parts: where it asks for an edge, and that the edge is there.
-use Rattle.std.specs.Prelude.{◌≡◌, ◌≢◌, ℕ, ◌⊎◌, Bool, true, false}
-use Rattle.base.specs.declared.kind.Kind.{Kind}
-use Rattle.base.specs.declared.kind.Kind.TheVariants.{Control, Receive, Grant, Call, Reply, Context, SchedControl, Space, Derive, Runs, Holds}
-use Rattle.base.specs.Kinds.{is_structural}
+use Rattle.std.specs.Prelude.{ℕ, ◌≡◌, ◌≢◌, ◌⊎◌, Bool, false, true}
+use Rattle.base.specs.declared.kind.Kind.{Kind, TheVariants.{Call, Context, Control, Derive, Grant, Holds, Receive, Reply, Runs}}
+use Rattle.base.specs.{declared.kind.Kind.TheVariants.{SchedControl, Space}, Kinds.is_structural}
 use Rattle.policy.specs.Domain.{EdgeTest, IsInDomain, SubjectsAgree}
 
 -- the kinds that control gives: space, and every kind of use but to configure a core

@@ -1,11 +1,8 @@
 -- Closing a policy: the least closed policy that has some edges (the closed policies are those of `Closed`; compare
 -- 'seL4 Enforces Integrity', section 3, well-formed policies; closing one is confine's own).
-use Rattle.std.specs.Prelude.{◌≡◌, ℕ, true, List}
-use Rattle.base.specs.declared.edge.Edge.{Edge}
-use Rattle.base.specs.declared.kind.Kind.{Kind}
-use Rattle.policy.specs.Closed.{IsClosed}
-use Rattle.policy.specs.Domain.{EdgeTest}
-use Rattle.policy.specs.Policy.{allows}
+use Rattle.std.specs.Prelude.{ℕ, ◌≡◌, List, true}
+use Rattle.base.specs.declared.{edge.Edge.Edge, kind.Kind.Kind}
+use Rattle.policy.specs.{Closed.IsClosed, Domain.EdgeTest, Policy.allows}
 
 -- every edge of the one is an edge of the other
 abbrev pub IsWithin : EdgeTest → EdgeTest → Type 0

@@ -1,8 +1,7 @@
 -- Cut authority: which labels' objects may shrink when a label deletes capabilities
 -- (the deletions that 'seL4 Enforces Integrity', section 4, allows, restated for this profile).
-use Rattle.std.specs.Prelude.{◌≡◌, ℕ, Bool, true, false, ◌⊎◌}
-use Rattle.base.specs.declared.kind.Kind.{Kind}
-use Rattle.base.specs.declared.kind.Kind.TheVariants.{Control, Send, Receive, Await, Reply, Space, Derive, Runs, Holds}
+use Rattle.std.specs.Prelude.{ℕ, ◌≡◌, ◌⊎◌, Bool, false, true}
+use Rattle.base.specs.declared.kind.Kind.{Kind, TheVariants.{Await, Control, Derive, Holds, Receive, Reply, Runs, Send, Space}}
 use Rattle.base.specs.Kinds.{is_structural}
 use Rattle.policy.specs.Domain.{EdgeTest}
 

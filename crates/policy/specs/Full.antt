@@ -1,8 +1,8 @@
 -- Full authority: on which labels' objects the acts of a label may have any effect
 -- (the integrity property of 'seL4 Enforces Integrity', section 4, restated for this profile).
-use Rattle.std.specs.Prelude.{◌≡◌, ℕ, Bool, true, false}
-use Rattle.base.specs.declared.kind.Kind.{Kind}
-use Rattle.base.specs.declared.kind.Kind.TheVariants.{Control, Send, Receive, Grant, Notify, Await, Write, Reply, Context, Runs, Holds}
+use Rattle.std.specs.Prelude.{ℕ, ◌≡◌, Bool, false, true}
+use Rattle.base.specs.declared.kind.Kind.{Kind, TheVariants.{Await, Context, Control, Grant, Holds, Notify, Receive, Reply, Runs, Send}}
+use Rattle.base.specs.declared.kind.Kind.TheVariants.{Write}
 use Rattle.policy.specs.Domain.{EdgeTest}
 
 -- the kinds whose use changes the object itself; of a context it is who binds it, and who runs on it

@@ -1,7 +1,7 @@
 -- The rules of closed policies one by one, and that each is needed: there is a policy that obeys all of the others and not that
 -- one (the rules are confine's own).
 use Rattle.std.specs.Prelude.{◌≢◌}
-use Rattle.policy.specs.Closed.{ControlGivesAll, GrantShares, DeriveInDomain, DeriveByGrant, ContextRuns, ReplyHolds, LentRuns}
+use Rattle.policy.specs.Closed.{ContextRuns, ControlGivesAll, DeriveByGrant, DeriveInDomain, GrantShares, LentRuns, ReplyHolds}
 use Rattle.policy.specs.Domain.{EdgeTest, SubjectsAgree}
 
 pub data Rule : Type 0 where

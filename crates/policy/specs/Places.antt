@@ -1,8 +1,6 @@
 -- The order of places, each a list of numbers: what it is to be at the first place, and to find what is there (confine's own).
-use Rattle.std.specs.Prelude.{◌≡◌, ℕ, List, [], ◌∷◌, Option, MatchOption}
-use Rattle.std.specs.declared.cmp.Ordering.TheVariants.{Less}
-use Rattle.std.specs.Ordering.{nat_cmp}
-use Rattle.std.specs.Cmp.Lexicographic.{slice_cmp}
+use Rattle.std.specs.{declared.cmp.Ordering.TheVariants.Less, Cmp.Lexicographic.slice_cmp, Ordering.nat_cmp, Prelude.{[], ℕ, ◌∷◌, ◌≡◌}}
+use Rattle.std.specs.Prelude.{List, MatchOption, Option}
 
 -- the first number in which they differ is smaller
 abbrev pub ComesBefore : List ℕ → List ℕ → Type 0

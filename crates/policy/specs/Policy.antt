@@ -1,15 +1,9 @@
 -- A policy as the rising list of its edges: the order of edges, and which edges a policy allows
 -- ('seL4 Enforces Integrity', section 3, where a policy is a graph of labels).
-use Rattle.std.specs.Prelude.{◌≡◌, ℕ, ◌<◌, ◌-◌, Bool, true, ◌&&◌, ◌==◌, List, length, Option, IfSome, slice_get}
-use Rattle.std.specs.declared.cmp.Ordering.{Ordering}
-use Rattle.std.specs.declared.cmp.Ordering.TheVariants.{Less}
-use Rattle.std.specs.Ordering.{nat_cmp, on, then_cmp}
-use Rattle.std.specs.List.{list_any}
-use Rattle.std.specs.List.Sorted.{IsStrictlySortedBy}
-use Rattle.base.specs.declared.edge.Edge.{Edge}
-use Rattle.base.specs.declared.kind.Kind.{Kind}
+use Rattle.std.specs.{declared.cmp.Ordering.{Ordering, TheVariants.Less}, List.{list_any, Sorted.IsStrictlySortedBy}, Ordering.nat_cmp}
+use Rattle.std.specs.{Ordering.{on, then_cmp}, Prelude.{ℕ, ◌&&◌, ◌-◌, ◌<◌, ◌==◌, ◌≡◌, Bool, IfSome, List, Option, length, slice_get, true}}
+use Rattle.base.specs.{declared.{edge.Edge.Edge, kind.Kind.Kind}, Kinds.kind_number}
 use Rattle.base.specs.declared.label.TheConstants.Label as Label
-use Rattle.base.specs.Kinds.{kind_number}
 
 -- by label, then kind, then label
 abbrev pub edge_cmp : Edge → Edge → Ordering

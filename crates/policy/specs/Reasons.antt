@@ -1,18 +1,11 @@
 -- Why a label has authority on another: the edges of a case of full authority, or of a way to take from it, in their order, and the
 -- reason that is told of several (the authority is that of `Full` and `Take`; telling why is confine's own).
-use Rattle.std.specs.Prelude.{◌≡◌, ℕ, List, [], ◌∷◌, ◌++◌, ◌⊎◌, length}
-use Rattle.std.proofs.Common.{inl, inr}
-use Rattle.base.specs.declared.edge.Edge.{Edge}
-use Rattle.base.specs.declared.kind.Kind.{Kind}
-use Rattle.base.specs.declared.kind.Kind.TheVariants.{Control, Send, Receive, Grant, Notify, Await, Reply, Context, Derive, Runs, Holds}
-use Rattle.base.specs.Kinds.{kind_number}
-use Rattle.policy.specs.Cut.{IsNear, stays, along, against}
-use Rattle.policy.specs.Domain.{EdgeTest}
-use Rattle.policy.specs.Full.{IsFull, own, modifies, sends, receives, notifies, links, grants, replies}
-use Rattle.policy.specs.Places.{IsLeast}
-use Rattle.policy.specs.Take.{MayRemoveNear, MayTake, unbinds, ends, removes}
-use Rattle.policy.specs.declared.why.Why.{Why}
-use Rattle.policy.specs.declared.why.Why.TheVariants as why
+use Rattle.std.{specs.Prelude.{[], ℕ, ◌++◌, ◌∷◌, ◌≡◌, ◌⊎◌, List, length}, proofs.Common.{inl, inr}}
+use Rattle.base.specs.declared.{edge.Edge.Edge, kind.Kind.{Kind, TheVariants.{Await, Context, Control, Derive, Grant, Holds, Notify}}}
+use Rattle.base.specs.{declared.kind.Kind.TheVariants.{Receive, Reply, Runs, Send}, Kinds.kind_number}
+use Rattle.policy.specs.{declared.why.Why.{Why, Why as why}, Cut.{IsNear, against, along, stays}, Domain.EdgeTest, Full.{IsFull, grants}}
+use Rattle.policy.specs.{Full.{links, modifies, notifies, own, receives, replies, sends}, Places.IsLeast, Take.{MayRemoveNear, MayTake}}
+use Rattle.policy.specs.Take.{ends, removes, unbinds}
 
 abbrev pub edge : ℕ → Kind → ℕ → Edge
 edge from kind to = record { from = from; kind = kind; to = to }

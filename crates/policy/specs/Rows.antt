@@ -1,15 +1,9 @@
 -- A policy as rows of bits: for each label and kind, the set of the labels to which there is an edge (confine's own).
-use Rattle.std.specs.Prelude.{◌≡◌, ℕ, ◌+◌, ◌*◌, ◌/◌, ◌%◌, ◌<◌, ◌≤◌, true, List, Option, None, Some, if◌then◌else◌, filter, map, length, slice_index_or}
-use Rattle.std.specs.Ordering.{is_lt}
-use Rattle.std.specs.List.{range_with_len}
-use Rattle.base.specs.declared.edge.Edge.{Edge}
-use Rattle.base.specs.declared.kind.Kind.{Kind}
-use Rattle.base.specs.declared.kind.Kind.TheVariants.{Control}
-use Rattle.base.specs.declared.kind.TheConstants.Kind.{ALL}
-use Rattle.base.specs.declared.labels.Labels.{Labels}
+use Rattle.std.specs.{List.range_with_len, Ordering.is_lt, Prelude.{ℕ, ◌%◌, ◌*◌, ◌+◌, ◌/◌, ◌<◌, ◌≡◌, ◌≤◌, List, None, Option, Some, filter}}
+use Rattle.std.specs.Prelude.{if◌then◌else◌, length, map, slice_index_or, true}
+use Rattle.base.specs.declared.{edge.Edge.Edge, kind.{Kind.{Kind, TheVariants.Control}, TheConstants.Kind.ALL}, labels.Labels.Labels}
 use Rattle.base.specs.declared.label.TheConstants.Label as Label
-use Rattle.base.specs.Kinds.{kind_number}
-use Rattle.base.specs.Labels.{is_in, no_labels}
+use Rattle.base.specs.{Kinds.kind_number, Labels.{is_in, no_labels}}
 use Rattle.policy.specs.Policy.{edge_cmp, last_edge}
 
 -- how many kinds there are

@@ -1,13 +1,7 @@
 -- What the search for the first broken rule finds (confine's own).
-use Rattle.std.specs.Prelude.{◌≡◌, ◌<◌, ℕ, true, false, List, Option, MatchOption}
-use Rattle.base.specs.declared.kind.Kind.{Kind}
-use Rattle.base.specs.declared.labels.Labels.{Labels}
-use Rattle.base.specs.Kinds.{kind_number}
-use Rattle.base.specs.Labels.{is_in}
-use Rattle.policy.specs.declared.broken.Broken.{Broken}
-use Rattle.policy.specs.Broken.{IsBrokenAt, broken_place}
-use Rattle.policy.specs.Domain.{EdgeTest}
-use Rattle.policy.specs.Places.{FindsLeast, IsUnder}
+use Rattle.std.specs.Prelude.{ℕ, ◌<◌, ◌≡◌, List, MatchOption, Option, false, true}
+use Rattle.base.specs.{declared.{kind.Kind.Kind, labels.Labels.Labels}, Kinds.kind_number, Labels.is_in}
+use Rattle.policy.specs.{declared.broken.Broken.Broken, Broken.{IsBrokenAt, broken_place}, Domain.EdgeTest, Places.{FindsLeast, IsUnder}}
 
 -- the broken rule at the first place that begins with these numbers
 abbrev pub FindsBroken : EdgeTest → List ℕ → Option Broken → Type 0

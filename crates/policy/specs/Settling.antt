@@ -1,17 +1,11 @@
 -- How a policy is closed: the edges that the rules of closed policies ask for, and the steps in which those that are missing are
 -- added (confine's own).
-use Rattle.std.specs.Prelude.{◌≡◌, ℕ, ◌<◌, ◌⊎◌, Bool, true, false, List}
-use Rattle.base.specs.declared.edge.Edge.{Edge}
-use Rattle.base.specs.declared.kind.Kind.{Kind}
-use Rattle.base.specs.declared.kind.Kind.TheVariants.{Derive, Runs, Holds}
+use Rattle.std.specs.Prelude.{ℕ, ◌<◌, ◌≡◌, ◌⊎◌, Bool, List, false, true}
+use Rattle.base.specs.declared.{edge.Edge.Edge, kind.Kind.{Kind, TheVariants.{Derive, Holds, Runs}}, labels.Labels.Labels}
 use Rattle.base.specs.declared.label.TheConstants.Label as Label
-use Rattle.base.specs.declared.labels.Labels.{Labels}
-use Rattle.base.specs.Kinds.{is_structural}
-use Rattle.base.specs.Labels.{is_in}
-use Rattle.policy.specs.Closed.{ComesToDerive, ComesToHold, ControlGives, IsClosed, IsLacking, MayBeGranted, MayBeLent, MayBind, ShareDomain}
-use Rattle.policy.specs.Closing.{IsWithin}
-use Rattle.policy.specs.Domain.{EdgeTest, IsInDomain}
-use Rattle.policy.specs.Policy.{allows}
+use Rattle.base.specs.{Kinds.is_structural, Labels.is_in}
+use Rattle.policy.specs.Closed.{ComesToDerive, ComesToHold, ControlGives, IsClosed, IsLacking, MayBeGranted, MayBeLent, MayBind}
+use Rattle.policy.specs.{Closed.ShareDomain, Closing.IsWithin, Domain.{EdgeTest, IsInDomain}, Policy.allows}
 
 -- what the giver may do the taker may do too: they are of one domain, or the taker may be granted the giver's capabilities
 pub data Shares (test : EdgeTest) (giver taker : ℕ) : Type 0 where

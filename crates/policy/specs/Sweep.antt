@@ -1,8 +1,6 @@
 -- How the places of a rule of closed policies are numbered for the search (confine's own).
-use Rattle.std.specs.Prelude.{ℕ, ◌*◌, ◌/◌, ◌%◌, List, [], ◌∷◌}
-use Rattle.policy.specs.declared.broken.Rule.{Rule}
-use Rattle.policy.specs.declared.broken.Rule.TheVariants as rule
-use Rattle.policy.specs.Broken.{p1, p2, p3, p4, p5, p6, p7, p8}
+use Rattle.std.specs.Prelude.{[], ℕ, ◌%◌, ◌*◌, ◌/◌, ◌∷◌, List}
+use Rattle.policy.specs.{declared.broken.Rule.{Rule, Rule as rule}, Broken.{p1, p2, p3, p4, p5, p6, p7, p8}}
 
 abbrev pub rule_number : Rule → ℕ
 rule_number rule.P1 = p1

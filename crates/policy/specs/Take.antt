@@ -1,10 +1,8 @@
 -- What a label may take away: whose objects may shrink by the acts of a label, which is within cut authority
 -- (the deletions that 'seL4 Enforces Integrity', section 4, allows; the three ways are confine's own).
-use Rattle.std.specs.Prelude.{◌≡◌, ℕ, true, false, ◌⊎◌}
-use Rattle.base.specs.declared.kind.Kind.{Kind}
-use Rattle.base.specs.declared.kind.Kind.TheVariants.{Control, Receive, Reply, Context, Derive, Runs}
-use Rattle.policy.specs.Cut.{IsHolding, IsNear}
-use Rattle.policy.specs.Domain.{EdgeTest}
+use Rattle.std.specs.Prelude.{ℕ, ◌≡◌, ◌⊎◌, false, true}
+use Rattle.base.specs.declared.kind.Kind.{Kind, TheVariants.{Context, Control, Derive, Receive, Reply, Runs}}
+use Rattle.policy.specs.{Cut.{IsHolding, IsNear}, Domain.EdgeTest}
 
 -- one control edge, then at most one derive edge: where a may remove capabilities of others
 pub record MayRemoveFrom (test : EdgeTest) (a base : ℕ) : Type 0 where

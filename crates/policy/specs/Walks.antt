@@ -1,20 +1,9 @@
 -- Walks along chains of steps: each step goes along an edge or against one (confine's own).
-use Rattle.std.specs.Prelude.{◌≡◌, ℕ, Bool, true, List, [], ◌∷◌, ◌⊎◌, ◌==◌, Option, Some, None, MatchOption, if◌then◌else◌, Vec}
-use Rattle.std.specs.declared.alloc.Global.{Global}
-use Rattle.std.specs.declared.cmp.Ordering.TheVariants.{Less}
-use Rattle.std.specs.List.{list_any}
-use Rattle.std.specs.Ordering.{is_lt, nat_cmp}
-use Rattle.std.specs.Cmp.Lexicographic.{slice_cmp}
-use Rattle.base.specs.declared.edge.Edge.{Edge}
-use Rattle.base.specs.declared.kind.Kind.{Kind}
-use Rattle.base.specs.declared.labels.Labels.{Labels}
-use Rattle.base.specs.Kinds.{kind_number}
-use Rattle.base.specs.Labels.{is_in}
-use Rattle.policy.specs.declared.walks.Step.{Step}
-use Rattle.policy.specs.Domain.{EdgeTest}
-use Rattle.policy.specs.Places.{IsLeast, IsNone}
-use Rattle.policy.specs.Policy.{edge_cmp}
-use Rattle.policy.specs.Reasons.{reason_place}
+use Rattle.std.specs.{declared.{alloc.Global.Global, cmp.Ordering.TheVariants.Less}, Cmp.Lexicographic.slice_cmp, List.list_any}
+use Rattle.std.specs.{Ordering.{is_lt, nat_cmp}, Prelude.{[], ℕ, ◌==◌, ◌∷◌, ◌≡◌, ◌⊎◌, Bool, List, MatchOption, None, Option, Some, Vec}}
+use Rattle.std.specs.Prelude.{if◌then◌else◌, true}
+use Rattle.base.specs.{declared.{edge.Edge.Edge, kind.Kind.Kind, labels.Labels.Labels}, Kinds.kind_number, Labels.is_in}
+use Rattle.policy.specs.{declared.walks.Step.Step, Domain.EdgeTest, Places.{IsLeast, IsNone}, Policy.edge_cmp, Reasons.reason_place}
 
 abbrev pub is_of : List Kind → Kind → Bool
 is_of kinds kind = list_any (λ other. kind_number kind == kind_number other) kinds

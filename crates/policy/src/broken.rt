@@ -2,12 +2,9 @@ pub(crate) mod cells;
 pub(crate) mod rules;
 pub(crate) mod steps;
 
-ghost use Rattle.std.specs.Prelude.{◌≡◌, ◌*◌, ◌/◌, ◌%◌, ◌<◌, ◌≤◌, ◌∷◌, [], IsTrue};
+ghost use Rattle.std.specs.Prelude.{[], ◌%◌, ◌*◌, ◌/◌, ◌<◌, ◌∷◌, ◌≡◌, ◌≤◌, IsTrue};
 ghost use Rattle.base.specs.declared.label.TheConstants.Label as Label;
-ghost use Rattle.policy.specs.Broken.{IsBrokenAt, broken_place, broken_rule};
-ghost use Rattle.policy.specs.Places.{FindsLeast};
-ghost use Rattle.policy.specs.Policy.{allows};
-ghost use Rattle.policy.specs.Search.{FindsBroken};
+ghost use Rattle.policy.specs.{Broken.{IsBrokenAt, broken_place, broken_rule}, Places.FindsLeast, Policy.allows, Search.FindsBroken};
 ghost use Rattle.policy.specs.Sweep.{count_of, place_of, rule_number};
 
 use crate::Policy;

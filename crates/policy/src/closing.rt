@@ -1,11 +1,7 @@
-ghost use Rattle.std.specs.Prelude.{◌≡◌, ◌↔◌, ◌++◌, ◌||◌, ℕ, true, false, IfErr, IfOk, OnOk};
-ghost use Rattle.base.specs.declared.kind.Kind.{Kind};
-ghost use Rattle.base.specs.Labels.{is_in};
-ghost use Rattle.base.specs.Refusals.{out_of_memory};
-ghost use Rattle.policy.specs.Closed.{ControlGives, IsClosed};
-ghost use Rattle.policy.specs.Closing.{IsLeastClosed};
-ghost use Rattle.policy.specs.Settling.{Grows, IsGiven, IsMissing, IsSettled, Joins, Shares};
-ghost use Rattle.policy.specs.Policy.{allows};
+ghost use Rattle.std.specs.Prelude.{ℕ, ◌++◌, ◌||◌, ◌↔◌, ◌≡◌, IfErr, IfOk, OnOk, false, true};
+ghost use Rattle.base.specs.{declared.kind.Kind.Kind, Labels.is_in, Refusals.out_of_memory};
+ghost use Rattle.policy.specs.{Closed.{ControlGives, IsClosed}, Closing.IsLeastClosed, Policy.allows, Settling.{Grows, IsGiven, IsMissing}};
+ghost use Rattle.policy.specs.Settling.{IsSettled, Joins, Shares};
 
 use crate::Policy;
 use crate::broken::rules::{

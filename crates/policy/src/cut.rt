@@ -1,8 +1,6 @@
-ghost use Rattle.std.specs.Prelude.{◌≡◌, ◌↔◌, ℕ, true, IsTrue};
+ghost use Rattle.std.specs.Prelude.{ℕ, ◌↔◌, ◌≡◌, IsTrue, true};
 ghost use Rattle.base.specs.Labels.{is_in};
-ghost use Rattle.policy.specs.Cut.{IsCut, IsBase, IsNear};
-ghost use Rattle.policy.specs.Policy.{allows};
-ghost use Rattle.policy.specs.Steps.{IsNearSome};
+ghost use Rattle.policy.specs.{Cut.{IsBase, IsCut, IsNear}, Policy.allows, Steps.IsNearSome};
 
 use crate::Policy;
 use base::{Kind, Label, Labels};

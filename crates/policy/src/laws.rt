@@ -1,13 +1,8 @@
-ghost use Rattle.std.specs.Prelude.{◌≡◌, ◌↔◌, ◌⊎◌, ℕ, true};
+ghost use Rattle.std.specs.Prelude.{ℕ, ◌↔◌, ◌≡◌, ◌⊎◌, true};
 ghost use Rattle.base.specs.declared.kind.Kind.{Kind};
 ghost use Rattle.base.specs.declared.kind.Kind.TheVariants as authority;
-ghost use Rattle.policy.specs.Broken.{IsBrokenAt};
-ghost use Rattle.policy.specs.Closed.{IsClosed};
-ghost use Rattle.policy.specs.Cut.{IsCut, IsHolding, IsNear};
-ghost use Rattle.policy.specs.declared.broken.Broken.{Broken as BrokenOf};
-ghost use Rattle.policy.specs.Domain.{EdgeTest};
-ghost use Rattle.policy.specs.Needed.{BreaksOnly, Obeys, Rule};
-ghost use Rattle.policy.specs.Take.{HasNone, MayTake};
+ghost use Rattle.policy.specs.{declared.broken.Broken.Broken as BrokenOf, Broken.IsBrokenAt, Closed.IsClosed, Cut.{IsCut, IsHolding}};
+ghost use Rattle.policy.specs.{Cut.IsNear, Domain.EdgeTest, Needed.{BreaksOnly, Obeys, Rule}, Take.{HasNone, MayTake}};
 
 /// A law: the policy with every edge is closed; a closed policy obeys each of the eight rules; and no
 /// rule follows from the others, since for each there is a policy that breaks it alone, and so isn't

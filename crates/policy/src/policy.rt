@@ -1,11 +1,9 @@
-ghost use Rattle.std.specs.Prelude.{◌≡◌, ℕ, ◌+◌, ◌<◌, ◌≤◌, ◌||◌, max, true, List, [], ◌∷◌, ◌++◌, IsOk, OnOk, OnErr, IfErr, IfOk, SomeIff, vec_len};
-ghost use Rattle.base.specs.declared.edge.Edge.{Edge};
-ghost use Rattle.base.specs.declared.kind.Kind.{Kind};
+ghost use Rattle.std.specs.Prelude.{[], ℕ, ◌++◌, ◌+◌, ◌<◌, ◌||◌, ◌∷◌, ◌≡◌, ◌≤◌, IfErr, IfOk, IsOk, List, OnErr, OnOk, SomeIff, max, true};
+ghost use Rattle.std.specs.Prelude.{vec_len};
+ghost use Rattle.base.specs.{declared.{edge.Edge.Edge, kind.Kind.Kind}, Labels.is_in, Refusals.out_of_memory};
 ghost use Rattle.base.specs.declared.label.TheConstants.Label as Label;
-ghost use Rattle.base.specs.Labels.{is_in};
-ghost use Rattle.base.specs.Refusals.{out_of_memory};
-ghost use Rattle.policy.specs.Policy.{IsRising, IsAboveLast, JoinsBelow, JoinsLabels, allows, is_edge, last_edge};
-ghost use Rattle.policy.specs.Rows.{edge_at, edge_count, last_with, row_number, row_of};
+ghost use Rattle.policy.specs.{Policy.{IsAboveLast, IsRising, JoinsBelow, JoinsLabels, allows, is_edge, last_edge}, Rows.edge_at};
+ghost use Rattle.policy.specs.Rows.{edge_count, last_with, row_number, row_of};
 
 use base::{Edge, Kind, Label, Labels, Refusal};
 use std::alloc::{AllocError, Global};

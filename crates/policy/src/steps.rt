@@ -1,7 +1,6 @@
-ghost use Rattle.std.specs.Prelude.{◌≡◌, ◌↔◌, ℕ, true};
+ghost use Rattle.std.specs.Prelude.{ℕ, ◌↔◌, ◌≡◌, true};
 ghost use Rattle.base.specs.Labels.{is_in};
-ghost use Rattle.policy.specs.Policy.{allows};
-ghost use Rattle.policy.specs.Steps.{is_joined, IsSource, IsTarget};
+ghost use Rattle.policy.specs.{Policy.allows, Steps.{IsSource, IsTarget, is_joined}};
 
 use crate::Policy;
 use base::{Kind, Label, Labels};

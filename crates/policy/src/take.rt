@@ -1,7 +1,6 @@
-ghost use Rattle.std.specs.Prelude.{◌≡◌, ◌↔◌, ℕ, true, IsTrue};
+ghost use Rattle.std.specs.Prelude.{ℕ, ◌↔◌, ◌≡◌, IsTrue, true};
 ghost use Rattle.base.specs.Labels.{is_in};
-ghost use Rattle.policy.specs.Policy.{allows};
-ghost use Rattle.policy.specs.Take.{MayRemoveFrom, MayRemoveNear, MayTake};
+ghost use Rattle.policy.specs.{Policy.allows, Take.{MayRemoveFrom, MayRemoveNear, MayTake}};
 
 use crate::Policy;
 use crate::cut::HOLDING;

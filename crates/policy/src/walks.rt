@@ -1,13 +1,9 @@
-ghost use Rattle.std.specs.Prelude.{◌≡◌, ◌↔◌, ◌==◌, ◌&&◌, ℕ, List, ◌++◌, true, IfErr, IfOk, IsTrue, OnOk};
-ghost use Rattle.std.specs.Ordering.{is_lt, nat_cmp};
-ghost use Rattle.std.specs.Cmp.Lexicographic.{slice_cmp};
-ghost use Rattle.base.specs.declared.edge.Edge.{Edge};
-ghost use Rattle.base.specs.Labels.{is_in};
-ghost use Rattle.base.specs.Refusals.{out_of_memory};
-ghost use Rattle.policy.specs.declared.walks.Step.{Step as StepOf};
-ghost use Rattle.policy.specs.Policy.{allows};
-ghost use Rattle.policy.specs.Reasons.{edge, reason_place};
-ghost use Rattle.policy.specs.Walks.{FindsFirst, FindsWalk, GoesAgainst, GoesAlong, GoesEitherWay, IsPartOf, IsWalk, Leads, LeadsOf, is_of, lesser_of, other_end};
+ghost use Rattle.std.specs.{Cmp.Lexicographic.slice_cmp, Ordering.{is_lt, nat_cmp}, Prelude.{ℕ, ◌&&◌, ◌++◌, ◌==◌, ◌↔◌, ◌≡◌, IfErr, IfOk}};
+ghost use Rattle.std.specs.Prelude.{IsTrue, List, OnOk, true};
+ghost use Rattle.base.specs.{declared.edge.Edge.Edge, Labels.is_in, Refusals.out_of_memory};
+ghost use Rattle.policy.specs.{declared.walks.Step.Step as StepOf, Policy.allows, Reasons.{edge, reason_place}, Walks.FindsFirst};
+ghost use Rattle.policy.specs.Walks.{FindsWalk, GoesAgainst, GoesAlong, GoesEitherWay, IsPartOf, IsWalk, Leads, LeadsOf, is_of, lesser_of};
+ghost use Rattle.policy.specs.Walks.{other_end};
 
 use crate::Policy;
 use crate::broken::cells::first_cell;

@@ -1,8 +1,6 @@
 ghost use Rattle.std.specs.Prelude.{◌≡◌, IfErr, IfOk};
 ghost use Rattle.base.specs.Refusals.{out_of_memory};
-ghost use Rattle.policy.specs.Policy.{allows};
-ghost use Rattle.policy.specs.Reasons.{IsFullBy, IsRemoveBy, IsTakeBy, IsWhy};
-ghost use Rattle.policy.specs.Walks.{FindsWalk};
+ghost use Rattle.policy.specs.{Policy.allows, Reasons.{IsFullBy, IsRemoveBy, IsTakeBy, IsWhy}, Walks.FindsWalk};
 
 use crate::Policy;
 use crate::cut::{HOLDING, LINKS};

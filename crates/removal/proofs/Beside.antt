@@ -1,12 +1,9 @@
 -- Where nothing is going any more all else is as it was, and a change of the derivation tree alone leaves a removal where it stands.
-use Rattle.std.proofs.Common.{◌≡◌, ℕ, Bool, refl, ap, ◌∙◌, arith}
-use Rattle.std.specs.FinMap.{FinMap}
+use Rattle.std.{specs.FinMap.FinMap, proofs.Common.{ℕ, ◌∙◌, ◌≡◌, Bool, ap, arith, refl}}
 use Rattle.base.specs.declared.ids.SlotRef.{SlotRef}
-use Rattle.derivation.specs.Removing.{parent_without}
-use Rattle.machine.specs.Changes.{with_none_going}
-use Rattle.machine.specs.Counts.{caps_to}
-use Rattle.machine.specs.Machine.{Machine, object_of, cap_of, parent_of, slot_cmp}
+use Rattle.machine.specs.{Changes.with_none_going, Counts.caps_to, Machine.{Machine, cap_of, object_of, parent_of, slot_cmp}}
 use Rattle.machine.specs.WellFormed.{Descends, child, further}
+use Rattle.derivation.specs.Removing.{parent_without}
 use Rattle.removal.specs.UnderWay.{AreGoing, IsUnderWay}
 
 -- where nothing is going any more

@@ -1,15 +1,10 @@
 -- How far a cascade has come, and what it has reached where no more objects are going.
-use Rattle.std.proofs.Common.{◌≡◌, ◌+◌, ℕ, Bool, true, refl, ap, ◌∙◌, arith, add-one}
-use Rattle.std.specs.Prelude.{Some, None, slice_get}
+use Rattle.std.{specs.Prelude.{None, Some, slice_get}, proofs.Common.{ℕ, ◌+◌, ◌∙◌, ◌≡◌, Bool, add-one, ap, arith, refl, true}}
 use Rattle.std.proofs.lemmas.Option.{slice_get_past}
-use Rattle.base.specs.declared.ids.ObjId.{ObjId}
-use Rattle.base.specs.declared.ids.SlotRef.{SlotRef}
-use Rattle.machine.specs.Counts.{objects_in}
-use Rattle.machine.specs.Machine.{Machine, cap_of}
-use Rattle.removal.specs.UnderWay.{AreEmptied, AreGoing, IsUnderWay, emptied, emptied_below, slots_at}
-use Rattle.removal.proofs.Ending.{ended}
-use Rattle.removal.proofs.Fitting.{no_more_than_objects}
-use Rattle.removal.proofs.Turns.{empty_below, rest_below, turned}
+use Rattle.base.specs.declared.ids.{ObjId.ObjId, SlotRef.SlotRef}
+use Rattle.machine.specs.{Counts.objects_in, Machine.{Machine, cap_of}}
+use Rattle.removal.{specs.UnderWay.{AreEmptied, AreGoing, IsUnderWay, emptied, emptied_below, slots_at}, proofs.Ending.ended}
+use Rattle.removal.proofs.{Fitting.no_more_than_objects, Turns.{empty_below, rest_below, turned}}
 
 pub below_more :
     (m : Machine) (id : ObjId) (index : ℕ)

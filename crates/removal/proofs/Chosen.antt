@@ -1,16 +1,9 @@
 -- Where one slot is chosen, it leaves the tree and is emptied, a removal is under way from which all else follows.
-use Rattle.std.proofs.Common.{◌≡◌, true, ap, subst, ◌∙◌}
-use Rattle.std.specs.Prelude.{None}
+use Rattle.std.{specs.Prelude.None, proofs.Common.{◌∙◌, ◌≡◌, ap, subst, true}}
 use Rattle.base.specs.declared.ids.SlotRef.{SlotRef}
-use Rattle.machine.specs.Changes.{with_none_going}
-use Rattle.machine.specs.Gone.{given}
-use Rattle.machine.specs.Machine.{Machine, cap_of, parent_of, same_slot}
-use Rattle.machine.proofs.FiniteLemmas.{ties_itself}
-use Rattle.machine.proofs.LookUps.{slot_total, slot_apart, one_slot}
-use Rattle.removal.specs.UnderWay.{IsUnderWay, emptied}
-use Rattle.removal.proofs.Beside.{way_stays}
-use Rattle.removal.proofs.Emptying.{emptied_way}
-use Rattle.removal.proofs.Ending.{begun}
+use Rattle.machine.specs.{Changes.with_none_going, Gone.given, Machine.{Machine, cap_of, parent_of, same_slot}}
+use Rattle.machine.proofs.{FiniteLemmas.ties_itself, LookUps.{one_slot, slot_apart, slot_total}}
+use Rattle.removal.{specs.UnderWay.{IsUnderWay, emptied}, proofs.{Beside.way_stays, Emptying.emptied_way, Ending.begun}}
 use Rattle.removal.proofs.Turns.{emptied_there}
 
 pub same_caps : (m next : Machine) → next ≡ record m { parents = next.parents } → (q : SlotRef) → cap_of next q ≡ cap_of m q

@@ -1,31 +1,15 @@
 -- How much of what descends from a slot has been emptied and has left the tree, where its children do so one after another.
-use Rattle.std.proofs.Common.{◌≡◌, ◌≢◌, ◌<◌, Bool, true, false, cond, List, refl, sym, ap, subst, ◌∙◌}
-use Rattle.std.proofs.Common.{inl, inr}
-use Rattle.std.specs.Prelude.{Option, Some, None, is_some, option_and_then, ◌⊎◌, if◌then◌else◌}
-use Rattle.std.specs.FinMap.{keys}
-use Rattle.std.specs.List.{count_by, list_any}
-use Rattle.std.proofs.lemmas.Bool.{false≢true}
+use Rattle.std.specs.{FinMap.keys, List.{count_by, list_any}, Prelude.{◌⊎◌, None, Option, Some, if◌then◌else◌, is_some, option_and_then}}
+use Rattle.std.proofs.{Common.{◌<◌, ◌∙◌, ◌≡◌, ◌≢◌, Bool, List, ap, cond, false, inl, inr, refl, subst, sym, true}, lemmas.Bool.false≢true}
 use Rattle.std.proofs.lemmas.Option.{none-some, same_Some}
 use Rattle.base.specs.declared.ids.SlotRef.{SlotRef}
+use Rattle.machine.specs.{Below.is_below, Changes.with_none_going, Gone.given, Machine.{Machine, cap_of, parent_of, same_slot}}
+use Rattle.machine.{specs.{Orphans.past, WellFormed.{Descends, child, further}}, proofs.BelowLemmas.below_decided}
+use Rattle.machine.proofs.{FiniteLemmas.ties_itself, LookUps.{one_slot, slot_apart, slot_total}, RemovalStays.further_on}
+use Rattle.objects.proofs.{Passing.fewer_pass, Ways.among_keys}
 use Rattle.derivation.specs.Removing.{parent_without}
-use Rattle.machine.specs.Below.{is_below}
-use Rattle.machine.specs.Changes.{with_none_going}
-use Rattle.machine.specs.Gone.{given}
-use Rattle.machine.specs.Machine.{Machine, cap_of, parent_of, same_slot}
-use Rattle.machine.specs.Orphans.{past}
-use Rattle.machine.specs.WellFormed.{Descends, child, further}
-use Rattle.machine.proofs.BelowLemmas.{below_decided}
-use Rattle.machine.proofs.FiniteLemmas.{ties_itself}
-use Rattle.machine.proofs.LookUps.{slot_total, slot_apart, one_slot}
-use Rattle.machine.proofs.RemovalStays.{further_on}
-use Rattle.objects.proofs.Passing.{fewer_pass}
-use Rattle.objects.proofs.Ways.{among_keys}
-use Rattle.removal.specs.UnderWay.{AreGoing, IsUnderWay, emptied}
-use Rattle.removal.proofs.Beside.{descends_cleared, none_going, parent_of-with_none_going, way_stays}
-use Rattle.removal.proofs.Chosen.{same_caps}
-use Rattle.removal.proofs.Emptying.{emptied_way}
-use Rattle.removal.proofs.Ending.{begun}
-use Rattle.removal.proofs.Turns.{emptied_there, stays_emptied}
+use Rattle.removal.{specs.UnderWay.{AreGoing, IsUnderWay, emptied}, proofs.Beside.{descends_cleared, none_going, parent_of-with_none_going}}
+use Rattle.removal.proofs.{Beside.way_stays, Chosen.same_caps, Emptying.emptied_way, Ending.begun, Turns.{emptied_there, stays_emptied}}
 
 -- a child of a slot leaves the tree
 module _

@@ -1,15 +1,12 @@
 -- Objects to which nothing holds go one after another.
-use Rattle.std.proofs.Common.{◌≡◌, ◌≤◌, ℕ, zero, suc, ◌+◌, Bool, true, false, cond, List, [], ◌∷◌, length, inl, inr, refl, sym, ap, subst, ◌∙◌, arith, take}
-use Rattle.std.specs.Prelude.{Option, Some, None, IsSome, Contains, slice_get, option_and_then, ◌||◌}
-use Rattle.std.specs.List.{list_any}
-use Rattle.std.proofs.lemmas.Option.{get_or_from_slice_get, same_Some, slice_get_within}
-use Rattle.base.specs.declared.ids.ObjId.{ObjId}
-use Rattle.base.specs.declared.ids.SlotRef.{SlotRef}
-use Rattle.machine.specs.declared.cap.Cap.{Cap}
-use Rattle.machine.specs.Changes.{first_waiting, with_none_going, without_object}
-use Rattle.machine.specs.Machine.{Machine, object_of, queue_of, words_of, cap_of, parent_of, same_id}
-use Rattle.machine.proofs.ObjectGone.{caps_to-without_object, cap_of-without_object, next-without_object}
-use Rattle.machine.proofs.ObjectGone.{object_of-without_object, parent_of-without_object, queue_of-without_object, words_of-without_object}
+use Rattle.std.{specs.{List.list_any, Prelude.{◌||◌, Contains, IsSome, None, Option, Some, option_and_then, slice_get}}, proofs.Common.[]}
+use Rattle.std.proofs.Common.{ℕ, ◌+◌, ◌∙◌, ◌∷◌, ◌≡◌, ◌≤◌, Bool, List, ap, arith, cond, false, inl, inr, length, refl, subst, suc, sym, take}
+use Rattle.std.proofs.{Common.{true, zero}, lemmas.Option.{get_or_from_slice_get, same_Some, slice_get_within}}
+use Rattle.base.specs.declared.ids.{ObjId.ObjId, SlotRef.SlotRef}
+use Rattle.machine.specs.{declared.cap.Cap.Cap, Changes.{first_waiting, with_none_going, without_object}, Machine.{Machine, cap_of}}
+use Rattle.machine.{specs.Machine.{object_of, parent_of, queue_of, same_id, words_of}, proofs.ObjectGone.cap_of-without_object}
+use Rattle.machine.proofs.ObjectGone.{caps_to-without_object, next-without_object, object_of-without_object, parent_of-without_object}
+use Rattle.machine.proofs.ObjectGone.{queue_of-without_object, words_of-without_object}
 use Rattle.objects.specs.Pairs.{AreFilled, AreFilledOrGoing, IsFilledOrGoing}
 use Rattle.removal.specs.Dropping.{IsCutOff, dropped, without_objects}
 

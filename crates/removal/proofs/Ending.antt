@@ -1,19 +1,12 @@
 -- A removal has come to its end where the chosen slots are empty and each object that is going has been looked through.
-use Rattle.std.proofs.Common.{◌≡◌, ◌≤◌, ℕ, zero, suc, Bool, true, false, cond, List, [], ◌∷◌, length, refl, sym, ap, subst, ◌∙◌, arith}
-use Rattle.std.proofs.Common.{inl, inr}
-use Rattle.std.specs.Prelude.{Option, Some, None, Contains, is_some, not, ◌⊎◌, slice_get}
-use Rattle.std.proofs.lemmas.Bool.{false≢true}
+use Rattle.std.{specs.Prelude.{◌⊎◌, Contains, None, Option, Some, is_some, not, slice_get}, proofs.Common.{[], ℕ, ◌∙◌, ◌∷◌, ◌≡◌, ◌≤◌, Bool}}
+use Rattle.std.proofs.{Common.{List, ap, arith, cond, false, inl, inr, length, refl, subst, suc, sym, true, zero}, lemmas.Bool.false≢true}
 use Rattle.std.proofs.lemmas.Option.{slice_get-get_or}
 use Rattle.base.specs.declared.ids.SlotRef.{SlotRef}
-use Rattle.machine.specs.declared.cap.Cap.{Cap}
-use Rattle.machine.specs.Changes.{with_none_going}
-use Rattle.machine.specs.Counts.{caps_to}
-use Rattle.machine.specs.Gone.{IsClosedSet, IsGone, LosesAll, gone_of}
-use Rattle.machine.specs.Machine.{Machine, cap_of}
-use Rattle.machine.specs.Removal.{cap_after}
-use Rattle.machine.proofs.CapCounts.{all_lost, caps_to-some, none-caps_to, none_left}
-use Rattle.machine.proofs.GoneLemmas.{gone_decided, gone_least, losing_decided}
-use Rattle.removal.specs.UnderWay.{IsUnderWay, AreEmptied}
+use Rattle.machine.specs.{declared.cap.Cap.Cap, Changes.with_none_going, Counts.caps_to, Gone.{IsClosedSet, IsGone, LosesAll, gone_of}}
+use Rattle.machine.{specs.{Machine.{Machine, cap_of}, Removal.cap_after}, proofs.CapCounts.{all_lost, caps_to-some, none-caps_to}}
+use Rattle.machine.proofs.{CapCounts.none_left, GoneLemmas.{gone_decided, gone_least, losing_decided}}
+use Rattle.removal.specs.UnderWay.{AreEmptied, IsUnderWay}
 
 none_past : {A : Type 0} → (xs : List A) (k : ℕ) → slice_get xs k ≡ None → length xs ≤ k
 none_past [] k none = omega arith

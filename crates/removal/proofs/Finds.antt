@@ -1,23 +1,14 @@
 -- Where chosen slots have left the tree and all that goes with them is empty, all that goes has been found.
-use Rattle.std.proofs.Common.{◌≡◌, Bool, true, false, cond, refl, sym, ap, subst, ◌∙◌}
-use Rattle.std.specs.Prelude.{Option, Some, None, is_some, if◌then◌else◌}
-use Rattle.std.proofs.lemmas.Bool.{false≢true}
+use Rattle.std.{specs.Prelude.{None, Option, Some, if◌then◌else◌, is_some}, proofs.Common.{◌∙◌, ◌≡◌, Bool, ap, cond, false, refl, subst}}
+use Rattle.std.proofs.{Common.{sym, true}, lemmas.Bool.false≢true}
 use Rattle.base.specs.declared.ids.SlotRef.{SlotRef}
-use Rattle.machine.specs.Below.{is_below}
-use Rattle.machine.specs.Gone.{gone_of}
-use Rattle.machine.specs.Machine.{Machine, parent_of, same_slot}
-use Rattle.machine.specs.Orphans.{Nearest, no_ancestor, survives}
-use Rattle.machine.specs.WellFormed.{IsWellFormed, child, further}
-use Rattle.machine.proofs.BelowLemmas.{below_decided}
-use Rattle.machine.proofs.Exchange.{slot_itself}
-use Rattle.machine.proofs.GoneLemmas.{gone_least}
-use Rattle.machine.proofs.LookUps.{one_slot}
+use Rattle.machine.specs.{Below.is_below, Gone.gone_of, Machine.{Machine, parent_of, same_slot}, Orphans.{Nearest, no_ancestor, survives}}
+use Rattle.machine.{specs.WellFormed.{IsWellFormed, child, further}, proofs.{BelowLemmas.below_decided, Exchange.slot_itself}}
+use Rattle.machine.proofs.{GoneLemmas.gone_least, LookUps.one_slot}
 use Rattle.objects.specs.Pairs.{AreFilled}
-use Rattle.derivation.specs.Removing.{HasParents, HaveLeft, parent_without}
-use Rattle.derivation.proofs.Leavings.{left_alike, left_alone, node_left}
+use Rattle.derivation.{specs.Removing.{HasParents, HaveLeft, parent_without}, proofs.Leavings.{left_alike, left_alone, node_left}}
 use Rattle.derivation.proofs.Thinnings.{thinned_alike, thinned_at_first, thinned_where_left}
-use Rattle.removal.specs.Sweeping.{IsFound}
-use Rattle.removal.specs.UnderWay.{AreEmptied, AreGoing}
+use Rattle.removal.specs.{Sweeping.IsFound, UnderWay.{AreEmptied, AreGoing}}
 
 -- a machine with the tree of another
 abbrev with_tree : Machine → Machine → Machine

@@ -1,19 +1,12 @@
 -- A list of objects that are there, none of them twice, is no longer than there are objects.
-use Rattle.std.proofs.Common.{◌≡◌, ◌≢◌, ◌<◌, ◌≤◌, ◌-◌, ℕ, zero, suc, cond, List, [], ◌∷◌, ◌++◌, length, refl, sym, ap, subst, ◌∙◌, arith}
-use Rattle.std.proofs.Common.{inl, inr, length-append}
-use Rattle.std.proofs.lemmas.List.{get_or_default, length-map}
-use Rattle.std.specs.Prelude.{None, IsSome, is_some, Contains, ◌⊎◌}
+use Rattle.std.{specs.{FinMap.{FinMap, entries}, Prelude.{◌⊎◌, Contains, IsSome, None, is_some}}, proofs.Common.{[], ℕ, ◌++◌, ◌-◌, ◌<◌}}
 use Rattle.std.specs.FinMap as map
-use Rattle.std.specs.FinMap.{FinMap, entries}
-use Rattle.std.proofs.lemmas.Bool.{false≢true}
-use Rattle.std.proofs.lemmas.List.Elements.{Contains-append_cases}
+use Rattle.std.proofs.Common.{◌∙◌, ◌∷◌, ◌≡◌, ◌≢◌, ◌≤◌, List, ap, arith, cond, inl, inr, length, length-append, refl, subst, suc, sym, zero}
+use Rattle.std.proofs.lemmas.{Bool.false≢true, List.{get_or_default, length-map, Elements.Contains-append_cases}}
 use Rattle.std.proofs.lemmas.List.Quantifiers.{all_pairs_push, all_pairs_remove}
 use Rattle.base.specs.declared.ids.ObjId.{ObjId}
-use Rattle.machine.specs.declared.object.Object.{Object}
-use Rattle.machine.specs.Counts.{objects_in}
-use Rattle.machine.specs.Machine.{Machine, id_cmp, object_of}
-use Rattle.machine.proofs.FiniteLemmas.{cond_elsewhere}
-use Rattle.machine.proofs.LookUps.{id_total, id_apart}
+use Rattle.machine.specs.{declared.object.Object.Object, Counts.objects_in, Machine.{Machine, id_cmp, object_of}}
+use Rattle.machine.proofs.{FiniteLemmas.cond_elsewhere, LookUps.{id_apart, id_total}}
 use Rattle.removal.specs.UnderWay.{HasNoneTwice}
 
 -- what stands first, if it stands once

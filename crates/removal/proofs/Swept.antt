@@ -1,32 +1,17 @@
 -- Once all that goes is empty: the rest of a removal, pass by pass, and that it ends as the removal does.
-use Rattle.std.proofs.Common.{◌≡◌, Bool, true, false, cond, List, inl, inr, refl, sym, ap, subst, ◌∙◌}
-use Rattle.std.specs.Prelude.{Option, Some, None, Contains, IsTrue, option_map, count_by}
+use Rattle.std.specs.{FinMap.FinMap, List.list_any, Prelude.{Contains, IsTrue, None, Option, Some, count_by, option_map}}
 use Rattle.std.specs.FinMap as map
-use Rattle.std.specs.FinMap.{FinMap}
-use Rattle.std.specs.List.{list_any}
-use Rattle.std.proofs.lemmas.Bool.{false≢true}
-use Rattle.base.specs.declared.ids.ObjId.{ObjId}
-use Rattle.base.specs.declared.ids.SlotRef.{SlotRef}
-use Rattle.machine.specs.declared.cap.Cap.{Cap}
-use Rattle.machine.specs.declared.object.Object.{Object}
-use Rattle.machine.specs.Counts.{caps_to}
-use Rattle.machine.specs.Finalising.{finalised, staying_in}
-use Rattle.machine.specs.Gone.{is_for}
-use Rattle.machine.specs.Machine.{Machine, object_of, queue_of, words_of, cap_of, parent_of, has_slot, same_id, slot_cmp}
-use Rattle.machine.specs.Removal.{removed, vanishes}
-use Rattle.machine.specs.Tree.{IsAlone}
-use Rattle.machine.specs.WellFormed.{LinksAgree}
-use Rattle.machine.proofs.Ids.{itself}
-use Rattle.machine.proofs.LookUps.{one_id, same_machine}
-use Rattle.machine.proofs.RemovalLooks.{cap_of-removed, going-removed, next-removed, object_of-removed, parent_of-removed, queue_of-removed, words_of-removed}
-use Rattle.derivation.specs.OwnSlots.{is_going_slot}
-use Rattle.derivation.specs.Removing.{HaveLeft}
-use Rattle.derivation.proofs.Leavings.{alone_where_left, left_alone}
+use Rattle.std.proofs.{Common.{◌∙◌, ◌≡◌, Bool, List, ap, cond, false, inl, inr, refl, subst, sym, true}, lemmas.Bool.false≢true}
+use Rattle.base.specs.declared.ids.{ObjId.ObjId, SlotRef.SlotRef}
+use Rattle.machine.specs.{declared.{cap.Cap.Cap, object.Object.Object}, Counts.caps_to, Finalising.{finalised, staying_in}, Gone.is_for}
+use Rattle.machine.specs.{Machine.{Machine, cap_of, has_slot, object_of, parent_of, queue_of, same_id, slot_cmp, words_of}, Removal.removed}
+use Rattle.machine.{specs.{Removal.vanishes, Tree.IsAlone, WellFormed.LinksAgree}, proofs.{Ids.itself, LookUps.{one_id, same_machine}}}
+use Rattle.machine.proofs.RemovalLooks.{cap_of-removed, going-removed, next-removed, object_of-removed, parent_of-removed, queue_of-removed}
+use Rattle.machine.proofs.RemovalLooks.{words_of-removed}
+use Rattle.derivation.{specs.{OwnSlots.is_going_slot, Removing.HaveLeft}, proofs.Leavings.{alone_where_left, left_alone}}
 use Rattle.derivation.proofs.TreeAfter.{any_listed, listed_any, there_or_alone, tree_after}
 use Rattle.finalising.specs.Pass.{IsFinalised}
-use Rattle.removal.specs.Dropping.{IsCutOff, dropped}
-use Rattle.removal.specs.Sweeping.{IsFound}
-use Rattle.removal.proofs.Dropped.{IsWithout, dropped_looks}
+use Rattle.removal.{specs.{Dropping.{IsCutOff, dropped}, Sweeping.IsFound}, proofs.Dropped.{IsWithout, dropped_looks}}
 
 -- links between objects are agreed whatever the capabilities and the tree
 links_beside :

@@ -1,23 +1,13 @@
 -- A removal stays under way where an object that is going is looked through, and then one more has been.
-use Rattle.std.proofs.Common.{◌≡◌, ◌<◌, ◌≤◌, ◌+◌, ℕ, zero, suc, Bool, true, false, cond, [], ◌∷◌, refl, sym, ap, subst, ◌∙◌, arith}
-use Rattle.std.proofs.Common.{inl, inr, eqb-true}
-use Rattle.std.proofs.lemmas.Bool.{eqb-false, false≢true, ltb-true}
-use Rattle.std.specs.Prelude.{Option, Some, None, Contains, IsTrue, is_some, not, ◌⊎◌, ◌==◌, slice_get}
-use Rattle.std.proofs.lemmas.Option.{get_or_from_slice_get, same_Some, slice_get-get_or, slice_get_within}
-use Rattle.base.specs.declared.ids.ObjId.{ObjId}
-use Rattle.base.specs.declared.ids.SlotRef.{SlotRef}
-use Rattle.machine.specs.declared.cap.Cap.{Cap}
-use Rattle.machine.specs.declared.object.Object.{Object}
-use Rattle.machine.specs.declared.object.Object.TheVariants as o
-use Rattle.machine.specs.Changes.{with_going}
-use Rattle.machine.specs.Counts.{caps_to}
-use Rattle.machine.specs.Gone.{IsGone, LosesAll, has_slots, with_last, is_holder}
-use Rattle.machine.specs.Machine.{Machine, object_of, cap_of, has_slot, without_cap}
-use Rattle.machine.specs.Objects.{slot_count}
-use Rattle.machine.specs.Removal.{cap_after}
-use Rattle.machine.proofs.CapCounts.{all_lost, caps_to-none}
-use Rattle.removal.specs.UnderWay.{IsUnderWay, noted, emptied, emptied_below, slots_of, slots_at}
-use Rattle.removal.proofs.Dropped.{listed_at}
+use Rattle.std.{specs.Prelude.{◌==◌, ◌⊎◌, Contains, IsTrue, None, Option, Some, is_some, not, slice_get}, proofs.Common.{[], ℕ, ◌+◌, ◌<◌}}
+use Rattle.std.proofs.Common.{◌∙◌, ◌∷◌, ◌≡◌, ◌≤◌, Bool, ap, arith, cond, eqb-true, false, inl, inr, refl, subst, suc, sym, true, zero}
+use Rattle.std.proofs.lemmas.{Bool.{eqb-false, false≢true, ltb-true}, Option.{get_or_from_slice_get, same_Some, slice_get-get_or}}
+use Rattle.std.proofs.lemmas.Option.{slice_get_within}
+use Rattle.base.specs.declared.ids.{ObjId.ObjId, SlotRef.SlotRef}
+use Rattle.machine.specs.{declared.{cap.Cap.Cap, object.Object.{Object, Object as o}}, Changes.with_going, Counts.caps_to, Gone.IsGone}
+use Rattle.machine.specs.{Gone.{LosesAll, has_slots, is_holder, with_last}, Machine.{Machine, cap_of, has_slot, object_of, without_cap}}
+use Rattle.machine.{specs.{Objects.slot_count, Removal.cap_after}, proofs.CapCounts.{all_lost, caps_to-none}}
+use Rattle.removal.{specs.UnderWay.{IsUnderWay, emptied, emptied_below, noted, slots_at, slots_of}, proofs.Dropped.listed_at}
 use Rattle.removal.proofs.Emptying.{cap_of-with_going, emptied_here, emptied_way, get_front, stays_empty}
 
 -- what has slots is a CNode or a thread

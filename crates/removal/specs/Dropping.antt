@@ -1,13 +1,8 @@
 -- The end of a removal: the objects that have lost their last capability go, once nothing holds to them (seL4 manual, "Deletion,
 -- Revocation, and Recycling").
-use Rattle.std.specs.Prelude.{◌≡◌, List, None}
-use Rattle.std.specs.List.{fold}
-use Rattle.base.specs.declared.ids.ObjId.{ObjId}
-use Rattle.base.specs.declared.ids.SlotRef.{SlotRef}
-use Rattle.machine.specs.Changes.{first_waiting, with_none_going, without_object}
-use Rattle.machine.specs.Counts.{caps_to}
-use Rattle.machine.specs.Machine.{Machine, cap_of}
-use Rattle.machine.specs.Tree.{IsAlone}
+use Rattle.std.specs.{List.fold, Prelude.{◌≡◌, List, None}}
+use Rattle.base.specs.declared.ids.{ObjId.ObjId, SlotRef.SlotRef}
+use Rattle.machine.specs.{Changes.{first_waiting, with_none_going, without_object}, Counts.caps_to, Machine.{Machine, cap_of}, Tree.IsAlone}
 use Rattle.objects.specs.Waiting.{WaitsNowhere}
 
 -- the machine without some objects, one after another

@@ -2,11 +2,8 @@
 -- manual, "Deletion, Revocation, and Recycling"; in this order it is confine's own).
 use Rattle.std.specs.Prelude.{◌≡◌, Bool, true}
 use Rattle.base.specs.declared.ids.SlotRef.{SlotRef}
+use Rattle.machine.specs.{Gone.gone_of, Machine.Machine, Tree.IsAlone, WellFormed.IsWellFormed}
 use Rattle.derivation.specs.Thinning.{IsThinned}
-use Rattle.machine.specs.Gone.{gone_of}
-use Rattle.machine.specs.Machine.{Machine}
-use Rattle.machine.specs.Tree.{IsAlone}
-use Rattle.machine.specs.WellFormed.{IsWellFormed}
 use Rattle.removal.specs.UnderWay.{AreEmptied, AreGoing}
 
 -- From a well-formed machine on, each slot that goes with the chosen ones has been emptied. The chosen ones are in no pair of the tree,

@@ -1,17 +1,10 @@
 -- Where a removal of capabilities stands: which slots have been emptied, which objects have lost their last capability, and what the
 -- machine is once all have (seL4 manual, "Deletion, Revocation, and Recycling"; in this order it is confine's own).
-use Rattle.std.specs.Prelude.{◌≡◌, ◌≢◌, ◌≤◌, ◌<◌, ◌↔◌, ◌==◌, ◌⊎◌, ℕ, zero, suc, Bool, true, if◌then◌else◌, List, Contains, Option, Some, None, IsSome}
-use Rattle.std.specs.Prelude.{AllPairs, slice_get, length}
-use Rattle.base.specs.declared.ids.ObjId.{ObjId}
-use Rattle.base.specs.declared.ids.SlotRef.{SlotRef}
-use Rattle.machine.specs.declared.cap.Cap.{Cap}
-use Rattle.machine.specs.declared.object.Object.{Object}
-use Rattle.machine.specs.Changes.{with_going}
-use Rattle.machine.specs.Counts.{caps_to}
-use Rattle.machine.specs.Gone.{IsGone, gone_of}
-use Rattle.machine.specs.Machine.{Machine, object_of, cap_of, without_cap}
-use Rattle.machine.specs.Objects.{slot_count}
-use Rattle.machine.specs.Removal.{cap_after, vanishes}
+use Rattle.std.specs.Prelude.{ℕ, ◌<◌, ◌==◌, ◌↔◌, ◌≡◌, ◌≢◌, ◌≤◌, ◌⊎◌, AllPairs, Bool, Contains, IsSome, List, None, Option, Some}
+use Rattle.std.specs.Prelude.{if◌then◌else◌, length, slice_get, suc, true, zero}
+use Rattle.base.specs.declared.ids.{ObjId.ObjId, SlotRef.SlotRef}
+use Rattle.machine.specs.{declared.{cap.Cap.Cap, object.Object.Object}, Changes.with_going, Counts.caps_to, Gone.{IsGone, gone_of}}
+use Rattle.machine.specs.{Machine.{Machine, cap_of, object_of, without_cap}, Objects.slot_count, Removal.{cap_after, vanishes}}
 
 -- an object is going, if it has no capability any more
 abbrev pub noted : Machine → ObjId → Machine

@@ -1,8 +1,5 @@
 ghost use Rattle.std.specs.Prelude.{◌≡◌};
-ghost use Rattle.machine.specs.Makes.{Makes};
-ghost use Rattle.machine.specs.Step.Delete.{delete_of};
-ghost use Rattle.machine.specs.Step.Revoke.{revoke_of};
-ghost use Rattle.machine.specs.WellFormed.{IsWellFormed};
+ghost use Rattle.machine.specs.{Makes.Makes, Step.{Delete.delete_of, Revoke.revoke_of}, WellFormed.IsWellFormed};
 
 use crate::removing::{remove, remove_below};
 use base::{Cause, ObjId};

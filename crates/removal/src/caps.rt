@@ -1,4 +1,4 @@
-ghost use Rattle.std.specs.Prelude.{◌≡◌, ℕ, Bool, true, Some, None, Contains};
+ghost use Rattle.std.specs.Prelude.{ℕ, ◌≡◌, Bool, Contains, None, Some, true};
 ghost use Rattle.base.specs.declared.ids.SlotRef.{SlotRef as Slot};
 ghost use Rattle.machine.specs.Machine.{Machine, cap_of};
 ghost use Rattle.objects.specs.Pairs.{MayEmpty};

@@ -1,8 +1,5 @@
 ghost use Rattle.std.specs.Prelude.{◌≡◌};
-ghost use Rattle.machine.specs.Below.{is_below};
-ghost use Rattle.machine.specs.Machine.{same_slot};
-ghost use Rattle.machine.specs.Removal.{removed};
-ghost use Rattle.machine.specs.WellFormed.{IsWellFormed};
+ghost use Rattle.machine.specs.{Below.is_below, Machine.same_slot, Removal.removed, WellFormed.IsWellFormed};
 
 use crate::choosing::{empty_all_below, empty_all_with};
 use crate::sweeping::sweep;

@@ -1,7 +1,6 @@
 ghost use Rattle.std.specs.Prelude.{◌≡◌, Bool};
 ghost use Rattle.base.specs.declared.ids.SlotRef.{SlotRef as Slot};
-ghost use Rattle.machine.specs.Machine.{Machine};
-ghost use Rattle.machine.specs.Removal.{removed};
+ghost use Rattle.machine.specs.{Machine.Machine, Removal.removed};
 ghost use Rattle.removal.specs.Sweeping.{IsFound};
 
 use crate::dropping::drop_going;

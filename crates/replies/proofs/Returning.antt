@@ -1,18 +1,9 @@
 -- Where a thread that answers gives its context back, the context may be handed over to the called thread.
-use Rattle.std.proofs.Common.{◌≡◌, ◌≢◌, true, refl, sym, ◌∙◌}
-use Rattle.std.specs.Prelude.{Option, Some, None, option_map}
-use Rattle.std.proofs.lemmas.Option.{none-some}
+use Rattle.std.{specs.Prelude.{None, Option, Some, option_map}, proofs.{Common.{◌∙◌, ◌≡◌, ◌≢◌, refl, sym, true}, lemmas.Option.none-some}}
 use Rattle.base.specs.declared.ids.ObjId.{ObjId}
-use Rattle.machine.specs.declared.object.Object.{Object}
-use Rattle.machine.specs.declared.object.Object.TheVariants as o
-use Rattle.machine.specs.declared.object.ObjectKind.TheVariants as kind
-use Rattle.machine.specs.declared.thread.Lent.{Lent}
-use Rattle.machine.specs.Machine.{Machine, object_of}
-use Rattle.machine.specs.Objects.{kind_of_object}
-use Rattle.machine.specs.Step.Bind.{context_under}
-use Rattle.machine.specs.Step.Reply.{gives_back, lent_in}
-use Rattle.machine.specs.WellFormed.{kind_of}
-use Rattle.machine.proofs.Lending.{GivesBack, gives_back_is}
+use Rattle.machine.specs.declared.{object.{Object.{Object, Object as o}, ObjectKind.ObjectKind as kind}, thread.Lent.Lent}
+use Rattle.machine.specs.{Machine.{Machine, object_of}, Objects.kind_of_object, Step.{Bind.context_under, Reply.{gives_back, lent_in}}}
+use Rattle.machine.{specs.WellFormed.kind_of, proofs.Lending.{GivesBack, gives_back_is}}
 
 -- who has lent something is a thread
 lender_is : (content : Option Object) (lent : Lent) → lent_in content ≡ Some lent → option_map kind_of_object content ≡ Some kind.Tcb

@@ -1,8 +1,6 @@
 ghost use Rattle.std.specs.Prelude.{◌≡◌};
-ghost use Rattle.machine.specs.Machine.{object_of};
-ghost use Rattle.machine.specs.Makes.{Makes};
-ghost use Rattle.machine.specs.Step.Reply.{answered, caller_in, gives_back, lent_in, reply_of, with_returned};
-ghost use Rattle.machine.specs.WellFormed.{IsWellFormed};
+ghost use Rattle.machine.specs.{Machine.object_of, Makes.Makes, Step.Reply.{answered, caller_in, gives_back, lent_in, reply_of}};
+ghost use Rattle.machine.specs.{Step.Reply.with_returned, WellFormed.IsWellFormed};
 
 use crate::release::give;
 use base::{Cause, ObjId};

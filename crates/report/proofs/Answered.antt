@@ -1,18 +1,11 @@
 -- The answer to what was loaded.
-use Rattle.std.proofs.Common.{◌≡◌, ℕ, List, Option, Some, Result, Ok, Err, IfOk, IsOkAnd}
+use Rattle.std.proofs.Common.{ℕ, ◌≡◌, Err, IfOk, IsOkAnd, List, Ok, Option, Result, Some}
 use Rattle.base.specs.declared.edge.Edge.{Edge}
 use Rattle.machine.specs.Layout.{Layout}
-use Rattle.report.specs.Commands.{IsAnswer, IsUnlabelled}
-use Rattle.report.specs.Ends.{IfCannotWrite, IfNoLabel, IfStatus}
-use Rattle.report.specs.Files.{Contents, Gives, IfUnlabelled, faulty, unknown, whole}
-use Rattle.report.specs.declared.command.Answer.{Answer}
-use Rattle.report.specs.declared.end.Asked.{Asked}
-use Rattle.report.specs.declared.end.End.{End}
-use Rattle.report.specs.declared.end.End.TheVariants as ends
-use Rattle.report.specs.declared.engine.Unanswered.{Unanswered}
-use Rattle.report.specs.declared.engine.Unanswered.TheVariants as unanswered
-use Rattle.report.specs.declared.load.Loaded.{Loaded}
-use Rattle.report.specs.declared.load.Stop.{Stop}
+use Rattle.report.specs.declared.{command.Answer.Answer, end.{Asked.Asked, End.{End, End as ends}}, engine.Unanswered.Unanswered}
+use Rattle.report.specs.{declared.{engine.Unanswered.Unanswered as unanswered, load.{Loaded.Loaded, Stop.Stop}}, Commands.IsAnswer}
+use Rattle.report.specs.{Commands.IsUnlabelled, Ends.{IfCannotWrite, IfNoLabel, IfStatus}, Files.{Contents, Gives, IfUnlabelled, faulty}}
+use Rattle.report.specs.Files.{unknown, whole}
 
 -- what is judged of the values that were loaded is the answer to what the files hold
 pub answered : {X Y : Type 0} (view : X → Y) (judges : Layout → List Edge → Y → List ℕ → ℕ → Type 0) (loaded : Loaded X) (text : List ℕ) (status : ℕ)

@@ -1,20 +1,12 @@
 -- The least closed policy over labels of a table joins none but those.
-use Rattle.std.proofs.Common.{◌≡◌, ℕ, ◌<◌, Bool, true, false, ◌&&◌, ◌||◌, List, [], ◌∷◌, ◌++◌, length, refl, sym, ◌∙◌, arith, inl, inr}
-use Rattle.std.specs.Prelude.{nat_lt}
-use Rattle.std.specs.List.{AllByRecursion}
-use Rattle.std.proofs.lemmas.Bool.{or_cases}
-use Rattle.std.proofs.lemmas.Bool.Decides.{nat_tests}
-use Rattle.base.specs.declared.edge.Edge.{Edge}
-use Rattle.base.specs.declared.kind.Kind.{Kind}
-use Rattle.base.specs.declared.kind.Kind.TheVariants.{Derive, Holds}
+use Rattle.std.{specs.{List.AllByRecursion, Prelude.nat_lt}, proofs.Common.{[], ℕ, ◌&&◌, ◌++◌, ◌<◌, ◌||◌, ◌∙◌, ◌∷◌, ◌≡◌, Bool, List, arith}}
+use Rattle.std.proofs.{Common.{false, inl, inr, length, refl, sym, true}, lemmas.Bool.{or_cases, Decides.nat_tests}}
+use Rattle.base.specs.declared.{edge.Edge.Edge, kind.Kind.{Kind, TheVariants.{Derive, Holds}}}
+use Rattle.machine.specs.Layout.{Layout}
+use Rattle.policy.specs.{Closed.{ComesToDerive, ComesToHold, IsClosed, caller, derived, granted, server}, Closing.IsLeastClosed}
+use Rattle.policy.{specs.{Domain.{EdgeTest, IsInDomain}, Policy.allows}, proofs.RowEdges.{of_parts, same_parts}}
 use Rattle.captext.specs.PolicyText.{IsEdgeOf}
 use Rattle.labels.proofs.EdgeLists.{allows-append}
-use Rattle.machine.specs.Layout.{Layout}
-use Rattle.policy.specs.Closed.{ComesToDerive, ComesToHold, IsClosed, granted, derived, server, caller}
-use Rattle.policy.specs.Closing.{IsLeastClosed}
-use Rattle.policy.specs.Domain.{EdgeTest, IsInDomain}
-use Rattle.policy.specs.Policy.{allows}
-use Rattle.policy.proofs.RowEdges.{of_parts, same_parts}
 
 -- the policy with every edge between labels below a number
 among : ℕ → EdgeTest

@@ -1,28 +1,16 @@
 -- The text of the least closed policy over a table.
-use Rattle.std.proofs.Common.{◌≡◌, ◌↔◌, ℕ, ◌<◌, Bool, true, false, List, [], ◌∷◌, ◌++◌, length, refl, sym, ap, ◌∙◌, subst, inl, inr}
-use Rattle.std.specs.Prelude.{IfOk, Ok, Err, Result}
-use Rattle.std.specs.List.{AllByRecursion}
-use Rattle.std.proofs.lemmas.Bool.{or_cases}
-use Rattle.base.specs.declared.edge.Edge.{Edge}
-use Rattle.base.specs.declared.kind.Kind.{Kind}
-use Rattle.captext.specs.Policies.{read_policy_of}
-use Rattle.captext.specs.PolicyText.{IsEdgeOf, edge_lines, policy_text}
+use Rattle.std.{specs.{List.AllByRecursion, Prelude.{Err, IfOk, Ok, Result}}, proofs.Common.{[], ℕ, ◌++◌, ◌<◌, ◌↔◌, ◌∙◌, ◌∷◌, ◌≡◌, Bool}}
+use Rattle.std.proofs.{Common.{List, ap, false, inl, inr, length, refl, subst, sym, true}, lemmas.Bool.or_cases}
+use Rattle.base.specs.declared.{edge.Edge.Edge, kind.Kind.Kind}
+use Rattle.machine.specs.{Authority.HasAuthority, Boot.IsBoot, Layout.Layout, Machine.Machine}
+use Rattle.policy.specs.{Closed.IsClosed, Closing.{IsLeastClosed, IsWithin}, Policy.{IsRising, allows}}
+use Rattle.captext.specs.{Policies.read_policy_of, PolicyText.{IsEdgeOf, edge_lines, policy_text}}
 use Rattle.labels.proofs.EdgeLists.{allows-append, allows_after, allows_before}
-use Rattle.machine.specs.Authority.{HasAuthority}
-use Rattle.machine.specs.Boot.{IsBoot}
-use Rattle.machine.specs.Layout.{Layout}
-use Rattle.machine.specs.Machine.{Machine}
-use Rattle.policy.specs.Closed.{IsClosed}
-use Rattle.policy.specs.Closing.{IsLeastClosed, IsWithin}
-use Rattle.policy.specs.Policy.{IsRising, allows}
-use Rattle.report.specs.Closings.{Closes, IsAuthorityOf, IsClosing, IsInEachPolicyFor, missing_edges, missing_status}
-use Rattle.report.specs.declared.closing.OnClose.TheVariants as on_close
-use Rattle.report.specs.declared.command.Answer.{Answer}
-use Rattle.report.proofs.ClosedLabels.{either_within, least_within, listed_within, within_listed}
-use Rattle.report.proofs.Missing.{none_if_within, within_if_none}
+use Rattle.verdict.specs.{Confined.IsConfined, Verdict.IsAccepted}
 use Rattle.reptext.proofs.OneText.{same_answer}
-use Rattle.verdict.specs.Confined.{IsConfined}
-use Rattle.verdict.specs.Verdict.{IsAccepted}
+use Rattle.report.specs.{declared.{closing.OnClose.OnClose as on_close, command.Answer.Answer}, Closings.{Closes, IsAuthorityOf, IsClosing}}
+use Rattle.report.{specs.Closings.{IsInEachPolicyFor, missing_edges, missing_status}, proofs.ClosedLabels.{either_within, least_within}}
+use Rattle.report.proofs.{ClosedLabels.{listed_within, within_listed}, Missing.{none_if_within, within_if_none}}
 
 -- which tables and policies are accepted
 abbrev pub AcceptedAsClosed : Layout → List Edge → Type 0

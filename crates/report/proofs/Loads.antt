@@ -1,16 +1,12 @@
 -- Files that are loaded one after another.
-use Rattle.std.proofs.Common.{◌≡◌, ℕ, List, Option, None, Some, IfSome, Result, Ok, Err}
+use Rattle.std.proofs.Common.{ℕ, ◌≡◌, Err, IfSome, List, None, Ok, Option, Result, Some}
 use Rattle.base.specs.declared.edge.Edge.{Edge}
-use Rattle.captext.specs.Policies.{read_policy_of}
-use Rattle.captext.specs.Tables.{read_table_of}
 use Rattle.machine.specs.Layout.{Layout}
-use Rattle.report.specs.Files.{Contents, Gives, IsStopOf, LoadsAs, and_then, contents_of, faulty, read_then, unknown, whole}
-use Rattle.reptext.specs.declared.file.File.{File}
-use Rattle.reptext.specs.declared.file.File.TheVariants.{Table, Policy}
-use Rattle.report.specs.declared.load.Loaded.{Loaded}
-use Rattle.report.specs.declared.load.Stop.{Stop}
-use Rattle.report.specs.declared.load.Stop.TheVariants as stop
 use Rattle.words.specs.declared.faults.Fault.{Fault}
+use Rattle.captext.specs.{Policies.read_policy_of, Tables.read_table_of}
+use Rattle.reptext.specs.declared.file.File.{File, TheVariants.{Policy, Table}}
+use Rattle.report.specs.{declared.load.{Loaded.Loaded, Stop.{Stop, Stop as stop}}, Files.{Contents, Gives, IsStopOf, LoadsAs, and_then}}
+use Rattle.report.specs.Files.{contents_of, faulty, read_then, unknown, whole}
 
 -- memory or a device stopped the load
 no_memory_gives : {X Y : Type 0} (view : X → Y) (contents : Contents Y) → Gives view contents (Err stop.NoMemory)

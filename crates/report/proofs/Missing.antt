@@ -1,14 +1,8 @@
 -- The edges of a policy that another lacks: there are none exactly where it is within the other.
-use Rattle.std.proofs.Common.{◌≡◌, ℕ, Bool, true, false, not, if◌then◌else◌, List, [], ◌∷◌, ◌∙◌, refl, sym, ap, inl, inr}
-use Rattle.std.specs.Prelude.{filter}
-use Rattle.std.proofs.lemmas.Bool.{or_cases}
-use Rattle.base.specs.declared.edge.Edge.{Edge}
-use Rattle.base.specs.declared.kind.Kind.{Kind}
-use Rattle.policy.specs.Closing.{IsWithin}
-use Rattle.policy.specs.Domain.{EdgeTest}
-use Rattle.policy.specs.Policy.{allows}
-use Rattle.policy.proofs.KindNumbers.{same_kind}
-use Rattle.policy.proofs.RowEdges.{same_parts}
+use Rattle.std.{specs.Prelude.filter, proofs.Common.{[], ℕ, ◌∙◌, ◌∷◌, ◌≡◌, Bool, List, ap, false, if◌then◌else◌, inl, inr, not, refl, sym}}
+use Rattle.std.proofs.{Common.true, lemmas.Bool.or_cases}
+use Rattle.base.specs.declared.{edge.Edge.Edge, kind.Kind.Kind}
+use Rattle.policy.{specs.{Closing.IsWithin, Domain.EdgeTest, Policy.allows}, proofs.{KindNumbers.same_kind, RowEdges.same_parts}}
 use Rattle.report.proofs.ClosedLabels.{first_allowed, later_allowed}
 
 module _ (test : EdgeTest) where

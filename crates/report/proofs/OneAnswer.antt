@@ -1,15 +1,11 @@
 -- Two answers to the bytes of three files are one, where two answers to what such files hold are.
-use Rattle.std.proofs.Common.{◌≡◌, ℕ, List, Result, Ok, Err, Some, sym, ◌∙◌}
+use Rattle.std.proofs.Common.{ℕ, ◌∙◌, ◌≡◌, Err, List, Ok, Result, Some, sym}
 use Rattle.base.specs.declared.edge.Edge.{Edge}
-use Rattle.captext.specs.Policies.{read_policy_of}
-use Rattle.captext.specs.Tables.{read_table_of}
 use Rattle.machine.specs.Layout.{Layout}
-use Rattle.report.specs.Commands.{IsAnswer}
-use Rattle.report.specs.Files.{Contents, and_then, read_then, whole}
-use Rattle.report.specs.OneAnswer.{HaveOneAnswer}
-use Rattle.reptext.specs.declared.file.File.{File}
-use Rattle.reptext.specs.declared.file.File.TheVariants.{Table, Policy}
 use Rattle.words.specs.declared.faults.Fault.{Fault}
+use Rattle.captext.specs.{Policies.read_policy_of, Tables.read_table_of}
+use Rattle.reptext.specs.declared.file.File.{File, TheVariants.{Policy, Table}}
+use Rattle.report.specs.{Commands.IsAnswer, Files.{Contents, and_then, read_then, whole}, OneAnswer.HaveOneAnswer}
 
 -- two answers to a table, a policy and what a third file holds are one
 abbrev pub JudgesOne : {X : Type 0} → (Layout → List Edge → X → List ℕ → ℕ → Type 0) → Type 0

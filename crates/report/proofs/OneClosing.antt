@@ -1,30 +1,18 @@
 -- A policy has one closing over a table, and a label has one reason for its authority on another.
-use Rattle.std.proofs.Common.{◌≡◌, ℕ, Bool, true, List, [], ◌∷◌, ◌++◌, ◌||◌, length, get_or, refl, sym, ap, subst, ◌∙◌}
-use Rattle.std.specs.Prelude.{codes}
-use Rattle.std.proofs.lemmas.Option.{same_Some}
-use Rattle.base.specs.declared.edge.Edge.{Edge}
-use Rattle.base.specs.declared.kind.Kind.{Kind}
-use Rattle.base.specs.Kinds.{kind_number}
+use Rattle.std.{specs.Prelude.codes, proofs.Common.{[], ℕ, ◌++◌, ◌||◌, ◌∙◌, ◌∷◌, ◌≡◌, Bool, List, ap, get_or, length, refl, subst, sym}}
+use Rattle.std.proofs.{Common.true, lemmas.Option.same_Some}
+use Rattle.base.specs.{declared.{edge.Edge.Edge, kind.Kind.Kind}, Kinds.kind_number}
+use Rattle.machine.specs.Layout.{Layout}
+use Rattle.policy.specs.{declared.why.Why.{Why, Why as why}, Closing.IsLeastClosed, Domain.EdgeTest, Policy.allows, Reasons.IsFullBy}
+use Rattle.policy.{specs.Reasons.{IsTakeBy, IsWhy, edge_numbers, reason_place}, proofs.{ClosingGrowth.least_of_same, KindNumbers.same_kind}}
+use Rattle.policy.proofs.Members.{same_rising}
+use Rattle.table.proofs.BootState.{boot_state, boot_state_is}
 use Rattle.captext.specs.PolicyText.{edge_lines, policy_text}
 use Rattle.labels.proofs.EdgeLists.{allows-append}
-use Rattle.machine.specs.Layout.{Layout}
-use Rattle.policy.proofs.ClosingGrowth.{least_of_same}
-use Rattle.policy.proofs.KindNumbers.{same_kind}
-use Rattle.policy.proofs.Members.{same_rising}
-use Rattle.policy.specs.Closing.{IsLeastClosed}
-use Rattle.policy.specs.Domain.{EdgeTest}
-use Rattle.policy.specs.Policy.{allows}
-use Rattle.policy.specs.Reasons.{IsTakeBy, IsFullBy, IsWhy, edge_numbers, reason_place}
-use Rattle.policy.specs.declared.why.Why.{Why}
-use Rattle.policy.specs.declared.why.Why.TheVariants as why
-use Rattle.report.proofs.OneAnswer.{JudgesOne}
-use Rattle.report.specs.Closings.{Closes, IsClosing, TellsClosing, kept_edges, missing_edges, missing_status}
-use Rattle.report.specs.Questions.{Tells, why_status, why_text}
-use Rattle.report.specs.declared.closing.OnClose.{OnClose}
-use Rattle.report.specs.declared.closing.OnClose.TheVariants as on_close
-use Rattle.reptext.proofs.OneText.{same_answer}
-use Rattle.table.proofs.BootState.{boot_state, boot_state_is}
 use Rattle.verdict.proofs.OneVerdict.{one_least}
+use Rattle.reptext.proofs.OneText.{same_answer}
+use Rattle.report.specs.{declared.closing.OnClose.{OnClose, OnClose as on_close}, Closings.{Closes, IsClosing, TellsClosing, kept_edges}}
+use Rattle.report.{specs.{Closings.{missing_edges, missing_status}, Questions.{Tells, why_status, why_text}}, proofs.OneAnswer.JudgesOne}
 
 -- the closing of a policy
 

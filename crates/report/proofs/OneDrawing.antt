@@ -1,20 +1,12 @@
 -- A table and a policy have one drawing, and a table one list.
-use Rattle.std.proofs.Common.{◌≡◌, ℕ, List, [], ◌∷◌, ◌++◌, length, codes, sym, ap, ◌∙◌}
-use Rattle.std.specs.List.{flat_map}
+use Rattle.std.{specs.List.flat_map, proofs.Common.{[], ℕ, ◌++◌, ◌∙◌, ◌∷◌, ◌≡◌, List, ap, codes, length, sym}}
 use Rattle.base.specs.declared.edge.Edge.{Edge}
 use Rattle.machine.specs.Layout.{Layout}
-use Rattle.policy.specs.Domain.{EdgeTest}
-use Rattle.policy.specs.Places.{IsLeast}
-use Rattle.policy.specs.Policy.{allows}
-use Rattle.policy.specs.Reasons.{IsFullBy, IsTakeBy, reason_place}
-use Rattle.report.specs.Alone.{Lists}
-use Rattle.report.specs.Questions.{Draws}
-use Rattle.report.proofs.OneAnswer.{JudgesOne}
-use Rattle.report.proofs.OneClosing.{place_once}
-use Rattle.verdict.proofs.OneVerdict.{one_least}
-use Rattle.views.specs.Drawing.{IsArrow, arrow_line, label_line, pairs_of}
+use Rattle.policy.specs.{Domain.EdgeTest, Places.IsLeast, Policy.allows, Reasons.{IsFullBy, IsTakeBy, reason_place}}
+use Rattle.views.specs.Drawing.{IsArrow, arrow_line, label_line, pairs_of, IsArrow.{dashed, itself, nothing, solid}}
 use Rattle.views.specs.Drawing as drawing
-use Rattle.views.specs.Drawing.IsArrow.{itself, solid, dashed, nothing}
+use Rattle.verdict.proofs.OneVerdict.{one_least}
+use Rattle.report.{specs.{Alone.Lists, Questions.Draws}, proofs.{OneAnswer.JudgesOne, OneClosing.place_once}}
 
 module _ (test : EdgeTest) (t : Layout) where
   -- the least reason has one first edge

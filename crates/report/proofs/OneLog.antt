@@ -1,38 +1,19 @@
 -- A script has one log where no call is refused memory, and a log has one report of its replay.
-use Rattle.std.proofs.Common.{◌≡◌, ℕ, ◌+◌, ◌⊎◌, inl, inr, List, [], ◌∷◌, All, length, Some, refl, sym, ap, subst, ◌∙◌}
-use Rattle.std.specs.List.{zip}
-use Rattle.std.proofs.lemmas.List.Elements.{All-head, All-tail}
-use Rattle.std.proofs.lemmas.Option.{none-some, same_Some}
+use Rattle.std.{specs.List.zip, proofs.Common.{[], ℕ, ◌+◌, ◌∙◌, ◌∷◌, ◌≡◌, ◌⊎◌, All, List, Some, ap, inl, inr, length, refl, subst, sym}}
+use Rattle.std.proofs.lemmas.{List.Elements.{All-head, All-tail}, Option.{none-some, same_Some}}
 use Rattle.base.specs.declared.edge.Edge.{Edge}
-use Rattle.evtext.specs.Log.{log_text}
-use Rattle.kernel.proofs.LegalLemmas.{no_run, one_next, one_stop}
-use Rattle.kernel.specs.Legal.{Entry, IsLack, Leads, StopsAt}
-use Rattle.machine.proofs.Steps.{steps_agree}
-use Rattle.machine.specs.Boot.{IsBoot}
-use Rattle.machine.specs.Layout.{Layout}
-use Rattle.machine.specs.Machine.{Machine}
-use Rattle.machine.specs.Run.{Run}
-use Rattle.machine.specs.Step.{LacksMemory}
-use Rattle.machine.specs.WellFormed.{kind_of}
-use Rattle.machine.specs.declared.call.Event.{Event}
-use Rattle.machine.specs.declared.call.Outcome.{Outcome}
-use Rattle.policy.specs.Places.{ComesBefore, IsLeast}
-use Rattle.policy.specs.Policy.{allows}
-use Rattle.report.proofs.OneAnswer.{JudgesOne}
-use Rattle.report.proofs.OneReport.{verdict_once}
-use Rattle.report.specs.OneAnswer.{IsLogInMemory, RunsInMemory}
-use Rattle.report.specs.Replays.{IsFirstOutside, IsReplayedTo, Replays, within, outside, illegal}
-use Rattle.reptext.specs.Places.{place_names_by}
-use Rattle.reptext.specs.Reports.{illegal_data, line_of, outside_data}
+use Rattle.machine.specs.{declared.call.{Event.Event, Outcome.Outcome}, Boot.IsBoot, Layout.Layout, Machine.Machine, Run.Run}
+use Rattle.machine.{specs.{Step.LacksMemory, WellFormed.kind_of}, proofs.Steps.steps_agree}
+use Rattle.policy.specs.{Places.{ComesBefore, IsLeast}, Policy.allows}
 use Rattle.table.proofs.BootState.{boot_one}
-use Rattle.verdict.proofs.OneVerdict.{one_least, same_place}
-use Rattle.verdict.proofs.Outsides.{within_confined}
-use Rattle.verdict.specs.Confined.{IsConfined}
-use Rattle.verdict.specs.Rules.{Excess, Exceeds, excess_place}
-use Rattle.verdict.specs.Sources.{of_machine}
-use Rattle.verdict.specs.Verdict.{excess_of, place_of, rule_name}
-use Rattle.verdict.specs.declared.denial.Denial.{Denial}
+use Rattle.evtext.specs.Log.{log_text}
+use Rattle.kernel.{specs.Legal.{Entry, IsLack, Leads, StopsAt}, proofs.LegalLemmas.{no_run, one_next, one_stop}}
+use Rattle.verdict.specs.{declared.denial.Denial.Denial, Confined.IsConfined, Rules.{Exceeds, Excess, excess_place}, Sources.of_machine}
 use Rattle.verdict.specs.declared.denial.Denial.TheVariants as denial
+use Rattle.verdict.{specs.Verdict.{excess_of, place_of, rule_name}, proofs.{OneVerdict.{one_least, same_place}, Outsides.within_confined}}
+use Rattle.reptext.specs.{Places.place_names_by, Reports.{illegal_data, line_of, outside_data}}
+use Rattle.report.specs.{OneAnswer.{IsLogInMemory, RunsInMemory}, Replays.{IsFirstOutside, IsReplayedTo, Replays, illegal, outside, within}}
+use Rattle.report.proofs.{OneAnswer.JudgesOne, OneReport.verdict_once}
 
 -- the log of a run
 

@@ -1,26 +1,16 @@
 -- A verdict is told by one text with one status: that of a check, and that of a certificate.
-use Rattle.std.proofs.Common.{◌≡◌, ℕ, ◌+◌, inl, inr, List, Result, Ok, Err, sym, ap, ◌∙◌}
-use Rattle.std.specs.Prelude.{slice_get}
+use Rattle.std.{specs.Prelude.slice_get, proofs.Common.{ℕ, ◌+◌, ◌∙◌, ◌≡◌, Err, List, Ok, Result, ap, inl, inr, sym}}
 use Rattle.std.proofs.lemmas.Bool.{cases_order}
 use Rattle.base.specs.declared.edge.Edge.{Edge}
-use Rattle.certificate.specs.Right.{right_certificate}
-use Rattle.certificate.specs.Verified.{DiffersFirst, IsDenied, IsVerified}
-use Rattle.certificate.specs.declared.line.Line.{Line}
-use Rattle.certificate.specs.declared.verifying.NotAccepted.TheVariants as not_accepted
 use Rattle.machine.specs.Layout.{Layout}
 use Rattle.policy.specs.Policy.{allows}
-use Rattle.report.specs.Answers.{Answers, AnswersVerdict, Checks, TellsCheck, Verifies, accepted, denied}
-use Rattle.report.specs.declared.checking.OnAccept.{OnAccept}
-use Rattle.report.specs.declared.checking.OnAccept.TheVariants as on_accept
-use Rattle.report.proofs.OneAnswer.{JudgesOne}
-use Rattle.reptext.proofs.OneText.{report_once}
-use Rattle.reptext.specs.Places.{place_names}
-use Rattle.reptext.specs.Reports.{accept_data, denial_report, line_of}
+use Rattle.verdict.specs.{declared.denial.Denial.{Denial, Denial as denial}, System.System, Verdict.{IsAccepted, IsLeastBroken, rule_name}}
 use Rattle.verdict.proofs.OneVerdict.{one_verdict}
-use Rattle.verdict.specs.System.{System}
-use Rattle.verdict.specs.Verdict.{IsAccepted, IsLeastBroken, rule_name}
-use Rattle.verdict.specs.declared.denial.Denial.{Denial}
-use Rattle.verdict.specs.declared.denial.Denial.TheVariants as denial
+use Rattle.certificate.specs.{declared.{line.Line.Line, verifying.NotAccepted.NotAccepted as not_accepted}, Right.right_certificate}
+use Rattle.certificate.specs.Verified.{DiffersFirst, IsDenied, IsVerified}
+use Rattle.reptext.{specs.{Places.place_names, Reports.{accept_data, denial_report, line_of}}, proofs.OneText.report_once}
+use Rattle.report.specs.{declared.checking.OnAccept.{OnAccept, OnAccept as on_accept}, Answers.{Answers, AnswersVerdict, Checks}}
+use Rattle.report.{specs.Answers.{TellsCheck, Verifies, accepted, denied}, proofs.OneAnswer.JudgesOne}
 
 -- an acceptance that is told by one text, and denials of which there is one, and none beside an acceptance
 module _

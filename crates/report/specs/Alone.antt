@@ -1,12 +1,10 @@
 -- What a command does that has a table alone, and what it lists of the table (confine's own).
-use Rattle.std.specs.Prelude.{◌≡◌, ℕ, false, List, codes, Some}
+use Rattle.std.specs.Prelude.{ℕ, ◌≡◌, List, Some, codes, false}
 use Rattle.machine.specs.Layout.{Layout}
-use Rattle.report.specs.Answers.{no_file, no_label, read_nothing}
-use Rattle.report.specs.Commands.{Input, IsCarriedOut, Output}
-use Rattle.report.specs.declared.end.End.{End}
-use Rattle.report.specs.declared.known.Known.{Known}
-use Rattle.reptext.specs.declared.file.File.TheVariants as file
 use Rattle.views.specs.Objects.{objects_text}
+use Rattle.reptext.specs.declared.file.File.{File as file}
+use Rattle.report.specs.{declared.{end.End.End, known.Known.Known}, Answers.{no_file, no_label, read_nothing}, Commands.Input}
+use Rattle.report.specs.Commands.{IsCarriedOut, Output}
 
 -- it did this with a policy without an edge, whose source can't fail
 pub record IsAlone (does : Input Known → Type 0) : Type 0 where

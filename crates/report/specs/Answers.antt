@@ -1,36 +1,19 @@
 -- What the commands answer to a table, a policy and a third file (confine's own).
-use Rattle.std.specs.Prelude.{◌≡◌, ℕ, Bool, false, List, [], Option, None, Some, Ok, Err, Result}
-use Rattle.std.specs.List.{zip}
+use Rattle.std.specs.{List.zip, Prelude.{[], ℕ, ◌≡◌, Bool, Err, List, None, Ok, Option, Result, Some, false}}
 use Rattle.base.specs.declared.edge.Edge.{Edge}
-use Rattle.certificate.specs.Certificate.{certificate_text}
-use Rattle.certificate.specs.Reading.{read_certificate_of}
-use Rattle.certificate.specs.Right.{right_certificate}
-use Rattle.certificate.specs.Verified.{IsVerified}
-use Rattle.certificate.specs.declared.line.Line.{Line}
-use Rattle.certificate.specs.declared.verifying.NotAccepted.TheVariants as not_accepted
-use Rattle.evtext.specs.Log.{log_text}
-use Rattle.evtext.specs.Script.{read_script_of}
-use Rattle.kernel.specs.Legal.{Entry}
-use Rattle.machine.specs.Boot.{IsBoot}
-use Rattle.machine.specs.Layout.{Layout}
-use Rattle.machine.specs.Machine.{Machine}
-use Rattle.machine.specs.Run.{Run}
-use Rattle.machine.specs.declared.call.Event.{Event}
-use Rattle.machine.specs.declared.call.Outcome.{Outcome}
-use Rattle.policy.specs.Policy.{allows}
-use Rattle.report.specs.Commands.{Input, IsCarriedOut, Output}
-use Rattle.reptext.specs.Places.{place_names}
-use Rattle.reptext.specs.Reports.{IsCheckReport, accept_data, denial_report, line_of}
-use Rattle.report.specs.declared.checking.OnAccept.{OnAccept}
-use Rattle.report.specs.declared.checking.OnAccept.TheVariants as on_accept
-use Rattle.report.specs.declared.end.Asked.{Asked}
-use Rattle.report.specs.declared.end.End.{End}
-use Rattle.reptext.specs.declared.file.File.TheVariants as file
-use Rattle.report.specs.declared.load.NoFile.{NoFile}
-use Rattle.split.specs.SplitRun.{IsSplitRun}
-use Rattle.verdict.specs.Verdict.{IsAccepted, IsLeastBroken, rule_name}
-use Rattle.verdict.specs.declared.denial.Denial.{Denial}
+use Rattle.machine.specs.{declared.call.{Event.Event, Outcome.Outcome}, Boot.IsBoot, Layout.Layout, Machine.Machine, Run.Run}
 use Rattle.words.specs.declared.faults.Fault.{Fault}
+use Rattle.policy.specs.Policy.{allows}
+use Rattle.evtext.specs.{Log.log_text, Script.read_script_of}
+use Rattle.kernel.specs.Legal.{Entry}
+use Rattle.verdict.specs.{declared.denial.Denial.Denial, Verdict.{IsAccepted, IsLeastBroken, rule_name}}
+use Rattle.split.specs.SplitRun.{IsSplitRun}
+use Rattle.certificate.specs.{declared.{line.Line.Line, verifying.NotAccepted.NotAccepted as not_accepted}, Certificate.certificate_text}
+use Rattle.certificate.specs.{Reading.read_certificate_of, Right.right_certificate, Verified.IsVerified}
+use Rattle.reptext.specs.declared.file.File.TheVariants as file
+use Rattle.reptext.specs.{Places.place_names, Reports.{IsCheckReport, accept_data, denial_report, line_of}}
+use Rattle.report.specs.declared.{checking.OnAccept.{OnAccept, OnAccept as on_accept}, end.{Asked.Asked, End.End}, load.NoFile.NoFile}
+use Rattle.report.specs.Commands.{Input, IsCarriedOut, Output}
 
 -- a table and a policy are accepted and the text tells it, with status 0; or they are denied and it tells why, with status 1
 pub data Answers

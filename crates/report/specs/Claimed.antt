@@ -1,22 +1,15 @@
 -- What is told of claims on a table and a policy, and of the strongest that hold (confine's own; what they claim is kept by the integrity
 -- of 'seL4 Enforces Integrity', section 4, restated).
-use Rattle.std.specs.Prelude.{◌≡◌, ℕ, List, All, Ok, length}
+use Rattle.std.specs.Prelude.{ℕ, ◌≡◌, All, List, Ok, length}
 use Rattle.base.specs.declared.edge.Edge.{Edge}
-use Rattle.claims.specs.ClaimsText.{claims_text}
-use Rattle.claims.specs.Holding.{AreStrongest, Holds, IsFirstBroken, IsKept}
-use Rattle.claims.specs.Reading.{read_claims_of}
-use Rattle.claims.specs.declared.claim.Claim.{Claim}
-use Rattle.claims.specs.declared.holding.BrokenClaim.{BrokenClaim}
 use Rattle.machine.specs.Layout.{Layout}
 use Rattle.policy.specs.Policy.{allows}
-use Rattle.report.specs.Answers.{AnswersVerdict, no_file, no_label, read_nothing}
-use Rattle.report.specs.Commands.{Input, IsCarriedOut, Output}
-use Rattle.report.specs.declared.end.End.{End}
-use Rattle.reptext.specs.Places.{place_names}
-use Rattle.reptext.specs.Reports.{broken_data, denial_report, hold_data, line_of}
-use Rattle.reptext.specs.declared.file.File.TheVariants as file
-use Rattle.verdict.specs.Verdict.{IsAccepted, IsLeastBroken, rule_name}
-use Rattle.verdict.specs.declared.denial.Denial.{Denial}
+use Rattle.verdict.specs.{declared.denial.Denial.Denial, Verdict.{IsAccepted, IsLeastBroken, rule_name}}
+use Rattle.claims.specs.{declared.{claim.Claim.Claim, holding.BrokenClaim.BrokenClaim}, ClaimsText.claims_text, Holding.AreStrongest}
+use Rattle.claims.specs.{Holding.{Holds, IsFirstBroken, IsKept}, Reading.read_claims_of}
+use Rattle.reptext.specs.{declared.file.File.File as file, Places.place_names, Reports.{broken_data, denial_report, hold_data, line_of}}
+use Rattle.report.specs.{declared.end.End.End, Answers.{AnswersVerdict, no_file, no_label, read_nothing}, Commands.{Input, IsCarriedOut}}
+use Rattle.report.specs.Commands.{Output}
 
 -- the answer to claims on a table and a policy: these are denied; or they are accepted, and all claims hold, so that what they claim is
 -- kept in every run from the table's boot state; or they are accepted, and this claim is the first that doesn't hold

@@ -1,24 +1,14 @@
 -- What closing a policy over a table answers: the least policy with the policy's edges to which the table keeps (confine's own; the
 -- policies that are closed are the well-formed ones of 'seL4 Enforces Integrity', section 3).
-use Rattle.std.specs.Prelude.{◌≡◌, ◌↔◌, ℕ, true, false, not, List, [], ◌∷◌, ◌++◌, filter, codes, Some, Ok}
-use Rattle.base.specs.declared.edge.Edge.{Edge}
-use Rattle.base.specs.declared.kind.Kind.{Kind}
-use Rattle.captext.specs.Policies.{read_policy_of}
-use Rattle.captext.specs.PolicyText.{IsPolicyOf, edge_lines, policy_text}
-use Rattle.machine.specs.Authority.{HasAuthority}
-use Rattle.machine.specs.Boot.{IsBoot}
-use Rattle.machine.specs.Layout.{Layout}
-use Rattle.machine.specs.Machine.{Machine}
-use Rattle.policy.specs.Closing.{IsLeastClosed, IsWithin}
-use Rattle.policy.specs.Policy.{IsRising, allows}
-use Rattle.report.specs.Alone.{IsAlone}
-use Rattle.report.specs.Answers.{no_file, no_label, read_nothing}
-use Rattle.report.specs.Commands.{Input, IsCarriedOut, Output}
-use Rattle.report.specs.declared.closing.OnClose.{OnClose}
-use Rattle.report.specs.declared.closing.OnClose.TheVariants as on_close
-use Rattle.report.specs.declared.end.End.{End}
-use Rattle.reptext.specs.declared.file.File.TheVariants as file
+use Rattle.std.specs.Prelude.{[], ℕ, ◌++◌, ◌↔◌, ◌∷◌, ◌≡◌, List, Ok, Some, codes, false, filter, not, true}
+use Rattle.base.specs.declared.{edge.Edge.Edge, kind.Kind.Kind}
+use Rattle.machine.specs.{Authority.HasAuthority, Boot.IsBoot, Layout.Layout, Machine.Machine}
+use Rattle.policy.specs.{Closing.{IsLeastClosed, IsWithin}, Policy.{IsRising, allows}}
+use Rattle.captext.specs.{Policies.read_policy_of, PolicyText.{IsPolicyOf, edge_lines, policy_text}}
 use Rattle.verdict.specs.Verdict.{IsAccepted}
+use Rattle.reptext.specs.declared.file.File.{File as file}
+use Rattle.report.specs.{declared.{closing.OnClose.{OnClose, OnClose as on_close}, end.End.End}, Alone.IsAlone, Answers.{no_file, no_label}}
+use Rattle.report.specs.{Answers.read_nothing, Commands.{Input, IsCarriedOut, Output}}
 
 -- these edges are the authority of the table's boot state
 abbrev pub IsAuthorityOf : Layout → List Edge → Type 0

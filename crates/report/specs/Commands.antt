@@ -1,19 +1,14 @@
 -- What a command does with its files and its output, and how it ends (confine's own).
-use Rattle.std.specs.Prelude.{◌≡◌, ◌≤◌, ◌⊎◌, ℕ, Bool, true, false, List, Option, Some, None, IfSome, IsOk, IsOkAnd, Result}
-use Rattle.std.specs.Io.KnownBytes.{Appends}
+use Rattle.std.specs.{Io.KnownBytes.Appends, Prelude.{ℕ, ◌≡◌, ◌≤◌, ◌⊎◌, Bool, IfSome, IsOk, IsOkAnd, List, None, Option, Result, Some}}
+use Rattle.std.specs.Prelude.{false, true}
 use Rattle.base.specs.declared.edge.Edge.{Edge}
-use Rattle.captext.specs.Policies.{read_policy_of}
-use Rattle.captext.specs.Tables.{read_table_of}
-use Rattle.devices.specs.Devices.{AppendsBeginning}
 use Rattle.machine.specs.Layout.{Layout}
-use Rattle.report.specs.Ends.{IfCannotWrite, IfNoLabel, IfStatus, IfUnwritten, is_unwritable, status_of, unread_file}
-use Rattle.report.specs.Files.{Contents, contents_of, faulty, unknown, whole}
-use Rattle.reptext.specs.Reports.{fault_report}
-use Rattle.report.specs.declared.end.Asked.{Asked}
-use Rattle.report.specs.declared.end.End.{End}
-use Rattle.reptext.specs.declared.file.File.{File}
-use Rattle.reptext.specs.declared.file.File.TheVariants.{Table, Policy}
 use Rattle.words.specs.declared.faults.Fault.{Fault}
+use Rattle.captext.specs.{Policies.read_policy_of, Tables.read_table_of}
+use Rattle.devices.specs.Devices.{AppendsBeginning}
+use Rattle.reptext.specs.{declared.file.File.{File, TheVariants.{Policy, Table}}, Reports.fault_report}
+use Rattle.report.specs.{declared.end.{Asked.Asked, End.End}, Ends.{IfCannotWrite, IfNoLabel, IfStatus, IfUnwritten, is_unwritable}}
+use Rattle.report.specs.{Ends.{status_of, unread_file}, Files.{Contents, contents_of, faulty, unknown, whole}}
 
 -- a source, before and after a command: the bytes that it had left, where they are known, and whether it failed
 pub record Input (S : Type 0) : Type 0 where

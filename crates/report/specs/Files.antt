@@ -1,18 +1,13 @@
 -- What the files of a command hold, as far as their bytes are known, and why they couldn't be loaded (confine's own).
-use Rattle.std.specs.Prelude.{◌≡◌, ℕ, Bool, true, false, List, Option, Some, None, Result, Ok, Err}
+use Rattle.std.specs.Prelude.{ℕ, ◌≡◌, Bool, Err, List, None, Ok, Option, Result, Some, false, true}
 use Rattle.base.specs.declared.edge.Edge.{Edge}
-use Rattle.captext.specs.Policies.{read_policy_of}
-use Rattle.captext.specs.Tables.{read_table_of}
 use Rattle.machine.specs.Layout.{Layout}
-use Rattle.report.specs.declared.end.Asked.{Asked}
-use Rattle.reptext.specs.declared.file.File.{File}
-use Rattle.reptext.specs.declared.file.File.TheVariants.{Table, Policy}
-use Rattle.report.specs.declared.load.Loaded.{Loaded}
+use Rattle.words.specs.declared.faults.Fault.{Fault}
+use Rattle.captext.specs.{Policies.read_policy_of, Tables.read_table_of}
+use Rattle.reptext.specs.declared.file.File.{File, TheVariants.{Policy, Table}}
+use Rattle.report.specs.declared.{end.Asked.Asked, engine.Unanswered.{Unanswered, Unanswered as unanswered}, load.Loaded.Loaded}
 use Rattle.report.specs.declared.load.Stop.{Stop}
 use Rattle.report.specs.declared.load.Stop.TheVariants as stop
-use Rattle.report.specs.declared.engine.Unanswered.{Unanswered}
-use Rattle.report.specs.declared.engine.Unanswered.TheVariants as unanswered
-use Rattle.words.specs.declared.faults.Fault.{Fault}
 
 -- a table, a policy and what the third file holds; or the first file that isn't a text of its kind, with its fault; or
 -- nothing is known, since a file's bytes aren't

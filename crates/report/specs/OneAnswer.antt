@@ -1,15 +1,11 @@
 -- That files have one answer, whenever and wherever a command is carried out on them (confine's own).
-use Rattle.std.specs.Prelude.{◌≡◌, ℕ, List, Some, Result, All}
-use Rattle.std.specs.List.{zip}
+use Rattle.std.specs.{List.zip, Prelude.{ℕ, ◌≡◌, All, List, Result, Some}}
 use Rattle.base.specs.declared.edge.Edge.{Edge}
-use Rattle.kernel.specs.Legal.{IsLack}
-use Rattle.machine.specs.Layout.{Layout}
-use Rattle.machine.specs.declared.call.Event.{Event}
-use Rattle.report.specs.Answers.{AnswersVerdict, IsLogOfRun}
-use Rattle.report.specs.Commands.{IsAnswer}
-use Rattle.report.specs.Files.{contents_of}
-use Rattle.reptext.specs.declared.file.File.{File}
+use Rattle.machine.specs.{declared.call.Event.Event, Layout.Layout}
 use Rattle.words.specs.declared.faults.Fault.{Fault}
+use Rattle.kernel.specs.Legal.{IsLack}
+use Rattle.reptext.specs.declared.file.File.{File}
+use Rattle.report.specs.{Answers.{AnswersVerdict, IsLogOfRun}, Commands.IsAnswer, Files.contents_of}
 
 -- whatever bytes the three files hold, two answers to them have the same text and the same status
 abbrev pub HaveOneAnswer : {X : Type 0} → File → (Layout → List ℕ → Result X Fault) → (Layout → List Edge → X → List ℕ → ℕ → Type 0) → Type 0

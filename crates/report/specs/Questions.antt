@@ -1,21 +1,15 @@
 -- What is told of a label's authority on another, and drawn of all labels' (the authority is that of 'seL4 Enforces Integrity', section 4,
 -- restated; telling why it is there, and drawing it, are confine's own).
-use Rattle.std.specs.Prelude.{◌≡◌, ℕ, List, ◌++◌, codes, Option, Some, None}
+use Rattle.std.specs.Prelude.{ℕ, ◌++◌, ◌≡◌, List, None, Option, Some, codes}
 use Rattle.base.specs.declared.edge.Edge.{Edge}
-use Rattle.captext.specs.PolicyText.{edge_lines}
 use Rattle.machine.specs.Layout.{Layout}
-use Rattle.policy.specs.Policy.{allows}
-use Rattle.policy.specs.Reasons.{IsWhy}
-use Rattle.policy.specs.declared.why.Why.{Why}
-use Rattle.policy.specs.declared.why.Why.TheVariants as why
-use Rattle.report.specs.Answers.{no_file, no_label, read_nothing}
-use Rattle.report.specs.Commands.{Input, IsCarriedOut, Output}
-use Rattle.report.specs.declared.end.Asked.{Asked}
-use Rattle.report.specs.declared.end.Asked.TheVariants as asked
-use Rattle.report.specs.declared.end.End.{End}
-use Rattle.reptext.specs.declared.file.File.TheVariants as file
+use Rattle.policy.specs.{declared.why.Why.{Why, Why as why}, Policy.allows, Reasons.IsWhy}
 use Rattle.table.specs.Names.{label_named}
+use Rattle.captext.specs.PolicyText.{edge_lines}
 use Rattle.views.specs.Drawing.{IsDrawing}
+use Rattle.reptext.specs.declared.file.File.{File as file}
+use Rattle.report.specs.{declared.end.{Asked.{Asked, Asked as asked}, End.End}, Answers.{no_file, no_label, read_nothing}, Commands.Input}
+use Rattle.report.specs.Commands.{IsCarriedOut, Output}
 
 -- of two labels that may be there, the first that isn't
 abbrev pub first_absent : Option ℕ → Option ℕ → Option Asked

@@ -1,25 +1,14 @@
 -- What the command `replay` answers to a table, a policy and a log (confine's own).
-use Rattle.std.specs.Prelude.{◌≡◌, ℕ, ◌+◌, List, Some, length, slice_get, take}
+use Rattle.std.specs.Prelude.{ℕ, ◌+◌, ◌≡◌, List, Some, length, slice_get, take}
 use Rattle.base.specs.declared.edge.Edge.{Edge}
+use Rattle.machine.specs.{declared.call.Outcome.Outcome, Boot.IsBoot, Layout.Layout, Machine.Machine, Step.Step, WellFormed.kind_of}
+use Rattle.policy.specs.Policy.{allows}
 use Rattle.evtext.specs.Log.{read_log_of}
 use Rattle.kernel.specs.Legal.{Entry, Leads, StopsAt}
-use Rattle.machine.specs.Boot.{IsBoot}
-use Rattle.machine.specs.Layout.{Layout}
-use Rattle.machine.specs.declared.call.Outcome.{Outcome}
-use Rattle.machine.specs.Machine.{Machine}
-use Rattle.machine.specs.Step.{Step}
-use Rattle.machine.specs.WellFormed.{kind_of}
-use Rattle.policy.specs.Policy.{allows}
-use Rattle.report.specs.Answers.{no_label}
-use Rattle.report.specs.Commands.{Input, IsCarriedOut, Output}
-use Rattle.reptext.specs.Places.{place_names_by}
-use Rattle.reptext.specs.Reports.{illegal_data, line_of, outside_data, within_data}
-use Rattle.report.specs.declared.end.End.{End}
-use Rattle.reptext.specs.declared.file.File.TheVariants as file
-use Rattle.verdict.specs.Confined.{IsConfined}
-use Rattle.verdict.specs.Rules.{Excess}
-use Rattle.verdict.specs.Verdict.{IsOutside, excess_of, rule_name}
-use Rattle.verdict.specs.declared.denial.Denial.{Denial}
+use Rattle.verdict.specs.{declared.denial.Denial.Denial, Confined.IsConfined, Rules.Excess, Verdict.{IsOutside, excess_of, rule_name}}
+use Rattle.reptext.specs.{declared.file.File.File as file, Places.place_names_by, Reports.{illegal_data, line_of, outside_data}}
+use Rattle.reptext.specs.Reports.{within_data}
+use Rattle.report.specs.{declared.end.End.End, Answers.no_label, Commands.{Input, IsCarriedOut, Output}}
 
 -- the log's last state: its entries are a run from the boot state of the table to there
 abbrev pub IsReplayedTo : Layout → List Entry → Machine → Type 0

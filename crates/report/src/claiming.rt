@@ -1,13 +1,10 @@
-ghost use Rattle.std.specs.Prelude.{◌≡◌, ◌≤◌, List, All, false, IfErr, IfOk, IfNone, IfSome, length};
+ghost use Rattle.std.specs.{Prelude.{◌≡◌, ◌≤◌, All, IfErr, IfNone, IfOk, IfSome, List, false, length}, Thread.IsSync};
 ghost use Rattle.base.specs.Refusals.{out_of_memory};
-ghost use Rattle.claims.specs.Holding.{Holds, IsFirstBroken, IsKept};
-ghost use Rattle.claims.specs.Reading.{read_claims_of};
-ghost use Rattle.claims.specs.declared.claim.Claim.{Claim};
+ghost use Rattle.claims.specs.{declared.claim.Claim.Claim, Holding.{Holds, IsFirstBroken, IsKept}, Reading.read_claims_of};
+ghost use Rattle.reptext.specs.declared.file.File.TheVariants as file;
 ghost use Rattle.report.specs.Answers as answers;
 ghost use Rattle.report.specs.Claimed as claimed;
 ghost use Rattle.report.specs.Commands.{input, output};
-ghost use Rattle.std.specs.Thread.{IsSync};
-ghost use Rattle.reptext.specs.declared.file.File.TheVariants as file;
 
 use crate::command::{Answer, Command, denied};
 use crate::engine::carry_out;

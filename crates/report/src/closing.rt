@@ -1,4 +1,4 @@
-ghost use Rattle.std.specs.Prelude.{◌≡◌, ◌≤◌, false, IfErr, IfOk};
+ghost use Rattle.std.specs.Prelude.{◌≡◌, ◌≤◌, IfErr, IfOk, false};
 ghost use Rattle.base.specs.Refusals.{out_of_memory};
 ghost use Rattle.captext.specs.PolicyText.{edge_lines};
 ghost use Rattle.report.specs.Answers as answers;

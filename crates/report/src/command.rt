@@ -1,14 +1,10 @@
-ghost use Rattle.std.specs.Prelude.{◌≡◌, ◌≤◌, ℕ, List, IfErr, IfOk, None, Option, Result};
-ghost use Rattle.base.specs.Refusals.{out_of_memory};
-ghost use Rattle.base.specs.declared.edge.Edge.{Edge};
+ghost use Rattle.std.specs.Prelude.{ℕ, ◌≡◌, ◌≤◌, IfErr, IfOk, List, None, Option, Result};
+ghost use Rattle.base.specs.{declared.edge.Edge.Edge, Refusals.out_of_memory};
 ghost use Rattle.machine.specs.Layout.{Layout};
-ghost use Rattle.reptext.specs.Places.{place_names};
-ghost use Rattle.reptext.specs.Reports.{denial_report};
-ghost use Rattle.report.specs.declared.end.Asked.{Asked};
-ghost use Rattle.reptext.specs.declared.file.File.{File};
+ghost use Rattle.words.specs.{declared.faults.Fault.Fault, Reading.Reads};
 ghost use Rattle.verdict.specs.Verdict.{rule_name};
-ghost use Rattle.words.specs.Reading.{Reads};
-ghost use Rattle.words.specs.declared.faults.Fault.{Fault};
+ghost use Rattle.reptext.specs.{declared.file.File.File, Places.place_names, Reports.denial_report};
+ghost use Rattle.report.specs.declared.end.Asked.{Asked};
 
 use crate::load::Loaded;
 use crate::{Asked, File, Finding};

@@ -1,9 +1,8 @@
-ghost use Rattle.std.specs.Prelude.{◌≡◌, ◌≤◌, false, true, Err, IfOk, IsOkAnd, None, Some};
-ghost use Rattle.std.specs.Io.KnownBytes.{Appends};
+ghost use Rattle.std.specs.{Io.KnownBytes.Appends, Prelude.{◌≡◌, ◌≤◌, Err, IfOk, IsOkAnd, None, Some, false, true}};
 ghost use Rattle.devices.specs.Devices.{AppendsBeginning};
-ghost use Rattle.report.specs.Commands.{IsAnswer, IsCarriedOut, IsUnlabelled, input, output};
-ghost use Rattle.report.specs.Ends.{IfCannotWrite, IfNoLabel, IfStatus, IfUnwritten, is_unwritable, status_of, unread_file};
-ghost use Rattle.report.specs.Files.{Contents, Gives, IfUnlabelled, unread_by, unread_of};
+ghost use Rattle.report.specs.{Commands.{IsAnswer, IsCarriedOut, IsUnlabelled, input, output}, Ends.{IfCannotWrite, IfNoLabel, IfStatus}};
+ghost use Rattle.report.specs.{Ends.{IfUnwritten, is_unwritable, status_of, unread_file}, Files.{Contents, Gives, IfUnlabelled, unread_by}};
+ghost use Rattle.report.specs.Files.{unread_of};
 
 use crate::command::{Answer, Command};
 use crate::load::{Loaded, Stop, load};

@@ -1,9 +1,8 @@
-ghost use Rattle.std.specs.Prelude.{◌≡◌, ◌≢◌, ◌⊎◌, false, Ok, Err, IfOk, IfErr, IfSome};
-ghost use Rattle.captext.specs.Policies.{read_policy_of};
-ghost use Rattle.captext.specs.Tables.{read_table_of};
-ghost use Rattle.report.specs.Commands.{HasPolicy, HasTable, first_failed, input};
-ghost use Rattle.report.specs.Files.{Gives, IsDeviceStop, IsStopOf, LoadsAs, contents_of, is_unread, unread_of};
+ghost use Rattle.std.specs.Prelude.{◌≡◌, ◌≢◌, ◌⊎◌, Err, IfErr, IfOk, IfSome, Ok, false};
 ghost use Rattle.words.specs.Fault.{no_memory};
+ghost use Rattle.captext.specs.{Policies.read_policy_of, Tables.read_table_of};
+ghost use Rattle.report.specs.{Commands.{HasPolicy, HasTable, first_failed, input}, Files.{Gives, IsDeviceStop, IsStopOf, LoadsAs}};
+ghost use Rattle.report.specs.Files.{contents_of, is_unread, unread_of};
 
 use crate::command::Command;
 use crate::{File, Listener, ReadError, Source};

@@ -1,11 +1,8 @@
-ghost use Rattle.std.specs.Prelude.{◌≡◌, ◌≤◌, ℕ, List, false, IfErr, IfOk, None, Option};
-ghost use Rattle.base.specs.Refusals.{out_of_memory};
-ghost use Rattle.base.specs.declared.edge.Edge.{Edge};
+ghost use Rattle.std.specs.Prelude.{ℕ, ◌≡◌, ◌≤◌, IfErr, IfOk, List, None, Option, false};
+ghost use Rattle.base.specs.{declared.edge.Edge.Edge, Refusals.out_of_memory};
 ghost use Rattle.machine.specs.Layout.{Layout};
-ghost use Rattle.report.specs.Answers.{no_file, read_nothing};
-ghost use Rattle.report.specs.Commands.{IsCarriedOut, input, output};
-ghost use Rattle.report.specs.declared.end.Asked.{Asked};
 ghost use Rattle.reptext.specs.declared.file.File.TheVariants as file;
+ghost use Rattle.report.specs.{declared.end.Asked.Asked, Answers.{no_file, read_nothing}, Commands.{IsCarriedOut, input, output}};
 
 use crate::command::{Answer, Command};
 use crate::engine::carry_out;
@@ -86,7 +83,7 @@ impl<Q: Question> Command for Asking<'_, Q> {
 
     ghost third_file = { file.Policy };
 
-    ghost use Rattle.std.specs.Prelude.{ℕ, List, []};
+    ghost use Rattle.std.specs.Prelude.{[], ℕ, List};
 
     ghost Held = { List ℕ };
 

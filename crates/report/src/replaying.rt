@@ -1,13 +1,12 @@
-ghost use Rattle.std.specs.Prelude.{◌≡◌, ◌≤◌, List, false, IfErr, IfOk, IfSome};
+ghost use Rattle.std.specs.Prelude.{◌≡◌, ◌≤◌, IfErr, IfOk, IfSome, List, false};
 ghost use Rattle.base.specs.Refusals.{out_of_memory};
+ghost use Rattle.machine.specs.{Boot.IsBoot, WellFormed.IsWellFormed};
 ghost use Rattle.evtext.specs.Log.{read_log_of};
 ghost use Rattle.kernel.specs.Legal.{Entry};
-ghost use Rattle.machine.specs.Boot.{IsBoot};
-ghost use Rattle.machine.specs.WellFormed.{IsWellFormed};
+ghost use Rattle.reptext.specs.declared.file.File.TheVariants as file;
 ghost use Rattle.report.specs.Answers as answers;
 ghost use Rattle.report.specs.Commands.{input, output};
 ghost use Rattle.report.specs.Replays as replays;
-ghost use Rattle.reptext.specs.declared.file.File.TheVariants as file;
 
 use crate::command::{Answer, Command};
 use crate::engine::carry_out;

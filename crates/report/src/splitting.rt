@@ -1,10 +1,10 @@
-ghost use Rattle.std.specs.Prelude.{◌≡◌, ◌≤◌, List, false, IfErr, IfOk};
+ghost use Rattle.std.specs.Prelude.{◌≡◌, ◌≤◌, IfErr, IfOk, List, false};
 ghost use Rattle.base.specs.Refusals.{out_of_memory};
-ghost use Rattle.evtext.specs.Script.{read_script_of};
 ghost use Rattle.machine.specs.declared.call.Event.{Event};
+ghost use Rattle.evtext.specs.Script.{read_script_of};
+ghost use Rattle.reptext.specs.declared.file.File.TheVariants as file;
 ghost use Rattle.report.specs.Answers as answers;
 ghost use Rattle.report.specs.Commands.{input, output};
-ghost use Rattle.reptext.specs.declared.file.File.TheVariants as file;
 
 use crate::command::{Answer, Command, denied};
 use crate::engine::carry_out;

@@ -1,10 +1,8 @@
-ghost use Rattle.std.specs.Prelude.{◌≡◌, List, false};
-ghost use Rattle.certificate.specs.Reading.{read_certificate_of};
-ghost use Rattle.certificate.specs.declared.line.Line.{Line};
-ghost use Rattle.std.specs.Thread.{IsSync};
+ghost use Rattle.std.specs.{Prelude.{◌≡◌, List, false}, Thread.IsSync};
+ghost use Rattle.certificate.specs.{declared.line.Line.Line, Reading.read_certificate_of};
+ghost use Rattle.reptext.specs.declared.file.File.TheVariants as file;
 ghost use Rattle.report.specs.Answers as answers;
 ghost use Rattle.report.specs.Commands.{input, output};
-ghost use Rattle.reptext.specs.declared.file.File.TheVariants as file;
 
 use crate::command::{Answer, Command, denied};
 use crate::engine::carry_out;

@@ -1,14 +1,9 @@
 -- The labels one after another: the names of some of them, and a set for each.
-use Rattle.std.proofs.Common.{◌≡◌, ◌↔◌, ◌<◌, ℕ, Bool, true, false, ◌+◌, List, [], ◌∷◌, ◌++◌, length, get_or, arith, map, ap, ◌∙◌, sym}
-use Rattle.std.specs.List.{filter, fold, range_with_len}
-use Rattle.std.proofs.lemmas.List.{get_or_default, map-append, map-id}
-use Rattle.std.proofs.lemmas.List.Elements.{filter-append}
-use Rattle.std.proofs.lemmas.List.FromFn.{map-range_with_len_more}
+use Rattle.std.{specs.List.{filter, fold, range_with_len}, proofs.Common.{[], ℕ, ◌++◌, ◌+◌, ◌<◌, ◌↔◌, ◌∙◌, ◌∷◌, ◌≡◌, Bool, List, ap, arith}}
+use Rattle.std.proofs.{Common.{false, get_or, length, map, sym, true}, Math.{ListN.get_or-append, Seq.get_or-append_seam}}
+use Rattle.std.proofs.lemmas.List.{get_or_default, map-append, map-id, Elements.filter-append, FromFn.map-range_with_len_more}
 use Rattle.std.proofs.lemmas.List.Sums.{fold-append}
-use Rattle.std.proofs.Math.ListN.{get_or-append}
-use Rattle.std.proofs.Math.Seq.{get_or-append_seam}
-use Rattle.base.specs.Labels.{is_in, no_labels}
-use Rattle.base.specs.declared.labels.Labels.{Labels}
+use Rattle.base.specs.{declared.labels.Labels.Labels, Labels.{is_in, no_labels}}
 use Rattle.reptext.specs.Relations.{relation_of}
 use borrow.Author.Count.{below_more}
 

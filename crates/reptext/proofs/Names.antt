@@ -1,13 +1,9 @@
 -- Names as JSON have no number among them, and an acceptance none with a fraction.
-use Rattle.std.proofs.Common.{◌≡◌, ℕ, Bool, ◌||◌, List, [], ◌∷◌, map, false, true, refl}
-use Rattle.std.specs.declared.cmp.Ordering.{Ordering}
-use Rattle.std.specs.declared.cmp.Ordering.TheVariants.{Less, Equal, Greater}
-use Rattle.std.specs.Cmp.Lexicographic.{slice_cmp}
-use Rattle.std.specs.List.{filter, fold}
-use Rattle.std.specs.Ordering.{match_ordering, nat_cmp}
-use Rattle.serde_json.specs.Data.{Data, Members, member, no_members, put, string}
-use Rattle.serde_json.specs.View.{items_of}
-use Rattle.serde_json.specs.Written.{has_float, items_have_float, members_have_float}
+use Rattle.std.specs.{declared.cmp.Ordering.{Ordering, TheVariants.{Equal, Greater, Less}}, Cmp.Lexicographic.slice_cmp, List.filter}
+use Rattle.std.{specs.{List.fold, Ordering.{match_ordering, nat_cmp}}, proofs.Common.{[], ℕ, ◌||◌, ◌∷◌, ◌≡◌, Bool, List, false, map, refl}}
+use Rattle.std.proofs.Common.{true}
+use Rattle.serde_json.specs.{Data.{Data, Members, member, no_members, put, string}, View.items_of, Written.{has_float, items_have_float}}
+use Rattle.serde_json.specs.Written.{members_have_float}
 use Rattle.machine.specs.Layout.{Layout}
 use Rattle.captext.specs.PolicyText.{label_name}
 use Rattle.reptext.specs.Reports.{check_data, labels_of, names_data, with_related}

@@ -1,18 +1,13 @@
 -- The report of an acceptance has one text: two tests that decide a relation for the labels of a table agree on these.
-use Rattle.std.proofs.Common.{◌≡◌, ℕ, ◌<◌, Bool, true, false, List, [], ◌∷◌, All, length, get_or, map, refl, sym, ap, ◌∙◌, arith}
-use Rattle.std.specs.Prelude.{codes}
-use Rattle.std.specs.List.{filter, fold}
-use Rattle.std.proofs.lemmas.List.Elements.{All-head, All-tail}
+use Rattle.std.{specs.{List.{filter, fold}, Prelude.codes}, proofs.Common.{[], ℕ, ◌<◌, ◌∙◌, ◌∷◌, ◌≡◌, All, Bool, List, ap, arith, false}}
+use Rattle.std.proofs.{Common.{get_or, length, map, refl, sym, true}, lemmas.List.Elements.{All-head, All-tail}}
 use Rattle.std.proofs.lemmas.List.FromFn.{get_or-range_with_len, length-range_with_len}
-use Rattle.serde_json.specs.Data.{Data, number, unsigned, string, object, Members, member, no_members, put}
+use Rattle.serde_json.specs.Data.{Data, Members, member, no_members, number, object, put, string, unsigned}
 use Rattle.base.specs.declared.edge.Edge.{Edge}
-use Rattle.captext.specs.PolicyText.{label_name}
 use Rattle.machine.specs.Layout.{Layout}
-use Rattle.policy.specs.Cut.{IsCut}
-use Rattle.policy.specs.Full.{IsFull}
-use Rattle.policy.specs.Policy.{allows}
-use Rattle.reptext.specs.Relations.{Decides}
-use Rattle.reptext.specs.Reports.{IsCheckReport, labels_of, line_of, names_data, relation_data, with_related}
+use Rattle.policy.specs.{Cut.IsCut, Full.IsFull, Policy.allows}
+use Rattle.captext.specs.PolicyText.{label_name}
+use Rattle.reptext.specs.{Relations.Decides, Reports.{IsCheckReport, labels_of, line_of, names_data, relation_data, with_related}}
 
 -- two answers of which each is yes where the other is
 pub same_answer : (one other : Bool) → (one ≡ true → other ≡ true) → (other ≡ true → one ≡ true) → one ≡ other

@@ -1,14 +1,12 @@
 -- What is told of a table that is made one of version 2 is what was told of it before.
-use Rattle.std.proofs.Common.{◌≡◌, ℕ, List, refl}
+use Rattle.std.proofs.Common.{ℕ, ◌≡◌, List, refl}
 use Rattle.base.specs.declared.edge.Edge.{Edge}
 use Rattle.machine.specs.Layout.{Layout, initial_of, upgraded}
 use Rattle.policy.specs.declared.broken.Broken.{Broken}
 use Rattle.policy.specs.declared.broken.Broken.TheVariants as broken
-use Rattle.reptext.specs.Places.{broken_names, place_names}
-use Rattle.reptext.specs.Reports.{IsCheckReport}
 use Rattle.table.specs.Rules.{kind_at}
-use Rattle.verdict.specs.declared.denial.Denial.{Denial}
-use Rattle.verdict.specs.declared.denial.Denial.TheVariants as denial
+use Rattle.verdict.specs.declared.denial.Denial.{Denial, Denial as denial}
+use Rattle.reptext.specs.{Places.{broken_names, place_names}, Reports.IsCheckReport}
 
 pub reported : (t : Layout) (edges : List Edge) (text : List ℕ) → IsCheckReport (upgraded t) edges text → IsCheckReport t edges text
 reported t edges text h = record { cut = h.cut; full = h.full; cuts = h.cuts; fulls = h.fulls; told = h.told }

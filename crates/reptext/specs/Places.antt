@@ -1,20 +1,13 @@
 -- The names that stand at a place: labels, kinds and objects by their names, slots as the texts spell them (confine's own).
-use Rattle.std.specs.Prelude.{ℕ, List, [], ◌∷◌, ◌++◌, Option, codes, decimal, unwrap_or, slice_get}
-use Rattle.base.specs.Kinds.{kind_name}
-use Rattle.base.specs.declared.ids.ObjId.{ObjId}
-use Rattle.base.specs.declared.ids.SlotRef.{SlotRef}
-use Rattle.base.specs.declared.kind.Kind.{Kind}
-use Rattle.base.specs.declared.kind.Kind.TheVariants.{Derive, Runs, Holds}
-use Rattle.captext.specs.PolicyText.{label_name}
-use Rattle.captext.specs.Spelling.{slot_word}
-use Rattle.captext.specs.TableText.{place_in}
-use Rattle.verdict.specs.declared.denial.Denial.{Denial}
-use Rattle.verdict.specs.declared.denial.Denial.TheVariants as denial
-use Rattle.machine.specs.declared.object.ObjectKind.{ObjectKind}
-use Rattle.machine.specs.Layout.{Layout}
+use Rattle.std.specs.Prelude.{[], ℕ, ◌++◌, ◌∷◌, List, Option, codes, decimal, slice_get, unwrap_or}
+use Rattle.base.specs.{declared.{ids.{ObjId.ObjId, SlotRef.SlotRef}, kind.Kind.{Kind, TheVariants.{Derive, Holds, Runs}}}, Kinds.kind_name}
+use Rattle.machine.specs.{declared.object.ObjectKind.ObjectKind, Layout.Layout}
 use Rattle.policy.specs.declared.broken.Broken.{Broken}
 use Rattle.policy.specs.declared.broken.Broken.TheVariants as broken
 use Rattle.table.specs.Rules.{kind_at}
+use Rattle.captext.specs.{PolicyText.label_name, Spelling.slot_word, TableText.place_in}
+use Rattle.verdict.specs.declared.denial.Denial.{Denial}
+use Rattle.verdict.specs.declared.denial.Denial.TheVariants as denial
 
 -- an object that the table doesn't name has a number sign and its number
 abbrev pub object_name : Layout → ObjId → List ℕ

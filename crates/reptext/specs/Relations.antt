@@ -1,13 +1,9 @@
 -- The relations of labels that the report of an acceptance tells, and tests that decide them (confine's own).
-use Rattle.std.specs.Prelude.{◌≡◌, ◌↔◌, ◌<◌, ℕ, Bool, true, List, length, get_or}
-use Rattle.base.specs.Labels.{is_in, no_labels}
-use Rattle.base.specs.declared.labels.Labels.{Labels}
+use Rattle.std.specs.Prelude.{ℕ, ◌<◌, ◌↔◌, ◌≡◌, Bool, List, get_or, length, true}
+use Rattle.base.specs.{declared.labels.Labels.Labels, Labels.{is_in, no_labels}}
 use Rattle.machine.specs.Layout.{Layout}
-use Rattle.policy.specs.Cut.{IsCut}
-use Rattle.policy.specs.Domain.{EdgeTest}
-use Rattle.policy.specs.Full.{IsFull}
-use Rattle.reptext.specs.declared.relations.Relation.{Relation}
-use Rattle.reptext.specs.declared.relations.Relation.TheVariants.{Cut, Full}
+use Rattle.policy.specs.{Cut.IsCut, Domain.EdgeTest, Full.IsFull}
+use Rattle.reptext.specs.declared.relations.Relation.{Relation, TheVariants.{Cut, Full}}
 
 abbrev pub relates : Relation → EdgeTest → ℕ → ℕ → Type 0
 relates Cut allowed = IsCut allowed

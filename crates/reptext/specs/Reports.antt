@@ -1,20 +1,14 @@
 -- The reports: each is one JSON object on a line, without spaces, its keys in the order of their bytes (confine's own).
-use Rattle.std.specs.Prelude.{◌≡◌, ℕ, Bool, List, [], ◌∷◌, ◌++◌, codes, length, map}
-use Rattle.std.specs.List.{filter, fold, range_with_len}
-use Rattle.serde_json.specs.Data.{Data, number, unsigned, string, array, object, Members, member, no_members, put}
-use Rattle.serde_json.specs.View.{items_of}
+use Rattle.std.specs.{List.{filter, fold, range_with_len}, Prelude.{[], ℕ, ◌++◌, ◌∷◌, ◌≡◌, Bool, List, codes, length, map}}
+use Rattle.serde_json.specs.{Data.{Data, Members, array, member, no_members, number, object, put, string, unsigned}, View.items_of}
 use Rattle.serde_json.specs.Written.{compact_text}
 use Rattle.base.specs.declared.edge.Edge.{Edge}
-use Rattle.captext.specs.PolicyText.{label_name}
 use Rattle.machine.specs.Layout.{Layout}
-use Rattle.policy.specs.Cut.{IsCut}
-use Rattle.policy.specs.Full.{IsFull}
-use Rattle.policy.specs.Policy.{allows}
-use Rattle.reptext.specs.Relations.{Decides}
-use Rattle.reptext.specs.declared.file.File.{File}
-use Rattle.reptext.specs.declared.file.File.TheVariants.{Table, Policy, Certificate, Script, Log, Claims}
+use Rattle.policy.specs.{Cut.IsCut, Full.IsFull, Policy.allows}
+use Rattle.captext.specs.PolicyText.{label_name}
 use Rattle.verdict.specs.declared.extent.Extent.{Extent}
 use Rattle.verdict.specs.declared.extent.Extent.TheVariants as extent
+use Rattle.reptext.specs.{declared.file.File.{File, TheVariants.{Certificate, Claims, Log, Policy, Script, Table}}, Relations.Decides}
 
 -- the word for a file
 abbrev pub file_word : File → List ℕ

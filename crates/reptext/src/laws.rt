@@ -1,9 +1,8 @@
-ghost use Rattle.std.specs.Prelude.{◌≡◌, ◌↔◌, ℕ, List};
+ghost use Rattle.std.specs.Prelude.{ℕ, ◌↔◌, ◌≡◌, List};
 ghost use Rattle.base.specs.declared.edge.Edge.{Edge};
 ghost use Rattle.machine.specs.Layout.{Layout, upgraded};
-ghost use Rattle.reptext.specs.Places.{place_names};
-ghost use Rattle.reptext.specs.Reports.{IsCheckReport};
 ghost use Rattle.verdict.specs.declared.denial.Denial.{Denial};
+ghost use Rattle.reptext.specs.{Places.place_names, Reports.IsCheckReport};
 
 /// A law: an upgraded table keeps the reports of its acceptance, and the names at the place of each
 /// denial, which don't depend on the version.

@@ -1,10 +1,9 @@
 ghost use Rattle.std.specs.Prelude.{◌≡◌, IfOk, Option, map, string_bytes};
 ghost use Rattle.base.specs.declared.ids.ObjId.{ObjId as Id};
-ghost use Rattle.captext.specs.PolicyText as policy_text;
-ghost use Rattle.machine.specs.WellFormed.{kind_of};
-ghost use Rattle.machine.specs.declared.object.ObjectKind.{ObjectKind as KindOfObject};
-ghost use Rattle.reptext.specs.Places as places;
+ghost use Rattle.machine.specs.{declared.object.ObjectKind.ObjectKind as KindOfObject, WellFormed.kind_of};
 ghost use Rattle.table.specs.Rules.{kind_at};
+ghost use Rattle.captext.specs.PolicyText as policy_text;
+ghost use Rattle.reptext.specs.Places as places;
 
 use base::{Kind, Label, ObjId, SlotRef};
 use machine::ObjectKind;

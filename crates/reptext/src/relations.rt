@@ -1,12 +1,10 @@
-ghost use Rattle.std.specs.Prelude.{◌≡◌, ◌↔◌, ◌<◌, ◌∷◌, ◌++◌, [], ℕ, Bool, length, map, true, IfOk, OnOk};
-ghost use Rattle.std.specs.List.{filter};
+ghost use Rattle.std.specs.{List.filter, Prelude.{[], ℕ, ◌++◌, ◌<◌, ◌↔◌, ◌∷◌, ◌≡◌, Bool, IfOk, OnOk, length, map, true}};
+ghost use Rattle.serde_json.specs.{Data.string, View.{members_view, view}};
 ghost use Rattle.base.specs.Labels.{is_in};
-ghost use Rattle.captext.specs.PolicyText as policy_text;
 ghost use Rattle.policy.specs.Policy.{allows};
+ghost use Rattle.captext.specs.PolicyText as policy_text;
 ghost use Rattle.reptext.specs.Relations.{Decides, relates, relation_of};
 ghost use Rattle.reptext.specs.Reports as reports;
-ghost use Rattle.serde_json.specs.Data.{string};
-ghost use Rattle.serde_json.specs.View.{members_view, view};
 
 use crate::places::label_name;
 use base::{Label, Labels};

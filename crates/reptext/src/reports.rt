@@ -1,9 +1,8 @@
-ghost use Rattle.std.specs.Prelude.{◌≡◌, ℕ, Bool, IfOk, map, string_bytes, false};
-ghost use Rattle.serde_json.specs.View.{view};
-ghost use Rattle.serde_json.specs.Written.{has_float};
+ghost use Rattle.std.specs.Prelude.{ℕ, ◌≡◌, Bool, IfOk, false, map, string_bytes};
+ghost use Rattle.serde_json.specs.{View.view, Written.has_float};
+ghost use Rattle.verdict.specs.Verdict.{rule_name};
 ghost use Rattle.reptext.specs.Places.{place_names};
 ghost use Rattle.reptext.specs.Reports as reports;
-ghost use Rattle.verdict.specs.Verdict.{rule_name};
 
 use crate::File;
 use crate::places::place_names;

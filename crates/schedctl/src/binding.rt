@@ -1,7 +1,5 @@
 ghost use Rattle.std.specs.Prelude.{◌≡◌};
-ghost use Rattle.machine.specs.Machine.{object_of};
-ghost use Rattle.machine.specs.Makes.{Makes};
-ghost use Rattle.machine.specs.Step.Bind.{bind_of, thread_on, unbind_of, unlinked, without_thread};
+ghost use Rattle.machine.specs.{Machine.object_of, Makes.Makes, Step.Bind.{bind_of, thread_on, unbind_of, unlinked, without_thread}};
 ghost use Rattle.machine.specs.WellFormed.{IsWellFormed};
 
 use crate::links::{bind_to, context_under, part};

@@ -1,7 +1,5 @@
 ghost use Rattle.std.specs.Prelude.{◌≡◌};
-ghost use Rattle.machine.specs.Machine.{object_of};
-ghost use Rattle.machine.specs.Makes.{Makes};
-ghost use Rattle.machine.specs.Step.Configure.{configure_of, core_in, in_limits, with_share};
+ghost use Rattle.machine.specs.{Machine.object_of, Makes.Makes, Step.Configure.{configure_of, core_in, in_limits, with_share}};
 ghost use Rattle.machine.specs.WellFormed.{IsWellFormed};
 
 use base::{Cause, CoreNo, MAX_PERIOD, ObjId};

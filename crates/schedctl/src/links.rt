@@ -1,9 +1,7 @@
 ghost use Rattle.std.specs.Prelude.{◌≡◌, ◌≢◌, None, Some};
 ghost use Rattle.machine.specs.declared.object.ObjectKind.TheVariants as kind;
-ghost use Rattle.machine.specs.Machine.{object_of};
-ghost use Rattle.machine.specs.Releasing.{with_idle_context, with_unbound};
-ghost use Rattle.machine.specs.Step.Bind.{context_under, with_bound, with_handed};
-ghost use Rattle.machine.specs.WellFormed.{IsWellFormed, kind_of};
+ghost use Rattle.machine.specs.{Machine.object_of, Releasing.{with_idle_context, with_unbound}, Step.Bind.{context_under, with_bound}};
+ghost use Rattle.machine.specs.{Step.Bind.with_handed, WellFormed.{IsWellFormed, kind_of}};
 
 use base::ObjId;
 use machine::{Context, Object, Tcb};

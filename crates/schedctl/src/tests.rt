@@ -1,7 +1,6 @@
 ghost use Rattle.std.specs.Prelude.{◌≡◌, IfOk, OnOk, Some, true};
 ghost use Rattle.machine.specs.declared.object.ObjectKind.TheVariants as kind;
-ghost use Rattle.machine.specs.Machine.{with_new};
-ghost use Rattle.machine.specs.WellFormed.{kind_of};
+ghost use Rattle.machine.specs.{Machine.with_new, WellFormed.kind_of};
 
 use crate::hand_over;
 use crate::links::context_under;

@@ -1,20 +1,15 @@
 -- What the workers of all cores made together is the script.
-use Rattle.std.proofs.Common.{◌≡◌, ◌⊎◌, ◌∙◌, ◌<◌, ◌≤◌, ◌==◌, ℕ, Bool, true, false, cond, List, [], ◌∷◌, ◌++◌, Some, All, length, slice_index_or, inl, inr, arith, refl, ap, sym, subst}
-use Rattle.std.proofs.lemmas.List.{length-append, length-map}
-use Rattle.std.proofs.lemmas.List.Elements.{All-head, All-tail}
-use Rattle.std.proofs.lemmas.Option.{get_or_from_slice_get, slice_get-get_or, slice_get_within}
-use Rattle.std.specs.Prelude.{map, slice_get}
+use Rattle.std.{specs.Prelude.{map, slice_get}, proofs.Common.{[], ℕ, ◌++◌, ◌<◌, ◌==◌, ◌∙◌, ◌∷◌, ◌≡◌, ◌≤◌, ◌⊎◌, All, Bool, List, Some, ap}}
+use Rattle.std.proofs.{Common.{arith, cond, false, inl, inr, length, refl, slice_index_or, subst, sym, true}, lemmas.List.length-append}
+use Rattle.std.proofs.lemmas.{List.{length-map, Elements.{All-head, All-tail}}, Option.{get_or_from_slice_get, slice_get-get_or}}
+use Rattle.std.proofs.lemmas.Option.{slice_get_within}
 use Rattle.base.specs.declared.core_number.TheConstants.CoreNo as CoreNo
-use Rattle.cores.specs.History.{OnCores, log_of, own}
-use Rattle.cores.specs.Rule.{about}
-use Rattle.cores.specs.Seats.{AreNew, Closes, IsOf, Known, Looks, Ticket, new_seat, no_table}
-use Rattle.cores.specs.declared.view.Noted.{Noted}
+use Rattle.machine.specs.{declared.call.Event.Event, Machine.{Machine, empty_machine}}
 use Rattle.kernel.specs.Legal.{Entry, Leads}
-use Rattle.machine.specs.Machine.{Machine, empty_machine}
-use Rattle.machine.specs.declared.call.Event.{Event}
-use Rattle.split.specs.SplitRun.{IsSplitRun, on_core}
-use Rattle.split.specs.Workers.{AreAllCores, IsFresh, Worked, events_of}
-use Rattle.split.proofs.Counting.{part, parts_most, parts_whole, total, total_less, total_same}
+use Rattle.cores.specs.{declared.view.Noted.Noted, History.{OnCores, log_of, own}, Rule.about, Seats.{AreNew, Closes, IsOf, Known, Looks}}
+use Rattle.cores.specs.Seats.{Ticket, new_seat, no_table}
+use Rattle.split.{specs.{SplitRun.{IsSplitRun, on_core}, Workers.{AreAllCores, IsFresh, Worked, events_of}}, proofs.Counting.part}
+use Rattle.split.proofs.Counting.{parts_most, parts_whole, total, total_less, total_same}
 
 pub chosen : (b : Bool) (noted : Noted) (events : List Event) (rest : List Noted) → events ≡ events_of rest
     → cond b (noted.event ∷ events) events ≡ events_of (cond b (noted ∷ rest) rest)

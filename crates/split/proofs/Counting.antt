@@ -1,8 +1,7 @@
 -- A list is as long as its parts together, where a part is of the elements with one number.
-use Rattle.std.proofs.Common.{◌≡◌, ◌≢◌, ◌+◌, ◌<◌, ◌≤◌, ◌==◌, ℕ, zero, suc, cond, List, [], ◌∷◌, All, length, arith, inl, inr, refl, ap, subst, eq-eqb, ne_eqb}
-use Rattle.std.proofs.lemmas.Bool.{cases_lt, cases_order}
-use Rattle.std.proofs.lemmas.List.Elements.{All-head, All-tail}
-use Rattle.std.specs.List.{filter}
+use Rattle.std.{specs.List.filter, proofs.Common.{[], ℕ, ◌+◌, ◌<◌, ◌==◌, ◌∷◌, ◌≡◌, ◌≢◌, ◌≤◌, All, List, ap, arith, cond, eq-eqb, inl, inr}}
+use Rattle.std.proofs.{Common.{length, ne_eqb, refl, subst, suc, zero}, lemmas.{Bool.{cases_lt, cases_order}, List.Elements.All-head}}
+use Rattle.std.proofs.lemmas.List.Elements.{All-tail}
 
 -- the sum of the first numbers
 abbrev pub total : (ℕ → ℕ) → ℕ → ℕ

@@ -1,11 +1,9 @@
 -- The events of one core, as its worker goes through the script.
-use Rattle.std.proofs.Common.{◌≡◌, ◌∙◌, ◌+◌, ◌<◌, ◌==◌, ℕ, cond, List, [], ◌∷◌, ◌++◌, length, take, drop, get_or, arith, ap, sym, subst, eq-eqb}
-use Rattle.std.proofs.lemmas.List.{length-append, length-map, take-append-drop}
-use Rattle.std.proofs.lemmas.List.Elements.{filter-append, filter_more}
-use Rattle.cores.specs.declared.view.Noted.{Noted}
+use Rattle.std.proofs.Common.{[], ℕ, ◌++◌, ◌+◌, ◌<◌, ◌==◌, ◌∙◌, ◌∷◌, ◌≡◌, List, ap, arith, cond, drop, eq-eqb, get_or, length, subst, sym}
+use Rattle.std.proofs.{Common.take, lemmas.List.{length-append, length-map, take-append-drop, Elements.{filter-append, filter_more}}}
 use Rattle.machine.specs.declared.call.Event.{Event}
-use Rattle.split.specs.SplitRun.{on_core}
-use Rattle.split.specs.Workers.{events_of}
+use Rattle.cores.specs.declared.view.Noted.{Noted}
+use Rattle.split.specs.{SplitRun.on_core, Workers.events_of}
 
 -- an event on the core comes after those before it
 pub one_kept : (core : ℕ) (events : List Event) (i : ℕ) (event : Event) → i < length events → event ≡ get_or events i event

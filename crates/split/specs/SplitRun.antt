@@ -1,10 +1,8 @@
 -- A run that is made of a script by several cores, each in the script's order (confine's own).
-use Rattle.std.specs.Prelude.{◌≡◌, ◌<◌, ◌==◌, ℕ, List, length, map}
-use Rattle.std.specs.List.{filter}
+use Rattle.std.specs.{List.filter, Prelude.{ℕ, ◌<◌, ◌==◌, ◌≡◌, List, length, map}}
 use Rattle.base.specs.declared.core_number.TheConstants.CoreNo as CoreNo
+use Rattle.machine.specs.{declared.call.Event.Event, Machine.Machine}
 use Rattle.kernel.specs.Legal.{Entry, Leads}
-use Rattle.machine.specs.declared.call.Event.{Event}
-use Rattle.machine.specs.Machine.{Machine}
 
 -- the events of this core, in their order
 abbrev pub on_core : ℕ → List Event → List Event

@@ -1,10 +1,9 @@
 -- What the workers are given, one for each core, and what each leaves, which makes the script's events on its core by a seat of its
 -- own (confine's own).
-use Rattle.std.specs.Prelude.{◌≡◌, ◌<◌, ◌⊎◌, ℕ, List, [], Some, length, map, slice_get}
+use Rattle.std.specs.Prelude.{[], ℕ, ◌<◌, ◌≡◌, ◌⊎◌, List, Some, length, map, slice_get}
 use Rattle.base.specs.declared.core_number.TheConstants.CoreNo as CoreNo
-use Rattle.cores.specs.Seats.{IsOf, Known, Ticket}
-use Rattle.cores.specs.declared.view.Noted.{Noted}
 use Rattle.machine.specs.declared.call.Event.{Event}
+use Rattle.cores.specs.{declared.view.Noted.Noted, Seats.{IsOf, Known, Ticket}}
 use Rattle.split.specs.SplitRun.{on_core}
 
 -- all cores that there can be, each at the place of its number

@@ -1,11 +1,9 @@
 //! A whole script, made by the workers on a kernel of its own.
 ghost use Rattle.std.specs.Prelude.{◌≡◌, ◌≤◌, All, IfErr, IfOk, length};
 ghost use Rattle.base.specs.Refusals.{out_of_memory};
+ghost use Rattle.machine.specs.{Boot.IsBoot, Machine.Machine};
 ghost use Rattle.cores.specs.Seats.{AreNew, IsOf};
-ghost use Rattle.machine.specs.Boot.{IsBoot};
-ghost use Rattle.machine.specs.Machine.{Machine};
-ghost use Rattle.split.specs.SplitRun.{IsSplitRun};
-ghost use Rattle.split.specs.Workers.{AreAllCores};
+ghost use Rattle.split.specs.{SplitRun.IsSplitRun, Workers.AreAllCores};
 
 use crate::workers::{CORES, all_workers, busy_cores};
 use base::{CoreNo, MAX_EVENTS, Refusal};

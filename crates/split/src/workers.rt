@@ -1,5 +1,5 @@
 //! The workers, one for each core.
-ghost use Rattle.std.specs.Prelude.{◌≡◌, ◌<◌, ℕ, [], All, IfOk, length, slice_index_or};
+ghost use Rattle.std.specs.Prelude.{[], ℕ, ◌<◌, ◌≡◌, All, IfOk, length, slice_index_or};
 ghost use Rattle.cores.specs.Seats.{IsOf, Known};
 ghost use Rattle.split.specs.Workers.{IsFresh, Worked};
 

@@ -1,15 +1,9 @@
 -- Rising ranges of addresses that don't meet: which of them another meets, and where it goes if it meets none.
-use Rattle.std.proofs.Common.{◌≡◌, ℕ, ◌+◌, ◌-◌, ◌<◌, ◌≤◌, Bool, true, false, nat_lt, ◌&&◌, List, length, get_or, refl, sym, ap, ◌∙◌}
-use Rattle.std.proofs.Common.{inl, inr, arith}
-use Rattle.std.proofs.lemmas.Bool.{cases_lt, cases_order, false≢true}
-use Rattle.std.proofs.lemmas.Bool.Decides.{nat_tests}
-use Rattle.std.proofs.lemmas.List.{get_or_default}
-use Rattle.std.proofs.lemmas.List.Edits.{length-insert, get_or-insert_below, get_or-insert_at, get_or-insert_above}
-use Rattle.std.proofs.lemmas.List.Folds.{list_any_none, list_any_at}
-use Rattle.std.specs.List.{list_any, insert}
-use Rattle.std.specs.List.Sorted.{IsNonDecreasingBy, IsPartitionPoint}
-use Rattle.table.specs.declared.extent.Extent.{Extent}
-use Rattle.table.specs.Placement.{AreApart, touches}
+use Rattle.std.{specs.List.{insert, list_any, Sorted.{IsNonDecreasingBy, IsPartitionPoint}}, proofs.Common.{ℕ, ◌&&◌, ◌+◌, ◌-◌, ◌<◌, ◌∙◌}}
+use Rattle.std.proofs.Common.{◌≡◌, ◌≤◌, Bool, List, ap, arith, false, get_or, inl, inr, length, nat_lt, refl, sym, true}
+use Rattle.std.proofs.lemmas.{Bool.{cases_lt, cases_order, false≢true, Decides.nat_tests}, List.{get_or_default, Edits.get_or-insert_above}}
+use Rattle.std.proofs.lemmas.List.{Edits.{get_or-insert_at, get_or-insert_below, length-insert}, Folds.{list_any_at, list_any_none}}
+use Rattle.table.specs.{declared.extent.Extent.Extent, Placement.{AreApart, touches}}
 
 -- starts rise
 pub starts_rise : (extents : List Extent) → AreApart extents → IsNonDecreasingBy (λ extent. extent.start) extents

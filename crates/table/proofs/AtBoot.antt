@@ -1,21 +1,13 @@
 -- What the boot state of a table has of it: objects with their links, kinds and labels.
-use Rattle.std.proofs.Common.{◌≡◌, ℕ, ◌<◌, true, false, length, Option, Some, None, option_map, option_and_then, refl, sym, ap, subst, ◌∙◌, nat_lt, if◌then◌else◌}
-use Rattle.std.proofs.lemmas.Option.{none-some, same_Some, slice_get_within, get_or_from_slice_get}
-use Rattle.std.proofs.lemmas.Bool.Decides.{Decides-ltb}
-use Rattle.base.specs.declared.ids.ObjId.{ObjId}
-use Rattle.base.specs.declared.kind.Kind.{Kind}
-use Rattle.machine.specs.declared.layout.Initial.{Initial}
-use Rattle.machine.specs.declared.object.Object.{Object}
-use Rattle.machine.specs.declared.thread.RunState.{RunState}
-use Rattle.machine.specs.declared.thread.RunState.TheVariants as state
-use Rattle.machine.specs.Authority.{label_at, label_of, lent_of, state_links}
-use Rattle.machine.specs.Boot.{IsBoot, bound, booted}
-use Rattle.machine.proofs.Bound.{kind-bound}
-use Rattle.machine.specs.Layout.{Layout, initial_of, declared_label}
-use Rattle.machine.specs.Machine.{Machine, object_of}
-use Rattle.machine.specs.Objects.{kind_of_object, address_of}
-use Rattle.machine.specs.WellFormed.{kind_of}
-use Rattle.table.specs.Rules.{IsLawful, IsObjectOf, IsAtRest, kind_at}
+use Rattle.std.proofs.Common.{ℕ, ◌<◌, ◌∙◌, ◌≡◌, None, Option, Some, ap, false, if◌then◌else◌, length, nat_lt, option_and_then, option_map}
+use Rattle.std.proofs.{Common.{refl, subst, sym, true}, lemmas.{Bool.Decides.Decides-ltb, Option.{get_or_from_slice_get, none-some}}}
+use Rattle.std.proofs.lemmas.Option.{same_Some, slice_get_within}
+use Rattle.base.specs.declared.{ids.ObjId.ObjId, kind.Kind.Kind}
+use Rattle.machine.specs.declared.{layout.Initial.Initial, object.Object.Object, thread.RunState.{RunState, RunState as state}}
+use Rattle.machine.specs.{Authority.{label_at, label_of, lent_of, state_links}, Boot.{IsBoot, booted, bound}, Layout.Layout}
+use Rattle.machine.specs.{Layout.{declared_label, initial_of}, Machine.{Machine, object_of}, Objects.{address_of, kind_of_object}}
+use Rattle.machine.{specs.WellFormed.kind_of, proofs.Bound.kind-bound}
+use Rattle.table.specs.Rules.{IsAtRest, IsLawful, IsObjectOf, kind_at}
 
 -- a booted object is a declared one with its links
 pub record Declared (t : Layout) (id : ObjId) (object : Object) : Type 0 where

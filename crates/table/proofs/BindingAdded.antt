@@ -1,28 +1,13 @@
 -- A draft with a binding more is one.
-use Rattle.std.proofs.Common.{◌≡◌, ◌≢◌, ℕ, ◌<◌, ◌||◌, Bool, true, false, cond, List, [], ◌∷◌, ◌++◌, Option, None, Some, option_map, is_some}
-use Rattle.std.proofs.Common.{length, get_or, set, get_or-set_other, get_or-set_same, refl, sym, ap, ◌∙◌, arith}
-use Rattle.std.proofs.lemmas.Bool.{false≢true, ltb-true}
-use Rattle.std.proofs.lemmas.Cmp.{tied_itself}
-use Rattle.std.proofs.lemmas.List.Elements.{All-push}
-use Rattle.std.proofs.lemmas.List.Quantifiers.{all_pairs_push}
-use Rattle.std.proofs.lemmas.List.Folds.{find-append}
-use Rattle.std.proofs.lemmas.Option.{none-some, slice_get_within}
-use Rattle.std.specs.List.{find, list_any}
-use Rattle.std.specs.Option.{option_or}
-use Rattle.std.specs.Ordering.{is_eq}
-use Rattle.base.specs.declared.ids.ObjId.{ObjId}
-use Rattle.base.specs.declared.limits.TheConstants.{OBJECT_NUMBERS}
-use Rattle.machine.specs.declared.layout.Binding.{Binding}
-use Rattle.machine.specs.declared.layout.Initial.{Initial}
-use Rattle.machine.specs.declared.object.ObjectKind.{ObjectKind}
-use Rattle.machine.specs.Layout.{Layout, initial_of}
-use Rattle.machine.specs.Objects.{kind_of_object}
-use Rattle.machine.specs.Machine.{same_id}
-use Rattle.machine.proofs.LookUps.{id_total, one_id}
-use Rattle.table.specs.Aims.{IsOfThreads, thread_bound_to}
-use Rattle.table.specs.Building.{AdmitsBinding, is_above_bindings, is_above_bound, is_bound, with_binding}
-use Rattle.table.specs.Rules.{IsDraft, IsBindingOf, kind_at}
-use Rattle.table.proofs.ListLemmas.{all_from_last, not_any}
+use Rattle.std.{specs.{List.{find, list_any}, Option.option_or, Ordering.is_eq}, proofs.Common.{[], ℕ, ◌++◌, ◌<◌, ◌||◌, ◌∙◌, ◌∷◌, ◌≡◌, ◌≢◌}}
+use Rattle.std.proofs.Common.{Bool, List, None, Option, Some, ap, arith, cond, false, get_or, get_or-set_other, get_or-set_same, is_some}
+use Rattle.std.proofs.{Common.{length, option_map, refl, set, sym, true}, lemmas.{Bool.{false≢true, ltb-true}, Cmp.tied_itself}}
+use Rattle.std.proofs.lemmas.{List.{Elements.All-push, Folds.find-append, Quantifiers.all_pairs_push}, Option.{none-some, slice_get_within}}
+use Rattle.base.specs.declared.{ids.ObjId.ObjId, limits.TheConstants.OBJECT_NUMBERS}
+use Rattle.machine.specs.{declared.{layout.{Binding.Binding, Initial.Initial}, object.ObjectKind.ObjectKind}, Layout.{Layout, initial_of}}
+use Rattle.machine.{specs.{Machine.same_id, Objects.kind_of_object}, proofs.LookUps.{id_total, one_id}}
+use Rattle.table.specs.{Aims.{IsOfThreads, thread_bound_to}, Building.{AdmitsBinding, is_above_bindings, is_above_bound, is_bound}}
+use Rattle.table.{specs.{Building.with_binding, Rules.{IsBindingOf, IsDraft, kind_at}}, proofs.ListLemmas.{all_from_last, not_any}}
 
 -- threads below the last are below the new one
 below_new :

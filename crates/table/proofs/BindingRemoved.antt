@@ -1,13 +1,9 @@
 -- A draft whose last item was a binding was one without it, and admitted it.
-use Rattle.std.proofs.Common.{◌≡◌, ◌≢◌, ℕ, ◌-◌, ◌<◌, true, length, get_or, slice_get, Option, Some, None, refl}
-use Rattle.std.proofs.lemmas.Bool.{lt-ltb, false_from_ne_true}
-use Rattle.machine.specs.declared.layout.Binding.{Binding}
-use Rattle.machine.specs.Layout.{Layout, initial_of}
-use Rattle.machine.specs.Machine.{same_id}
-use Rattle.machine.proofs.LookUps.{one_id}
-use Rattle.table.specs.Building.{AdmitsBinding, is_above_bindings, is_above_bound, is_bound, with_binding}
-use Rattle.table.specs.Rules.{IsDraft, IsBindingOf, kind_at}
-use Rattle.table.proofs.FrontLemmas.{all_front, pairs_front, none_passes, at_last}
+use Rattle.std.proofs.Common.{ℕ, ◌-◌, ◌<◌, ◌≡◌, ◌≢◌, None, Option, Some, get_or, length, refl, slice_get, true}
+use Rattle.std.proofs.lemmas.Bool.{false_from_ne_true, lt-ltb}
+use Rattle.machine.{specs.{declared.layout.Binding.Binding, Layout.{Layout, initial_of}, Machine.same_id}, proofs.LookUps.one_id}
+use Rattle.table.specs.{Building.{AdmitsBinding, is_above_bindings, is_above_bound, is_bound, with_binding}, Rules.{IsBindingOf, IsDraft}}
+use Rattle.table.{specs.Rules.kind_at, proofs.FrontLemmas.{all_front, at_last, none_passes, pairs_front}}
 
 rises :
     (t : Layout) (binding : Binding)

@@ -1,18 +1,10 @@
 -- In a boot state each object has a queue and its words, and nothing else has; and ranges are those that the table's rules allow.
-use Rattle.std.proofs.Common.{◌≡◌, ◌≤◌, [], replicate, sym, ap, ◌∙◌, subst}
+use Rattle.std.{specs.Prelude.{Some, option_map}, proofs.Common.{[], ◌∙◌, ◌≡◌, ◌≤◌, ap, replicate, subst, sym}}
 use Rattle.std.proofs.lemmas.List.{length-replicate}
-use Rattle.std.specs.Prelude.{Some, option_map}
-use Rattle.base.specs.declared.ids.ObjId.{ObjId}
-use Rattle.base.specs.declared.limits.TheConstants.{ADDRESS_END}
-use Rattle.machine.specs.declared.object.Object.{Object}
-use Rattle.machine.specs.declared.object.Object.TheVariants as o
-use Rattle.machine.specs.Boot.{IsBoot, booted, bound}
-use Rattle.machine.specs.Layout.{Layout}
-use Rattle.machine.specs.Machine.{Machine, object_of}
-use Rattle.machine.specs.Objects.{end_of, word_count}
-use Rattle.machine.specs.WellFormed.{IsRanged, PartsFit}
-use Rattle.table.specs.Rules.{IsBlank, IsLawful}
-use Rattle.table.proofs.BootParts.{declared-law, declares, map-some}
+use Rattle.base.specs.declared.{ids.ObjId.ObjId, limits.TheConstants.ADDRESS_END}
+use Rattle.machine.specs.{declared.object.Object.{Object, Object as o}, Boot.{IsBoot, booted, bound}, Layout.Layout, Machine.Machine}
+use Rattle.machine.specs.{Machine.object_of, Objects.{end_of, word_count}, WellFormed.{IsRanged, PartsFit}}
+use Rattle.table.{specs.Rules.{IsBlank, IsLawful}, proofs.BootParts.{declared-law, declares, map-some}}
 
 pub boot-parts : (t : Layout) (m : Machine) → IsBoot t m → PartsFit m
 boot-parts t m boot = record {

@@ -1,21 +1,10 @@
 -- A boot state is as the boot rule says.
-use Rattle.std.proofs.Common.{◌≡◌, ◌⊎◌, inl, inr, [], replicate, sym, ap, ◌∙◌, refl}
-use Rattle.std.specs.Prelude.{option_map}
-use Rattle.std.specs.Option.{option_and_then}
+use Rattle.std.{specs.{Option.option_and_then, Prelude.option_map}, proofs.Common.{[], ◌∙◌, ◌≡◌, ◌⊎◌, ap, inl, inr, refl, replicate, sym}}
 use Rattle.base.specs.declared.ids.ObjId.{ObjId}
-use Rattle.machine.specs.declared.object.Object.{Object}
-use Rattle.machine.specs.declared.object.Object.TheVariants as o
-use Rattle.machine.specs.declared.thread.RunState.{RunState}
-use Rattle.machine.specs.declared.thread.RunState.TheVariants as run
-use Rattle.machine.specs.declared.thread.Tcb.{Tcb}
-use Rattle.machine.specs.Boot.{IsBoot, IsFresh, bound}
-use Rattle.machine.specs.Layout.{Layout, initial_cap}
-use Rattle.machine.specs.Machine.{Machine}
-use Rattle.machine.specs.Objects.{word_count}
-use Rattle.table.specs.Rules.{IsLawful, IsAtRest}
-use Rattle.table.specs.Tree.{source_of, is_original, is_original_from}
+use Rattle.machine.specs.declared.{object.Object.{Object, Object as o}, thread.{RunState.{RunState, RunState as run}, Tcb.Tcb}}
+use Rattle.machine.specs.{Boot.{IsBoot, IsFresh, bound}, Layout.{Layout, initial_cap}, Machine.Machine, Objects.word_count}
+use Rattle.table.{specs.{Rules.{IsAtRest, IsLawful}, Tree.{is_original, is_original_from, source_of}}, proofs.BootLinks.boot-queue}
 use Rattle.table.proofs.BootParts.{at_boot, declares, mark-law}
-use Rattle.table.proofs.BootLinks.{boot-queue}
 
 rests-cases : (state : RunState) → IsAtRest state → (state ≡ run.Ready) ⊎ (state ≡ run.Inactive)
 rests-cases run.Ready rests = inl refl

@@ -1,24 +1,14 @@
 -- The links of a boot state agree: nobody waits, every reply is free, and the table's bindings join threads and contexts.
-use Rattle.std.proofs.Common.{◌≡◌, List, [], length, sym, ap, ◌∙◌, refl, arith}
-use Rattle.std.specs.Prelude.{Some, Contains}
+use Rattle.std.{specs.Prelude.{Contains, Some}, proofs.Common.{[], ◌∙◌, ◌≡◌, List, ap, arith, length, refl, sym}}
 use Rattle.base.specs.declared.ids.ObjId.{ObjId}
-use Rattle.machine.specs.declared.layout.Initial.{Initial}
-use Rattle.machine.specs.declared.object.Context.{Context}
-use Rattle.machine.specs.declared.object.Object.{Object}
-use Rattle.machine.specs.declared.object.Object.TheVariants as o
+use Rattle.machine.specs.declared.{layout.Initial.Initial, object.{Context.Context, Object.{Object, Object as o}}}
 use Rattle.machine.specs.declared.object.ObjectKind.TheVariants as kind
-use Rattle.machine.specs.declared.object.ReplyState.TheVariants as reply
-use Rattle.machine.specs.declared.thread.RunState.{RunState}
-use Rattle.machine.specs.declared.thread.RunState.TheVariants as run
-use Rattle.machine.specs.declared.thread.Tcb.{Tcb}
-use Rattle.machine.specs.Boot.{IsBoot, bound, booted}
-use Rattle.machine.specs.Layout.{Layout, initial_of, bound_context, bound_thread}
-use Rattle.machine.specs.Machine.{Machine, object_of, queue_of}
-use Rattle.machine.specs.Objects.{kind_of_object}
-use Rattle.machine.specs.WellFormed.{LinksAgree, IsCallingThrough, IsThread, WaitsAt, IsReceivingWith}
-use Rattle.table.specs.Rules.{IsLawful, IsAtRest}
-use Rattle.table.proofs.BootParts.{at_boot, map-some, declared-present, Binds, binds-thread, binds-context, binding-law}
-use Rattle.table.proofs.BootParts.{thread-bound, context-bound}
+use Rattle.machine.specs.declared.{object.ReplyState.ReplyState as reply, thread.{RunState.{RunState, RunState as run}, Tcb.Tcb}}
+use Rattle.machine.specs.{Boot.{IsBoot, booted, bound}, Layout.{Layout, bound_context, bound_thread, initial_of}, Machine.Machine}
+use Rattle.machine.specs.{Machine.{object_of, queue_of}, Objects.kind_of_object, WellFormed.{IsCallingThrough, IsReceivingWith, IsThread}}
+use Rattle.machine.specs.WellFormed.{LinksAgree, WaitsAt}
+use Rattle.table.{specs.Rules.{IsAtRest, IsLawful}, proofs.BootParts.{Binds, at_boot, binding-law, binds-context, binds-thread}}
+use Rattle.table.proofs.BootParts.{context-bound, declared-present, map-some, thread-bound}
 
 -- every queue is empty
 pub boot-queue :

@@ -1,29 +1,13 @@
 -- The numbers and ranges of a boot state fit: no two objects overlap, and nothing is made of untyped memory yet.
-use Rattle.std.proofs.Common.{◌≡◌, ◌≢◌, ℕ, ◌+◌, ◌<◌, ◌≤◌, ◌⊎◌, inl, inr, get_or, sym, ap, subst, ◌∙◌, arith}
-use Rattle.std.specs.Prelude.{Some}
-use Rattle.std.proofs.lemmas.Bool.{cases_lt}
-use Rattle.std.proofs.lemmas.Nat.{pow_pos}
-use Rattle.std.proofs.lemmas.Option.{same_Some}
-use Rattle.base.specs.declared.ids.ObjId.{ObjId}
-use Rattle.base.specs.declared.ids.SlotRef.{SlotRef}
-use Rattle.machine.specs.declared.cap.Cap.{Cap}
-use Rattle.machine.specs.declared.layout.Filled.{Filled}
-use Rattle.machine.specs.declared.layout.Initial.{Initial}
-use Rattle.machine.specs.declared.object.Object.{Object}
-use Rattle.machine.specs.declared.object.Object.TheVariants as o
-use Rattle.machine.specs.declared.object.ObjectKind.TheVariants as kind
-use Rattle.machine.specs.Boot.{IsBoot}
+use Rattle.std.{specs.Prelude.Some, proofs.Common.{ℕ, ◌+◌, ◌<◌, ◌∙◌, ◌≡◌, ◌≢◌, ◌≤◌, ◌⊎◌, ap, arith, get_or, inl, inr, subst, sym}}
+use Rattle.std.proofs.lemmas.{Bool.cases_lt, Nat.pow_pos, Option.same_Some}
+use Rattle.base.specs.declared.ids.{ObjId.ObjId, SlotRef.SlotRef}
+use Rattle.machine.specs.declared.{cap.Cap.Cap, layout.{Filled.Filled, Initial.Initial}, object.Object.{Object, Object as o}}
+use Rattle.machine.specs.{declared.object.ObjectKind.ObjectKind as kind, Boot.IsBoot, Capabilities.kind_of_detail, Layout.Layout}
+use Rattle.machine.specs.{Machine.{Machine, cap_of, object_of}, Objects.{address_of, end_of}, WellFormed.{Meets, NumbersFit, kind_of}}
 use Rattle.machine.proofs.Bound.{address-bound, end-bound}
-use Rattle.machine.specs.Capabilities.{kind_of_detail}
-use Rattle.machine.specs.Layout.{Layout}
-use Rattle.machine.specs.Machine.{Machine, object_of, cap_of}
-use Rattle.machine.specs.Objects.{address_of, end_of}
-use Rattle.machine.specs.WellFormed.{NumbersFit, Meets, kind_of}
-use Rattle.table.specs.Placement.{IsApart}
-use Rattle.table.specs.Rules.{IsLawful}
-use Rattle.table.proofs.BootContents.{boot-ranged}
-use Rattle.table.proofs.BootParts.{fills, pair-cases, declares, at_boot}
-use Rattle.table.proofs.BootSlots.{kind-aimed}
+use Rattle.table.{specs.{Placement.IsApart, Rules.IsLawful}, proofs.{BootContents.boot-ranged, BootParts.{at_boot, declares, fills}}}
+use Rattle.table.proofs.{BootParts.pair-cases, BootSlots.kind-aimed}
 
 -- two capabilities for one object, the first of them for untyped memory, are in one slot
 one-slot :

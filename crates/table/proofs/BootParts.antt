@@ -1,30 +1,14 @@
 -- What the objects, the capabilities and the bindings of a boot state are in its table.
-use Rattle.std.proofs.Common.{◌≡◌, ◌≢◌, ℕ, zero, suc, ◌<◌, Bool, true, false, cond, List, [], ◌∷◌, length, get_or, refl, sym, ap}
-use Rattle.std.proofs.Common.{subst, ◌∙◌, ◌⊎◌, inl, inr, arith}
-use Rattle.std.specs.Prelude.{⊤, Option, Some, None, option_map, AllPairs, Contains}
-use Rattle.std.specs.List.{find}
-use Rattle.std.specs.Cmp.{tied_itself}
-use Rattle.std.specs.Ordering.{is_eq}
-use Rattle.std.proofs.lemmas.Bool.{cases_order}
-use Rattle.std.proofs.lemmas.List.Elements.{All-contains, at_from_Contains}
-use Rattle.std.proofs.lemmas.Option.{none-some, same_Some, slice_get_within, get_or_from_slice_get}
-use Rattle.base.specs.declared.ids.ObjId.{ObjId}
-use Rattle.base.specs.declared.ids.SlotRef.{SlotRef}
-use Rattle.machine.specs.declared.cap.Cap.{Cap}
-use Rattle.machine.specs.declared.layout.Binding.{Binding}
-use Rattle.machine.specs.declared.layout.Filled.{Filled}
-use Rattle.machine.specs.declared.layout.Initial.{Initial}
-use Rattle.machine.specs.declared.layout.Pair.{Pair}
-use Rattle.machine.specs.declared.object.Object.{Object}
-use Rattle.machine.specs.declared.object.Object.TheVariants as o
-use Rattle.machine.specs.declared.object.ReplyState.TheVariants as reply
-use Rattle.machine.specs.declared.thread.Inbox.TheVariants as inbox
-use Rattle.machine.specs.Boot.{IsBoot, bound}
-use Rattle.machine.specs.Layout.{Layout, initial_of, initial_cap, initial_parent, bound_context, bound_thread}
-use Rattle.machine.specs.Machine.{Machine, object_of, cap_of, parent_of, same_id, same_slot}
-use Rattle.machine.proofs.LookUps.{one_id, one_slot, id_total}
-use Rattle.table.specs.Rules.{IsLawful, IsAtRest, IsBlank, IsObjectOf, IsCapOf, IsBindingOf}
-use Rattle.table.specs.Tree.{is_original, IsPairOf}
+use Rattle.std.specs.{Cmp.tied_itself, List.find, Ordering.is_eq, Prelude.{⊤, AllPairs, Contains, None, Option, Some, option_map}}
+use Rattle.std.proofs.Common.{[], ℕ, ◌<◌, ◌∙◌, ◌∷◌, ◌≡◌, ◌≢◌, ◌⊎◌, Bool, List, ap, arith, cond, false, get_or, inl, inr, length, refl}
+use Rattle.std.proofs.{Common.{subst, suc, sym, true, zero}, lemmas.{Bool.cases_order, List.Elements.{All-contains, at_from_Contains}}}
+use Rattle.std.proofs.lemmas.Option.{get_or_from_slice_get, none-some, same_Some, slice_get_within}
+use Rattle.base.specs.declared.ids.{ObjId.ObjId, SlotRef.SlotRef}
+use Rattle.machine.specs.declared.{cap.Cap.Cap, layout.{Binding.Binding, Filled.Filled, Initial.Initial, Pair.Pair}, object.Object.Object}
+use Rattle.machine.specs.{declared.{object.{Object.Object as o, ReplyState.ReplyState as reply}, thread.Inbox.Inbox as inbox}, Boot.IsBoot}
+use Rattle.machine.specs.{Boot.bound, Layout.{Layout, bound_context, bound_thread, initial_cap, initial_of, initial_parent}}
+use Rattle.machine.{specs.Machine.{Machine, cap_of, object_of, parent_of, same_id, same_slot}, proofs.LookUps.{id_total, one_id, one_slot}}
+use Rattle.table.specs.{Rules.{IsAtRest, IsBindingOf, IsBlank, IsCapOf, IsLawful, IsObjectOf}, Tree.{IsPairOf, is_original}}
 
 -- look-ups
 

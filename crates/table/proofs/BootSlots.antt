@@ -1,26 +1,11 @@
 -- The slots of a boot state fit: each is in its holder, its capability is for an object of the kind that it says, and the tree is
 -- that of the table.
-use Rattle.std.proofs.Common.{◌≡◌, inl, sym, ap, ◌∙◌, refl}
-use Rattle.std.specs.Prelude.{Some, option_map}
-use Rattle.std.proofs.lemmas.Option.{same_Some}
-use Rattle.base.specs.declared.ids.ObjId.{ObjId}
-use Rattle.base.specs.declared.ids.SlotRef.{SlotRef}
-use Rattle.machine.specs.declared.cap.Cap.{Cap}
-use Rattle.machine.specs.declared.cap.Detail.{Detail}
-use Rattle.machine.specs.declared.cap.Detail.TheVariants as d
-use Rattle.machine.specs.declared.layout.Initial.{Initial}
-use Rattle.machine.specs.declared.object.Object.{Object}
-use Rattle.machine.specs.declared.object.Object.TheVariants as o
-use Rattle.machine.specs.Boot.{IsBoot, bound}
-use Rattle.machine.proofs.Bound.{kind-bound, slot_count-bound}
-use Rattle.machine.specs.Capabilities.{kind_of_detail}
-use Rattle.machine.specs.Layout.{Layout, initial_of}
-use Rattle.machine.specs.Machine.{Machine, cap_of}
-use Rattle.machine.specs.Objects.{kind_of_object}
-use Rattle.machine.specs.WellFormed.{SlotsFit, kind_of}
-use Rattle.table.specs.Rules.{IsLawful, IsDetailOf}
-use Rattle.table.proofs.BootParts.{declared-present, cap-law, pair-law}
-use Rattle.table.proofs.BootTree.{boot-acyclic}
+use Rattle.std.{specs.Prelude.{Some, option_map}, proofs.{Common.{◌∙◌, ◌≡◌, ap, inl, refl, sym}, lemmas.Option.same_Some}}
+use Rattle.base.specs.declared.ids.{ObjId.ObjId, SlotRef.SlotRef}
+use Rattle.machine.specs.declared.{cap.{Cap.Cap, Detail.{Detail, Detail as d}}, layout.Initial.Initial, object.Object.{Object, Object as o}}
+use Rattle.machine.specs.{Boot.{IsBoot, bound}, Capabilities.kind_of_detail, Layout.{Layout, initial_of}, Machine.{Machine, cap_of}}
+use Rattle.machine.{specs.{Objects.kind_of_object, WellFormed.{SlotsFit, kind_of}}, proofs.Bound.{kind-bound, slot_count-bound}}
+use Rattle.table.{specs.Rules.{IsDetailOf, IsLawful}, proofs.{BootParts.{cap-law, declared-present, pair-law}, BootTree.boot-acyclic}}
 
 -- a detail that fits an object is of the object's kind
 pub kind-detail : (object : Object) (detail : Detail) → IsDetailOf object detail → kind_of_object object ≡ kind_of_detail detail

@@ -1,20 +1,12 @@
 -- Each table has one boot state: its maps list what the table declares.
-use Rattle.std.proofs.Common.{◌≡◌, ◌≢◌, ℕ, zero, suc, ◌+◌, Bool, true, false, cond, List, [], ◌∷◌, length, replicate, refl, sym, ap, ◌∙◌, arith}
-use Rattle.std.specs.Prelude.{Option, Some, None, option_map, slice_get}
-use Rattle.std.specs.List.{find}
 use Rattle.std.specs.FinMap as map
+use Rattle.std.{specs.{List.find, Prelude.{None, Option, Some, option_map, slice_get}}, proofs.Common.{[], ℕ, ◌+◌, ◌∙◌, ◌∷◌, ◌≡◌, ◌≢◌}}
+use Rattle.std.proofs.Common.{Bool, List, ap, arith, cond, false, length, refl, replicate, suc, sym, true, zero}
 use Rattle.std.proofs.lemmas.Cmp.{eq_by_cmp_equiv}
-use Rattle.base.specs.declared.ids.ObjId.{ObjId}
-use Rattle.base.specs.declared.ids.SlotRef.{SlotRef}
-use Rattle.machine.specs.declared.layout.Filled.{Filled}
-use Rattle.machine.specs.declared.layout.Initial.{Initial}
-use Rattle.machine.specs.declared.layout.Pair.{Pair}
-use Rattle.machine.specs.declared.object.Object.{Object}
-use Rattle.machine.specs.Boot.{IsBoot, bound, booted}
-use Rattle.machine.specs.Layout.{Layout, initial_of, initial_cap, initial_parent}
-use Rattle.machine.specs.Machine.{Machine, id_cmp, slot_cmp, same_id, same_slot, object_of, queue_of, words_of, cap_of, parent_of}
-use Rattle.machine.specs.Objects.{word_count}
-use Rattle.machine.proofs.Ids.{itself}
+use Rattle.base.specs.declared.ids.{ObjId.ObjId, SlotRef.SlotRef}
+use Rattle.machine.specs.{declared.{layout.{Filled.Filled, Initial.Initial, Pair.Pair}, object.Object.Object}, Boot.{IsBoot, booted, bound}}
+use Rattle.machine.specs.{Layout.{Layout, initial_cap, initial_of, initial_parent}, Machine.{Machine, cap_of, id_cmp, object_of, parent_of}}
+use Rattle.machine.{specs.{Machine.{queue_of, same_id, same_slot, slot_cmp, words_of}, Objects.word_count}, proofs.Ids.itself}
 use Rattle.machine.proofs.LookUps.{id_total, same_machine, slot_total}
 
 abbrev id : ℕ → ObjId

@@ -1,21 +1,11 @@
 -- The derivation tree of a boot state: ranks rise along its pairs, and no chain of it is longer than two pairs, since a child that is
 -- a parent itself has a badge, and its parent has none.
-use Rattle.std.proofs.Common.{◌≡◌, ℕ, ◌<◌, ◌⊎◌, inl, inr, ◌==◌, Bool, true, false, not, refl, sym, ap, ◌∙◌, arith}
-use Rattle.std.specs.Prelude.{Option, None, Some}
-use Rattle.std.specs.Option.{option_and_then}
-use Rattle.std.proofs.lemmas.Bool.{eq-eqb}
+use Rattle.std.{specs.{Option.option_and_then, Prelude.{None, Option, Some}}, proofs.Common.{ℕ, ◌<◌, ◌==◌, ◌∙◌, ◌≡◌, ◌⊎◌, Bool, ap, arith}}
+use Rattle.std.proofs.{Common.{false, inl, inr, not, refl, sym, true}, lemmas.Bool.eq-eqb}
 use Rattle.base.specs.declared.ids.SlotRef.{SlotRef}
-use Rattle.machine.specs.Capabilities.{badge_of}
-use Rattle.machine.specs.declared.cap.Cap.{Cap}
-use Rattle.machine.specs.Boot.{IsBoot}
-use Rattle.machine.specs.Layout.{Layout, initial_cap, initial_parent}
-use Rattle.machine.specs.Machine.{Machine, parent_of}
-use Rattle.machine.specs.Tree.{IsRanked}
-use Rattle.machine.specs.WellFormed.{Descends}
-use Rattle.machine.proofs.TreeRanks.{ranked_acyclic}
-use Rattle.table.specs.Rules.{IsLawful}
-use Rattle.table.specs.Tree.{source_of, is_original, is_original_from}
-use Rattle.table.proofs.BootParts.{marked, paired}
+use Rattle.machine.specs.{declared.cap.Cap.Cap, Boot.IsBoot, Capabilities.badge_of, Layout.{Layout, initial_cap, initial_parent}}
+use Rattle.machine.{specs.{Machine.{Machine, parent_of}, Tree.IsRanked, WellFormed.Descends}, proofs.TreeRanks.ranked_acyclic}
+use Rattle.table.{specs.{Rules.IsLawful, Tree.{is_original, is_original_from, source_of}}, proofs.BootParts.{marked, paired}}
 
 -- how far down a capability is: an original one is at the top if it has no badge, and else below that; a copy is at the bottom
 abbrev by_mark : (original plain : Bool) → ℕ

@@ -1,26 +1,12 @@
 -- The drafts whose capabilities are all marked original are those that are built up item by item.
-use Rattle.std.proofs.Common.{◌≡◌, ℕ, true, All, List, [], ◌∷◌, ◌++◌, length, refl, sym, subst, arith}
-use Rattle.std.proofs.lemmas.List.{append-nil, append_assoc}
-use Rattle.std.proofs.lemmas.List.Elements.{All-nil, All-push}
-use Rattle.machine.specs.declared.layout.Filled.{Filled}
-use Rattle.machine.specs.declared.layout.Initial.{Initial}
-use Rattle.machine.specs.declared.layout.Pair.{Pair}
-use Rattle.machine.specs.declared.layout.Version.{Version}
-use Rattle.machine.specs.Layout.{Layout, empty_layout}
-use Rattle.table.specs.Items.{Item, LabelItem, ObjectItem, CapItem, PairItem, BindingItem, with_item, Admits, ComesNow, IsBuiltUp, none}
-use Rattle.table.specs.Items.{more}
-use Rattle.table.specs.Rules.{IsDraft}
-use Rattle.table.proofs.DraftKept.{draft_empty}
+use Rattle.std.proofs.{Common.{[], ℕ, ◌++◌, ◌∷◌, ◌≡◌, All, List, arith, length, refl, subst, sym, true}, lemmas.List.append-nil}
+use Rattle.std.proofs.lemmas.List.{append_assoc, Elements.{All-nil, All-push}}
+use Rattle.machine.specs.{declared.layout.{Filled.Filled, Initial.Initial, Pair.Pair, Version.Version}, Layout.{Layout, empty_layout}}
+use Rattle.table.specs.Items.{Admits, BindingItem, CapItem, ComesNow, IsBuiltUp, Item, LabelItem, ObjectItem, PairItem, more, none}
+use Rattle.table.{specs.{Items.with_item, Rules.IsDraft}, proofs.{BindingAdded.draft_binding, BindingRemoved.binding_removed}}
+use Rattle.table.proofs.{CapAdded.draft_filled, CapRemoved.cap_removed, DraftKept.draft_empty, FrontLemmas.{all_front, from_front}}
+use Rattle.table.proofs.{LabelAdded.draft_label, LabelRemoved.label_removed, ObjectAdded.draft_initial, ObjectRemoved.object_removed}
 use Rattle.table.proofs.Pairs.{draft_pair, pair_removed}
-use Rattle.table.proofs.LabelAdded.{draft_label}
-use Rattle.table.proofs.ObjectAdded.{draft_initial}
-use Rattle.table.proofs.CapAdded.{draft_filled}
-use Rattle.table.proofs.BindingAdded.{draft_binding}
-use Rattle.table.proofs.LabelRemoved.{label_removed}
-use Rattle.table.proofs.ObjectRemoved.{object_removed}
-use Rattle.table.proofs.CapRemoved.{cap_removed}
-use Rattle.table.proofs.BindingRemoved.{binding_removed}
-use Rattle.table.proofs.FrontLemmas.{all_front, from_front}
 
 -- each capability is marked original
 abbrev pub AllOriginal : Layout → Type 0

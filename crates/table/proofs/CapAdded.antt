@@ -1,33 +1,16 @@
 -- A draft with a filled slot more is one.
-use Rattle.std.proofs.Common.{◌≡◌, ◌≢◌, ℕ, ◌<◌, true, false, ◌&&◌, length, get_or, Option, None, Some, refl, sym, ap, ◌∙◌, arith}
-use Rattle.std.proofs.lemmas.Bool.{false≢true, not-true, ltb-true, leb-true, and_parts}
-use Rattle.std.proofs.lemmas.List.Elements.{All-push}
-use Rattle.std.proofs.lemmas.List.Quantifiers.{all_pairs_push}
-use Rattle.std.specs.Ordering.{is_eq}
-use Rattle.std.specs.declared.cmp.Ordering.TheVariants.{Less}
-use Rattle.std.proofs.lemmas.Cmp.{tied_itself}
+use Rattle.std.{specs.{declared.cmp.Ordering.TheVariants.Less, Ordering.is_eq}, proofs.Common.{ℕ, ◌&&◌, ◌<◌, ◌∙◌, ◌≡◌, ◌≢◌, None, Option}}
+use Rattle.std.proofs.{Common.{Some, ap, arith, false, get_or, length, refl, sym, true}, lemmas.Bool.{and_parts, false≢true, leb-true}}
+use Rattle.std.proofs.lemmas.{Bool.{ltb-true, not-true}, Cmp.tied_itself, List.{Elements.All-push, Quantifiers.all_pairs_push}}
 use Rattle.std.proofs.lemmas.Option.{slice_get_within}
 use Rattle.base.specs.declared.limits.TheConstants.{OBJECT_NUMBERS}
-use Rattle.machine.specs.declared.cap.Badged.{Badged}
-use Rattle.machine.specs.declared.cap.Cap.{Cap}
-use Rattle.machine.specs.declared.cap.Detail.{Detail}
+use Rattle.machine.specs.declared.{cap.{Badged.Badged, Cap.Cap, Detail.Detail}, layout.{Filled.Filled, Initial.Initial}}
 use Rattle.machine.specs.declared.cap.Detail.TheVariants as d
-use Rattle.machine.specs.declared.layout.Filled.{Filled}
-use Rattle.machine.specs.declared.layout.Initial.{Initial}
-use Rattle.machine.specs.declared.object.Object.{Object}
-use Rattle.machine.specs.declared.object.Object.TheVariants as o
-use Rattle.machine.specs.declared.object.ObjectKind.TheVariants as kind
-use Rattle.machine.specs.Capabilities.{kind_of_detail}
-use Rattle.machine.specs.Layout.{Layout, initial_of}
-use Rattle.machine.specs.Machine.{slot_cmp, same_id}
-use Rattle.machine.proofs.LookUps.{id_total}
-use Rattle.machine.specs.Objects.{kind_of_object}
-use Rattle.table.specs.Building.{AdmitsCap, is_above_caps, may_hold, fits, fits_target, is_fitting}
-use Rattle.table.specs.Building.{is_badged, has_cap_to, repeats_untyped, with_filled}
-use Rattle.table.specs.Tree.{is_for_untyped}
-use Rattle.table.specs.Rules.{IsDraft, IsBadged, IsCapOf, IsDetailOf, is_tcb}
-use Rattle.table.proofs.ListLemmas.{not_any}
-use Rattle.table.proofs.Slots.{below_new, has_slot}
+use Rattle.machine.specs.{declared.object.{Object.{Object, Object as o}, ObjectKind.ObjectKind as kind}, Capabilities.kind_of_detail}
+use Rattle.machine.{specs.{Layout.{Layout, initial_of}, Machine.{same_id, slot_cmp}, Objects.kind_of_object}, proofs.LookUps.id_total}
+use Rattle.table.specs.Building.{AdmitsCap, fits, fits_target, has_cap_to, is_above_caps, is_badged, is_fitting, may_hold, repeats_untyped}
+use Rattle.table.specs.{Building.with_filled, Rules.{IsBadged, IsCapOf, IsDetailOf, IsDraft, is_tcb}, Tree.is_for_untyped}
+use Rattle.table.proofs.{ListLemmas.not_any, Slots.{below_new, has_slot}}
 
 badged_is : (rights : ℕ) (end : Badged) → is_badged rights end ≡ true → IsBadged rights end
 badged_is rights end e = let parts = and_parts _ _ e in (ltb-true _ _ parts.0, ltb-true _ _ parts.1)

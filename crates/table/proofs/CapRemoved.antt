@@ -1,26 +1,13 @@
 -- A draft whose last item was a filled slot was one without it, and admitted it if it was marked original.
-use Rattle.std.proofs.Common.{◌≡◌, ◌≢◌, ℕ, ◌<◌, true, false, not, length, get_or, Some, refl}
-use Rattle.std.proofs.Common.{ap, ◌∙◌}
-use Rattle.std.proofs.lemmas.Bool.{false_from_ne_true, lt-ltb, le-leb, and_from}
-use Rattle.std.specs.declared.cmp.Ordering.TheVariants.{Less}
-use Rattle.machine.specs.declared.cap.Cap.{Cap}
-use Rattle.machine.specs.declared.cap.Detail.{Detail}
+use Rattle.std.{specs.declared.cmp.Ordering.TheVariants.Less, proofs.Common.{ℕ, ◌<◌, ◌∙◌, ◌≡◌, ◌≢◌, Some, ap, false, get_or, length, not}}
+use Rattle.std.proofs.{Common.{refl, true}, lemmas.Bool.{and_from, false_from_ne_true, le-leb, lt-ltb}}
+use Rattle.machine.specs.declared.{cap.{Cap.Cap, Detail.Detail}, layout.{Filled.Filled, Initial.Initial}, object.Object.Object}
 use Rattle.machine.specs.declared.cap.Detail.TheVariants as d
-use Rattle.machine.specs.declared.layout.Filled.{Filled}
-use Rattle.machine.specs.declared.layout.Initial.{Initial}
-use Rattle.machine.specs.declared.object.Object.{Object}
-use Rattle.machine.specs.declared.object.Object.TheVariants as o
-use Rattle.machine.specs.declared.object.ObjectKind.TheVariants as kind
-use Rattle.machine.specs.Capabilities.{kind_of_detail}
-use Rattle.machine.specs.Layout.{Layout, initial_of}
-use Rattle.machine.specs.Machine.{slot_cmp, same_id}
-use Rattle.machine.proofs.LookUps.{one_id}
-use Rattle.machine.specs.Objects.{kind_of_object}
-use Rattle.table.specs.Building.{AdmitsCap, is_above_caps, may_hold, fits, fits_target, is_fitting}
-use Rattle.table.specs.Building.{has_cap_to, repeats_untyped, with_filled}
-use Rattle.table.specs.Rules.{IsDraft, IsCapOf, IsDetailOf, is_tcb}
-use Rattle.table.proofs.FrontLemmas.{all_front, pairs_front, none_passes}
-use Rattle.table.proofs.Slots.{rises_after, slot_declared}
+use Rattle.machine.specs.{declared.object.{Object.Object as o, ObjectKind.ObjectKind as kind}, Capabilities.kind_of_detail, Layout.Layout}
+use Rattle.machine.{specs.{Layout.initial_of, Machine.{same_id, slot_cmp}, Objects.kind_of_object}, proofs.LookUps.one_id}
+use Rattle.table.specs.Building.{AdmitsCap, fits, fits_target, has_cap_to, is_above_caps, is_fitting, may_hold, repeats_untyped}
+use Rattle.table.{specs.{Building.with_filled, Rules.{IsCapOf, IsDetailOf, IsDraft, is_tcb}}, proofs.FrontLemmas.{all_front, none_passes}}
+use Rattle.table.proofs.{FrontLemmas.pairs_front, Slots.{rises_after, slot_declared}}
 
 fits_detail : (object : Object) (detail : Detail) → IsDetailOf object detail → fits object detail ≡ true
 fits_detail (o.Untyped _) d.Untyped is = refl

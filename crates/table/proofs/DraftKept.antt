@@ -1,21 +1,11 @@
 -- What the sections of a table say stays true when a section before them grows, and holds of empty ones.
-use Rattle.std.proofs.Common.{◌≡◌, ℕ, List, [], Option, None, Some, option_map, All, refl, ◌∙◌, ap, arith}
-use Rattle.std.proofs.lemmas.List.Elements.{All-nil, All-weaker}
-use Rattle.std.proofs.lemmas.Option.{none-some}
-use Rattle.std.specs.List.{slice_get}
-use Rattle.base.specs.declared.ids.ObjId.{ObjId}
-use Rattle.base.specs.declared.ids.SlotRef.{SlotRef}
-use Rattle.machine.specs.declared.layout.Binding.{Binding}
-use Rattle.machine.specs.declared.layout.Filled.{Filled}
-use Rattle.machine.specs.declared.layout.Initial.{Initial}
-use Rattle.machine.specs.declared.layout.Pair.{Pair}
-use Rattle.machine.specs.declared.layout.Version.{Version}
-use Rattle.machine.specs.declared.object.ObjectKind.{ObjectKind}
-use Rattle.machine.specs.Layout.{empty_layout}
-use Rattle.machine.specs.Objects.{kind_of_object}
-use Rattle.table.specs.Rules.{IsObjectOf, HasSlot, IsCapOf, IsSlotPair, IsOfKind, IsBindingOf, IsDraft}
-use Rattle.table.specs.Rules.{ObjectsFit, CapsFit, PairsFit, BindingsFit}
-use Rattle.table.proofs.ListLemmas.{no_pair}
+use Rattle.std.{specs.List.slice_get, proofs.Common.{[], ℕ, ◌∙◌, ◌≡◌, All, List, None, Option, Some, ap, arith, option_map, refl}}
+use Rattle.std.proofs.lemmas.{List.Elements.{All-nil, All-weaker}, Option.none-some}
+use Rattle.base.specs.declared.ids.{ObjId.ObjId, SlotRef.SlotRef}
+use Rattle.machine.specs.declared.layout.{Binding.Binding, Filled.Filled, Initial.Initial, Pair.Pair, Version.Version}
+use Rattle.machine.specs.{declared.object.ObjectKind.ObjectKind, Layout.empty_layout, Objects.kind_of_object}
+use Rattle.table.specs.Rules.{BindingsFit, CapsFit, HasSlot, IsBindingOf, IsCapOf, IsDraft, IsObjectOf, IsOfKind, IsSlotPair, ObjectsFit}
+use Rattle.table.{specs.Rules.PairsFit, proofs.ListLemmas.no_pair}
 
 -- empty sections
 

@@ -1,28 +1,16 @@
 -- How many bytes an object of so many bits takes, and that those of an object below the addresses' end are few.
-use Rattle.std.proofs.Common.{◌≡◌, ℕ, ◌+◌, ◌-◌, ◌*◌, ◌%◌, ◌^◌, ◌<◌, ◌≤◌, ◌⊎◌, nat_le, nat_lt, ◌&&◌, ◌||◌, List, [], ◌∷◌, ◌++◌, length, get_or, zero, suc, All}
-use Rattle.std.proofs.Common.{Bool, true, false, Option, None, Some, refl, sym, subst, ap, ◌∙◌, arith, inl, inr}
-use Rattle.std.proofs.lemmas.Bool.{cases_lt, false≢true}
-use Rattle.std.proofs.Math.Pow.{pow_mono}
-use Rattle.std.proofs.lemmas.Bool.Decides.{nat_tests}
-use Rattle.std.proofs.lemmas.Grind.{one_shifted}
-use Rattle.std.proofs.lemmas.List.{get_or_default}
-use Rattle.std.proofs.lemmas.List.Folds.{find_at}
-use Rattle.std.proofs.lemmas.List.Sums.{position_or_len_is}
-use Rattle.std.proofs.lemmas.Option.{get_or_from_slice_get, same_Some, none-some, slice_get_cases, slice_get-get_or}
-use Rattle.std.specs.List.{Contains, find, list_any, slice_get}
-use Rattle.std.specs.List.Sorted.{IsPermutation}
-use Rattle.std.proofs.lemmas.List.Sorted.{Contains-permutation, IsPermutation-push_more, IsPermutation-refl, IsPermutation-sym, list_any-IsPermutation}
+use Rattle.std.{specs.List.{Contains, find, list_any, slice_get, Sorted.IsPermutation}, proofs.Common.{[], ℕ, ◌%◌, ◌&&◌, ◌*◌, ◌++◌, ◌+◌}}
+use Rattle.std.proofs.Common.{◌-◌, ◌<◌, ◌^◌, ◌||◌, ◌∙◌, ◌∷◌, ◌≡◌, ◌≤◌, ◌⊎◌, All, Bool, List, None, Option, Some, ap, arith, false, get_or}
+use Rattle.std.proofs.{Common.{inl, inr, length, nat_le, nat_lt, refl, subst, suc, sym, true, zero}, Math.Pow.pow_mono}
+use Rattle.std.proofs.lemmas.{Bool.{cases_lt, false≢true, Decides.nat_tests}, Grind.one_shifted, List.{get_or_default, Folds.find_at}}
+use Rattle.std.proofs.lemmas.List.Sorted.{Contains-permutation, IsPermutation-push_more, IsPermutation-refl, IsPermutation-sym}
+use Rattle.std.proofs.lemmas.{List.{Sorted.list_any-IsPermutation, Sums.position_or_len_is}, Option.{get_or_from_slice_get, none-some}}
+use Rattle.std.proofs.lemmas.Option.{same_Some, slice_get-get_or, slice_get_cases}
 use Rattle.base.specs.declared.limits.TheConstants.{ADDRESS_BITS, ADDRESS_END}
-use Rattle.machine.specs.declared.layout.Initial.{Initial}
-use Rattle.machine.specs.declared.object.Object.{Object}
-use Rattle.machine.specs.declared.object.Untyped.{Untyped}
-use Rattle.machine.specs.declared.object.Object.TheVariants as o
-use Rattle.machine.specs.Authority.{has_memory_at}
-use Rattle.machine.specs.Objects.{address_of, size_of, end_of, size_bits}
-use Rattle.table.specs.declared.extent.Extent.{Extent}
+use Rattle.machine.specs.declared.{layout.Initial.Initial, object.{Object.{Object, Object as o}, Untyped.Untyped}}
+use Rattle.machine.specs.{Authority.has_memory_at, Objects.{address_of, end_of, size_bits, size_of}}
+use Rattle.table.specs.{declared.extent.Extent.Extent, Inventory.{extent_of, extents_from}, Placement.{AreApart, holds, meets, touches}}
 use Rattle.table.proofs.SearchLemmas.{find_none}
-use Rattle.table.specs.Inventory.{extent_of, extents_from}
-use Rattle.table.specs.Placement.{AreApart, holds, meets, touches}
 
 pub size_of-bits : (object : Object) (bits : ℕ) → size_bits object ≡ Some bits → size_of object ≡ 2 ^ bits
 size_of-bits (o.Untyped memory) bits e = ap (λ n. 2 ^ n) (same_Some memory.bits bits e)

@@ -1,14 +1,9 @@
 -- Lists without their last element: what held of the whole holds of the front, and ties the last element to it.
-use Rattle.std.proofs.Common.{◌≡◌, ℕ, suc, ◌+◌, ◌-◌, ◌<◌, Bool, false, List, [], ◌∷◌, ◌++◌, length, get_or, slice_get, position}
-use Rattle.std.proofs.Common.{is_some, Option, Some, None, All, AllPairs, refl, sym, subst, arith}
-use Rattle.std.proofs.lemmas.Bool.{or_from}
-use Rattle.std.proofs.lemmas.List.{append-nil, append_assoc, length_push, get_or_append_left, get_or_push}
-use Rattle.std.proofs.lemmas.List.Elements.{All-nil, All-pop, All-same}
-use Rattle.std.proofs.lemmas.List.Quantifiers.{position-Some}
-use Rattle.std.proofs.lemmas.Option.{get_or_from_slice_get, slice_get_within}
-use Rattle.std.proofs.lemmas.Slice.Eq.{bytes_eq-Decides}
-use Rattle.std.specs.List.{list_any}
-use Rattle.std.specs.Str.{bytes_eq}
+use Rattle.std.{specs.{List.list_any, Str.bytes_eq}, proofs.Common.{[], ℕ, ◌++◌, ◌+◌, ◌-◌, ◌<◌, ◌∷◌, ◌≡◌, All, AllPairs, Bool, List, None}}
+use Rattle.std.proofs.Common.{Option, Some, arith, false, get_or, is_some, length, position, refl, slice_get, subst, suc, sym}
+use Rattle.std.proofs.lemmas.{Bool.or_from, List.{append-nil, append_assoc, get_or_append_left, get_or_push, length_push, Elements.All-nil}}
+use Rattle.std.proofs.lemmas.{List.{Elements.{All-pop, All-same}, Quantifiers.position-Some}, Option.get_or_from_slice_get}
+use Rattle.std.proofs.lemmas.{Option.slice_get_within, Slice.Eq.bytes_eq-Decides}
 
 pub all_front : {X : Type 0} (P : X → Type 0) (xs : List X) (x : X) → All P (xs ++ x ∷ []) → All P xs × P x
 all_front P xs x h = All-pop P (xs ++ x ∷ []) xs (Some x) refl h

@@ -1,19 +1,11 @@
 -- A draft with a label more is one.
-use Rattle.std.proofs.Common.{◌≡◌, ◌≢◌, ℕ, ◌<◌, true, false, List, [], ◌∷◌, ◌++◌, length, get_or, position, is_some, sym, ◌∙◌, arith}
-use Rattle.std.proofs.lemmas.Bool.{false≢true}
-use Rattle.std.proofs.lemmas.List.{length_push}
-use Rattle.std.proofs.lemmas.List.Elements.{All-push, All-weaker}
-use Rattle.std.proofs.lemmas.List.Quantifiers.{all_pairs_push}
-use Rattle.std.proofs.lemmas.Slice.Eq.{bytes_eq-Decides}
-use Rattle.std.specs.Str.{bytes_eq}
+use Rattle.std.{specs.Str.bytes_eq, proofs.Common.{[], ℕ, ◌++◌, ◌<◌, ◌∙◌, ◌∷◌, ◌≡◌, ◌≢◌, List, arith, false, get_or, is_some, length}}
+use Rattle.std.proofs.{Common.{position, sym, true}, lemmas.{Bool.false≢true, List.{length_push, Elements.{All-push, All-weaker}}}}
+use Rattle.std.proofs.lemmas.{List.Quantifiers.all_pairs_push, Slice.Eq.bytes_eq-Decides}
 use Rattle.machine.specs.Layout.{Layout}
-use Rattle.table.specs.Building.{AdmitsLabel, with_label}
-use Rattle.table.specs.Names.{label_named}
 use Rattle.words.specs.Name.{is_name}
-use Rattle.table.specs.Rules.{IsObjectOf, IsDraft}
-use Rattle.table.proofs.DraftKept.{objects_kept}
-use Rattle.table.proofs.ListLemmas.{not_any}
-use Rattle.table.proofs.NameLemmas.{list_any-none}
+use Rattle.table.{specs.{Building.{AdmitsLabel, with_label}, Names.label_named, Rules.{IsDraft, IsObjectOf}}, proofs.DraftKept.objects_kept}
+use Rattle.table.proofs.{ListLemmas.not_any, NameLemmas.list_any-none}
 
 -- a name that has no number differs from each name
 pub differs :

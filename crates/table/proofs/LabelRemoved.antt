@@ -1,14 +1,9 @@
 -- A draft whose last item was a label was one without it, and admitted it.
-use Rattle.std.proofs.Common.{◌≡◌, ◌≢◌, ℕ, true, List, [], ◌∷◌, ◌++◌, length, arith}
-use Rattle.std.proofs.lemmas.List.{length_push}
+use Rattle.std.proofs.{Common.{[], ℕ, ◌++◌, ◌∷◌, ◌≡◌, ◌≢◌, List, arith, length, true}, lemmas.List.length_push}
 use Rattle.machine.specs.Layout.{Layout}
 use Rattle.words.specs.Name.{is_name}
-use Rattle.table.specs.Building.{AdmitsLabel, with_label}
-use Rattle.table.specs.Names.{label_named}
-use Rattle.table.specs.Items.{BeforeObjects}
-use Rattle.table.specs.Rules.{IsDraft, IsObjectOf}
-use Rattle.table.proofs.DraftKept.{objects_kept}
-use Rattle.table.proofs.FrontLemmas.{all_front, pairs_front, all_of_none, no_place}
+use Rattle.table.specs.{Building.{AdmitsLabel, with_label}, Items.BeforeObjects, Names.label_named, Rules.{IsDraft, IsObjectOf}}
+use Rattle.table.proofs.{DraftKept.objects_kept, FrontLemmas.{all_front, all_of_none, no_place, pairs_front}}
 
 pub label_removed :
     (t : Layout) (name : List ℕ) → BeforeObjects t → IsDraft (with_label t name) → IsDraft t × AdmitsLabel t name

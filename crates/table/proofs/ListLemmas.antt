@@ -1,11 +1,8 @@
 -- Lists that grow at their end: what stays at its place, and what holds of each element and the new one.
-use Rattle.std.proofs.Common.{◌≡◌, ℕ, zero, suc, ◌-◌, ◌<◌, ◌≤◌, ◌⊎◌, Bool, false, List, [], ◌∷◌, ◌++◌, length, get_or, slice_get}
-use Rattle.std.proofs.Common.{Some, All, AllPairs, sym, ◌∙◌, subst, inl, inr, arith}
-use Rattle.std.proofs.lemmas.Bool.{false_from_ne_true, false≢true, cases_lt}
-use Rattle.std.proofs.lemmas.List.{get_or_past}
-use Rattle.std.proofs.lemmas.List.Folds.{list_any_at}
-use Rattle.std.proofs.lemmas.Option.{none-some, slice_get-get_or}
-use Rattle.std.specs.List.{list_any}
+use Rattle.std.{specs.List.list_any, proofs.Common.{[], ℕ, ◌++◌, ◌-◌, ◌<◌, ◌∙◌, ◌∷◌, ◌≡◌, ◌≤◌, ◌⊎◌, All, AllPairs, Bool, List, Some, arith}}
+use Rattle.std.proofs.{Common.{false, get_or, inl, inr, length, slice_get, subst, suc, sym, zero}, lemmas.Bool.cases_lt}
+use Rattle.std.proofs.lemmas.{Bool.{false_from_ne_true, false≢true}, List.{get_or_past, Folds.list_any_at}, Option.none-some}
+use Rattle.std.proofs.lemmas.Option.{slice_get-get_or}
 
 -- no element passes a test that none passes
 pub not_any :

@@ -1,17 +1,11 @@
 -- What a capability table has in a slot, as a slot's parent, or bound to a thread is what one of its lists says at one place.
-use Rattle.std.proofs.Common.{◌≡◌, ℕ, suc, zero, ◌<◌, Bool, true, false, cond, List, [], ◌∷◌, length, get_or, Option, None, Some, option_map, refl, sym, ap, ◌∙◌, arith}
-use Rattle.std.specs.List.{find, slice_get, AllPairs}
-use Rattle.std.proofs.lemmas.Option.{none-some, same_Some, slice_get-get_or, slice_get_within, get_or_from_slice_get}
-use Rattle.base.specs.declared.ids.ObjId.{ObjId}
-use Rattle.base.specs.declared.ids.SlotRef.{SlotRef}
-use Rattle.machine.specs.declared.cap.Cap.{Cap}
-use Rattle.machine.specs.declared.layout.Binding.{Binding}
-use Rattle.machine.specs.declared.layout.Filled.{Filled}
-use Rattle.machine.specs.declared.layout.Pair.{Pair}
-use Rattle.machine.specs.Layout.{Layout, initial_cap, initial_parent, bound_context}
-use Rattle.machine.specs.Machine.{same_id, same_slot}
-use Rattle.machine.proofs.Ids.{itself}
-use Rattle.machine.proofs.LookUps.{one_id, one_slot}
+use Rattle.std.{specs.List.{AllPairs, find, slice_get}, proofs.Common.{[], ℕ, ◌<◌, ◌∙◌, ◌∷◌, ◌≡◌, Bool, List, None, Option, Some, ap}}
+use Rattle.std.proofs.Common.{arith, cond, false, get_or, length, option_map, refl, suc, sym, true, zero}
+use Rattle.std.proofs.lemmas.Option.{get_or_from_slice_get, none-some, same_Some, slice_get-get_or, slice_get_within}
+use Rattle.base.specs.declared.ids.{ObjId.ObjId, SlotRef.SlotRef}
+use Rattle.machine.specs.{declared.{cap.Cap.Cap, layout.{Binding.Binding, Filled.Filled, Pair.Pair}}, Layout.{Layout, bound_context}}
+use Rattle.machine.{specs.{Layout.{initial_cap, initial_parent}, Machine.{same_id, same_slot}}, proofs.{Ids.itself, LookUps.one_id}}
+use Rattle.machine.proofs.LookUps.{one_slot}
 use Rattle.table.specs.Rules.{IsLawful}
 
 -- an element that is found: where it is, that it passes, and that none before it does

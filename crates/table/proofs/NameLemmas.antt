@@ -1,11 +1,8 @@
 -- Where a name stands among names that are kept as strings, and that a new one goes last.
-use Rattle.std.proofs.Common.{◌≡◌, ℕ, ◌+◌, suc, Bool, true, false, cond, not, nat_lt, List, [], ◌∷◌, ◌++◌, map, length, position}
-use Rattle.std.proofs.Common.{is_some, option_map, Option, Some, None, String, refl, sym, ap, ◌∙◌, arith, if◌then◌else◌, ◌||◌}
-use Rattle.std.proofs.lemmas.Bool.Decides.{nat_tests}
-use Rattle.std.proofs.lemmas.List.{length-map, map_push}
-use Rattle.std.specs.List.{list_any, prefix_len, position_or_len}
-use Rattle.std.specs.Str.{bytes_eq}
-use Rattle.std.specs.String.{string_bytes, string_eq}
+use Rattle.std.{specs.{List.{list_any, position_or_len, prefix_len}, Str.bytes_eq, String.{string_bytes, string_eq}}, proofs.Common.{[], ℕ}}
+use Rattle.std.proofs.Common.{◌++◌, ◌+◌, ◌||◌, ◌∙◌, ◌∷◌, ◌≡◌, Bool, List, None, Option, Some, String, ap, arith, cond, false, if◌then◌else◌}
+use Rattle.std.proofs.Common.{is_some, length, map, nat_lt, not, option_map, position, refl, suc, sym, true}
+use Rattle.std.proofs.lemmas.{Bool.Decides.nat_tests, List.{length-map, map_push}}
 use Rattle.indexmap.specs.IndexSet.{insert_key}
 
 prefix_len-map : {X Y : Type 0} (p : Y → Bool) (f : X → Y) (xs : List X) → prefix_len p (map f xs) ≡ prefix_len (λ x. p (f x)) xs

@@ -1,31 +1,15 @@
 -- No pair of a lawful table's derivation tree is for untyped memory: that has one capability at most, which would be its own parent,
 -- and so not original.
-use Rattle.std.proofs.Common.{◌≡◌, ◌≢◌, ◌==◌, true, not, inl, inr, sym, ap, ◌∙◌}
-use Rattle.std.specs.Prelude.{Some, Contains, option_map, slice_get}
-use Rattle.std.specs.Cmp.{tied_itself}
-use Rattle.std.specs.Option.{option_and_then}
-use Rattle.std.specs.Ordering.{is_eq}
-use Rattle.std.specs.declared.cmp.Ordering.TheVariants.{Less}
-use Rattle.std.proofs.lemmas.Bool.{eq-eqb, false≢true}
-use Rattle.std.proofs.lemmas.List.Elements.{All-contains}
-use Rattle.std.proofs.lemmas.Option.{same_Some}
-use Rattle.base.specs.declared.ids.ObjId.{ObjId}
-use Rattle.base.specs.declared.ids.SlotRef.{SlotRef}
-use Rattle.machine.specs.declared.cap.Cap.{Cap}
-use Rattle.machine.specs.declared.layout.Filled.{Filled}
-use Rattle.machine.specs.declared.layout.Initial.{Initial}
-use Rattle.machine.specs.declared.layout.Pair.{Pair}
+use Rattle.std.specs.{declared.cmp.Ordering.TheVariants.Less, Cmp.tied_itself, Option.option_and_then, Ordering.is_eq, Prelude.Contains}
+use Rattle.std.{specs.Prelude.{Some, option_map, slice_get}, proofs.Common.{◌==◌, ◌∙◌, ◌≡◌, ◌≢◌, ap, inl, inr, not, sym, true}}
+use Rattle.std.proofs.lemmas.{Bool.{eq-eqb, false≢true}, List.Elements.All-contains, Option.same_Some}
+use Rattle.base.specs.declared.ids.{ObjId.ObjId, SlotRef.SlotRef}
+use Rattle.machine.specs.{declared.{cap.Cap.Cap, layout.{Filled.Filled, Initial.Initial, Pair.Pair}}, Capabilities.badge_of}
 use Rattle.machine.specs.declared.object.ObjectKind.TheVariants as kind
-use Rattle.machine.specs.Capabilities.{badge_of, kind_of_detail}
-use Rattle.machine.specs.Layout.{Layout, initial_cap, initial_parent}
-use Rattle.machine.specs.Machine.{same_slot, slot_cmp}
-use Rattle.machine.specs.Objects.{kind_of_object}
-use Rattle.machine.proofs.LookUps.{one_slot, slot_total}
-use Rattle.table.specs.Rules.{IsCapOf, IsLawful}
-use Rattle.table.specs.Tree.{IsPairOf, is_original, is_original_from, source_of}
-use Rattle.table.specs.UntypedPairs.{IsForNoUntyped}
-use Rattle.table.proofs.BootParts.{find-only, in_slot, marked, pair-cases}
-use Rattle.table.proofs.BootSlots.{kind-detail}
+use Rattle.machine.specs.{Capabilities.kind_of_detail, Layout.{Layout, initial_cap, initial_parent}, Machine.{same_slot, slot_cmp}}
+use Rattle.machine.{specs.Objects.kind_of_object, proofs.LookUps.{one_slot, slot_total}}
+use Rattle.table.specs.{Rules.{IsCapOf, IsLawful}, Tree.{IsPairOf, is_original, is_original_from, source_of}, UntypedPairs.IsForNoUntyped}
+use Rattle.table.proofs.{BootParts.{find-only, in_slot, marked, pair-cases}, BootSlots.kind-detail}
 
 -- a pair of the table gives its child its parent
 joined : (t : Layout) (pair : Pair) → IsLawful t → Contains t.pairs pair → initial_parent t pair.child ≡ Some pair.parent

@@ -1,27 +1,16 @@
 -- A draft whose last item was an object was one without it, and admitted it.
-use Rattle.std.proofs.Common.{◌≡◌, ◌≢◌, ℕ, ◌+◌, ◌<◌, ◌≤◌, ◌⊎◌, inl, inr, Bool, true, false, cond, not, nat_lt, ◌||◌, List, length}
-use Rattle.std.proofs.Common.{get_or, refl, sym, subst, ◌∙◌, arith}
-use Rattle.std.proofs.lemmas.Bool.{false_from_ne_true, false≢true, and_from, lt-ltb, le-leb, ltb-true, and_parts, cases_lt}
-use Rattle.std.proofs.lemmas.Bool.{eq-eqb, not_from_false}
-use Rattle.std.proofs.lemmas.Bool.Decides.{nat_tests}
-use Rattle.std.proofs.lemmas.List.{length_push}
-use Rattle.std.proofs.lemmas.List.Sums.{sum_by_push}
-use Rattle.std.proofs.lemmas.Nat.{pow_pos}
+use Rattle.std.proofs.Common.{ℕ, ◌+◌, ◌<◌, ◌||◌, ◌∙◌, ◌≡◌, ◌≢◌, ◌≤◌, ◌⊎◌, Bool, List, arith, cond, false, get_or, inl, inr, length, nat_lt}
+use Rattle.std.proofs.{Common.{not, refl, subst, sym, true}, lemmas.Bool.{and_from, and_parts, cases_lt, eq-eqb, false_from_ne_true}}
+use Rattle.std.proofs.lemmas.{Bool.{false≢true, le-leb, lt-ltb, ltb-true, not_from_false, Decides.nat_tests}, List.length_push}
+use Rattle.std.proofs.lemmas.{List.Sums.sum_by_push, Nat.pow_pos}
 use Rattle.base.specs.declared.limits.TheConstants.{MAX_OBJECTS, MAX_SLOTS, MAX_THREADS}
-use Rattle.machine.specs.declared.layout.Initial.{Initial}
-use Rattle.machine.specs.declared.object.Object.{Object}
-use Rattle.machine.specs.declared.object.Object.TheVariants as o
-use Rattle.machine.specs.Layout.{Layout}
-use Rattle.machine.specs.Objects.{address_of, end_of, slot_count}
+use Rattle.machine.specs.{declared.{layout.Initial.Initial, object.Object.{Object, Object as o}}, Layout.Layout, Objects.address_of}
+use Rattle.machine.specs.Objects.{end_of, slot_count}
 use Rattle.words.specs.Name.{is_name}
-use Rattle.table.specs.Building.{AdmitsObject, has_room, is_free, has_control, repeats_control, with_initial}
-use Rattle.table.specs.Names.{object_named}
-use Rattle.table.specs.Items.{BeforeCaps}
-use Rattle.table.specs.Placement.{IsApart, meets}
-use Rattle.table.specs.Rules.{IsDraft, IsObjectOf, CapsFit, PairsFit, BindingsFit, is_control_of, is_tcb, slots_in, threads_in}
-use Rattle.table.proofs.FrontLemmas.{all_front, pairs_front, none_passes, no_place}
-use Rattle.table.proofs.DraftKept.{no_caps, no_pairs, no_bindings}
-use Rattle.table.proofs.NameLemmas.{is_some-option_map}
+use Rattle.table.specs.{Building.{AdmitsObject, has_control, has_room, is_free, repeats_control, with_initial}, Items.BeforeCaps}
+use Rattle.table.specs.{Names.object_named, Placement.{IsApart, meets}, Rules.{BindingsFit, CapsFit, IsDraft, IsObjectOf, PairsFit}}
+use Rattle.table.{specs.Rules.{is_control_of, is_tcb, slots_in, threads_in}, proofs.DraftKept.{no_bindings, no_caps, no_pairs}}
+use Rattle.table.proofs.{FrontLemmas.{all_front, no_place, none_passes, pairs_front}, NameLemmas.is_some-option_map}
 
 -- an object has a first byte, or lies at no address
 starts_below : (object : Object) → (address_of object < end_of object) ⊎ (end_of object ≡ 0)

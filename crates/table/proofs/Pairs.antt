@@ -1,15 +1,9 @@
 -- A draft with a pair of the derivation tree more is one; and one whose last item was a pair was one without it, and admitted it.
-use Rattle.std.proofs.Common.{◌≡◌}
-use Rattle.std.proofs.lemmas.List.Elements.{All-push}
+use Rattle.std.{specs.declared.cmp.Ordering.TheVariants.Less, proofs.{Common.◌≡◌, lemmas.List.Elements.All-push}}
 use Rattle.std.proofs.lemmas.List.Quantifiers.{all_pairs_push}
-use Rattle.std.specs.declared.cmp.Ordering.TheVariants.{Less}
-use Rattle.machine.specs.declared.layout.Pair.{Pair}
-use Rattle.machine.specs.Layout.{Layout}
-use Rattle.machine.specs.Machine.{slot_cmp}
-use Rattle.table.specs.Building.{AdmitsPair, is_above_pairs, with_pair}
-use Rattle.table.specs.Rules.{IsDraft, IsSlotPair}
-use Rattle.table.proofs.FrontLemmas.{all_front, pairs_front}
-use Rattle.table.proofs.Slots.{below_new, has_slot, rises_after, slot_declared}
+use Rattle.machine.specs.{declared.layout.Pair.Pair, Layout.Layout, Machine.slot_cmp}
+use Rattle.table.{specs.{Building.{AdmitsPair, is_above_pairs, with_pair}, Rules.{IsDraft, IsSlotPair}}, proofs.FrontLemmas.all_front}
+use Rattle.table.proofs.{FrontLemmas.pairs_front, Slots.{below_new, has_slot, rises_after, slot_declared}}
 
 pub draft_pair : (t : Layout) (pair : Pair) → IsDraft t → AdmitsPair t pair → IsDraft (with_pair t pair)
 unfolding is_above_pairs

@@ -1,19 +1,10 @@
 -- What a binary search over rising keys finds is the first element with the key.
-use Rattle.std.proofs.Common.{◌≡◌, ℕ, ◌+◌, ◌-◌, ◌<◌, ◌≤◌, ◌⊎◌, Bool, false, cond, List, [], ◌∷◌, length, get_or, None, Some, All}
-use Rattle.std.proofs.Common.{AllPairs, refl, sym, ap, ◌∙◌, inl, inr, arith}
-use Rattle.std.proofs.lemmas.Bool.{cases_lt}
-use Rattle.std.proofs.lemmas.Cmp.{alike_right}
-use Rattle.std.proofs.lemmas.List.Elements.{All-head, All-tail}
-use Rattle.std.proofs.lemmas.List.Folds.{find_at}
-use Rattle.std.proofs.lemmas.List.Sorted.{searchable_from_sorted}
-use Rattle.std.proofs.lemmas.List.Sums.{position_or_len_is}
-use Rattle.std.proofs.lemmas.Option.{get_or_from_slice_get, slice_get-get_or, slice_get_within}
-use Rattle.std.specs.Cmp.{IsTotalOrder}
-use Rattle.std.specs.declared.cmp.Ordering.{Ordering}
-use Rattle.std.specs.declared.cmp.Ordering.TheVariants.{Less, Equal, Greater}
-use Rattle.std.specs.List.{find, slice_get}
-use Rattle.std.specs.List.Sorted.{IsNonDecreasingBy, IsPartitionPoint, IsSortedBy}
-use Rattle.std.specs.Ordering.{is_eq, is_lt, ordering_index, ordering_reverse}
+use Rattle.std.specs.{declared.cmp.Ordering.{Ordering, TheVariants.{Equal, Greater, Less}}, Cmp.IsTotalOrder, List.{find, slice_get}}
+use Rattle.std.specs.{List.Sorted.{IsNonDecreasingBy, IsPartitionPoint, IsSortedBy}, Ordering.{is_eq, is_lt, ordering_index}}
+use Rattle.std.{specs.Ordering.ordering_reverse, proofs.Common.{[], ℕ, ◌+◌, ◌-◌, ◌<◌, ◌∙◌, ◌∷◌, ◌≡◌, ◌≤◌, ◌⊎◌, All, AllPairs, Bool, List}}
+use Rattle.std.proofs.{Common.{None, Some, ap, arith, cond, false, get_or, inl, inr, length, refl, sym}, lemmas.Bool.cases_lt}
+use Rattle.std.proofs.lemmas.{Cmp.alike_right, List.{Elements.{All-head, All-tail}, Folds.find_at, Sorted.searchable_from_sorted}}
+use Rattle.std.proofs.lemmas.{List.Sums.position_or_len_is, Option.{get_or_from_slice_get, slice_get-get_or, slice_get_within}}
 
 pub find_none : {X : Type 0} (p : X → Bool) (xs : List X) → All (λ x. p x ≡ false) xs → find p xs ≡ None
 find_none p [] all = refl

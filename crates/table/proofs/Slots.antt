@@ -1,18 +1,10 @@
 -- Slots that the objects have, and slots above those of a rising list.
-use Rattle.std.proofs.Common.{◌≡◌, ◌-◌, true, length, List, Option, None, Some, option_map, slice_get, All, AllPairs, refl}
-use Rattle.std.proofs.Common.{sym, ap, ◌∙◌}
-use Rattle.std.proofs.lemmas.Bool.{false≢true, ltb-true, lt-ltb}
-use Rattle.std.specs.Ordering.{is_lt}
-use Rattle.std.specs.declared.cmp.Ordering.TheVariants.{Less, Equal, Greater}
-use Rattle.std.specs.declared.cmp.Ordering.{Ordering}
+use Rattle.std.{specs.{declared.cmp.Ordering.{Ordering, TheVariants.{Equal, Greater, Less}}, Ordering.is_lt}, proofs.Common.{◌-◌, ◌∙◌, ◌≡◌}}
+use Rattle.std.proofs.Common.{All, AllPairs, List, None, Option, Some, ap, length, option_map, refl, slice_get, sym, true}
+use Rattle.std.proofs.lemmas.Bool.{false≢true, lt-ltb, ltb-true}
 use Rattle.base.specs.declared.ids.SlotRef.{SlotRef}
-use Rattle.machine.specs.declared.layout.Initial.{Initial}
-use Rattle.machine.specs.Layout.{Layout, initial_of}
-use Rattle.machine.specs.Machine.{slot_cmp}
-use Rattle.machine.proofs.LookUps.{slot_total}
-use Rattle.table.specs.Building.{declares_slot, has_index, is_above}
-use Rattle.table.specs.Rules.{HasSlot}
-use Rattle.table.proofs.FrontLemmas.{at_last}
+use Rattle.machine.{specs.{declared.layout.Initial.Initial, Layout.{Layout, initial_of}, Machine.slot_cmp}, proofs.LookUps.slot_total}
+use Rattle.table.{specs.{Building.{declares_slot, has_index, is_above}, Rules.HasSlot}, proofs.FrontLemmas.at_last}
 use Rattle.table.proofs.ListLemmas.{all_from_last}
 
 pub has_slot : (t : Layout) (slot : SlotRef) → declares_slot t slot ≡ true → HasSlot t.objects slot

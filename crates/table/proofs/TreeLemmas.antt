@@ -1,38 +1,18 @@
 -- The tests of the derivation tree say what its rules say, and marks change nothing but marks.
-use Rattle.std.proofs.Common.{◌≡◌, ℕ, ◌+◌, ◌<◌, ◌≤◌, ◌⊎◌, ◌==◌, ◌||◌, Bool, true, false, cond, not, nat_lt, List, [], ◌∷◌, ◌++◌, map, is_some}
-use Rattle.std.proofs.Common.{length, get_or, set, take, Option, None, Some, option_map, All, AllPairs, refl, sym, ap, subst, ◌∙◌, arith}
-use Rattle.std.proofs.lemmas.Bool.{and_from, and_parts, eq-eqb, eqb-true, false≢true, le-ltb, lt-ltb, not-false}
-use Rattle.std.proofs.lemmas.Bool.{not_from_true}
-use Rattle.std.proofs.lemmas.Bool.Decides.{Decides-eqb, Decides-or}
-use Rattle.std.proofs.lemmas.Simd.{map-map}
-use Rattle.std.proofs.lemmas.List.Sums.{position_or_len_is}
-use Rattle.std.proofs.Math.Seq.{map-set_same}
-use Rattle.std.proofs.lemmas.List.{get_or-map, get_or-set_other, length-map, map_push, take_more, take_more_set}
-use Rattle.std.proofs.lemmas.List.Elements.{All-head, All-tail, All-map, All-weaker}
-use Rattle.std.specs.Bool.{Decides}
-use Rattle.std.specs.Cmp.{tied_itself}
-use Rattle.std.specs.List.{find, list_any, position_or_len}
-use Rattle.std.specs.Option.{option_and_then}
-use Rattle.std.specs.Ordering.{is_eq}
-use Rattle.std.specs.declared.cmp.Ordering.TheVariants.{Less}
+use Rattle.std.specs.{declared.cmp.Ordering.TheVariants.Less, Bool.Decides, Cmp.tied_itself, List.{find, list_any, position_or_len}}
+use Rattle.std.{specs.{Option.option_and_then, Ordering.is_eq}, proofs.Common.{[], ℕ, ◌++◌, ◌+◌, ◌<◌, ◌==◌, ◌||◌, ◌∙◌, ◌∷◌, ◌≡◌, ◌≤◌, ◌⊎◌}}
+use Rattle.std.proofs.Common.{All, AllPairs, Bool, List, None, Option, Some, ap, arith, cond, false, get_or, is_some, length, map, nat_lt}
+use Rattle.std.proofs.{Common.{not, option_map, refl, set, subst, sym, take, true}, Math.Seq.map-set_same, lemmas.Bool.and_from}
+use Rattle.std.proofs.lemmas.Bool.{and_parts, eq-eqb, eqb-true, false≢true, le-ltb, lt-ltb, not-false, not_from_true, Decides.Decides-eqb}
+use Rattle.std.proofs.lemmas.{Bool.Decides.Decides-or, List.{get_or-map, get_or-set_other, length-map, map_push, take_more, take_more_set}}
+use Rattle.std.proofs.lemmas.{List.{Elements.{All-head, All-map, All-tail, All-weaker}, Sums.position_or_len_is}, Simd.map-map}
 use Rattle.base.specs.declared.ids.SlotRef.{SlotRef}
-use Rattle.machine.specs.declared.cap.Cap.{Cap}
-use Rattle.machine.specs.declared.cap.Detail.{Detail}
-use Rattle.machine.specs.declared.layout.Filled.{Filled}
-use Rattle.machine.specs.declared.layout.Pair.{Pair}
-use Rattle.machine.specs.declared.object.ObjectKind.TheVariants as kind
-use Rattle.machine.specs.Capabilities.{badge_of, kind_of_detail}
-use Rattle.machine.specs.Layout.{Layout, initial_cap, initial_parent}
-use Rattle.machine.specs.Machine.{same_id, same_slot, slot_cmp}
-use Rattle.machine.proofs.LookUps.{id_total, one_id}
-use Rattle.table.specs.Aims.{Marks}
-use Rattle.table.specs.Rules.{IsCapOf, IsDraft, IsLawful, Rises}
-use Rattle.table.specs.Tree.{tree_of, source_of, is_original, is_original_from, with_mark}
-use Rattle.table.specs.Tree.{with_originals}
-use Rattle.table.specs.Tree.{IsPairOf, are_kin, is_kin, tree_fault}
-use Rattle.table.proofs.FrontLemmas.{none_passes}
-use Rattle.table.proofs.ListLemmas.{not_any}
-use Rattle.table.proofs.NameLemmas.{list_any-none, list_any-position}
+use Rattle.machine.specs.declared.{cap.{Cap.Cap, Detail.Detail}, layout.{Filled.Filled, Pair.Pair}, object.ObjectKind.ObjectKind as kind}
+use Rattle.machine.specs.{Capabilities.{badge_of, kind_of_detail}, Layout.{Layout, initial_cap, initial_parent}, Machine.same_id}
+use Rattle.machine.{specs.Machine.{same_slot, slot_cmp}, proofs.LookUps.{id_total, one_id}}
+use Rattle.table.specs.{Aims.Marks, Rules.{IsCapOf, IsDraft, IsLawful, Rises}, Tree.{IsPairOf, are_kin, is_kin, is_original}}
+use Rattle.table.{specs.Tree.{is_original_from, source_of, tree_fault, tree_of, with_mark, with_originals}, proofs.FrontLemmas.none_passes}
+use Rattle.table.proofs.{ListLemmas.not_any, NameLemmas.{list_any-none, list_any-position}}
 
 -- a pair passes the test just where it keeps the rules
 

@@ -1,14 +1,10 @@
 -- A table that is made one of version 2 keeps the rules, and its boot state.
-use Rattle.std.proofs.Common.{ℕ, ◌≤◌, length, arith}
-use Rattle.std.proofs.lemmas.List.Elements.{All-weaker}
+use Rattle.std.proofs.{Common.{ℕ, ◌≤◌, arith, length}, lemmas.List.Elements.All-weaker}
 use Rattle.base.specs.declared.label.TheConstants.Label as Label
-use Rattle.machine.specs.declared.layout.Version.{Version}
+use Rattle.machine.specs.{declared.layout.Version.Version, Boot.IsBoot, Layout.{Layout, bound_context, bound_thread, initial_cap}}
 use Rattle.machine.specs.declared.layout.Version.TheVariants as version
-use Rattle.machine.specs.Boot.{IsBoot}
-use Rattle.machine.specs.Layout.{Layout, bound_context, bound_thread, initial_cap, initial_of, initial_parent, most_labels, upgraded}
-use Rattle.machine.specs.Machine.{Machine}
-use Rattle.table.specs.Rules.{IsDraft, IsLawful}
-use Rattle.table.specs.Tree.{IsPairOf, is_original, source_of}
+use Rattle.machine.specs.{Layout.{initial_of, initial_parent, most_labels, upgraded}, Machine.Machine}
+use Rattle.table.specs.{Rules.{IsDraft, IsLawful}, Tree.{IsPairOf, is_original, source_of}}
 
 -- each version has at most as many labels as there can be
 pub few_labels : (version : Version) → most_labels version ≤ Label.COUNT

@@ -1,11 +1,8 @@
 -- What is kept at each object's number: whether some capability is for the object, and which thread is bound to it (confine's
 -- own).
-use Rattle.std.specs.Prelude.{◌≡◌, Bool, false, List, Option, None, option_map, slice_index_or}
-use Rattle.std.specs.List.{find, list_any}
+use Rattle.std.specs.{List.{find, list_any}, Prelude.{◌≡◌, Bool, List, None, Option, false, option_map, slice_index_or}}
 use Rattle.base.specs.declared.ids.ObjId.{ObjId}
-use Rattle.machine.specs.declared.layout.Binding.{Binding}
-use Rattle.machine.specs.declared.layout.Filled.{Filled}
-use Rattle.machine.specs.Machine.{same_id}
+use Rattle.machine.specs.{declared.layout.{Binding.Binding, Filled.Filled}, Machine.same_id}
 
 -- the mark at each object says whether some capability is for it, and no mark that none is
 abbrev pub Marks : List Filled → List Bool → Type 0

@@ -1,31 +1,15 @@
 -- How a capability table is built up: what may be added to it, told by tests that a reader of tables makes, and the table with
 -- that item added (confine's own).
-use Rattle.std.specs.Prelude.{◌≡◌, ℕ, ◌+◌, ◌-◌, ◌^◌, ◌<◌, ◌≤◌, ◌&&◌, ◌||◌, Bool, true, false, not, nat_lt, nat_le, List, [], ◌∷◌}
-use Rattle.std.specs.Prelude.{◌++◌, length, Option, Some, None, option_map, slice_get, is_some}
-use Rattle.std.specs.List.{list_any}
-use Rattle.std.specs.Ordering.{is_lt}
-use Rattle.base.specs.declared.ids.ObjId.{ObjId}
-use Rattle.base.specs.declared.ids.SlotRef.{SlotRef}
-use Rattle.base.specs.declared.limits.TheConstants.{ADDRESS_END, MAX_OBJECTS, MAX_SLOTS, MAX_THREADS}
-use Rattle.machine.specs.declared.cap.Badged.{Badged}
-use Rattle.machine.specs.declared.cap.Cap.{Cap}
-use Rattle.machine.specs.declared.cap.Detail.{Detail}
-use Rattle.machine.specs.declared.cap.Detail.TheVariants as d
-use Rattle.machine.specs.declared.layout.Binding.{Binding}
-use Rattle.machine.specs.declared.layout.Filled.{Filled}
-use Rattle.machine.specs.declared.layout.Initial.{Initial}
-use Rattle.machine.specs.declared.layout.Pair.{Pair}
-use Rattle.machine.specs.declared.object.Object.{Object}
-use Rattle.machine.specs.declared.object.Object.TheVariants as o
-use Rattle.machine.specs.declared.object.ObjectKind.TheVariants as kind
-use Rattle.machine.specs.Layout.{Layout, initial_of, most_labels}
-use Rattle.machine.specs.Machine.{slot_cmp, same_id}
-use Rattle.machine.specs.Objects.{slot_count, end_of}
-use Rattle.table.specs.Names.{label_named, object_named}
+use Rattle.std.specs.{List.list_any, Ordering.is_lt, Prelude.{[], ℕ, ◌&&◌, ◌++◌, ◌+◌, ◌-◌, ◌<◌, ◌^◌, ◌||◌, ◌∷◌, ◌≡◌, ◌≤◌, Bool, List, None}}
+use Rattle.std.specs.Prelude.{Option, Some, false, is_some, length, nat_le, nat_lt, not, option_map, slice_get, true}
+use Rattle.base.specs.declared.{ids.{ObjId.ObjId, SlotRef.SlotRef}, limits.TheConstants.{ADDRESS_END, MAX_OBJECTS, MAX_SLOTS, MAX_THREADS}}
+use Rattle.machine.specs.declared.{cap.{Badged.Badged, Cap.Cap, Detail.{Detail, Detail as d}}, layout.{Binding.Binding, Filled.Filled}}
+use Rattle.machine.specs.declared.{layout.{Initial.Initial, Pair.Pair}, object.Object.{Object, Object as o}}
+use Rattle.machine.specs.{declared.object.ObjectKind.ObjectKind as kind, Layout.{Layout, initial_of, most_labels}, Machine.same_id}
+use Rattle.machine.specs.{Machine.slot_cmp, Objects.{end_of, slot_count}}
 use Rattle.words.specs.Name.{is_name}
-use Rattle.table.specs.Placement.{is_aligned, meets}
-use Rattle.table.specs.Rules.{IsBlank, is_control_of, is_tcb, kind_at, slots_in, threads_in}
-use Rattle.table.specs.Tree.{is_for_untyped}
+use Rattle.table.specs.{Names.{label_named, object_named}, Placement.{is_aligned, meets}, Rules.{IsBlank, is_control_of, is_tcb, kind_at}}
+use Rattle.table.specs.{Rules.{slots_in, threads_in}, Tree.is_for_untyped}
 
 -- the tests
 

@@ -1,8 +1,6 @@
 -- The objects of a capability table with their names, and where each object lies (confine's own).
-use Rattle.std.specs.Prelude.{ℕ, ◌+◌, List, [], ◌∷◌}
-use Rattle.machine.specs.declared.layout.Initial.{Initial}
-use Rattle.machine.specs.declared.object.Object.{Object}
-use Rattle.machine.specs.Objects.{address_of, end_of}
+use Rattle.std.specs.Prelude.{[], ℕ, ◌+◌, ◌∷◌, List}
+use Rattle.machine.specs.{declared.{layout.Initial.Initial, object.Object.Object}, Objects.{address_of, end_of}}
 use Rattle.table.specs.declared.extent.Extent.{Extent}
 
 -- each object has the name of its number

@@ -1,14 +1,10 @@
 -- How a capability table is built up from the empty one of its version: its items, which item the table takes next, and the tables that come
 -- about so (confine's own; the order is that of a table's text).
-use Rattle.std.specs.Prelude.{◌≡◌, ℕ, List, []}
-use Rattle.machine.specs.declared.layout.Binding.{Binding}
-use Rattle.machine.specs.declared.layout.Filled.{Filled}
-use Rattle.machine.specs.declared.layout.Initial.{Initial}
-use Rattle.machine.specs.declared.layout.Pair.{Pair}
-use Rattle.machine.specs.declared.layout.Version.{Version}
-use Rattle.machine.specs.Layout.{Layout, empty_layout}
-use Rattle.table.specs.Building.{AdmitsLabel, AdmitsObject, AdmitsCap, AdmitsPair, AdmitsBinding, with_label, with_initial}
-use Rattle.table.specs.Building.{with_filled, with_pair, with_binding}
+use Rattle.std.specs.Prelude.{[], ℕ, ◌≡◌, List}
+use Rattle.machine.specs.{declared.layout.{Binding.Binding, Filled.Filled, Initial.Initial, Pair.Pair, Version.Version}, Layout.Layout}
+use Rattle.machine.specs.Layout.{empty_layout}
+use Rattle.table.specs.Building.{AdmitsBinding, AdmitsCap, AdmitsLabel, AdmitsObject, AdmitsPair, with_binding, with_filled, with_initial}
+use Rattle.table.specs.Building.{with_label, with_pair}
 
 -- a label by its name, an object with its name, a filled slot, a pair of the derivation tree, or a thread's binding
 pub data Item : Type 0 where

@@ -1,7 +1,6 @@
 -- The numbers that labels and objects have by their names (confine's own; the labels are those of 'seL4 Enforces Integrity',
 -- section 3).
-use Rattle.std.specs.Prelude.{ℕ, List, Option, option_map, position}
-use Rattle.std.specs.Str.{bytes_eq}
+use Rattle.std.specs.{Prelude.{ℕ, List, Option, option_map, position}, Str.bytes_eq}
 use Rattle.base.specs.declared.ids.ObjId.{ObjId}
 use Rattle.machine.specs.Layout.{Layout}
 

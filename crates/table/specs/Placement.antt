@@ -1,8 +1,7 @@
 -- Where objects lie in memory: alignment, and which objects overlap (compare the seL4 manual, "Memory Allocation").
-use Rattle.std.specs.Prelude.{ℕ, ◌<◌, ◌≤◌, ◌^◌, ◌%◌, ◌==◌, ◌&&◌, Bool, true, nat_le, nat_lt, List, Option, Some, None}
-use Rattle.std.specs.List.{All, AllPairs}
-use Rattle.machine.specs.declared.object.Object.{Object}
-use Rattle.machine.specs.Objects.{address_of, end_of, size_bits}
+use Rattle.std.specs.{List.{All, AllPairs}, Prelude.{ℕ, ◌%◌, ◌&&◌, ◌<◌, ◌==◌, ◌^◌, ◌≤◌, Bool, List, None, Option, Some, nat_le, nat_lt}}
+use Rattle.std.specs.Prelude.{true}
+use Rattle.machine.specs.{declared.object.Object.Object, Objects.{address_of, end_of, size_bits}}
 use Rattle.table.specs.declared.extent.Extent.{Extent}
 
 -- an address at which an object has a byte

@@ -1,36 +1,19 @@
 -- The rules that a capability table keeps: how it names things, what its objects are like at boot and where they lie, which
 -- slots it fills and with what, what is derived from what, and which threads it binds to contexts (compare the seL4 manual,
 -- "Bootstrapping").
-use Rattle.std.specs.Prelude.{⊤, ◌≡◌, ◌≢◌, ℕ, ◌+◌, ◌^◌, ◌<◌, ◌≤◌, ◌==◌, Bool, true, false, List, length, Option, Some, None}
-use Rattle.std.specs.Prelude.{option_map, All, AllPairs, sum_by, count_by, slice_get}
-use Rattle.std.specs.declared.cmp.Ordering.TheVariants.{Less}
+use Rattle.std.specs.{declared.cmp.Ordering.TheVariants.Less, Prelude.{ℕ, ⊤, ◌+◌, ◌<◌, ◌==◌, ◌^◌, ◌≡◌, ◌≢◌, ◌≤◌, All, AllPairs, Bool, List}}
+use Rattle.std.specs.Prelude.{None, Option, Some, count_by, false, length, option_map, slice_get, sum_by, true}
 use Rattle.base.specs.declared.core_number.TheConstants.CoreNo as CoreNo
-use Rattle.base.specs.declared.ids.ObjId.{ObjId}
-use Rattle.base.specs.declared.ids.SlotRef.{SlotRef}
-use Rattle.base.specs.declared.limits.TheConstants.{ADDRESS_END, MAX_OBJECTS, MAX_PERIOD, MAX_RADIX, MAX_SLOTS, MAX_THREADS}
-use Rattle.machine.specs.declared.cap.Badged.{Badged}
-use Rattle.machine.specs.declared.cap.Detail.{Detail}
-use Rattle.machine.specs.declared.cap.Detail.TheVariants as d
-use Rattle.machine.specs.declared.layout.Binding.{Binding}
-use Rattle.machine.specs.declared.layout.Filled.{Filled}
-use Rattle.machine.specs.declared.layout.Initial.{Initial}
-use Rattle.machine.specs.declared.layout.Pair.{Pair}
-use Rattle.machine.specs.declared.object.Object.{Object}
-use Rattle.machine.specs.declared.object.Object.TheVariants as o
-use Rattle.machine.specs.declared.object.ObjectKind.{ObjectKind}
+use Rattle.base.specs.declared.{ids.{ObjId.ObjId, SlotRef.SlotRef}, limits.TheConstants.{ADDRESS_END, MAX_OBJECTS, MAX_PERIOD, MAX_RADIX}}
+use Rattle.base.specs.declared.limits.TheConstants.{MAX_SLOTS, MAX_THREADS}
+use Rattle.machine.specs.declared.{cap.{Badged.Badged, Detail.{Detail, Detail as d}}, layout.{Binding.Binding, Filled.Filled}}
+use Rattle.machine.specs.declared.{layout.{Initial.Initial, Pair.Pair}, object.{Object.{Object, Object as o}, ObjectKind.ObjectKind}}
 use Rattle.machine.specs.declared.object.ObjectKind.TheVariants as kind
-use Rattle.machine.specs.declared.object.ReplyState.TheVariants as reply
-use Rattle.machine.specs.declared.object.Share.{Share}
-use Rattle.machine.specs.declared.thread.Inbox.TheVariants as inbox
-use Rattle.machine.specs.declared.thread.RunState.{RunState}
-use Rattle.machine.specs.declared.thread.RunState.TheVariants as run
-use Rattle.machine.specs.Capabilities.{kind_of_detail}
-use Rattle.machine.specs.Layout.{Layout, initial_of, most_labels}
-use Rattle.machine.specs.Machine.{slot_cmp}
-use Rattle.machine.specs.Objects.{kind_of_object, slot_count, end_of}
+use Rattle.machine.specs.declared.{object.{ReplyState.ReplyState as reply, Share.Share}, thread.{Inbox.Inbox as inbox, RunState.RunState}}
+use Rattle.machine.specs.{declared.thread.RunState.RunState as run, Capabilities.kind_of_detail, Layout.{Layout, initial_of, most_labels}}
+use Rattle.machine.specs.{Machine.slot_cmp, Objects.{end_of, kind_of_object, slot_count}}
 use Rattle.words.specs.Name.{is_name}
-use Rattle.table.specs.Placement.{is_aligned, IsApart}
-use Rattle.table.specs.Tree.{is_original, IsPairOf}
+use Rattle.table.specs.{Placement.{IsApart, is_aligned}, Tree.{IsPairOf, is_original}}
 
 -- a thread starts ready or inactive
 abbrev pub IsAtRest : RunState → Type 0

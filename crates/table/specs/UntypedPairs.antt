@@ -1,9 +1,6 @@
 -- That no capability for untyped memory is in a pair of the derivation tree (confine's own).
 use Rattle.std.specs.Prelude.{◌≡◌, ◌≢◌, ◌⊎◌, Some}
-use Rattle.machine.specs.declared.cap.Cap.{Cap}
-use Rattle.machine.specs.declared.layout.Pair.{Pair}
-use Rattle.machine.specs.declared.object.ObjectKind.TheVariants as kind
-use Rattle.machine.specs.Capabilities.{kind_of_detail}
+use Rattle.machine.specs.{declared.{cap.Cap.Cap, layout.Pair.Pair, object.ObjectKind.ObjectKind as kind}, Capabilities.kind_of_detail}
 use Rattle.machine.specs.Layout.{Layout, initial_cap}
 
 -- the capability that a table puts into the parent's slot of a pair, or into the child's, isn't for untyped memory

@@ -1,4 +1,4 @@
-ghost use Rattle.std.specs.Prelude.{◌≡◌, ◌<◌, ◌++◌, ◌∷◌, [], None, OnOk, OnErr};
+ghost use Rattle.std.specs.Prelude.{[], ◌++◌, ◌<◌, ◌∷◌, ◌≡◌, None, OnErr, OnOk};
 ghost use Rattle.base.specs.declared.limits.TheConstants.{OBJECT_NUMBERS};
 ghost use Rattle.table.specs.Aims.{thread_bound_to};
 

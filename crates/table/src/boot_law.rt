@@ -1,10 +1,7 @@
-ghost use Rattle.machine.specs.Boot.{IsBoot, IsFresh};
-ghost use Rattle.machine.specs.Layout.{Layout, initial_parent};
-ghost use Rattle.machine.specs.Machine.{Machine, parent_of};
-ghost use Rattle.machine.specs.Tree.{IsRanked};
-ghost use Rattle.machine.specs.WellFormed.{IsWellFormed};
 ghost use Rattle.std.specs.Prelude.{◌≡◌, Some};
 ghost use Rattle.base.specs.declared.ids.SlotRef.{SlotRef};
+ghost use Rattle.machine.specs.{Boot.{IsBoot, IsFresh}, Layout.{Layout, initial_parent}, Machine.{Machine, parent_of}, Tree.IsRanked};
+ghost use Rattle.machine.specs.WellFormed.{IsWellFormed};
 ghost use Rattle.table.specs.Rules.{IsLawful};
 
 /// A law: the boot state of a lawful capability table is well formed, and is as the boot rule

@@ -1,18 +1,13 @@
-ghost use Rattle.std.specs.Prelude.{◌≡◌, ◌≤◌, ◌<◌, length, slice_get, is_some, Some, IfOk, IfErr, IfSome, None, OnOk, OnErr};
-ghost use Rattle.std.specs.List.{list_any};
-ghost use Rattle.std.specs.Option.{option_copied};
-ghost use Rattle.machine.specs.Layout.{empty_layout, initial_of, bound_thread, most_labels, upgraded};
-ghost use Rattle.machine.specs.Authority.{label_at};
-ghost use Rattle.machine.specs.Objects.{end_of};
+ghost use Rattle.std.specs.{List.list_any, Option.option_copied, Prelude.{◌<◌, ◌≡◌, ◌≤◌, IfErr, IfOk, IfSome, None, OnErr, OnOk, Some}};
+ghost use Rattle.std.specs.Prelude.{is_some, length, slice_get};
 ghost use Rattle.base.specs.declared.label.TheConstants.Label as LabelLimits;
 ghost use Rattle.base.specs.declared.limits.TheConstants.{MAX_OBJECTS};
-ghost use Rattle.table.specs.Names.{label_named, object_named};
-ghost use Rattle.table.specs.Rules.{kind_at, is_control_of, IsLawful};
-ghost use Rattle.table.specs.Tree.{tree_fault, with_originals};
-ghost use Rattle.table.specs.Building.{has_room, is_free, has_control, declares_slot, last_cap, is_above_caps, may_hold};
-ghost use Rattle.table.specs.Building.{fits, is_badged, is_fitting, has_cap_to, is_above_pairs, last_binding};
-ghost use Rattle.table.specs.Building.{is_above_bindings, is_bound, AdmitsLabel, AdmitsObject, AdmitsCap, AdmitsPair};
-ghost use Rattle.table.specs.Building.{AdmitsBinding, with_label, with_initial, with_filled, with_pair, with_binding};
+ghost use Rattle.machine.specs.{Authority.label_at, Layout.{bound_thread, empty_layout, initial_of, most_labels, upgraded}, Objects.end_of};
+ghost use Rattle.table.specs.Building.{AdmitsBinding, AdmitsCap, AdmitsLabel, AdmitsObject, AdmitsPair, declares_slot, fits, has_cap_to};
+ghost use Rattle.table.specs.Building.{has_control, has_room, is_above_bindings, is_above_caps, is_above_pairs, is_badged, is_bound};
+ghost use Rattle.table.specs.Building.{is_fitting, is_free, last_binding, last_cap, may_hold, with_binding, with_filled, with_initial};
+ghost use Rattle.table.specs.{Building.{with_label, with_pair}, Names.{label_named, object_named}, Rules.{IsLawful, is_control_of}};
+ghost use Rattle.table.specs.{Rules.kind_at, Tree.{tree_fault, with_originals}};
 
 use crate::bindings::Bindings;
 use crate::caps::Caps;

@@ -1,7 +1,5 @@
-ghost use Rattle.std.specs.Prelude.{◌≡◌, ◌≤◌, ◌<◌, ◌∷◌, ⊤, false, true, length, nat_le, vec_len, MatchOption, Some};
-ghost use Rattle.std.specs.List.{All, Contains, list_any};
-ghost use Rattle.std.specs.List.Sorted.{IsPartitionPoint, IsPermutation};
-ghost use Rattle.std.specs.Vec.{vec_capacity};
+ghost use Rattle.std.specs.{List.{All, Contains, list_any, Sorted.{IsPartitionPoint, IsPermutation}}, Prelude.{⊤, ◌<◌, ◌∷◌, ◌≡◌, ◌≤◌}};
+ghost use Rattle.std.specs.{Prelude.{MatchOption, Some, false, length, nat_le, true, vec_len}, Vec.vec_capacity};
 ghost use Rattle.machine.specs.Objects.{address_of, end_of, size_bits};
 ghost use Rattle.table.specs.Placement.{AreApart, holds, touches};
 ghost use Rattle.table.specs.Placement as placement;

@@ -1,14 +1,7 @@
-ghost use Rattle.std.specs.Prelude.{◌≡◌, ◌↔◌, Contains, None};
-ghost use Rattle.machine.specs.declared.layout.Pair.{Pair};
+ghost use Rattle.std.specs.Prelude.{◌↔◌, ◌≡◌, Contains, None};
 ghost use Rattle.base.specs.declared.ids.ObjId.{ObjId};
-ghost use Rattle.machine.specs.Authority.{label_of};
-ghost use Rattle.machine.specs.Boot.{IsBoot};
-ghost use Rattle.machine.specs.Layout.{Layout, upgraded};
-ghost use Rattle.machine.specs.Machine.{Machine};
-ghost use Rattle.table.specs.Items.{IsBuiltUp};
-ghost use Rattle.table.specs.Rules.{IsLawful};
-ghost use Rattle.table.specs.Tree.{tree_fault, with_originals};
-ghost use Rattle.table.specs.UntypedPairs.{IsForNoUntyped};
+ghost use Rattle.machine.specs.{declared.layout.Pair.Pair, Authority.label_of, Boot.IsBoot, Layout.{Layout, upgraded}, Machine.Machine};
+ghost use Rattle.table.specs.{Items.IsBuiltUp, Rules.IsLawful, Tree.{tree_fault, with_originals}, UntypedPairs.IsForNoUntyped};
 
 /// A law: the tables that keep the rules are just those that are built up from an empty table, item
 /// by item, each in its order and where the table so far admits it, whose capabilities are then marked

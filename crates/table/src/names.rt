@@ -1,6 +1,5 @@
-ghost use Rattle.std.specs.Prelude.{◌≡◌, ◌<◌, ◌++◌, ◌∷◌, [], length, slice_get, position, is_some, false, OnOk, OnErr};
-ghost use Rattle.std.specs.Option.{option_copied};
-ghost use Rattle.std.specs.Str.{bytes_eq};
+ghost use Rattle.std.specs.{Option.option_copied, Prelude.{[], ◌++◌, ◌<◌, ◌∷◌, ◌≡◌, OnErr, OnOk, false, is_some, length, position}};
+ghost use Rattle.std.specs.{Prelude.slice_get, Str.bytes_eq};
 
 use indexmap::IndexSet;
 use std::alloc::{AllocError, Global};
@@ -14,8 +13,7 @@ pub struct Names {
 }
 
 impl Model for Names {
-    ghost use Rattle.std.specs.Prelude.{List, ℕ, map};
-    ghost use Rattle.std.specs.String.{string_bytes};
+    ghost use Rattle.std.specs.{Prelude.{ℕ, List, map}, String.string_bytes};
 
     ghost Value = { List (List ℕ) };
 

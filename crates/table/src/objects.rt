@@ -1,14 +1,9 @@
-ghost use Rattle.std.specs.Prelude.{◌≡◌, ◌≤◌, ◌<◌, ◌+◌, ◌++◌, ◌∷◌, [], length, true, slice_get, position, is_some, not};
-ghost use Rattle.std.specs.Prelude.{false, find, option_map, vec_len, OnOk, OnErr, if◌then◌else◌};
-ghost use Rattle.std.specs.List.{list_any};
-ghost use Rattle.std.specs.Option.{option_copied};
-ghost use Rattle.std.specs.Str.{bytes_eq};
+ghost use Rattle.std.specs.{List.list_any, Option.option_copied, Prelude.{[], ◌++◌, ◌+◌, ◌<◌, ◌∷◌, ◌≡◌, ◌≤◌, OnErr, OnOk, false, find}};
+ghost use Rattle.std.specs.{Prelude.{if◌then◌else◌, is_some, length, not, option_map, position, slice_get, true, vec_len}, Str.bytes_eq};
 ghost use Rattle.std.specs.Vec.{vec_capacity};
-ghost use Rattle.machine.specs.Authority.{has_memory_at};
-ghost use Rattle.machine.specs.Objects.{end_of, slot_count};
-ghost use Rattle.table.specs.Placement.{meets};
 ghost use Rattle.base.specs.declared.limits.TheConstants.{ADDRESS_END, MAX_SLOTS, MAX_THREADS};
-ghost use Rattle.table.specs.Rules.{is_tcb, slots_in, threads_in};
+ghost use Rattle.machine.specs.{Authority.has_memory_at, Objects.{end_of, slot_count}};
+ghost use Rattle.table.specs.{Placement.meets, Rules.{is_tcb, slots_in, threads_in}};
 
 use crate::extent::{Extent, holder, insert_within, meets_any};
 use crate::names::Names;
@@ -29,11 +24,8 @@ pub struct Objects {
 }
 
 impl Model for Objects {
-    ghost use Rattle.std.specs.Prelude.{◌≡◌, length};
-    ghost use Rattle.std.specs.List.Sorted.{IsPermutation};
-    ghost use Rattle.table.specs.Inventory.{Inventory, extents_from};
-    ghost use Rattle.table.specs.Placement.{AreApart};
-    ghost use Rattle.table.specs.Rules.{slots_in, threads_in};
+    ghost use Rattle.std.specs.{List.Sorted.IsPermutation, Prelude.{◌≡◌, length}};
+    ghost use Rattle.table.specs.{Inventory.{Inventory, extents_from}, Placement.AreApart, Rules.{slots_in, threads_in}};
 
     ghost Value = { Inventory };
 

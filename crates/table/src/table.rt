@@ -1,12 +1,8 @@
-ghost use Rattle.std.specs.Prelude.{◌≡◌, ◌≤◌, ◌<◌, AllPairs, length, slice_get, IfSome};
-ghost use Rattle.std.specs.List.{find};
-ghost use Rattle.std.specs.Option.{option_copied};
+ghost use Rattle.std.specs.{List.find, Option.option_copied, Prelude.{◌<◌, ◌≡◌, ◌≤◌, AllPairs, IfSome, length, slice_get}};
 ghost use Rattle.base.specs.declared.label.TheConstants.Label as LabelLimits;
-ghost use Rattle.machine.specs.Authority.{label_at};
-ghost use Rattle.machine.specs.Layout.{initial_of, initial_cap, initial_parent, bound_context, bound_thread, upgraded};
-ghost use Rattle.machine.specs.Machine.{same_id};
-ghost use Rattle.table.specs.Names.{label_named, object_named};
-ghost use Rattle.table.specs.Rules.{kind_at, IsLawful};
+ghost use Rattle.machine.specs.{Authority.label_at, Layout.{bound_context, bound_thread, initial_cap, initial_of, initial_parent}};
+ghost use Rattle.machine.specs.{Layout.upgraded, Machine.same_id};
+ghost use Rattle.table.specs.{Names.{label_named, object_named}, Rules.{IsLawful, kind_at}};
 
 use crate::draft::Draft;
 use crate::tree::{cap_in, parent_in};

@@ -1,10 +1,7 @@
-ghost use Rattle.std.specs.Prelude.{◌≡◌, ◌+◌, ℕ, [], IsTrue, None, Some, option_map, slice_get};
-ghost use Rattle.std.specs.List.{find};
-ghost use Rattle.std.specs.declared.cmp.Ordering.TheVariants.{Less};
-ghost use Rattle.machine.specs.Machine.{same_slot, slot_cmp};
-ghost use Rattle.machine.specs.declared.layout.Pair.{Pair as Edge};
-ghost use Rattle.table.specs.Rules.{Rises, RisesByChild};
-ghost use Rattle.table.specs.Tree.{tree_of, with_originals};
+ghost use Rattle.std.specs.{declared.cmp.Ordering.TheVariants.Less, List.find, Prelude.{[], ℕ, ◌+◌, ◌≡◌, IsTrue, None, Some, option_map}};
+ghost use Rattle.std.specs.Prelude.{slice_get};
+ghost use Rattle.machine.specs.{declared.layout.Pair.Pair as Edge, Machine.{same_slot, slot_cmp}};
+ghost use Rattle.table.specs.{Rules.{Rises, RisesByChild}, Tree.{tree_of, with_originals}};
 ghost use Rattle.table.specs.Tree as tree;
 
 use base::{Rights, SlotRef};

@@ -1,7 +1,5 @@
 ghost use Rattle.std.specs.Prelude.{◌≡◌};
-ghost use Rattle.machine.specs.Makes.{Makes};
-ghost use Rattle.machine.specs.Releasing.{IsInItsQueue};
-ghost use Rattle.machine.specs.Step.Suspend.{resume_of, suspend_of, with_resumed};
+ghost use Rattle.machine.specs.{Makes.Makes, Releasing.IsInItsQueue, Step.Suspend.{resume_of, suspend_of, with_resumed}};
 ghost use Rattle.machine.specs.WellFormed.{IsWellFormed};
 
 use base::{Cause, ObjId};

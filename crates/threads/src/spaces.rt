@@ -1,10 +1,6 @@
-ghost use Rattle.std.specs.Prelude.{◌≡◌, IsTrue, Some, None};
-ghost use Rattle.machine.specs.declared.cap.Cap.{Cap as Held};
-ghost use Rattle.machine.specs.Lookup.{root_of};
-ghost use Rattle.machine.specs.Machine.{cap_of, has_slot};
-ghost use Rattle.machine.specs.Makes.{Makes};
-ghost use Rattle.machine.specs.Step.Space.{clear_space_of, find_node, set_space_of, with_root, without_root};
-ghost use Rattle.machine.specs.WellFormed.{IsWellFormed};
+ghost use Rattle.std.specs.Prelude.{◌≡◌, IsTrue, None, Some};
+ghost use Rattle.machine.specs.{declared.cap.Cap.Cap as Held, Lookup.root_of, Machine.{cap_of, has_slot}, Makes.Makes};
+ghost use Rattle.machine.specs.{Step.Space.{clear_space_of, find_node, set_space_of, with_root, without_root}, WellFormed.IsWellFormed};
 
 use base::{Cause, ObjId, SlotRef};
 use cnodeops::derive;

@@ -1,19 +1,10 @@
 -- The slots between which a message's capability travels: the target is there and empty, and the source holds what was found in
 -- it.
-use Rattle.std.proofs.Common.{◌≡◌, subst}
-use Rattle.std.specs.Prelude.{Option, Some, None, Ok, IsTrue}
+use Rattle.std.{specs.Prelude.{IsTrue, None, Ok, Option, Some}, proofs.Common.{◌≡◌, subst}}
 use Rattle.base.specs.declared.ids.ObjId.{ObjId}
-use Rattle.machine.specs.declared.slot_address.Ends.{Ends}
-use Rattle.machine.specs.declared.slot_address.SlotAddress.{SlotAddress}
-use Rattle.machine.specs.declared.thread.Sending.{Sending}
-use Rattle.machine.specs.Machine.{Machine, cap_of, has_slot}
-use Rattle.machine.specs.Step.Copy.{copyable}
-use Rattle.machine.specs.Step.Deliver.{arrival_of, named}
-use Rattle.machine.specs.Step.Find.{find_cap, permitted}
-use Rattle.machine.specs.Step.Target.{target_of, vacant}
-use Rattle.machine.proofs.Conditions.{both_done, same_ok}
-use Rattle.machine.proofs.Finding.{finds_cap}
-use Rattle.machine.proofs.LedSlots.{led_slot, node_slot}
+use Rattle.machine.specs.{declared.{slot_address.{Ends.Ends, SlotAddress.SlotAddress}, thread.Sending.Sending}, Machine.{Machine, cap_of}}
+use Rattle.machine.specs.{Machine.has_slot, Step.{Copy.copyable, Deliver.{arrival_of, named}, Find.{find_cap, permitted}, Target.target_of}}
+use Rattle.machine.{specs.Step.Target.vacant, proofs.{Conditions.{both_done, same_ok}, Finding.finds_cap, LedSlots.{led_slot, node_slot}}}
 use Rattle.machine.proofs.SlotRows.{is_vacant, target_leads}
 
 pub record CanDerive (m : Machine) (ends : Ends) : Type 0 where

@@ -1,26 +1,13 @@
 -- A caller whose call was delivered and the receiver are two threads, and the reply that the receiver named holds nobody; so the
 -- caller's context may be handed over where it is lent.
-use Rattle.std.proofs.Common.{◌≡◌, ◌≢◌, sym, ap, ◌∙◌}
-use Rattle.std.specs.Prelude.{Some, None, option_map}
-use Rattle.std.proofs.lemmas.Option.{none-some}
+use Rattle.std.{specs.Prelude.{None, Some, option_map}, proofs.{Common.{◌∙◌, ◌≡◌, ◌≢◌, ap, sym}, lemmas.Option.none-some}}
 use Rattle.base.specs.declared.ids.ObjId.{ObjId}
-use Rattle.machine.specs.declared.object.ObjectKind.TheVariants as kind
-use Rattle.machine.specs.declared.thread.Lent.{Lent}
-use Rattle.machine.specs.declared.thread.Receiving.{Receiving}
-use Rattle.machine.specs.declared.thread.Sending.{Sending}
-use Rattle.machine.specs.declared.thread.Tcb.{Tcb}
-use Rattle.machine.specs.Machine.{Machine, object_of}
-use Rattle.machine.specs.Objects.{kind_of_object}
-use Rattle.machine.specs.Releasing.{with_called, with_halted}
-use Rattle.machine.specs.Step.Bind.{context_under}
-use Rattle.machine.specs.Step.Deliver.{answer_through, delivered, first_at, receiver_in}
-use Rattle.machine.specs.Step.Send.{lent_by}
-use Rattle.machine.specs.WellFormed.{IsCaller, IsFree, IsThread, IsWellFormed, kind_of}
-use Rattle.machine.proofs.EndpointRow.{IsReceiver, receiver_first}
-use Rattle.machine.proofs.FoundObjects.{tcb_of_kind}
-use Rattle.machine.proofs.Lending.{lends}
-use Rattle.machine.proofs.MessageRows.{answers_through, caller_apart, delivered_free, delivered_other, delivered_there}
-use Rattle.machine.proofs.MessageRows.{lending_free, lending_receiver, lending_runs}
+use Rattle.machine.specs.declared.{object.ObjectKind.ObjectKind as kind, thread.{Lent.Lent, Receiving.Receiving, Sending.Sending, Tcb.Tcb}}
+use Rattle.machine.specs.{Machine.{Machine, object_of}, Objects.kind_of_object, Releasing.{with_called, with_halted}}
+use Rattle.machine.specs.Step.{Bind.context_under, Deliver.{answer_through, delivered, first_at, receiver_in}, Send.lent_by}
+use Rattle.machine.{specs.WellFormed.{IsCaller, IsFree, IsThread, IsWellFormed, kind_of}, proofs.EndpointRow.{IsReceiver, receiver_first}}
+use Rattle.machine.proofs.{FoundObjects.tcb_of_kind, Lending.lends, MessageRows.{answers_through, caller_apart, delivered_free}}
+use Rattle.machine.proofs.MessageRows.{delivered_other, delivered_there, lending_free, lending_receiver, lending_runs}
 
 module _ (m : Machine) (caller : ObjId) (sending : Sending) (receiver : ObjId) (receiving : Receiving) (formed : IsWellFormed m)
     (is : IsCaller m caller) (first : receiver_in (first_at m sending.endpoint) ≡ Some (receiver, receiving)) where

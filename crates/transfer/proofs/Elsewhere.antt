@@ -1,21 +1,13 @@
 -- A thread that waits nowhere still waits nowhere where others leave their queues.
-use Rattle.std.proofs.Common.{◌≡◌, Bool, true, false, not, cond, List, refl, sym, subst, ◌∙◌}
-use Rattle.std.specs.Prelude.{Option, Some, None, Contains, filter}
-use Rattle.std.proofs.lemmas.Option.{same_Some}
+use Rattle.std.{specs.Prelude.{Contains, None, Option, Some, filter}, proofs.Common.{◌∙◌, ◌≡◌, Bool, List, cond, false, not, refl, subst}}
+use Rattle.std.proofs.{Common.{sym, true}, lemmas.Option.same_Some}
 use Rattle.base.specs.declared.ids.ObjId.{ObjId}
-use Rattle.machine.specs.declared.object.Object.{Object}
-use Rattle.machine.specs.declared.object.Object.TheVariants as o
-use Rattle.machine.specs.declared.object.ReplyState.{ReplyState}
+use Rattle.machine.specs.declared.{object.{Object.{Object, Object as o}, ReplyState.ReplyState}, thread.{RunState.RunState, Tcb.Tcb}}
 use Rattle.machine.specs.declared.object.ReplyState.TheVariants as reply
-use Rattle.machine.specs.declared.thread.RunState.{RunState}
 use Rattle.machine.specs.declared.thread.RunState.TheVariants as state
-use Rattle.machine.specs.declared.thread.Tcb.{Tcb}
-use Rattle.machine.specs.Changes.{with_reply, with_tcb, without_waiting}
-use Rattle.machine.specs.Finalising.{halted}
-use Rattle.machine.specs.Machine.{Machine, object_of, queue_of, same_id, with_queue}
-use Rattle.machine.specs.Releasing.{unblocked, with_holder_halted, with_holding, with_named, with_released}
-use Rattle.machine.proofs.LookUps.{queue_of-with_object, queue_of-with_queue}
-use Rattle.machine.proofs.RemovalLinks.{in_whole}
+use Rattle.machine.specs.{Changes.{with_reply, with_tcb, without_waiting}, Finalising.halted, Machine.{Machine, object_of, queue_of}}
+use Rattle.machine.specs.{Machine.{same_id, with_queue}, Releasing.{unblocked, with_holder_halted, with_holding, with_named, with_released}}
+use Rattle.machine.proofs.{LookUps.{queue_of-with_object, queue_of-with_queue}, RemovalLinks.in_whole}
 use Rattle.objects.specs.Waiting.{WaitsNowhere}
 
 -- the same queues

@@ -1,8 +1,6 @@
 ghost use Rattle.std.specs.Prelude.{◌≡◌};
-ghost use Rattle.machine.specs.Machine.{object_of};
-ghost use Rattle.machine.specs.Makes.{Makes};
-ghost use Rattle.machine.specs.Step.Fetch.{emptied, fetch_of, fetched, fetched_in};
-ghost use Rattle.machine.specs.WellFormed.{IsCaller, IsWellFormed};
+ghost use Rattle.machine.specs.{Machine.object_of, Makes.Makes, Step.Fetch.{emptied, fetch_of, fetched, fetched_in}, WellFormed.IsCaller};
+ghost use Rattle.machine.specs.WellFormed.{IsWellFormed};
 
 use base::{Cause, ObjId};
 use machine::{Answer, Inbox, Made, Object, Tcb, calls_keep_machines_well_formed};

@@ -1,6 +1,5 @@
 ghost use Rattle.std.specs.Prelude.{◌≡◌};
-ghost use Rattle.machine.specs.Machine.{object_of};
-ghost use Rattle.machine.specs.Step.Deliver.{first_at, receiver_in, sender_in, state_in};
+ghost use Rattle.machine.specs.{Machine.object_of, Step.Deliver.{first_at, receiver_in, sender_in, state_in}};
 
 use base::ObjId;
 use machine::{Object, Receiving, RunState, Sending};

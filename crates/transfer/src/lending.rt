@@ -1,9 +1,7 @@
 ghost use Rattle.std.specs.Prelude.{◌≡◌, ◌≢◌, Some};
 ghost use Rattle.base.specs.declared.ids.ObjId.{ObjId as Id};
 ghost use Rattle.machine.specs.declared.object.ObjectKind.TheVariants as kind;
-ghost use Rattle.machine.specs.Machine.{object_of};
-ghost use Rattle.machine.specs.Step.Send.{called_through, lent_by};
-ghost use Rattle.machine.specs.WellFormed.{IsFree, IsWellFormed, kind_of};
+ghost use Rattle.machine.specs.{Machine.object_of, Step.Send.{called_through, lent_by}, WellFormed.{IsFree, IsWellFormed, kind_of}};
 
 use base::ObjId;
 use machine::{Calling, Lent};

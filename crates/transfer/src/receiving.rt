@@ -1,8 +1,7 @@
 ghost use Rattle.std.specs.Prelude.{◌≡◌};
 ghost use Rattle.base.specs.declared.ids.ObjId.{ObjId as Id};
-ghost use Rattle.machine.specs.Makes.{Makes};
-ghost use Rattle.machine.specs.Step.Receive.{find_named_reply, receive_of, received, with_reply_ended};
-ghost use Rattle.machine.specs.WellFormed.{IsCaller, IsWellFormed};
+ghost use Rattle.machine.specs.{Makes.Makes, Step.Receive.{find_named_reply, receive_of, received, with_reply_ended}, WellFormed.IsCaller};
+ghost use Rattle.machine.specs.WellFormed.{IsWellFormed};
 ghost use Rattle.objects.specs.Waiting.{WaitsNowhere};
 
 use crate::arrivals::{arrive, message};

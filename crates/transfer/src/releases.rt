@@ -1,6 +1,5 @@
 ghost use Rattle.std.specs.Prelude.{◌≡◌};
-ghost use Rattle.machine.specs.Releasing.{IsInItsQueue};
-ghost use Rattle.machine.specs.Step.Deliver.{answer_through, linked, sent};
+ghost use Rattle.machine.specs.{Releasing.IsInItsQueue, Step.Deliver.{answer_through, linked, sent}};
 
 use base::ObjId;
 use machine::{Calling, Sending};

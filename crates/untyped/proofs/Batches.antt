@@ -1,17 +1,10 @@
 -- Objects that are made one after another are those that are made at once.
-use Rattle.std.proofs.Common.{◌≡◌, ◌≢◌, ℕ, ◌+◌, ◌<◌, List, [], ◌∷◌, Bool, true, false, cond, length, refl, sym, ap, ◌∙◌, arith}
-use Rattle.std.specs.Prelude.{Some}
-use Rattle.std.specs.FinMap.{FinMap, get, get-insert, insert, same_map}
-use Rattle.std.specs.List.{fold}
-use Rattle.base.specs.declared.ids.ObjId.{ObjId}
-use Rattle.base.specs.declared.ids.SlotRef.{SlotRef}
-use Rattle.machine.specs.declared.cap.Cap.{Cap}
-use Rattle.machine.specs.declared.object.MemoryKind.{MemoryKind}
-use Rattle.machine.specs.declared.object.Object.{Object}
-use Rattle.machine.specs.declared.object.Object.TheVariants as o
-use Rattle.machine.specs.Machine.{Machine, id_cmp, same_id, with_cap, with_new, with_object, with_parent}
-use Rattle.machine.specs.Memory.{Source, new_cap, new_object, new_size, placed, taken, with_all_made, with_made, all_taken}
-use Rattle.machine.proofs.LookUps.{id_apart, id_total, one_id}
+use Rattle.std.{specs.{FinMap.{FinMap, get, get-insert, insert, same_map}, List.fold, Prelude.Some}, proofs.Common.{[], ℕ, ◌+◌, ◌<◌, ◌∙◌}}
+use Rattle.std.proofs.Common.{◌∷◌, ◌≡◌, ◌≢◌, Bool, List, ap, arith, cond, false, length, refl, sym, true}
+use Rattle.base.specs.declared.ids.{ObjId.ObjId, SlotRef.SlotRef}
+use Rattle.machine.specs.{declared.{cap.Cap.Cap, object.{MemoryKind.MemoryKind, Object.{Object, Object as o}}}, Machine.{Machine, id_cmp}}
+use Rattle.machine.specs.{Machine.{same_id, with_cap, with_new, with_object, with_parent}, Memory.{Source, all_taken, new_cap, new_object}}
+use Rattle.machine.{specs.Memory.{new_size, placed, taken, with_all_made, with_made}, proofs.LookUps.{id_apart, id_total, one_id}}
 use Rattle.untyped.specs.Batch.{new_objects, with_batch, with_caps}
 
 abbrev Content : Type 0

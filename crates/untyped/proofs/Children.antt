@@ -1,20 +1,11 @@
 -- A slot has a child exactly where it is the parent of some slot.
-use Rattle.std.proofs.Common.{◌≡◌, Bool, true, false, cond, List, [], ◌∷◌, T, refl, sym, ap, subst, ◌∙◌}
-use Rattle.std.specs.Prelude.{Some, None, ◌||◌, ◌&&◌, ◌≢◌}
-use Rattle.std.specs.List.{list_any}
-use Rattle.std.specs.Ordering.{is_lt, is_eq}
-use Rattle.std.specs.declared.cmp.Ordering.{Ordering}
-use Rattle.std.specs.declared.cmp.Ordering.TheVariants.{Less, Equal, Greater}
-use Rattle.std.specs.FinMap.{entries, entries_sorted, get-entries, find, is_sorted}
-use Rattle.std.specs.FinMap.Entries.{below_all}
+use Rattle.std.specs.{declared.cmp.Ordering.{Ordering, TheVariants.{Equal, Greater, Less}}, FinMap.{entries, entries_sorted, find}}
+use Rattle.std.specs.{FinMap.{get-entries, is_sorted, Entries.below_all}, List.list_any, Ordering.{is_eq, is_lt}, Prelude.{◌&&◌, ◌||◌, ◌≢◌}}
+use Rattle.std.{specs.Prelude.{None, Some}, proofs.Common.{[], ◌∙◌, ◌∷◌, ◌≡◌, Bool, List, T, ap, cond, false, refl, subst, sym, true}}
 use Rattle.std.proofs.lemmas.Bool.{false≢true}
 use Rattle.base.specs.declared.ids.SlotRef.{SlotRef}
-use Rattle.machine.specs.Machine.{Machine, parent_of, same_slot, slot_cmp}
-use Rattle.machine.specs.Memory.{Source, begun, has_child}
-use Rattle.machine.proofs.Exchange.{slot_itself}
-use Rattle.machine.proofs.FiniteLemmas.{same_from_tie}
-use Rattle.machine.proofs.LookUps.{slot_total, slot_apart}
-use Rattle.machine.proofs.RetypeFormed.{childless}
+use Rattle.machine.specs.{Machine.{Machine, parent_of, same_slot, slot_cmp}, Memory.{Source, begun, has_child}}
+use Rattle.machine.proofs.{Exchange.slot_itself, FiniteLemmas.same_from_tie, LookUps.{slot_apart, slot_total}, RetypeFormed.childless}
 
 abbrev Pairs : Type 0
 Pairs = List (SlotRef × SlotRef)

@@ -1,28 +1,15 @@
 -- What was there stays there when objects are added and their capabilities put into slots; and so a whole retype is made.
-use Rattle.std.proofs.Common.{◌≡◌, ℕ, zero, suc, ◌+◌, ◌<◌, ◌≤◌, Bool, true, false, List, [], ◌∷◌, length, refl, sym, ap, ◌∙◌, arith, cond, inl, inr}
-use Rattle.std.proofs.lemmas.Bool.{cases_eq}
-use Rattle.std.specs.Prelude.{Some, is_some, IsSome}
-use Rattle.std.specs.List.{fold}
+use Rattle.std.{specs.{List.fold, Prelude.{IsSome, Some, is_some}}, proofs.Common.{[], ℕ, ◌+◌, ◌<◌, ◌∙◌, ◌∷◌, ◌≡◌, ◌≤◌, Bool, List, ap}}
+use Rattle.std.proofs.{Common.{arith, cond, false, inl, inr, length, refl, suc, sym, true, zero}, lemmas.Bool.cases_eq}
 use Rattle.std.proofs.lemmas.List.FromFn.{length-map-range_with_len}
-use Rattle.base.specs.declared.ids.ObjId.{ObjId}
-use Rattle.base.specs.declared.ids.SlotRef.{SlotRef}
-use Rattle.machine.specs.declared.object.MemoryKind.{MemoryKind}
-use Rattle.machine.specs.declared.object.Object.{Object}
-use Rattle.machine.specs.declared.object.Object.TheVariants as o
-use Rattle.machine.specs.declared.object.Untyped.{Untyped}
-use Rattle.machine.specs.Changes.{with_watermark}
+use Rattle.base.specs.declared.ids.{ObjId.ObjId, SlotRef.SlotRef}
+use Rattle.machine.specs.{declared.object.{MemoryKind.MemoryKind, Object.{Object, Object as o}, Untyped.Untyped}, Changes.with_watermark}
 use Rattle.machine.specs.Machine.{Machine, cap_of, object_of, parent_of, same_id, with_cap, with_new, with_object, with_parent}
-use Rattle.machine.specs.Memory.{Source, all_taken, new_cap, new_size, taken, with_all_made}
-use Rattle.machine.specs.Step.Retype.{window}
-use Rattle.machine.specs.Tree.{IsAlone}
-use Rattle.machine.proofs.GoneLemmas.{id_itself}
-use Rattle.machine.proofs.LookUps.{cap_of-with_new, object_of-with_cap, object_of-with_new, object_of-with_parent, one_id, parent_of-with_new}
-use Rattle.untyped.specs.Batch.{new_objects, with_batch, with_caps}
-use Rattle.untyped.specs.Making.{CanBeMade, with_making}
-use Rattle.untyped.specs.Shown.{source_shown}
-use Rattle.untyped.specs.Windows.{AreThere, IsFree, slots_of}
-use Rattle.untyped.specs.declared.making.Making.{Making}
-use Rattle.untyped.specs.declared.filling.Window.{Window}
+use Rattle.machine.specs.{Memory.{Source, all_taken, new_cap, new_size, taken, with_all_made}, Step.Retype.window, Tree.IsAlone}
+use Rattle.machine.proofs.{GoneLemmas.id_itself, LookUps.{cap_of-with_new, object_of-with_cap, object_of-with_new, object_of-with_parent}}
+use Rattle.machine.proofs.LookUps.{one_id, parent_of-with_new}
+use Rattle.untyped.specs.{declared.{filling.Window.Window, making.Making.Making}, Batch.{new_objects, with_batch, with_caps}}
+use Rattle.untyped.specs.{Making.{CanBeMade, with_making}, Shown.source_shown, Windows.{AreThere, IsFree, slots_of}}
 use Rattle.untyped.proofs.Batches.{made_at_once}
 
 -- new objects

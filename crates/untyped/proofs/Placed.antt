@@ -1,11 +1,7 @@
 -- New objects that are written one after another.
-use Rattle.std.proofs.Common.{◌≡◌, ℕ, suc, ◌+◌, ◌<◌, List, [], ◌∷◌, ◌++◌, length, set, take, ap, ◌∙◌}
-use Rattle.std.specs.Int.{next_multiple_of}
+use Rattle.std.{specs.Int.next_multiple_of, proofs.Common.{[], ℕ, ◌++◌, ◌+◌, ◌<◌, ◌∙◌, ◌∷◌, ◌≡◌, List, ap, length, set, suc, take}}
 use Rattle.std.proofs.lemmas.List.{append_assoc, take_more_set}
-use Rattle.machine.specs.declared.object.MemoryKind.{MemoryKind}
-use Rattle.machine.specs.declared.object.Object.{Object}
-use Rattle.machine.specs.declared.object.Untyped.{Untyped}
-use Rattle.machine.specs.Memory.{new_object, new_size}
+use Rattle.machine.specs.{declared.object.{MemoryKind.MemoryKind, Object.Object, Untyped.Untyped}, Memory.{new_object, new_size}}
 use Rattle.untyped.specs.Batch.{new_objects}
 
 -- one more object is written, and the rest follow

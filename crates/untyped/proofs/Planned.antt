@@ -1,28 +1,16 @@
 -- What a retype found and checked can be made.
-use Rattle.std.proofs.Common.{◌≡◌, ℕ, ◌+◌, ◌*◌, ◌<◌, ◌≤◌, ◌^◌, Bool, true, false, refl, sym, ap, subst, ◌∙◌, arith, leb-true}
-use Rattle.std.specs.Prelude.{Option, Some, None, Ok, Err, IsSome, nat_le}
-use Rattle.base.specs.declared.ids.ObjId.{ObjId}
-use Rattle.base.specs.declared.ids.SlotRef.{SlotRef}
-use Rattle.base.specs.declared.limits.TheConstants.{ADDRESS_END, MAX_MADE, MAX_PRESENT, MAX_RADIX, MAX_SLOTS, MAX_THREADS, OBJECT_NUMBERS}
-use Rattle.base.specs.declared.refusal.Cause.TheVariants.{RangeError, TooMany}
-use Rattle.machine.specs.declared.cap.Cap.{Cap}
-use Rattle.machine.specs.declared.object.Object.{Object}
-use Rattle.machine.specs.declared.object.Object.TheVariants as o
-use Rattle.machine.specs.Counts.{objects_in, slots_in, threads_in}
-use Rattle.machine.specs.Lookup.{Level}
-use Rattle.machine.specs.Machine.{Machine, cap_of, object_of}
-use Rattle.machine.specs.Memory.{Source, begun, has_child, new_object}
-use Rattle.machine.specs.Objects.{end_of, slot_count, thread_count}
-use Rattle.machine.specs.Step.Retype.{a_few, all_vacant, find_taker, find_untyped, in_node, sized, window, within_limits}
-use Rattle.machine.specs.Tree.{IsAlone}
-use Rattle.machine.specs.WellFormed.{IsWellFormed}
-use Rattle.machine.proofs.LedSlots.{IsNode, node_at, node_slot}
-use Rattle.machine.proofs.RetypeFormed.{each_vacant}
-use Rattle.machine.proofs.RetypeRow.{FindsUntyped, is_in_node, taker_found, untyped_found}
+use Rattle.std.{specs.Prelude.{Err, IsSome, None, Ok, Option, Some, nat_le}, proofs.Common.{ℕ, ◌*◌, ◌+◌, ◌<◌, ◌^◌, ◌∙◌, ◌≡◌, ◌≤◌, Bool, ap}}
+use Rattle.std.proofs.Common.{arith, false, leb-true, refl, subst, sym, true}
+use Rattle.base.specs.declared.{ids.{ObjId.ObjId, SlotRef.SlotRef}, limits.TheConstants.{ADDRESS_END, MAX_MADE, MAX_PRESENT, MAX_RADIX}}
+use Rattle.base.specs.declared.{limits.TheConstants.{MAX_SLOTS, MAX_THREADS, OBJECT_NUMBERS}, refusal.Cause.TheVariants.RangeError}
+use Rattle.base.specs.declared.refusal.Cause.TheVariants.{TooMany}
+use Rattle.machine.specs.{declared.{cap.Cap.Cap, object.Object.{Object, Object as o}}, Counts.{objects_in, slots_in, threads_in}}
+use Rattle.machine.specs.{Lookup.Level, Machine.{Machine, cap_of, object_of}, Memory.{Source, begun, has_child, new_object}, Objects.end_of}
+use Rattle.machine.specs.{Objects.{slot_count, thread_count}, Step.Retype.{a_few, all_vacant, find_taker, find_untyped, in_node, sized}}
+use Rattle.machine.{specs.{Step.Retype.{window, within_limits}, Tree.IsAlone, WellFormed.IsWellFormed}, proofs.LedSlots.{IsNode, node_at}}
+use Rattle.machine.proofs.{LedSlots.node_slot, RetypeFormed.each_vacant, RetypeRow.{FindsUntyped, is_in_node, taker_found, untyped_found}}
 use Rattle.machine.proofs.SlotRows.{empty_alone}
-use Rattle.untyped.specs.Making.{CanBeMade}
-use Rattle.untyped.specs.Shown.{source_shown}
-use Rattle.untyped.specs.declared.making.Making.{Making}
+use Rattle.untyped.specs.{declared.making.Making.Making, Making.CanBeMade, Shown.source_shown}
 
 -- where the making begins in memory that was found: there, but for the watermark, and within an object's range
 pub record IsBegun (found source : Source) : Type 0 where

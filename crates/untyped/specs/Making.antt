@@ -1,19 +1,10 @@
 -- What a retype is about to make, once its conditions are met, and the machine after it.
-use Rattle.std.specs.Prelude.{◌≡◌, ℕ, ◌+◌, ◌<◌, ◌≤◌, ◌^◌, Option, Some, None, Result, Ok, Err, IsSome}
-use Rattle.base.specs.declared.limits.TheConstants.{ADDRESS_END, MAX_MADE, OBJECT_NUMBERS}
-use Rattle.base.specs.declared.refusal.Cause.{Cause}
-use Rattle.base.specs.declared.refusal.Refusal.{Refusal}
+use Rattle.std.specs.Prelude.{ℕ, ◌+◌, ◌<◌, ◌^◌, ◌≡◌, ◌≤◌, Err, IsSome, None, Ok, Option, Result, Some}
+use Rattle.base.specs.declared.{limits.TheConstants.{ADDRESS_END, MAX_MADE, OBJECT_NUMBERS}, refusal.{Cause.Cause, Refusal.Refusal}}
 use Rattle.base.specs.Refusals.{refusal_of}
-use Rattle.machine.specs.declared.call.Answer.TheVariants.{Count}
-use Rattle.machine.specs.declared.call.Made.{Made}
-use Rattle.machine.specs.declared.call.Made.TheVariants.{Done}
-use Rattle.machine.specs.declared.object.Object.TheVariants as o
-use Rattle.machine.specs.Machine.{Machine, cap_of, object_of}
-use Rattle.machine.specs.Memory.{with_all_made}
-use Rattle.machine.specs.Step.Retype.{sized}
-use Rattle.untyped.specs.declared.making.Making.{Making}
-use Rattle.untyped.specs.Shown.{source_shown}
-use Rattle.untyped.specs.Windows.{IsFree, slots_of}
+use Rattle.machine.specs.declared.{call.{Answer.TheVariants.Count, Made.{Made, TheVariants.Done}}, object.Object.Object as o}
+use Rattle.machine.specs.{Machine.{Machine, cap_of, object_of}, Memory.with_all_made, Step.Retype.sized}
+use Rattle.untyped.specs.{declared.making.Making.Making, Shown.source_shown, Windows.{IsFree, slots_of}}
 
 -- the machine with the objects and their capabilities
 abbrev pub with_making : Machine → Making → Machine

@@ -1,10 +1,8 @@
 -- What this crate's values stand for in the definition of a retype.
-use Rattle.std.specs.Prelude.{Result, Ok, Err}
+use Rattle.std.specs.Prelude.{Err, Ok, Result}
 use Rattle.base.specs.declared.refusal.Cause.{Cause}
-use Rattle.cspace.specs.declared.level.Level.{Level as Node}
-use Rattle.cspace.specs.Strings.{level_shown}
-use Rattle.machine.specs.Lookup.{Level}
-use Rattle.machine.specs.Memory.{Source}
+use Rattle.machine.specs.{Lookup.Level, Memory.Source}
+use Rattle.cspace.specs.{declared.level.Level.Level as Node, Strings.level_shown}
 use Rattle.untyped.specs.declared.finding.Source.{Source as Found}
 
 abbrev pub source_shown : Found → Source

@@ -1,9 +1,7 @@
 -- Slots of a CNode that take the capabilities of new objects.
-use Rattle.std.specs.Prelude.{◌≡◌, ℕ, ◌+◌, ◌<◌, ◌≤◌, List, IsSome, IsTrue, None}
+use Rattle.std.specs.Prelude.{ℕ, ◌+◌, ◌<◌, ◌≡◌, ◌≤◌, IsSome, IsTrue, List, None}
 use Rattle.base.specs.declared.ids.SlotRef.{SlotRef}
-use Rattle.machine.specs.Machine.{Machine, cap_of, has_slot, object_of}
-use Rattle.machine.specs.Step.Retype.{window}
-use Rattle.machine.specs.Tree.{IsAlone}
+use Rattle.machine.specs.{Machine.{Machine, cap_of, has_slot, object_of}, Step.Retype.window, Tree.IsAlone}
 use Rattle.untyped.specs.declared.filling.Window.{Window}
 
 abbrev pub slots_of : Window → List SlotRef

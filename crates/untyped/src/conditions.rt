@@ -1,4 +1,4 @@
-ghost use Rattle.std.specs.Prelude.{◌≡◌, ◌+◌, ◌<◌, ◌≤◌, ◌^◌, IfOk};
+ghost use Rattle.std.specs.Prelude.{◌+◌, ◌<◌, ◌^◌, ◌≡◌, ◌≤◌, IfOk};
 ghost use Rattle.base.specs.declared.limits.TheConstants.{MAX_RADIX};
 ghost use Rattle.machine.specs.Step.Retype.{a_few, all_vacant, between, in_node, sized, window};
 

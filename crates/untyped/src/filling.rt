@@ -1,9 +1,7 @@
-ghost use Rattle.std.specs.Prelude.{◌≡◌, ◌+◌, ◌<◌, ◌≤◌, ◌^◌, IsSome, IsTrue, None};
+ghost use Rattle.std.specs.Prelude.{◌+◌, ◌<◌, ◌^◌, ◌≡◌, ◌≤◌, IsSome, IsTrue, None};
 ghost use Rattle.base.specs.declared.limits.TheConstants.{OBJECT_NUMBERS};
-ghost use Rattle.machine.specs.Machine.{cap_of, has_slot, object_of, with_cap, with_parent};
-ghost use Rattle.machine.specs.Tree.{IsAlone};
-ghost use Rattle.untyped.specs.Batch.{with_caps};
-ghost use Rattle.untyped.specs.Windows.{AreThere, IsFree, slots_of};
+ghost use Rattle.machine.specs.{Machine.{cap_of, has_slot, object_of, with_cap, with_parent}, Tree.IsAlone};
+ghost use Rattle.untyped.specs.{Batch.with_caps, Windows.{AreThere, IsFree, slots_of}};
 
 use crate::making::new_cap;
 use base::{ObjId, SlotRef};

@@ -1,6 +1,5 @@
 ghost use Rattle.std.specs.Prelude.{◌≡◌, Ok};
-ghost use Rattle.machine.specs.Memory.{new_cap, new_detail, new_object};
-ghost use Rattle.machine.specs.Step.Retype.{sized};
+ghost use Rattle.machine.specs.{Memory.{new_cap, new_detail, new_object}, Step.Retype.sized};
 
 use crate::filling::Window;
 use crate::finding::Source;

@@ -1,7 +1,6 @@
-ghost use Rattle.std.specs.Prelude.{◌≡◌, ◌≤◌, length, Ok};
+ghost use Rattle.std.specs.Prelude.{◌≡◌, ◌≤◌, Ok, length};
 ghost use Rattle.base.specs.declared.limits.TheConstants.{ADDRESS_END, MAX_MADE};
-ghost use Rattle.machine.specs.Memory.{all_taken, new_size};
-ghost use Rattle.machine.specs.Step.Retype.{sized};
+ghost use Rattle.machine.specs.{Memory.{all_taken, new_size}, Step.Retype.sized};
 ghost use Rattle.untyped.specs.Batch.{new_objects};
 
 use crate::making::new_object;

@@ -1,7 +1,5 @@
 ghost use Rattle.std.specs.Prelude.{◌≡◌, IfOk, OnErr, OnOk};
-ghost use Rattle.machine.specs.Makes.{MakesWithMemory};
-ghost use Rattle.machine.specs.Step.Retype.{retype_of};
-ghost use Rattle.machine.specs.WellFormed.{IsWellFormed};
+ghost use Rattle.machine.specs.{Makes.MakesWithMemory, Step.Retype.retype_of, WellFormed.IsWellFormed};
 ghost use Rattle.untyped.specs.Making.{CanBeMade, planned, refusal_in, with_making};
 
 use crate::conditions::{a_few, all_vacant, in_node, sized};

@@ -1,20 +1,10 @@
 -- Where the bounds are kept, labels are kept apart: an object has one label, before a step or, if it is made, after it.
-use Rattle.std.proofs.Common.{◌≡◌, ℕ, ◌⊎◌, inl, inr, Some, sym, subst, ◌∙◌}
-use Rattle.std.proofs.lemmas.Option.{none-some, same_Some}
+use Rattle.std.proofs.{Common.{ℕ, ◌∙◌, ◌≡◌, ◌⊎◌, Some, inl, inr, subst, sym}, lemmas.Option.{none-some, same_Some}}
 use Rattle.base.specs.declared.ids.ObjId.{ObjId}
-use Rattle.machine.specs.declared.call.Event.{Event}
-use Rattle.machine.specs.Authority.{label_of}
-use Rattle.machine.specs.Layout.{Layout}
-use Rattle.machine.specs.Machine.{Machine}
-use Rattle.policy.specs.Domain.{EdgeTest}
-use Rattle.policy.specs.Full.{IsFull}
-use Rattle.policy.specs.Take.{MayTake}
-use Rattle.verdict.specs.Allowed.{IsLabelled}
-use Rattle.verdict.specs.Apart.{NeverChanges, OnlyTakes}
-use Rattle.verdict.specs.Bounded.{IsAffected, IsBoundedStep, MayModifyOrTake}
-use Rattle.verdict.specs.Safe.{KeepsBounds}
-use Rattle.verdict.specs.Shrinks.{IsSame, Shrinks}
-use Rattle.verdict.proofs.ObjectLabels.{labelled_there}
+use Rattle.machine.specs.{declared.call.Event.Event, Authority.label_of, Layout.Layout, Machine.Machine}
+use Rattle.policy.specs.{Domain.EdgeTest, Full.IsFull, Take.MayTake}
+use Rattle.verdict.specs.{Allowed.IsLabelled, Apart.{NeverChanges, OnlyTakes}, Bounded.{IsAffected, IsBoundedStep, MayModifyOrTake}}
+use Rattle.verdict.{specs.{Safe.KeepsBounds, Shrinks.{IsSame, Shrinks}}, proofs.ObjectLabels.labelled_there}
 
 -- two labels of an object are one
 one_label :

@@ -1,27 +1,15 @@
 -- The boot state of a table belongs to it: in particular the label of untyped memory is found by any address in it.
-use Rattle.std.proofs.Common.{◌≡◌, ℕ, ◌≤◌, ◌<◌, Bool, true, false, ◌&&◌, Some, option_map, refl, sym, ap, subst, ◌∙◌, arith, nat_le, nat_lt, slice_get}
-use mathlib.Core.Bool.{false≢true}
-use Rattle.std.proofs.lemmas.Option.{none-some, same_Some}
-use Rattle.std.proofs.lemmas.Bool.Decides.{Decides-ltb}
-use Rattle.std.proofs.lemmas.Bool.{and_from, and_parts, le-leb, leb-true}
+use Rattle.std.proofs.Common.{ℕ, ◌&&◌, ◌<◌, ◌∙◌, ◌≡◌, ◌≤◌, Bool, Some, ap, arith, false, nat_le, nat_lt, option_map, refl, slice_get, subst}
+use Rattle.std.proofs.{Common.{sym, true}, lemmas.{Bool.{and_from, and_parts, le-leb, leb-true, Decides.Decides-ltb}, Option.none-some}}
+use Rattle.std.proofs.lemmas.Option.{same_Some}
 use Rattle.base.specs.declared.ids.ObjId.{ObjId}
-use Rattle.machine.specs.declared.layout.Initial.{Initial}
-use Rattle.machine.specs.declared.object.Object.{Object}
-use Rattle.machine.specs.declared.object.Object.TheVariants as o
-use Rattle.machine.specs.declared.object.Untyped.{Untyped}
-use Rattle.machine.specs.declared.thread.Tcb.{Tcb}
-use Rattle.machine.specs.Authority.{has_memory_at, label_at, lent_of}
-use Rattle.machine.specs.Boot.{IsBoot, bound}
-use Rattle.machine.proofs.Bound.{address-bound, kind-bound}
-use Rattle.machine.specs.Layout.{Layout, bound_context, initial_of}
-use Rattle.machine.specs.Machine.{Machine}
-use Rattle.machine.specs.Objects.{kind_of_object, address_of, end_of}
-use Rattle.table.specs.Placement.{IsApart, Lies}
-use Rattle.table.specs.Rules.{IsBlank, IsLawful}
-use Rattle.verdict.specs.OfTable.{IsOfTable}
-use Rattle.table.proofs.AtBoot.{declared_at, boot_label, initial_lawful, label_declared, rest_lends}
-use Rattle.table.proofs.Lookups.{found_first, pair_at}
-use Rattle.verdict.proofs.Shrinking.{same_tcb}
+use Rattle.machine.specs.declared.{layout.Initial.Initial, object.{Object.{Object, Object as o}, Untyped.Untyped}, thread.Tcb.Tcb}
+use Rattle.machine.specs.{Authority.{has_memory_at, label_at, lent_of}, Boot.{IsBoot, bound}, Layout.{Layout, bound_context, initial_of}}
+use Rattle.machine.{specs.{Machine.Machine, Objects.{address_of, end_of, kind_of_object}}, proofs.Bound.{address-bound, kind-bound}}
+use Rattle.table.{specs.{Placement.{IsApart, Lies}, Rules.{IsBlank, IsLawful}}, proofs.AtBoot.{boot_label, declared_at, initial_lawful}}
+use Rattle.table.proofs.{AtBoot.{label_declared, rest_lends}, Lookups.{found_first, pair_at}}
+use Rattle.verdict.{specs.OfTable.IsOfTable, proofs.Shrinking.same_tcb}
+use mathlib.Core.Bool.{false≢true}
 
 -- untyped memory that has an address
 memory_at :

@@ -1,21 +1,12 @@
 -- The search for a broken binding: each place that breaks A4 stands under a binding of the table, and these rise.
-use Rattle.std.proofs.Common.{◌≡◌, ◌⊎◌, ℕ, ◌<◌, List, [], ◌∷◌, Some, slice_get, get_or, refl, ap, inl, inr, arith}
+use Rattle.std.proofs.Common.{[], ℕ, ◌<◌, ◌∷◌, ◌≡◌, ◌⊎◌, List, Some, ap, arith, get_or, inl, inr, refl, slice_get}
 use Rattle.std.proofs.lemmas.Option.{none-some}
 use Rattle.base.specs.declared.ids.ObjId.{ObjId}
-use Rattle.machine.specs.declared.layout.Binding.{Binding}
-use Rattle.machine.specs.Layout.{Layout, bound_context}
-use Rattle.policy.specs.Domain.{EdgeTest}
-use Rattle.policy.specs.Places.{Begins}
-use Rattle.policy.proofs.Places.{IsBelow, NoneSoFar, Searches}
-use Rattle.table.specs.Rules.{IsLawful}
-use Rattle.verdict.specs.declared.denial.Denial.{Denial}
-use Rattle.verdict.specs.declared.denial.Denial.TheVariants as denial
-use Rattle.verdict.specs.Rules.{a1, a4}
-use Rattle.verdict.specs.Sources.{of_table}
-use Rattle.verdict.specs.Verdict.{Breaks, BreaksUnder, place_of}
-use Rattle.policy.specs.Broken.{broken_place}
-use Rattle.table.proofs.Lookups.{bound_at, pair_at}
-use Rattle.verdict.proofs.RuleOrder.{first_rules}
+use Rattle.machine.specs.{declared.layout.Binding.Binding, Layout.{Layout, bound_context}}
+use Rattle.policy.{specs.{Broken.broken_place, Domain.EdgeTest, Places.Begins}, proofs.Places.{IsBelow, NoneSoFar, Searches}}
+use Rattle.table.{specs.Rules.IsLawful, proofs.Lookups.{bound_at, pair_at}}
+use Rattle.verdict.specs.{declared.denial.Denial.{Denial, Denial as denial}, Rules.{a1, a4}, Sources.of_table, Verdict.Breaks}
+use Rattle.verdict.{specs.Verdict.{BreaksUnder, place_of}, proofs.RuleOrder.first_rules}
 
 abbrev pub of_binding : Binding → List ℕ
 of_binding binding = binding.thread.0 ∷ []

@@ -1,31 +1,18 @@
 -- A table declares the authority that its boot state has: so it breaks a rule where that lies outside the policy, and nowhere else.
-use Rattle.std.proofs.Common.{◌≡◌, ◌↔◌, false, Option, Some, None, option_map, refl, sym, ap, subst, ◌∙◌}
-use Rattle.std.proofs.lemmas.Option.{none-some, same_Some, slice_get_within, get_or_from_slice_get}
-use Rattle.base.specs.declared.ids.ObjId.{ObjId}
-use Rattle.base.specs.declared.kind.Kind.{Kind}
-use Rattle.machine.specs.declared.layout.Initial.{Initial}
-use Rattle.machine.specs.declared.object.Object.{Object}
-use Rattle.machine.specs.declared.object.Object.TheVariants as o
+use Rattle.std.proofs.Common.{◌↔◌, ◌∙◌, ◌≡◌, None, Option, Some, ap, false, option_map, refl, subst, sym}
+use Rattle.std.proofs.lemmas.Option.{get_or_from_slice_get, none-some, same_Some, slice_get_within}
+use Rattle.base.specs.declared.{ids.ObjId.ObjId, kind.Kind.Kind}
+use Rattle.machine.specs.{declared.{layout.Initial.Initial, object.Object.{Object, Object as o}}, Authority.holds_thread, Boot.IsBoot}
 use Rattle.machine.specs.declared.object.ObjectKind.TheVariants as kind
-use Rattle.machine.specs.Authority.{holds_thread}
-use Rattle.machine.specs.Boot.{IsBoot, bound}
-use Rattle.machine.specs.Layout.{Layout, initial_of, bound_context}
-use Rattle.machine.specs.Machine.{Machine}
-use Rattle.machine.specs.Objects.{kind_of_object}
-use Rattle.policy.specs.Closed.{IsClosed}
-use Rattle.policy.specs.Domain.{EdgeTest}
-use Rattle.table.specs.Rules.{IsLawful, IsBindingOf, IsBlank, kind_at}
-use Rattle.verdict.specs.declared.denial.Denial.{Denial}
+use Rattle.machine.specs.{Boot.bound, Layout.{Layout, bound_context, initial_of}, Machine.Machine, Objects.kind_of_object}
+use Rattle.policy.{specs.{Closed.IsClosed, Domain.EdgeTest}, proofs.Unbroken.{closed_if, unbroken}}
+use Rattle.table.{specs.Rules.{IsBindingOf, IsBlank, IsLawful, kind_at}, proofs.AtBoot.{boot_kind, boot_label, initial_lawful, rest_lends}}
+use Rattle.table.proofs.{AtBoot.rest_links, Lookups.bound_at}
+use Rattle.verdict.specs.{declared.denial.Denial.Denial, Confined.IsConfined, Rules.{Exceeds, Excess, binding, capability, excess_place}}
 use Rattle.verdict.specs.declared.denial.Denial.TheVariants as denial
-use Rattle.verdict.specs.Confined.{IsConfined}
-use Rattle.verdict.specs.Rules.{Excess, Exceeds, capability, root, pair, binding, holding, recorded, excess_place}
-use Rattle.verdict.specs.Sources.{Sources, of_table, of_machine, context_in, lends_in, holds_in, keeps_in}
-use Rattle.verdict.specs.Verdict.{Breaks, IsAccepted, IsLeastBroken, IsOutside, excess_of, place_of}
-use Rattle.table.proofs.AtBoot.{boot_kind, boot_label, initial_lawful, rest_lends, rest_links}
-use Rattle.policy.proofs.Unbroken.{closed_if, unbroken}
-use Rattle.table.proofs.Lookups.{bound_at}
-use Rattle.verdict.proofs.Outsides.{confined_within, within_confined}
-use Rattle.verdict.proofs.RuleOrder.{policy_first}
+use Rattle.verdict.specs.{Rules.{holding, pair, recorded, root}, Sources.{Sources, context_in, holds_in, keeps_in, lends_in, of_machine}}
+use Rattle.verdict.specs.{Sources.of_table, Verdict.{Breaks, IsAccepted, IsLeastBroken, IsOutside, excess_of, place_of}}
+use Rattle.verdict.proofs.{Outsides.{confined_within, within_confined}, RuleOrder.policy_first}
 
 -- what a table binds is a thread
 bound_thread : (t : Layout) → IsLawful t → (thread context : ObjId) → bound_context t thread ≡ Some context → kind_at t thread ≡ Some kind.Tcb

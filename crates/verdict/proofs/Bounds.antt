@@ -1,13 +1,9 @@
 -- A bounded step is an allowed one: what may be taken may be cut.
 use Rattle.std.proofs.Common.{ℕ, ◌⊎◌, inl, inr}
 use Rattle.base.specs.declared.ids.ObjId.{ObjId}
-use Rattle.machine.specs.declared.call.Event.{Event}
-use Rattle.machine.specs.Layout.{Layout}
-use Rattle.machine.specs.Machine.{Machine}
-use Rattle.policy.specs.Domain.{EdgeTest}
-use Rattle.policy.proofs.Taking.{take_is_cut}
-use Rattle.verdict.specs.Allowed.{IsAllowedStep, IsModified, MayModify}
-use Rattle.verdict.specs.Bounded.{IsAffected, IsBoundedStep, MayModifyOrTake}
+use Rattle.machine.specs.{declared.call.Event.Event, Layout.Layout, Machine.Machine}
+use Rattle.policy.{specs.Domain.EdgeTest, proofs.Taking.take_is_cut}
+use Rattle.verdict.specs.{Allowed.{IsAllowedStep, IsModified, MayModify}, Bounded.{IsAffected, IsBoundedStep, MayModifyOrTake}}
 use Rattle.verdict.specs.Shrinks.{IsSame}
 
 modify_allowed :

@@ -1,38 +1,17 @@
 -- What goes with capabilities that a label may remove: the holders of the slots that go are one subject with a label from which it
 -- may remove them, so that what vanishes is one edge from there, or is a CNode that was the space of a thread one edge from there.
-use Rattle.std.proofs.Common.{◌≡◌, ◌≢◌, ℕ, ◌<◌, ◌⊎◌, inl, inr, Bool, true, false, Some, option_map, refl, sym, ap, ◌∙◌, arith}
-use Rattle.std.specs.Prelude.{Option}
-use Rattle.std.proofs.lemmas.Bool.{false≢true}
-use Rattle.base.specs.declared.ids.ObjId.{ObjId}
-use Rattle.base.specs.declared.ids.SlotRef.{SlotRef}
-use Rattle.base.specs.declared.kind.Kind.{Kind}
+use Rattle.std.{specs.Prelude.Option, proofs.Common.{ℕ, ◌<◌, ◌∙◌, ◌≡◌, ◌≢◌, ◌⊎◌, Bool, Some, ap, arith, false, inl, inr, option_map, refl}}
+use Rattle.std.proofs.{Common.{sym, true}, lemmas.Bool.false≢true}
+use Rattle.base.specs.{declared.{ids.{ObjId.ObjId, SlotRef.SlotRef}, kind.Kind.Kind}, Kinds.is_structural}
 use Rattle.base.specs.declared.kind.Kind.TheVariants as authority
-use Rattle.base.specs.Kinds.{is_structural}
-use Rattle.machine.specs.declared.cap.Cap.{Cap}
-use Rattle.machine.specs.declared.cap.Detail.{Detail}
-use Rattle.machine.specs.declared.cap.Detail.TheVariants as d
-use Rattle.machine.specs.declared.object.Object.{Object}
-use Rattle.machine.specs.declared.object.Object.TheVariants as o
-use Rattle.machine.specs.declared.object.ObjectKind.{ObjectKind}
+use Rattle.machine.specs.declared.{cap.{Cap.Cap, Detail.{Detail, Detail as d}}, object.Object.{Object, Object as o}}
+use Rattle.machine.specs.{declared.object.ObjectKind.ObjectKind, Authority.{label_of, HasAuthority.{by_cap, by_root}}, Capabilities.gives}
 use Rattle.machine.specs.declared.object.ObjectKind.TheVariants as kind
-use Rattle.machine.specs.Authority.{label_of}
-use Rattle.machine.specs.Authority.HasAuthority.{by_cap, by_root}
-use Rattle.machine.specs.Capabilities.{gives, kind_of_detail}
-use Rattle.machine.specs.Gone.{IsGone, given, gone_of, has_slots, is_holder, with_last}
-use Rattle.machine.specs.Layout.{Layout}
-use Rattle.machine.specs.Machine.{Machine, object_of, cap_of}
-use Rattle.machine.specs.Objects.{kind_of_object, slot_count}
-use Rattle.machine.specs.Removal.{vanishes}
-use Rattle.machine.specs.WellFormed.{kind_of}
+use Rattle.machine.specs.{Capabilities.kind_of_detail, Gone.{IsGone, given, gone_of, has_slots, is_holder, with_last}, Layout.Layout}
+use Rattle.machine.specs.{Machine.{Machine, cap_of, object_of}, Objects.{kind_of_object, slot_count}, Removal.vanishes, WellFormed.kind_of}
 use Rattle.machine.proofs.GoneLemmas.{gone_decided, losing_decided}
-use Rattle.policy.specs.Closed.{IsClosed}
-use Rattle.policy.specs.Cut.IsNear.{stays, along}
-use Rattle.policy.specs.Domain.{EdgeTest}
-use Rattle.policy.specs.Take.{MayRemoveFrom, MayRemoveNear}
-use Rattle.verdict.specs.Invariant.{IsSound}
-use Rattle.verdict.specs.Removals.{MayRemove}
-use Rattle.verdict.proofs.Held.{held_of}
-use Rattle.verdict.proofs.Reach.{target_label}
+use Rattle.policy.specs.{Closed.IsClosed, Cut.IsNear.{along, stays}, Domain.EdgeTest, Take.{MayRemoveFrom, MayRemoveNear}}
+use Rattle.verdict.{specs.{Invariant.IsSound, Removals.MayRemove}, proofs.{Held.held_of, Reach.target_label}}
 
 -- the capability of a CNode or a thread gives control
 

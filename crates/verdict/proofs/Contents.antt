@@ -1,28 +1,14 @@
 -- Contents that a thread, a notification, a reply and a scheduling context may get in a step, and a change within full authority, and
 -- one by which a label takes.
-use Rattle.std.proofs.Common.{◌≡◌, ℕ, ◌+◌, ◌<◌, ◌⊎◌, inl, inr, true, List, Some, refl, sym, ap, ◌∙◌}
-use Rattle.base.specs.declared.ids.ObjId.{ObjId}
-use Rattle.base.specs.declared.kind.Kind.{Kind}
+use Rattle.std.proofs.Common.{ℕ, ◌+◌, ◌<◌, ◌∙◌, ◌≡◌, ◌⊎◌, List, Some, ap, inl, inr, refl, sym, true}
+use Rattle.base.specs.declared.{ids.ObjId.ObjId, kind.Kind.Kind}
 use Rattle.base.specs.declared.kind.Kind.TheVariants as authority
-use Rattle.machine.specs.declared.call.Event.{Event}
-use Rattle.machine.specs.declared.object.Context.{Context}
-use Rattle.machine.specs.declared.object.Notification.{Notification}
-use Rattle.machine.specs.declared.object.Object.{Object}
-use Rattle.machine.specs.declared.object.Object.TheVariants as o
-use Rattle.machine.specs.declared.object.Reply.{Reply}
-use Rattle.machine.specs.declared.thread.Tcb.{Tcb}
-use Rattle.machine.specs.Authority.{holds_thread, label_of, lent_of, links}
-use Rattle.machine.specs.Layout.{Layout}
+use Rattle.machine.specs.declared.{call.Event.Event, object.{Context.Context, Notification.Notification, Object.{Object, Object as o}}}
+use Rattle.machine.specs.{declared.{object.Reply.Reply, thread.Tcb.Tcb}, Authority.{holds_thread, label_of, lent_of, links}, Layout.Layout}
 use Rattle.machine.specs.Machine.{Machine, object_of, queue_of, with_object}
-use Rattle.policy.specs.Domain.{EdgeTest}
-use Rattle.policy.specs.Full.{IsFull}
-use Rattle.policy.specs.Take.{MayTake}
-use Rattle.verdict.specs.Bounded.{MayAffect}
-use Rattle.verdict.specs.Budgets.{MayConfigure}
-use Rattle.verdict.specs.Shrinks.{Lessens}
-use Rattle.verdict.proofs.Losses.{lessened}
-use Rattle.verdict.proofs.Shrinking.{same_context, same_tcb}
-use Rattle.verdict.proofs.TouchKeeps.{Fits}
+use Rattle.policy.specs.{Domain.EdgeTest, Full.IsFull, Take.MayTake}
+use Rattle.verdict.{specs.{Bounded.MayAffect, Budgets.MayConfigure, Shrinks.Lessens}, proofs.{Losses.lessened, Shrinking.same_context}}
+use Rattle.verdict.proofs.{Shrinking.same_tcb, TouchKeeps.Fits}
 
 -- the label has full authority over the object's
 pub full :

@@ -1,48 +1,20 @@
 -- Configure, Bind and Unbind within a caller's authority: its label may use the scheduling context, a thread that comes to run on
 -- it is one that the label controls, and one that runs on it no more only loses it.
-use Rattle.std.proofs.Common.{◌≡◌, ◌≢◌, ℕ, ◌⊎◌, inl, inr, true, Option, Some, None, refl, sym, ap, subst, ◌∙◌}
-use Rattle.std.proofs.lemmas.Option.{none-some, same_Some}
-use Rattle.base.specs.declared.ids.ObjId.{ObjId}
-use Rattle.base.specs.declared.ids.SlotRef.{SlotRef}
-use Rattle.base.specs.declared.kind.Kind.TheVariants as authority
-use Rattle.machine.specs.declared.call.Event.{Event}
-use Rattle.machine.specs.declared.cap.Detail.TheVariants as d
-use Rattle.machine.specs.declared.object.Context.{Context}
-use Rattle.machine.specs.declared.object.Object.TheVariants as o
-use Rattle.machine.specs.declared.thread.Tcb.{Tcb}
-use Rattle.machine.specs.Authority.{label_of}
-use Rattle.machine.specs.Authority.HasAuthority.{by_link}
-use Rattle.machine.specs.Capabilities.{kind_of_detail}
-use Rattle.machine.specs.Layout.{Layout}
-use Rattle.machine.specs.Machine.{Machine, object_of, queue_of, words_of, cap_of, with_object}
-use Rattle.machine.specs.Releasing.{with_unbound}
-use Rattle.machine.specs.Step.Bind.{thread_on, without_thread}
-use Rattle.machine.specs.WellFormed.{IsThread}
-use Rattle.machine.proofs.ContextRow.{BindDone, ConfigureDone, UnbindDone}
-use Rattle.machine.proofs.ContextsFormed.{bound_is, share_is, unbound_is}
-use Rattle.machine.proofs.Finding.{FindsObject, found_kind}
-use Rattle.machine.proofs.FoundObjects.{context_of_kind, tcb_of_kind}
-use Rattle.machine.proofs.Ids.{at_other, one_or_two}
-use Rattle.machine.proofs.LookUps.{cap_of-with_object, object_of-with_object, queue_of-with_object, words_of-with_object}
-use Rattle.machine.proofs.RunsLinks.{runs_bound}
-use Rattle.policy.specs.Closed.{IsClosed}
-use Rattle.policy.specs.Domain.{EdgeTest}
-use Rattle.policy.specs.Full.IsFull.{modifies}
-use Rattle.policy.specs.Take.{MayTake}
-use Rattle.policy.specs.Take.MayTake.{unbinds}
-use Rattle.verdict.specs.Budgets.{MayConfigure, configures}
-use Rattle.verdict.specs.Invariant.{IsHeld, IsSound}
-use Rattle.verdict.specs.Shrinks.Lessens.{released}
-use Rattle.verdict.specs.Shrinks.Stops.{goes_on}
-use Rattle.verdict.proofs.Contents.{context_fits, full, loses_links}
-use Rattle.verdict.proofs.ContextTouches.{linked_keeps, runs_on, thread_keeps}
-use Rattle.verdict.proofs.Held.{held_of}
-use Rattle.verdict.proofs.Keeps.{Acts, Keeps, unchanged}
-use Rattle.verdict.proofs.MessageParts.{IsReached, reached, thread_label}
-use Rattle.verdict.proofs.SetKeeps.{set_keeps}
-use Rattle.verdict.proofs.Shrinking.{same_context}
-use Rattle.verdict.proofs.SlotKeeps.{IsOpened}
-use Rattle.verdict.proofs.ThreadKeeps.{may_control, to_thread}
+use Rattle.std.proofs.{Common.{ℕ, ◌∙◌, ◌≡◌, ◌≢◌, ◌⊎◌, None, Option, Some, ap, inl, inr, refl, subst, sym, true}, lemmas.Option.none-some}
+use Rattle.std.proofs.lemmas.Option.{same_Some}
+use Rattle.base.specs.declared.{ids.{ObjId.ObjId, SlotRef.SlotRef}, kind.Kind.Kind as authority}
+use Rattle.machine.specs.declared.{call.Event.Event, cap.Detail.Detail as d, object.{Context.Context, Object.Object as o}, thread.Tcb.Tcb}
+use Rattle.machine.specs.{Authority.{label_of, HasAuthority.by_link}, Capabilities.kind_of_detail, Layout.Layout, Machine.{Machine, cap_of}}
+use Rattle.machine.specs.{Machine.{object_of, queue_of, with_object, words_of}, Releasing.with_unbound, Step.Bind.thread_on}
+use Rattle.machine.{specs.{Step.Bind.without_thread, WellFormed.IsThread}, proofs.ContextRow.{BindDone, ConfigureDone, UnbindDone}}
+use Rattle.machine.proofs.{ContextsFormed.{bound_is, share_is, unbound_is}, Finding.{FindsObject, found_kind}, FoundObjects.context_of_kind}
+use Rattle.machine.proofs.{FoundObjects.tcb_of_kind, Ids.{at_other, one_or_two}, LookUps.{cap_of-with_object, object_of-with_object}}
+use Rattle.machine.proofs.{LookUps.{queue_of-with_object, words_of-with_object}, RunsLinks.runs_bound}
+use Rattle.policy.specs.{Closed.IsClosed, Domain.EdgeTest, Full.IsFull.modifies, Take.{MayTake, MayTake.unbinds}}
+use Rattle.verdict.specs.{Budgets.{MayConfigure, configures}, Invariant.{IsHeld, IsSound}, Shrinks.{Lessens.released, Stops.goes_on}}
+use Rattle.verdict.proofs.{Contents.{context_fits, full, loses_links}, ContextTouches.{linked_keeps, runs_on, thread_keeps}, Held.held_of}
+use Rattle.verdict.proofs.{Keeps.{Acts, Keeps, unchanged}, MessageParts.{IsReached, reached, thread_label}, SetKeeps.set_keeps}
+use Rattle.verdict.proofs.{Shrinking.same_context, SlotKeeps.IsOpened, ThreadKeeps.{may_control, to_thread}}
 
 module _
     (t : Layout) (allowed : EdgeTest) (event : Event) (a : ℕ) (m : Machine) (sound : IsSound t allowed m)

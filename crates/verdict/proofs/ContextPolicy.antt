@@ -1,14 +1,12 @@
 -- A policy of the labels 0 and 1 that obeys every rule but that who may bind a context may run on it: the label 0 has every edge to
 -- itself, and context to 1.
-use Rattle.std.proofs.Common.{◌≡◌, ◌≢◌, ℕ, ◌<◌, Bool, true, false, ◌==◌, ◌&&◌, ◌||◌, inl, inr, refl, sym, ap, ◌∙◌, arith}
-use Rattle.std.proofs.lemmas.Bool.{false≢true, and_parts, eqb-true}
-use Rattle.base.specs.declared.kind.Kind.{Kind}
-use Rattle.base.specs.declared.kind.Kind.TheVariants.{Call, Context, Control, Derive, Grant, Holds, Receive, Reply, Runs, Space}
+use Rattle.std.proofs.Common.{ℕ, ◌&&◌, ◌<◌, ◌==◌, ◌||◌, ◌∙◌, ◌≡◌, ◌≢◌, Bool, ap, arith, false, inl, inr, refl, sym, true}
+use Rattle.std.proofs.lemmas.Bool.{and_parts, eqb-true, false≢true}
+use Rattle.base.specs.declared.kind.Kind.{Kind, TheVariants.{Call, Context, Control, Derive, Grant, Holds, Receive, Reply, Runs, Space}}
 use Rattle.base.specs.declared.label.TheConstants.Label as Label
-use Rattle.policy.specs.Closed.{ComesToDerive, ComesToHold, MayBeGranted, granted, derived, server, caller}
-use Rattle.policy.specs.Domain.{EdgeTest, IsInDomain}
-use Rattle.policy.specs.Needed.{Rule, subjects_agree, control_gives_all, grant_shares, derive_in_domain, derive_by_grant, context_runs}
-use Rattle.policy.specs.Needed.{reply_holds, lent_runs, Obeys}
+use Rattle.policy.specs.{Closed.{ComesToDerive, ComesToHold, MayBeGranted, caller, derived, granted, server}, Domain.{EdgeTest, IsInDomain}}
+use Rattle.policy.specs.Needed.{Obeys, Rule, context_runs, control_gives_all, derive_by_grant, derive_in_domain, grant_shares, lent_runs}
+use Rattle.policy.specs.Needed.{reply_holds, subjects_agree}
 use Rattle.verdict.proofs.TestPolicies.{IsWithin}
 
 -- the kind of the edge to 1

@@ -1,32 +1,17 @@
 -- A system whose policy lacks that who may bind a context may run on it: a thread with a CNode, which holds capabilities for a context
 -- of another label and for a second thread.
-use Rattle.std.proofs.Common.{◌≡◌, true, [], ◌∷◌, None, refl, arith, lit<, lit≤}
-use Rattle.std.proofs.lemmas.Bool.{false≢true}
-use Rattle.std.specs.Prelude.{codes}
-use Rattle.std.specs.List.{All}
-use Rattle.std.proofs.lemmas.List.Elements.{All-from_recursion}
-use Rattle.std.proofs.lemmas.List.Sums.{AllPass-from_list_all}
-use Rattle.base.specs.declared.ids.ObjId.{ObjId}
-use Rattle.base.specs.declared.kind.Kind.{Kind}
-use Rattle.base.specs.declared.kind.Kind.TheVariants as authority
-use Rattle.std.specs.Prelude.{Option}
-use Rattle.machine.specs.declared.cap.Cap.{Cap}
+use Rattle.std.{specs.{List.All, Prelude.{Option, codes}}, proofs.Common.{[], ◌∷◌, ◌≡◌, None, arith, lit<, lit≤, refl, true}}
+use Rattle.std.proofs.lemmas.{Bool.false≢true, List.{Elements.All-from_recursion, Sums.AllPass-from_list_all}}
+use Rattle.base.specs.declared.{ids.ObjId.ObjId, kind.Kind.{Kind, Kind as authority}}
+use Rattle.machine.specs.{declared.{cap.Cap.Cap, object.Object.{Object, Object as o}}, Boot.IsBoot, Capabilities.gives, Layout.Layout}
 use Rattle.machine.specs.declared.cap.Detail.TheVariants as d
 use Rattle.machine.specs.declared.layout.Version.TheVariants as version
-use Rattle.machine.specs.declared.object.Object.{Object}
-use Rattle.machine.specs.declared.object.Object.TheVariants as o
 use Rattle.machine.specs.declared.thread.Inbox.TheVariants as inbox
 use Rattle.machine.specs.declared.thread.RunState.TheVariants as state
-use Rattle.machine.specs.Boot.{IsBoot}
-use Rattle.machine.specs.Capabilities.{gives}
-use Rattle.machine.specs.Layout.{Layout, initial_of, initial_parent, declared_label}
-use Rattle.machine.specs.Machine.{Machine}
-use Rattle.table.specs.Rules.{IsLawful, IsObjectOf, IsCapOf, IsBindingOf, kind_at}
-use Rattle.table.specs.Tree.{is_original, source_of}
-use Rattle.verdict.specs.Confined.{IsConfined}
-use Rattle.verdict.proofs.ContextPolicy.{has}
-use Rattle.verdict.proofs.LineByLine.{IsBindingWithin, IsCapWithin, confined_by_lines, control_line, root_line}
-use Rattle.verdict.proofs.SmallSystem.{id, slot, labelled, filled, node, thread, context, space_cap}
+use Rattle.machine.specs.{Layout.{declared_label, initial_of, initial_parent}, Machine.Machine}
+use Rattle.table.specs.{Rules.{IsBindingOf, IsCapOf, IsLawful, IsObjectOf, kind_at}, Tree.{is_original, source_of}}
+use Rattle.verdict.{specs.Confined.IsConfined, proofs.{ContextPolicy.has, LineByLine.{IsBindingWithin, IsCapWithin, confined_by_lines}}}
+use Rattle.verdict.proofs.{LineByLine.{control_line, root_line}, SmallSystem.{context, filled, id, labelled, node, slot, space_cap, thread}}
 use Rattle.verdict.proofs.TestTables.{lawful_by_tests, names_differ, pairs_test, tests}
 
 -- a context of label 1 that no thread runs on, at first

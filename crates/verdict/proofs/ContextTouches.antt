@@ -1,33 +1,17 @@
 -- The changes by which a thread and a scheduling context are linked, and are so no more, keep what a part of a call keeps, where the
 -- labels of the two allow it; and so does a context that goes over from a thread to another.
-use Rattle.std.proofs.Common.{◌≡◌, ◌≢◌, ℕ, ◌⊎◌, inl, inr, true, Option, Some, None, refl, sym, ap, subst, ◌∙◌}
-use Rattle.std.proofs.lemmas.Option.{none-some, same_Some}
-use Rattle.base.specs.declared.ids.ObjId.{ObjId}
-use Rattle.base.specs.declared.kind.Kind.{Kind}
+use Rattle.std.proofs.{Common.{ℕ, ◌∙◌, ◌≡◌, ◌≢◌, ◌⊎◌, None, Option, Some, ap, inl, inr, refl, subst, sym, true}, lemmas.Option.none-some}
+use Rattle.std.proofs.lemmas.Option.{same_Some}
+use Rattle.base.specs.declared.{ids.ObjId.ObjId, kind.Kind.Kind}
 use Rattle.base.specs.declared.kind.Kind.TheVariants as authority
-use Rattle.machine.specs.declared.call.Event.{Event}
-use Rattle.machine.specs.declared.object.Context.{Context}
-use Rattle.machine.specs.declared.object.Object.{Object}
-use Rattle.machine.specs.declared.object.Object.TheVariants as o
-use Rattle.machine.specs.declared.thread.Tcb.{Tcb}
-use Rattle.machine.specs.Authority.{label_of, links}
-use Rattle.machine.specs.Layout.{Layout}
-use Rattle.machine.specs.Machine.{Machine, object_of, with_object}
-use Rattle.machine.specs.Releasing.{with_unbound}
-use Rattle.machine.specs.Step.Bind.{context_under, with_bound, with_handed}
-use Rattle.machine.specs.WellFormed.{IsThread}
-use Rattle.machine.proofs.ContextsFormed.{bound_is, unbound_is}
-use Rattle.machine.proofs.Ids.{at_itself, at_other}
-use Rattle.machine.proofs.LookUps.{object_of-with_object}
-use Rattle.machine.proofs.RunsLinks.{runs_by, runs_lent}
+use Rattle.machine.specs.declared.{call.Event.Event, object.{Context.Context, Object.{Object, Object as o}}, thread.Tcb.Tcb}
+use Rattle.machine.specs.{Authority.{label_of, links}, Layout.Layout, Machine.{Machine, object_of, with_object}, Releasing.with_unbound}
+use Rattle.machine.{specs.{Step.Bind.{context_under, with_bound, with_handed}, WellFormed.IsThread}, proofs.ContextsFormed.bound_is}
+use Rattle.machine.proofs.{ContextsFormed.unbound_is, Ids.{at_itself, at_other}, LookUps.object_of-with_object, RunsLinks.runs_by}
+use Rattle.machine.proofs.RunsLinks.{runs_lent}
 use Rattle.policy.specs.Domain.{EdgeTest}
-use Rattle.verdict.specs.Bounded.{MayAffect}
-use Rattle.verdict.specs.Invariant.{IsHeld, IsSound}
-use Rattle.verdict.proofs.Contents.{context_fits, full, tcb_fits}
-use Rattle.verdict.proofs.Held.{held_of}
-use Rattle.verdict.proofs.Keeps.{Keeps, keeps_keeps, unchanged}
-use Rattle.verdict.proofs.ObjectLabels.{label_stays, same_label}
-use Rattle.verdict.proofs.SetKeeps.{set_keeps}
+use Rattle.verdict.{specs.{Bounded.MayAffect, Invariant.{IsHeld, IsSound}}, proofs.{Contents.{context_fits, full, tcb_fits}, Held.held_of}}
+use Rattle.verdict.proofs.{Keeps.{Keeps, keeps_keeps, unchanged}, ObjectLabels.{label_stays, same_label}, SetKeeps.set_keeps}
 use Rattle.verdict.proofs.SlotKeeps.{IsOpened}
 
 -- the contents of a thread with another context, and of a context with another thread

@@ -1,32 +1,18 @@
 -- The system whose policy lacks that who may bind a context may run on it isn't safe: its thread binds the context of another label to a
 -- second thread.
-use Rattle.std.proofs.Common.{◌≡◌, [], ◌∷◌, Some, None, Ok, refl, ◌∙◌}
+use Rattle.std.proofs.Common.{[], ◌∙◌, ◌∷◌, ◌≡◌, None, Ok, Some, refl}
 use Rattle.base.specs.declared.kind.Kind.TheVariants.{Runs}
-use Rattle.machine.specs.declared.call.Answer.TheVariants.{Nothing}
-use Rattle.machine.specs.declared.call.Call.TheVariants.{Bind}
-use Rattle.machine.specs.declared.call.Event.{Event}
-use Rattle.machine.specs.declared.call.Made.TheVariants.{Done}
-use Rattle.machine.specs.declared.call.Outcome.TheVariants as outcome
-use Rattle.machine.specs.Authority.{HasAuthority, label_of}
-use Rattle.machine.specs.Authority.HasAuthority.{by_link}
-use Rattle.machine.specs.Boot.{IsBoot}
-use Rattle.machine.specs.Changes.{with_context, with_tcb}
-use Rattle.machine.specs.Layout.{initial_of, initial_cap, declared_label, bound_context, bound_thread}
-use Rattle.machine.specs.Lookup.{level_at, lookup_of, walk, hop}
-use Rattle.machine.specs.Machine.{Machine, object_of, cap_of, with_object}
-use Rattle.machine.specs.Step.{admitted, made_by, step_of}
-use Rattle.machine.specs.Step.Step.{ends}
-use Rattle.machine.specs.Step.Bind.{bind_of, with_bound}
-use Rattle.machine.specs.Step.Find.{find_cap, find_context, find_tcb}
+use Rattle.machine.specs.declared.call.{Answer.TheVariants.Nothing, Call.TheVariants.Bind, Event.Event, Made.TheVariants.Done}
+use Rattle.machine.specs.{declared.call.Outcome.Outcome as outcome, Authority.{HasAuthority, label_of, HasAuthority.by_link}, Boot.IsBoot}
+use Rattle.machine.specs.{Changes.{with_context, with_tcb}, Layout.{bound_context, bound_thread, declared_label, initial_cap, initial_of}}
+use Rattle.machine.specs.{Lookup.{hop, level_at, lookup_of, walk}, Machine.{Machine, cap_of, object_of, with_object}, Step.admitted}
+use Rattle.machine.specs.Step.{made_by, step_of, Bind.{bind_of, with_bound}, Find.{find_cap, find_context, find_tcb}, Step.ends}
 use Rattle.machine.proofs.LookUps.{object_of-with_object}
 use Rattle.policy.specs.Needed.{context_runs}
 use Rattle.table.proofs.AtBoot.{boot_label}
-use Rattle.verdict.specs.Counterexamples.{UnsafeWithout}
-use Rattle.verdict.proofs.ContextPolicy.{has, others, within}
-use Rattle.verdict.proofs.ContextSystem.{binding, binding_confined, binding_lawful, second, second_cap, spare, spare_cap}
-use Rattle.verdict.proofs.ObjectLabels.{label_stays}
-use Rattle.verdict.proofs.SmallSystem.{id, slot, node, thread, context, space_cap}
-use Rattle.verdict.proofs.UnsafeBy.{unsafe_without}
+use Rattle.verdict.{specs.Counterexamples.UnsafeWithout, proofs.{ContextPolicy.{has, others, within}, ContextSystem.binding}}
+use Rattle.verdict.proofs.{ContextSystem.{binding_confined, binding_lawful, second, second_cap, spare, spare_cap}, ObjectLabels.label_stays}
+use Rattle.verdict.proofs.{SmallSystem.{context, id, node, slot, space_cap, thread}, UnsafeBy.unsafe_without}
 
 unfoldable pub binds : Event
 binds = record { core = 0; thread = id 1; call = Bind 0 1 }

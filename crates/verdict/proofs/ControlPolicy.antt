@@ -1,15 +1,11 @@
 -- A policy of the labels 0 and 1 that obeys every rule but that control gives all: each label controls both, and has all
 -- structural edges to both, and no others.
-use Rattle.std.proofs.Common.{◌≢◌, Bool, true, refl, lit≤}
-use Rattle.base.specs.declared.kind.Kind.{Kind}
-use Rattle.base.specs.declared.kind.Kind.TheVariants.{Control}
-use Rattle.base.specs.Kinds.{is_structural}
-use Rattle.policy.specs.Domain.{EdgeTest}
-use Rattle.policy.specs.Needed.{Rule, subjects_agree, control_gives_all, grant_shares, derive_in_domain, derive_by_grant, context_runs}
-use Rattle.policy.specs.Needed.{reply_holds, lent_runs, Obeys}
+use Rattle.std.proofs.Common.{◌≢◌, Bool, lit≤, refl, true}
+use Rattle.base.specs.{declared.kind.Kind.{Kind, TheVariants.Control}, Kinds.is_structural}
+use Rattle.policy.specs.{Domain.EdgeTest, Needed.{Obeys, Rule, context_runs, control_gives_all, derive_by_grant, derive_in_domain}}
+use Rattle.policy.specs.Needed.{grant_shares, lent_runs, reply_holds, subjects_agree}
 use Rattle.verdict.proofs.EvenPolicy.{even, even_agrees, even_comes, even_derives, even_holds, even_lends, even_runs, even_shares}
-use Rattle.verdict.proofs.EvenPolicy.{even_within}
-use Rattle.verdict.proofs.TestPolicies.{IsWithin}
+use Rattle.verdict.proofs.{EvenPolicy.even_within, TestPolicies.IsWithin}
 
 -- the kinds of its edges
 abbrev is_used : Kind → Bool

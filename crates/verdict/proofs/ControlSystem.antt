@@ -1,27 +1,15 @@
 -- A system whose policy gives nothing by control: a thread of label 0 with a CNode of its label, which holds capabilities for untyped
 -- memory of label 1 and for itself. The thread makes an endpoint of the memory.
-use Rattle.std.proofs.Common.{◌≡◌, true, [], ◌∷◌, None, refl, arith, lit<, lit≤}
-use Rattle.std.specs.Prelude.{codes}
-use Rattle.std.specs.List.{All}
-use Rattle.std.proofs.lemmas.List.Elements.{All-from_recursion}
-use Rattle.std.proofs.lemmas.List.Sums.{AllPass-from_list_all}
-use Rattle.machine.specs.declared.cap.Cap.{Cap}
+use Rattle.std.{specs.{List.All, Prelude.codes}, proofs.Common.{[], ◌∷◌, ◌≡◌, None, arith, lit<, lit≤, refl, true}}
+use Rattle.std.proofs.lemmas.List.{Elements.All-from_recursion, Sums.AllPass-from_list_all}
+use Rattle.machine.specs.{declared.{cap.Cap.Cap, object.{Object.{Object, Object as o}, Untyped.Untyped}}, Boot.IsBoot, Layout.Layout}
 use Rattle.machine.specs.declared.cap.Detail.TheVariants as d
 use Rattle.machine.specs.declared.layout.Version.TheVariants as version
-use Rattle.machine.specs.declared.object.Object.{Object}
-use Rattle.machine.specs.declared.object.Object.TheVariants as o
-use Rattle.machine.specs.declared.object.Untyped.{Untyped}
-use Rattle.machine.specs.Boot.{IsBoot}
-use Rattle.machine.specs.Layout.{Layout, initial_of, initial_parent, declared_label}
-use Rattle.machine.specs.Machine.{Machine}
-use Rattle.table.specs.Rules.{IsLawful, IsObjectOf, IsCapOf, IsBindingOf, kind_at}
-use Rattle.table.specs.Tree.{is_original, source_of}
-use Rattle.verdict.specs.Confined.{IsConfined}
-use Rattle.verdict.proofs.ControlPolicy.{has}
-use Rattle.verdict.proofs.EvenPolicy.{even}
-use Rattle.verdict.proofs.LineByLine.{IsBindingWithin, IsCapWithin, confined_by_lines, control_line, root_line}
-use Rattle.verdict.proofs.SmallSystem.{id, slot, labelled, filled, thread, context}
-use Rattle.verdict.proofs.TestTables.{lawful_by_tests, names_differ, pairs_test, tests}
+use Rattle.machine.specs.{Layout.{declared_label, initial_of, initial_parent}, Machine.Machine}
+use Rattle.table.specs.{Rules.{IsBindingOf, IsCapOf, IsLawful, IsObjectOf, kind_at}, Tree.{is_original, source_of}}
+use Rattle.verdict.{specs.Confined.IsConfined, proofs.{ControlPolicy.has, EvenPolicy.even, LineByLine.{IsBindingWithin, IsCapWithin}}}
+use Rattle.verdict.proofs.{LineByLine.{confined_by_lines, control_line, root_line}, SmallSystem.{context, filled, id, labelled, slot}}
+use Rattle.verdict.proofs.{SmallSystem.thread, TestTables.{lawful_by_tests, names_differ, pairs_test, tests}}
 
 abbrev pub own : Object
 own = o.CNode (record { address = 0x1000; radix = 2 })

@@ -1,40 +1,22 @@
 -- The system whose policy gives nothing by control isn't safe: its thread makes an endpoint of untyped memory of another label, whose
 -- capability resets the endpoint.
-use Rattle.std.proofs.Common.{◌≡◌, ℕ, zero, suc, ◌<◌, Bool, true, false, List, [], ◌∷◌, Some, None, Ok, option_map, refl, sym, ap, ◌∙◌, if◌then◌else◌, arith, lit<}
 use Rattle.std.specs.FinMap as map
-use Rattle.base.specs.declared.ids.ObjId.{ObjId}
-use Rattle.base.specs.declared.kind.Kind.TheVariants.{Reset}
-use Rattle.machine.specs.declared.call.Answer.TheVariants.{Count}
-use Rattle.machine.specs.declared.call.Call.TheVariants.{Retype}
-use Rattle.machine.specs.declared.call.Event.{Event}
-use Rattle.machine.specs.declared.call.Made.TheVariants.{Done}
-use Rattle.machine.specs.declared.call.Outcome.TheVariants as outcome
+use Rattle.std.proofs.Common.{[], ℕ, ◌<◌, ◌∙◌, ◌∷◌, ◌≡◌, Bool, List, None, Ok, Some, ap, arith, false, if◌then◌else◌, lit<, option_map}
+use Rattle.std.proofs.Common.{refl, suc, sym, true, zero}
+use Rattle.base.specs.declared.{ids.ObjId.ObjId, kind.Kind.TheVariants.Reset}
+use Rattle.machine.specs.declared.call.{Answer.TheVariants.Count, Call.TheVariants.Retype, Event.Event, Made.TheVariants.Done}
+use Rattle.machine.specs.{declared.{call.Outcome.Outcome as outcome, object.Object.{Object, Object as o}}, Authority.HasAuthority}
 use Rattle.machine.specs.declared.object.MemoryKind.TheVariants as kind
-use Rattle.machine.specs.declared.object.Object.{Object}
-use Rattle.machine.specs.declared.object.Object.TheVariants as o
-use Rattle.machine.specs.Authority.{HasAuthority, label_at, label_of}
-use Rattle.machine.specs.Authority.HasAuthority.{by_cap}
-use Rattle.machine.specs.Boot.{IsBoot, booted}
-use Rattle.machine.specs.Bits.{bits}
-use Rattle.machine.specs.Counts.{objects_in, slots_in, threads_in}
-use Rattle.machine.specs.Layout.{initial_of, initial_cap, declared_label, bound_context, bound_thread}
-use Rattle.machine.specs.Lookup.{level_at, lookup_of, walk, hop}
-use Rattle.machine.specs.Machine.{Machine, id_cmp, same_id, object_of, cap_of}
-use Rattle.machine.specs.Memory.{Source, begun, has_child, new_cap, new_detail, new_object, with_made}
-use Rattle.machine.specs.Objects.{kind_of_object}
-use Rattle.machine.specs.Step.{admitted, made_by, step_of}
-use Rattle.machine.specs.Step.Step.{ends}
-use Rattle.machine.specs.Step.Find.{find_cap}
-use Rattle.machine.specs.Step.Retype.{find_taker, find_untyped, retype_of, within_limits}
-use Rattle.machine.proofs.LookUps.{id_apart, id_total}
-use Rattle.machine.proofs.ObjectMade.{MakesObject, made_makes}
+use Rattle.machine.specs.{Authority.{label_at, label_of, HasAuthority.by_cap}, Bits.bits, Boot.{IsBoot, booted}, Counts.objects_in}
+use Rattle.machine.specs.{Counts.{slots_in, threads_in}, Layout.{bound_context, bound_thread, declared_label, initial_cap, initial_of}}
+use Rattle.machine.specs.{Lookup.{hop, level_at, lookup_of, walk}, Machine.{Machine, cap_of, id_cmp, object_of, same_id}, Memory.Source}
+use Rattle.machine.specs.{Memory.{begun, has_child, new_cap, new_detail, new_object, with_made}, Objects.kind_of_object, Step.admitted}
+use Rattle.machine.specs.Step.{made_by, step_of, Find.find_cap, Retype.{find_taker, find_untyped, retype_of, within_limits}, Step.ends}
+use Rattle.machine.proofs.{LookUps.{id_apart, id_total}, ObjectMade.{MakesObject, made_makes}}
 use Rattle.policy.specs.Needed.{control_gives_all}
-use Rattle.verdict.specs.Counterexamples.{UnsafeWithout}
-use Rattle.verdict.proofs.ControlPolicy.{has, others, within}
-use Rattle.verdict.proofs.ControlSystem.{making, making_confined, making_lawful, memory, memory_cap, own, own_cap}
-use Rattle.verdict.proofs.EvenPolicy.{even}
-use Rattle.verdict.proofs.SmallSystem.{id, slot, thread, context}
-use Rattle.verdict.proofs.UnsafeBy.{unsafe_without}
+use Rattle.verdict.{specs.Counterexamples.UnsafeWithout, proofs.{ControlPolicy.{has, others, within}, ControlSystem.making}}
+use Rattle.verdict.proofs.{ControlSystem.{making_confined, making_lawful, memory, memory_cap, own, own_cap}, EvenPolicy.even}
+use Rattle.verdict.proofs.{SmallSystem.{context, id, slot, thread}, UnsafeBy.unsafe_without}
 
 unfoldable pub retyping : Event
 retyping = record { core = 0; thread = id 1; call = Retype 0 kind.Endpoint 0 1 2 1 }

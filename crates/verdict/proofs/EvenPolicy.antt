@@ -1,12 +1,10 @@
 -- Policies in which each of the first labels has the same kinds of edges, to each of them.
-use Rattle.std.proofs.Common.{◌≡◌, ℕ, ◌<◌, ◌≤◌, inl, inr, Bool, true, ◌&&◌, nat_lt, sym, ap, ◌∙◌, arith}
-use Rattle.std.proofs.lemmas.Bool.{and_parts, and_from, lt-ltb, ltb-true}
-use Rattle.base.specs.declared.kind.Kind.{Kind}
-use Rattle.base.specs.declared.kind.Kind.TheVariants.{Control, Receive, Grant, Call, Reply, Context, Space, Derive, Runs, Holds}
+use Rattle.std.proofs.{Common.{ℕ, ◌&&◌, ◌<◌, ◌∙◌, ◌≡◌, ◌≤◌, Bool, ap, arith, inl, inr, nat_lt, sym, true}, lemmas.Bool.and_from}
+use Rattle.std.proofs.lemmas.Bool.{and_parts, lt-ltb, ltb-true}
+use Rattle.base.specs.declared.kind.Kind.{Kind, TheVariants.{Call, Context, Control, Derive, Grant, Holds, Receive, Reply, Runs, Space}}
 use Rattle.base.specs.declared.label.TheConstants.Label as Label
-use Rattle.policy.specs.Closed.{ContextRuns, ControlGivesAll, DeriveByGrant, DeriveInDomain, GrantShares, IsGivenByControl}
-use Rattle.policy.specs.Closed.{LentRuns, ReplyHolds, granted, derived, server, caller}
-use Rattle.policy.specs.Domain.{EdgeTest, IsInDomain, SubjectsAgree}
+use Rattle.policy.specs.Closed.{ContextRuns, ControlGivesAll, DeriveByGrant, DeriveInDomain, GrantShares, IsGivenByControl, LentRuns}
+use Rattle.policy.specs.{Closed.{ReplyHolds, caller, derived, granted, server}, Domain.{EdgeTest, IsInDomain, SubjectsAgree}}
 use Rattle.verdict.proofs.TestPolicies.{IsWithin}
 
 unfoldable pub even : (Kind → Bool) → ℕ → EdgeTest

@@ -2,10 +2,7 @@
 use Rattle.std.proofs.Common.{ℕ}
 use Rattle.machine.specs.Layout.{Layout}
 use Rattle.policy.specs.Domain.{EdgeTest}
-use Rattle.verdict.specs.declared.extent.Extent.{Extent}
-use Rattle.verdict.specs.declared.extent.Extent.TheVariants as extent
-use Rattle.verdict.specs.Apart.{GoesTo, KeepsTo}
-use Rattle.verdict.specs.Safe.{KeepsBounds}
+use Rattle.verdict.specs.{declared.extent.Extent.{Extent, Extent as extent}, Apart.{GoesTo, KeepsTo}, Safe.KeepsBounds}
 use Rattle.verdict.proofs.Aparts.{never_changes, only_takes}
 
 pub kept_to :

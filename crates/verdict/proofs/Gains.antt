@@ -1,25 +1,14 @@
 -- What grows doesn't shrink.
-use Rattle.std.proofs.Common.{◌≡◌, ◌≢◌, ◌≤◌, ◌<◌, ◌⊎◌, inl, inr, List, Some, None, length, sym, ap, subst, ◌∙◌, arith}
+use Rattle.std.proofs.Common.{◌<◌, ◌∙◌, ◌≡◌, ◌≢◌, ◌≤◌, ◌⊎◌, List, None, Some, ap, arith, inl, inr, length, subst, sym}
 use Rattle.std.proofs.lemmas.Option.{none-some, same_Some}
-use Rattle.base.specs.declared.ids.ObjId.{ObjId}
-use Rattle.base.specs.declared.ids.SlotRef.{SlotRef}
-use Rattle.machine.specs.declared.cap.Cap.{Cap}
-use Rattle.machine.specs.declared.object.Context.{Context}
-use Rattle.machine.specs.declared.object.Notification.{Notification}
-use Rattle.machine.specs.declared.object.Object.{Object}
-use Rattle.machine.specs.declared.object.Object.TheVariants as o
-use Rattle.machine.specs.declared.object.Reply.{Reply}
+use Rattle.base.specs.declared.ids.{ObjId.ObjId, SlotRef.SlotRef}
+use Rattle.machine.specs.declared.{cap.Cap.Cap, object.{Context.Context, Notification.Notification, Object.{Object, Object as o}}}
+use Rattle.machine.specs.declared.{object.{Reply.Reply, Untyped.Untyped}, thread.{Inbox.Inbox as inbox, RunState.RunState, Tcb.Tcb}}
 use Rattle.machine.specs.declared.object.ReplyState.TheVariants as reply
-use Rattle.machine.specs.declared.object.Untyped.{Untyped}
-use Rattle.machine.specs.declared.thread.Inbox.TheVariants as inbox
-use Rattle.machine.specs.declared.thread.RunState.{RunState}
 use Rattle.machine.specs.declared.thread.RunState.TheVariants as state
-use Rattle.machine.specs.declared.thread.Tcb.{Tcb}
-use Rattle.machine.specs.Machine.{Machine, object_of, queue_of, words_of, cap_of}
-use Rattle.verdict.specs.Shrinks.{HasLess, IsBlocked, IsPart, Lessens, LosesLink, Shrinks, Stops}
-use Rattle.verdict.specs.Shrinks.IsPart.{ended, stayed, left}
-use Rattle.verdict.specs.Shrinks.Lessens.{as_it_was, released, freed, unbound}
-use Rattle.verdict.specs.Shrinks.Stops.{goes_on, aborted, halted}
+use Rattle.machine.specs.Machine.{Machine, cap_of, object_of, queue_of, words_of}
+use Rattle.verdict.specs.Shrinks.{HasLess, IsBlocked, IsPart, Lessens, LosesLink, Shrinks, Stops, IsPart.{ended, left, stayed}}
+use Rattle.verdict.specs.Shrinks.{Lessens.{as_it_was, freed, released, unbound}, Stops.{aborted, goes_on, halted}}
 use Rattle.verdict.proofs.Shrinking.{same_context, same_reply, same_tcb}
 
 same_notification : (a b : Notification) → o.Notification a ≡ o.Notification b → a ≡ b

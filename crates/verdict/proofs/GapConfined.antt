@@ -1,15 +1,9 @@
 -- The boot state of the system whose policy lacks one derive edge is confined.
-use Rattle.std.proofs.Common.{refl}
-use Rattle.std.specs.List.{All}
-use Rattle.std.proofs.lemmas.List.Elements.{All-from_recursion}
-use Rattle.machine.specs.Boot.{IsBoot}
-use Rattle.machine.specs.Layout.{initial_of, declared_label}
-use Rattle.machine.specs.Machine.{Machine}
+use Rattle.std.{specs.List.All, proofs.{Common.refl, lemmas.List.Elements.All-from_recursion}}
+use Rattle.machine.specs.{Boot.IsBoot, Layout.{declared_label, initial_of}, Machine.Machine}
 use Rattle.table.specs.Rules.{kind_at}
-use Rattle.verdict.specs.Confined.{IsConfined}
-use Rattle.verdict.proofs.GapPolicy.{has}
-use Rattle.verdict.proofs.GapSystem.{gap, gap_lawful}
-use Rattle.verdict.proofs.LineByLine.{IsBindingWithin, IsCapWithin, IsPairWithin, confined_by_lines, control_line, root_line}
+use Rattle.verdict.{specs.Confined.IsConfined, proofs.{GapPolicy.has, GapSystem.{gap, gap_lawful}, LineByLine.IsBindingWithin}}
+use Rattle.verdict.proofs.LineByLine.{IsCapWithin, IsPairWithin, confined_by_lines, control_line, root_line}
 
 cap_lines : All (IsCapWithin gap has) gap.caps
 unfolding gap initial_of declared_label kind_at has

@@ -1,15 +1,13 @@
 -- A policy of the labels 0, 1 and 2 that obeys every rule but one part of one: each label may do everything to 0 and 1, and 2 derives
 -- on 0, and 0 on 1, but 2 doesn't on 1.
-use Rattle.std.proofs.Common.{◌≡◌, ◌≢◌, ℕ, zero, suc, ◌<◌, inl, inr, Bool, true, false, not, ◌==◌, ◌&&◌, nat_lt, refl, sym, ap, subst, ◌∙◌, arith}
-use Rattle.std.proofs.lemmas.Bool.{false≢true, and_parts, and_from, lt-ltb, ltb-true}
-use Rattle.base.specs.declared.kind.Kind.{Kind}
-use Rattle.base.specs.declared.kind.Kind.TheVariants.{Control, Receive, Grant, Call, Reply, Context, Space, Derive, Runs, Holds}
+use Rattle.std.proofs.Common.{ℕ, ◌&&◌, ◌<◌, ◌==◌, ◌∙◌, ◌≡◌, ◌≢◌, Bool, ap, arith, false, inl, inr, nat_lt, not, refl, subst, suc, sym, true}
+use Rattle.std.proofs.{Common.zero, lemmas.Bool.{and_from, and_parts, false≢true, lt-ltb, ltb-true}}
+use Rattle.base.specs.declared.kind.Kind.{Kind, TheVariants.{Call, Context, Control, Derive, Grant, Holds, Receive, Reply, Runs, Space}}
 use Rattle.base.specs.declared.label.TheConstants.Label as Label
 use Rattle.base.specs.Kinds.{is_structural}
-use Rattle.policy.specs.Closed.{ComesToHold, IsGivenByControl, MayBeGranted, server, caller}
-use Rattle.policy.specs.Domain.{EdgeTest, IsInDomain}
-use Rattle.policy.specs.Needed.{Rule, subjects_agree, control_gives_all, grant_shares, derive_in_domain, derive_by_grant, context_runs, reply_holds, Obeys}
-use Rattle.policy.specs.Needed.{lent_runs}
+use Rattle.policy.specs.{Closed.{ComesToHold, IsGivenByControl, MayBeGranted, caller, server}, Domain.{EdgeTest, IsInDomain}, Needed.Obeys}
+use Rattle.policy.specs.Needed.{Rule, context_runs, control_gives_all, derive_by_grant, derive_in_domain, grant_shares, lent_runs}
+use Rattle.policy.specs.Needed.{reply_holds, subjects_agree}
 
 -- to which labels the edges of a kind lead: those below
 abbrev width : Kind → ℕ

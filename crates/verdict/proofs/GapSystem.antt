@@ -1,20 +1,12 @@
 -- A system whose policy lacks one derive edge: a thread of label 0 with a CNode of its label, which holds a capability for itself and one
 -- for a CNode of label 1 that was derived from one in a CNode of label 2. The thread copies that capability into the CNode that it is for.
-use Rattle.std.proofs.Common.{◌≡◌, ℕ, inl, true, false, [], ◌∷◌, Some, None, refl, lit<, lit≤}
-use Rattle.std.specs.Prelude.{codes}
-use Rattle.std.specs.List.{All}
-use Rattle.std.proofs.lemmas.List.Elements.{All-from_recursion}
-use Rattle.std.proofs.lemmas.List.Sums.{AllPass-from_list_all}
-use Rattle.machine.specs.declared.cap.Cap.{Cap}
-use Rattle.machine.specs.declared.cap.Detail.TheVariants as d
+use Rattle.std.{specs.{List.All, Prelude.codes}, proofs.Common.{[], ℕ, ◌∷◌, ◌≡◌, None, Some, false, inl, lit<, lit≤, refl, true}}
+use Rattle.std.proofs.lemmas.List.{Elements.All-from_recursion, Sums.AllPass-from_list_all}
+use Rattle.machine.specs.{declared.{cap.{Cap.Cap, Detail.Detail as d}, object.Object.{Object, Object as o}}, Layout.{Layout, initial_cap}}
 use Rattle.machine.specs.declared.layout.Version.TheVariants as version
-use Rattle.machine.specs.declared.object.Object.{Object}
-use Rattle.machine.specs.declared.object.Object.TheVariants as o
-use Rattle.machine.specs.Layout.{Layout, initial_of, initial_cap, initial_parent}
-use Rattle.table.specs.Rules.{IsLawful, IsObjectOf, IsCapOf, IsBindingOf, IsSlotPair}
-use Rattle.table.specs.Tree.{IsPairOf, is_original, source_of}
-use Rattle.verdict.proofs.SmallSystem.{id, slot, labelled, filled, thread}
-use Rattle.verdict.proofs.TestTables.{lawful_by_tests, names_differ, pairs_test, tests}
+use Rattle.machine.specs.Layout.{initial_of, initial_parent}
+use Rattle.table.specs.{Rules.{IsBindingOf, IsCapOf, IsLawful, IsObjectOf, IsSlotPair}, Tree.{IsPairOf, is_original, source_of}}
+use Rattle.verdict.proofs.{SmallSystem.{filled, id, labelled, slot, thread}, TestTables.{lawful_by_tests, names_differ, pairs_test, tests}}
 
 abbrev pub cnode : ℕ → Object
 cnode address = o.CNode (record { address = address; radix = 1 })

@@ -1,41 +1,19 @@
 -- The system whose policy lacks one derive edge isn't safe: its thread copies a derived capability into another label's CNode, and what
 -- it was derived from then derives there.
-use Rattle.std.proofs.Common.{◌≡◌, ℕ, true, [], ◌∷◌, Some, None, Ok, refl, ◌∙◌}
-use Rattle.base.specs.declared.ids.ObjId.{ObjId}
-use Rattle.base.specs.declared.kind.Kind.TheVariants.{Derive}
-use Rattle.machine.specs.declared.call.Answer.TheVariants.{Nothing}
-use Rattle.machine.specs.declared.call.Call.TheVariants.{Copy}
-use Rattle.machine.specs.declared.call.Event.{Event}
-use Rattle.machine.specs.declared.call.Made.TheVariants.{Done}
-use Rattle.machine.specs.declared.call.Outcome.TheVariants as outcome
-use Rattle.machine.specs.declared.object.Object.{Object}
-use Rattle.machine.specs.declared.object.Object.TheVariants as o
-use Rattle.machine.specs.declared.slot_address.SlotAddress.{SlotAddress}
-use Rattle.machine.specs.Authority.{HasAuthority, label_of}
-use Rattle.machine.specs.Authority.HasAuthority.{by_pair}
-use Rattle.machine.specs.Boot.{IsBoot}
-use Rattle.machine.specs.Layout.{initial_of, initial_cap, initial_parent, declared_label, bound_context, bound_thread}
-use Rattle.machine.specs.Lookup.{level_at, lookup_of, walk, hop}
-use Rattle.machine.specs.Machine.{Machine, object_of, cap_of, parent_of, with_cap, with_parent}
-use Rattle.machine.specs.Step.{admitted, made_by, step_of}
-use Rattle.machine.specs.Step.Step.{ends}
-use Rattle.machine.specs.Step.Copy.{copy_of}
-use Rattle.machine.specs.Step.Find.{find_cap}
-use Rattle.machine.specs.Step.Target.{ends_of, lookup_target_of, source_of, target_of}
-use Rattle.machine.specs.Tree.{with_copy}
-use Rattle.machine.proofs.LookUps.{parent_of-with_parent}
-use Rattle.policy.specs.Closed.{MayBeGranted}
-use Rattle.policy.specs.Domain.{EdgeTest, IsInDomain}
-use Rattle.policy.specs.Needed.{derive_by_grant}
-use Rattle.policy.specs.Policy.{allows}
+use Rattle.std.proofs.Common.{[], ℕ, ◌∙◌, ◌∷◌, ◌≡◌, None, Ok, Some, refl, true}
+use Rattle.base.specs.declared.{ids.ObjId.ObjId, kind.Kind.TheVariants.Derive}
+use Rattle.machine.specs.declared.call.{Answer.TheVariants.Nothing, Call.TheVariants.Copy, Event.Event, Made.TheVariants.Done}
+use Rattle.machine.specs.declared.{call.Outcome.Outcome as outcome, object.Object.{Object, Object as o}}
+use Rattle.machine.specs.{declared.slot_address.SlotAddress.SlotAddress, Authority.{HasAuthority, label_of, HasAuthority.by_pair}}
+use Rattle.machine.specs.{Boot.IsBoot, Layout.{bound_context, bound_thread, declared_label, initial_cap, initial_of, initial_parent}}
+use Rattle.machine.specs.{Lookup.{hop, level_at, lookup_of, walk}, Machine.{Machine, cap_of, object_of, parent_of, with_cap, with_parent}}
+use Rattle.machine.specs.Step.{admitted, made_by, step_of, Copy.copy_of, Find.find_cap, Step.ends, Target.{ends_of, lookup_target_of}}
+use Rattle.machine.{specs.{Step.Target.{source_of, target_of}, Tree.with_copy}, proofs.LookUps.parent_of-with_parent}
+use Rattle.policy.specs.{Closed.MayBeGranted, Domain.{EdgeTest, IsInDomain}, Needed.derive_by_grant, Policy.allows}
 use Rattle.table.proofs.AtBoot.{boot_label}
-use Rattle.verdict.specs.Counterexamples.{UnsafeWithout}
-use Rattle.verdict.proofs.GapConfined.{gap_confined}
-use Rattle.verdict.proofs.GapPolicy.{comes, has, others, within}
-use Rattle.verdict.proofs.GapSystem.{gap, gap_lawful, cnode, node_cap, derived_cap}
-use Rattle.verdict.proofs.ObjectLabels.{same_label}
-use Rattle.verdict.proofs.SmallSystem.{id, slot, thread}
-use Rattle.verdict.proofs.UnsafeBy.{Needs, unsafe_keeping}
+use Rattle.verdict.{specs.Counterexamples.UnsafeWithout, proofs.{GapConfined.gap_confined, GapPolicy.{comes, has, others, within}}}
+use Rattle.verdict.proofs.{GapSystem.{cnode, derived_cap, gap, gap_lawful, node_cap}, ObjectLabels.same_label, SmallSystem.{id, slot}}
+use Rattle.verdict.proofs.{SmallSystem.thread, UnsafeBy.{Needs, unsafe_keeping}}
 
 -- the slot of the other CNode, and the slot of the thread's own that holds that CNode's capability
 abbrev to : SlotAddress

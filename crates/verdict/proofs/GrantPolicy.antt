@@ -1,17 +1,14 @@
 -- Two policies of the labels 0, of who gives, and 1, of who takes, each of which breaks one rule. Each label has itself alone as
 -- its space, 1 alone receives, and controls itself; and in the policy that shares no label derives on the other, while in the one
 -- that doesn't 1 doesn't read 0. All else is allowed.
-use Rattle.std.proofs.Common.{◌≡◌, ◌≢◌, ℕ, ◌<◌, inl, inr, Bool, true, false, not, ◌==◌, ◌&&◌, ◌||◌, nat_lt, refl, sym, ap}
-use Rattle.std.proofs.Common.{◌∙◌, arith}
-use Rattle.std.proofs.lemmas.Bool.{false≢true, and_parts, and_from, eq-eqb, eqb-true, lt-ltb, ltb-true}
-use Rattle.base.specs.declared.kind.Kind.{Kind}
-use Rattle.base.specs.declared.kind.Kind.TheVariants.{Control, Receive, Call, Read, Reply, Context, Space, Derive, Runs, Holds}
+use Rattle.std.proofs.Common.{ℕ, ◌&&◌, ◌<◌, ◌==◌, ◌||◌, ◌∙◌, ◌≡◌, ◌≢◌, Bool, ap, arith, false, inl, inr, nat_lt, not, refl, sym, true}
+use Rattle.std.proofs.lemmas.Bool.{and_from, and_parts, eq-eqb, eqb-true, false≢true, lt-ltb, ltb-true}
+use Rattle.base.specs.declared.kind.Kind.{Kind, TheVariants.{Call, Context, Control, Derive, Holds, Read, Receive, Reply, Runs, Space}}
 use Rattle.base.specs.Kinds.{is_structural}
-use Rattle.policy.specs.Closed.{ContextRuns, ControlGivesAll, DeriveByGrant, DeriveInDomain, GrantShares, LentRuns, ReplyHolds}
-use Rattle.policy.specs.Closed.{granted, derived, server, caller}
-use Rattle.policy.specs.Domain.{EdgeTest, IsInDomain, SubjectsAgree}
-use Rattle.policy.specs.Needed.{Rule, subjects_agree, control_gives_all, grant_shares, derive_in_domain, derive_by_grant, context_runs}
-use Rattle.policy.specs.Needed.{reply_holds, lent_runs, Obeys}
+use Rattle.policy.specs.Closed.{ContextRuns, ControlGivesAll, DeriveByGrant, DeriveInDomain, GrantShares, LentRuns, ReplyHolds, caller}
+use Rattle.policy.specs.{Closed.{derived, granted, server}, Domain.{EdgeTest, IsInDomain, SubjectsAgree}, Needed.{Obeys, Rule}}
+use Rattle.policy.specs.Needed.{context_runs, control_gives_all, derive_by_grant, derive_in_domain, grant_shares, lent_runs, reply_holds}
+use Rattle.policy.specs.Needed.{subjects_agree}
 use Rattle.verdict.proofs.TestPolicies.{IsWithin}
 
 -- between which labels there are edges of a kind

@@ -1,43 +1,20 @@
 -- What happens in the system of a giver and a taker: the taker receives at the endpoint, and waits; the giver sends the frame's
 -- capability, of which the taker's CNode then holds a copy, which is derived from it.
-use Rattle.std.proofs.Common.{◌≡◌, ℕ, false, true, List, [], ◌∷◌, Some, None, Ok, refl, ◌∙◌}
+use Rattle.std.proofs.Common.{[], ℕ, ◌∙◌, ◌∷◌, ◌≡◌, List, None, Ok, Some, false, refl, true}
 use Rattle.base.specs.declared.ids.SlotRef.{SlotRef}
-use Rattle.machine.specs.declared.call.Answer.TheVariants.{Nothing}
-use Rattle.machine.specs.declared.call.Call.TheVariants.{Receive, Send}
-use Rattle.machine.specs.declared.call.Event.{Event}
-use Rattle.machine.specs.declared.call.Made.TheVariants.{Blocked, Done}
-use Rattle.machine.specs.declared.call.Outcome.{Outcome}
-use Rattle.machine.specs.declared.call.Outcome.TheVariants as outcome
-use Rattle.machine.specs.declared.cap.Cap.{Cap}
-use Rattle.machine.specs.declared.object.Object.{Object}
-use Rattle.machine.specs.declared.slot_address.Ends.{Ends}
-use Rattle.machine.specs.declared.slot_address.SlotAddress.{SlotAddress}
-use Rattle.machine.specs.declared.thread.Inbox.TheVariants as inbox
-use Rattle.machine.specs.declared.thread.Message.{Message}
-use Rattle.machine.specs.declared.thread.Receiving.{Receiving}
-use Rattle.machine.specs.declared.thread.RunState.TheVariants as state
-use Rattle.machine.specs.declared.thread.Sending.{Sending}
-use Rattle.machine.specs.Boot.{IsBoot}
-use Rattle.machine.specs.Changes.{first_waiting, with_tcb, with_waiting, without_waiting}
-use Rattle.machine.specs.Layout.{initial_of, initial_cap, bound_context, bound_thread}
-use Rattle.machine.specs.Lookup.{level_at, lookup_of, walk, hop}
-use Rattle.machine.specs.Machine.{Machine, same_id, object_of, queue_of, cap_of, parent_of}
-use Rattle.machine.specs.Machine.{with_cap, with_object, with_parent, with_queue}
-use Rattle.machine.specs.Releasing.{with_blocked, with_given, with_released}
-use Rattle.machine.specs.Run.{Run}
-use Rattle.machine.specs.Step.{admitted, made_by, step_of}
-use Rattle.machine.specs.Step.Step.{ends}
-use Rattle.machine.specs.Step.Deliver.{arrival_of, delivered, first_at, sending_by}
-use Rattle.machine.specs.Step.Find.{find_cap, find_endpoint}
-use Rattle.machine.specs.Step.Receive.{receive_of}
-use Rattle.machine.specs.Step.Send.{send_of}
-use Rattle.machine.specs.Step.Target.{lookup_target_of, target_of}
-use Rattle.machine.specs.Tree.{copied, with_copy}
-use Rattle.machine.proofs.LookUps.{object_of-with_object, queue_of-with_object, queue_of-with_queue}
-use Rattle.machine.proofs.LookUps.{cap_of-with_cap, parent_of-with_parent}
-use Rattle.verdict.proofs.GrantSystem.{granting, frame_cap, give_cap, give_end, take_cap, taker, taker_cap, taker_context}
-use Rattle.verdict.proofs.GrantSystem.{taker_node}
-use Rattle.verdict.proofs.SmallSystem.{id, slot, node, thread, context, receive_end, space_cap}
+use Rattle.machine.specs.declared.call.{Answer.TheVariants.Nothing, Call.TheVariants.{Receive, Send}, Event.Event, Made.TheVariants.Blocked}
+use Rattle.machine.specs.declared.{call.{Made.TheVariants.Done, Outcome.{Outcome, Outcome as outcome}}, cap.Cap.Cap, object.Object.Object}
+use Rattle.machine.specs.declared.{slot_address.{Ends.Ends, SlotAddress.SlotAddress}, thread.{Inbox.Inbox as inbox, Message.Message}}
+use Rattle.machine.specs.{declared.thread.{Receiving.Receiving, RunState.RunState as state, Sending.Sending}, Boot.IsBoot}
+use Rattle.machine.specs.{Changes.{first_waiting, with_tcb, with_waiting, without_waiting}, Layout.{bound_context, bound_thread}}
+use Rattle.machine.specs.{Layout.{initial_cap, initial_of}, Lookup.{hop, level_at, lookup_of, walk}, Machine.{Machine, cap_of, object_of}}
+use Rattle.machine.specs.{Machine.{parent_of, queue_of, same_id, with_cap, with_object, with_parent, with_queue}, Releasing.with_blocked}
+use Rattle.machine.specs.{Releasing.{with_given, with_released}, Run.Run, Step.{admitted, made_by, step_of, Deliver.arrival_of}}
+use Rattle.machine.specs.Step.{Deliver.{delivered, first_at, sending_by}, Find.{find_cap, find_endpoint}, Receive.receive_of, Send.send_of}
+use Rattle.machine.specs.{Step.{Step.ends, Target.{lookup_target_of, target_of}}, Tree.{copied, with_copy}}
+use Rattle.machine.proofs.LookUps.{cap_of-with_cap, object_of-with_object, parent_of-with_parent, queue_of-with_object, queue_of-with_queue}
+use Rattle.verdict.proofs.GrantSystem.{frame_cap, give_cap, give_end, granting, take_cap, taker, taker_cap, taker_context, taker_node}
+use Rattle.verdict.proofs.SmallSystem.{context, id, node, receive_end, slot, space_cap, thread}
 
 -- the empty slot of the taker's CNode
 abbrev to : SlotAddress

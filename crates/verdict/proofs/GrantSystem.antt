@@ -1,38 +1,21 @@
 -- A system of two threads, whose policy lacks an edge: the giver, of label 0, with a CNode that holds capabilities to send at an
 -- endpoint, with the right to grant, and to read a frame; and the taker, of label 1, with a CNode that holds capabilities to
 -- receive at the endpoint and for itself. The endpoint and the frame are of label 0.
-use Rattle.std.proofs.Common.{◌≡◌, ℕ, Bool, true, false, [], ◌∷◌, Option, Some, None, refl, sym, ◌∙◌, arith, lit<, lit≤}
-use Rattle.std.proofs.lemmas.Bool.{false≢true}
-use Rattle.std.specs.Prelude.{codes}
-use Rattle.std.specs.List.{All}
-use Rattle.std.proofs.lemmas.List.Elements.{All-from_recursion}
-use Rattle.std.proofs.lemmas.List.Sums.{AllPass-from_list_all}
-use Rattle.base.specs.declared.ids.ObjId.{ObjId}
-use Rattle.base.specs.declared.kind.Kind.{Kind}
-use Rattle.base.specs.declared.kind.Kind.TheVariants.{Reset, Send, Receive, Grant, Call, Read}
-use Rattle.machine.specs.declared.cap.Badged.{Badged}
-use Rattle.machine.specs.declared.cap.Cap.{Cap}
+use Rattle.std.{specs.{List.All, Prelude.codes}, proofs.Common.{[], ℕ, ◌∙◌, ◌∷◌, ◌≡◌, Bool, None, Option, Some, arith, false, lit<, lit≤}}
+use Rattle.std.proofs.{Common.{refl, sym, true}, lemmas.{Bool.false≢true, List.{Elements.All-from_recursion, Sums.AllPass-from_list_all}}}
+use Rattle.base.specs.declared.{ids.ObjId.ObjId, kind.Kind.{Kind, TheVariants.{Call, Grant, Read, Receive, Reset, Send}}}
+use Rattle.machine.specs.declared.{cap.{Badged.Badged, Cap.Cap}, layout.Filled.Filled, object.Object.{Object, Object as o}}
 use Rattle.machine.specs.declared.cap.Detail.TheVariants as d
-use Rattle.machine.specs.declared.layout.Filled.{Filled}
 use Rattle.machine.specs.declared.layout.Version.TheVariants as version
-use Rattle.machine.specs.declared.object.Object.{Object}
-use Rattle.machine.specs.declared.object.Object.TheVariants as o
-use Rattle.machine.specs.declared.object.ObjectKind.TheVariants as kind
-use Rattle.machine.specs.declared.thread.Inbox.{Inbox}
+use Rattle.machine.specs.{declared.{object.ObjectKind.ObjectKind as kind, thread.{Inbox.Inbox, RunState.RunState}}, Boot.IsBoot}
 use Rattle.machine.specs.declared.thread.Inbox.TheVariants as inbox
-use Rattle.machine.specs.declared.thread.RunState.{RunState}
 use Rattle.machine.specs.declared.thread.RunState.TheVariants as state
-use Rattle.machine.specs.Boot.{IsBoot}
-use Rattle.machine.specs.Capabilities.{gives}
-use Rattle.machine.specs.Layout.{Layout, initial_of, initial_parent, declared_label}
-use Rattle.machine.specs.Machine.{Machine}
-use Rattle.table.specs.Rules.{IsLawful, IsObjectOf, IsCapOf, IsBindingOf, kind_at}
-use Rattle.table.specs.Tree.{is_original, source_of}
-use Rattle.verdict.specs.Confined.{IsConfined}
-use Rattle.verdict.proofs.GrantPolicy.{has}
-use Rattle.verdict.proofs.LineByLine.{AreLabelled, IsBindingWithin, IsCapWithin, confined_by_lines, control_line, root_line}
-use Rattle.verdict.proofs.SmallSystem.{id, slot, labelled, filled, node, thread, context, endpoint, receive_end, space_cap}
-use Rattle.verdict.proofs.TestTables.{lawful_by_tests, names_differ, pairs_test, tests}
+use Rattle.machine.specs.{Capabilities.gives, Layout.{Layout, declared_label, initial_of, initial_parent}, Machine.Machine}
+use Rattle.table.specs.{Rules.{IsBindingOf, IsCapOf, IsLawful, IsObjectOf, kind_at}, Tree.{is_original, source_of}}
+use Rattle.verdict.{specs.Confined.IsConfined, proofs.{GrantPolicy.has, LineByLine.{AreLabelled, IsBindingWithin, IsCapWithin}}}
+use Rattle.verdict.proofs.{LineByLine.{confined_by_lines, control_line, root_line}, SmallSystem.{context, endpoint, filled, id, labelled}}
+use Rattle.verdict.proofs.{SmallSystem.{node, receive_end, slot, space_cap, thread}, TestTables.{lawful_by_tests, names_differ, pairs_test}}
+use Rattle.verdict.proofs.TestTables.{tests}
 
 abbrev pub taker_node : Object
 taker_node = o.CNode (record { address = 0x1080; radix = 2 })

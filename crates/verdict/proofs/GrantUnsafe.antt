@@ -1,25 +1,14 @@
 -- The system of a giver and a taker isn't safe, in either of two policies that each break one rule: the taker reads what the
 -- policy doesn't let it, or the giver's label derives on the taker's where the policy doesn't have it.
-use Rattle.std.proofs.Common.{◌≡◌, ◌≢◌, ℕ, Bool, true, false, Some, refl, ap, ◌∙◌}
-use Rattle.std.specs.Prelude.{option_map}
-use Rattle.base.specs.declared.kind.Kind.{Kind}
-use Rattle.base.specs.declared.kind.Kind.TheVariants.{Derive, Read}
-use Rattle.machine.specs.Authority.{HasAuthority, label_of}
-use Rattle.machine.specs.Authority.HasAuthority.{by_cap, by_pair}
-use Rattle.machine.specs.Boot.{IsBoot}
-use Rattle.machine.specs.Layout.{initial_of, declared_label}
-use Rattle.machine.specs.Machine.{Machine, same_id}
-use Rattle.machine.specs.Objects.{kind_of_object}
-use Rattle.policy.specs.Domain.{EdgeTest}
-use Rattle.policy.specs.Needed.{Rule, derive_by_grant, grant_shares, Obeys}
-use Rattle.policy.specs.Policy.{allows}
+use Rattle.std.{specs.Prelude.option_map, proofs.Common.{ℕ, ◌∙◌, ◌≡◌, ◌≢◌, Bool, Some, ap, false, refl, true}}
+use Rattle.base.specs.declared.kind.Kind.{Kind, TheVariants.{Derive, Read}}
+use Rattle.machine.specs.{Authority.{HasAuthority, label_of, HasAuthority.{by_cap, by_pair}}, Boot.IsBoot, Layout.declared_label}
+use Rattle.machine.specs.{Layout.initial_of, Machine.{Machine, same_id}, Objects.kind_of_object}
+use Rattle.policy.specs.{Domain.EdgeTest, Needed.{Obeys, Rule, derive_by_grant, grant_shares}, Policy.allows}
 use Rattle.table.proofs.AtBoot.{boot_label}
-use Rattle.verdict.specs.Counterexamples.{UnsafeWithout}
-use Rattle.verdict.proofs.GrantPolicy.{has, others_deriving, others_sharing, transitive, within}
+use Rattle.verdict.{specs.Counterexamples.UnsafeWithout, proofs.GrantPolicy.{has, others_deriving, others_sharing, transitive, within}}
 use Rattle.verdict.proofs.GrantRun.{after_send, copy, copy_after, events, object_after, other, outcomes, parent_after, runs}
-use Rattle.verdict.proofs.GrantSystem.{granting, granting_confined, granting_lawful}
-use Rattle.verdict.proofs.ObjectLabels.{same_label}
-use Rattle.verdict.proofs.SmallSystem.{id, slot}
+use Rattle.verdict.proofs.{GrantSystem.{granting, granting_confined, granting_lawful}, ObjectLabels.same_label, SmallSystem.{id, slot}}
 use Rattle.verdict.proofs.UnsafeBy.{LeadsOutside, Needs, unsafe_keeping, unsafe_without}
 
 module _ (m : Machine) (boot : IsBoot granting m) where

@@ -1,10 +1,7 @@
 -- A sound machine keeps what holds between the parts of a step.
-use Rattle.std.proofs.Common.{◌≡◌, Option, Some, None, sym, ◌∙◌, refl}
-use Rattle.std.proofs.lemmas.Option.{none-some}
+use Rattle.std.proofs.{Common.{◌∙◌, ◌≡◌, None, Option, Some, refl, sym}, lemmas.Option.none-some}
 use Rattle.base.specs.declared.ids.ObjId.{ObjId}
-use Rattle.machine.specs.declared.object.Object.{Object}
-use Rattle.machine.specs.Layout.{Layout}
-use Rattle.machine.specs.Machine.{Machine, object_of, queue_of, words_of, cap_of}
+use Rattle.machine.specs.{declared.object.Object.Object, Layout.Layout, Machine.{Machine, cap_of, object_of, queue_of, words_of}}
 use Rattle.machine.specs.WellFormed.{IsWellFormed}
 use Rattle.policy.specs.Domain.{EdgeTest}
 use Rattle.verdict.specs.Invariant.{IsBare, IsHeld, IsSound}

@@ -1,27 +1,16 @@
 -- What a machine's capabilities and pairs name is there, and the numbers of what its links name were given out: in a well-formed
 -- machine, and after a change of a content without links.
-use Rattle.std.proofs.Common.{◌≡◌, ◌<◌, inl, inr, true, false, Some, refl, sym, ap, ◌∙◌, arith}
-use Rattle.std.proofs.lemmas.Bool.{and_parts, false≢true}
+use Rattle.std.proofs.{Common.{◌<◌, ◌∙◌, ◌≡◌, Some, ap, arith, false, inl, inr, refl, sym, true}, lemmas.Bool.{and_parts, false≢true}}
 use Rattle.std.proofs.lemmas.Option.{same_Some}
-use Rattle.base.specs.declared.ids.ObjId.{ObjId}
-use Rattle.base.specs.declared.ids.SlotRef.{SlotRef}
-use Rattle.base.specs.declared.kind.Kind.{Kind}
-use Rattle.base.specs.declared.kind.Kind.TheVariants as authority
-use Rattle.machine.specs.declared.cap.Cap.{Cap}
-use Rattle.machine.specs.declared.object.Object.{Object}
-use Rattle.machine.specs.declared.object.Object.TheVariants as o
-use Rattle.machine.specs.declared.object.Reply.{Reply}
-use Rattle.machine.specs.declared.object.ReplyState.{ReplyState}
+use Rattle.base.specs.declared.{ids.{ObjId.ObjId, SlotRef.SlotRef}, kind.Kind.{Kind, Kind as authority}}
+use Rattle.machine.specs.declared.{cap.Cap.Cap, object.{Object.{Object, Object as o}, Reply.Reply, ReplyState.ReplyState}}
 use Rattle.machine.specs.declared.object.ReplyState.TheVariants as reply
-use Rattle.machine.specs.declared.thread.RunState.{RunState}
+use Rattle.machine.specs.{declared.thread.{RunState.RunState, Tcb.Tcb}, Authority.{holds_thread, lent_of, links, state_links}}
 use Rattle.machine.specs.declared.thread.RunState.TheVariants as state
-use Rattle.machine.specs.declared.thread.Tcb.{Tcb}
-use Rattle.machine.specs.Authority.{holds_thread, lent_of, links, state_links}
-use Rattle.machine.specs.Machine.{Machine, object_of, cap_of, parent_of, with_object}
-use Rattle.machine.specs.WellFormed.{IsReceivingWith, IsThread, IsWellFormed, WaitsAt}
-use Rattle.machine.proofs.Ids.{at_itself, at_other, one_or_two}
-use Rattle.machine.proofs.LookUps.{cap_of-with_object, number_of-with_object, object_of-with_object, one_id, parent_of-with_object}
-use Rattle.machine.proofs.RunsLinks.{named_so, runs_by}
+use Rattle.machine.specs.{Machine.{Machine, cap_of, object_of, parent_of, with_object}, WellFormed.{IsReceivingWith, IsThread}}
+use Rattle.machine.{specs.WellFormed.{IsWellFormed, WaitsAt}, proofs.{Ids.{at_itself, at_other, one_or_two}, LookUps.cap_of-with_object}}
+use Rattle.machine.proofs.{LookUps.{number_of-with_object, object_of-with_object, one_id, parent_of-with_object}, RunsLinks.named_so}
+use Rattle.machine.proofs.RunsLinks.{runs_by}
 
 -- an object is there
 abbrev pub IsThere : Machine → ObjId → Type 0

@@ -1,25 +1,14 @@
 -- What each part of a call keeps, and that two parts, one after the other, keep it: what the headline asks of each row.
-use Rattle.std.proofs.Common.{◌≡◌, ℕ, ◌≤◌, ◌⊎◌, inl, inr, Option, Some, None, refl, sym, ap, subst, ◌∙◌, arith}
-use Rattle.std.proofs.lemmas.Option.{none-some, same_Some}
+use Rattle.std.proofs.{Common.{ℕ, ◌∙◌, ◌≡◌, ◌≤◌, ◌⊎◌, None, Option, Some, ap, arith, inl, inr, refl, subst, sym}, lemmas.Option.none-some}
+use Rattle.std.proofs.lemmas.Option.{same_Some}
 use Rattle.base.specs.declared.ids.ObjId.{ObjId}
-use Rattle.machine.specs.declared.call.Call.TheVariants.{Signal}
-use Rattle.machine.specs.declared.call.Event.{Event}
-use Rattle.machine.specs.declared.object.Context.{Context}
-use Rattle.machine.specs.declared.object.Object.{Object}
-use Rattle.machine.specs.declared.object.Object.TheVariants as o
+use Rattle.machine.specs.declared.{call.{Call.TheVariants.Signal, Event.Event}, object.{Context.Context, Object.{Object, Object as o}}}
 use Rattle.machine.specs.declared.object.ObjectKind.TheVariants as kind
-use Rattle.machine.specs.Authority.{label_of}
-use Rattle.machine.specs.Layout.{Layout}
-use Rattle.machine.specs.Machine.{Machine, object_of}
-use Rattle.machine.specs.Objects.{kind_of_object, address_of}
+use Rattle.machine.specs.{Authority.label_of, Layout.Layout, Machine.{Machine, object_of}, Objects.{address_of, kind_of_object}}
 use Rattle.policy.specs.Domain.{EdgeTest}
-use Rattle.verdict.specs.Allowed.{IsLabelled}
-use Rattle.verdict.specs.Bounded.{MayAffect, MayModifyOrTake}
-use Rattle.verdict.specs.Budgets.{MayConfigure}
-use Rattle.verdict.specs.Invariant.{IsHeld}
-use Rattle.verdict.specs.Shrinks.{IsSame}
-use Rattle.verdict.proofs.ObjectLabels.{same_label, label_stays, labelled_there}
-use Rattle.verdict.proofs.Shrinking.{same_context, same_same, same_shrinks, shrinks_same, shrinks_shrinks}
+use Rattle.verdict.specs.{Allowed.IsLabelled, Bounded.{MayAffect, MayModifyOrTake}, Budgets.MayConfigure, Invariant.IsHeld, Shrinks.IsSame}
+use Rattle.verdict.proofs.{ObjectLabels.{label_stays, labelled_there, same_label}, Shrinking.{same_context, same_same, same_shrinks}}
+use Rattle.verdict.proofs.Shrinking.{shrinks_same, shrinks_shrinks}
 
 -- an object is as it was, or changed within the bounds of a label
 abbrev pub Acts : Layout → EdgeTest → ℕ → Machine → Machine → ObjId → Type 0

@@ -1,35 +1,18 @@
 -- Slot by slot, the first denial of the least rule is the least place at all slots so far: slots rise, and each broken place of A1
 -- to A3 stands at one that is filled.
-use Rattle.std.proofs.Common.{◌≡◌, ℕ, ◌+◌, ◌⊎◌, ◌≤◌, ◌<◌, inl, inr, List, [], ◌∷◌, option_map, get_or, length, map, Option, Some, None, slice_get, refl, sym, ap, subst, ◌∙◌, arith}
-use Rattle.std.specs.declared.cmp.Ordering.TheVariants.{Less}
-use Rattle.std.proofs.lemmas.Bool.{cases_order}
-use Rattle.std.proofs.lemmas.Cmp.{nat_list_cmp_total}
-use Rattle.std.proofs.lemmas.List.{get_or-map}
-use Rattle.std.specs.Option.{option_and_then}
-use Rattle.base.specs.declared.edge.Edge.{Edge}
-use Rattle.std.proofs.lemmas.Option.{same_Some, slice_get_within, get_or_from_slice_get}
-use Rattle.base.specs.declared.ids.SlotRef.{SlotRef}
-use Rattle.base.specs.Kinds.{kind_number}
-use Rattle.machine.specs.declared.cap.Cap.{Cap}
-use Rattle.machine.specs.declared.layout.Filled.{Filled}
-use Rattle.machine.specs.Layout.{Layout, initial_cap}
-use Rattle.machine.specs.Machine.{same_slot, slot_cmp}
-use Rattle.policy.specs.Domain.{EdgeTest}
-use Rattle.policy.specs.Places.{ComesBefore, FindsLeast}
-use Rattle.table.specs.Rules.{IsLawful}
-use Rattle.table.specs.Tree.{IsPairOf}
-use Rattle.verdict.specs.declared.denial.Denial.{Denial}
-use Rattle.verdict.specs.declared.denial.Denial.TheVariants as denial
-use Rattle.verdict.specs.Rules.{a1, a2, a3, a4}
-use Rattle.labels.specs.SlotEdges.{edges_with}
+use Rattle.std.specs.{declared.cmp.Ordering.TheVariants.Less, Cmp.tied_itself, List.find, Option.option_and_then, Ordering.is_eq}
+use Rattle.std.proofs.Common.{[], ℕ, ◌+◌, ◌<◌, ◌∙◌, ◌∷◌, ◌≡◌, ◌≤◌, ◌⊎◌, List, None, Option, Some, ap, arith, get_or, inl, inr, length, map}
+use Rattle.std.proofs.{Common.{option_map, refl, slice_get, subst, sym}, lemmas.{Bool.cases_order, Cmp.nat_list_cmp_total, List.get_or-map}}
+use Rattle.std.proofs.lemmas.Option.{get_or_from_slice_get, same_Some, slice_get_within}
+use Rattle.base.specs.{declared.{edge.Edge.Edge, ids.SlotRef.SlotRef}, Kinds.kind_number}
+use Rattle.machine.specs.{declared.{cap.Cap.Cap, layout.Filled.Filled}, Layout.{Layout, initial_cap}, Machine.{same_slot, slot_cmp}}
 use Rattle.machine.proofs.LookUps.{slot_total}
-use Rattle.std.specs.Cmp.{tied_itself}
-use Rattle.std.specs.List.{find}
-use Rattle.std.specs.Ordering.{is_eq}
-use Rattle.verdict.specs.Slots.{is_missing, BreaksSlots, denial_by, missing_edge, rule_of, slot_rule}
-use Rattle.verdict.specs.Verdict.{place_of}
-use Rattle.table.proofs.Lookups.{filled_at, found_first, parent_at, pair_at}
-use Rattle.verdict.proofs.RuleOrder.{before_by_rule, never_both}
+use Rattle.policy.specs.{Domain.EdgeTest, Places.{ComesBefore, FindsLeast}}
+use Rattle.table.{specs.{Rules.IsLawful, Tree.IsPairOf}, proofs.Lookups.{filled_at, found_first, pair_at, parent_at}}
+use Rattle.labels.specs.SlotEdges.{edges_with}
+use Rattle.verdict.specs.{declared.denial.Denial.Denial, Rules.{a1, a2, a3, a4}, Slots.{BreaksSlots, denial_by, is_missing, missing_edge}}
+use Rattle.verdict.specs.declared.denial.Denial.TheVariants as denial
+use Rattle.verdict.{specs.{Slots.{rule_of, slot_rule}, Verdict.place_of}, proofs.RuleOrder.{before_by_rule, never_both}}
 use Rattle.verdict.proofs.SlotPlaces.{BreaksAt, IsAt, slot_least}
 
 -- a denial of a slot has the number of its rule first

@@ -1,36 +1,18 @@
 -- A call that lends its context to the receiver keeps what a part of a call keeps: the receiver may run on it, since it receives where
 -- one calls that runs on it; and so does an answer with which the context goes back to the thread that lent it.
-use Rattle.std.proofs.Common.{◌≡◌, ◌≢◌, ℕ, ◌⊎◌, inl, inr, true, Option, Some, None, option_map, refl, sym, ap, subst, ◌∙◌}
+use Rattle.std.proofs.Common.{ℕ, ◌∙◌, ◌≡◌, ◌≢◌, ◌⊎◌, None, Option, Some, ap, inl, inr, option_map, refl, subst, sym, true}
 use Rattle.std.proofs.lemmas.Option.{none-some, same_Some}
-use Rattle.base.specs.declared.ids.ObjId.{ObjId}
-use Rattle.base.specs.declared.kind.Kind.TheVariants as authority
-use Rattle.machine.specs.declared.call.Event.{Event}
-use Rattle.machine.specs.declared.object.Object.TheVariants as o
-use Rattle.machine.specs.declared.thread.Lent.{Lent}
-use Rattle.machine.specs.declared.thread.RunState.{RunState}
+use Rattle.base.specs.declared.{ids.ObjId.ObjId, kind.Kind.Kind as authority}
+use Rattle.machine.specs.declared.{call.Event.Event, object.Object.Object as o, thread.{Lent.Lent, RunState.RunState, Tcb.Tcb}}
 use Rattle.machine.specs.declared.thread.RunState.TheVariants as state
-use Rattle.machine.specs.declared.thread.Tcb.{Tcb}
-use Rattle.machine.specs.Authority.{label_of, lent_of, links}
-use Rattle.machine.specs.Layout.{Layout}
-use Rattle.machine.specs.Machine.{Machine, object_of}
-use Rattle.machine.specs.Step.Bind.{context_under, with_handed}
-use Rattle.machine.specs.Step.Reply.{lent_in, with_returned}
-use Rattle.machine.specs.Step.Send.{called_through, lent_by, with_lent}
-use Rattle.machine.specs.WellFormed.{IsFree, IsIdle, IsThread, WaitsAt}
-use Rattle.machine.proofs.Idle.{idle_names, idle_waits}
-use Rattle.machine.proofs.Leaving.{Names}
-use Rattle.machine.proofs.Lending.{GivesBack, lends, returned_or_same}
-use Rattle.machine.proofs.MessageRows.{lending, lending_formed, lending_receiver, lending_there}
-use Rattle.machine.proofs.RunsLinks.{runs_bound, runs_lent}
-use Rattle.policy.specs.Domain.{EdgeTest}
-use Rattle.policy.specs.Full.{IsFull}
-use Rattle.policy.specs.Full.IsFull.{modifies, own}
-use Rattle.policy.specs.Take.{MayTake}
-use Rattle.verdict.specs.Invariant.{IsHeld, IsSound}
-use Rattle.verdict.proofs.ContextTouches.{MayHand, handed_keeps}
-use Rattle.verdict.proofs.Held.{held_of}
-use Rattle.verdict.proofs.Keeps.{Keeps, keeps_keeps, unchanged}
-use Rattle.verdict.proofs.MessageParts.{halts, label_kept, thread_edge, waits_keep}
+use Rattle.machine.specs.{Authority.{label_of, lent_of, links}, Layout.Layout, Machine.{Machine, object_of}, Step.Bind.context_under}
+use Rattle.machine.specs.Step.{Bind.with_handed, Reply.{lent_in, with_returned}, Send.{called_through, lent_by, with_lent}}
+use Rattle.machine.{specs.WellFormed.{IsFree, IsIdle, IsThread, WaitsAt}, proofs.{Idle.{idle_names, idle_waits}, Leaving.Names}}
+use Rattle.machine.proofs.{Lending.{GivesBack, lends, returned_or_same}, MessageRows.{lending, lending_formed, lending_receiver}}
+use Rattle.machine.proofs.{MessageRows.lending_there, RunsLinks.{runs_bound, runs_lent}}
+use Rattle.policy.specs.{Domain.EdgeTest, Full.{IsFull, IsFull.{modifies, own}}, Take.MayTake}
+use Rattle.verdict.{specs.Invariant.{IsHeld, IsSound}, proofs.{ContextTouches.{MayHand, handed_keeps}, Held.held_of, Keeps.Keeps}}
+use Rattle.verdict.proofs.{Keeps.{keeps_keeps, unchanged}, MessageParts.{halts, label_kept, thread_edge, waits_keep}}
 use Rattle.verdict.proofs.MessageTouches.{sound_after}
 
 -- what runs on a context has it as its own

@@ -1,15 +1,12 @@
 -- A policy of the labels 0 and 1 that obeys every rule but that who may be lent a context may run on it: each label has every edge to 0,
 -- and to 1 every edge but control and context, and 1 alone runs on 1.
-use Rattle.std.proofs.Common.{◌≡◌, ◌≢◌, ℕ, ◌<◌, inl, inr, Bool, true, false, ◌==◌, ◌&&◌, ◌||◌, nat_lt, refl, sym, ap, ◌∙◌, arith, lit<}
-use Rattle.std.proofs.lemmas.Bool.{false≢true, and_parts, and_from, eqb-true, lt-ltb, ltb-true}
-use Rattle.base.specs.declared.kind.Kind.{Kind}
-use Rattle.base.specs.declared.kind.Kind.TheVariants.{Control, Receive, Grant, Call, Reply, Context, Space, Derive, Runs, Holds}
+use Rattle.std.proofs.Common.{ℕ, ◌&&◌, ◌<◌, ◌==◌, ◌||◌, ◌∙◌, ◌≡◌, ◌≢◌, Bool, ap, arith, false, inl, inr, lit<, nat_lt, refl, sym, true}
+use Rattle.std.proofs.lemmas.Bool.{and_from, and_parts, eqb-true, false≢true, lt-ltb, ltb-true}
+use Rattle.base.specs.declared.kind.Kind.{Kind, TheVariants.{Call, Context, Control, Derive, Grant, Holds, Receive, Reply, Runs, Space}}
 use Rattle.base.specs.Kinds.{is_structural}
-use Rattle.policy.specs.Closed.{ContextRuns, ControlGivesAll, DeriveByGrant, DeriveInDomain, GrantShares, ReplyHolds}
-use Rattle.policy.specs.Closed.{granted, derived, server, caller}
-use Rattle.policy.specs.Domain.{EdgeTest, IsInDomain, SubjectsAgree}
-use Rattle.policy.specs.Needed.{Rule, subjects_agree, control_gives_all, grant_shares, derive_in_domain, derive_by_grant, context_runs}
-use Rattle.policy.specs.Needed.{reply_holds, lent_runs, Obeys}
+use Rattle.policy.specs.Closed.{ContextRuns, ControlGivesAll, DeriveByGrant, DeriveInDomain, GrantShares, ReplyHolds, caller, derived}
+use Rattle.policy.specs.{Closed.{granted, server}, Domain.{EdgeTest, IsInDomain, SubjectsAgree}, Needed.{Obeys, Rule, context_runs}}
+use Rattle.policy.specs.Needed.{control_gives_all, derive_by_grant, derive_in_domain, grant_shares, lent_runs, reply_holds, subjects_agree}
 use Rattle.verdict.proofs.TestPolicies.{IsWithin}
 
 -- between which labels there are edges of a kind

@@ -1,43 +1,22 @@
 -- The system of a receiver and a caller isn't safe where the policy lacks that who may be lent a context may run on it: the receiver
 -- waits with a reply; the caller unbinds the receiver's context, and calls; and the receiver runs on the context of the caller.
-use Rattle.std.proofs.Common.{◌≡◌, ℕ, true, false, List, [], ◌∷◌, Option, Some, None, Ok, refl}
-use Rattle.base.specs.declared.ids.ObjId.{ObjId}
-use Rattle.base.specs.declared.kind.Kind.TheVariants.{Runs}
-use Rattle.machine.specs.declared.call.Answer.TheVariants.{Nothing}
-use Rattle.machine.specs.declared.call.Call.TheVariants.{Call, Unbind}
-use Rattle.machine.specs.declared.call.Event.{Event}
-use Rattle.machine.specs.declared.call.Made.TheVariants.{Blocked, Done}
-use Rattle.machine.specs.declared.call.Outcome.TheVariants as outcome
-use Rattle.machine.specs.declared.object.Object.TheVariants as o
+use Rattle.std.proofs.Common.{[], ℕ, ◌∷◌, ◌≡◌, List, None, Ok, Option, Some, false, refl, true}
+use Rattle.base.specs.declared.{ids.ObjId.ObjId, kind.Kind.TheVariants.Runs}
+use Rattle.machine.specs.declared.call.{Answer.TheVariants.Nothing, Call.TheVariants.{Call, Unbind}, Event.Event, Made.TheVariants.Blocked}
+use Rattle.machine.specs.declared.{call.{Made.TheVariants.Done, Outcome.Outcome as outcome}, object.Object.Object as o}
 use Rattle.machine.specs.declared.object.ReplyState.TheVariants as reply
-use Rattle.machine.specs.declared.thread.Calling.{Calling}
-use Rattle.machine.specs.declared.thread.Inbox.TheVariants as inbox
-use Rattle.machine.specs.declared.thread.RunState.TheVariants as state
-use Rattle.machine.specs.declared.thread.Sending.{Sending}
-use Rattle.machine.specs.declared.thread.Tcb.{Tcb}
-use Rattle.machine.specs.Authority.{HasAuthority}
-use Rattle.machine.specs.Authority.HasAuthority.{by_link}
-use Rattle.machine.specs.Boot.{IsBoot}
-use Rattle.machine.specs.Changes.{first_waiting, with_reply, with_tcb, without_waiting}
-use Rattle.machine.specs.Layout.{initial_of, initial_cap, declared_label, bound_context, bound_thread}
-use Rattle.machine.specs.Lookup.{level_at, lookup_of, walk, hop}
-use Rattle.machine.specs.Machine.{Machine, object_of}
-use Rattle.machine.specs.Releasing.{with_called, with_halted, with_holding, with_released}
-use Rattle.machine.specs.Step.{admitted, made_by, step_of}
-use Rattle.machine.specs.Step.Step.{ends}
-use Rattle.machine.specs.Step.Bind.{unbind_of, with_handed}
-use Rattle.machine.specs.Step.Deliver.{arrival_of, delivered, first_at, sending_by}
-use Rattle.machine.specs.Step.Find.{find_cap, find_context, find_endpoint}
-use Rattle.machine.specs.Step.Send.{endpoint_call_of}
-use Rattle.machine.proofs.ContextsFormed.{bound_is, unbound_is}
+use Rattle.machine.specs.declared.thread.{Calling.Calling, Inbox.Inbox as inbox, RunState.RunState as state, Sending.Sending, Tcb.Tcb}
+use Rattle.machine.specs.{Authority.{HasAuthority, HasAuthority.by_link}, Boot.IsBoot, Changes.{first_waiting, with_reply, with_tcb}}
+use Rattle.machine.specs.{Changes.without_waiting, Layout.{bound_context, bound_thread, declared_label, initial_cap, initial_of}}
+use Rattle.machine.specs.{Lookup.{hop, level_at, lookup_of, walk}, Machine.{Machine, object_of}, Releasing.{with_called, with_halted}}
+use Rattle.machine.specs.{Releasing.{with_holding, with_released}, Step.{admitted, made_by, step_of, Bind.{unbind_of, with_handed}}}
+use Rattle.machine.specs.Step.{Deliver.{arrival_of, delivered, first_at, sending_by}, Find.{find_cap, find_context, find_endpoint}}
+use Rattle.machine.{specs.Step.{Send.endpoint_call_of, Step.ends}, proofs.ContextsFormed.{bound_is, unbound_is}}
 use Rattle.policy.specs.Needed.{lent_runs}
-use Rattle.verdict.specs.Counterexamples.{UnsafeWithout}
-use Rattle.verdict.proofs.LendingPolicy.{has, of_first, others, within}
-use Rattle.verdict.proofs.ReplyRun.{Change, becomes, waits, with_changes, object_after, queue_after, object_now, queue_now, cap_now}
-use Rattle.verdict.proofs.ReplyRun.{label_now, awaited, receive_made, received, receiving, waiting}
-use Rattle.verdict.proofs.ReplySystem.{serving, serving_confined, serving_lawful, answers, caller, context, end, receiver}
-use Rattle.verdict.proofs.SmallSystem.{id, slot}
-use Rattle.verdict.proofs.UnsafeBy.{unsafe_without}
+use Rattle.verdict.{specs.Counterexamples.UnsafeWithout, proofs.{LendingPolicy.{has, of_first, others, within}, ReplyRun.{Change, awaited}}}
+use Rattle.verdict.proofs.ReplyRun.{becomes, cap_now, label_now, object_after, object_now, queue_after, queue_now, receive_made, received}
+use Rattle.verdict.proofs.{ReplyRun.{receiving, waiting, waits, with_changes}, ReplySystem.{answers, caller, context, end, receiver}}
+use Rattle.verdict.proofs.{ReplySystem.{serving, serving_confined, serving_lawful}, SmallSystem.{id, slot}, UnsafeBy.unsafe_without}
 
 abbrev words : List ℕ
 words = 0 ∷ 0 ∷ 0 ∷ 0 ∷ []

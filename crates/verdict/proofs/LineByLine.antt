@@ -1,32 +1,14 @@
 -- The boot state of a lawful table is confined where each line of the table lies within the policy.
-use Rattle.std.proofs.Common.{◌≡◌, ℕ, true, Some, List, slice_get, refl, sym, ap, subst, ◌∙◌}
-use Rattle.std.specs.List.{All}
-use Rattle.std.proofs.lemmas.Bool.{false≢true}
-use Rattle.std.proofs.lemmas.Option.{same_Some, slice_get_within, get_or_from_slice_get}
-use Rattle.base.specs.declared.ids.ObjId.{ObjId}
-use Rattle.base.specs.declared.ids.SlotRef.{SlotRef}
-use Rattle.base.specs.declared.kind.Kind.{Kind}
-use Rattle.base.specs.declared.kind.Kind.TheVariants.{Control, Space, Derive, Runs}
-use Rattle.machine.specs.declared.cap.Cap.{Cap}
-use Rattle.machine.specs.declared.cap.Detail.{Detail}
-use Rattle.machine.specs.declared.cap.Detail.TheVariants as d
-use Rattle.machine.specs.declared.layout.Binding.{Binding}
-use Rattle.machine.specs.declared.layout.Filled.{Filled}
-use Rattle.machine.specs.declared.layout.Pair.{Pair}
-use Rattle.machine.specs.declared.object.ObjectKind.TheVariants as kind
-use Rattle.machine.specs.Boot.{IsBoot}
-use Rattle.machine.specs.Capabilities.{gives}
-use Rattle.machine.specs.Layout.{Layout, declared_label}
+use Rattle.std.{specs.List.All, proofs.{Common.{ℕ, ◌∙◌, ◌≡◌, List, Some, ap, refl, slice_get, subst, sym, true}, lemmas.Bool.false≢true}}
+use Rattle.std.proofs.lemmas.Option.{get_or_from_slice_get, same_Some, slice_get_within}
+use Rattle.base.specs.declared.{ids.{ObjId.ObjId, SlotRef.SlotRef}, kind.Kind.{Kind, TheVariants.{Control, Derive, Runs, Space}}}
+use Rattle.machine.specs.declared.{cap.{Cap.Cap, Detail.{Detail, Detail as d}}, layout.{Binding.Binding, Filled.Filled, Pair.Pair}}
+use Rattle.machine.specs.{declared.object.ObjectKind.ObjectKind as kind, Boot.IsBoot, Capabilities.gives, Layout.{Layout, declared_label}}
 use Rattle.machine.specs.Machine.{Machine}
 use Rattle.policy.specs.Domain.{EdgeTest}
-use Rattle.table.specs.Rules.{IsLawful, kind_at}
-use Rattle.table.proofs.Lookups.{bound_at, filled_at, parent_at}
-use Rattle.verdict.specs.Confined.{IsConfined}
-use Rattle.verdict.specs.Rules.{Excess, Exceeds, capability, root, pair, binding, holding, recorded}
-use Rattle.verdict.specs.Sources.{of_table}
-use Rattle.verdict.proofs.BindingPlaces.{declared_bound}
-use Rattle.verdict.proofs.BootPlaces.{exceeds_same}
-use Rattle.verdict.proofs.Outsides.{confined_within}
+use Rattle.table.{specs.Rules.{IsLawful, kind_at}, proofs.Lookups.{bound_at, filled_at, parent_at}}
+use Rattle.verdict.specs.{Confined.IsConfined, Rules.{Exceeds, Excess, binding, capability, holding, pair, recorded, root}}
+use Rattle.verdict.{specs.Sources.of_table, proofs.{BindingPlaces.declared_bound, BootPlaces.exceeds_same, Outsides.confined_within}}
 
 -- the labels of two objects
 pub record AreLabelled (t : Layout) (one other : ObjId) (from to : ℕ) : Type 0 where

@@ -1,41 +1,21 @@
 -- For each link of an object that gives authority a state that it takes out of a policy: the boot state of the small system, where the
 -- thread's place has another content.
-use Rattle.std.proofs.Common.{◌≡◌, ◌≢◌, ℕ, inl, inr, true, false, [], ◌∷◌, refl, sym, ap, subst, ◌∙◌, arith}
-use Rattle.std.specs.Prelude.{Some, None, option_map}
-use Rattle.std.proofs.lemmas.Bool.{false≢true}
-use Rattle.std.proofs.lemmas.Option.{same_Some}
-use Rattle.base.specs.declared.ids.ObjId.{ObjId}
-use Rattle.base.specs.declared.kind.Kind.{Kind}
-use Rattle.base.specs.declared.kind.Kind.TheVariants as authority
-use Rattle.machine.specs.declared.object.Object.{Object}
-use Rattle.machine.specs.declared.object.Object.TheVariants as o
+use Rattle.std.{specs.Prelude.{None, Some, option_map}, proofs.Common.{[], ℕ, ◌∙◌, ◌∷◌, ◌≡◌, ◌≢◌, ap, arith, false, inl, inr, refl, subst}}
+use Rattle.std.proofs.{Common.{sym, true}, lemmas.{Bool.false≢true, Option.same_Some}}
+use Rattle.base.specs.declared.{ids.ObjId.ObjId, kind.Kind.{Kind, Kind as authority}}
+use Rattle.machine.specs.declared.{object.{Object.{Object, Object as o}, Reply.Reply}, thread.{Calling.Calling, Lent.Lent}}
 use Rattle.machine.specs.declared.object.ObjectKind.TheVariants as kind
-use Rattle.machine.specs.declared.object.Reply.{Reply}
 use Rattle.machine.specs.declared.object.ReplyState.TheVariants as reply
-use Rattle.machine.specs.declared.thread.Calling.{Calling}
 use Rattle.machine.specs.declared.thread.Inbox.TheVariants as inbox
-use Rattle.machine.specs.declared.thread.Lent.{Lent}
-use Rattle.machine.specs.declared.thread.Receiving.{Receiving}
+use Rattle.machine.specs.{declared.thread.{Receiving.Receiving, Sending.Sending, Tcb.Tcb}, Authority.{HasAuthority, label_of, links}}
 use Rattle.machine.specs.declared.thread.RunState.TheVariants as state
-use Rattle.machine.specs.declared.thread.Sending.{Sending}
-use Rattle.machine.specs.declared.thread.Tcb.{Tcb}
-use Rattle.machine.specs.Authority.{HasAuthority, label_of, links}
-use Rattle.machine.specs.Authority.HasAuthority.{by_cap, by_root, by_pair, by_link}
-use Rattle.machine.specs.Layout.{initial_of, declared_label}
-use Rattle.machine.specs.Machine.{Machine, object_of, same_id, with_object}
-use Rattle.machine.specs.Objects.{kind_of_object}
-use Rattle.machine.specs.WellFormed.{kind_of}
-use Rattle.machine.proofs.Ids.{at_other, one_or_two}
-use Rattle.machine.proofs.LookUps.{cap_of-with_object, object_of-with_object, one_id, parent_of-with_object}
+use Rattle.machine.specs.{Authority.HasAuthority.{by_cap, by_link, by_pair, by_root}, Layout.{declared_label, initial_of}, Machine.Machine}
+use Rattle.machine.{specs.{Machine.{object_of, same_id, with_object}, Objects.kind_of_object, WellFormed.kind_of}, proofs.Ids.at_other}
+use Rattle.machine.proofs.{Ids.one_or_two, LookUps.{cap_of-with_object, object_of-with_object, one_id, parent_of-with_object}}
 use Rattle.machine.proofs.RoundLemmas.{or_second}
-use Rattle.policy.specs.Domain.{EdgeTest}
-use Rattle.policy.specs.Policy.{allows, is_edge}
-use Rattle.verdict.specs.Confined.{IsConfined}
-use Rattle.verdict.specs.Counterexamples.{TakesOut}
-use Rattle.verdict.proofs.ObjectLabels.{same_label}
-use Rattle.verdict.proofs.Reasons.{label_there, m, thread_kind, within}
-use Rattle.verdict.proofs.SmallSystem.{id, signalling}
-use Rattle.verdict.proofs.Unsafe.{edges}
+use Rattle.policy.specs.{Domain.EdgeTest, Policy.{allows, is_edge}}
+use Rattle.verdict.{specs.{Confined.IsConfined, Counterexamples.TakesOut}, proofs.{ObjectLabels.same_label, Reasons.{label_there, m}}}
+use Rattle.verdict.proofs.{Reasons.{thread_kind, within}, SmallSystem.{id, signalling}, Unsafe.edges}
 
 -- the boot state with this content in the thread's place
 abbrev changed : Object → Machine

@@ -1,18 +1,12 @@
 -- An object that only loses something shrinks.
-use Rattle.std.proofs.Common.{◌≡◌, ◌≢◌, ℕ, ◌<◌, ◌⊎◌, inl, inr, List, [], ◌∷◌, ◌++◌, Some, None, refl, ap, ◌∙◌, arith}
+use Rattle.std.proofs.Common.{[], ℕ, ◌++◌, ◌<◌, ◌∙◌, ◌∷◌, ◌≡◌, ◌≢◌, ◌⊎◌, List, None, Some, ap, arith, inl, inr, refl}
 use Rattle.std.proofs.lemmas.Bool.{cases_order}
-use Rattle.base.specs.declared.ids.ObjId.{ObjId}
-use Rattle.base.specs.declared.ids.SlotRef.{SlotRef}
-use Rattle.machine.specs.declared.object.Object.{Object}
-use Rattle.machine.specs.declared.thread.RunState.{RunState}
-use Rattle.machine.specs.declared.thread.RunState.TheVariants as state
-use Rattle.machine.specs.Machine.{Machine, object_of, queue_of, words_of, cap_of, with_object, with_queue}
-use Rattle.machine.proofs.LookUps.{object_of-with_object, queue_of-with_object, words_of-with_object, cap_of-with_object}
-use Rattle.machine.proofs.LookUps.{object_of-with_queue, queue_of-with_queue, words_of-with_queue, cap_of-with_queue}
-use Rattle.verdict.specs.Shrinks.{IsBlocked, IsPart, Lessens, Shrinks}
-use Rattle.verdict.specs.Shrinks.IsPart.{ended, stayed, left}
-use Rattle.verdict.specs.Shrinks.Lessens.{as_it_was}
-use Rattle.machine.proofs.Ids.{at_itself}
+use Rattle.base.specs.declared.ids.{ObjId.ObjId, SlotRef.SlotRef}
+use Rattle.machine.specs.{declared.{object.Object.Object, thread.RunState.{RunState, RunState as state}}, Machine.{Machine, cap_of}}
+use Rattle.machine.{specs.Machine.{object_of, queue_of, with_object, with_queue, words_of}, proofs.Ids.at_itself}
+use Rattle.machine.proofs.LookUps.{cap_of-with_object, cap_of-with_queue, object_of-with_object, object_of-with_queue, queue_of-with_object}
+use Rattle.machine.proofs.LookUps.{queue_of-with_queue, words_of-with_object, words_of-with_queue}
+use Rattle.verdict.specs.Shrinks.{IsBlocked, IsPart, Lessens, Shrinks, IsPart.{ended, left, stayed}, Lessens.as_it_was}
 
 pub all_stayed : (all : List ObjId) → IsPart all all
 all_stayed [] = ended

@@ -1,49 +1,22 @@
 -- An object that is made from untyped memory keeps what a part of a call keeps: the memory is the caller's to control, so that all kinds
 -- of authority over it are, and its capability comes into a CNode that is the caller's to control too.
-use Rattle.std.proofs.Common.{◌≡◌, ◌≢◌, ℕ, ◌+◌, ◌≤◌, ◌<◌, inr, Bool, true, false, Some, None, option_map, refl, sym, ap, subst}
-use Rattle.std.proofs.Common.{◌∙◌, arith}
-use Rattle.std.specs.Prelude.{if◌then◌else◌}
-use Rattle.std.proofs.lemmas.Bool.{false≢true}
-use Rattle.std.proofs.lemmas.Nat.{pow_pos}
-use Rattle.std.proofs.lemmas.Option.{none-some, same_Some}
-use Rattle.base.specs.declared.ids.ObjId.{ObjId}
-use Rattle.base.specs.declared.ids.SlotRef.{SlotRef}
-use Rattle.base.specs.declared.kind.Kind.{Kind}
-use Rattle.base.specs.declared.kind.Kind.TheVariants as authority
-use Rattle.base.specs.Kinds.{is_structural}
-use Rattle.machine.specs.declared.call.Event.{Event}
-use Rattle.machine.specs.declared.cap.Cap.{Cap}
-use Rattle.machine.specs.declared.object.MemoryKind.{MemoryKind}
+use Rattle.std.{specs.Prelude.if◌then◌else◌, proofs.Common.{ℕ, ◌+◌, ◌<◌, ◌∙◌, ◌≡◌, ◌≢◌, ◌≤◌, Bool, None, Some, ap, arith, false, inr}}
+use Rattle.std.proofs.{Common.{option_map, refl, subst, sym, true}, lemmas.{Bool.false≢true, Nat.pow_pos, Option.{none-some, same_Some}}}
+use Rattle.base.specs.{declared.{ids.{ObjId.ObjId, SlotRef.SlotRef}, kind.Kind.{Kind, Kind as authority}}, Kinds.is_structural}
+use Rattle.machine.specs.declared.{call.Event.Event, cap.Cap.Cap, object.{MemoryKind.MemoryKind, Object.{Object, Object as o}}}
 use Rattle.machine.specs.declared.object.MemoryKind.TheVariants as memory
-use Rattle.machine.specs.declared.object.Object.{Object}
-use Rattle.machine.specs.declared.object.Object.TheVariants as o
 use Rattle.machine.specs.declared.object.ObjectKind.TheVariants as kind
-use Rattle.machine.specs.declared.object.Untyped.{Untyped}
-use Rattle.machine.specs.Authority.{label_at, label_of, links}
-use Rattle.machine.specs.Capabilities.{gives, kind_of_detail}
-use Rattle.machine.specs.Layout.{Layout}
-use Rattle.machine.specs.Machine.{Machine, object_of, queue_of, words_of, cap_of, parent_of, same_slot, with_cap, with_new, with_object, with_parent}
-use Rattle.machine.specs.Memory.{Source, new_cap, new_detail, new_object, new_size, placed, taken, with_made}
-use Rattle.machine.specs.Objects.{kind_of_object, end_of}
-use Rattle.machine.specs.WellFormed.{kind_of}
-use Rattle.machine.proofs.Ids.{at_itself, at_other}
-use Rattle.machine.proofs.LookUps.{cap_of-with_cap, cap_of-with_parent, object_of-with_new, object_of-with_object}
-use Rattle.machine.proofs.LookUps.{parent_of-with_cap, parent_of-with_parent}
-use Rattle.machine.proofs.ObjectMade.{marked}
-use Rattle.machine.proofs.RetypeFormed.{new_address, new_kind}
+use Rattle.machine.specs.{declared.object.Untyped.Untyped, Authority.{label_at, label_of, links}, Capabilities.{gives, kind_of_detail}}
+use Rattle.machine.specs.{Layout.Layout, Machine.{Machine, cap_of, object_of, parent_of, queue_of, same_slot, with_cap, with_new}}
+use Rattle.machine.specs.{Machine.{with_object, with_parent, words_of}, Memory.{Source, new_cap, new_detail, new_object, new_size, placed}}
+use Rattle.machine.{specs.{Memory.{taken, with_made}, Objects.{end_of, kind_of_object}, WellFormed.kind_of}, proofs.Ids.at_itself}
+use Rattle.machine.proofs.{Ids.at_other, LookUps.{cap_of-with_cap, cap_of-with_parent, object_of-with_new, object_of-with_object}}
+use Rattle.machine.proofs.{LookUps.{parent_of-with_cap, parent_of-with_parent}, ObjectMade.marked, RetypeFormed.{new_address, new_kind}}
 use Rattle.machine.proofs.SlotChanges.{Fills, SameObjects}
-use Rattle.policy.specs.Closed.{IsClosed}
-use Rattle.policy.specs.Domain.{EdgeTest, IsInDomain}
-use Rattle.policy.specs.Full.IsFull.{modifies}
-use Rattle.verdict.specs.Invariant.{IsBare, IsHeld}
-use Rattle.verdict.proofs.Contents.{full}
-use Rattle.verdict.proofs.FillKeeps.{MayFill, fill_fits, given_of_use, in_node, slots_elsewhere}
-use Rattle.verdict.proofs.Joined.{IsJoined, joined_set}
-use Rattle.verdict.proofs.Keeps.{Keeps, keeps_keeps}
-use Rattle.verdict.proofs.NewKeeps.{IsMakeable, new_keeps, new_label}
-use Rattle.verdict.proofs.ObjectLabels.{kind_there, same_label}
-use Rattle.verdict.proofs.Reach.{IsControlled}
-use Rattle.verdict.proofs.SetKeeps.{set_keeps}
+use Rattle.policy.specs.{Closed.IsClosed, Domain.{EdgeTest, IsInDomain}, Full.IsFull.modifies}
+use Rattle.verdict.{specs.Invariant.{IsBare, IsHeld}, proofs.{Contents.full, FillKeeps.{MayFill, fill_fits, given_of_use, in_node}}}
+use Rattle.verdict.proofs.{FillKeeps.slots_elsewhere, Joined.{IsJoined, joined_set}, Keeps.{Keeps, keeps_keeps}, NewKeeps.IsMakeable}
+use Rattle.verdict.proofs.{NewKeeps.{new_keeps, new_label}, ObjectLabels.{kind_there, same_label}, Reach.IsControlled, SetKeeps.set_keeps}
 use Rattle.verdict.proofs.SlotKeeps.{SlotsFit, slots_keep}
 
 -- a new object links to nothing

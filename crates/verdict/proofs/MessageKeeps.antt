@@ -1,72 +1,32 @@
 -- Send, Call, Receive, Reply and Fetch within a caller's authority: the endpoint or the reply that is found is one that its label
 -- may use so, and whom a message or an answer reaches waits there by a recorded edge.
-use Rattle.std.proofs.Common.{◌≡◌, ◌≢◌, ℕ, ◌⊎◌, inl, inr, Bool, true, false, ◌&&◌, List, Option, Some, None, refl, sym, ap, subst}
-use Rattle.std.proofs.Common.{◌∙◌}
-use Rattle.std.specs.Prelude.{if◌then◌else◌, is_ok}
-use Rattle.std.proofs.lemmas.Bool.{and_from, and_parts, false≢true}
-use Rattle.base.specs.declared.ids.ObjId.{ObjId}
-use Rattle.base.specs.declared.kind.Kind.{Kind}
-use Rattle.base.specs.declared.kind.Kind.TheVariants as authority
-use Rattle.machine.specs.declared.call.Event.{Event}
-use Rattle.machine.specs.declared.cap.Detail.TheVariants as d
-use Rattle.machine.specs.declared.object.Endpoint.{Endpoint}
-use Rattle.machine.specs.declared.object.Object.{Object}
-use Rattle.machine.specs.declared.object.Object.TheVariants as o
-use Rattle.machine.specs.declared.object.Reply.{Reply}
+use Rattle.std.{specs.Prelude.{if◌then◌else◌, is_ok}, proofs.Common.{ℕ, ◌&&◌, ◌∙◌, ◌≡◌, ◌≢◌, ◌⊎◌, Bool, List, None, Option, Some, ap}}
+use Rattle.std.proofs.{Common.{false, inl, inr, refl, subst, sym, true}, lemmas.Bool.{and_from, and_parts, false≢true}}
+use Rattle.base.specs.declared.{ids.ObjId.ObjId, kind.Kind.{Kind, Kind as authority}}
+use Rattle.machine.specs.declared.{call.Event.Event, cap.Detail.Detail as d, object.{Endpoint.Endpoint, Object.{Object, Object as o}}}
+use Rattle.machine.specs.declared.{object.Reply.Reply, slot_address.SlotAddress.SlotAddress, thread.{Message.Message, Receiving.Receiving}}
 use Rattle.machine.specs.declared.object.ReplyState.TheVariants as reply
-use Rattle.machine.specs.declared.slot_address.SlotAddress.{SlotAddress}
-use Rattle.machine.specs.declared.thread.Message.{Message}
-use Rattle.machine.specs.declared.thread.Receiving.{Receiving}
-use Rattle.machine.specs.declared.thread.RunState.{RunState}
+use Rattle.machine.specs.{declared.thread.{RunState.RunState, Sending.Sending, Tcb.Tcb}, Authority.{label_of, state_links}}
 use Rattle.machine.specs.declared.thread.RunState.TheVariants as state
-use Rattle.machine.specs.declared.thread.Sending.{Sending}
-use Rattle.machine.specs.declared.thread.Tcb.{Tcb}
-use Rattle.machine.specs.Authority.{label_of, state_links}
-use Rattle.machine.specs.Capabilities.{can_write}
-use Rattle.machine.specs.Layout.{Layout}
-use Rattle.machine.specs.Machine.{Machine, object_of, same_id}
-use Rattle.machine.specs.Releasing.{given, ready, with_blocked, with_given, with_named}
-use Rattle.machine.specs.Releasing.{with_ready}
-use Rattle.machine.specs.Step.Deliver.{answer_through, arrival_of, delivered, linked, message_of, sending_by, sent, with_arrival}
-use Rattle.machine.specs.Step.Receive.{awaiting_message, with_reply_ended}
-use Rattle.machine.specs.Step.Reply.{with_returned}
-use Rattle.machine.specs.Step.Send.{called_through}
-use Rattle.machine.specs.WellFormed.{IsAlike, IsCallingThrough, IsReceivingWith, IsThread, IsWellFormed, WaitsAt}
-use Rattle.machine.proofs.Admission.{IsCaller}
-use Rattle.machine.proofs.Arrival.{arrival_same}
-use Rattle.machine.proofs.EndpointRow.{IsEndOpen, IsReceiver, IsSender}
-use Rattle.machine.proofs.FetchRow.{FetchDone}
-use Rattle.machine.proofs.HeldThreads.{calling_names}
-use Rattle.machine.proofs.Ids.{itself}
-use Rattle.machine.proofs.Joins.{names_one}
-use Rattle.machine.proofs.Leaving.{Names}
-use Rattle.machine.proofs.Lending.{returned_there}
-use Rattle.machine.proofs.LookUps.{one_id}
-use Rattle.machine.proofs.MessageRows.{answers_through, caller_apart, caller_idle, delivered_formed}
-use Rattle.machine.proofs.MessageRows.{delivered_free, delivered_other, delivered_there, received_arrived_formed}
-use Rattle.machine.proofs.MessageRows.{received_arrived_free, received_caller, received_ended_formed, received_endpoint}
-use Rattle.machine.proofs.MessageRows.{received_free, received_sender}
-use Rattle.machine.proofs.ReceiveRow.{ReceiveDone}
-use Rattle.machine.proofs.ReplyRow.{Answers, ReplyDone}
-use Rattle.machine.proofs.RunsLinks.{named_so}
-use Rattle.machine.proofs.SendRow.{EndpointCallDone, SendDone}
-use Rattle.policy.specs.Closed.{IsClosed, caller, server}
-use Rattle.policy.specs.Domain.{EdgeTest}
-use Rattle.policy.specs.Full.{IsFull}
-use Rattle.policy.specs.Full.IsFull.{modifies, receives, replies, sends}
-use Rattle.policy.specs.Full.IsFull.{links as links_to}
-use Rattle.policy.specs.Take.{MayTake}
-use Rattle.verdict.specs.Invariant.{IsHeld, IsSound}
-use Rattle.verdict.proofs.ArrivalKeeps.{arrival_keeps}
-use Rattle.verdict.proofs.Held.{held_of}
-use Rattle.verdict.proofs.Keeps.{Keeps, keeps_keeps, unchanged}
-use Rattle.verdict.proofs.LendingKeeps.{called_through_keeps, returned_keeps}
-use Rattle.verdict.proofs.MessageParts.{IsReached, answers_allowed, at_reached, blocked_beside, deliver_keeps}
-use Rattle.verdict.proofs.MessageParts.{halt_keeps, holds_edge, label_kept, link_keeps, receiver_receives}
-use Rattle.verdict.proofs.MessageParts.{reached, receiver_replies, same_kept, sender_calls, sender_grants, sender_sends}
-use Rattle.verdict.proofs.MessageParts.{thread_label}
-use Rattle.verdict.proofs.MessageTouches.{blocked_keeps, emptied_keeps, holding_keeps, released_keeps, sound_after}
-use Rattle.verdict.proofs.ObjectLabels.{same_label}
+use Rattle.machine.specs.{Capabilities.can_write, Layout.Layout, Machine.{Machine, object_of, same_id}, Releasing.{given, ready}}
+use Rattle.machine.specs.{Releasing.{with_blocked, with_given, with_named, with_ready}, Step.Deliver.{answer_through, arrival_of}}
+use Rattle.machine.specs.Step.{Deliver.{delivered, linked, message_of, sending_by, sent, with_arrival}, Receive.awaiting_message}
+use Rattle.machine.specs.{Step.{Receive.with_reply_ended, Reply.with_returned, Send.called_through}, WellFormed.{IsAlike, IsCallingThrough}}
+use Rattle.machine.{specs.WellFormed.{IsReceivingWith, IsThread, IsWellFormed, WaitsAt}, proofs.{Admission.IsCaller, Arrival.arrival_same}}
+use Rattle.machine.proofs.{EndpointRow.{IsEndOpen, IsReceiver, IsSender}, FetchRow.FetchDone, HeldThreads.calling_names, Ids.itself}
+use Rattle.machine.proofs.{Joins.names_one, Leaving.Names, Lending.returned_there, LookUps.one_id, MessageRows.answers_through}
+use Rattle.machine.proofs.MessageRows.{caller_apart, caller_idle, delivered_formed, delivered_free, delivered_other, delivered_there}
+use Rattle.machine.proofs.MessageRows.{received_arrived_formed, received_arrived_free, received_caller, received_ended_formed}
+use Rattle.machine.proofs.{MessageRows.{received_endpoint, received_free, received_sender}, ReceiveRow.ReceiveDone, ReplyRow.Answers}
+use Rattle.machine.proofs.{ReplyRow.ReplyDone, RunsLinks.named_so, SendRow.{EndpointCallDone, SendDone}}
+use Rattle.policy.specs.{Closed.{IsClosed, caller, server}, Domain.EdgeTest, Full.{IsFull, IsFull.{links as links_to, modifies, receives}}}
+use Rattle.policy.specs.{Full.IsFull.{replies, sends}, Take.MayTake}
+use Rattle.verdict.{specs.Invariant.{IsHeld, IsSound}, proofs.{ArrivalKeeps.arrival_keeps, Held.held_of, Keeps.{Keeps, keeps_keeps}}}
+use Rattle.verdict.proofs.{Keeps.unchanged, LendingKeeps.{called_through_keeps, returned_keeps}, MessageParts.{IsReached, answers_allowed}}
+use Rattle.verdict.proofs.MessageParts.{at_reached, blocked_beside, deliver_keeps, halt_keeps, holds_edge, label_kept, link_keeps, reached}
+use Rattle.verdict.proofs.MessageParts.{receiver_receives, receiver_replies, same_kept, sender_calls, sender_grants, sender_sends}
+use Rattle.verdict.proofs.{MessageParts.thread_label, MessageTouches.{blocked_keeps, emptied_keeps, holding_keeps, released_keeps}}
+use Rattle.verdict.proofs.{MessageTouches.sound_after, ObjectLabels.same_label}
 
 -- who waits for an answer is in no queue
 calling_waits : (run : RunState) (id q : ObjId) → IsCallingThrough run id → ¬ (WaitsAt run q)

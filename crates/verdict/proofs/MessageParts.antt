@@ -1,61 +1,27 @@
 -- What the parts of a message's way keep: a receiver gets it, who called waits for the answer, and the thread of a reply is
 -- halted. All that these take is what a label has over an endpoint or a reply that is found, and the recorded edges of the
 -- threads there.
-use Rattle.std.proofs.Common.{◌≡◌, ◌≢◌, ℕ, ◌<◌, ◌⊎◌, inl, inr, Bool, true, false, ◌&&◌, List, Option, Some, None, option_map, refl, sym, ap}
-use Rattle.std.proofs.Common.{subst, ◌∙◌, arith}
-use Rattle.std.specs.Prelude.{if◌then◌else◌, is_ok}
-use Rattle.std.proofs.lemmas.Bool.{and_from}
-use Rattle.std.proofs.lemmas.Option.{none-some, same_Some}
-use Rattle.base.specs.declared.ids.ObjId.{ObjId}
-use Rattle.base.specs.declared.kind.Kind.{Kind}
-use Rattle.base.specs.declared.kind.Kind.TheVariants as authority
-use Rattle.base.specs.Kinds.{is_structural}
-use Rattle.machine.specs.declared.call.Event.{Event}
-use Rattle.machine.specs.declared.cap.Detail.{Detail}
-use Rattle.machine.specs.declared.object.Object.{Object}
-use Rattle.machine.specs.declared.object.Object.TheVariants as o
-use Rattle.machine.specs.declared.object.Reply.{Reply}
+use Rattle.std.{specs.Prelude.{if◌then◌else◌, is_ok}, proofs.Common.{ℕ, ◌&&◌, ◌<◌, ◌∙◌, ◌≡◌, ◌≢◌, ◌⊎◌, Bool, List, None, Option, Some, ap}}
+use Rattle.std.proofs.{Common.{arith, false, inl, inr, option_map, refl, subst, sym, true}, lemmas.{Bool.and_from, Option.none-some}}
+use Rattle.std.proofs.lemmas.Option.{same_Some}
+use Rattle.base.specs.{declared.{ids.ObjId.ObjId, kind.Kind.{Kind, Kind as authority}}, Kinds.is_structural}
+use Rattle.machine.specs.declared.{call.Event.Event, cap.Detail.Detail, object.{Object.{Object, Object as o}, Reply.Reply}}
 use Rattle.machine.specs.declared.object.ReplyState.TheVariants as reply
-use Rattle.machine.specs.declared.thread.Lent.{Lent}
-use Rattle.machine.specs.declared.thread.Message.{Message}
-use Rattle.machine.specs.declared.thread.Receiving.{Receiving}
-use Rattle.machine.specs.declared.thread.RunState.{RunState}
+use Rattle.machine.specs.declared.thread.{Lent.Lent, Message.Message, Receiving.Receiving, RunState.RunState, Sending.Sending, Tcb.Tcb}
 use Rattle.machine.specs.declared.thread.RunState.TheVariants as state
-use Rattle.machine.specs.declared.thread.Sending.{Sending}
-use Rattle.machine.specs.declared.thread.Tcb.{Tcb}
-use Rattle.machine.specs.Authority.{holds_thread, label_of, links, names_reply, state_links}
-use Rattle.machine.specs.Authority.HasAuthority.{by_link}
-use Rattle.machine.specs.Capabilities.{gives}
-use Rattle.machine.specs.Changes.{with_tcb, with_waiting}
-use Rattle.machine.specs.Finalising.{halted}
-use Rattle.machine.specs.Layout.{Layout}
-use Rattle.machine.specs.Machine.{Machine, object_of, queue_of, same_id}
-use Rattle.machine.specs.Releasing.{given, with_blocked, with_called, with_given, with_halted, with_holder_halted}
+use Rattle.machine.specs.{Authority.{holds_thread, label_of, links, names_reply, state_links, HasAuthority.by_link}, Capabilities.gives}
+use Rattle.machine.specs.{Changes.{with_tcb, with_waiting}, Finalising.halted, Layout.Layout, Machine.{Machine, object_of, queue_of}}
+use Rattle.machine.specs.{Machine.same_id, Releasing.{given, with_blocked, with_called, with_given, with_halted, with_holder_halted}}
 use Rattle.machine.specs.Step.Deliver.{answer_through, arrival_of, delivered, linked, message_of, with_arrival}
-use Rattle.machine.specs.WellFormed.{IsCallingThrough, IsFree, IsReceivingWith, IsThread, WaitsAt}
-use Rattle.machine.proofs.Arrival.{arrival_same}
-use Rattle.machine.proofs.Beside.{HolderLeaves, holder_leaves}
-use Rattle.machine.proofs.EndpointRow.{IsReceiver, IsSender}
-use Rattle.machine.proofs.Finding.{FindsObject}
-use Rattle.machine.proofs.Ids.{at_other, itself}
-use Rattle.machine.proofs.Leaving.{Names}
-use Rattle.machine.proofs.LookUps.{object_of-with_object, object_of-with_queue}
-use Rattle.machine.proofs.MessageRows.{arrived_there}
+use Rattle.machine.{specs.WellFormed.{IsCallingThrough, IsFree, IsReceivingWith, IsThread, WaitsAt}, proofs.Arrival.arrival_same}
+use Rattle.machine.proofs.{Beside.{HolderLeaves, holder_leaves}, EndpointRow.{IsReceiver, IsSender}, Finding.FindsObject, Ids.at_other}
+use Rattle.machine.proofs.{Ids.itself, Leaving.Names, LookUps.{object_of-with_object, object_of-with_queue}, MessageRows.arrived_there}
 use Rattle.machine.proofs.MessageRows.{delivered_is, halted_between}
-use Rattle.policy.specs.Closed.{IsClosed}
-use Rattle.policy.specs.Domain.{EdgeTest, SubjectsAgree}
-use Rattle.policy.specs.Full.{IsFull}
-use Rattle.policy.specs.Full.IsFull.{modifies, replies, sends}
-use Rattle.policy.specs.Full.IsFull.{links as links_to}
-use Rattle.policy.specs.Take.{MayTake}
-use Rattle.policy.specs.Take.MayTake.{ends}
-use Rattle.verdict.specs.Invariant.{IsHeld, IsSound}
-use Rattle.verdict.proofs.ArrivalKeeps.{arrival_keeps}
-use Rattle.verdict.proofs.Held.{held_of}
-use Rattle.verdict.proofs.Keeps.{Keeps, keeps_keeps, unchanged}
-use Rattle.verdict.proofs.MessageTouches.{called_keeps, released_keeps}
-use Rattle.verdict.proofs.ObjectLabels.{label_stays, labelled_there, same_label}
-use Rattle.verdict.proofs.Reach.{found_in_reach}
+use Rattle.policy.specs.{Closed.IsClosed, Domain.{EdgeTest, SubjectsAgree}, Full.{IsFull, IsFull.{links as links_to, modifies, replies}}}
+use Rattle.policy.specs.{Full.IsFull.sends, Take.{MayTake, MayTake.ends}}
+use Rattle.verdict.{specs.Invariant.{IsHeld, IsSound}, proofs.{ArrivalKeeps.arrival_keeps, Held.held_of, Keeps.{Keeps, keeps_keeps}}}
+use Rattle.verdict.proofs.{Keeps.unchanged, MessageTouches.{called_keeps, released_keeps}, ObjectLabels.{label_stays, labelled_there}}
+use Rattle.verdict.proofs.{ObjectLabels.same_label, Reach.found_in_reach}
 
 -- an answer goes through a reply only where the sender may be answered
 pub answers_allowed :

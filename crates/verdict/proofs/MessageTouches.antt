@@ -1,46 +1,25 @@
 -- The changes by which threads, queues and replies are linked, and are so no more, keep what a part of a call keeps, where the
 -- labels of the objects that they touch allow it.
-use Rattle.std.proofs.Common.{◌≡◌, ◌≢◌, ℕ, ◌<◌, ◌⊎◌, inl, inr, true, not, List, [], ◌∷◌, ◌++◌, refl, sym, ap, subst, ◌∙◌}
-use Rattle.std.specs.Prelude.{Option, Some, None, cond}
-use Rattle.std.proofs.lemmas.Bool.{false≢true}
-use Rattle.std.proofs.lemmas.Option.{none-some, same_Some}
-use Rattle.base.specs.declared.ids.ObjId.{ObjId}
-use Rattle.base.specs.declared.kind.Kind.{Kind}
+use Rattle.std.{specs.Prelude.{None, Option, Some, cond}, proofs.Common.{[], ℕ, ◌++◌, ◌<◌, ◌∙◌, ◌∷◌, ◌≡◌, ◌≢◌, ◌⊎◌, List, ap, inl, inr}}
+use Rattle.std.proofs.{Common.{not, refl, subst, sym, true}, lemmas.{Bool.false≢true, Option.{none-some, same_Some}}}
+use Rattle.base.specs.declared.{ids.ObjId.ObjId, kind.Kind.Kind}
 use Rattle.base.specs.declared.kind.Kind.TheVariants as authority
-use Rattle.machine.specs.declared.call.Event.{Event}
-use Rattle.machine.specs.declared.object.Object.{Object}
-use Rattle.machine.specs.declared.object.Object.TheVariants as o
-use Rattle.machine.specs.declared.object.Reply.{Reply}
-use Rattle.machine.specs.declared.object.ReplyState.{ReplyState}
+use Rattle.machine.specs.declared.{call.Event.Event, object.{Object.{Object, Object as o}, Reply.Reply, ReplyState.ReplyState}}
 use Rattle.machine.specs.declared.object.ReplyState.TheVariants as reply
-use Rattle.machine.specs.declared.thread.Calling.{Calling}
+use Rattle.machine.specs.{declared.thread.{Calling.Calling, RunState.RunState, Tcb.Tcb}, Authority.{holds_thread, label_of, lent_of, links}}
 use Rattle.machine.specs.declared.thread.Inbox.TheVariants as inbox
-use Rattle.machine.specs.declared.thread.RunState.{RunState}
 use Rattle.machine.specs.declared.thread.RunState.TheVariants as state
-use Rattle.machine.specs.declared.thread.Tcb.{Tcb}
-use Rattle.machine.specs.Authority.{holds_thread, label_of, lent_of, links, state_links}
-use Rattle.machine.specs.Changes.{with_waiting, without_waiting}
-use Rattle.machine.specs.Layout.{Layout}
-use Rattle.machine.specs.Machine.{Machine, object_of, queue_of, same_id, with_object, with_queue}
-use Rattle.machine.specs.Releasing.{unblocked, with_blocked, with_called, with_holding, with_named, with_released}
-use Rattle.machine.specs.Step.Fetch.{emptied}
-use Rattle.machine.specs.WellFormed.{IsIdle, IsThread, IsWellFormed, WaitsAt}
-use Rattle.machine.proofs.Ids.{at_itself, at_other, one_or_two}
-use Rattle.machine.proofs.Leaving.{Names, holding_is, released_there, tcb_is, without}
-use Rattle.machine.proofs.LookUps.{object_of-with_object, one_id}
-use Rattle.machine.proofs.LookUps.{object_of-with_queue, queue_of-with_queue, words_of-with_queue, cap_of-with_queue}
-use Rattle.machine.proofs.RunsLinks.{runs_also, runs_bound, runs_by}
-use Rattle.policy.specs.Domain.{EdgeTest}
-use Rattle.policy.specs.Full.{IsFull}
-use Rattle.policy.specs.Full.IsFull.{own}
-use Rattle.policy.specs.Take.{MayTake}
-use Rattle.verdict.specs.Invariant.{IsHeld, IsSound}
-use Rattle.verdict.specs.Shrinks.Lessens.{as_it_was, freed}
-use Rattle.verdict.proofs.Contents.{full, loses_links, reply_fits, tcb_fits}
-use Rattle.verdict.proofs.Keeps.{Keeps, keeps_keeps, unchanged}
-use Rattle.verdict.proofs.ObjectLabels.{label_stays, same_label}
-use Rattle.verdict.proofs.RemovalShrinks.{part_of_all}
-use Rattle.verdict.proofs.SetKeeps.{queue_keeps, set_keeps}
+use Rattle.machine.specs.{Authority.state_links, Changes.{with_waiting, without_waiting}, Layout.Layout, Machine.{Machine, object_of}}
+use Rattle.machine.specs.{Machine.{queue_of, same_id, with_object, with_queue}, Releasing.{unblocked, with_blocked, with_called}}
+use Rattle.machine.specs.{Releasing.{with_holding, with_named, with_released}, Step.Fetch.emptied, WellFormed.{IsIdle, IsThread}}
+use Rattle.machine.{specs.WellFormed.{IsWellFormed, WaitsAt}, proofs.{Ids.{at_itself, at_other, one_or_two}, Leaving.{Names, holding_is}}}
+use Rattle.machine.proofs.{Leaving.{released_there, tcb_is, without}, LookUps.{cap_of-with_queue, object_of-with_object}}
+use Rattle.machine.proofs.{LookUps.{object_of-with_queue, one_id, queue_of-with_queue, words_of-with_queue}, RunsLinks.runs_also}
+use Rattle.machine.proofs.RunsLinks.{runs_bound, runs_by}
+use Rattle.policy.specs.{Domain.EdgeTest, Full.{IsFull, IsFull.own}, Take.MayTake}
+use Rattle.verdict.{specs.{Invariant.{IsHeld, IsSound}, Shrinks.Lessens.{as_it_was, freed}}, proofs.Contents.{full, loses_links}}
+use Rattle.verdict.proofs.{Contents.{reply_fits, tcb_fits}, Keeps.{Keeps, keeps_keeps, unchanged}, ObjectLabels.{label_stays, same_label}}
+use Rattle.verdict.proofs.{RemovalShrinks.part_of_all, SetKeeps.{queue_keeps, set_keeps}}
 
 -- what each change is
 

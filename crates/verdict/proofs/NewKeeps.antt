@@ -1,36 +1,19 @@
 -- A new object keeps what a part of a call keeps: it lies where the label is one on which the caller's has full authority, and links to
 -- nothing.
-use Rattle.std.proofs.Common.{◌≡◌, ◌≢◌, ℕ, ◌+◌, ◌≤◌, ◌<◌, ◌⊎◌, inl, inr, true, false, [], length, nat_lt, Option, Some, None, option_map, option_and_then}
-use Rattle.std.proofs.Common.{replicate, if◌then◌else◌, refl, sym, ap, ◌∙◌, arith}
-use Rattle.std.proofs.lemmas.Bool.{false≢true, le-ltb}
+use Rattle.std.proofs.Common.{[], ℕ, ◌+◌, ◌<◌, ◌∙◌, ◌≡◌, ◌≢◌, ◌≤◌, ◌⊎◌, None, Option, Some, ap, arith, false, if◌then◌else◌, inl, inr}
+use Rattle.std.proofs.{Common.{length, nat_lt, option_and_then, option_map, refl, replicate, sym, true}, lemmas.Bool.{false≢true, le-ltb}}
 use Rattle.std.proofs.lemmas.Option.{none-some, same_Some, slice_get_within}
-use Rattle.base.specs.declared.ids.ObjId.{ObjId}
-use Rattle.base.specs.declared.kind.Kind.{Kind}
+use Rattle.base.specs.declared.{ids.ObjId.ObjId, kind.Kind.Kind}
 use Rattle.base.specs.declared.kind.Kind.TheVariants as authority
-use Rattle.machine.specs.declared.call.Event.{Event}
-use Rattle.machine.specs.declared.layout.Initial.{Initial}
-use Rattle.machine.specs.declared.object.Context.{Context}
-use Rattle.machine.specs.declared.object.Object.{Object}
-use Rattle.machine.specs.declared.object.Object.TheVariants as o
-use Rattle.machine.specs.declared.object.Untyped.{Untyped}
-use Rattle.machine.specs.Authority.{label_at, label_of, links}
-use Rattle.machine.specs.Authority.HasAuthority.{by_cap, by_root, by_pair, by_link}
-use Rattle.machine.specs.Layout.{Layout, declared_label, initial_of}
-use Rattle.machine.specs.Machine.{Machine, object_of, queue_of, words_of, with_new}
-use Rattle.machine.specs.Objects.{address_of, end_of, kind_of_object, word_count}
-use Rattle.machine.specs.WellFormed.{kind_of}
-use Rattle.machine.proofs.Ids.{at_itself, at_other, one_or_two}
-use Rattle.machine.proofs.LookUps.{cap_of-with_new, object_of-with_new, parent_of-with_new, queue_of-with_new, words_of-with_new}
-use Rattle.machine.proofs.RunsLinks.{runs_lent}
-use Rattle.policy.specs.Domain.{EdgeTest}
-use Rattle.policy.specs.Full.{IsFull}
-use Rattle.verdict.specs.Confined.{IsConfined}
-use Rattle.verdict.specs.Invariant.{IsBare, IsHeld}
-use Rattle.verdict.specs.OfTable.{IsOfTable}
-use Rattle.verdict.proofs.Keeps.{Acts, Keeps}
-use Rattle.verdict.proofs.Joined.{IsJoined}
-use Rattle.verdict.proofs.ObjectLabels.{kind_there, same_label}
-use Rattle.verdict.proofs.Shrinking.{same_context}
+use Rattle.machine.specs.declared.{call.Event.Event, layout.Initial.Initial, object.{Context.Context, Object.{Object, Object as o}}}
+use Rattle.machine.specs.{declared.object.Untyped.Untyped, Authority.{label_at, label_of, links, HasAuthority.{by_cap, by_link, by_pair}}}
+use Rattle.machine.specs.{Authority.HasAuthority.by_root, Layout.{Layout, declared_label, initial_of}, Machine.{Machine, object_of}}
+use Rattle.machine.specs.{Machine.{queue_of, with_new, words_of}, Objects.{address_of, end_of, kind_of_object, word_count}}
+use Rattle.machine.{specs.WellFormed.kind_of, proofs.{Ids.{at_itself, at_other, one_or_two}, LookUps.{cap_of-with_new, object_of-with_new}}}
+use Rattle.machine.proofs.{LookUps.{parent_of-with_new, queue_of-with_new, words_of-with_new}, RunsLinks.runs_lent}
+use Rattle.policy.specs.{Domain.EdgeTest, Full.IsFull}
+use Rattle.verdict.{specs.{Confined.IsConfined, Invariant.{IsBare, IsHeld}, OfTable.IsOfTable}, proofs.{Joined.IsJoined, Keeps.Acts}}
+use Rattle.verdict.proofs.{Keeps.Keeps, ObjectLabels.{kind_there, same_label}, Shrinking.same_context}
 
 -- an object that may be made in a step of a label's thread
 pub record IsMakeable (t : Layout) (allowed : EdgeTest) (a : ℕ) (object : Object) : Type 0 where

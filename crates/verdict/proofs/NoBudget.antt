@@ -1,14 +1,7 @@
 -- Who changes a context's share has the edges for it.
-use Rattle.std.proofs.Common.{◌≡◌, ◌≢◌, ℕ, ◌⊎◌, inl, inr, false, Some, sym, ap, ◌∙◌}
-use Rattle.std.proofs.lemmas.Bool.{false≢true}
-use Rattle.std.proofs.lemmas.Option.{same_Some}
-use Rattle.base.specs.declared.ids.ObjId.{ObjId}
-use Rattle.base.specs.declared.kind.Kind.TheVariants as authority
-use Rattle.machine.specs.declared.call.Event.{Event}
-use Rattle.machine.specs.declared.object.Context.{Context}
-use Rattle.machine.specs.declared.object.Object.TheVariants as o
-use Rattle.machine.specs.Authority.{label_of}
-use Rattle.machine.specs.Layout.{Layout}
+use Rattle.std.proofs.{Common.{ℕ, ◌∙◌, ◌≡◌, ◌≢◌, ◌⊎◌, Some, ap, false, inl, inr, sym}, lemmas.{Bool.false≢true, Option.same_Some}}
+use Rattle.base.specs.declared.{ids.ObjId.ObjId, kind.Kind.Kind as authority}
+use Rattle.machine.specs.{declared.{call.Event.Event, object.{Context.Context, Object.Object as o}}, Authority.label_of, Layout.Layout}
 use Rattle.machine.specs.Machine.{Machine, object_of}
 use Rattle.policy.specs.Domain.{EdgeTest}
 use Rattle.verdict.specs.Budgets.{KeepsBudgets, MayConfigure}

@@ -1,42 +1,16 @@
 -- Signal, Poll and Wait within a caller's authority: the notification that is found is one that its label may notify or await, and
 -- who waits there awaits it by a recorded edge.
-use Rattle.std.proofs.Common.{◌≡◌, ◌≢◌, ℕ, ◌⊎◌, inl, inr, Bool, true, Option, Some, None, refl, sym, ap, subst, ◌∙◌}
-use Rattle.base.specs.declared.ids.ObjId.{ObjId}
-use Rattle.base.specs.declared.kind.Kind.{Kind}
-use Rattle.base.specs.declared.kind.Kind.TheVariants as authority
-use Rattle.machine.specs.declared.call.Event.{Event}
-use Rattle.machine.specs.declared.cap.Badged.{Badged}
-use Rattle.machine.specs.declared.cap.Detail.TheVariants as d
-use Rattle.machine.specs.declared.object.Notification.{Notification}
-use Rattle.machine.specs.declared.object.Object.{Object}
-use Rattle.machine.specs.declared.object.Object.TheVariants as o
-use Rattle.machine.specs.declared.thread.RunState.{RunState}
-use Rattle.machine.specs.declared.thread.RunState.TheVariants as state
-use Rattle.machine.specs.declared.thread.Tcb.{Tcb}
-use Rattle.machine.specs.Authority.{label_of, state_links}
-use Rattle.machine.specs.Capabilities.{can_read, can_write}
-use Rattle.machine.specs.Layout.{Layout}
-use Rattle.machine.specs.Machine.{Machine, object_of, with_object}
-use Rattle.machine.specs.Releasing.{with_blocked}
-use Rattle.machine.specs.WellFormed.{IsThread, WaitsAt}
-use Rattle.machine.proofs.Admission.{IsCaller}
-use Rattle.machine.proofs.Ids.{itself}
-use Rattle.machine.proofs.Leaving.{Names}
-use Rattle.machine.proofs.LookUps.{one_id}
-use Rattle.machine.proofs.MessageRows.{caller_idle}
-use Rattle.machine.proofs.NotificationRow.{IsOpen}
-use Rattle.machine.proofs.PollRow.{PollDone}
-use Rattle.machine.proofs.SignalRow.{SignalDone, Wakes, marked, roused}
-use Rattle.machine.proofs.WaitRow.{WaitDone}
-use Rattle.policy.specs.Domain.{EdgeTest, SubjectsAgree}
-use Rattle.policy.specs.Full.{IsFull}
-use Rattle.policy.specs.Full.IsFull.{modifies, notifies}
-use Rattle.verdict.specs.Invariant.{IsSound, IsHeld}
-use Rattle.verdict.proofs.Contents.{full, notification_fits}
-use Rattle.verdict.proofs.Held.{held_of}
-use Rattle.verdict.proofs.Keeps.{Keeps}
-use Rattle.verdict.proofs.MessageParts.{IsReached, at_reached, reached, thread_edge}
-use Rattle.verdict.proofs.MessageTouches.{blocked_keeps, released_keeps}
+use Rattle.std.proofs.Common.{ℕ, ◌∙◌, ◌≡◌, ◌≢◌, ◌⊎◌, Bool, None, Option, Some, ap, inl, inr, refl, subst, sym, true}
+use Rattle.base.specs.declared.{ids.ObjId.ObjId, kind.Kind.{Kind, Kind as authority}}
+use Rattle.machine.specs.declared.{call.Event.Event, cap.{Badged.Badged, Detail.Detail as d}, object.Notification.Notification}
+use Rattle.machine.specs.declared.{object.Object.{Object, Object as o}, thread.{RunState.{RunState, RunState as state}, Tcb.Tcb}}
+use Rattle.machine.specs.{Authority.{label_of, state_links}, Capabilities.{can_read, can_write}, Layout.Layout, Machine.Machine}
+use Rattle.machine.specs.{Machine.{object_of, with_object}, Releasing.with_blocked, WellFormed.{IsThread, WaitsAt}}
+use Rattle.machine.proofs.{Admission.IsCaller, Ids.itself, Leaving.Names, LookUps.one_id, MessageRows.caller_idle, NotificationRow.IsOpen}
+use Rattle.machine.proofs.{PollRow.PollDone, SignalRow.{SignalDone, Wakes, marked, roused}, WaitRow.WaitDone}
+use Rattle.policy.specs.{Domain.{EdgeTest, SubjectsAgree}, Full.{IsFull, IsFull.{modifies, notifies}}}
+use Rattle.verdict.{specs.Invariant.{IsHeld, IsSound}, proofs.{Contents.{full, notification_fits}, Held.held_of, Keeps.Keeps}}
+use Rattle.verdict.proofs.{MessageParts.{IsReached, at_reached, reached, thread_edge}, MessageTouches.{blocked_keeps, released_keeps}}
 use Rattle.verdict.proofs.SetKeeps.{set_keeps}
 
 module _

@@ -1,14 +1,9 @@
 -- The label of an object depends on its number and its address alone.
-use Rattle.std.proofs.Common.{◌≡◌, ℕ, Option, Some, None, option_map, option_and_then, nat_lt, length, if◌then◌else◌, sym, ap, ◌∙◌}
+use Rattle.std.proofs.Common.{ℕ, ◌∙◌, ◌≡◌, None, Option, Some, ap, if◌then◌else◌, length, nat_lt, option_and_then, option_map, sym}
 use Rattle.std.proofs.lemmas.Option.{none-some}
 use Rattle.base.specs.declared.ids.ObjId.{ObjId}
-use Rattle.machine.specs.declared.object.Object.{Object}
-use Rattle.machine.specs.declared.object.ObjectKind.{ObjectKind}
-use Rattle.machine.specs.Authority.{label_at, label_of}
-use Rattle.machine.specs.Layout.{Layout, declared_label}
-use Rattle.machine.specs.Machine.{Machine, object_of}
-use Rattle.machine.specs.Objects.{kind_of_object, address_of}
-use Rattle.machine.specs.WellFormed.{kind_of}
+use Rattle.machine.specs.{declared.object.{Object.Object, ObjectKind.ObjectKind}, Authority.{label_at, label_of}, Layout.Layout}
+use Rattle.machine.specs.{Layout.declared_label, Machine.{Machine, object_of}, Objects.{address_of, kind_of_object}, WellFormed.kind_of}
 
 -- the label of a number and an address
 label_by : Layout → ObjId → ℕ → Option ℕ

@@ -1,26 +1,13 @@
 -- A verdict is the only one: two places that are first are one, since no two denials have the same place.
-use Rattle.std.proofs.Common.{◌≡◌, ℕ, List, get_or, Result, Ok, Err, refl, sym, ap, ◌∙◌, arith}
-use Rattle.std.specs.declared.cmp.Ordering.{Ordering}
-use Rattle.std.specs.declared.cmp.Ordering.TheVariants.{Less, Equal, Greater}
-use Rattle.std.specs.Ordering.{nat_cmp, ordering_reverse}
-use Rattle.std.specs.Cmp.Lexicographic.{slice_cmp}
-use Rattle.std.specs.FinMap.{nat_cmp-IsAntisymmetric, slice_cmp-IsAntisymmetric}
-use Rattle.std.proofs.lemmas.Cmp.{nat_list_cmp_total}
-use Rattle.base.specs.declared.edge.Edge.{Edge}
-use Rattle.base.specs.declared.ids.ObjId.{ObjId}
-use Rattle.base.specs.declared.ids.SlotRef.{SlotRef}
+use Rattle.std.specs.{declared.cmp.Ordering.{Ordering, TheVariants.{Equal, Greater, Less}}, Cmp.Lexicographic.slice_cmp}
+use Rattle.std.{specs.{FinMap.{nat_cmp-IsAntisymmetric, slice_cmp-IsAntisymmetric}, Ordering.{nat_cmp, ordering_reverse}}, proofs.Common.ℕ}
+use Rattle.std.proofs.{Common.{◌∙◌, ◌≡◌, Err, List, Ok, Result, ap, arith, get_or, refl, sym}, lemmas.Cmp.nat_list_cmp_total}
+use Rattle.base.specs.declared.{edge.Edge.Edge, ids.{ObjId.ObjId, SlotRef.SlotRef}}
 use Rattle.machine.specs.Layout.{Layout}
-use Rattle.policy.specs.Policy.{allows}
-use Rattle.policy.specs.declared.broken.Broken.{Broken}
-use Rattle.policy.specs.declared.broken.Broken.TheVariants as broken
-use Rattle.policy.specs.Broken.{broken_place}
-use Rattle.verdict.specs.declared.denial.Denial.{Denial}
-use Rattle.verdict.specs.declared.denial.Denial.TheVariants as denial
-use Rattle.policy.specs.Places.{IsLeast}
-use Rattle.verdict.specs.System.{System, IsVerdict}
-use Rattle.verdict.specs.Verdict.{Breaks, place_of}
-use Rattle.verdict.proofs.RuleOrder.{first_rules}
+use Rattle.policy.specs.{declared.broken.Broken.{Broken, Broken as broken}, Broken.broken_place, Places.IsLeast, Policy.allows}
 use Rattle.policy.proofs.KindNumbers.{same_kind}
+use Rattle.verdict.specs.{declared.denial.Denial.{Denial, Denial as denial}, System.{IsVerdict, System}, Verdict.{Breaks, place_of}}
+use Rattle.verdict.proofs.RuleOrder.{first_rules}
 
 -- of two of which neither comes first, where no two have one place, each is the other
 pub one_least :

@@ -1,25 +1,13 @@
 -- What lies outside first in a machine is by the least rule of those that are broken at any object, at the first of its objects.
-use Rattle.std.proofs.Common.{◌≡◌, ℕ, ◌+◌, ◌<◌, ◌≤◌, List, [], ◌∷◌, get_or, Option, Some, None, IsSome, is_some, ◌⊎◌, inl, inr, refl, sym, ap, subst, ◌∙◌, arith}
-use Rattle.std.proofs.lemmas.Bool.{cases_order}
-use Rattle.std.proofs.lemmas.Cmp.{nat_list_cmp_total}
-use Rattle.std.proofs.lemmas.Option.{none-some}
-use Rattle.base.specs.declared.ids.ObjId.{ObjId}
-use Rattle.base.specs.Kinds.{kind_number}
-use Rattle.machine.specs.declared.object.Object.{Object}
-use Rattle.machine.specs.Authority.{label_of}
-use Rattle.machine.specs.Layout.{Layout}
-use Rattle.machine.specs.Machine.{Machine, object_of}
-use Rattle.policy.specs.Domain.{EdgeTest}
-use Rattle.policy.specs.Places.{ComesBefore, FindsLeast, IsLeast, IsNone}
-use Rattle.policy.proofs.Places.{decided}
-use Rattle.verdict.specs.declared.denial.Denial.{Denial}
+use Rattle.std.proofs.Common.{[], ℕ, ◌+◌, ◌<◌, ◌∙◌, ◌∷◌, ◌≡◌, ◌≤◌, ◌⊎◌, IsSome, List, None, Option, Some, ap, arith, get_or, inl, inr}
+use Rattle.std.proofs.{Common.{is_some, refl, subst, sym}, lemmas.{Bool.cases_order, Cmp.nat_list_cmp_total, Option.none-some}}
+use Rattle.base.specs.{declared.ids.ObjId.ObjId, Kinds.kind_number}
+use Rattle.machine.specs.{declared.object.Object.Object, Authority.label_of, Layout.Layout, Machine.{Machine, object_of}}
+use Rattle.policy.{specs.{Domain.EdgeTest, Places.{ComesBefore, FindsLeast, IsLeast, IsNone}}, proofs.Places.decided}
+use Rattle.verdict.specs.{declared.denial.Denial.Denial, Outside.{LiesAt, LiesOutside, outside_rule}, Rules.{Exceeds, Excess, binding, c1}}
 use Rattle.verdict.specs.declared.denial.Denial.TheVariants as denial
-use Rattle.verdict.specs.Outside.{LiesAt, LiesOutside, outside_rule}
-use Rattle.verdict.specs.Rules.{c1, Excess, Exceeds, capability, root, pair, binding, holding, recorded, excess_place}
-use Rattle.verdict.specs.Sources.{of_machine}
-use Rattle.verdict.specs.Verdict.{IsOutside, excess_of, place_of}
-use Rattle.verdict.proofs.OneVerdict.{same_id}
-use Rattle.verdict.proofs.RuleOrder.{before_by_rule}
+use Rattle.verdict.specs.{Rules.{capability, excess_place, holding, pair, recorded, root}, Sources.of_machine, Verdict.IsOutside}
+use Rattle.verdict.{specs.Verdict.{excess_of, place_of}, proofs.{OneVerdict.same_id, RuleOrder.before_by_rule}}
 
 -- the object that a place names first
 abbrev pub object_in : Denial → ℕ

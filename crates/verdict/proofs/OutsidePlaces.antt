@@ -1,36 +1,18 @@
 -- Where a machine's authority lies outside by each rule, at an object and under it: in its slots, kind by kind.
-use Rattle.std.proofs.Common.{◌≡◌, ◌⊎◌, ℕ, ◌<◌, ◌≤◌, false, true, List, [], ◌∷◌, ◌++◌, IsTrue, Option, Some, None, inl, inr, refl, sym, ap}
-use Rattle.std.proofs.Common.{subst, ◌∙◌, arith}
-use Rattle.std.specs.Prelude.{◌↔◌}
-use mathlib.Core.Bool.{false≢true}
-use Rattle.std.proofs.lemmas.Option.{none-some, same_Some}
-use Rattle.std.proofs.lemmas.Bool.{ltb-true}
-use Rattle.base.specs.declared.ids.ObjId.{ObjId}
-use Rattle.base.specs.declared.ids.SlotRef.{SlotRef}
-use Rattle.base.specs.declared.kind.Kind.{Kind}
-use Rattle.base.specs.declared.kind.Kind.TheVariants as authority
-use Rattle.base.specs.Kinds.{kind_number}
-use Rattle.machine.specs.declared.cap.Cap.{Cap}
-use Rattle.machine.specs.declared.object.Object.{Object}
+use Rattle.std.{specs.Prelude.◌↔◌, proofs.Common.{[], ℕ, ◌++◌, ◌<◌, ◌∙◌, ◌∷◌, ◌≡◌, ◌≤◌, ◌⊎◌, IsTrue, List, None, Option, Some, ap, arith}}
+use Rattle.std.proofs.{Common.{false, inl, inr, refl, subst, sym, true}, lemmas.{Bool.ltb-true, Option.{none-some, same_Some}}}
+use Rattle.base.specs.{declared.{ids.{ObjId.ObjId, SlotRef.SlotRef}, kind.Kind.{Kind, Kind as authority}}, Kinds.kind_number}
+use Rattle.machine.specs.{declared.{cap.Cap.Cap, object.Object.Object}, Authority.label_of, Capabilities.gives, Layout.Layout}
 use Rattle.machine.specs.declared.object.ObjectKind.TheVariants as kind
-use Rattle.machine.specs.Authority.{label_of}
-use Rattle.machine.specs.Capabilities.{gives}
-use Rattle.machine.specs.Layout.{Layout}
-use Rattle.machine.specs.Machine.{Machine, cap_of, has_slot, object_of, parent_of}
-use Rattle.machine.specs.Objects.{slot_count}
-use Rattle.machine.specs.WellFormed.{kind_of}
-use Rattle.policy.specs.Domain.{EdgeTest}
-use Rattle.policy.specs.Places.{Begins, IsLeast, IsNone, IsUnder}
-use Rattle.policy.proofs.KindNumbers.{all_kinds, kind_stands, number_stands, same_kind}
-use Rattle.policy.proofs.Places.{IsMade, Searches, decided, least_made, none_made, not_before_itself, only_least}
-use Rattle.policy.proofs.Sweep.{numbers, stands, stands_alone}
-use Rattle.verdict.specs.declared.denial.Denial.{Denial}
-use Rattle.verdict.specs.declared.denial.Denial.TheVariants as denial
-use Rattle.verdict.specs.Outside.{LiesOutside, LiesUnder}
-use Rattle.verdict.specs.Rules.{a1, a2, a3, a4, a5, a6, CapabilityExceeds, RootExceeds, PairExceeds, BindingExceeds, HoldingExceeds, RecordExceeds}
-use Rattle.verdict.specs.Sources.{Sources, of_machine, context_in, lends_in, holds_in, keeps_in}
-use Rattle.verdict.specs.Verdict.{place_of}
+use Rattle.machine.specs.{Machine.{Machine, cap_of, has_slot, object_of, parent_of}, Objects.slot_count, WellFormed.kind_of}
+use Rattle.policy.{specs.{Domain.EdgeTest, Places.{Begins, IsLeast, IsNone, IsUnder}}, proofs.KindNumbers.{all_kinds, kind_stands}}
+use Rattle.policy.proofs.{KindNumbers.{number_stands, same_kind}, Places.{IsMade, Searches, decided, least_made, none_made}}
+use Rattle.policy.proofs.{Places.{not_before_itself, only_least}, Sweep.{numbers, stands, stands_alone}}
+use Rattle.verdict.specs.{declared.denial.Denial.{Denial, Denial as denial}, Outside.{LiesOutside, LiesUnder}, Rules.BindingExceeds}
+use Rattle.verdict.specs.Rules.{CapabilityExceeds, HoldingExceeds, PairExceeds, RecordExceeds, RootExceeds, a1, a2, a3, a4, a5, a6}
+use Rattle.verdict.specs.{Sources.{Sources, context_in, holds_in, keeps_in, lends_in, of_machine}, Verdict.place_of}
 use Rattle.verdict.proofs.OneVerdict.{same_id}
+use mathlib.Core.Bool.{false≢true}
 
 -- searches over the numbers below n, and over the kinds
 

@@ -1,23 +1,13 @@
 -- A machine is confined exactly where no authority lies outside at any place.
-use Rattle.std.proofs.Common.{◌≡◌, ◌⊎◌, inl, inr, ℕ, Bool, true, false, Option, Some, refl, sym, ap, ◌∙◌}
-use mathlib.Core.Bool.{false≢true}
-use Rattle.base.specs.declared.ids.ObjId.{ObjId}
-use Rattle.base.specs.declared.kind.Kind.{Kind}
-use Rattle.base.specs.declared.kind.Kind.TheVariants as authority
-use Rattle.machine.specs.declared.object.Object.{Object}
-use Rattle.machine.specs.declared.object.Object.TheVariants as o
-use Rattle.machine.specs.declared.thread.RunState.{RunState}
-use Rattle.machine.specs.declared.thread.RunState.TheVariants as state
-use Rattle.machine.specs.declared.thread.Tcb.{Tcb}
-use Rattle.machine.specs.Authority.{HasAuthority, label_of, links, state_links}
-use Rattle.machine.specs.Authority.HasAuthority.{by_cap, by_root, by_pair, by_link}
-use Rattle.machine.specs.Layout.{Layout}
-use Rattle.machine.specs.Machine.{Machine, object_of}
-use Rattle.machine.proofs.RunsLinks.{runs_bound, runs_by, runs_lent}
+use Rattle.std.proofs.Common.{ℕ, ◌∙◌, ◌≡◌, ◌⊎◌, Bool, Option, Some, ap, false, inl, inr, refl, sym, true}
+use Rattle.base.specs.declared.{ids.ObjId.ObjId, kind.Kind.{Kind, Kind as authority}}
+use Rattle.machine.specs.declared.{object.Object.{Object, Object as o}, thread.{RunState.{RunState, RunState as state}, Tcb.Tcb}}
+use Rattle.machine.specs.Authority.{HasAuthority, label_of, links, state_links, HasAuthority.{by_cap, by_link, by_pair, by_root}}
+use Rattle.machine.{specs.{Layout.Layout, Machine.{Machine, object_of}}, proofs.RunsLinks.{runs_bound, runs_by, runs_lent}}
 use Rattle.policy.specs.Domain.{EdgeTest}
-use Rattle.verdict.specs.Confined.{IsConfined}
-use Rattle.verdict.specs.Rules.{Excess, Exceeds, capability, root, pair, binding, holding, recorded}
-use Rattle.verdict.specs.Sources.{of_machine, context_in, lends_in, holds_in, keeps_in}
+use Rattle.verdict.specs.{Confined.IsConfined, Rules.{Exceeds, Excess, binding, capability, holding, pair, recorded, root}}
+use Rattle.verdict.specs.Sources.{context_in, holds_in, keeps_in, lends_in, of_machine}
+use mathlib.Core.Bool.{false≢true}
 
 either : (b : Bool) → (b ≡ false → b ≡ true) → b ≡ true
 either true has = refl

@@ -1,27 +1,13 @@
 -- What a thread finds at an address is held in the domain of its label, so that the label has the authority that the capability
 -- gives.
-use Rattle.std.proofs.Common.{◌≡◌, ℕ, [], inl, inr, true, false, Some, Ok, option_map, refl, sym, ap, ◌∙◌}
-use Rattle.base.specs.declared.ids.ObjId.{ObjId}
-use Rattle.base.specs.declared.ids.SlotRef.{SlotRef}
-use Rattle.base.specs.declared.kind.Kind.{Kind}
-use Rattle.base.specs.declared.kind.Kind.TheVariants as authority
-use Rattle.base.specs.Kinds.{is_structural}
-use Rattle.machine.specs.declared.cap.Cap.{Cap}
-use Rattle.machine.specs.declared.object.ObjectKind.TheVariants as kind
-use Rattle.machine.specs.declared.slot_address.SlotAddress.{SlotAddress}
-use Rattle.machine.specs.Authority.{label_of}
-use Rattle.machine.specs.Authority.HasAuthority.{by_cap, by_root}
-use Rattle.machine.specs.Capabilities.{gives, kind_of_detail}
-use Rattle.machine.specs.Layout.{Layout}
-use Rattle.machine.specs.Lookup.{root_of, lookup_of}
-use Rattle.machine.specs.Machine.{Machine, cap_of}
-use Rattle.machine.specs.Objects.{kind_of_object}
-use Rattle.machine.specs.WellFormed.{kind_of}
+use Rattle.std.proofs.Common.{[], ℕ, ◌∙◌, ◌≡◌, Ok, Some, ap, false, inl, inr, option_map, refl, sym, true}
+use Rattle.base.specs.{declared.{ids.{ObjId.ObjId, SlotRef.SlotRef}, kind.Kind.{Kind, Kind as authority}}, Kinds.is_structural}
+use Rattle.machine.specs.declared.{cap.Cap.Cap, object.ObjectKind.ObjectKind as kind, slot_address.SlotAddress.SlotAddress}
+use Rattle.machine.specs.{Authority.{label_of, HasAuthority.{by_cap, by_root}}, Capabilities.{gives, kind_of_detail}, Layout.Layout}
+use Rattle.machine.specs.{Lookup.{lookup_of, root_of}, Machine.{Machine, cap_of}, Objects.kind_of_object, WellFormed.kind_of}
 use Rattle.machine.proofs.SlotRows.{LeadsTo}
 use Rattle.policy.specs.Domain.{EdgeTest, IsInDomain, SubjectsAgree}
-use Rattle.verdict.specs.Invariant.{IsHeld}
-use Rattle.verdict.proofs.ObjectLabels.{kind_there}
-use Rattle.verdict.proofs.Walks.{Shows, lookup_ends, shows, walk_ends}
+use Rattle.verdict.{specs.Invariant.IsHeld, proofs.{ObjectLabels.kind_there, Walks.{Shows, lookup_ends, shows, walk_ends}}}
 
 -- a CNode that a label controls
 pub record IsControlled (t : Layout) (allowed : EdgeTest) (m : Machine) (a : ℕ) (node : ObjId) : Type 0 where

@@ -1,26 +1,15 @@
 -- For each reason of authority a state that it takes out of a policy: the boot state of the small system lies in a policy, and one
 -- change gives it authority that does not.
-use Rattle.std.proofs.Common.{◌≡◌, Some, option_map, refl, ap, ◌∙◌}
-use Rattle.std.proofs.lemmas.Bool.{false≢true}
-use Rattle.base.specs.declared.ids.ObjId.{ObjId}
-use Rattle.base.specs.declared.kind.Kind.TheVariants as authority
-use Rattle.machine.specs.declared.object.ObjectKind.TheVariants as kind
-use Rattle.machine.specs.Authority.{label_of}
-use Rattle.machine.specs.Authority.HasAuthority.{by_cap, by_root, by_pair}
-use Rattle.machine.specs.Boot.{IsBoot}
-use Rattle.machine.specs.Layout.{initial_of, declared_label}
-use Rattle.machine.specs.Machine.{Machine, object_of, with_cap, with_parent}
-use Rattle.machine.specs.Objects.{kind_of_object}
-use Rattle.machine.specs.WellFormed.{kind_of}
-use Rattle.machine.proofs.LookUps.{object_of-with_cap, object_of-with_parent, cap_of-with_cap, parent_of-with_parent}
+use Rattle.std.proofs.{Common.{◌∙◌, ◌≡◌, Some, ap, option_map, refl}, lemmas.Bool.false≢true}
+use Rattle.base.specs.declared.{ids.ObjId.ObjId, kind.Kind.Kind as authority}
+use Rattle.machine.specs.{declared.object.ObjectKind.ObjectKind as kind, Authority.{label_of, HasAuthority.{by_cap, by_pair, by_root}}}
+use Rattle.machine.specs.{Boot.IsBoot, Layout.{declared_label, initial_of}, Machine.{Machine, object_of, with_cap, with_parent}}
+use Rattle.machine.{specs.{Objects.kind_of_object, WellFormed.kind_of}, proofs.LookUps.{cap_of-with_cap, object_of-with_cap}}
+use Rattle.machine.proofs.LookUps.{object_of-with_parent, parent_of-with_parent}
 use Rattle.policy.specs.Policy.{allows}
-use Rattle.table.specs.Rules.{kind_at}
-use Rattle.verdict.specs.Confined.{IsConfined}
-use Rattle.table.proofs.AtBoot.{boot_kind, boot_label}
-use Rattle.table.proofs.BootState.{boot_state, boot_state_is}
-use Rattle.verdict.proofs.ObjectLabels.{same_label}
-use Rattle.verdict.proofs.SmallSystem.{id, slot, space_cap, signal_cap, signalling}
-use Rattle.verdict.proofs.Unsafe.{edges, confined}
+use Rattle.table.{specs.Rules.kind_at, proofs.{AtBoot.{boot_kind, boot_label}, BootState.{boot_state, boot_state_is}}}
+use Rattle.verdict.{specs.Confined.IsConfined, proofs.{ObjectLabels.same_label, SmallSystem.{id, signal_cap, signalling, slot, space_cap}}}
+use Rattle.verdict.proofs.Unsafe.{confined, edges}
 
 abbrev pub m : Machine
 m = boot_state signalling

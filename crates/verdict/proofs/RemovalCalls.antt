@@ -1,30 +1,13 @@
 -- Delete and Revoke within a caller's authority: the slot that the call names is in a CNode that the caller's label controls, and what
 -- descends from it is in objects to which that CNode's label may derive.
-use Rattle.std.proofs.Common.{◌≡◌, ℕ, ◌⊎◌, inl, inr, Bool, Some, None, Ok, refl, sym, ap, subst, ◌∙◌}
-use Rattle.base.specs.declared.ids.ObjId.{ObjId}
-use Rattle.base.specs.declared.ids.SlotRef.{SlotRef}
-use Rattle.machine.specs.declared.call.Event.{Event}
-use Rattle.machine.specs.declared.cap.Cap.{Cap}
-use Rattle.machine.specs.declared.slot_address.SlotAddress.{SlotAddress}
-use Rattle.machine.specs.Authority.{label_of}
-use Rattle.machine.specs.Below.{is_below}
-use Rattle.machine.specs.Layout.{Layout}
-use Rattle.machine.specs.Machine.{Machine, cap_of, same_slot}
-use Rattle.machine.specs.Removal.{removed}
-use Rattle.machine.specs.Step.Target.{target_of}
-use Rattle.machine.proofs.BelowLemmas.{below_decided}
-use Rattle.machine.proofs.LookUps.{one_slot}
-use Rattle.machine.proofs.RemovalRows.{RemovalDone}
-use Rattle.machine.proofs.SlotRows.{target_leads}
-use Rattle.policy.specs.Closed.{IsClosed}
-use Rattle.policy.specs.Domain.{EdgeTest}
-use Rattle.verdict.specs.Invariant.{IsSound}
-use Rattle.verdict.specs.Removals.{MayRemove}
-use Rattle.verdict.proofs.Held.{held_of}
-use Rattle.verdict.proofs.Keeps.{Keeps, unchanged}
-use Rattle.verdict.proofs.Reach.{IsControlled, led_controlled}
-use Rattle.verdict.proofs.RemovalConfined.{descends_derive}
-use Rattle.verdict.proofs.RemovalKeeps.{removed_keeps, removed_sound}
+use Rattle.std.proofs.Common.{ℕ, ◌∙◌, ◌≡◌, ◌⊎◌, Bool, None, Ok, Some, ap, inl, inr, refl, subst, sym}
+use Rattle.base.specs.declared.ids.{ObjId.ObjId, SlotRef.SlotRef}
+use Rattle.machine.specs.{declared.{call.Event.Event, cap.Cap.Cap, slot_address.SlotAddress.SlotAddress}, Authority.label_of}
+use Rattle.machine.specs.{Below.is_below, Layout.Layout, Machine.{Machine, cap_of, same_slot}, Removal.removed, Step.Target.target_of}
+use Rattle.machine.proofs.{BelowLemmas.below_decided, LookUps.one_slot, RemovalRows.RemovalDone, SlotRows.target_leads}
+use Rattle.policy.specs.{Closed.IsClosed, Domain.EdgeTest}
+use Rattle.verdict.{specs.{Invariant.IsSound, Removals.MayRemove}, proofs.{Held.held_of, Keeps.{Keeps, unchanged}, Reach.IsControlled}}
+use Rattle.verdict.proofs.{Reach.led_controlled, RemovalConfined.descends_derive, RemovalKeeps.{removed_keeps, removed_sound}}
 
 module _
     (t : Layout) (allowed : EdgeTest) (event : Event) (a : ℕ) (m : Machine) (sound : IsSound t allowed m) (closed : IsClosed allowed)

@@ -1,36 +1,17 @@
 -- A removal keeps a machine within the policy: each edge was there, or is that of an orphan's new parent, from which it descended.
-use Rattle.std.proofs.Common.{◌≡◌, ℕ, ◌<◌, ◌≤◌, Bool, true, false, cond, Option, Some, None, refl, sym, ap, subst, ◌∙◌}
-use Rattle.std.specs.Prelude.{length}
-use Rattle.std.proofs.lemmas.Bool.{false≢true}
-use Rattle.std.proofs.lemmas.Option.{none-some}
-use Rattle.base.specs.declared.ids.ObjId.{ObjId}
-use Rattle.base.specs.declared.ids.SlotRef.{SlotRef}
-use Rattle.base.specs.declared.kind.Kind.{Kind}
-use Rattle.base.specs.declared.kind.Kind.TheVariants as authority
-use Rattle.machine.specs.declared.object.Object.{Object}
-use Rattle.machine.specs.declared.object.Object.TheVariants as o
-use Rattle.machine.specs.declared.object.ObjectKind.{ObjectKind}
-use Rattle.machine.specs.declared.object.ReplyState.{ReplyState}
-use Rattle.machine.specs.declared.object.ReplyState.TheVariants as reply
-use Rattle.machine.specs.declared.thread.Tcb.{Tcb}
-use Rattle.machine.specs.Authority.{holds_thread, label_of, lent_of, links}
-use Rattle.machine.specs.Authority.HasAuthority.{by_cap, by_root, by_pair, by_link}
-use Rattle.machine.specs.Finalising.{aborted, finalised, halted, is_aborted, is_halted, leads_nowhere, leaves, link_after, reply_after, tcb_after, unbound}
-use Rattle.machine.specs.Layout.{Layout}
-use Rattle.machine.specs.Machine.{Machine, parent_of}
-use Rattle.machine.specs.Objects.{address_of, kind_of_object}
-use Rattle.machine.specs.Removal.{removed, vanishes}
-use Rattle.machine.specs.WellFormed.{Descends, child, further, kind_of}
-use Rattle.machine.proofs.RemovalLooks.{next-removed}
-use Rattle.machine.proofs.RemovalStays.{cap_was, like_finalised, object_was, parent_was, untyped_was}
-use Rattle.machine.proofs.RunsLinks.{runs_also}
-use Rattle.policy.specs.Closed.{IsClosed, derived}
-use Rattle.policy.specs.Domain.{EdgeTest}
-use Rattle.verdict.specs.Confined.{IsConfined}
-use Rattle.verdict.specs.Invariant.{IsSound}
-use Rattle.verdict.specs.OfTable.{IsOfTable}
-use Rattle.verdict.proofs.ObjectLabels.{kind_stays, kind_there, label_stays, labelled_there}
-use Rattle.verdict.proofs.Shrinking.{same_tcb}
+use Rattle.std.{specs.Prelude.length, proofs.Common.{ℕ, ◌<◌, ◌∙◌, ◌≡◌, ◌≤◌, Bool, None, Option, Some, ap, cond, false, refl, subst, sym}}
+use Rattle.std.proofs.{Common.true, lemmas.{Bool.false≢true, Option.none-some}}
+use Rattle.base.specs.declared.{ids.{ObjId.ObjId, SlotRef.SlotRef}, kind.Kind.{Kind, Kind as authority}}
+use Rattle.machine.specs.declared.object.{Object.{Object, Object as o}, ObjectKind.ObjectKind, ReplyState.{ReplyState, ReplyState as reply}}
+use Rattle.machine.specs.{declared.thread.Tcb.Tcb, Authority.{holds_thread, label_of, lent_of, links, HasAuthority.{by_cap, by_link}}}
+use Rattle.machine.specs.{Authority.HasAuthority.{by_pair, by_root}, Finalising.{aborted, finalised, halted, is_aborted, is_halted}}
+use Rattle.machine.specs.{Finalising.{leads_nowhere, leaves, link_after, reply_after, tcb_after, unbound}, Layout.Layout, Machine.Machine}
+use Rattle.machine.specs.{Machine.parent_of, Objects.{address_of, kind_of_object}, Removal.{removed, vanishes}, WellFormed.Descends}
+use Rattle.machine.{specs.WellFormed.{child, further, kind_of}, proofs.{RemovalLooks.next-removed, RemovalStays.{cap_was, like_finalised}}}
+use Rattle.machine.proofs.{RemovalStays.{object_was, parent_was, untyped_was}, RunsLinks.runs_also}
+use Rattle.policy.specs.{Closed.{IsClosed, derived}, Domain.EdgeTest}
+use Rattle.verdict.{specs.{Confined.IsConfined, Invariant.IsSound, OfTable.IsOfTable}, proofs.ObjectLabels.{kind_stays, kind_there}}
+use Rattle.verdict.proofs.{ObjectLabels.{label_stays, labelled_there}, Shrinking.same_tcb}
 
 -- a finalised object has no new links
 

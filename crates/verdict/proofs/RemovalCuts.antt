@@ -1,49 +1,22 @@
 -- What a removal changes is of labels that the label may take from: what vanished, what was linked with that, the queues and replies that who was
 -- aborted or halted leaves, and the objects of the chosen slots.
-use Rattle.std.proofs.Common.{◌≡◌, ◌≢◌, ℕ, zero, suc, ◌<◌, ◌⊎◌, inl, inr, Bool, true, false, not, cond, List, [], ◌∷◌, refl, sym, ap, subst, ◌∙◌, arith}
-use Rattle.std.specs.Prelude.{Option, Some, None, Contains, filter, is_some, option_map, ◌&&◌, ◌||◌}
-use Rattle.std.proofs.lemmas.Bool.{cases_order, false≢true}
-use Rattle.std.proofs.lemmas.Option.{same_Some}
-use Rattle.base.specs.declared.ids.ObjId.{ObjId}
-use Rattle.base.specs.declared.ids.SlotRef.{SlotRef}
-use Rattle.base.specs.declared.kind.Kind.{Kind}
-use Rattle.base.specs.declared.kind.Kind.TheVariants as authority
-use Rattle.machine.specs.declared.cap.Cap.{Cap}
-use Rattle.machine.specs.declared.object.Context.{Context}
-use Rattle.machine.specs.declared.object.Object.{Object}
-use Rattle.machine.specs.declared.object.Object.TheVariants as o
-use Rattle.machine.specs.declared.object.ObjectKind.TheVariants as kind
-use Rattle.machine.specs.declared.object.Reply.{Reply}
-use Rattle.machine.specs.declared.object.ReplyState.{ReplyState}
+use Rattle.std.{specs.Prelude.{◌&&◌, ◌||◌, Contains, None, Option, Some, filter, is_some, option_map}, proofs.Common.{[], ℕ, ◌<◌, ◌∙◌, ◌∷◌}}
+use Rattle.std.proofs.Common.{◌≡◌, ◌≢◌, ◌⊎◌, Bool, List, ap, arith, cond, false, inl, inr, not, refl, subst, suc, sym, true, zero}
+use Rattle.std.proofs.lemmas.{Bool.{cases_order, false≢true}, Option.same_Some}
+use Rattle.base.specs.declared.{ids.{ObjId.ObjId, SlotRef.SlotRef}, kind.Kind.{Kind, Kind as authority}}
+use Rattle.machine.specs.declared.{cap.Cap.Cap, object.{Context.Context, Object.{Object, Object as o}, ObjectKind.ObjectKind as kind}}
+use Rattle.machine.specs.declared.{object.{Reply.Reply, ReplyState.ReplyState}, thread.{RunState.RunState, Tcb.Tcb}}
 use Rattle.machine.specs.declared.object.ReplyState.TheVariants as reply
-use Rattle.machine.specs.declared.thread.RunState.{RunState}
 use Rattle.machine.specs.declared.thread.RunState.TheVariants as state
-use Rattle.machine.specs.declared.thread.Tcb.{Tcb}
-use Rattle.machine.specs.Authority.{holds_thread, label_of, links, names_reply, state_links}
-use Rattle.machine.specs.Authority.HasAuthority.{by_link}
-use Rattle.machine.specs.Finalising.{aborted, finalised, halted, is_aborted, is_halted, is_released, leads_nowhere, leaves, reply_after, staying_in, tcb_after, unbound}
-use Rattle.machine.specs.Gone.{IsGone, given, gone_of, with_last}
-use Rattle.machine.specs.Layout.{Layout}
-use Rattle.machine.specs.Machine.{Machine, object_of, queue_of, cap_of, same_id}
-use Rattle.machine.specs.Objects.{kind_of_object, slot_count}
-use Rattle.machine.specs.Removal.{removed, vanishes}
-use Rattle.machine.specs.WellFormed.{IsCallingThrough, IsReceivingWith, IsThread, WaitsAt, WaitsAtKind}
-use Rattle.machine.proofs.GoneLemmas.{gone_decided, id_itself, losing_decided}
-use Rattle.machine.proofs.Queues.{first_in, other_in}
-use Rattle.machine.proofs.RemovalLinks.{queue_now}
-use Rattle.machine.proofs.RemovalLooks.{cap_of-removed}
-use Rattle.machine.proofs.RemovalTable.{finalised_there}
-use Rattle.machine.proofs.RoundLemmas.{both_pass}
-use Rattle.machine.proofs.RunsLinks.{runs_bound}
-use Rattle.policy.specs.Closed.{IsClosed}
-use Rattle.policy.specs.Cut.{IsNear, is_link}
-use Rattle.policy.specs.Cut.IsNear.{stays, along, against}
-use Rattle.policy.specs.Domain.{EdgeTest}
-use Rattle.policy.specs.Take.{MayRemoveNear}
-use Rattle.verdict.specs.Invariant.{IsSound}
-use Rattle.verdict.specs.Removals.{MayRemove}
-use Rattle.verdict.specs.Shrinks.{IsSame}
-use Rattle.verdict.proofs.Cascade.{IsUsed, vanished_cut, vanished_used}
+use Rattle.machine.specs.{Authority.{holds_thread, label_of, links, names_reply, state_links, HasAuthority.by_link}, Finalising.aborted}
+use Rattle.machine.specs.Finalising.{finalised, halted, is_aborted, is_halted, is_released, leads_nowhere, leaves, reply_after, staying_in}
+use Rattle.machine.specs.{Finalising.{tcb_after, unbound}, Gone.{IsGone, given, gone_of, with_last}, Layout.Layout, Machine.Machine}
+use Rattle.machine.specs.{Machine.{cap_of, object_of, queue_of, same_id}, Objects.{kind_of_object, slot_count}, Removal.{removed, vanishes}}
+use Rattle.machine.{specs.WellFormed.{IsCallingThrough, IsReceivingWith, IsThread, WaitsAt, WaitsAtKind}, proofs.GoneLemmas.gone_decided}
+use Rattle.machine.proofs.{GoneLemmas.{id_itself, losing_decided}, Queues.{first_in, other_in}, RemovalLinks.queue_now}
+use Rattle.machine.proofs.{RemovalLooks.cap_of-removed, RemovalTable.finalised_there, RoundLemmas.both_pass, RunsLinks.runs_bound}
+use Rattle.policy.specs.{Closed.IsClosed, Cut.{IsNear, is_link, IsNear.{against, along, stays}}, Domain.EdgeTest, Take.MayRemoveNear}
+use Rattle.verdict.{specs.{Invariant.IsSound, Removals.MayRemove, Shrinks.IsSame}, proofs.Cascade.{IsUsed, vanished_cut, vanished_used}}
 use Rattle.verdict.proofs.RemovalShrinks.{absent_stays, words_stay}
 
 -- nobody waits at a CNode

@@ -1,36 +1,15 @@
 -- A removal keeps what a part of a call keeps: the machine stays within the policy, and what differs shrinks and is of labels that
 -- may be taken from.
-use Rattle.std.proofs.Common.{◌≡◌, ℕ, ◌⊎◌, inl, inr, Bool, Some, sym, ap, ◌∙◌, arith}
-use Rattle.std.proofs.lemmas.Option.{none-some, same_Some}
-use Rattle.base.specs.declared.ids.ObjId.{ObjId}
-use Rattle.base.specs.declared.ids.SlotRef.{SlotRef}
-use Rattle.machine.specs.declared.call.Event.{Event}
-use Rattle.machine.specs.declared.object.Context.{Context}
-use Rattle.machine.specs.declared.object.Object.{Object}
-use Rattle.machine.specs.declared.object.Object.TheVariants as o
-use Rattle.machine.specs.Authority.{label_of}
-use Rattle.machine.specs.Finalising.{finalised}
-use Rattle.machine.specs.Layout.{Layout}
-use Rattle.machine.specs.Machine.{Machine, object_of}
-use Rattle.machine.specs.Objects.{kind_of_object, address_of}
-use Rattle.machine.specs.Removal.{removed, vanishes}
-use Rattle.machine.proofs.RemovalLinks.{removed_formed}
-use Rattle.machine.proofs.RemovalLooks.{next-removed}
+use Rattle.std.proofs.{Common.{ℕ, ◌∙◌, ◌≡◌, ◌⊎◌, Bool, Some, ap, arith, inl, inr, sym}, lemmas.Option.{none-some, same_Some}}
+use Rattle.base.specs.declared.ids.{ObjId.ObjId, SlotRef.SlotRef}
+use Rattle.machine.specs.{declared.{call.Event.Event, object.{Context.Context, Object.{Object, Object as o}}}, Authority.label_of}
+use Rattle.machine.specs.{Finalising.finalised, Layout.Layout, Machine.{Machine, object_of}, Objects.{address_of, kind_of_object}}
+use Rattle.machine.{specs.Removal.{removed, vanishes}, proofs.{RemovalLinks.removed_formed, RemovalLooks.next-removed}}
 use Rattle.machine.proofs.RemovalStays.{like_finalised, object_was}
-use Rattle.policy.specs.Closed.{IsClosed}
-use Rattle.policy.specs.Domain.{EdgeTest}
-use Rattle.policy.specs.Take.{MayRemoveNear}
-use Rattle.policy.specs.Take.MayTake.{removes}
-use Rattle.verdict.specs.Invariant.{IsSound}
-use Rattle.verdict.specs.Removals.{MayRemove}
-use Rattle.verdict.specs.Shrinks.{IsSame}
-use Rattle.verdict.proofs.Held.{held_of}
-use Rattle.verdict.proofs.Keeps.{Acts, Keeps}
-use Rattle.verdict.proofs.ObjectLabels.{labelled_there}
-use Rattle.verdict.proofs.RemovalConfined.{removed_confined, removed_of_table}
-use Rattle.verdict.proofs.RemovalCuts.{removed_cuts}
-use Rattle.verdict.proofs.RemovalShrinks.{removed_shrinks}
-use Rattle.verdict.proofs.Shrinking.{same_context}
+use Rattle.policy.specs.{Closed.IsClosed, Domain.EdgeTest, Take.{MayRemoveNear, MayTake.removes}}
+use Rattle.verdict.{specs.{Invariant.IsSound, Removals.MayRemove, Shrinks.IsSame}, proofs.{Held.held_of, Keeps.{Acts, Keeps}}}
+use Rattle.verdict.proofs.{ObjectLabels.labelled_there, RemovalConfined.{removed_confined, removed_of_table}, RemovalCuts.removed_cuts}
+use Rattle.verdict.proofs.{RemovalShrinks.removed_shrinks, Shrinking.same_context}
 
 module _ (m : Machine) (chosen : SlotRef → Bool) (id : ObjId) where
   -- what stays is what it was, finalised

@@ -1,31 +1,17 @@
 -- What a removal changes shrinks: an object vanishes, or loses capabilities, waiting threads and links.
-use Rattle.std.proofs.Common.{◌≡◌, ◌⊎◌, inl, inr, Bool, true, false, not, cond, List, [], ◌∷◌, refl, sym, ap, ◌∙◌}
-use Rattle.std.specs.Prelude.{Option, Some, None, filter, option_map}
-use Rattle.std.proofs.lemmas.Bool.{false≢true}
-use Rattle.base.specs.declared.ids.ObjId.{ObjId}
-use Rattle.base.specs.declared.ids.SlotRef.{SlotRef}
-use Rattle.machine.specs.declared.object.Context.{Context}
-use Rattle.machine.specs.declared.object.Object.{Object}
-use Rattle.machine.specs.declared.object.Object.TheVariants as o
-use Rattle.machine.specs.declared.object.Reply.{Reply}
-use Rattle.machine.specs.declared.object.ReplyState.{ReplyState}
-use Rattle.machine.specs.declared.object.ReplyState.TheVariants as reply
-use Rattle.machine.specs.declared.thread.RunState.{RunState}
+use Rattle.std.{specs.Prelude.{None, Option, Some, filter, option_map}, proofs.Common.{[], ◌∙◌, ◌∷◌, ◌≡◌, ◌⊎◌, Bool, List, ap, cond, false}}
+use Rattle.std.proofs.{Common.{inl, inr, not, refl, sym, true}, lemmas.Bool.false≢true}
+use Rattle.base.specs.declared.ids.{ObjId.ObjId, SlotRef.SlotRef}
+use Rattle.machine.specs.declared.object.{Context.Context, Object.{Object, Object as o}, Reply.Reply, ReplyState.ReplyState}
+use Rattle.machine.specs.{declared.{object.ReplyState.ReplyState as reply, thread.{RunState.RunState, Tcb.Tcb}}, Finalising.finalised}
 use Rattle.machine.specs.declared.thread.RunState.TheVariants as state
-use Rattle.machine.specs.declared.thread.Tcb.{Tcb}
-use Rattle.machine.specs.Finalising.{finalised, is_aborted, is_halted, leads_nowhere, leaves, link_after, reply_after, staying_in, tcb_after, unbound}
+use Rattle.machine.specs.Finalising.{is_aborted, is_halted, leads_nowhere, leaves, link_after, reply_after, staying_in, tcb_after, unbound}
 use Rattle.machine.specs.Finalising as finalising
-use Rattle.machine.specs.Gone.{gone_of}
-use Rattle.machine.specs.Machine.{Machine, object_of, words_of, cap_of}
-use Rattle.machine.specs.Removal.{removed, vanishes}
-use Rattle.machine.specs.WellFormed.{IsWellFormed}
-use Rattle.machine.proofs.RemovalLinks.{queue_now, removed_formed}
-use Rattle.machine.proofs.RemovalLooks.{cap_of-removed, object_of-removed, words_of-removed}
-use Rattle.machine.proofs.RemovalTable.{finalised_there}
-use Rattle.verdict.specs.Shrinks.{HasLess, IsBlocked, IsPart, IsSame, Lessens, LosesLink, Shrinks}
-use Rattle.verdict.specs.Shrinks.Lessens.{as_it_was, released, freed, unbound as unbinds}
-use Rattle.verdict.specs.Shrinks.IsPart.{ended, stayed, left}
-use Rattle.verdict.specs.Shrinks.Stops.{goes_on, aborted, halted}
+use Rattle.machine.specs.{Gone.gone_of, Machine.{Machine, cap_of, object_of, words_of}, Removal.{removed, vanishes}}
+use Rattle.machine.{specs.WellFormed.IsWellFormed, proofs.{RemovalLinks.{queue_now, removed_formed}, RemovalLooks.cap_of-removed}}
+use Rattle.machine.proofs.{RemovalLooks.{object_of-removed, words_of-removed}, RemovalTable.finalised_there}
+use Rattle.verdict.specs.Shrinks.{HasLess, IsBlocked, IsPart, IsSame, Lessens, LosesLink, Shrinks, IsPart.{ended, left, stayed}}
+use Rattle.verdict.specs.Shrinks.{Lessens.{as_it_was, freed, released, unbound as unbinds}, Stops.{aborted, goes_on, halted}}
 use Rattle.verdict.proofs.Held.{bare_of}
 
 -- who stay of a list, in their order, are a part of it

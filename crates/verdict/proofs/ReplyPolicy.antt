@@ -1,15 +1,10 @@
 -- A policy of two labels that obeys every rule but that replies hold: each has every edge to each but that.
-use Rattle.std.proofs.Common.{◌≡◌, ◌≢◌, inl, inr, Bool, true, false, refl, sym, lit≤}
-use Rattle.std.proofs.lemmas.Bool.{false≢true}
-use Rattle.base.specs.declared.kind.Kind.{Kind}
-use Rattle.base.specs.declared.kind.Kind.TheVariants.{Space, Holds}
-use Rattle.policy.specs.Closed.{IsGivenByControl}
-use Rattle.policy.specs.Domain.{EdgeTest}
-use Rattle.policy.specs.Needed.{Rule, subjects_agree, control_gives_all, grant_shares, derive_in_domain, derive_by_grant, context_runs}
-use Rattle.policy.specs.Needed.{reply_holds, lent_runs, Obeys}
+use Rattle.std.proofs.{Common.{◌≡◌, ◌≢◌, Bool, false, inl, inr, lit≤, refl, sym, true}, lemmas.Bool.false≢true}
+use Rattle.base.specs.declared.kind.Kind.{Kind, TheVariants.{Holds, Space}}
+use Rattle.policy.specs.{Closed.IsGivenByControl, Domain.EdgeTest, Needed.{Obeys, Rule, context_runs, control_gives_all, derive_by_grant}}
+use Rattle.policy.specs.Needed.{derive_in_domain, grant_shares, lent_runs, reply_holds, subjects_agree}
 use Rattle.verdict.proofs.EvenPolicy.{even, even_agrees, even_comes, even_derives, even_gives, even_lends, even_runs, even_shares}
-use Rattle.verdict.proofs.EvenPolicy.{even_within}
-use Rattle.verdict.proofs.TestPolicies.{IsWithin}
+use Rattle.verdict.proofs.{EvenPolicy.even_within, TestPolicies.IsWithin}
 
 -- the kinds of its edges
 abbrev is_used : Kind → Bool

@@ -1,37 +1,20 @@
 -- What happens in the system of a receiver and a caller: objects become others and threads come to wait, which is told as a list of
 -- changes; and first the receiver receives with its reply, and waits.
-use Rattle.std.proofs.Common.{◌≡◌, ℕ, cond, List, [], ◌∷◌, Option, Some, None, Ok, refl, ap, ◌∙◌}
-use Rattle.base.specs.declared.ids.ObjId.{ObjId}
-use Rattle.base.specs.declared.ids.SlotRef.{SlotRef}
-use Rattle.machine.specs.declared.call.Call.TheVariants.{Receive}
-use Rattle.machine.specs.declared.call.Event.{Event}
-use Rattle.machine.specs.declared.call.Made.TheVariants.{Blocked}
-use Rattle.machine.specs.declared.call.Outcome.TheVariants as outcome
-use Rattle.machine.specs.declared.object.Object.{Object}
-use Rattle.machine.specs.declared.object.Object.TheVariants as o
+use Rattle.std.proofs.Common.{[], ℕ, ◌∙◌, ◌∷◌, ◌≡◌, List, None, Ok, Option, Some, ap, cond, refl}
+use Rattle.base.specs.declared.ids.{ObjId.ObjId, SlotRef.SlotRef}
+use Rattle.machine.specs.declared.call.{Call.TheVariants.Receive, Event.Event, Made.TheVariants.Blocked, Outcome.Outcome as outcome}
+use Rattle.machine.specs.declared.{object.Object.{Object, Object as o}, thread.{Inbox.Inbox as inbox, Receiving.Receiving}}
 use Rattle.machine.specs.declared.object.ReplyState.TheVariants as reply
-use Rattle.machine.specs.declared.thread.Inbox.TheVariants as inbox
-use Rattle.machine.specs.declared.thread.Receiving.{Receiving}
-use Rattle.machine.specs.declared.thread.RunState.TheVariants as state
-use Rattle.machine.specs.declared.thread.Tcb.{Tcb}
-use Rattle.machine.specs.Authority.{label_of}
-use Rattle.machine.specs.Boot.{IsBoot, booted}
-use Rattle.machine.specs.Changes.{first_waiting, with_reply, with_tcb, with_waiting}
-use Rattle.machine.specs.Layout.{initial_of, initial_cap, declared_label, bound_context, bound_thread}
-use Rattle.machine.specs.Lookup.{level_at, lookup_of, walk, hop}
-use Rattle.machine.specs.Machine.{Machine, object_of, queue_of, cap_of, same_id, with_object, with_queue}
-use Rattle.machine.specs.Objects.{address_of}
-use Rattle.machine.specs.Releasing.{with_blocked, with_holder_halted, with_holding}
-use Rattle.machine.specs.Step.{admitted, made_by, step_of}
-use Rattle.machine.specs.Step.Deliver.{first_at}
-use Rattle.machine.specs.Step.Find.{find_cap, find_endpoint, find_reply}
-use Rattle.machine.specs.Step.Receive.{receive_of}
-use Rattle.machine.proofs.LookUps.{cap_of-with_object, cap_of-with_queue, object_of-with_object, object_of-with_queue}
-use Rattle.machine.proofs.LookUps.{queue_of-with_object, queue_of-with_queue}
+use Rattle.machine.specs.{declared.thread.{RunState.RunState as state, Tcb.Tcb}, Authority.label_of, Boot.{IsBoot, booted}}
+use Rattle.machine.specs.{Changes.{first_waiting, with_reply, with_tcb, with_waiting}, Layout.{bound_context, bound_thread, declared_label}}
+use Rattle.machine.specs.{Layout.{initial_cap, initial_of}, Lookup.{hop, level_at, lookup_of, walk}, Machine.{Machine, cap_of, object_of}}
+use Rattle.machine.specs.{Machine.{queue_of, same_id, with_object, with_queue}, Objects.address_of, Releasing.with_blocked}
+use Rattle.machine.specs.{Releasing.{with_holder_halted, with_holding}, Step.{admitted, made_by, step_of, Deliver.first_at, Find.find_cap}}
+use Rattle.machine.{specs.Step.{Find.{find_endpoint, find_reply}, Receive.receive_of}, proofs.LookUps.cap_of-with_object}
+use Rattle.machine.proofs.LookUps.{cap_of-with_queue, object_of-with_object, object_of-with_queue, queue_of-with_object}
+use Rattle.machine.proofs.LookUps.{queue_of-with_queue}
 use Rattle.table.proofs.AtBoot.{boot_label}
-use Rattle.verdict.proofs.ObjectLabels.{label_stays}
-use Rattle.verdict.proofs.ReplySystem.{serving, answers, end, receiver}
-use Rattle.verdict.proofs.SmallSystem.{id, slot}
+use Rattle.verdict.proofs.{ObjectLabels.label_stays, ReplySystem.{answers, end, receiver, serving}, SmallSystem.{id, slot}}
 
 -- an object becomes another, or others wait at the endpoint
 pub data Change : Type 0 where

@@ -1,41 +1,23 @@
 -- A system of a receiver of label 0 and a caller of label 1, each with a context of its label, in one capability space of label 0. Its
 -- CNode holds capabilities for an endpoint, to send and to receive, for a reply, and for the receiver's context.
-use Rattle.std.proofs.Common.{◌≡◌, ◌≢◌, ℕ, ◌<◌, true, [], ◌∷◌, Option, Some, None, slice_get, refl, sym, ap, ◌∙◌, arith, lit<, lit≤}
-use Rattle.std.proofs.lemmas.Bool.{false≢true}
-use Rattle.std.specs.Prelude.{codes}
-use Rattle.std.specs.List.{All}
-use Rattle.std.proofs.lemmas.List.Elements.{All-from_recursion}
+use Rattle.std.{specs.{List.All, Prelude.codes}, proofs.Common.{[], ℕ, ◌<◌, ◌∙◌, ◌∷◌, ◌≡◌, ◌≢◌, None, Option, Some, ap, arith, lit<, lit≤}}
+use Rattle.std.proofs.{Common.{refl, slice_get, sym, true}, lemmas.{Bool.false≢true, List.Elements.All-from_recursion}}
 use Rattle.std.proofs.lemmas.List.Sums.{AllPass-from_list_all}
-use Rattle.base.specs.declared.ids.ObjId.{ObjId}
-use Rattle.base.specs.declared.kind.Kind.{Kind}
-use Rattle.base.specs.declared.kind.Kind.TheVariants.{Holds, Runs, Space}
-use Rattle.machine.specs.declared.cap.Badged.{Badged}
-use Rattle.machine.specs.declared.cap.Cap.{Cap}
-use Rattle.machine.specs.declared.cap.Detail.{Detail}
+use Rattle.base.specs.declared.{ids.ObjId.ObjId, kind.Kind.{Kind, TheVariants.{Holds, Runs, Space}}}
+use Rattle.machine.specs.declared.{cap.{Badged.Badged, Cap.Cap, Detail.Detail}, layout.Initial.Initial, object.Context.Context}
 use Rattle.machine.specs.declared.cap.Detail.TheVariants as d
-use Rattle.machine.specs.declared.layout.Initial.{Initial}
 use Rattle.machine.specs.declared.layout.Version.TheVariants as version
-use Rattle.machine.specs.declared.object.Context.{Context}
-use Rattle.machine.specs.declared.object.Object.{Object}
-use Rattle.machine.specs.declared.object.Object.TheVariants as o
-use Rattle.machine.specs.declared.object.ReplyState.{ReplyState}
+use Rattle.machine.specs.declared.{object.{Object.{Object, Object as o}, ReplyState.ReplyState}, thread.{Inbox.Inbox, RunState.RunState}}
 use Rattle.machine.specs.declared.object.ReplyState.TheVariants as reply
-use Rattle.machine.specs.declared.thread.Inbox.{Inbox}
 use Rattle.machine.specs.declared.thread.Inbox.TheVariants as inbox
-use Rattle.machine.specs.declared.thread.RunState.{RunState}
 use Rattle.machine.specs.declared.thread.RunState.TheVariants as state
-use Rattle.machine.specs.declared.thread.Tcb.{Tcb}
-use Rattle.machine.specs.Boot.{IsBoot}
-use Rattle.machine.specs.Capabilities.{gives}
-use Rattle.machine.specs.Layout.{Layout, initial_of, initial_parent, declared_label}
-use Rattle.machine.specs.Machine.{Machine}
+use Rattle.machine.specs.{declared.thread.Tcb.Tcb, Boot.IsBoot, Capabilities.gives, Layout.{Layout, declared_label, initial_of}}
+use Rattle.machine.specs.{Layout.initial_parent, Machine.Machine}
 use Rattle.policy.specs.Domain.{EdgeTest}
-use Rattle.table.specs.Rules.{IsLawful, IsObjectOf, IsCapOf, IsBindingOf, IsDetailOf, kind_at}
-use Rattle.table.specs.Tree.{is_original, source_of}
-use Rattle.verdict.specs.Confined.{IsConfined}
-use Rattle.verdict.proofs.LineByLine.{IsBindingWithin, IsCapWithin, confined_by_lines, root_line}
-use Rattle.verdict.proofs.SmallSystem.{id, slot, labelled, filled, endpoint}
-use Rattle.verdict.proofs.TestTables.{lawful_by_tests, names_differ, pairs_test, tests}
+use Rattle.table.specs.{Rules.{IsBindingOf, IsCapOf, IsDetailOf, IsLawful, IsObjectOf, kind_at}, Tree.{is_original, source_of}}
+use Rattle.verdict.{specs.Confined.IsConfined, proofs.LineByLine.{IsBindingWithin, IsCapWithin, confined_by_lines, root_line}}
+use Rattle.verdict.proofs.{SmallSystem.{endpoint, filled, id, labelled, slot}, TestTables.{lawful_by_tests, names_differ, pairs_test}}
+use Rattle.verdict.proofs.TestTables.{tests}
 
 abbrev pub space : Object
 space = o.CNode (record { address = 0x1000; radix = 2 })

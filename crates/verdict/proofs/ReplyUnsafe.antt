@@ -1,26 +1,15 @@
 -- The system of a receiver and a caller isn't safe where the policy lacks that replies hold threads: the receiver waits with a reply,
 -- which then waits with it.
-use Rattle.std.proofs.Common.{◌≡◌, ◌≢◌, true, [], ◌∷◌, Some, refl}
-use Rattle.base.specs.declared.kind.Kind.{Kind}
-use Rattle.base.specs.declared.kind.Kind.TheVariants.{Holds}
-use Rattle.machine.specs.declared.call.Outcome.TheVariants as outcome
-use Rattle.machine.specs.declared.object.Object.TheVariants as o
+use Rattle.std.proofs.Common.{[], ◌∷◌, ◌≡◌, ◌≢◌, Some, refl, true}
+use Rattle.base.specs.declared.kind.Kind.{Kind, TheVariants.Holds}
+use Rattle.machine.specs.declared.{call.Outcome.Outcome as outcome, object.Object.Object as o, thread.Inbox.Inbox as inbox}
 use Rattle.machine.specs.declared.object.ReplyState.TheVariants as reply
-use Rattle.machine.specs.declared.thread.Inbox.TheVariants as inbox
-use Rattle.machine.specs.declared.thread.RunState.TheVariants as state
-use Rattle.machine.specs.Authority.{HasAuthority}
-use Rattle.machine.specs.Authority.HasAuthority.{by_link}
-use Rattle.machine.specs.Boot.{IsBoot}
-use Rattle.machine.specs.Layout.{initial_of, declared_label, bound_context}
-use Rattle.machine.specs.Machine.{Machine}
-use Rattle.machine.specs.Step.Step.{ends}
+use Rattle.machine.specs.{declared.thread.RunState.RunState as state, Authority.{HasAuthority, HasAuthority.by_link}, Boot.IsBoot}
+use Rattle.machine.specs.{Layout.{bound_context, declared_label, initial_of}, Machine.Machine, Step.Step.ends}
 use Rattle.policy.specs.Needed.{reply_holds}
-use Rattle.verdict.specs.Counterexamples.{UnsafeWithout}
-use Rattle.verdict.proofs.EvenPolicy.{even}
-use Rattle.verdict.proofs.ReplyPolicy.{has, others, within}
-use Rattle.verdict.proofs.ReplyRun.{label_now, object_after, object_now, receive_made, received, receiving, waiting, with_changes}
-use Rattle.verdict.proofs.ReplySystem.{FitsServing, serving, serving_confined, serving_lawful, answers, receiver}
-use Rattle.verdict.proofs.SmallSystem.{id}
+use Rattle.verdict.{specs.Counterexamples.UnsafeWithout, proofs.{EvenPolicy.even, ReplyPolicy.{has, others, within}, ReplyRun.label_now}}
+use Rattle.verdict.proofs.ReplyRun.{object_after, object_now, receive_made, received, receiving, waiting, with_changes}
+use Rattle.verdict.proofs.{ReplySystem.{FitsServing, answers, receiver, serving, serving_confined, serving_lawful}, SmallSystem.id}
 use Rattle.verdict.proofs.UnsafeBy.{unsafe_without}
 
 fits : FitsServing has

@@ -1,38 +1,18 @@
 -- Retype within a caller's authority: the untyped memory and the CNode are controlled by the caller's label, and so is all that is made.
-use Rattle.std.proofs.Common.{◌≡◌, ℕ, zero, suc, ◌+◌, Bool, true, false, List, [], ◌∷◌, Some, option_map, refl, sym, ap, subst, ◌∙◌, arith}
-use Rattle.std.specs.Prelude.{if◌then◌else◌}
-use Rattle.base.specs.declared.ids.ObjId.{ObjId}
-use Rattle.base.specs.declared.ids.SlotRef.{SlotRef}
-use Rattle.base.specs.declared.kind.Kind.TheVariants as authority
-use Rattle.machine.specs.declared.call.Event.{Event}
-use Rattle.machine.specs.declared.object.MemoryKind.{MemoryKind}
-use Rattle.machine.specs.declared.object.Object.{Object}
-use Rattle.machine.specs.declared.object.Object.TheVariants as o
-use Rattle.machine.specs.declared.object.ObjectKind.TheVariants as kind
-use Rattle.machine.specs.declared.object.Untyped.{Untyped}
-use Rattle.machine.specs.Authority.{label_of}
-use Rattle.machine.specs.Capabilities.{gives}
-use Rattle.machine.specs.Layout.{Layout}
-use Rattle.machine.specs.Machine.{Machine, object_of, same_id}
-use Rattle.machine.specs.Memory.{Source, begun, has_child, new_detail, new_object, new_size, placed, taken, with_made}
-use Rattle.machine.specs.Objects.{kind_of_object}
-use Rattle.machine.specs.Step.Retype.{window}
-use Rattle.machine.specs.WellFormed.{IsWellFormed, kind_of}
-use Rattle.machine.proofs.LookUps.{same_machine}
-use Rattle.machine.proofs.MadeFormed.{CanMake, made_formed}
-use Rattle.machine.proofs.ObjectMade.{MakesObject, following, made_makes, marked}
-use Rattle.machine.proofs.RetypeFormed.{MakesAll, first, new_address, none, retype_makes}
+use Rattle.std.{specs.Prelude.if◌then◌else◌, proofs.Common.{[], ℕ, ◌+◌, ◌∙◌, ◌∷◌, ◌≡◌, Bool, List, Some, ap, arith, false, option_map}}
+use Rattle.std.proofs.Common.{refl, subst, suc, sym, true, zero}
+use Rattle.base.specs.declared.{ids.{ObjId.ObjId, SlotRef.SlotRef}, kind.Kind.Kind as authority}
+use Rattle.machine.specs.declared.{call.Event.Event, object.{MemoryKind.MemoryKind, Object.{Object, Object as o}}}
+use Rattle.machine.specs.{declared.object.{ObjectKind.ObjectKind as kind, Untyped.Untyped}, Authority.label_of, Capabilities.gives}
+use Rattle.machine.specs.{Layout.Layout, Machine.{Machine, object_of, same_id}, Memory.{Source, begun, has_child, new_detail, new_object}}
+use Rattle.machine.specs.{Memory.{new_size, placed, taken, with_made}, Objects.kind_of_object, Step.Retype.window, WellFormed.IsWellFormed}
+use Rattle.machine.{specs.WellFormed.kind_of, proofs.{LookUps.same_machine, MadeFormed.{CanMake, made_formed}, ObjectMade.MakesObject}}
+use Rattle.machine.proofs.{ObjectMade.{following, made_makes, marked}, RetypeFormed.{MakesAll, first, new_address, none, retype_makes}}
 use Rattle.machine.proofs.RetypeRow.{RetypeDone}
-use Rattle.policy.specs.Closed.{IsClosed}
-use Rattle.policy.specs.Domain.{EdgeTest, IsInDomain}
-use Rattle.verdict.specs.Invariant.{IsHeld, IsSound}
-use Rattle.verdict.proofs.Held.{held_of}
-use Rattle.verdict.proofs.Joined.{joined_of}
-use Rattle.verdict.proofs.Keeps.{Keeps, keeps_keeps, unchanged}
-use Rattle.verdict.proofs.MakeKeeps.{MayMake, make_keeps}
-use Rattle.verdict.proofs.ObjectLabels.{kind_there, label_stays, labelled_there}
-use Rattle.verdict.proofs.Reach.{IsControlled, found_in_reach, found_within, shown_controlled}
-use Rattle.verdict.proofs.Walks.{shows}
+use Rattle.policy.specs.{Closed.IsClosed, Domain.{EdgeTest, IsInDomain}}
+use Rattle.verdict.{specs.Invariant.{IsHeld, IsSound}, proofs.{Held.held_of, Joined.joined_of, Keeps.{Keeps, keeps_keeps, unchanged}}}
+use Rattle.verdict.proofs.{MakeKeeps.{MayMake, make_keeps}, ObjectLabels.{kind_there, label_stays, labelled_there}, Reach.IsControlled}
+use Rattle.verdict.proofs.{Reach.{found_in_reach, found_within, shown_controlled}, Walks.shows}
 
 -- a machine that is made so is the one that the row says
 makes_is :

@@ -1,13 +1,8 @@
 -- The rules of closed policies come before those of the authority that a table or a machine holds.
-use Rattle.std.proofs.Common.{◌≡◌, ℕ, ◌<◌, ◌≤◌, List, [], ◌∷◌, get_or, refl, sym, ap, ◌∙◌, arith, lit<, lit≤}
-use Rattle.std.specs.declared.cmp.Ordering.TheVariants.{Less, Greater}
-use Rattle.std.specs.Ordering.{ordering_reverse}
-use Rattle.std.proofs.lemmas.Cmp.{nat_list_cmp_total}
-use Rattle.policy.specs.declared.broken.Broken.{Broken}
-use Rattle.policy.specs.declared.broken.Broken.TheVariants as broken
-use Rattle.policy.specs.Broken.{broken_place}
-use Rattle.policy.specs.Places.{ComesBefore}
-use Rattle.verdict.specs.Rules.{a1, Excess, capability, root, pair, binding, holding, recorded, excess_place}
+use Rattle.std.{specs.{declared.cmp.Ordering.TheVariants.{Greater, Less}, Ordering.ordering_reverse}, proofs.Common.{[], ℕ, ◌<◌, ◌∙◌, ◌∷◌}}
+use Rattle.std.proofs.{Common.{◌≡◌, ◌≤◌, List, ap, arith, get_or, lit<, lit≤, refl, sym}, lemmas.Cmp.nat_list_cmp_total}
+use Rattle.policy.specs.{declared.broken.Broken.{Broken, Broken as broken}, Broken.broken_place, Places.ComesBefore}
+use Rattle.verdict.specs.Rules.{Excess, a1, binding, capability, excess_place, holding, pair, recorded, root}
 
 -- a place of a smaller rule comes first
 pub before_by_rule : (one other : List ℕ) → get_or one 0 0 < get_or other 0 0 → ComesBefore one other

@@ -1,40 +1,18 @@
 -- Every run from a sound machine is safe: by induction over its events, with one clause for each call.
-use Rattle.std.proofs.Common.{◌≡◌, ℕ, ◌⊎◌, inl, inr, List, [], ◌∷◌, Some, refl, sym, ap, subst, ◌∙◌}
-use Rattle.std.proofs.lemmas.Option.{same_Some}
+use Rattle.std.proofs.{Common.{[], ℕ, ◌∙◌, ◌∷◌, ◌≡◌, ◌⊎◌, List, Some, ap, inl, inr, refl, subst, sym}, lemmas.Option.same_Some}
 use Rattle.base.specs.declared.ids.ObjId.{ObjId}
-use Rattle.machine.specs.declared.call.Call.{Call}
+use Rattle.machine.specs.declared.{call.{Call.Call, Event.Event, Outcome.Outcome}, object.{Context.Context, Object.Object as o}}
 use Rattle.machine.specs.declared.call.Call.TheVariants as call
-use Rattle.machine.specs.declared.call.Event.{Event}
-use Rattle.machine.specs.declared.call.Outcome.{Outcome}
-use Rattle.machine.specs.declared.object.Context.{Context}
-use Rattle.machine.specs.declared.object.Object.TheVariants as o
-use Rattle.machine.specs.Authority.{label_of}
-use Rattle.machine.specs.Boot.{IsBoot}
-use Rattle.machine.specs.Layout.{Layout}
-use Rattle.machine.specs.Machine.{Machine}
-use Rattle.machine.specs.Run.{Run}
-use Rattle.machine.specs.Step.{Step}
-use Rattle.machine.proofs.Formed.{step_formed}
-use Rattle.machine.proofs.Admission.{IsCaller}
-use Rattle.machine.proofs.Inversion.{CallDone, EventDone, step_done}
-use Rattle.policy.specs.Closed.{IsClosed}
-use Rattle.policy.specs.Domain.{EdgeTest}
-use Rattle.verdict.specs.Bounded.{IsAffected, IsBoundedStep}
-use Rattle.verdict.specs.Budgets.{KeepsBudgets, configures}
-use Rattle.verdict.specs.Invariant.{IsSound}
-use Rattle.verdict.specs.Safe.{IsReached, IsSafe, KeepsBounds}
-use Rattle.verdict.specs.Shrinks.{IsSame}
-use Rattle.verdict.proofs.Bounds.{bounded_allowed}
-use Rattle.verdict.proofs.ContextKeeps.{bind_keeps, configure_keeps, may_configure, unbind_keeps}
-use Rattle.verdict.proofs.Keeps.{Acts, Keeps}
+use Rattle.machine.{specs.{Authority.label_of, Boot.IsBoot, Layout.Layout, Machine.Machine, Run.Run, Step.Step}, proofs.Admission.IsCaller}
+use Rattle.machine.proofs.{Formed.step_formed, Inversion.{CallDone, EventDone, step_done}}
+use Rattle.policy.specs.{Closed.IsClosed, Domain.EdgeTest}
+use Rattle.verdict.specs.{Bounded.{IsAffected, IsBoundedStep}, Budgets.{KeepsBudgets, configures}, Invariant.IsSound, Safe.IsReached}
+use Rattle.verdict.{specs.{Safe.{IsSafe, KeepsBounds}, Shrinks.IsSame}, proofs.{Bounds.bounded_allowed, ContextKeeps.bind_keeps}}
+use Rattle.verdict.proofs.{ContextKeeps.{configure_keeps, may_configure, unbind_keeps}, Keeps.{Acts, Keeps}}
 use Rattle.verdict.proofs.MessageKeeps.{endpoint_call_keeps, fetch_keeps, receive_keeps, reply_keeps, send_keeps}
-use Rattle.verdict.proofs.NotificationKeeps.{poll_keeps, signal_keeps, wait_keeps}
-use Rattle.verdict.proofs.RemovalCalls.{delete_keeps, revoke_keeps}
-use Rattle.verdict.proofs.RetypeKeeps.{retype_keeps}
-use Rattle.verdict.proofs.Shrinking.{same_context}
-use Rattle.verdict.proofs.SlotCalls.{derive_keeps, move_keeps}
-use Rattle.verdict.proofs.SpaceKeeps.{clear_space_keeps, set_space_keeps}
-use Rattle.verdict.proofs.ThreadKeeps.{resume_keeps, suspend_keeps}
+use Rattle.verdict.proofs.{NotificationKeeps.{poll_keeps, signal_keeps, wait_keeps}, RemovalCalls.{delete_keeps, revoke_keeps}}
+use Rattle.verdict.proofs.{RetypeKeeps.retype_keeps, Shrinking.same_context, SlotCalls.{derive_keeps, move_keeps}}
+use Rattle.verdict.proofs.{SpaceKeeps.{clear_space_keeps, set_space_keeps}, ThreadKeeps.{resume_keeps, suspend_keeps}}
 use Rattle.verdict.proofs.WordsKeeps.{read_keeps, write_keeps}
 
 -- one clause for each call

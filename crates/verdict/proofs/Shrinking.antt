@@ -1,18 +1,10 @@
 -- Shrinking twice is shrinking, and so is staying the same before or after.
-use Rattle.std.proofs.Common.{◌≡◌, ◌⊎◌, inl, inr, List, Option, None, sym, ap, subst, ◌∙◌}
-use Rattle.std.proofs.lemmas.Option.{none-some, same_Some}
+use Rattle.std.proofs.{Common.{◌∙◌, ◌≡◌, ◌⊎◌, List, None, Option, ap, inl, inr, subst, sym}, lemmas.Option.{none-some, same_Some}}
 use Rattle.base.specs.declared.ids.ObjId.{ObjId}
-use Rattle.machine.specs.declared.cap.Cap.{Cap}
-use Rattle.machine.specs.declared.object.Context.{Context}
-use Rattle.machine.specs.declared.object.Object.{Object}
-use Rattle.machine.specs.declared.object.Object.TheVariants as o
-use Rattle.machine.specs.declared.object.Reply.{Reply}
-use Rattle.machine.specs.declared.thread.Tcb.{Tcb}
+use Rattle.machine.specs.declared.{cap.Cap.Cap, object.{Context.Context, Object.{Object, Object as o}, Reply.Reply}, thread.Tcb.Tcb}
 use Rattle.machine.specs.Machine.{Machine}
-use Rattle.verdict.specs.Shrinks.{HasLess, IsBlocked, IsPart, IsSame, Lessens, LosesLink, Shrinks, Stops}
-use Rattle.verdict.specs.Shrinks.Lessens.{as_it_was, released, freed, unbound}
-use Rattle.verdict.specs.Shrinks.IsPart.{ended, stayed, left}
-use Rattle.verdict.specs.Shrinks.Stops.{goes_on, aborted, halted}
+use Rattle.verdict.specs.Shrinks.{HasLess, IsBlocked, IsPart, IsSame, Lessens, LosesLink, Shrinks, Stops, IsPart.{ended, left, stayed}}
+use Rattle.verdict.specs.Shrinks.{Lessens.{as_it_was, freed, released, unbound}, Stops.{aborted, goes_on, halted}}
 
 pub same_tcb : (a b : Tcb) → o.Tcb a ≡ o.Tcb b → a ≡ b
 same_tcb a b e = cc

@@ -1,37 +1,16 @@
 -- A change of slots keeps what a part of a call keeps: each capability and pair of the tree that is new is in the policy, and the
 -- objects whose slots change are the caller's to change.
-use Rattle.std.proofs.Common.{◌≡◌, ℕ, ◌⊎◌, inl, inr, true, Some, None, refl, sym, ap, ◌∙◌, arith}
-use Rattle.std.proofs.lemmas.Option.{none-some, same_Some}
-use Rattle.base.specs.declared.ids.ObjId.{ObjId}
-use Rattle.base.specs.declared.ids.SlotRef.{SlotRef}
-use Rattle.base.specs.declared.kind.Kind.{Kind}
+use Rattle.std.proofs.{Common.{ℕ, ◌∙◌, ◌≡◌, ◌⊎◌, None, Some, ap, arith, inl, inr, refl, sym, true}, lemmas.Option.{none-some, same_Some}}
+use Rattle.base.specs.declared.{ids.{ObjId.ObjId, SlotRef.SlotRef}, kind.Kind.Kind}
 use Rattle.base.specs.declared.kind.Kind.TheVariants as authority
-use Rattle.machine.specs.declared.call.Event.{Event}
-use Rattle.machine.specs.declared.cap.Cap.{Cap}
-use Rattle.machine.specs.declared.object.Context.{Context}
-use Rattle.machine.specs.declared.object.Object.{Object}
-use Rattle.machine.specs.declared.object.Object.TheVariants as o
+use Rattle.machine.specs.declared.{call.Event.Event, cap.Cap.Cap, object.{Context.Context, Object.{Object, Object as o}}}
 use Rattle.machine.specs.declared.object.ObjectKind.TheVariants as kind
-use Rattle.machine.specs.Authority.{label_of}
-use Rattle.machine.specs.Authority.HasAuthority.{by_cap, by_root, by_pair, by_link}
-use Rattle.machine.specs.Capabilities.{gives, kind_of_detail}
-use Rattle.machine.specs.Layout.{Layout}
-use Rattle.machine.specs.Machine.{Machine, object_of, cap_of, parent_of}
-use Rattle.machine.specs.Objects.{kind_of_object, address_of}
-use Rattle.machine.specs.WellFormed.{kind_of}
-use Rattle.machine.proofs.SameObjects.{kinds_same}
-use Rattle.machine.proofs.SlotChanges.{SameObjects}
-use Rattle.policy.specs.Domain.{EdgeTest}
-use Rattle.policy.specs.Full.{IsFull}
-use Rattle.policy.specs.Full.IsFull.{modifies}
-use Rattle.verdict.specs.Confined.{IsConfined}
-use Rattle.verdict.specs.Invariant.{IsBare, IsHeld}
-use Rattle.verdict.specs.OfTable.{IsOfTable}
-use Rattle.verdict.proofs.Contents.{full}
-use Rattle.verdict.proofs.Keeps.{Acts, Keeps}
-use Rattle.verdict.proofs.ObjectLabels.{same_label}
-use Rattle.verdict.proofs.Reach.{IsControlled}
-use Rattle.verdict.proofs.Shrinking.{same_context}
+use Rattle.machine.specs.{Authority.{label_of, HasAuthority.{by_cap, by_link, by_pair, by_root}}, Capabilities.{gives, kind_of_detail}}
+use Rattle.machine.specs.{Layout.Layout, Machine.{Machine, cap_of, object_of, parent_of}, Objects.{address_of, kind_of_object}}
+use Rattle.machine.{specs.WellFormed.kind_of, proofs.{SameObjects.kinds_same, SlotChanges.SameObjects}}
+use Rattle.policy.specs.{Domain.EdgeTest, Full.{IsFull, IsFull.modifies}}
+use Rattle.verdict.{specs.{Confined.IsConfined, Invariant.{IsBare, IsHeld}, OfTable.IsOfTable}, proofs.{Contents.full, Keeps.{Acts, Keeps}}}
+use Rattle.verdict.proofs.{ObjectLabels.same_label, Reach.IsControlled, Shrinking.same_context}
 
 -- a label has full authority over an object's
 pub record IsOpened (t : Layout) (allowed : EdgeTest) (m : Machine) (a : ℕ) (id : ObjId) : Type 0 where

@@ -1,36 +1,21 @@
 -- What is denied at a slot is the first that is broken there: a capability's kinds rise, and the pair whose child the slot is comes after.
-use Rattle.std.proofs.Common.{◌≡◌, ℕ, ◌≤◌, Bool, true, false, cond, ◌&&◌, not, List, [], ◌∷◌, ◌++◌, inl, inr, Option, Some, None, MatchOption, option_map, refl, sym, ap, subst, ◌∙◌, arith, lit<}
-use mathlib.Core.Bool.{false≢true}
-use Rattle.std.specs.List.{find, filter, flat_map}
-use Rattle.std.specs.Option.{option_and_then, option_or}
-use Rattle.std.proofs.lemmas.Bool.{and_from, and_parts, cases_order}
-use Rattle.std.proofs.lemmas.List.Folds.{find-append}
-use Rattle.std.proofs.lemmas.Option.{none-some, same_Some}
-use Rattle.base.specs.declared.edge.Edge.{Edge}
-use Rattle.base.specs.declared.ids.SlotRef.{SlotRef}
-use Rattle.base.specs.declared.kind.Kind.{Kind}
-use Rattle.base.specs.declared.kind.Kind.TheVariants.{Space, Derive}
-use Rattle.base.specs.Kinds.{kind_number, is_structural}
-use Rattle.labels.specs.SlotEdges.{cap_edges, pair_edges, edge_between, kinds_in}
-use Rattle.machine.specs.declared.cap.Cap.{Cap}
-use Rattle.machine.specs.declared.object.ObjectKind.{ObjectKind}
-use Rattle.machine.specs.declared.object.ObjectKind.TheVariants as object
-use Rattle.machine.specs.Capabilities.{gives}
-use Rattle.machine.specs.Layout.{Layout, declared_label, initial_cap, initial_parent}
-use Rattle.machine.proofs.AuthorityLemmas.{gives_no_structure}
-use Rattle.policy.specs.Domain.{EdgeTest}
-use Rattle.policy.specs.Places.{ComesBefore, FindsLeast, IsLeast, IsNone}
-use Rattle.policy.proofs.KindNumbers.{all_kinds, kind_stands, number_stands}
-use Rattle.policy.proofs.Places.{decided, not_before_itself, only_least}
-use Rattle.table.specs.Rules.{kind_at}
-use Rattle.verdict.specs.declared.denial.Denial.{Denial}
+use Rattle.std.{specs.{List.{filter, find, flat_map}, Option.{option_and_then, option_or}}, proofs.Common.{[], ℕ, ◌&&◌, ◌++◌, ◌∙◌, ◌∷◌}}
+use Rattle.std.proofs.Common.{◌≡◌, ◌≤◌, Bool, List, MatchOption, None, Option, Some, ap, arith, cond, false, inl, inr, lit<, not}
+use Rattle.std.proofs.{Common.{option_map, refl, subst, sym, true}, lemmas.Bool.{and_from, and_parts, cases_order}}
+use Rattle.std.proofs.lemmas.{List.Folds.find-append, Option.{none-some, same_Some}}
+use Rattle.base.specs.{declared.{edge.Edge.Edge, ids.SlotRef.SlotRef, kind.Kind.{Kind, TheVariants.{Derive, Space}}}, Kinds.is_structural}
+use Rattle.base.specs.Kinds.{kind_number}
+use Rattle.machine.specs.{declared.{cap.Cap.Cap, object.ObjectKind.{ObjectKind, ObjectKind as object}}, Capabilities.gives, Layout.Layout}
+use Rattle.machine.{specs.Layout.{declared_label, initial_cap, initial_parent}, proofs.AuthorityLemmas.gives_no_structure}
+use Rattle.policy.{specs.{Domain.EdgeTest, Places.{ComesBefore, FindsLeast, IsLeast, IsNone}}, proofs.KindNumbers.{all_kinds, kind_stands}}
+use Rattle.policy.proofs.{KindNumbers.number_stands, Places.{decided, not_before_itself, only_least}}
+use Rattle.table.{specs.Rules.kind_at, proofs.Lookups.{FoundAt, found_at, none_found}}
+use Rattle.labels.specs.SlotEdges.{cap_edges, edge_between, kinds_in, pair_edges}
+use Rattle.verdict.specs.{declared.denial.Denial.Denial, Rules.{CapabilityExceeds, PairExceeds, RootExceeds, a1, a3}, Slots.denial_by}
 use Rattle.verdict.specs.declared.denial.Denial.TheVariants as denial
-use Rattle.verdict.specs.Rules.{a1, a3, CapabilityExceeds, RootExceeds, PairExceeds}
-use Rattle.verdict.specs.Slots.{denial_by, is_missing, slot_denial, slot_rule}
-use Rattle.verdict.specs.Sources.{of_table}
-use Rattle.verdict.specs.Verdict.{Breaks, place_of}
-use Rattle.table.proofs.Lookups.{FoundAt, found_at, none_found}
+use Rattle.verdict.specs.{Slots.{is_missing, slot_denial, slot_rule}, Sources.of_table, Verdict.{Breaks, place_of}}
 use Rattle.verdict.proofs.RuleOrder.{not_before_by_rule}
+use mathlib.Core.Bool.{false≢true}
 
 -- a denial names a slot
 abbrev pub IsAt : SlotRef → Denial → Type 0

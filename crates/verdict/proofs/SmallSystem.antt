@@ -1,25 +1,16 @@
 -- A small system: a CNode of label 1, a thread of label 0, a notification of label 2, and a scheduling context of label 0 for core
 -- 0. The thread finds the notification at the address 0, and runs on the context.
-use Rattle.std.proofs.Common.{◌≡◌, ℕ, true, false, [], ◌∷◌, Option, Some, None, refl, arith, lit<, lit≤}
-use Rattle.std.specs.Prelude.{codes}
-use Rattle.std.proofs.lemmas.List.Elements.{All-from_recursion}
-use Rattle.std.proofs.lemmas.List.Sums.{AllPass-from_list_all}
-use Rattle.base.specs.declared.ids.ObjId.{ObjId}
-use Rattle.base.specs.declared.ids.SlotRef.{SlotRef}
-use Rattle.machine.specs.declared.cap.Badged.{Badged}
-use Rattle.machine.specs.declared.cap.Cap.{Cap}
+use Rattle.std.{specs.Prelude.codes, proofs.Common.{[], ℕ, ◌∷◌, ◌≡◌, None, Option, Some, arith, false, lit<, lit≤, refl, true}}
+use Rattle.std.proofs.lemmas.List.{Elements.All-from_recursion, Sums.AllPass-from_list_all}
+use Rattle.base.specs.declared.ids.{ObjId.ObjId, SlotRef.SlotRef}
+use Rattle.machine.specs.declared.{cap.{Badged.Badged, Cap.Cap}, layout.{Filled.Filled, Initial.Initial}, object.Object.Object}
 use Rattle.machine.specs.declared.cap.Detail.TheVariants as d
-use Rattle.machine.specs.declared.layout.Filled.{Filled}
-use Rattle.machine.specs.declared.layout.Initial.{Initial}
 use Rattle.machine.specs.declared.layout.Version.TheVariants as version
-use Rattle.machine.specs.declared.object.Object.{Object}
-use Rattle.machine.specs.declared.object.Object.TheVariants as o
+use Rattle.machine.specs.{declared.object.Object.Object as o, Layout.{Layout, initial_of, initial_parent}}
 use Rattle.machine.specs.declared.thread.Inbox.TheVariants as inbox
 use Rattle.machine.specs.declared.thread.RunState.TheVariants as state
-use Rattle.machine.specs.Layout.{Layout, initial_of, initial_parent}
 use Rattle.policy.specs.Domain.{EdgeTest}
-use Rattle.table.specs.Rules.{IsLawful, IsObjectOf, IsCapOf, IsBindingOf}
-use Rattle.table.specs.Tree.{is_original, source_of}
+use Rattle.table.specs.{Rules.{IsBindingOf, IsCapOf, IsLawful, IsObjectOf}, Tree.{is_original, source_of}}
 use Rattle.verdict.proofs.TestTables.{lawful_by_tests, names_differ, pairs_test, tests}
 
 abbrev pub id : ℕ → ObjId

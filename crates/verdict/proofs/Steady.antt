@@ -1,15 +1,9 @@
 -- Changes that leave kinds, labels, capabilities and the derivation tree as they are: a machine stays confined where its new links
 -- are allowed.
-use Rattle.std.proofs.Common.{◌≡◌, ℕ, true, Some, sym, ◌∙◌}
-use Rattle.base.specs.declared.ids.ObjId.{ObjId}
-use Rattle.base.specs.declared.ids.SlotRef.{SlotRef}
-use Rattle.base.specs.declared.kind.Kind.{Kind}
-use Rattle.machine.specs.declared.object.Object.{Object}
-use Rattle.machine.specs.Authority.{label_of, links}
-use Rattle.machine.specs.Authority.HasAuthority.{by_cap, by_root, by_pair, by_link}
-use Rattle.machine.specs.Layout.{Layout}
-use Rattle.machine.specs.Machine.{Machine, object_of, cap_of, parent_of}
-use Rattle.machine.specs.WellFormed.{kind_of}
+use Rattle.std.proofs.Common.{ℕ, ◌∙◌, ◌≡◌, Some, sym, true}
+use Rattle.base.specs.declared.{ids.{ObjId.ObjId, SlotRef.SlotRef}, kind.Kind.Kind}
+use Rattle.machine.specs.{declared.object.Object.Object, Authority.{label_of, links, HasAuthority.{by_cap, by_link, by_pair, by_root}}}
+use Rattle.machine.specs.{Layout.Layout, Machine.{Machine, cap_of, object_of, parent_of}, WellFormed.kind_of}
 use Rattle.policy.specs.Domain.{EdgeTest}
 use Rattle.verdict.specs.Confined.{IsConfined}
 

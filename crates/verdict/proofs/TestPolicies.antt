@@ -1,17 +1,9 @@
 -- The policy that has the edges at which a test says yes.
-use Rattle.std.proofs.Common.{◌≡◌, ℕ, ◌<◌, Bool, true, false, ◌&&◌, List, refl, sym, ap, ◌∙◌}
-use Rattle.std.proofs.Math.Bool.{and-true}
-use Rattle.std.proofs.Math.Path.{fun_ext}
-use Rattle.std.proofs.lemmas.List.Kept.{IsStrictlySortedBy-filter}
-use Rattle.std.proofs.lemmas.Map.Views.{any-filter_same}
-use Rattle.std.specs.List.{filter}
-use Rattle.base.specs.declared.edge.Edge.{Edge}
-use Rattle.base.specs.declared.kind.Kind.{Kind}
+use Rattle.std.{specs.List.filter, proofs.{Common.{ℕ, ◌&&◌, ◌<◌, ◌∙◌, ◌≡◌, Bool, List, ap, false, refl, sym, true}, Math.Bool.and-true}}
+use Rattle.std.proofs.{Math.Path.fun_ext, lemmas.{List.Kept.IsStrictlySortedBy-filter, Map.Views.any-filter_same}}
+use Rattle.base.specs.declared.{edge.Edge.Edge, kind.Kind.Kind}
 use Rattle.base.specs.declared.label.TheConstants.Label as Label
-use Rattle.policy.specs.Domain.{EdgeTest}
-use Rattle.policy.specs.Policy.{edge_cmp, allows, is_edge, IsPolicy}
-use Rattle.policy.specs.Rows.{all_edges}
-use Rattle.policy.proofs.KindNumbers.{same_kind}
+use Rattle.policy.{specs.{Domain.EdgeTest, Policy.{IsPolicy, allows, edge_cmp, is_edge}, Rows.all_edges}, proofs.KindNumbers.same_kind}
 use Rattle.policy.proofs.RowEdges.{all_rising, is_possible, possible, same_parts}
 
 abbrev passes : EdgeTest → Edge → Bool

@@ -1,35 +1,16 @@
 -- A table without controls is lawful where it passes tests, and each of its lines fits.
-use Rattle.std.proofs.Common.{◌≡◌, ◌≢◌, ℕ, Bool, true, false, not, ◌&&◌, eqb, nat_lt, nat_le, List, [], ◌∷◌, get_or, length, refl, sym, ap, ◌∙◌, arith}
-use Rattle.std.specs.List.{All, AllPairs, list_all}
-use Rattle.std.specs.Str.{bytes_eq}
-use Rattle.std.specs.Ordering.{is_lt}
-use Rattle.std.specs.declared.cmp.Ordering.{Ordering}
-use Rattle.std.specs.declared.cmp.Ordering.TheVariants.{Less, Equal, Greater}
-use Rattle.std.proofs.lemmas.Bool.{false≢true, eqb-true, leb-true, ltb-true}
-use Rattle.std.proofs.lemmas.List.Elements.{recursion_from_All}
-use Rattle.std.proofs.lemmas.List.Kept.{AllPairs-cons}
-use Rattle.std.proofs.lemmas.List.Sums.{AllPass-from_list_all}
-use Rattle.std.proofs.lemmas.Slice.Eq.{bytes_eq-Decides}
-use borrow.Author.Tests.{lt-ltb}
-use Rattle.base.specs.declared.ids.ObjId.{ObjId}
-use Rattle.base.specs.declared.limits.TheConstants.{MAX_OBJECTS, MAX_SLOTS, MAX_THREADS}
-use Rattle.machine.specs.declared.cap.Detail.{Detail}
+use Rattle.std.specs.{declared.cmp.Ordering.{Ordering, TheVariants.{Equal, Greater, Less}}, List.{All, AllPairs, list_all}, Ordering.is_lt}
+use Rattle.std.{specs.Str.bytes_eq, proofs.Common.{[], ℕ, ◌&&◌, ◌∙◌, ◌∷◌, ◌≡◌, ◌≢◌, Bool, List, ap, arith, eqb, false, get_or, length}}
+use Rattle.std.proofs.{Common.{nat_le, nat_lt, not, refl, sym, true}, lemmas.Bool.{eqb-true, false≢true, leb-true, ltb-true}}
+use Rattle.std.proofs.lemmas.{List.{Elements.recursion_from_All, Kept.AllPairs-cons, Sums.AllPass-from_list_all}, Slice.Eq.bytes_eq-Decides}
+use Rattle.base.specs.declared.{ids.ObjId.ObjId, limits.TheConstants.{MAX_OBJECTS, MAX_SLOTS, MAX_THREADS}}
+use Rattle.machine.specs.declared.{cap.Detail.Detail, layout.{Binding.Binding, Filled.Filled, Initial.Initial, Pair.Pair}}
 use Rattle.machine.specs.declared.cap.Detail.TheVariants as d
-use Rattle.machine.specs.declared.layout.Binding.{Binding}
-use Rattle.machine.specs.declared.layout.Filled.{Filled}
-use Rattle.machine.specs.declared.layout.Initial.{Initial}
-use Rattle.machine.specs.declared.layout.Pair.{Pair}
-use Rattle.machine.specs.declared.object.Object.{Object}
-use Rattle.machine.specs.declared.object.Object.TheVariants as o
-use Rattle.machine.specs.declared.object.ObjectKind.TheVariants as kind
-use Rattle.machine.specs.Capabilities.{kind_of_detail}
-use Rattle.machine.specs.Layout.{Layout, most_labels}
-use Rattle.machine.specs.Machine.{same_id, slot_cmp}
-use Rattle.machine.specs.Objects.{address_of, end_of}
-use Rattle.machine.proofs.Ids.{itself}
-use Rattle.table.specs.Placement.{IsApart, meets}
-use Rattle.table.specs.Rules.{IsLawful, IsObjectOf, IsCapOf, IsBindingOf, IsSlotPair, LabelsFit, is_control_of, slots_in, threads_in}
-use Rattle.table.specs.Tree.{IsPairOf, is_for_untyped, is_original}
+use Rattle.machine.specs.{declared.object.{Object.{Object, Object as o}, ObjectKind.ObjectKind as kind}, Capabilities.kind_of_detail}
+use Rattle.machine.{specs.{Layout.{Layout, most_labels}, Machine.{same_id, slot_cmp}, Objects.{address_of, end_of}}, proofs.Ids.itself}
+use Rattle.table.specs.{Placement.{IsApart, meets}, Rules.{IsBindingOf, IsCapOf, IsLawful, IsObjectOf, IsSlotPair, LabelsFit}}
+use Rattle.table.specs.{Rules.{is_control_of, slots_in, threads_in}, Tree.{IsPairOf, is_for_untyped, is_original}}
+use borrow.Author.Tests.{lt-ltb}
 
 -- what holds of each element and each later one, by a test
 

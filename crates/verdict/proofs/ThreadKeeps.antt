@@ -1,41 +1,19 @@
 -- Suspend and Resume within a caller's authority: its label controls the thread, and what the thread waits at, and the reply that
 -- holds it, only lose it.
-use Rattle.std.proofs.Common.{◌≡◌, ℕ, ◌⊎◌, inl, inr, true, Some, refl, sym, ap, subst, ◌∙◌}
-use Rattle.base.specs.declared.ids.ObjId.{ObjId}
-use Rattle.base.specs.declared.kind.Kind.TheVariants as authority
-use Rattle.machine.specs.declared.call.Event.{Event}
-use Rattle.machine.specs.declared.cap.Detail.TheVariants as d
-use Rattle.machine.specs.declared.object.Object.TheVariants as o
-use Rattle.machine.specs.declared.object.Reply.{Reply}
+use Rattle.std.proofs.Common.{ℕ, ◌∙◌, ◌≡◌, ◌⊎◌, Some, ap, inl, inr, refl, subst, sym, true}
+use Rattle.base.specs.declared.{ids.ObjId.ObjId, kind.Kind.Kind as authority}
+use Rattle.machine.specs.declared.{call.Event.Event, cap.Detail.Detail as d, object.{Object.Object as o, Reply.Reply}}
 use Rattle.machine.specs.declared.object.ReplyState.TheVariants as reply
-use Rattle.machine.specs.declared.thread.RunState.{RunState}
+use Rattle.machine.specs.{declared.thread.{RunState.RunState, Tcb.Tcb}, Authority.{holds_thread, label_of, state_links}, Finalising.aborted}
 use Rattle.machine.specs.declared.thread.RunState.TheVariants as state
-use Rattle.machine.specs.declared.thread.Tcb.{Tcb}
-use Rattle.machine.specs.Authority.{holds_thread, label_of, state_links}
-use Rattle.machine.specs.Finalising.{aborted}
-use Rattle.machine.specs.Layout.{Layout}
-use Rattle.machine.specs.Machine.{Machine, object_of, same_id}
-use Rattle.machine.specs.Releasing.{ready, suspended, with_aborted, with_ready, with_released}
-use Rattle.machine.specs.Step.Suspend.{with_resumed}
-use Rattle.machine.specs.WellFormed.{IsCallingThrough, IsIdle, IsReceivingWith, IsThread, WaitsAt}
-use Rattle.machine.proofs.Finding.{FindsObject, found_kind}
-use Rattle.machine.proofs.FoundObjects.{tcb_of_kind}
-use Rattle.machine.proofs.Ids.{itself}
-use Rattle.machine.proofs.Leaving.{Names}
-use Rattle.machine.proofs.ThreadRow.{ResumeDone, SuspendDone}
-use Rattle.policy.specs.Closed.{IsClosed}
-use Rattle.policy.specs.Cut.{IsNear}
-use Rattle.policy.specs.Cut.IsNear.{against, along, stays}
-use Rattle.policy.specs.Domain.{EdgeTest}
-use Rattle.policy.specs.Full.{IsFull}
-use Rattle.policy.specs.Full.IsFull.{modifies}
-use Rattle.policy.specs.Take.{MayTake}
-use Rattle.policy.specs.Take.MayTake.{removes}
-use Rattle.verdict.specs.Invariant.{IsSound}
-use Rattle.verdict.proofs.Held.{held_of}
-use Rattle.verdict.proofs.Keeps.{Keeps, unchanged}
-use Rattle.verdict.proofs.MessageParts.{IsReached, holds_edge, reached, thread_edge}
-use Rattle.verdict.proofs.MessageTouches.{MayLessen, released_keeps}
+use Rattle.machine.specs.{Layout.Layout, Machine.{Machine, object_of, same_id}, Releasing.{ready, suspended, with_aborted, with_ready}}
+use Rattle.machine.specs.{Releasing.with_released, Step.Suspend.with_resumed, WellFormed.{IsCallingThrough, IsIdle, IsReceivingWith}}
+use Rattle.machine.{specs.WellFormed.{IsThread, WaitsAt}, proofs.{Finding.{FindsObject, found_kind}, FoundObjects.tcb_of_kind, Ids.itself}}
+use Rattle.machine.proofs.{Leaving.Names, ThreadRow.{ResumeDone, SuspendDone}}
+use Rattle.policy.specs.{Closed.IsClosed, Cut.{IsNear, IsNear.{against, along, stays}}, Domain.EdgeTest, Full.{IsFull, IsFull.modifies}}
+use Rattle.policy.specs.Take.{MayTake, MayTake.removes}
+use Rattle.verdict.{specs.Invariant.IsSound, proofs.{Held.held_of, Keeps.{Keeps, unchanged}, MessageParts.{IsReached, holds_edge, reached}}}
+use Rattle.verdict.proofs.{MessageParts.thread_edge, MessageTouches.{MayLessen, released_keeps}}
 
 -- a thread that goes on is as it was, or can run, or is aborted
 data Resumes (m : Machine) (thread : ObjId) (next : Machine) : Type 0 where

@@ -1,32 +1,17 @@
 -- A change of one object's content, words or queue keeps what a part of a call keeps: the object stays of its kind and where it is,
 -- and its new links, its budget and the change are allowed.
-use Rattle.std.proofs.Common.{◌≡◌, ◌≢◌, ℕ, ◌≤◌, ◌<◌, ◌⊎◌, inl, inr, true, Some, None, option_map, refl, sym, ap, subst, ◌∙◌, arith}
+use Rattle.std.proofs.Common.{ℕ, ◌<◌, ◌∙◌, ◌≡◌, ◌≢◌, ◌≤◌, ◌⊎◌, None, Some, ap, arith, inl, inr, option_map, refl, subst, sym, true}
 use Rattle.std.proofs.lemmas.Option.{none-some, same_Some}
-use Rattle.base.specs.declared.ids.ObjId.{ObjId}
-use Rattle.base.specs.declared.ids.SlotRef.{SlotRef}
-use Rattle.base.specs.declared.kind.Kind.{Kind}
-use Rattle.machine.specs.declared.call.Event.{Event}
-use Rattle.machine.specs.declared.object.Context.{Context}
-use Rattle.machine.specs.declared.object.Object.{Object}
-use Rattle.machine.specs.declared.object.Object.TheVariants as o
+use Rattle.base.specs.declared.{ids.{ObjId.ObjId, SlotRef.SlotRef}, kind.Kind.Kind}
+use Rattle.machine.specs.declared.{call.Event.Event, object.{Context.Context, Object.{Object, Object as o}, Untyped.Untyped}}
 use Rattle.machine.specs.declared.object.ObjectKind.TheVariants as kind
-use Rattle.machine.specs.declared.object.Untyped.{Untyped}
-use Rattle.machine.specs.declared.thread.Tcb.{Tcb}
-use Rattle.machine.specs.Authority.{label_at, label_of, lent_of, links}
-use Rattle.machine.specs.Authority.HasAuthority.{by_link}
-use Rattle.machine.specs.Layout.{Layout}
-use Rattle.machine.specs.Machine.{Machine, object_of, queue_of, words_of, cap_of, parent_of}
-use Rattle.machine.specs.Objects.{kind_of_object, address_of, end_of}
+use Rattle.machine.specs.{declared.thread.Tcb.Tcb, Authority.{label_at, label_of, lent_of, links, HasAuthority.by_link}, Layout.Layout}
+use Rattle.machine.specs.{Machine.{Machine, cap_of, object_of, parent_of, queue_of, words_of}, Objects.{address_of, end_of, kind_of_object}}
 use Rattle.machine.proofs.Ids.{one_or_two}
 use Rattle.policy.specs.Domain.{EdgeTest}
-use Rattle.verdict.specs.Bounded.{MayAffect}
-use Rattle.verdict.specs.Budgets.{MayConfigure}
-use Rattle.verdict.specs.Invariant.{IsBare, IsHeld}
-use Rattle.verdict.specs.OfTable.{IsOfTable}
-use Rattle.verdict.proofs.Keeps.{Acts, Keeps}
-use Rattle.verdict.proofs.ObjectLabels.{same_label, label_stays, kind_stays}
-use Rattle.verdict.proofs.Shrinking.{same_context}
-use Rattle.verdict.proofs.Steady.{IsSteady, LinksAllowed, steady_confined}
+use Rattle.verdict.{specs.{Bounded.MayAffect, Budgets.MayConfigure, Invariant.{IsBare, IsHeld}, OfTable.IsOfTable}, proofs.Keeps.Acts}
+use Rattle.verdict.proofs.{Keeps.Keeps, ObjectLabels.{kind_stays, label_stays, same_label}, Shrinking.same_context, Steady.IsSteady}
+use Rattle.verdict.proofs.Steady.{LinksAllowed, steady_confined}
 
 -- all but one object's content, queue and words is as it was
 pub record Touches (m : Machine) (id : ObjId) (next : Machine) : Type 0 where

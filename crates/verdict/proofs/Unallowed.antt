@@ -1,39 +1,20 @@
 -- A signal from a label without authority over the notification's is not allowed.
-use Rattle.std.proofs.Common.{◌≡◌, ◌≢◌, ℕ, ◌⊎◌, inl, inr, true, false, [], Some, None, Ok, refl, sym, subst, ◌∙◌, arith}
-use Rattle.std.proofs.lemmas.Bool.{false≢true}
-use Rattle.std.proofs.lemmas.Option.{none-some, same_Some}
-use Rattle.base.specs.declared.ids.ObjId.{ObjId}
-use Rattle.base.specs.declared.kind.Kind.{Kind}
+use Rattle.std.proofs.Common.{[], ℕ, ◌∙◌, ◌≡◌, ◌≢◌, ◌⊎◌, None, Ok, Some, arith, false, inl, inr, refl, subst, sym, true}
+use Rattle.std.proofs.lemmas.{Bool.false≢true, Option.{none-some, same_Some}}
+use Rattle.base.specs.{declared.{ids.ObjId.ObjId, kind.Kind.Kind}, Kinds.is_structural}
 use Rattle.base.specs.declared.kind.Kind.TheVariants as authority
-use Rattle.base.specs.Kinds.{is_structural}
-use Rattle.machine.specs.declared.call.Answer.TheVariants.{Nothing}
-use Rattle.machine.specs.declared.call.Call.TheVariants.{Signal}
-use Rattle.machine.specs.declared.call.Event.{Event}
-use Rattle.machine.specs.declared.call.Outcome.TheVariants.{Done}
-use Rattle.machine.specs.declared.object.Notification.{Notification}
-use Rattle.machine.specs.declared.object.Object.{Object}
-use Rattle.machine.specs.declared.object.Object.TheVariants as o
-use Rattle.machine.specs.Authority.{label_of}
-use Rattle.machine.specs.Boot.{IsBoot}
-use Rattle.machine.specs.Changes.{with_pending, first_waiting}
-use Rattle.machine.specs.Layout.{Layout, initial_of, initial_cap, declared_label, bound_context, bound_thread}
-use Rattle.machine.specs.Lookup.{lookup_of, level_at, walk, hop}
-use Rattle.machine.specs.Machine.{Machine, object_of, queue_of, cap_of}
-use Rattle.machine.proofs.LookUps.{object_of-with_object}
-use Rattle.machine.specs.Step.{Step, step_of, made_by, admitted}
-use Rattle.machine.specs.Step.Step.{ends}
-use Rattle.machine.specs.Step.Find.{find_cap, find_notification}
-use Rattle.machine.specs.Step.Signal.{signal_of, signalled}
-use Rattle.policy.specs.Domain.{EdgeTest}
-use Rattle.policy.specs.Full.{IsFull, is_modifying}
-use Rattle.policy.specs.Full.IsFull.{own, modifies, sends, receives, notifies, links, grants, replies}
-use Rattle.verdict.specs.Allowed.{IsAllowedStep, IsLabelled, MayModify, IsModified}
-use Rattle.verdict.specs.Counterexamples.{UnallowedSignal}
-use Rattle.verdict.specs.Shrinks.{IsSame, Shrinks}
-use Rattle.table.proofs.AtBoot.{boot_label}
-use Rattle.table.proofs.BootState.{boot_state, boot_state_is}
-use Rattle.verdict.proofs.Gains.{word_grows}
-use Rattle.verdict.proofs.SmallSystem.{id, slot, node, thread, notification, context, space_cap, signal_cap, no_edges, signalling, signalling_lawful}
+use Rattle.machine.specs.declared.call.{Answer.TheVariants.Nothing, Call.TheVariants.Signal, Event.Event, Outcome.TheVariants.Done}
+use Rattle.machine.specs.{declared.object.{Notification.Notification, Object.{Object, Object as o}}, Authority.label_of, Boot.IsBoot}
+use Rattle.machine.specs.{Changes.{first_waiting, with_pending}, Layout.{Layout, bound_context, bound_thread, declared_label, initial_cap}}
+use Rattle.machine.specs.{Layout.initial_of, Lookup.{hop, level_at, lookup_of, walk}, Machine.{Machine, cap_of, object_of, queue_of}}
+use Rattle.machine.specs.Step.{Step, admitted, made_by, step_of, Find.{find_cap, find_notification}, Signal.{signal_of, signalled}}
+use Rattle.machine.{specs.Step.Step.ends, proofs.LookUps.object_of-with_object}
+use Rattle.policy.specs.{Domain.EdgeTest, Full.{IsFull, is_modifying, IsFull.{grants, links, modifies, notifies, own, receives, replies}}}
+use Rattle.policy.specs.Full.IsFull.{sends}
+use Rattle.table.proofs.{AtBoot.boot_label, BootState.{boot_state, boot_state_is}}
+use Rattle.verdict.specs.{Allowed.{IsAllowedStep, IsLabelled, IsModified, MayModify}, Counterexamples.UnallowedSignal, Shrinks.IsSame}
+use Rattle.verdict.{specs.Shrinks.Shrinks, proofs.{Gains.word_grows, SmallSystem.{context, id, no_edges, node, notification, signal_cap}}}
+use Rattle.verdict.proofs.SmallSystem.{signalling, signalling_lawful, slot, space_cap, thread}
 
 -- a change of a notification's word, without full authority
 

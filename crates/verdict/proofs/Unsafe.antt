@@ -1,33 +1,19 @@
 -- A system that isn't safe since labels of one domain may do different things: the thread's label has the CNode's label as its
 -- space, and no edge of that label.
-use Rattle.std.proofs.Common.{◌≡◌, ◌≢◌, ℕ, ◌<◌, inl, inr, Bool, true, false, ◌||◌, List, [], ◌∷◌, refl, sym, arith, lit<}
-use Rattle.std.specs.List.{All, AllByRecursion, list_any}
-use Rattle.std.specs.List.Sorted.{IsStrictlySortedBy}
-use Rattle.std.proofs.lemmas.Bool.{false≢true}
-use Rattle.std.proofs.lemmas.Bool.Decides.{nat_tests}
+use Rattle.std.{specs.List.{All, AllByRecursion, list_any, Sorted.IsStrictlySortedBy}, proofs.Common.{[], ℕ, ◌<◌, ◌||◌, ◌∷◌, ◌≡◌, ◌≢◌}}
+use Rattle.std.proofs.{Common.{Bool, List, arith, false, inl, inr, lit<, refl, sym, true}, lemmas.Bool.{false≢true, Decides.nat_tests}}
 use Rattle.std.proofs.lemmas.List.Elements.{All-from_recursion}
-use Rattle.base.specs.declared.edge.Edge.{Edge}
-use Rattle.base.specs.declared.kind.Kind.{Kind}
-use Rattle.base.specs.declared.kind.Kind.TheVariants.{Control, Reset, Grant, Call, Notify, Reply, Context, Space, Derive, Runs, Holds}
+use Rattle.base.specs.declared.{edge.Edge.Edge, kind.Kind.{Kind, TheVariants.{Call, Context, Control, Derive, Grant, Holds, Notify, Reply}}}
+use Rattle.base.specs.{declared.kind.Kind.TheVariants.{Reset, Runs, Space}, Kinds.is_structural}
 use Rattle.base.specs.declared.label.TheConstants.Label as Label
-use Rattle.base.specs.Kinds.{is_structural}
-use Rattle.machine.specs.Boot.{IsBoot}
-use Rattle.machine.specs.Capabilities.{gives}
-use Rattle.machine.specs.Layout.{initial_of, declared_label}
-use Rattle.machine.specs.Machine.{Machine}
-use Rattle.policy.specs.Closed.{DeriveByGrant, ReplyHolds, granted, derived, server, caller}
-use Rattle.policy.specs.Domain.{IsInDomain}
-use Rattle.policy.specs.Needed.{Rule, subjects_agree, control_gives_all, grant_shares, derive_in_domain, derive_by_grant, context_runs, reply_holds, Obeys}
-use Rattle.policy.specs.Needed.{lent_runs}
-use Rattle.policy.specs.Policy.{allows, is_edge, IsPolicy}
-use Rattle.table.specs.Rules.{kind_at}
-use Rattle.verdict.specs.Confined.{IsConfined}
-use Rattle.verdict.specs.Counterexamples.{UnsafeWithout}
-use Rattle.verdict.specs.Safe.{IsReached, IsSafe}
-use Rattle.table.proofs.BootState.{boot_state, boot_state_is}
-use Rattle.verdict.proofs.LineByLine.{IsBindingWithin, IsCapWithin, confined_by_lines, root_line}
-use Rattle.verdict.proofs.SmallSystem.{thread, signal_cap, signalling, signalling_lawful}
-use Rattle.verdict.proofs.Unallowed.{signal, signals, signal_unallowed, after_signal}
+use Rattle.machine.specs.{Boot.IsBoot, Capabilities.gives, Layout.{declared_label, initial_of}, Machine.Machine}
+use Rattle.policy.specs.{Closed.{DeriveByGrant, ReplyHolds, caller, derived, granted, server}, Domain.IsInDomain, Needed.{Obeys, Rule}}
+use Rattle.policy.specs.Needed.{context_runs, control_gives_all, derive_by_grant, derive_in_domain, grant_shares, lent_runs, reply_holds}
+use Rattle.policy.specs.{Needed.subjects_agree, Policy.{IsPolicy, allows, is_edge}}
+use Rattle.table.{specs.Rules.kind_at, proofs.BootState.{boot_state, boot_state_is}}
+use Rattle.verdict.{specs.{Confined.IsConfined, Counterexamples.UnsafeWithout, Safe.{IsReached, IsSafe}}, proofs.LineByLine.IsBindingWithin}
+use Rattle.verdict.proofs.{LineByLine.{IsCapWithin, confined_by_lines, root_line}, SmallSystem.{signal_cap, signalling, signalling_lawful}}
+use Rattle.verdict.proofs.{SmallSystem.thread, Unallowed.{after_signal, signal, signal_unallowed, signals}}
 
 -- the policy
 

@@ -1,23 +1,12 @@
 -- How a system is shown to need a rule: a run leads from its boot state to authority outside its policy.
-use Rattle.std.proofs.Common.{◌≡◌, ◌≢◌, ℕ, false, List, sym, subst, ◌∙◌}
-use Rattle.std.proofs.lemmas.Bool.{false≢true}
+use Rattle.std.proofs.{Common.{ℕ, ◌∙◌, ◌≡◌, ◌≢◌, List, false, subst, sym}, lemmas.Bool.false≢true}
 use Rattle.base.specs.declared.kind.Kind.{Kind}
-use Rattle.machine.specs.declared.call.Event.{Event}
-use Rattle.machine.specs.declared.call.Outcome.{Outcome}
-use Rattle.machine.specs.Authority.{HasAuthority}
-use Rattle.machine.specs.Boot.{IsBoot}
-use Rattle.machine.specs.Layout.{Layout}
-use Rattle.machine.specs.Machine.{Machine}
+use Rattle.machine.specs.{declared.call.{Event.Event, Outcome.Outcome}, Authority.HasAuthority, Boot.IsBoot, Layout.Layout, Machine.Machine}
 use Rattle.machine.specs.Run.{Run}
-use Rattle.policy.specs.Domain.{EdgeTest}
-use Rattle.policy.specs.Needed.{Rule, Obeys}
-use Rattle.policy.specs.Policy.{allows}
-use Rattle.table.specs.Rules.{IsLawful}
-use Rattle.table.proofs.BootState.{boot_state, boot_state_is}
-use Rattle.verdict.specs.Confined.{IsConfined}
-use Rattle.verdict.specs.Counterexamples.{UnsafeWithout}
-use Rattle.verdict.specs.Safe.{IsReached, IsSafe}
-use Rattle.verdict.proofs.TestPolicies.{IsWithin, allows_policy, is_policy, policy_of}
+use Rattle.policy.specs.{Domain.EdgeTest, Needed.{Obeys, Rule}, Policy.allows}
+use Rattle.table.{specs.Rules.IsLawful, proofs.BootState.{boot_state, boot_state_is}}
+use Rattle.verdict.{specs.{Confined.IsConfined, Counterexamples.UnsafeWithout, Safe.{IsReached, IsSafe}}, proofs.TestPolicies.IsWithin}
+use Rattle.verdict.proofs.TestPolicies.{allows_policy, is_policy, policy_of}
 
 -- a run that leads outside
 pub record LeadsOutside (t : Layout) (allowed : EdgeTest) (m : Machine) : Type 0 where

@@ -1,24 +1,13 @@
 -- Walks through a capability space: a property of CNodes that each capability hands on, from a CNode to the one that it is for, holds
 -- of the CNode where a lookup ends.
-use Rattle.std.proofs.Common.{◌≡◌, ℕ, zero, suc, Bool, List, [], ◌∷◌, length, Option, Some, None, Result, Ok, Err, refl, sym, ap, subst, ◌∙◌, arith}
-use Rattle.base.specs.declared.ids.ObjId.{ObjId}
-use Rattle.base.specs.declared.ids.SlotRef.{SlotRef}
-use Rattle.base.specs.declared.refusal.Cause.TheVariants as cause
-use Rattle.base.specs.declared.refusal.LookupFailure.{LookupFailure}
+use Rattle.std.proofs.Common.{[], ℕ, ◌∙◌, ◌∷◌, ◌≡◌, Bool, Err, List, None, Ok, Option, Result, Some, ap, arith, length, refl, subst, suc}
+use Rattle.std.proofs.Common.{sym, zero}
+use Rattle.base.specs.declared.{ids.{ObjId.ObjId, SlotRef.SlotRef}, refusal.{Cause.Cause as cause, LookupFailure.LookupFailure}}
 use Rattle.base.specs.declared.refusal.LookupFailure.TheVariants.{InvalidRoot}
-use Rattle.machine.specs.declared.cap.Cap.{Cap}
-use Rattle.machine.specs.declared.cap.Detail.{Detail}
-use Rattle.machine.specs.declared.cap.Detail.TheVariants as d
-use Rattle.machine.specs.declared.cap.Guard.{Guard}
-use Rattle.machine.specs.declared.object.Object.{Object}
-use Rattle.machine.specs.declared.object.Object.TheVariants as o
-use Rattle.machine.specs.declared.object.ObjectKind.TheVariants as kind
-use Rattle.machine.specs.declared.thread.Tcb.{Tcb}
-use Rattle.machine.specs.Bits.{bits}
-use Rattle.machine.specs.Lookup.{Level, level_at, level_of_cap, level_through, hop, walk, onward, root_of, lookup_of, counted}
-use Rattle.machine.specs.Machine.{Machine, object_of, cap_of}
-use Rattle.machine.specs.WellFormed.{kind_of}
-use Rattle.machine.proofs.Conditions.{same_ok}
+use Rattle.machine.specs.declared.{cap.{Cap.Cap, Detail.{Detail, Detail as d}, Guard.Guard}, object.Object.{Object, Object as o}}
+use Rattle.machine.specs.{declared.{object.ObjectKind.ObjectKind as kind, thread.Tcb.Tcb}, Bits.bits, Lookup.{Level, counted, hop}}
+use Rattle.machine.specs.{Lookup.{level_at, level_of_cap, level_through, lookup_of, onward, root_of, walk}, Machine.{Machine, cap_of}}
+use Rattle.machine.{specs.{Machine.object_of, WellFormed.kind_of}, proofs.Conditions.same_ok}
 
 -- a CNode that a slot shows is that of the slot's capability
 pub record Shows (m : Machine) (slot : SlotRef) (node : ObjId) : Type 0 where

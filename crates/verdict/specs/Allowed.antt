@@ -1,14 +1,9 @@
 -- Allowed steps: which objects a step may change, by the label of the thread that makes it
 -- ('seL4 Enforces Integrity', section 4, the integrity of each object).
-use Rattle.std.specs.Prelude.{◌≡◌, ℕ, ◌⊎◌, Some, None}
+use Rattle.std.specs.Prelude.{ℕ, ◌≡◌, ◌⊎◌, None, Some}
 use Rattle.base.specs.declared.ids.ObjId.{ObjId}
-use Rattle.machine.specs.declared.call.Event.{Event}
-use Rattle.machine.specs.Authority.{label_of}
-use Rattle.machine.specs.Layout.{Layout}
-use Rattle.machine.specs.Machine.{Machine, object_of}
-use Rattle.policy.specs.Cut.{IsCut}
-use Rattle.policy.specs.Domain.{EdgeTest}
-use Rattle.policy.specs.Full.{IsFull}
+use Rattle.machine.specs.{declared.call.Event.Event, Authority.label_of, Layout.Layout, Machine.{Machine, object_of}}
+use Rattle.policy.specs.{Cut.IsCut, Domain.EdgeTest, Full.IsFull}
 use Rattle.verdict.specs.Shrinks.{IsSame, Shrinks}
 
 -- the label of an object that is there before, or of one that is made

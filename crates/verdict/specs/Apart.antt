@@ -1,21 +1,10 @@
 -- Labels that are kept apart: what no step of one label's threads does to another label's objects, in any run from a table's boot
 -- state (compare integrity in 'seL4 Enforces Integrity', section 4; told of two labels it is confine's own).
-use Rattle.std.specs.Prelude.{◌≡◌, ℕ, ◌⊎◌, Some}
+use Rattle.std.specs.Prelude.{ℕ, ◌≡◌, ◌⊎◌, Some}
 use Rattle.base.specs.declared.ids.ObjId.{ObjId}
-use Rattle.machine.specs.declared.call.Event.{Event}
-use Rattle.machine.specs.declared.call.Outcome.{Outcome}
-use Rattle.machine.specs.Authority.{label_of}
-use Rattle.machine.specs.Layout.{Layout}
-use Rattle.machine.specs.Machine.{Machine}
-use Rattle.machine.specs.Step.{Step}
-use Rattle.policy.specs.Domain.{EdgeTest}
-use Rattle.policy.specs.Full.{IsFull}
-use Rattle.policy.specs.Take.{MayTake}
-use Rattle.verdict.specs.declared.extent.Extent.{Extent}
-use Rattle.verdict.specs.declared.extent.Extent.TheVariants as extent
-use Rattle.verdict.specs.Allowed.{IsLabelled}
-use Rattle.verdict.specs.Safe.{IsReached}
-use Rattle.verdict.specs.Shrinks.{IsSame, Shrinks}
+use Rattle.machine.specs.{declared.call.{Event.Event, Outcome.Outcome}, Authority.label_of, Layout.Layout, Machine.Machine, Step.Step}
+use Rattle.policy.specs.{Domain.EdgeTest, Full.IsFull, Take.MayTake}
+use Rattle.verdict.specs.{declared.extent.Extent.{Extent, Extent as extent}, Allowed.IsLabelled, Safe.IsReached, Shrinks.{IsSame, Shrinks}}
 
 -- it holds of each object of a label at each step of a thread of another, from each machine that a run reaches
 abbrev pub AtEachStep : Layout → ℕ → ℕ → (Machine → Machine → ObjId → Type 0) → Type 0

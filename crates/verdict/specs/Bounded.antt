@@ -1,16 +1,10 @@
 -- Bounded steps: which objects a step may change where a label may take from others (the integrity of each object in
 -- 'seL4 Enforces Integrity', section 4; the bound on what only shrinks is confine's own).
-use Rattle.std.specs.Prelude.{◌≡◌, ℕ, ◌⊎◌, Some}
+use Rattle.std.specs.Prelude.{ℕ, ◌≡◌, ◌⊎◌, Some}
 use Rattle.base.specs.declared.ids.ObjId.{ObjId}
-use Rattle.machine.specs.declared.call.Event.{Event}
-use Rattle.machine.specs.Authority.{label_of}
-use Rattle.machine.specs.Layout.{Layout}
-use Rattle.machine.specs.Machine.{Machine}
-use Rattle.policy.specs.Domain.{EdgeTest}
-use Rattle.policy.specs.Full.{IsFull}
-use Rattle.policy.specs.Take.{MayTake}
-use Rattle.verdict.specs.Allowed.{IsLabelled}
-use Rattle.verdict.specs.Shrinks.{IsSame, Shrinks}
+use Rattle.machine.specs.{declared.call.Event.Event, Authority.label_of, Layout.Layout, Machine.Machine}
+use Rattle.policy.specs.{Domain.EdgeTest, Full.IsFull, Take.MayTake}
+use Rattle.verdict.specs.{Allowed.IsLabelled, Shrinks.{IsSame, Shrinks}}
 
 -- a label's authority over an object's label: full, or that it may take from it where the object only shrinks
 abbrev pub MayModifyOrTake : EdgeTest → ℕ → ℕ → Machine → Machine → ObjId → Type 0

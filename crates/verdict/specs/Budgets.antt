@@ -1,22 +1,12 @@
 -- Who may change what a scheduling context is configured for: its core, budget and period (seL4 manual, "Scheduling Contexts",
 -- SchedControl_Configure; the edges are confine's own).
-use Rattle.std.specs.Prelude.{◌≡◌, ℕ, ◌⊎◌, true, Option, Some, None, Ok}
-use Rattle.base.specs.declared.ids.ObjId.{ObjId}
-use Rattle.base.specs.declared.ids.SlotRef.{SlotRef}
-use Rattle.base.specs.declared.kind.Kind.TheVariants as authority
-use Rattle.machine.specs.declared.call.Call.{Call}
+use Rattle.std.specs.Prelude.{ℕ, ◌≡◌, ◌⊎◌, None, Ok, Option, Some, true}
+use Rattle.base.specs.declared.{ids.{ObjId.ObjId, SlotRef.SlotRef}, kind.Kind.Kind as authority}
+use Rattle.machine.specs.declared.{call.{Call.Call, Event.Event}, cap.Cap.Cap, object.{Context.Context, Object.Object as o}}
 use Rattle.machine.specs.declared.call.Call.TheVariants as call
-use Rattle.machine.specs.declared.call.Event.{Event}
-use Rattle.machine.specs.declared.cap.Cap.{Cap}
-use Rattle.machine.specs.declared.object.Context.{Context}
-use Rattle.machine.specs.declared.object.Object.TheVariants as o
-use Rattle.machine.specs.declared.object.ObjectKind.{ObjectKind}
+use Rattle.machine.specs.{declared.object.ObjectKind.ObjectKind, Authority.label_of, Capabilities.kind_of_detail, Layout.Layout}
 use Rattle.machine.specs.declared.object.ObjectKind.TheVariants as kind
-use Rattle.machine.specs.Authority.{label_of}
-use Rattle.machine.specs.Capabilities.{kind_of_detail}
-use Rattle.machine.specs.Layout.{Layout}
-use Rattle.machine.specs.Lookup.{lookup_of}
-use Rattle.machine.specs.Machine.{Machine, object_of, cap_of}
+use Rattle.machine.specs.{Lookup.lookup_of, Machine.{Machine, cap_of, object_of}}
 use Rattle.policy.specs.Domain.{EdgeTest}
 
 -- the addresses through which a call configures a context, if it is such a call: the control's, and the context's

@@ -1,27 +1,12 @@
 -- Systems on which the properties of the headline fail, which show that it asks for something (confine's own).
-use Rattle.std.specs.Prelude.{◌≡◌, ◌≢◌, ℕ, false, List, Some, Ok}
-use Rattle.base.specs.declared.edge.Edge.{Edge}
-use Rattle.base.specs.declared.ids.ObjId.{ObjId}
-use Rattle.base.specs.declared.kind.Kind.TheVariants as authority
-use Rattle.machine.specs.declared.call.Answer.TheVariants.{Nothing}
-use Rattle.machine.specs.declared.call.Call.TheVariants.{Signal}
-use Rattle.machine.specs.declared.call.Event.{Event}
-use Rattle.machine.specs.declared.call.Outcome.TheVariants.{Done}
-use Rattle.machine.specs.declared.cap.Badged.{Badged}
-use Rattle.machine.specs.declared.object.Object.{Object}
-use Rattle.machine.specs.Authority.{label_of}
-use Rattle.machine.specs.Boot.{IsBoot}
-use Rattle.machine.specs.Layout.{Layout}
-use Rattle.machine.specs.Machine.{Machine, with_object}
-use Rattle.machine.specs.Step.{Step}
-use Rattle.machine.specs.Step.Find.{find_notification}
-use Rattle.policy.specs.Domain.{EdgeTest}
-use Rattle.policy.specs.Needed.{Rule, Obeys}
-use Rattle.policy.specs.Policy.{IsPolicy, allows}
+use Rattle.std.specs.Prelude.{ℕ, ◌≡◌, ◌≢◌, List, Ok, Some, false}
+use Rattle.base.specs.declared.{edge.Edge.Edge, ids.ObjId.ObjId, kind.Kind.Kind as authority}
+use Rattle.machine.specs.declared.call.{Answer.TheVariants.Nothing, Call.TheVariants.Signal, Event.Event, Outcome.TheVariants.Done}
+use Rattle.machine.specs.{declared.{cap.Badged.Badged, object.Object.Object}, Authority.label_of, Boot.IsBoot, Layout.Layout}
+use Rattle.machine.specs.{Machine.{Machine, with_object}, Step.{Step, Find.find_notification}}
+use Rattle.policy.specs.{Domain.EdgeTest, Needed.{Obeys, Rule}, Policy.{IsPolicy, allows}}
 use Rattle.table.specs.Rules.{IsLawful}
-use Rattle.verdict.specs.Allowed.{IsAllowedStep}
-use Rattle.verdict.specs.Confined.{IsConfined}
-use Rattle.verdict.specs.Safe.{IsSafe}
+use Rattle.verdict.specs.{Allowed.IsAllowedStep, Confined.IsConfined, Safe.IsSafe}
 
 -- from the boot state of a lawful table a thread signals a notification, and the signal is done; a policy lacks the edge of
 -- kind notify from the thread's label to the notification's, and doesn't allow the step

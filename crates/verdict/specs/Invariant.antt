@@ -1,17 +1,11 @@
 -- What the machines of a run from an accepted table keep: they are well formed, belong to the table, and are confined; and what
 -- of it holds between the parts of a step ('seL4 Enforces Integrity', section 4, the invariants of a run).
-use Rattle.std.specs.Prelude.{◌≡◌, ℕ, ◌<◌, Some, None}
-use Rattle.base.specs.declared.ids.ObjId.{ObjId}
-use Rattle.base.specs.declared.ids.SlotRef.{SlotRef}
-use Rattle.machine.specs.declared.cap.Cap.{Cap}
-use Rattle.machine.specs.declared.object.Object.{Object}
-use Rattle.machine.specs.Capabilities.{kind_of_detail}
-use Rattle.machine.specs.Layout.{Layout}
-use Rattle.machine.specs.Machine.{Machine, object_of, queue_of, words_of, cap_of}
-use Rattle.machine.specs.WellFormed.{IsWellFormed, kind_of}
+use Rattle.std.specs.Prelude.{ℕ, ◌<◌, ◌≡◌, None, Some}
+use Rattle.base.specs.declared.ids.{ObjId.ObjId, SlotRef.SlotRef}
+use Rattle.machine.specs.{declared.{cap.Cap.Cap, object.Object.Object}, Capabilities.kind_of_detail, Layout.Layout, Machine.Machine}
+use Rattle.machine.specs.{Machine.{cap_of, object_of, queue_of, words_of}, WellFormed.{IsWellFormed, kind_of}}
 use Rattle.policy.specs.Domain.{EdgeTest}
-use Rattle.verdict.specs.Confined.{IsConfined}
-use Rattle.verdict.specs.OfTable.{IsOfTable}
+use Rattle.verdict.specs.{Confined.IsConfined, OfTable.IsOfTable}
 
 pub record IsSound (t : Layout) (allowed : EdgeTest) (m : Machine) : Type 0 where
   pub well_formed : IsWellFormed m

@@ -1,17 +1,11 @@
 -- What every state of a run from a table's boot state keeps of the table: each object has a label, and initial objects stay
 -- what and where they were declared ('seL4 Enforces Integrity', section 3: the labelling of a state; confine's own for made
 -- objects).
-use Rattle.std.specs.Prelude.{◌≡◌, ℕ, ◌≤◌, ◌<◌, Some, length}
+use Rattle.std.specs.Prelude.{ℕ, ◌<◌, ◌≡◌, ◌≤◌, Some, length}
 use Rattle.base.specs.declared.ids.ObjId.{ObjId}
-use Rattle.machine.specs.declared.layout.Initial.{Initial}
-use Rattle.machine.specs.declared.object.Object.{Object}
-use Rattle.machine.specs.declared.object.Object.TheVariants as o
-use Rattle.machine.specs.declared.object.Untyped.{Untyped}
-use Rattle.machine.specs.declared.thread.Tcb.{Tcb}
-use Rattle.machine.specs.Authority.{label_at, label_of, lent_of}
-use Rattle.machine.specs.Layout.{Layout, initial_of}
-use Rattle.machine.specs.Machine.{Machine, object_of}
-use Rattle.machine.specs.Objects.{kind_of_object, address_of, end_of}
+use Rattle.machine.specs.declared.{layout.Initial.Initial, object.{Object.{Object, Object as o}, Untyped.Untyped}, thread.Tcb.Tcb}
+use Rattle.machine.specs.{Authority.{label_at, label_of, lent_of}, Layout.{Layout, initial_of}, Machine.{Machine, object_of}}
+use Rattle.machine.specs.Objects.{address_of, end_of, kind_of_object}
 
 pub record IsOfTable (t : Layout) (m : Machine) : Type 0 where
   -- each object that is there has a label

@@ -1,15 +1,11 @@
 -- What lies outside a policy in a machine, as denials say it, and by which rules (confine's own).
-use Rattle.std.specs.Prelude.{◌≡◌, ℕ, List, Option, Some, MatchOption, get_or}
+use Rattle.std.specs.Prelude.{ℕ, ◌≡◌, List, MatchOption, Option, Some, get_or}
 use Rattle.base.specs.declared.ids.ObjId.{ObjId}
-use Rattle.machine.specs.Layout.{Layout}
-use Rattle.machine.specs.Machine.{Machine}
-use Rattle.policy.specs.Domain.{EdgeTest}
-use Rattle.policy.specs.Places.{IsUnder}
-use Rattle.verdict.specs.declared.denial.Denial.{Denial}
+use Rattle.machine.specs.{Layout.Layout, Machine.Machine}
+use Rattle.policy.specs.{Domain.EdgeTest, Places.IsUnder}
+use Rattle.verdict.specs.{declared.denial.Denial.Denial, Rules.{Exceeds, a1, a2, a3, a4, a5, a6, c1}, Sources.of_machine, Verdict.excess_of}
 use Rattle.verdict.specs.declared.denial.Denial.TheVariants as denial
-use Rattle.verdict.specs.Rules.{a1, a2, a3, a4, a5, a6, c1, Exceeds}
-use Rattle.verdict.specs.Sources.{of_machine}
-use Rattle.verdict.specs.Verdict.{excess_of, place_of}
+use Rattle.verdict.specs.Verdict.{place_of}
 
 -- a machine's authority lies outside the policy where a denial says
 abbrev pub LiesOutside : Layout → EdgeTest → Machine → Denial → Type 0

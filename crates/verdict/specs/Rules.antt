@@ -1,15 +1,11 @@
 -- The rules by which a policy allows what a table or a machine holds, in the order in which they are tested, and the places where
 -- they are broken (compare 'seL4 Enforces Integrity', section 3: well-formed policies, and states whose authority lies within
 -- them; the rules and their order are confine's own).
-use Rattle.std.specs.Prelude.{◌≡◌, ◌⊎◌, ℕ, true, false, List, [], ◌∷◌, Some}
-use Rattle.base.specs.declared.ids.ObjId.{ObjId}
-use Rattle.base.specs.declared.ids.SlotRef.{SlotRef}
-use Rattle.base.specs.declared.kind.Kind.{Kind}
+use Rattle.std.specs.Prelude.{[], ℕ, ◌∷◌, ◌≡◌, ◌⊎◌, List, Some, false, true}
+use Rattle.base.specs.{declared.{ids.{ObjId.ObjId, SlotRef.SlotRef}, kind.Kind.Kind}, Kinds.kind_number}
 use Rattle.base.specs.declared.kind.Kind.TheVariants as authority
-use Rattle.base.specs.Kinds.{kind_number}
-use Rattle.machine.specs.declared.cap.Cap.{Cap}
+use Rattle.machine.specs.{declared.cap.Cap.Cap, Capabilities.gives}
 use Rattle.machine.specs.declared.object.ObjectKind.TheVariants as object
-use Rattle.machine.specs.Capabilities.{gives}
 use Rattle.policy.specs.Domain.{EdgeTest}
 use Rattle.verdict.specs.Sources.{Sources}
 

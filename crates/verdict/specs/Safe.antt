@@ -1,21 +1,11 @@
 -- The headline: confinement and integrity of every run from a table's boot state ('seL4 Enforces Integrity', sections 4 and 5,
 -- authority confinement and integrity).
-use Rattle.std.specs.Prelude.{◌≡◌, ℕ, List, Some}
+use Rattle.std.specs.Prelude.{ℕ, ◌≡◌, List, Some}
 use Rattle.base.specs.declared.ids.ObjId.{ObjId}
-use Rattle.machine.specs.declared.call.Event.{Event}
-use Rattle.machine.specs.declared.call.Outcome.{Outcome}
-use Rattle.machine.specs.declared.object.Object.{Object}
-use Rattle.machine.specs.Authority.{label_of}
-use Rattle.machine.specs.Boot.{IsBoot}
-use Rattle.machine.specs.Layout.{Layout}
-use Rattle.machine.specs.Machine.{Machine, object_of}
-use Rattle.machine.specs.Run.{Run}
-use Rattle.machine.specs.Step.{Step}
+use Rattle.machine.specs.{declared.{call.{Event.Event, Outcome.Outcome}, object.Object.Object}, Authority.label_of, Boot.IsBoot}
+use Rattle.machine.specs.{Layout.Layout, Machine.{Machine, object_of}, Run.Run, Step.Step}
 use Rattle.policy.specs.Domain.{EdgeTest}
-use Rattle.verdict.specs.Allowed.{IsAllowedStep}
-use Rattle.verdict.specs.Bounded.{IsBoundedStep}
-use Rattle.verdict.specs.Budgets.{KeepsBudgets}
-use Rattle.verdict.specs.Confined.{IsConfined}
+use Rattle.verdict.specs.{Allowed.IsAllowedStep, Bounded.IsBoundedStep, Budgets.KeepsBudgets, Confined.IsConfined}
 
 -- some list of events, by any threads on any cores, leads from the table's boot state to the machine
 pub record IsReached (t : Layout) (m : Machine) : Type 0 where

@@ -1,17 +1,11 @@
 -- What it is for an object to stay as it was, and to shrink: it only loses capabilities, waiting threads and links
 -- ('seL4 Enforces Integrity', section 4, where deletion may reach the objects of others).
-use Rattle.std.specs.Prelude.{◌≡◌, ℕ, ◌⊎◌, List, [], ◌∷◌, Option, Some, None}
+use Rattle.std.specs.Prelude.{[], ℕ, ◌∷◌, ◌≡◌, ◌⊎◌, List, None, Option, Some}
 use Rattle.base.specs.declared.ids.ObjId.{ObjId}
-use Rattle.machine.specs.declared.object.Context.{Context}
-use Rattle.machine.specs.declared.object.Object.{Object}
-use Rattle.machine.specs.declared.object.Object.TheVariants as o
-use Rattle.machine.specs.declared.object.Reply.{Reply}
+use Rattle.machine.specs.declared.{object.{Context.Context, Object.{Object, Object as o}, Reply.Reply}, thread.RunState.RunState}
 use Rattle.machine.specs.declared.object.ReplyState.TheVariants as reply
 use Rattle.machine.specs.declared.thread.Inbox.TheVariants as inbox
-use Rattle.machine.specs.declared.thread.RunState.{RunState}
-use Rattle.machine.specs.declared.thread.RunState.TheVariants as state
-use Rattle.machine.specs.declared.thread.Tcb.{Tcb}
-use Rattle.machine.specs.Machine.{Machine, object_of, queue_of, words_of, cap_of}
+use Rattle.machine.specs.{declared.thread.{RunState.RunState as state, Tcb.Tcb}, Machine.{Machine, cap_of, object_of, queue_of, words_of}}
 
 -- an object is its content, who waits at it, its words, and what its slots hold: all of it is as it was, and so is its absence
 pub record IsSame (m next : Machine) (id : ObjId) : Type 0 where

@@ -1,19 +1,10 @@
 -- What is denied at a filled slot, and by which rules slots are denied (confine's own).
-use Rattle.std.specs.Prelude.{ℕ, ◌<◌, Bool, not, Option, Some, None, option_map}
-use Rattle.std.specs.List.{find}
-use Rattle.std.specs.Option.{option_and_then}
-use Rattle.base.specs.declared.edge.Edge.{Edge}
-use Rattle.base.specs.declared.ids.SlotRef.{SlotRef}
-use Rattle.base.specs.declared.kind.Kind.{Kind}
-use Rattle.base.specs.declared.kind.Kind.TheVariants.{Space, Derive}
-use Rattle.labels.specs.SlotEdges.{edges_with, slot_edges_of}
-use Rattle.machine.specs.declared.layout.Filled.{Filled}
-use Rattle.machine.specs.Layout.{Layout, initial_parent}
+use Rattle.std.specs.{List.find, Option.option_and_then, Prelude.{ℕ, ◌<◌, Bool, None, Option, Some, not, option_map}}
+use Rattle.base.specs.declared.{edge.Edge.Edge, ids.SlotRef.SlotRef, kind.Kind.{Kind, TheVariants.{Derive, Space}}}
+use Rattle.machine.specs.{declared.layout.Filled.Filled, Layout.{Layout, initial_parent}}
 use Rattle.policy.specs.Domain.{EdgeTest}
-use Rattle.verdict.specs.declared.denial.Denial.{Denial}
-use Rattle.verdict.specs.declared.denial.Denial.TheVariants as denial
-use Rattle.verdict.specs.Rules.{a1, a2, a3, a4, a5}
-use Rattle.verdict.specs.Verdict.{Breaks}
+use Rattle.labels.specs.SlotEdges.{edges_with, slot_edges_of}
+use Rattle.verdict.specs.{declared.denial.Denial.{Denial, Denial as denial}, Rules.{a1, a2, a3, a4, a5}, Verdict.Breaks}
 
 abbrev pub is_missing : EdgeTest → Edge → Bool
 is_missing allowed edge = not (allowed edge.from edge.kind edge.to)

@@ -1,17 +1,10 @@
 -- What authority is read off: the capabilities in slots, the derivation tree and the links of a table or of a machine, with the
 -- kinds and labels of objects (compare 'seL4 Enforces Integrity', section 3, the authority of a state).
-use Rattle.std.specs.Prelude.{ℕ, Bool, false, Option, Some, None}
-use Rattle.base.specs.declared.ids.ObjId.{ObjId}
-use Rattle.base.specs.declared.ids.SlotRef.{SlotRef}
-use Rattle.base.specs.declared.kind.Kind.{Kind}
-use Rattle.machine.specs.declared.cap.Cap.{Cap}
-use Rattle.machine.specs.declared.object.Object.{Object}
-use Rattle.machine.specs.declared.object.Object.TheVariants as o
-use Rattle.machine.specs.declared.object.ObjectKind.{ObjectKind}
-use Rattle.machine.specs.Authority.{holds_thread, label_of, lent_of, state_links}
-use Rattle.machine.specs.Layout.{Layout, declared_label, initial_cap, initial_parent, bound_context}
-use Rattle.machine.specs.Machine.{Machine, object_of, cap_of, parent_of}
-use Rattle.machine.specs.WellFormed.{kind_of}
+use Rattle.std.specs.Prelude.{ℕ, Bool, None, Option, Some, false}
+use Rattle.base.specs.declared.{ids.{ObjId.ObjId, SlotRef.SlotRef}, kind.Kind.Kind}
+use Rattle.machine.specs.{declared.{cap.Cap.Cap, object.{Object.{Object, Object as o}, ObjectKind.ObjectKind}}, Authority.holds_thread}
+use Rattle.machine.specs.{Authority.{label_of, lent_of, state_links}, Layout.{Layout, bound_context, declared_label, initial_cap}}
+use Rattle.machine.specs.{Layout.initial_parent, Machine.{Machine, cap_of, object_of, parent_of}, WellFormed.kind_of}
 use Rattle.table.specs.Rules.{kind_at}
 
 pub record Sources : Type 0 where

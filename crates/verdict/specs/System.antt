@@ -1,11 +1,9 @@
 -- A system is a capability table and a policy; the verdict on it, and what an accepted one keeps (confine's own).
-use Rattle.std.specs.Prelude.{◌≡◌, List, Result, Ok, Err}
+use Rattle.std.specs.Prelude.{◌≡◌, Err, List, Ok, Result}
 use Rattle.base.specs.declared.edge.Edge.{Edge}
 use Rattle.machine.specs.Layout.{Layout}
 use Rattle.policy.specs.Policy.{allows}
-use Rattle.verdict.specs.declared.denial.Denial.{Denial}
-use Rattle.verdict.specs.Safe.{IsSafe}
-use Rattle.verdict.specs.Verdict.{IsAccepted, IsLeastBroken}
+use Rattle.verdict.specs.{declared.denial.Denial.Denial, Safe.IsSafe, Verdict.{IsAccepted, IsLeastBroken}}
 
 pub record System : Type 0 where
   pub table : Layout

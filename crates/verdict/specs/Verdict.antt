@@ -1,15 +1,11 @@
 -- The verdict on a capability table and a policy: which rules they break and where, which of these places comes first, and what
 -- is accepted; and the first place where a machine's authority lies outside a policy (confine's own).
-use Rattle.std.specs.Prelude.{ℕ, List, [], ◌∷◌, Option, Some, None, codes}
-use Rattle.machine.specs.Layout.{Layout}
-use Rattle.machine.specs.Machine.{Machine}
-use Rattle.policy.specs.Broken.{IsBrokenAt, broken_place, broken_rule}
-use Rattle.policy.specs.Domain.{EdgeTest}
-use Rattle.policy.specs.Places.{IsLeast, IsNone, IsUnder}
-use Rattle.verdict.specs.declared.denial.Denial.{Denial}
+use Rattle.std.specs.Prelude.{[], ℕ, ◌∷◌, List, None, Option, Some, codes}
+use Rattle.machine.specs.{Layout.Layout, Machine.Machine}
+use Rattle.policy.specs.{Broken.{IsBrokenAt, broken_place, broken_rule}, Domain.EdgeTest, Places.{IsLeast, IsNone, IsUnder}}
+use Rattle.verdict.specs.{declared.denial.Denial.Denial, Rules.{Exceeds, Excess, binding, c1, capability, excess_place, holding, pair}}
 use Rattle.verdict.specs.declared.denial.Denial.TheVariants as denial
-use Rattle.verdict.specs.Rules.{c1, Excess, capability, root, pair, binding, holding, recorded, Exceeds, excess_place}
-use Rattle.verdict.specs.Sources.{of_table, of_machine}
+use Rattle.verdict.specs.{Rules.{recorded, root}, Sources.{of_machine, of_table}}
 
 -- the table or the policy breaks a rule at a place
 abbrev pub Breaks : Layout → EdgeTest → Denial → Type 0

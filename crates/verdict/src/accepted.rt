@@ -1,8 +1,6 @@
 ghost use Rattle.std.specs.Prelude.{◌≡◌};
 ghost use Rattle.policy.specs.Policy.{allows};
-ghost use Rattle.verdict.specs.Safe.{IsSafe};
-ghost use Rattle.verdict.specs.System.{IsAcceptedSystem};
-ghost use Rattle.verdict.specs.Verdict.{IsAccepted};
+ghost use Rattle.verdict.specs.{Safe.IsSafe, System.IsAcceptedSystem, Verdict.IsAccepted};
 
 use crate::safe::accepted_systems_are_safe;
 use policy::Policy;
@@ -20,7 +18,7 @@ pub struct Accepted<'a> {
 }
 
 impl<'a> Model for Accepted<'a> {
-    ghost use Rattle.verdict.specs.System.{System, IsAcceptedSystem};
+    ghost use Rattle.verdict.specs.System.{IsAcceptedSystem, System};
 
     ghost Value = { System };
 

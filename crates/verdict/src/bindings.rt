@@ -1,9 +1,7 @@
-ghost use Rattle.std.specs.Prelude.{◌≡◌, ◌∷◌, [], Some};
+ghost use Rattle.std.specs.Prelude.{[], ◌∷◌, ◌≡◌, Some};
 ghost use Rattle.machine.specs.Layout.{bound_context};
-ghost use Rattle.policy.specs.Policy.{allows};
-ghost use Rattle.verdict.specs.Rules.{a4};
-ghost use Rattle.verdict.specs.Verdict.{BreaksUnder, place_of};
-ghost use Rattle.policy.specs.Places.{FindsLeast};
+ghost use Rattle.policy.specs.{Places.FindsLeast, Policy.allows};
+ghost use Rattle.verdict.specs.{Rules.a4, Verdict.{BreaksUnder, place_of}};
 
 use crate::Denial;
 use base::{Edge, Kind};

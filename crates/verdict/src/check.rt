@@ -1,8 +1,7 @@
 ghost use Rattle.std.specs.Prelude.{◌≡◌, ◌≤◌, IfErr, IfOk};
 ghost use Rattle.base.specs.Refusals.{out_of_memory};
 ghost use Rattle.policy.specs.Policy.{allows};
-ghost use Rattle.verdict.specs.Safe.{LabelsObjects, StaysConfined, KeepsIntegrity, KeepsBounds, GuardsBudgets};
-ghost use Rattle.verdict.specs.System.{IsVerdict};
+ghost use Rattle.verdict.specs.{Safe.{GuardsBudgets, KeepsBounds, KeepsIntegrity, LabelsObjects, StaysConfined}, System.IsVerdict};
 
 use crate::bindings::first_binding;
 use crate::slots::first_at_slots;

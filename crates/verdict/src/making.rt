@@ -1,18 +1,9 @@
-ghost use Rattle.std.specs.Prelude.{◌≡◌, ℕ, ◌⊎◌, Some, Ok};
+ghost use Rattle.std.specs.Prelude.{ℕ, ◌≡◌, ◌⊎◌, Ok, Some};
 ghost use Rattle.base.specs.declared.ids.ObjId.{ObjId as Id};
-ghost use Rattle.machine.specs.declared.call.Made.{Made};
-ghost use Rattle.machine.specs.declared.object.MemoryKind.{MemoryKind};
-ghost use Rattle.machine.specs.Authority.{label_of};
-ghost use Rattle.machine.specs.Layout.{Layout};
-ghost use Rattle.machine.specs.Machine.{Machine};
-ghost use Rattle.machine.specs.Step.Retype.{retype_of};
-ghost use Rattle.policy.specs.Closed.{IsClosed};
-ghost use Rattle.policy.specs.Domain.{EdgeTest};
-ghost use Rattle.verdict.specs.Bounded.{MayAffect};
-ghost use Rattle.verdict.specs.Confined.{IsConfined};
-ghost use Rattle.verdict.specs.Invariant.{IsSound};
-ghost use Rattle.verdict.specs.OfTable.{IsOfTable};
-ghost use Rattle.verdict.specs.Shrinks.{IsSame};
+ghost use Rattle.machine.specs.{declared.{call.Made.Made, object.MemoryKind.MemoryKind}, Authority.label_of, Layout.Layout};
+ghost use Rattle.machine.specs.{Machine.Machine, Step.Retype.retype_of};
+ghost use Rattle.policy.specs.{Closed.IsClosed, Domain.EdgeTest};
+ghost use Rattle.verdict.specs.{Bounded.MayAffect, Confined.IsConfined, Invariant.IsSound, OfTable.IsOfTable, Shrinks.IsSame};
 
 /// A law: where a thread makes objects of untyped memory, the machine stays within a closed policy, each
 /// object has a label, and no object changes or is made but within the bounds of the thread's label.

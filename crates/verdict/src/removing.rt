@@ -1,25 +1,11 @@
-ghost use Rattle.std.specs.Prelude.{◌≡◌, ℕ, Bool, ◌⊎◌, Some, None, Ok};
-ghost use Rattle.base.specs.declared.ids.ObjId.{ObjId as Id};
-ghost use Rattle.base.specs.declared.ids.SlotRef.{SlotRef as Slot};
-ghost use Rattle.machine.specs.declared.call.Made.{Made};
-ghost use Rattle.machine.specs.declared.object.Context.{Context as Bound};
+ghost use Rattle.std.specs.Prelude.{ℕ, ◌≡◌, ◌⊎◌, Bool, None, Ok, Some};
+ghost use Rattle.base.specs.declared.ids.{ObjId.ObjId as Id, SlotRef.SlotRef as Slot};
+ghost use Rattle.machine.specs.declared.{call.Made.Made, object.Context.Context as Bound, slot_address.SlotAddress.SlotAddress as Place};
 ghost use Rattle.machine.specs.declared.object.Object.TheVariants as o;
-ghost use Rattle.machine.specs.declared.slot_address.SlotAddress.{SlotAddress as Place};
-ghost use Rattle.machine.specs.Authority.{label_of};
-ghost use Rattle.machine.specs.Layout.{Layout};
-ghost use Rattle.machine.specs.Machine.{Machine, object_of};
-ghost use Rattle.machine.specs.Removal.{removed};
-ghost use Rattle.machine.specs.Step.Delete.{delete_of};
-ghost use Rattle.machine.specs.Step.Revoke.{revoke_of};
-ghost use Rattle.machine.specs.WellFormed.{IsWellFormed};
-ghost use Rattle.policy.specs.Closed.{IsClosed};
-ghost use Rattle.policy.specs.Domain.{EdgeTest};
-ghost use Rattle.policy.specs.Take.{MayRemoveNear};
-ghost use Rattle.verdict.specs.Bounded.{MayAffect};
-ghost use Rattle.verdict.specs.Confined.{IsConfined};
-ghost use Rattle.verdict.specs.Invariant.{IsSound};
-ghost use Rattle.verdict.specs.OfTable.{IsOfTable};
-ghost use Rattle.verdict.specs.Removals.{MayRemove};
+ghost use Rattle.machine.specs.{Authority.label_of, Layout.Layout, Machine.{Machine, object_of}, Removal.removed, Step.Delete.delete_of};
+ghost use Rattle.machine.specs.{Step.Revoke.revoke_of, WellFormed.IsWellFormed};
+ghost use Rattle.policy.specs.{Closed.IsClosed, Domain.EdgeTest, Take.MayRemoveNear};
+ghost use Rattle.verdict.specs.{Bounded.MayAffect, Confined.IsConfined, Invariant.IsSound, OfTable.IsOfTable, Removals.MayRemove};
 ghost use Rattle.verdict.specs.Shrinks.{IsSame, Shrinks};
 
 /// A law: whichever slots are removed, the machine stays within a closed policy and keeps to its table.

@@ -1,13 +1,9 @@
 ghost use Rattle.std.specs.Prelude.{ℕ, List};
 ghost use Rattle.base.specs.declared.edge.Edge.{Edge};
 ghost use Rattle.machine.specs.Layout.{Layout};
-ghost use Rattle.policy.specs.Full.{IsFull};
-ghost use Rattle.policy.specs.Policy.{allows};
-ghost use Rattle.policy.specs.Take.{MayTake};
+ghost use Rattle.policy.specs.{Full.IsFull, Policy.allows, Take.MayTake};
 ghost use Rattle.table.specs.Rules.{IsLawful};
-ghost use Rattle.verdict.specs.Apart.{NeverChanges, OnlyTakes};
-ghost use Rattle.verdict.specs.Safe.{IsSafe};
-ghost use Rattle.verdict.specs.Verdict.{IsAccepted};
+ghost use Rattle.verdict.specs.{Apart.{NeverChanges, OnlyTakes}, Safe.IsSafe, Verdict.IsAccepted};
 
 use table::boot_states_are_well_formed;
 

@@ -1,11 +1,7 @@
-ghost use Rattle.std.specs.Prelude.{◌≡◌, ◌≤◌, IfErr, IfOk, map};
-ghost use Rattle.std.specs.List.{find};
-ghost use Rattle.std.specs.Option.{option_and_then};
+ghost use Rattle.std.specs.{List.find, Option.option_and_then, Prelude.{◌≡◌, ◌≤◌, IfErr, IfOk, map}};
 ghost use Rattle.base.specs.Refusals.{out_of_memory};
-ghost use Rattle.policy.specs.Places.{FindsLeast};
-ghost use Rattle.policy.specs.Policy.{allows};
-ghost use Rattle.verdict.specs.Slots.{denial_by, is_missing, missing_edge, rule_of, BreaksSlots};
-ghost use Rattle.verdict.specs.Verdict.{place_of};
+ghost use Rattle.policy.specs.{Places.FindsLeast, Policy.allows};
+ghost use Rattle.verdict.specs.{Slots.{BreaksSlots, denial_by, is_missing, missing_edge, rule_of}, Verdict.place_of};
 
 use crate::Denial;
 use base::{Edge, Kind, Refusal, SlotRef};

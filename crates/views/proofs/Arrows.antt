@@ -1,22 +1,14 @@
 -- A drawing grows label by label, and pair by pair; and where a label has authority on another there is an edge that gives it.
-use Rattle.std.proofs.Common.{◌≡◌, ◌≢◌, ℕ, ◌+◌, ◌<◌, ◌==◌, true, false, List, [], ◌∷◌, ◌++◌, get_or, take, length, Option, Some, None, refl, sym, ap, subst, ◌∙◌, append_assoc, arith}
-use Rattle.std.specs.Prelude.{IfSome, IsSome, codes}
-use Rattle.std.specs.List.{flat_map, range_with_len}
-use Rattle.std.proofs.lemmas.Bool.Decides.{nat_tests}
-use Rattle.std.proofs.lemmas.List.{append-nil, flat_map_more, map-id, take_more}
+use Rattle.std.{specs.{List.{flat_map, range_with_len}, Prelude.{IfSome, IsSome, codes}}, proofs.Common.{[], ℕ, ◌++◌, ◌+◌, ◌<◌, ◌==◌, ◌∙◌}}
+use Rattle.std.proofs.Common.{◌∷◌, ◌≡◌, ◌≢◌, List, None, Option, Some, ap, append_assoc, arith, false, get_or, length, refl, subst, sym}
+use Rattle.std.proofs.{Common.{take, true}, lemmas.{Bool.Decides.nat_tests, List.{append-nil, flat_map_more, map-id, take_more}}}
 use Rattle.std.proofs.lemmas.List.FromFn.{map-range_with_len_more}
-use mathlib.Core.Bool.{false≢true}
 use Rattle.base.specs.declared.edge.Edge.{Edge}
 use Rattle.machine.specs.Layout.{Layout}
-use Rattle.policy.specs.Domain.{EdgeTest}
-use Rattle.policy.specs.Full.{IsFull}
-use Rattle.policy.specs.Full.IsFull.{own, modifies, sends, receives, notifies, links, grants, replies}
-use Rattle.policy.specs.Places.{IsLeast}
-use Rattle.policy.specs.Reasons.{IsFullBy, IsTakeBy, reason_place}
-use Rattle.policy.specs.Take.{MayTake}
-use Rattle.policy.specs.Take.MayTake.{unbinds, ends, removes}
-use Rattle.views.specs.Drawing.{AddsArrows, Draws, IsArrow, arrow_line, pairs_with}
-use Rattle.views.specs.Drawing.IsArrow.{itself, solid, dashed, nothing}
+use Rattle.policy.specs.{Domain.EdgeTest, Full.{IsFull, IsFull.{grants, links, modifies, notifies, own, receives, replies, sends}}}
+use Rattle.policy.specs.{Places.IsLeast, Reasons.{IsFullBy, IsTakeBy, reason_place}, Take.{MayTake, MayTake.{ends, removes, unbinds}}}
+use Rattle.views.specs.Drawing.{AddsArrows, Draws, IsArrow, arrow_line, pairs_with, IsArrow.{dashed, itself, nothing, solid}}
+use mathlib.Core.Bool.{false≢true}
 
 -- one text more, for the next of some values
 pub piece_more : {X : Type 0} (f : X → List ℕ) (xs : List X) (i : ℕ) (d : X) (before text longer : List ℕ) → i < length xs

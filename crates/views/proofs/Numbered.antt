@@ -1,11 +1,9 @@
 -- A list of numbered values that have names grows by one, and ends.
-use Rattle.std.proofs.Common.{◌≡◌, ℕ, ◌<◌, ◌≤◌, ◌+◌, List, [], ◌++◌, get_or, map, take, length, sym, ap, ◌∙◌, arith}
-use Rattle.std.specs.List.{enumerate_from, zip}
-use Rattle.std.proofs.lemmas.List.{take_all}
-use Rattle.std.proofs.lemmas.List.FromFn.{get_or-enumerate_from, length-enumerate_from}
+use Rattle.std.{specs.List.{enumerate_from, zip}, proofs.Common.{[], ℕ, ◌++◌, ◌+◌, ◌<◌, ◌∙◌, ◌≡◌, ◌≤◌, List, ap, arith, get_or, length}}
+use Rattle.std.proofs.{Common.{map, sym, take}, lemmas.List.{take_all, FromFn.{get_or-enumerate_from, length-enumerate_from}}}
 use Rattle.std.proofs.lemmas.Slice.Zip.{get_or-zip, length-zip}
-use Rattle.captext.proofs.Written.{line_more}
 use Rattle.words.specs.Text.{line_text, text_of}
+use Rattle.captext.proofs.Written.{line_more}
 
 module _ {X Y : Type 0} (f : ℕ × (X × Y) → List (List ℕ)) (xs : List X) (ys : List Y) (each : length xs ≡ length ys) where
   count : length (enumerate_from 0 (zip xs ys)) ≡ length ys

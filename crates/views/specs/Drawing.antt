@@ -1,17 +1,11 @@
 -- The drawing of who may change or take from whom, as Graphviz reads it: the labels, and an arrow from each to each other on which it has
 -- authority, solid where that is full and dashed where it may only take, with an edge that gives it (the authority is that of 'seL4
 -- Enforces Integrity', section 4, restated; its drawing is confine's own).
-use Rattle.std.specs.Prelude.{◌≡◌, ◌≢◌, ℕ, List, [], ◌∷◌, ◌++◌, codes, length, map}
-use Rattle.std.specs.List.{flat_map, range_with_len}
-use Rattle.base.specs.Kinds.{kind_name}
-use Rattle.base.specs.declared.edge.Edge.{Edge}
-use Rattle.captext.specs.PolicyText.{label_name}
+use Rattle.std.specs.{List.{flat_map, range_with_len}, Prelude.{[], ℕ, ◌++◌, ◌∷◌, ◌≡◌, ◌≢◌, List, codes, length, map}}
+use Rattle.base.specs.{declared.edge.Edge.Edge, Kinds.kind_name}
 use Rattle.machine.specs.Layout.{Layout}
-use Rattle.policy.specs.Domain.{EdgeTest}
-use Rattle.policy.specs.Full.{IsFull}
-use Rattle.policy.specs.Places.{IsLeast}
-use Rattle.policy.specs.Reasons.{IsFullBy, IsTakeBy, reason_place}
-use Rattle.policy.specs.Take.{MayTake}
+use Rattle.policy.specs.{Domain.EdgeTest, Full.IsFull, Places.IsLeast, Reasons.{IsFullBy, IsTakeBy, reason_place}, Take.MayTake}
+use Rattle.captext.specs.PolicyText.{label_name}
 
 -- the line of a label
 abbrev pub label_line : List ℕ → List ℕ

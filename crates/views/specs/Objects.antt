@@ -1,12 +1,8 @@
 -- The list of a table's objects: a line for each, in the order of their numbers, with its number, kind, name and label (confine's own).
-use Rattle.std.specs.Prelude.{ℕ, List, [], ◌∷◌, map}
-use Rattle.std.specs.Fmt.{decimal}
-use Rattle.std.specs.List.{enumerate_from, zip}
-use Rattle.captext.specs.PolicyText.{label_name}
-use Rattle.captext.specs.TableText.{kind_word}
-use Rattle.machine.specs.Layout.{Layout}
-use Rattle.machine.specs.declared.layout.Initial.{Initial}
+use Rattle.std.specs.{Fmt.decimal, List.{enumerate_from, zip}, Prelude.{[], ℕ, ◌∷◌, List, map}}
+use Rattle.machine.specs.{declared.layout.Initial.Initial, Layout.Layout}
 use Rattle.words.specs.Text.{text_of}
+use Rattle.captext.specs.{PolicyText.label_name, TableText.kind_word}
 
 -- NUMBER KIND NAME LABEL
 abbrev pub entry_words : Layout → ℕ → List ℕ → Initial → List (List ℕ)

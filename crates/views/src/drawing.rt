@@ -1,7 +1,5 @@
-ghost use Rattle.std.specs.Prelude.{◌≡◌, ◌++◌, ◌∷◌, [], ◌<◌, List, IfErr, IfOk, OnErr, OnOk, length, string_bytes};
-ghost use Rattle.std.specs.List.{flat_map};
-ghost use Rattle.base.specs.declared.edge.Edge.{Edge as EdgeOf};
-ghost use Rattle.base.specs.Refusals.{out_of_memory};
+ghost use Rattle.std.specs.{List.flat_map, Prelude.{[], ◌++◌, ◌<◌, ◌∷◌, ◌≡◌, IfErr, IfOk, List, OnErr, OnOk, length, string_bytes}};
+ghost use Rattle.base.specs.{declared.edge.Edge.Edge as EdgeOf, Refusals.out_of_memory};
 ghost use Rattle.policy.specs.Policy.{allows};
 ghost use Rattle.views.specs.Drawing.{AddsArrows, IsDrawing, arrow_line, label_line, pairs_of, pairs_with};
 

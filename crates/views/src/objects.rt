@@ -1,9 +1,9 @@
-ghost use Rattle.std.specs.Prelude.{◌≡◌, ◌++◌, IfOk, IfErr, OnOk, string_bytes};
+ghost use Rattle.std.specs.Prelude.{◌++◌, ◌≡◌, IfErr, IfOk, OnOk, string_bytes};
 ghost use Rattle.base.specs.Refusals.{out_of_memory};
-ghost use Rattle.captext.specs.TableText.{object_name};
 ghost use Rattle.machine.specs.KindWords.{object_kind_word};
-ghost use Rattle.views.specs.Objects.{entry_words, objects_text};
 ghost use Rattle.words.specs.Text.{line_text};
+ghost use Rattle.captext.specs.TableText.{object_name};
+ghost use Rattle.views.specs.Objects.{entry_words, objects_text};
 
 use base::{ObjId, Refusal};
 use captext::{label_name, object_name};

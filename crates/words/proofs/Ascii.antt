@@ -1,9 +1,6 @@
 -- Bytes that pass a test of ASCII alone are text.
-use Rattle.std.proofs.Common.{◌≡◌, ℕ, ◌<◌, Bool, true, List, [], ◌∷◌, zero, suc, lit<}
-use Rattle.std.specs.List.{list_all}
-use Rattle.std.specs.Str.{IsUtf8, IsAscii}
-use Rattle.std.proofs.lemmas.Bool.{and_parts}
-use Rattle.std.proofs.lemmas.Str.{IsUtf8-from_ascii}
+use Rattle.std.{specs.{List.list_all, Str.{IsAscii, IsUtf8}}, proofs.Common.{[], ℕ, ◌<◌, ◌∷◌, ◌≡◌, Bool, List, lit<, suc, true, zero}}
+use Rattle.std.proofs.lemmas.{Bool.and_parts, Str.IsUtf8-from_ascii}
 
 IsAscii-from_test : (p : ℕ → Bool) → ((b : ℕ) → p b ≡ true → b < 128) → (bs : List ℕ) → list_all p bs ≡ true → IsAscii bs
 IsAscii-from_test p low [] h i = lit< tt

@@ -1,15 +1,11 @@
 -- A text that is cut before its end has its first fault at the line that was cut.
-use Rattle.std.proofs.Common.{◌≡◌, ◌≢◌, ℕ, ◌+◌, ◌<◌, ◌==◌, Bool, true, false, cond, List, [], ◌∷◌, ◌++◌, length, map, Some, Result, Ok, refl, sym, ap, subst, ◌∙◌, arith}
-use Rattle.std.specs.List.{slice_split, onto_first, count_by, join_with_byte, AllByRecursion}
-use Rattle.std.proofs.lemmas.List.{length-append, length-map, length_push, map-append}
-use Rattle.std.proofs.lemmas.List.Splits.{length-slice_split, join_with_byte-slice_split}
-use Rattle.words.specs.declared.faults.Wrong.{Wrong}
-use Rattle.words.specs.declared.faults.Wrong.TheVariants.{Syntax}
-use Rattle.words.specs.FirstFault.{ended, IsGoodUpTo, IsText, IsFirstFault, Line, TextLines, no_header, no_line}
-use Rattle.words.specs.Reading.{bind, last_line, steps, Format}
-use Rattle.words.specs.Text.{words_of, lines_of, lines_of_parts, IsOver}
-use Rattle.words.proofs.Splits.{parts_some}
-use Rattle.words.proofs.WordLaws.{bind_ok}
+use Rattle.std.{specs.List.{AllByRecursion, count_by, join_with_byte, onto_first, slice_split}, proofs.Common.{[], ℕ, ◌++◌, ◌+◌, ◌<◌, ◌==◌}}
+use Rattle.std.proofs.Common.{◌∙◌, ◌∷◌, ◌≡◌, ◌≢◌, Bool, List, Ok, Result, Some, ap, arith, cond, false, length, map, refl, subst, sym, true}
+use Rattle.std.proofs.lemmas.List.{length-append, length-map, length_push, map-append, Splits.join_with_byte-slice_split}
+use Rattle.std.proofs.lemmas.List.Splits.{length-slice_split}
+use Rattle.words.specs.{declared.faults.Wrong.{Wrong, TheVariants.Syntax}, FirstFault.{IsFirstFault, IsGoodUpTo, IsText, Line, TextLines}}
+use Rattle.words.specs.{FirstFault.{ended, no_header, no_line}, Reading.{Format, bind, last_line, steps}, Text.{IsOver, lines_of}}
+use Rattle.words.{specs.Text.{lines_of_parts, words_of}, proofs.{Splits.parts_some, WordLaws.bind_ok}}
 
 -- the parts of a beginning, of the rest and of the whole: all but the beginning's last are the whole's, whose next one it begins
 record Cuts (begun parts whole : List (List ℕ)) : Type 0 where

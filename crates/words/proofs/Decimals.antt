@@ -1,21 +1,13 @@
 -- What decimal digits spell, and that a number has one decimal spelling.
-use Rattle.std.proofs.Common.{◌≡◌, ℕ, ◌+◌, ◌-◌, ◌*◌, ◌<◌, ◌≤◌, ◌==◌, ◌&&◌, ◌^◌, Bool, true, false, not, cond, nat_lt, List, [], ◌∷◌, length, get_or, take, Option, Some, None, Result, Ok, Err, refl, sym, ap, subst, ◌∙◌, ltb-true, lt-ltb, lit<, zero, suc, arith, rules}
-use Rattle.std.specs.List.{list_all}
-use Rattle.std.specs.Char.{is_ascii_digit, digit_value}
-use Rattle.std.specs.Int.{IsInRange}
-use Rattle.std.specs.Str.Parse.{digits_value}
-use Rattle.std.specs.Result.{result_ok, OkIff}
-use Rattle.std.specs.Fmt.{decimal}
-use Rattle.std.proofs.lemmas.Bool.{and_parts, and_from, cond-true, cond_both, ne_eqb}
-use Rattle.std.proofs.lemmas.Bool.Decides.{nat_tests}
-use Rattle.std.proofs.lemmas.Int.Digits.{digits_value_more}
-use Rattle.std.proofs.lemmas.List.{take_all}
-use Rattle.std.proofs.lemmas.List.Folds.{list_all_at, list_all_more}
-use Rattle.std.proofs.lemmas.Str.{digit_value_digit}
-use Rattle.std.proofs.lemmas.Str.Parse.{IsNumeralModel, numerals_by_value, digits_value-take-le}
-use Rattle.std.proofs.lemmas.Fmt.{decimal-digits_value, digits_decimal, digits_value-decimal, first_decimal, decimal_nonempty, decimal_digit}
-use Rattle.std.proofs.lemmas.Option.{none-some, cond_some}
-use Rattle.words.specs.Number.{dec_of, below_limit, is_decimal, has_no_leading_zero}
+use Rattle.std.specs.{Char.{digit_value, is_ascii_digit}, Fmt.decimal, Int.IsInRange, List.list_all, Result.{OkIff, result_ok}}
+use Rattle.std.{specs.Str.Parse.digits_value, proofs.Common.{[], ℕ, ◌&&◌, ◌*◌, ◌+◌, ◌-◌, ◌<◌, ◌==◌, ◌^◌, ◌∙◌, ◌∷◌, ◌≡◌, ◌≤◌, Bool, Err}}
+use Rattle.std.proofs.Common.{List, None, Ok, Option, Result, Some, ap, arith, cond, false, get_or, length, lit<, lt-ltb, ltb-true, nat_lt}
+use Rattle.std.proofs.{Common.{not, refl, rules, subst, suc, sym, take, true, zero}, lemmas.Bool.{and_from, and_parts, cond-true}}
+use Rattle.std.proofs.lemmas.{Bool.{cond_both, ne_eqb, Decides.nat_tests}, Fmt.{decimal-digits_value, decimal_digit, decimal_nonempty}}
+use Rattle.std.proofs.lemmas.{Fmt.{digits_decimal, digits_value-decimal, first_decimal}, Int.Digits.digits_value_more, List.take_all}
+use Rattle.std.proofs.lemmas.{List.Folds.{list_all_at, list_all_more}, Option.{cond_some, none-some}, Str.digit_value_digit}
+use Rattle.std.proofs.lemmas.Str.Parse.{IsNumeralModel, digits_value-take-le, numerals_by_value}
+use Rattle.words.specs.Number.{below_limit, dec_of, has_no_leading_zero, is_decimal}
 
 -- the test of decimal digits and the value of digits are those of `parse`
 pub own : IsNumeralModel (λ ds. list_all is_ascii_digit ds ≡ true) (digits_value 10)

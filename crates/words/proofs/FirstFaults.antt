@@ -1,17 +1,12 @@
 -- A text is refused for its first fault, and read where it has none.
-use Rattle.std.proofs.Common.{◌≡◌, ◌≢◌, ℕ, ◌+◌, ◌==◌, ◌⊎◌, inl, inr, Bool, true, false, cond, List, [], ◌∷◌, ◌++◌, length, Some, None, Result, Ok, Err, refl, sym, ap, subst, ◌∙◌, arith, IfErr}
-use Rattle.std.specs.List.{AllByRecursion}
-use Rattle.std.proofs.lemmas.Bool.{cond-true}
-use Rattle.words.specs.declared.faults.Wrong.{Wrong}
-use Rattle.words.specs.declared.faults.Wrong.TheVariants.{Syntax, UnknownName, Double, Misplaced, Limit, WrongKind, Tree}
-use Rattle.words.specs.declared.faults.Fault.{Fault}
-use Rattle.words.specs.Fault.{fault_at, no_memory, number_of}
-use Rattle.words.specs.FirstFault.{ended, HasHeader, IsGoodUpTo, IsText, IsFirstFault, TellsFirst, Line, TextLines, no_header, no_line, no_step, no_whole, no_end}
-use Rattle.words.specs.Reading.{bind, last_line, header_at, end_at, at_line, faulted, judged, read_format, read_lines, read_text, steps, Format, Reads, Whole}
-use Rattle.words.specs.Text.{line_is, IsOver, Progress}
-use Rattle.words.proofs.ReadingLaws.{at_step, no_more}
-use Rattle.words.proofs.Splits.{line_same, same_line}
-use Rattle.words.proofs.WordLaws.{bind_ok}
+use Rattle.std.{specs.List.AllByRecursion, proofs.Common.{[], ℕ, ◌++◌, ◌+◌, ◌==◌, ◌∙◌, ◌∷◌, ◌≡◌, ◌≢◌, ◌⊎◌, Bool, Err, IfErr, List, None}}
+use Rattle.std.proofs.{Common.{Ok, Result, Some, ap, arith, cond, false, inl, inr, length, refl, subst, sym, true}, lemmas.Bool.cond-true}
+use Rattle.words.specs.declared.faults.{Fault.Fault, Wrong.{Wrong, TheVariants.{Double, Limit, Misplaced, Syntax, Tree, UnknownName}}}
+use Rattle.words.specs.{declared.faults.Wrong.TheVariants.WrongKind, Fault.{fault_at, no_memory, number_of}, FirstFault.HasHeader}
+use Rattle.words.specs.FirstFault.{IsFirstFault, IsGoodUpTo, IsText, Line, TellsFirst, TextLines, ended, no_end, no_header, no_line}
+use Rattle.words.specs.{FirstFault.{no_step, no_whole}, Reading.{Format, Reads, Whole, at_line, bind, end_at, faulted, header_at, judged}}
+use Rattle.words.specs.{Reading.{last_line, read_format, read_lines, read_text, steps}, Text.{IsOver, Progress, line_is}}
+use Rattle.words.proofs.{ReadingLaws.{at_step, no_more}, Splits.{line_same, same_line}, WordLaws.bind_ok}
 
 -- faults of different lines differ, and so do those of one line by what is wrong
 

@@ -1,17 +1,12 @@
 -- A number below 2 ^ 64 has one spelling in hexadecimal digits without a leading zero, the one that `{:x}` writes.
-use Rattle.std.proofs.Common.{◌≡◌, ◌≢◌, ℕ, ◌+◌, ◌-◌, ◌*◌, ◌/◌, ◌%◌, ◌^◌, ◌<◌, ◌≤◌, ◌==◌, Bool, true, false, not, nat_lt, List, [], ◌∷◌, ◌++◌, length, get_or, zero, suc, zero-add, refl, sym, ap, ◌∙◌, lit<, lit≤, ltb-true, ltb-false, eq-eqb, arith}
-use Rattle.std.specs.List.{list_all}
-use Rattle.std.specs.Char.{digit_value}
-use Rattle.std.specs.Str.Parse.{digits_value, digits_value_after}
-use Rattle.std.specs.Fmt.{digits, digits_onto, digit_glyph}
-use Rattle.std.proofs.lemmas.Bool.{and_parts, and_from, cond_both, cond-true, cond-false, eqb-true, eqb-false, ne_eqb, false≢true}
-use Rattle.std.proofs.lemmas.Bool.Decides.{nat_tests}
-use Rattle.std.proofs.lemmas.Fmt.{hex_one_digit, digits_is_IsNumeral}
-use Rattle.std.proofs.lemmas.List.{append-nil}
-use Rattle.std.proofs.lemmas.Nat.{div-mul-add, mod-mul-add}
-use Rattle.std.proofs.Math.Nat.{mod-lt, mod-eq_of_lt, mul-le-mul_right, pow-le-pow_right, div-eq_of_lt, div-lt_iff_lt-mul, pow-suc}
-use Rattle.words.specs.Number.{is_hex_digit, is_hexadecimal}
-use Rattle.words.proofs.Decimals.{not_zero_first}
+use Rattle.std.specs.{Char.digit_value, Fmt.{digit_glyph, digits, digits_onto}, List.list_all, Str.Parse.{digits_value, digits_value_after}}
+use Rattle.std.proofs.Common.{[], ℕ, ◌%◌, ◌*◌, ◌++◌, ◌+◌, ◌-◌, ◌/◌, ◌<◌, ◌==◌, ◌^◌, ◌∙◌, ◌∷◌, ◌≡◌, ◌≢◌, ◌≤◌, Bool, List, ap, arith, eq-eqb}
+use Rattle.std.proofs.Common.{false, get_or, length, lit<, lit≤, ltb-false, ltb-true, nat_lt, not, refl, suc, sym, true, zero, zero-add}
+use Rattle.std.proofs.Math.Nat.{div-eq_of_lt, div-lt_iff_lt-mul, mod-eq_of_lt, mod-lt, mul-le-mul_right, pow-le-pow_right, pow-suc}
+use Rattle.std.proofs.lemmas.Bool.{and_from, and_parts, cond-false, cond-true, cond_both, eqb-false, eqb-true, false≢true, ne_eqb}
+use Rattle.std.proofs.lemmas.{Bool.Decides.nat_tests, Fmt.{digits_is_IsNumeral, hex_one_digit}, List.append-nil, Nat.div-mul-add}
+use Rattle.std.proofs.lemmas.Nat.{mod-mul-add}
+use Rattle.words.{specs.Number.{is_hex_digit, is_hexadecimal}, proofs.Decimals.not_zero_first}
 
 -- a digit's glyph is a hexadecimal digit, not 0 if the digit isn't
 glyph_is_digit : (d : ℕ) → d < 16 → is_hex_digit (digit_glyph false d) ≡ true

@@ -1,21 +1,12 @@
 -- What hexadecimal digits spell, and that a number has one hexadecimal spelling.
-use Rattle.std.proofs.Common.{◌≡◌, ◌≢◌, ℕ, ◌<◌, ◌^◌, true, false, cond, List, [], ◌∷◌, ◌++◌, take, drop, length, get_or, Some, None, Result, Ok, Err, sym, ap, subst, ◌∙◌, ltb-true, arith}
-use Rattle.std.specs.List.{list_all}
-use Rattle.std.specs.Str.{IsUtf8, bytes_eq}
-use Rattle.std.specs.Fmt.{digits}
-use Rattle.std.proofs.lemmas.Slice.Eq.{bytes_eq-Decides}
-use Rattle.std.proofs.lemmas.Option.{cond_some}
-use Rattle.std.proofs.lemmas.List.{take-append-drop}
-use Rattle.std.specs.Prelude.{codes}
-use Rattle.std.specs.Str.Parse.{digits_value, AllDigits, IsNumeral, ParsesUnsigned}
-use Rattle.std.specs.Result.{result_ok, OkIff}
-use Rattle.std.proofs.lemmas.Bool.{and_parts, cond-true}
-use Rattle.std.proofs.lemmas.Bool.Decides.{nat_tests}
-use Rattle.std.proofs.lemmas.Str.Parse.{without_leading_plus_none}
-use Rattle.words.specs.Number.{hex_of, hex_digits_of, hexadecimal, below_limit, is_hex_digit, is_hexadecimal}
-use Rattle.words.proofs.Ascii.{IsUtf8-from_test}
-use Rattle.words.proofs.Decimals.{leading, by_result, limited, some_then}
-use Rattle.words.proofs.HexLaws.{digits-digits_value, digits_value-digits, is_hexadecimal-digits, value_below}
+use Rattle.std.specs.{Fmt.digits, List.list_all, Prelude.codes, Result.{OkIff, result_ok}, Str.{IsUtf8, bytes_eq, Parse.AllDigits}}
+use Rattle.std.{specs.Str.Parse.{IsNumeral, ParsesUnsigned, digits_value}, proofs.Common.{[], ℕ, ◌++◌, ◌<◌, ◌^◌, ◌∙◌, ◌∷◌, ◌≡◌, ◌≢◌, Err}}
+use Rattle.std.proofs.Common.{List, None, Ok, Result, Some, ap, arith, cond, drop, false, get_or, length, ltb-true, subst, sym, take, true}
+use Rattle.std.proofs.lemmas.{Bool.{and_parts, cond-true, Decides.nat_tests}, List.take-append-drop, Option.cond_some}
+use Rattle.std.proofs.lemmas.{Slice.Eq.bytes_eq-Decides, Str.Parse.without_leading_plus_none}
+use Rattle.words.specs.Number.{below_limit, hex_digits_of, hex_of, hexadecimal, is_hex_digit, is_hexadecimal}
+use Rattle.words.proofs.{Ascii.IsUtf8-from_test, Decimals.{by_result, leading, limited, some_then}, HexLaws.digits-digits_value}
+use Rattle.words.proofs.HexLaws.{digits_value-digits, is_hexadecimal-digits, value_below}
 
 hex_digit_is_ascii : (b : ℕ) → is_hex_digit b ≡ true → b < 128
 hex_digit_is_ascii b h = grind (arith, nat_tests)

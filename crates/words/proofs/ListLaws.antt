@@ -1,16 +1,10 @@
 -- A text that is a list, with a line for each value: it owes the laws of its lines, and those of the whole text follow.
-use Rattle.std.proofs.Common.{◌≡◌, ℕ, List, [], ◌∷◌, ◌++◌, map, codes, Result, Ok, Err, IfOk, refl, sym, ap, subst, ◌∙◌, append_assoc}
-use Rattle.std.proofs.lemmas.List.{append-nil}
-use Rattle.std.specs.List.{AllByRecursion}
-use Rattle.words.specs.declared.faults.Fault.{Fault}
-use Rattle.words.specs.declared.faults.Wrong.{Wrong}
-use Rattle.words.specs.FirstFault.{Line}
-use Rattle.words.specs.Reading.{bind, last_line, list_format, list_text, read_format, steps, whole_lines, IsNotLast, Reads}
-use Rattle.words.specs.Text.{lines_of, text_of, IsPlainLine}
-use Rattle.words.proofs.OneText.{one_body, one_by_map}
-use Rattle.words.proofs.TextLaws.{both}
-use Rattle.words.proofs.TextReading.{whole_text_takes, whole_text_again}
-use Rattle.words.proofs.WordLaws.{bind_ok, plain_bytes, plain_lines}
+use Rattle.std.{specs.List.AllByRecursion, proofs.Common.{[], ℕ, ◌++◌, ◌∙◌, ◌∷◌, ◌≡◌, Err, IfOk, List, Ok, Result, ap, append_assoc, codes}}
+use Rattle.std.proofs.{Common.{map, refl, subst, sym}, lemmas.List.append-nil}
+use Rattle.words.specs.{declared.faults.{Fault.Fault, Wrong.Wrong}, FirstFault.Line, Reading.{IsNotLast, Reads, bind, last_line}}
+use Rattle.words.specs.{Reading.{list_format, list_text, read_format, steps, whole_lines}, Text.{IsPlainLine, lines_of, text_of}}
+use Rattle.words.proofs.{OneText.{one_body, one_by_map}, TextLaws.both, TextReading.{whole_text_again, whole_text_takes}, WordLaws.bind_ok}
+use Rattle.words.proofs.WordLaws.{plain_bytes, plain_lines}
 
 -- a line is a step just where it is that of a value, which joins those before it and fits after them
 pub record IsListFormat {X : Type 0} (line : X → Line) (step : List X → Line → Result (List X) Wrong) (Fits : List X → Type 0)

@@ -1,10 +1,6 @@
 -- A name is text.
-use Rattle.std.proofs.Common.{◌≡◌, ℕ, ◌<◌, true, List, arith}
-use Rattle.std.specs.Str.{IsUtf8}
-use Rattle.std.proofs.lemmas.Bool.{and_parts}
-use Rattle.std.proofs.lemmas.Bool.Decides.{nat_tests}
-use Rattle.words.specs.Name.{is_name, is_name_byte}
-use Rattle.words.proofs.Ascii.{IsUtf8-from_test}
+use Rattle.std.{specs.Str.IsUtf8, proofs.{Common.{ℕ, ◌<◌, ◌≡◌, List, arith, true}, lemmas.Bool.{and_parts, Decides.nat_tests}}}
+use Rattle.words.{specs.Name.{is_name, is_name_byte}, proofs.Ascii.IsUtf8-from_test}
 
 name_byte_is_ascii : (b : ℕ) → is_name_byte b ≡ true → b < 128
 name_byte_is_ascii b h = grind (arith, nat_tests)

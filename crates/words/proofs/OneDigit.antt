@@ -1,15 +1,9 @@
 -- A number of one digit, before a space.
-use Rattle.std.proofs.Common.{◌≡◌, ◌≢◌, ℕ, ◌+◌, ◌-◌, ◌<◌, ◌≤◌, ◌==◌, Bool, true, false, cond, List, [], ◌∷◌, length, get_or, take, drop, Option, Some, Ok, refl, sym, ap, ◌∙◌, arith}
-use Rattle.std.specs.Char.{is_ascii_digit}
-use Rattle.std.specs.Int.{IsInRange}
-use Rattle.std.specs.List.{slice_split, onto_first}
-use Rattle.std.proofs.lemmas.Bool.{ne_eqb}
-use Rattle.std.proofs.lemmas.Fmt.{decimal_digit}
-use Rattle.std.proofs.lemmas.List.{take_rest}
-use Rattle.words.specs.Number.{dec_of, number_at}
-use Rattle.words.specs.Reading.{bind, or_syntax, word_at}
-use Rattle.words.specs.Text.{words_of}
-use Rattle.words.proofs.Decimals.{dec_again, in_range}
+use Rattle.std.{specs.{Char.is_ascii_digit, Int.IsInRange, List.{onto_first, slice_split}}, proofs.Common.{[], ℕ, ◌+◌, ◌-◌, ◌<◌, ◌==◌, ◌∙◌}}
+use Rattle.std.proofs.Common.{◌∷◌, ◌≡◌, ◌≢◌, ◌≤◌, Bool, List, Ok, Option, Some, ap, arith, cond, drop, false, get_or, length, refl, sym}
+use Rattle.std.proofs.{Common.{take, true}, lemmas.{Bool.ne_eqb, Fmt.decimal_digit, List.take_rest}}
+use Rattle.words.{specs.{Number.{dec_of, number_at}, Reading.{bind, or_syntax, word_at}, Text.words_of}, proofs.Decimals.dec_again}
+use Rattle.words.proofs.Decimals.{in_range}
 
 digit_of : (d : ℕ) → IsInRange 48 57 d → dec_of (d ∷ []) ≡ Some (d - 48)
 digit_of d range =

@@ -1,10 +1,7 @@
 -- Plain lines have one text, and no other plain lines have it.
-use Rattle.std.proofs.Common.{◌≡◌, ℕ, List, [], ◌∷◌, ◌++◌, map, Some, refl, sym, ap, ◌∙◌}
-use Rattle.std.specs.List.{AllByRecursion}
+use Rattle.std.{specs.List.AllByRecursion, proofs.Common.{[], ℕ, ◌++◌, ◌∙◌, ◌∷◌, ◌≡◌, List, Some, ap, map, refl, sym}}
 use Rattle.std.proofs.lemmas.List.{append_cancel_right}
-use Rattle.words.specs.Reading.{last_line, whole_lines}
-use Rattle.words.specs.Text.{lines_of, text_of, IsPlainLine}
-use Rattle.words.proofs.TextLaws.{text_lines}
+use Rattle.words.{specs.{Reading.{last_line, whole_lines}, Text.{IsPlainLine, lines_of, text_of}}, proofs.TextLaws.text_lines}
 
 -- what is one where it is seen through a map, is one
 pub one_by_map : {X Y : Type 0} (P : X → Type 0) (f : X → Y) → ((x y : X) → P x → P y → f x ≡ f y → x ≡ y) → (xs ys : List X)

@@ -1,22 +1,12 @@
 -- Parts of a line are put together: numbers and names, one part after another, a part as another type's value, a choice by a word.
-use Rattle.std.proofs.Common.{◌≡◌, ℕ, ◌<◌, ◌^◌, Bool, true, false, cond, List, [], ◌∷◌, ◌++◌, Option, Some, None, Result, Ok, refl, sym, ap, subst, ◌∙◌, append_assoc}
-use Rattle.std.specs.Bool.{Decides}
-use Rattle.std.specs.Fmt.{decimal}
-use Rattle.std.specs.List.{AllByRecursion}
-use Rattle.std.specs.Str.{bytes_eq}
-use Rattle.std.proofs.lemmas.List.{append-nil}
-use Rattle.std.proofs.lemmas.Slice.Eq.{bytes_eq-Decides}
-use Rattle.words.specs.declared.faults.Wrong.{Wrong}
-use Rattle.words.specs.Name.{is_name, name_at, name_of}
-use Rattle.words.specs.Number.{dec_of, hex_at, hex_of, hexadecimal, number_at}
-use Rattle.words.specs.Parts.{PartReader, in_turn, read_as, by_word, keyed, IsLastPart, IsPart, Takes}
-use Rattle.words.specs.Reading.{bind, ended_at, or_syntax, word_at}
-use Rattle.words.specs.Text.{IsPlainWord}
-use Rattle.words.proofs.TextLaws.{both}
-use Rattle.words.proofs.Decimals.{dec_again, dec_takes}
-use Rattle.words.proofs.Hexadecimals.{hex_again, hex_takes}
-use Rattle.words.proofs.Spellings.{name_iff}
-use Rattle.words.proofs.WordLaws.{bind_ok, ended_then, plain_decimal, plain_hexadecimal, plain_name, word_then}
+use Rattle.std.{specs.{Bool.Decides, Fmt.decimal, List.AllByRecursion, Str.bytes_eq}, proofs.Common.{[], ℕ, ◌++◌, ◌<◌, ◌^◌, ◌∙◌, ◌∷◌, ◌≡◌}}
+use Rattle.std.proofs.Common.{Bool, List, None, Ok, Option, Result, Some, ap, append_assoc, cond, false, refl, subst, sym, true}
+use Rattle.std.proofs.lemmas.{List.append-nil, Slice.Eq.bytes_eq-Decides}
+use Rattle.words.specs.{declared.faults.Wrong.Wrong, Name.{is_name, name_at, name_of}, Number.{dec_of, hex_at, hex_of, hexadecimal}}
+use Rattle.words.specs.{Number.number_at, Parts.{IsLastPart, IsPart, PartReader, Takes, by_word, in_turn, keyed, read_as}, Reading.bind}
+use Rattle.words.{specs.{Reading.{ended_at, or_syntax, word_at}, Text.IsPlainWord}, proofs.Decimals.{dec_again, dec_takes}}
+use Rattle.words.proofs.{Hexadecimals.{hex_again, hex_takes}, Spellings.name_iff, TextLaws.both, WordLaws.{bind_ok, ended_then}}
+use Rattle.words.proofs.WordLaws.{plain_decimal, plain_hexadecimal, plain_name, word_then}
 
 -- the next word as a value: what is read of a word has to be what the word spells
 pub word_part : {X : Type 0} (of : List ℕ → Option X) (spell : X → List ℕ) (Is : X → Type 0)

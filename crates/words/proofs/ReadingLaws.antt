@@ -1,13 +1,8 @@
 -- How a loop over the lines of a text keeps step with `read_lines`: one law for each place where such a loop goes on or ends.
-use Rattle.std.proofs.Common.{◌≡◌, ◌≢◌, ℕ, ◌+◌, true, false, cond, List, [], ◌∷◌, Option, Some, None, Result, Ok, Err, refl, sym, ap, ◌∙◌}
-use Rattle.words.specs.declared.faults.Wrong.{Wrong}
-use Rattle.words.specs.declared.faults.Wrong.TheVariants.{Syntax}
-use Rattle.words.specs.declared.faults.LineError.{LineError}
-use Rattle.words.specs.declared.faults.LineError.TheVariants.{Memory, Text}
-use Rattle.words.specs.declared.faults.Fault.{Fault}
-use Rattle.words.specs.Fault.{fault_at, fault_of, no_memory}
-use Rattle.words.specs.Text.{line_is, IsOver, Progress}
-use Rattle.words.specs.Reading.{bind, last_line, header_at, end_at, at_line, faulted, judged, read_lines, read_text, as_read, StopsBy, Whole}
+use Rattle.std.proofs.Common.{[], ℕ, ◌+◌, ◌∙◌, ◌∷◌, ◌≡◌, ◌≢◌, Err, List, None, Ok, Option, Result, Some, ap, cond, false, refl, sym, true}
+use Rattle.words.specs.declared.faults.{Fault.Fault, LineError.{LineError, TheVariants.{Memory, Text}}, Wrong.{Wrong, TheVariants.Syntax}}
+use Rattle.words.specs.{Fault.{fault_at, fault_of, no_memory}, Reading.{StopsBy, Whole, as_read, at_line, bind, end_at, faulted, header_at}}
+use Rattle.words.specs.{Reading.{judged, last_line, read_lines, read_text}, Text.{IsOver, Progress, line_is}}
 
 -- the header was taken: the loop begins
 pub begins : {S T : Type 0} (header : List (List ℕ)) (step : S → List (List ℕ) → Result S Wrong)

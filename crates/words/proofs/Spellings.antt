@@ -1,15 +1,9 @@
 -- A word spells a value just where it is the value's word: numbers in decimal and in hexadecimal, and names.
-use Rattle.std.proofs.Common.{◌≡◌, ◌≢◌, ℕ, ◌<◌, ◌^◌, ◌↔◌, true, List, [], ◌∷◌, get_or, length, Some, None, refl, sym, ap, subst, ◌∙◌, arith}
-use Rattle.std.specs.Char.{is_ascii_digit}
-use Rattle.std.specs.List.{list_all}
-use Rattle.std.specs.Fmt.{decimal}
-use Rattle.std.proofs.lemmas.Bool.{and_parts, cond-true}
-use Rattle.std.proofs.lemmas.Fmt.{decimal_nonempty, digits_decimal}
-use Rattle.std.proofs.lemmas.Option.{none-some, cond_some}
-use Rattle.words.specs.Name.{is_name, name_of}
-use Rattle.words.specs.Number.{dec_of, hex_of, hexadecimal}
-use Rattle.words.proofs.Decimals.{own, dec_takes, dec_again}
-use Rattle.words.proofs.Hexadecimals.{hex_takes, hex_again}
+use Rattle.std.{specs.{Char.is_ascii_digit, Fmt.decimal, List.list_all}, proofs.Common.{[], ℕ, ◌<◌, ◌^◌, ◌↔◌, ◌∙◌, ◌∷◌, ◌≡◌, ◌≢◌, List}}
+use Rattle.std.proofs.{Common.{None, Some, ap, arith, get_or, length, refl, subst, sym, true}, lemmas.Bool.{and_parts, cond-true}}
+use Rattle.std.proofs.lemmas.{Fmt.{decimal_nonempty, digits_decimal}, Option.{cond_some, none-some}}
+use Rattle.words.{specs.{Name.{is_name, name_of}, Number.{dec_of, hex_of, hexadecimal}}, proofs.Decimals.{dec_again, dec_takes, own}}
+use Rattle.words.proofs.Hexadecimals.{hex_again, hex_takes}
 
 -- decimal words
 

@@ -1,19 +1,13 @@
 -- The parts of a list of bytes round a byte, and what they say of words and lines.
-use Rattle.std.proofs.Common.{◌≡◌, ℕ, ◌+◌, ◌-◌, ◌<◌, ◌==◌, Bool, true, false, cond, nat_lt, List, [], ◌∷◌, length, get_or, take, drop, Option, Some, None, Ok, Err, refl, sym, ap, subst, ◌∙◌, ltb-true, ltb-false, arith}
-use Rattle.std.specs.List.{slice_split, onto_first, position, position_or_len, join_with_byte}
-use Rattle.std.specs.Str.{bytes_eq}
-use Rattle.std.proofs.lemmas.List.Splits.{slice_split_first, slice_split_none, join_with_byte-slice_split}
-use Rattle.std.proofs.lemmas.Slice.Eq.{slice_eq-Decides, bytes_eq-Decides}
-use Rattle.std.proofs.lemmas.Bool.Decides.{same_from_decides}
-use Rattle.std.proofs.lemmas.Option.{none-some}
-use Rattle.std.proofs.lemmas.List.{take_rest}
-use Rattle.std.proofs.lemmas.List.Sums.{fails_before_first, position_or_len_is}
+use Rattle.std.{specs.{List.{join_with_byte, onto_first, position, position_or_len, slice_split}, Str.bytes_eq}, proofs.Common.{[], ℕ, ◌+◌}}
+use Rattle.std.proofs.Common.{◌-◌, ◌<◌, ◌==◌, ◌∙◌, ◌∷◌, ◌≡◌, Bool, Err, List, None, Ok, Option, Some, ap, arith, cond, drop, false, get_or}
+use Rattle.std.proofs.{Common.{length, ltb-false, ltb-true, nat_lt, refl, subst, sym, take, true}, lemmas.Bool.Decides.same_from_decides}
+use Rattle.std.proofs.lemmas.List.{take_rest, Splits.{join_with_byte-slice_split, slice_split_first, slice_split_none}}
+use Rattle.std.proofs.lemmas.{List.Sums.{fails_before_first, position_or_len_is}, Option.none-some, Slice.Eq.bytes_eq-Decides}
+use Rattle.std.proofs.lemmas.Slice.Eq.{slice_eq-Decides}
 use Rattle.memchr.specs.Find.{IsFirstByte, is_byte}
-use Rattle.words.specs.declared.faults.Wrong.TheVariants.{Syntax}
-use Rattle.words.specs.Fault.{fault_at}
-use Rattle.words.specs.FirstFault.{Line, TextLines}
-use Rattle.words.specs.Text.{words_of, lines_of, lines_of_parts, line_is, IsOver, Progress}
-use Rattle.words.specs.Reading.{after_line, ended_at, end_at}
+use Rattle.words.specs.{declared.faults.Wrong.TheVariants.Syntax, Fault.fault_at, FirstFault.{Line, TextLines}, Reading.after_line}
+use Rattle.words.specs.{Reading.{end_at, ended_at}, Text.{IsOver, Progress, line_is, lines_of, lines_of_parts, words_of}}
 
 -- there is a part at least
 pub parts_some : {X : Type 0} (p : X → Bool) (xs : List X)

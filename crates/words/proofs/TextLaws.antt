@@ -1,10 +1,8 @@
 -- A text is the text of its lines, and lines of plain words are the lines of their text.
-use Rattle.std.proofs.Common.{◌≡◌, ℕ, ◌<◌, ◌==◌, false, List, [], ◌∷◌, ◌++◌, map, Some, eq-eqb, refl, sym, ap, ◌∙◌, append_assoc, arith}
-use Rattle.std.specs.List.{slice_split, onto_first, join_with_byte, AllByRecursion}
-use Rattle.std.proofs.lemmas.Bool.{cond-true, cond-false, ne_eqb}
-use Rattle.std.proofs.lemmas.List.Splits.{join_with_byte-slice_split}
-use Rattle.words.specs.Text.{words_of, lines_of, lines_of_parts, text_of, IsPlainWord, IsPlainLine}
-use Rattle.words.proofs.Splits.{line_first}
+use Rattle.std.{specs.List.{AllByRecursion, join_with_byte, onto_first, slice_split}, proofs.Common.{[], ℕ, ◌++◌, ◌<◌, ◌==◌, ◌∙◌, ◌∷◌, ◌≡◌}}
+use Rattle.std.proofs.{Common.{List, Some, ap, append_assoc, arith, eq-eqb, false, map, refl, sym}, lemmas.Bool.{cond-false, cond-true}}
+use Rattle.std.proofs.lemmas.{Bool.ne_eqb, List.Splits.join_with_byte-slice_split}
+use Rattle.words.{specs.Text.{IsPlainLine, IsPlainWord, lines_of, lines_of_parts, text_of, words_of}, proofs.Splits.line_first}
 
 -- from one fact of each element to another, and over two lists joined
 pub each : {X : Type 0} (P Q : X → Type 0) → ((x : X) → P x → Q x) → (xs : List X) → AllByRecursion P xs → AllByRecursion Q xs

@@ -1,13 +1,9 @@
 -- The bytes of a text that was read are those of its lines, and the text of such lines is read.
-use Rattle.std.proofs.Common.{◌≡◌, ◌≢◌, ℕ, List, [], ◌∷◌, ◌++◌, Some, Ok, sym, ap, ◌∙◌}
-use Rattle.std.specs.List.{AllByRecursion}
+use Rattle.std.{specs.List.AllByRecursion, proofs.Common.{[], ℕ, ◌++◌, ◌∙◌, ◌∷◌, ◌≡◌, ◌≢◌, List, Ok, Some, ap, sym}}
 use Rattle.std.proofs.lemmas.List.{map-append}
-use Rattle.words.specs.FirstFault.{ended, Line}
-use Rattle.words.specs.Reading.{last_line, read_format, steps, whole_lines, Format, IsNotLast}
-use Rattle.words.specs.Text.{line_is, lines_of, text_of, IsPlainLine}
-use Rattle.words.proofs.FirstFaults.{is_text, reads}
-use Rattle.words.proofs.Splits.{same_line}
-use Rattle.words.proofs.TextLaws.{each, text_lines, spelled}
+use Rattle.words.specs.{FirstFault.{Line, ended}, Reading.{Format, IsNotLast, last_line, read_format, steps, whole_lines}, Text.IsPlainLine}
+use Rattle.words.{specs.Text.{line_is, lines_of, text_of}, proofs.{FirstFaults.{is_text, reads}, Splits.same_line, TextLaws.each}}
+use Rattle.words.proofs.TextLaws.{spelled, text_lines}
 
 -- a line that isn't the last differs from it
 differs : (line : Line) → IsNotLast line → line ≢ last_line

@@ -1,17 +1,9 @@
 -- What a line that was read says of its words, and that what is spelled is plain.
-use Rattle.std.proofs.Common.{◌≡◌, ℕ, ◌<◌, ◌^◌, Bool, true, nat_lt, List, [], ◌∷◌, ◌++◌, map, codes, Result, Ok, Err, refl, arith, lit<}
-use Rattle.std.specs.List.{list_all, AllByRecursion}
-use Rattle.std.specs.Char.{is_ascii_digit}
-use Rattle.std.specs.Fmt.{decimal}
-use Rattle.std.proofs.lemmas.Bool.{and_parts}
-use Rattle.std.proofs.lemmas.Bool.Decides.{nat_tests, Decides-ltb}
-use Rattle.std.proofs.lemmas.Fmt.{digits_decimal}
-use Rattle.words.specs.declared.faults.Wrong.{Wrong}
-use Rattle.words.specs.Text.{IsPlainWord, IsPlainLine}
-use Rattle.words.specs.Reading.{bind, last_line, word_at, ended_at}
-use Rattle.words.specs.Number.{hexadecimal, is_hex_digit}
-use Rattle.words.specs.Name.{is_name, is_name_byte}
-use Rattle.words.proofs.Decimals.{own}
+use Rattle.std.{specs.{Char.is_ascii_digit, Fmt.decimal, List.{AllByRecursion, list_all}}, proofs.Common.{[], ℕ, ◌++◌, ◌<◌, ◌^◌, ◌∷◌, ◌≡◌}}
+use Rattle.std.proofs.{Common.{Bool, Err, List, Ok, Result, arith, codes, lit<, map, nat_lt, refl, true}, lemmas.Bool.and_parts}
+use Rattle.std.proofs.lemmas.{Bool.Decides.{Decides-ltb, nat_tests}, Fmt.digits_decimal}
+use Rattle.words.specs.{declared.faults.Wrong.Wrong, Name.{is_name, is_name_byte}, Number.{hexadecimal, is_hex_digit}, Reading.bind}
+use Rattle.words.{specs.{Reading.{ended_at, last_line, word_at}, Text.{IsPlainLine, IsPlainWord}}, proofs.Decimals.own}
 use Rattle.words.proofs.HexLaws.{is_hexadecimal-digits}
 
 -- reading in two steps that gave a value: the first gave one, and the second from there

@@ -1,10 +1,7 @@
 -- What a text is refused for, by number and line, and what stands for want of memory (confine's own).
 use Rattle.std.specs.Prelude.{ℕ}
-use Rattle.words.specs.declared.faults.Wrong.{Wrong}
-use Rattle.words.specs.declared.faults.Wrong.TheVariants.{Syntax, UnknownName, Double, Misplaced, Limit, WrongKind, Tree}
-use Rattle.words.specs.declared.faults.LineError.{LineError}
-use Rattle.words.specs.declared.faults.LineError.TheVariants.{Memory, Text}
-use Rattle.words.specs.declared.faults.Fault.{Fault}
+use Rattle.words.specs.declared.faults.{Fault.Fault, LineError.{LineError, TheVariants.{Memory, Text}}, Wrong.{Wrong, TheVariants.Double}}
+use Rattle.words.specs.declared.faults.Wrong.TheVariants.{Limit, Misplaced, Syntax, Tree, UnknownName, WrongKind}
 
 -- the number by which a fault is told
 abbrev pub number_of : Wrong → ℕ

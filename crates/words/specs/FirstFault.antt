@@ -1,13 +1,8 @@
 -- The first fault of a text, in the words of its format: a header, lines each a step of a state, the line `end`, nothing after it.
 -- It is confine's own: a fault is told by the number of its line, from 1, and by what is wrong there.
-use Rattle.std.specs.Prelude.{◌≡◌, ◌≢◌, ℕ, ◌+◌, List, [], ◌∷◌, ◌++◌, length, map, Option, Some, Ok, Err}
-use Rattle.std.specs.List.{AllByRecursion}
-use Rattle.words.specs.declared.faults.Wrong.{Wrong}
-use Rattle.words.specs.declared.faults.Wrong.TheVariants.{Syntax}
-use Rattle.words.specs.declared.faults.Fault.{Fault}
-use Rattle.words.specs.Fault.{fault_at}
-use Rattle.words.specs.Reading.{last_line, steps, Format}
-use Rattle.words.specs.Text.{IsOver}
+use Rattle.std.specs.{List.AllByRecursion, Prelude.{[], ℕ, ◌++◌, ◌+◌, ◌∷◌, ◌≡◌, ◌≢◌, Err, List, Ok, Option, Some, length, map}}
+use Rattle.words.specs.{declared.faults.{Fault.Fault, Wrong.{Wrong, TheVariants.Syntax}}, Fault.fault_at, Reading.{Format, last_line}}
+use Rattle.words.specs.{Reading.steps, Text.IsOver}
 
 -- a line, as its words
 abbrev pub Line : Type 0

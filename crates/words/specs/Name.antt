@@ -1,10 +1,7 @@
 -- Names as texts spell them, which are confine's own: 1 to 31 lower-case letters, digits and `_`, the first a letter.
-use Rattle.std.specs.Prelude.{ℕ, ◌==◌, ◌&&◌, ◌||◌, Bool, false, nat_le, List, [], ◌∷◌, length, Option, Some, None, Result, Ok, if◌then◌else◌}
-use Rattle.std.specs.List.{list_all}
-use Rattle.std.specs.Char.{is_ascii_digit, is_ascii_lowercase}
-use Rattle.words.specs.declared.faults.Wrong.{Wrong}
-use Rattle.words.specs.declared.names.TheConstants.{MAX_NAME_LENGTH}
-use Rattle.words.specs.Reading.{◌>>=◌, word_at, or_syntax}
+use Rattle.std.specs.{Char.{is_ascii_digit, is_ascii_lowercase}, List.list_all, Prelude.{[], ℕ, ◌&&◌, ◌==◌, ◌||◌, ◌∷◌, Bool, List, None}}
+use Rattle.std.specs.Prelude.{Ok, Option, Result, Some, false, if◌then◌else◌, length, nat_le}
+use Rattle.words.specs.{declared.{faults.Wrong.Wrong, names.TheConstants.MAX_NAME_LENGTH}, Reading.{◌>>=◌, or_syntax, word_at}}
 
 -- a byte that may stand in a name, where 95 is `_`
 abbrev pub is_name_byte : ℕ → Bool

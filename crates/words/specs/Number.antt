@@ -1,14 +1,9 @@
 -- Numbers as texts spell them, below 2 ^ 64: decimal without a leading zero, and hexadecimal after `0x` in lower case without one
 -- (confine's own).
-use Rattle.std.specs.Prelude.{ℕ, ◌^◌, ◌==◌, ◌&&◌, ◌||◌, not, Bool, true, false, nat_lt, List, [], ◌∷◌, ◌++◌, take, drop, codes, Option, Some, None, Result, Ok, if◌then◌else◌}
-use Rattle.std.specs.List.{list_all}
-use Rattle.std.specs.Char.{is_ascii_digit}
-use Rattle.std.specs.Int.{is_in_range}
-use Rattle.std.specs.Str.{bytes_eq}
-use Rattle.std.specs.Str.Parse.{digits_value}
-use Rattle.std.specs.Fmt.{digits}
-use Rattle.words.specs.declared.faults.Wrong.{Wrong}
-use Rattle.words.specs.Reading.{◌>>=◌, word_at, or_syntax}
+use Rattle.std.specs.{Char.is_ascii_digit, Fmt.digits, Int.is_in_range, List.list_all, Prelude.{[], ℕ, ◌&&◌, ◌++◌, ◌==◌, ◌^◌, ◌||◌, ◌∷◌}}
+use Rattle.std.specs.Prelude.{Bool, List, None, Ok, Option, Result, Some, codes, drop, false, if◌then◌else◌, nat_lt, not, take, true}
+use Rattle.std.specs.Str.{bytes_eq, Parse.digits_value}
+use Rattle.words.specs.{declared.faults.Wrong.Wrong, Reading.{◌>>=◌, or_syntax, word_at}}
 
 -- at least one digit, and no leading zero but for the digit 0 alone
 abbrev pub has_no_leading_zero : List ℕ → Bool

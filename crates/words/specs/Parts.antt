@@ -1,12 +1,7 @@
 -- The parts of a line: each is read off the words that are left, is spelled as words again, and what it reads is told by what it
 -- spells (confine's own).
-use Rattle.std.specs.Prelude.{◌≡◌, ℕ, List, [], ◌∷◌, ◌++◌, Result, Ok, Err, if◌then◌else◌}
-use Rattle.std.specs.List.{AllByRecursion}
-use Rattle.std.specs.Str.{bytes_eq}
-use Rattle.words.specs.declared.faults.Wrong.{Wrong}
-use Rattle.words.specs.declared.faults.Wrong.TheVariants.{Syntax}
-use Rattle.words.specs.Reading.{◌>>=◌, word_at}
-use Rattle.words.specs.Text.{IsPlainWord}
+use Rattle.std.specs.{List.AllByRecursion, Prelude.{[], ℕ, ◌++◌, ◌∷◌, ◌≡◌, Err, List, Ok, Result, if◌then◌else◌}, Str.bytes_eq}
+use Rattle.words.specs.{declared.faults.Wrong.{Wrong, TheVariants.Syntax}, Reading.{◌>>=◌, word_at}, Text.IsPlainWord}
 
 -- what reads a value off the words that are left, and says which words are left after it
 abbrev pub PartReader : Type 0 → Type 0

@@ -1,13 +1,8 @@
 -- Reading as functions on lists: the words of a line are taken one after another, and so are the lines of a text. The first fault
 -- ends it. The functions are confine's own.
-use Rattle.std.specs.Prelude.{◌≡◌, ◌≢◌, ℕ, ◌+◌, List, [], ◌∷◌, ◌++◌, map, false, Option, Some, None, Result, Ok, Err, if◌then◌else◌, codes}
-use Rattle.words.specs.declared.faults.Wrong.{Wrong}
-use Rattle.words.specs.declared.faults.Wrong.TheVariants.{Syntax}
-use Rattle.words.specs.declared.faults.LineError.{LineError}
-use Rattle.words.specs.declared.faults.LineError.TheVariants.{Memory, Text}
-use Rattle.words.specs.declared.faults.Fault.{Fault}
-use Rattle.words.specs.Fault.{fault_at, no_memory}
-use Rattle.words.specs.Text.{words_of, line_is, text_of, Progress}
+use Rattle.std.specs.Prelude.{[], ℕ, ◌++◌, ◌+◌, ◌∷◌, ◌≡◌, ◌≢◌, Err, List, None, Ok, Option, Result, Some, codes, false, if◌then◌else◌, map}
+use Rattle.words.specs.declared.faults.{Fault.Fault, LineError.{LineError, TheVariants.{Memory, Text}}, Wrong.{Wrong, TheVariants.Syntax}}
+use Rattle.words.specs.{Fault.{fault_at, no_memory}, Text.{Progress, line_is, text_of, words_of}}
 
 -- one step of reading after another: a fault ends it
 unfoldable pub bind : {E X Y : Type 0} → Result X E → (X → Result Y E) → Result Y E

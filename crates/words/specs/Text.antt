@@ -1,9 +1,7 @@
 -- A text as a list of lines and a line as a list of words: a line ends with a line feed, words are parted by one space
 -- (confine's own).
-use Rattle.std.specs.Prelude.{ℕ, ◌==◌, ◌<◌, Bool, List, [], ◌∷◌, ◌++◌, Option, Some, None}
-use Rattle.std.specs.List.{slice_split, flat_map, join_with_byte, AllByRecursion}
-use Rattle.std.specs.Str.{bytes_eq}
-use Rattle.std.specs.Cmp.Lexicographic.{pointwise}
+use Rattle.std.specs.{Cmp.Lexicographic.pointwise, List.{AllByRecursion, flat_map, join_with_byte, slice_split}, Prelude.{[], ℕ, ◌++◌, ◌<◌}}
+use Rattle.std.specs.{Prelude.{◌==◌, ◌∷◌, Bool, List, None, Option, Some}, Str.bytes_eq}
 
 -- the words of a line: two spaces in a row have an empty word between them
 abbrev pub words_of : List ℕ → List (List ℕ)

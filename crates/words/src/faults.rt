@@ -1,6 +1,5 @@
 ghost use Rattle.std.specs.Prelude.{◌≡◌};
-ghost use Rattle.words.specs.declared.faults.LineError.TheVariants.{Memory, Text};
-ghost use Rattle.words.specs.Fault.{fault_at, no_memory, number_of};
+ghost use Rattle.words.specs.{declared.faults.LineError.TheVariants.{Memory, Text}, Fault.{fault_at, no_memory, number_of}};
 
 use std::alloc::{AllocError, AllocFailed};
 use thiserror::Error;

@@ -1,11 +1,6 @@
-ghost use Rattle.std.specs.Prelude.{◌≡◌, ◌+◌, ◌<◌, ◌==◌, ◌++◌, ◌↔◌, ◌⊎◌, ℕ, List, length, Result, Ok, Err};
-ghost use Rattle.std.specs.List.{count_by};
-ghost use Rattle.words.specs.declared.faults.Wrong.{Wrong};
-ghost use Rattle.words.specs.declared.faults.Wrong.TheVariants.{Syntax};
-ghost use Rattle.words.specs.Fault.{fault_at};
-ghost use Rattle.words.specs.FirstFault.{IsFirstFault, IsText, TextLines};
-ghost use Rattle.words.specs.Reading.{read_format, Format};
-ghost use Rattle.words.specs.Text.{lines_of};
+ghost use Rattle.std.specs.{List.count_by, Prelude.{ℕ, ◌++◌, ◌+◌, ◌<◌, ◌==◌, ◌↔◌, ◌≡◌, ◌⊎◌, Err, List, Ok, Result, length}};
+ghost use Rattle.words.specs.{declared.faults.Wrong.{Wrong, TheVariants.Syntax}, Fault.fault_at, FirstFault.{IsFirstFault, IsText}};
+ghost use Rattle.words.specs.{FirstFault.TextLines, Reading.{Format, read_format}, Text.lines_of};
 
 /// A law: a text is refused for its first fault, by the fault's line and by what is wrong there, and is
 /// read just if it has none. So it is read or refused, never both, and for one fault alone.

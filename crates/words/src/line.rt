@@ -1,8 +1,6 @@
-ghost use Rattle.std.specs.Prelude.{◌≡◌, true, drop, [], ◌∷◌, MatchOption, IfOk, IfSome, Ok};
-ghost use Rattle.words.specs.Text.{words_of, line_is};
-ghost use Rattle.words.specs.Reading.{Gives, word_at, ended_at};
-ghost use Rattle.words.specs.Number.{hex_at, number_at};
-ghost use Rattle.words.specs.Name.{is_name, name_at};
+ghost use Rattle.std.specs.Prelude.{[], ◌∷◌, ◌≡◌, IfOk, IfSome, MatchOption, Ok, drop, true};
+ghost use Rattle.words.specs.{Name.{is_name, name_at}, Number.{hex_at, number_at}, Reading.{Gives, ended_at, word_at}, Text.line_is};
+ghost use Rattle.words.specs.Text.{words_of};
 
 use crate::faults::Wrong;
 use crate::names::name_of;
@@ -19,8 +17,7 @@ pub struct Words<'a> {
 }
 
 impl<'a> Model for Words<'a> {
-    ghost use Rattle.std.specs.Prelude.{List, [], ℕ};
-    ghost use Rattle.std.specs.Option.{option_map_or};
+    ghost use Rattle.std.specs.{Option.option_map_or, Prelude.{[], ℕ, List}};
     ghost use Rattle.words.specs.Text.{words_of};
 
     ghost Value = { List (List ℕ) };

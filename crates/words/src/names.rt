@@ -1,6 +1,4 @@
-ghost use Rattle.std.specs.Prelude.{◌≡◌, ◌↔◌, ℕ, List, true, Some, IfSome};
-ghost use Rattle.std.specs.List.{list_all};
-ghost use Rattle.std.specs.Option.{option_copied};
+ghost use Rattle.std.specs.{List.list_all, Option.option_copied, Prelude.{ℕ, ◌↔◌, ◌≡◌, IfSome, List, Some, true}};
 ghost use Rattle.words.specs.Name.{is_name, is_name_byte, name_of, starts_with_letter};
 
 use std::str;

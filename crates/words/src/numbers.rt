@@ -1,7 +1,6 @@
-ghost use Rattle.std.specs.Prelude.{◌≡◌, ◌≢◌, ◌↔◌, ◌+◌, ◌*◌, ◌^◌, ◌<◌, ℕ, List, Some};
-ghost use Rattle.std.specs.Fmt.{decimal};
-ghost use Rattle.std.specs.List.{list_all};
-ghost use Rattle.words.specs.Number.{below_limit, dec_of, hex_of, hex_digits_of, hexadecimal, is_hexadecimal, is_hex_digit, has_no_leading_zero};
+ghost use Rattle.std.specs.{Fmt.decimal, List.list_all, Prelude.{ℕ, ◌*◌, ◌+◌, ◌<◌, ◌^◌, ◌↔◌, ◌≡◌, ◌≢◌, List, Some}};
+ghost use Rattle.words.specs.Number.{below_limit, dec_of, has_no_leading_zero, hex_digits_of, hex_of, hexadecimal, is_hex_digit};
+ghost use Rattle.words.specs.Number.{is_hexadecimal};
 
 use std::str;
 

@@ -1,5 +1,4 @@
-ghost use Rattle.std.specs.Prelude.{◌≡◌, ◌<◌, ◌==◌, [], ◌∷◌, length, position, MatchOption, IfSome};
-ghost use Rattle.std.specs.List.{slice_split};
+ghost use Rattle.std.specs.{List.slice_split, Prelude.{[], ◌<◌, ◌==◌, ◌∷◌, ◌≡◌, IfSome, MatchOption, length, position}};
 
 use memchr::memchr;
 

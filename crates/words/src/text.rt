@@ -1,8 +1,6 @@
-ghost use Rattle.std.specs.Prelude.{◌≡◌, ◌+◌, ◌∷◌, ℕ, List, map, MatchOption};
-ghost use Rattle.std.specs.List.{AllByRecursion};
-ghost use Rattle.words.specs.Text.{lines_of, text_of, words_of, IsOver, IsPlainLine};
-ghost use Rattle.words.specs.Fault.{fault_at, fault_of};
-ghost use Rattle.words.specs.Reading.{Gives, after_line, header_at, end_at};
+ghost use Rattle.std.specs.{List.AllByRecursion, Prelude.{ℕ, ◌+◌, ◌∷◌, ◌≡◌, List, MatchOption, map}};
+ghost use Rattle.words.specs.{Fault.{fault_at, fault_of}, Reading.{Gives, after_line, end_at, header_at}, Text.{IsOver, IsPlainLine}};
+ghost use Rattle.words.specs.Text.{lines_of, text_of, words_of};
 
 use crate::faults::{Fault, LineError, Wrong};
 use crate::line::Words;
@@ -17,8 +15,8 @@ pub struct Lines<'a> {
 }
 
 impl<'a> Model for Lines<'a> {
-    ghost use Rattle.std.specs.Prelude.{◌+◌, ◌^◌, ◌<◌, length};
-    ghost use Rattle.words.specs.Text.{lines_of, Progress};
+    ghost use Rattle.std.specs.Prelude.{◌+◌, ◌<◌, ◌^◌, length};
+    ghost use Rattle.words.specs.Text.{Progress, lines_of};
 
     ghost Value = { Progress };
 

@@ -1,4 +1,4 @@
-ghost use Rattle.std.specs.Prelude.{◌≡◌, ◌&&◌, ◌||◌, ◌==◌, ◌<◌, not, false, true, ℕ, IfNone, IfSome};
+ghost use Rattle.std.specs.Prelude.{ℕ, ◌&&◌, ◌<◌, ◌==◌, ◌||◌, ◌≡◌, IfNone, IfSome, false, not, true};
 ghost use Rattle.base.specs.Labels.{is_in_part};
 
 /// A set of numbers below 64, as a word whose bit at a number says whether the number is in it.

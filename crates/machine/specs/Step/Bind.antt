@@ -1,21 +1,10 @@
 -- Bind and Unbind (seL4 manual, seL4_SchedContext_Bind, seL4_SchedContext_Unbind): a thread runs on a scheduling context, or no more;
 -- and a thread's context goes over to another thread.
-use Rattle.std.specs.Prelude.{ℕ, Option, Some, None, Result, Ok, Err}
-use Rattle.base.specs.declared.ids.ObjId.{ObjId}
-use Rattle.base.specs.declared.refusal.Cause.{Cause}
-use Rattle.base.specs.declared.refusal.Cause.TheVariants as cause
-use Rattle.machine.specs.declared.call.Answer.TheVariants as answer
-use Rattle.machine.specs.declared.call.Made.{Made}
-use Rattle.machine.specs.declared.call.Made.TheVariants.{Done}
-use Rattle.machine.specs.declared.object.Context.{Context}
-use Rattle.machine.specs.declared.object.Object.{Object}
-use Rattle.machine.specs.declared.object.Object.TheVariants as o
-use Rattle.machine.specs.declared.thread.Tcb.{Tcb}
-use Rattle.machine.specs.Changes.{with_context, with_tcb}
-use Rattle.machine.specs.Machine.{Machine, object_of}
-use Rattle.machine.specs.Refusing.{◌>>=◌}
-use Rattle.machine.specs.Releasing.{with_unbound}
-use Rattle.machine.specs.Step.Find.{find_context, find_tcb}
+use Rattle.std.specs.Prelude.{ℕ, Err, None, Ok, Option, Result, Some}
+use Rattle.base.specs.declared.{ids.ObjId.ObjId, refusal.Cause.{Cause, Cause as cause}}
+use Rattle.machine.specs.declared.{call.{Answer.Answer as answer, Made.{Made, TheVariants.Done}}, object.{Context.Context, Object.Object}}
+use Rattle.machine.specs.{declared.{object.Object.Object as o, thread.Tcb.Tcb}, Changes.{with_context, with_tcb}, Machine.Machine}
+use Rattle.machine.specs.{Machine.object_of, Refusing.◌>>=◌, Releasing.with_unbound, Step.Find.{find_context, find_tcb}}
 
 -- the thread that runs on a scheduling context
 abbrev pub thread_on : Option Object → Option ObjId

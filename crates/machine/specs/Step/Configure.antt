@@ -1,18 +1,8 @@
 -- Configure (seL4 manual, seL4_SchedControl_ConfigureFlags): a scheduling context gets a budget and a period on the core of a control.
-use Rattle.std.specs.Prelude.{ℕ, ◌&&◌, Option, Some, Result, Ok, Err, nat_le, if◌then◌else◌}
-use Rattle.base.specs.declared.ids.ObjId.{ObjId}
-use Rattle.base.specs.declared.limits.TheConstants.{MAX_PERIOD}
-use Rattle.base.specs.declared.refusal.Cause.{Cause}
-use Rattle.base.specs.declared.refusal.Cause.TheVariants as cause
-use Rattle.machine.specs.declared.call.Answer.TheVariants as answer
-use Rattle.machine.specs.declared.call.Made.{Made}
-use Rattle.machine.specs.declared.call.Made.TheVariants.{Done}
-use Rattle.machine.specs.declared.object.Object.{Object}
-use Rattle.machine.specs.declared.object.Object.TheVariants as o
-use Rattle.machine.specs.declared.object.Share.{Share}
-use Rattle.machine.specs.Changes.{with_context}
-use Rattle.machine.specs.Machine.{Machine, object_of}
-use Rattle.machine.specs.Refusing.{◌>>=◌}
+use Rattle.std.specs.Prelude.{ℕ, ◌&&◌, Err, Ok, Option, Result, Some, if◌then◌else◌, nat_le}
+use Rattle.base.specs.declared.{ids.ObjId.ObjId, limits.TheConstants.MAX_PERIOD, refusal.Cause.{Cause, Cause as cause}}
+use Rattle.machine.specs.declared.{call.{Answer.Answer as answer, Made.{Made, TheVariants.Done}}, object.Object.{Object, Object as o}}
+use Rattle.machine.specs.{declared.object.Share.Share, Changes.with_context, Machine.{Machine, object_of}, Refusing.◌>>=◌}
 use Rattle.machine.specs.Step.Find.{find_context, find_control}
 
 -- a budget is at least 1, and at most its period, which has a limit

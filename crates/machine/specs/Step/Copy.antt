@@ -1,19 +1,8 @@
 -- Copy (seL4 manual, seL4_CNode_Copy): an empty slot gets a copy of a capability, with those of its rights that are in a mask.
-use Rattle.std.specs.Prelude.{Result, Ok, Err}
-use Rattle.std.specs.Int.RustNames.{bit_and}
-use Rattle.base.specs.declared.ids.ObjId.{ObjId}
-use Rattle.base.specs.declared.refusal.Cause.{Cause}
-use Rattle.base.specs.declared.refusal.Cause.TheVariants as cause
-use Rattle.base.specs.declared.rights.Rights.{Rights}
-use Rattle.machine.specs.declared.call.Answer.TheVariants as answer
-use Rattle.machine.specs.declared.call.Made.{Made}
-use Rattle.machine.specs.declared.call.Made.TheVariants.{Done}
-use Rattle.machine.specs.declared.cap.Detail.{Detail}
-use Rattle.machine.specs.declared.cap.Detail.TheVariants as d
-use Rattle.machine.specs.declared.slot_address.SlotAddress.{SlotAddress}
-use Rattle.machine.specs.Machine.{Machine}
-use Rattle.machine.specs.Refusing.{◌>>=◌}
-use Rattle.machine.specs.Step.Target.{ends_of}
+use Rattle.std.specs.{Int.RustNames.bit_and, Prelude.{Err, Ok, Result}}
+use Rattle.base.specs.declared.{ids.ObjId.ObjId, refusal.Cause.{Cause, Cause as cause}, rights.Rights.Rights}
+use Rattle.machine.specs.declared.{call.{Answer.Answer as answer, Made.{Made, TheVariants.Done}}, cap.Detail.{Detail, Detail as d}}
+use Rattle.machine.specs.{declared.slot_address.SlotAddress.SlotAddress, Machine.Machine, Refusing.◌>>=◌, Step.Target.ends_of}
 use Rattle.machine.specs.Tree.{with_copy}
 
 -- untyped memory isn't copied

@@ -1,17 +1,9 @@
 -- Delete (seL4 manual, seL4_CNode_Delete): a slot loses its capability, and what can't stay without it goes too.
-use Rattle.std.specs.Prelude.{Option, Some, None, Result, Ok}
-use Rattle.base.specs.declared.ids.ObjId.{ObjId}
-use Rattle.base.specs.declared.ids.SlotRef.{SlotRef}
-use Rattle.base.specs.declared.refusal.Cause.{Cause}
-use Rattle.machine.specs.declared.call.Answer.TheVariants as answer
-use Rattle.machine.specs.declared.call.Made.{Made}
-use Rattle.machine.specs.declared.call.Made.TheVariants.{Done}
-use Rattle.machine.specs.declared.cap.Cap.{Cap}
-use Rattle.machine.specs.declared.slot_address.SlotAddress.{SlotAddress}
-use Rattle.machine.specs.Machine.{Machine, cap_of, same_slot}
-use Rattle.machine.specs.Refusing.{◌>>=◌}
-use Rattle.machine.specs.Removal.{removed}
-use Rattle.machine.specs.Step.Target.{target_of}
+use Rattle.std.specs.Prelude.{None, Ok, Option, Result, Some}
+use Rattle.base.specs.declared.{ids.{ObjId.ObjId, SlotRef.SlotRef}, refusal.Cause.Cause}
+use Rattle.machine.specs.declared.{call.{Answer.Answer as answer, Made.{Made, TheVariants.Done}}, cap.Cap.Cap}
+use Rattle.machine.specs.{declared.slot_address.SlotAddress.SlotAddress, Machine.{Machine, cap_of, same_slot}, Refusing.◌>>=◌}
+use Rattle.machine.specs.{Removal.removed, Step.Target.target_of}
 
 -- an empty slot has nothing to lose
 abbrev pub deleted : Machine → SlotRef → Option Cap → Machine

@@ -1,29 +1,15 @@
 -- The delivery of a message (seL4 manual, "Endpoints"; one capability at most, to an empty slot, a copy with all its rights): who
 -- waits at an endpoint, which capability arrives with the message, and how a call waits for its answer.
-use Rattle.std.specs.Prelude.{ℕ, Bool, ◌&&◌, ◌||◌, List, Option, Some, None, Result, Ok, Err, is_ok, option_and_then, option_map, if◌then◌else◌}
-use Rattle.base.specs.declared.ids.ObjId.{ObjId}
-use Rattle.base.specs.declared.refusal.Cause.{Cause}
-use Rattle.base.specs.declared.refusal.Cause.TheVariants as cause
-use Rattle.machine.specs.declared.cap.Badged.{Badged}
-use Rattle.machine.specs.declared.object.Object.{Object}
-use Rattle.machine.specs.declared.object.Object.TheVariants as o
-use Rattle.machine.specs.declared.slot_address.Ends.{Ends}
-use Rattle.machine.specs.declared.slot_address.SlotAddress.{SlotAddress}
-use Rattle.machine.specs.declared.thread.Message.{Message}
-use Rattle.machine.specs.declared.thread.Receiving.{Receiving}
-use Rattle.machine.specs.declared.thread.RunState.{RunState}
+use Rattle.std.specs.Prelude.{ℕ, ◌&&◌, ◌||◌, Bool, Err, List, None, Ok, Option, Result, Some, if◌then◌else◌, is_ok, option_and_then}
+use Rattle.std.specs.Prelude.{option_map}
+use Rattle.base.specs.declared.{ids.ObjId.ObjId, refusal.Cause.{Cause, Cause as cause}}
+use Rattle.machine.specs.declared.{cap.Badged.Badged, object.Object.{Object, Object as o}, slot_address.Ends.Ends}
+use Rattle.machine.specs.declared.{slot_address.SlotAddress.SlotAddress, thread.{Message.Message, Receiving.Receiving, RunState.RunState}}
 use Rattle.machine.specs.declared.thread.RunState.TheVariants as state
-use Rattle.machine.specs.declared.thread.Sending.{Sending}
-use Rattle.machine.specs.declared.thread.Tcb.{Tcb}
-use Rattle.machine.specs.Capabilities.{can_grant, can_grant_reply, can_write}
-use Rattle.machine.specs.Changes.{first_waiting}
-use Rattle.machine.specs.Machine.{Machine, cap_of, object_of}
-use Rattle.machine.specs.Refusing.{◌>>=◌}
-use Rattle.machine.specs.Releasing.{with_called, with_given, with_halted, with_ready}
+use Rattle.machine.specs.{declared.thread.{Sending.Sending, Tcb.Tcb}, Capabilities.{can_grant, can_grant_reply, can_write}}
+use Rattle.machine.specs.{Changes.first_waiting, Machine.{Machine, cap_of, object_of}, Refusing.◌>>=◌, Releasing.{with_called, with_given}}
+use Rattle.machine.specs.{Releasing.{with_halted, with_ready}, Step.{Copy.copyable, Find.{find_cap, permitted}, Target.{target_of, vacant}}}
 use Rattle.machine.specs.Tree.{with_copy}
-use Rattle.machine.specs.Step.Copy.{copyable}
-use Rattle.machine.specs.Step.Find.{find_cap, permitted}
-use Rattle.machine.specs.Step.Target.{target_of, vacant}
 
 -- what is recorded of a message that is sent by a capability to an endpoint: its badge, and what its rights allow
 abbrev pub sending_by : ObjId → Badged → Bool → List ℕ → Option ℕ → Sending

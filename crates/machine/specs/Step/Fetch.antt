@@ -1,18 +1,9 @@
 -- Fetch (confine's own): what the thread was given and has not fetched yet.
-use Rattle.std.specs.Prelude.{Option, Some, None, Result, Ok, Err}
-use Rattle.base.specs.declared.ids.ObjId.{ObjId}
-use Rattle.base.specs.declared.refusal.Cause.{Cause}
-use Rattle.base.specs.declared.refusal.Cause.TheVariants as cause
-use Rattle.machine.specs.declared.call.Answer.{Answer}
-use Rattle.machine.specs.declared.call.Answer.TheVariants as answer
-use Rattle.machine.specs.declared.call.Made.{Made}
-use Rattle.machine.specs.declared.call.Made.TheVariants.{Done}
-use Rattle.machine.specs.declared.object.Object.{Object}
-use Rattle.machine.specs.declared.object.Object.TheVariants as o
-use Rattle.machine.specs.declared.thread.Inbox.{Inbox}
+use Rattle.std.specs.Prelude.{Err, None, Ok, Option, Result, Some}
+use Rattle.base.specs.declared.{ids.ObjId.ObjId, refusal.Cause.{Cause, Cause as cause}}
+use Rattle.machine.specs.declared.{call.{Answer.{Answer, Answer as answer}, Made.{Made, TheVariants.Done}}, object.Object.Object}
+use Rattle.machine.specs.{declared.{object.Object.Object as o, thread.Inbox.Inbox}, Changes.with_tcb, Machine.{Machine, object_of}}
 use Rattle.machine.specs.declared.thread.Inbox.TheVariants as inbox
-use Rattle.machine.specs.Changes.{with_tcb}
-use Rattle.machine.specs.Machine.{Machine, object_of}
 use Rattle.machine.specs.Refusing.{◌>>=◌}
 
 -- what an inbox answers

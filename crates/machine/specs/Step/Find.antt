@@ -1,17 +1,9 @@
 -- What a call finds at an address: a capability to an object of the kind that it wants (seL4 manual, "Capability Address
 -- Lookup").
-use Rattle.std.specs.Prelude.{ℕ, Bool, Option, Some, None, Result, Ok, Err, if◌then◌else◌}
-use Rattle.base.specs.declared.ids.ObjId.{ObjId}
-use Rattle.base.specs.declared.ids.SlotRef.{SlotRef}
-use Rattle.base.specs.declared.refusal.Cause.{Cause}
+use Rattle.std.specs.Prelude.{ℕ, Bool, Err, None, Ok, Option, Result, Some, if◌then◌else◌}
+use Rattle.base.specs.declared.{ids.{ObjId.ObjId, SlotRef.SlotRef}, refusal.Cause.Cause, rights.Rights.Rights}
 use Rattle.base.specs.declared.refusal.Cause.TheVariants as cause
-use Rattle.base.specs.declared.rights.Rights.{Rights}
-use Rattle.machine.specs.declared.cap.Cap.{Cap}
-use Rattle.machine.specs.declared.cap.Badged.{Badged}
-use Rattle.machine.specs.declared.cap.Detail.{Detail}
-use Rattle.machine.specs.declared.cap.Detail.TheVariants as d
-use Rattle.machine.specs.Machine.{Machine, cap_of}
-use Rattle.machine.specs.Lookup.{lookup_of}
+use Rattle.machine.specs.{declared.cap.{Badged.Badged, Cap.Cap, Detail.{Detail, Detail as d}}, Lookup.lookup_of, Machine.{Machine, cap_of}}
 use Rattle.machine.specs.Refusing.{◌>>=◌}
 
 -- what a slot holds; an empty one is an invalid capability

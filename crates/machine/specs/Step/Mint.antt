@@ -1,25 +1,11 @@
 -- Mint (seL4 manual, seL4_CNode_Mint): a copy gets a badge or a guard.
-use Rattle.std.specs.Prelude.{ℕ, ◌+◌, ◌%◌, ◌^◌, ◌==◌, nat_le, Option, Some, Result, Ok, Err, if◌then◌else◌}
-use Rattle.base.specs.declared.ids.ObjId.{ObjId}
-use Rattle.base.specs.declared.refusal.Cause.{Cause}
-use Rattle.base.specs.declared.refusal.Cause.TheVariants as cause
-use Rattle.base.specs.declared.rights.Rights.{Rights}
-use Rattle.machine.specs.declared.call.Answer.TheVariants as answer
-use Rattle.machine.specs.declared.call.CapData.{CapData}
+use Rattle.std.specs.Prelude.{ℕ, ◌%◌, ◌+◌, ◌==◌, ◌^◌, Err, Ok, Option, Result, Some, if◌then◌else◌, nat_le}
+use Rattle.base.specs.declared.{ids.ObjId.ObjId, refusal.Cause.{Cause, Cause as cause}, rights.Rights.Rights}
+use Rattle.machine.specs.declared.{call.{Answer.Answer as answer, CapData.CapData, Made.{Made, TheVariants.Done}}, cap.Badged.Badged}
 use Rattle.machine.specs.declared.call.CapData.TheVariants as given
-use Rattle.machine.specs.declared.call.Made.{Made}
-use Rattle.machine.specs.declared.call.Made.TheVariants.{Done}
-use Rattle.machine.specs.declared.cap.Badged.{Badged}
-use Rattle.machine.specs.declared.cap.Detail.{Detail}
-use Rattle.machine.specs.declared.cap.Detail.TheVariants as d
-use Rattle.machine.specs.declared.object.Object.{Object}
-use Rattle.machine.specs.declared.object.Object.TheVariants as o
-use Rattle.machine.specs.declared.slot_address.SlotAddress.{SlotAddress}
-use Rattle.machine.specs.Machine.{Machine, object_of}
-use Rattle.machine.specs.Refusing.{◌>>=◌}
-use Rattle.machine.specs.Step.Copy.{copyable, masked}
-use Rattle.machine.specs.Step.Target.{ends_of}
-use Rattle.machine.specs.Tree.{with_copy}
+use Rattle.machine.specs.declared.{cap.Detail.{Detail, Detail as d}, object.Object.{Object, Object as o}}
+use Rattle.machine.specs.{declared.slot_address.SlotAddress.SlotAddress, Machine.{Machine, object_of}, Refusing.◌>>=◌, Step.Copy.copyable}
+use Rattle.machine.specs.{Step.{Copy.masked, Target.ends_of}, Tree.with_copy}
 
 -- a badge is given once: to a capability that has none, which is badge 0
 abbrev pub badged : (Badged → Detail) → ℕ → Badged → Result Detail Cause

@@ -1,15 +1,8 @@
 -- Poll (seL4 manual, "Notifications"): answers the word and takes it, or answers 0 where there is none.
-use Rattle.std.specs.Prelude.{ℕ, None, Result, Ok, unwrap_or}
-use Rattle.base.specs.declared.ids.ObjId.{ObjId}
-use Rattle.base.specs.declared.refusal.Cause.{Cause}
-use Rattle.machine.specs.declared.call.Answer.TheVariants as answer
-use Rattle.machine.specs.declared.call.Made.{Made}
-use Rattle.machine.specs.declared.call.Made.TheVariants.{Done}
-use Rattle.machine.specs.Capabilities.{can_read}
-use Rattle.machine.specs.Changes.{with_pending}
-use Rattle.machine.specs.Machine.{Machine, object_of}
-use Rattle.machine.specs.Refusing.{◌>>=◌}
-use Rattle.machine.specs.Step.Find.{find_notification, permitted}
+use Rattle.std.specs.Prelude.{ℕ, None, Ok, Result, unwrap_or}
+use Rattle.base.specs.declared.{ids.ObjId.ObjId, refusal.Cause.Cause}
+use Rattle.machine.specs.{declared.call.{Answer.Answer as answer, Made.{Made, TheVariants.Done}}, Capabilities.can_read}
+use Rattle.machine.specs.{Changes.with_pending, Machine.{Machine, object_of}, Refusing.◌>>=◌, Step.Find.{find_notification, permitted}}
 use Rattle.machine.specs.Step.Signal.{pending_in}
 
 unfoldable pub poll_of : Machine → ObjId → ℕ → Result (Made × Machine) Cause

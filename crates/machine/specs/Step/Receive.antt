@@ -1,23 +1,13 @@
 -- Receive (seL4 manual, seL4_Recv): the message of the thread that waits first to send; where none does, the receiver waits. The
 -- thread that the receiver's reply held until then is halted (confine's own).
-use Rattle.std.specs.Prelude.{ℕ, Option, Some, None, Result, Ok, is_ok}
-use Rattle.base.specs.declared.ids.ObjId.{ObjId}
-use Rattle.base.specs.declared.refusal.Cause.{Cause}
-use Rattle.machine.specs.declared.call.Answer.TheVariants as answer
-use Rattle.machine.specs.declared.call.Made.{Made}
-use Rattle.machine.specs.declared.call.Made.TheVariants.{Done, Blocked}
+use Rattle.std.specs.Prelude.{ℕ, None, Ok, Option, Result, Some, is_ok}
+use Rattle.base.specs.declared.{ids.ObjId.ObjId, refusal.Cause.Cause}
+use Rattle.machine.specs.declared.{call.{Answer.Answer as answer, Made.{Made, TheVariants.{Blocked, Done}}}, slot_address.Ends.Ends}
 use Rattle.machine.specs.declared.object.ReplyState.TheVariants as reply
-use Rattle.machine.specs.declared.slot_address.Ends.{Ends}
-use Rattle.machine.specs.declared.slot_address.SlotAddress.{SlotAddress}
-use Rattle.machine.specs.declared.thread.Receiving.{Receiving}
-use Rattle.machine.specs.declared.thread.RunState.TheVariants as state
-use Rattle.machine.specs.declared.thread.Sending.{Sending}
-use Rattle.machine.specs.Capabilities.{can_read}
-use Rattle.machine.specs.Machine.{Machine}
-use Rattle.machine.specs.Refusing.{◌>>=◌}
-use Rattle.machine.specs.Releasing.{with_blocked, with_holder_halted, with_named}
-use Rattle.machine.specs.Step.Deliver.{arrival_of, first_at, message_of, sender_in, sent, with_arrival}
-use Rattle.machine.specs.Step.Find.{find_endpoint, find_reply, permitted}
+use Rattle.machine.specs.declared.{slot_address.SlotAddress.SlotAddress, thread.{Receiving.Receiving, RunState.RunState as state}}
+use Rattle.machine.specs.{declared.thread.Sending.Sending, Capabilities.can_read, Machine.Machine, Refusing.◌>>=◌, Releasing.with_blocked}
+use Rattle.machine.specs.{Releasing.{with_holder_halted, with_named}, Step.Deliver.{arrival_of, first_at, message_of, sender_in, sent}}
+use Rattle.machine.specs.Step.{Deliver.with_arrival, Find.{find_endpoint, find_reply, permitted}}
 
 -- the reply at an address, if one is given
 abbrev pub find_named_reply : Machine → ObjId → Option ℕ → Result (Option ObjId) Cause

@@ -1,23 +1,12 @@
 -- Reply (seL4 manual, "Reply objects"): the thread that has called through the reply gets the words and can run, and the reply is
 -- free; where none has, nothing changes. The scheduling context that it lent to the thread that answers goes back to it.
-use Rattle.std.specs.Prelude.{ℕ, Bool, false, ◌&&◌, List, Option, Some, None, Result, Ok, if◌then◌else◌}
-use Rattle.base.specs.declared.ids.ObjId.{ObjId}
-use Rattle.base.specs.declared.refusal.Cause.{Cause}
+use Rattle.std.specs.Prelude.{ℕ, ◌&&◌, Bool, List, None, Ok, Option, Result, Some, false, if◌then◌else◌}
+use Rattle.base.specs.declared.{ids.ObjId.ObjId, refusal.Cause.Cause}
 use Rattle.machine.specs.declared.call.Answer.TheVariants as answer
-use Rattle.machine.specs.declared.call.Made.{Made}
-use Rattle.machine.specs.declared.call.Made.TheVariants.{Done}
-use Rattle.machine.specs.declared.object.Object.{Object}
-use Rattle.machine.specs.declared.object.Object.TheVariants as o
-use Rattle.machine.specs.declared.object.ReplyState.{ReplyState}
+use Rattle.machine.specs.declared.{call.Made.{Made, TheVariants.Done}, object.{Object.{Object, Object as o}, ReplyState.ReplyState}}
 use Rattle.machine.specs.declared.object.ReplyState.TheVariants as reply
-use Rattle.machine.specs.declared.thread.Lent.{Lent}
-use Rattle.machine.specs.declared.thread.RunState.{RunState}
-use Rattle.machine.specs.declared.thread.RunState.TheVariants as state
-use Rattle.machine.specs.Machine.{Machine, object_of, same_id}
-use Rattle.machine.specs.Refusing.{◌>>=◌}
-use Rattle.machine.specs.Releasing.{with_given}
-use Rattle.machine.specs.Step.Bind.{context_under, with_handed}
-use Rattle.machine.specs.Step.Find.{find_reply}
+use Rattle.machine.specs.{declared.thread.{Lent.Lent, RunState.{RunState, RunState as state}}, Machine.{Machine, object_of, same_id}}
+use Rattle.machine.specs.{Refusing.◌>>=◌, Releasing.with_given, Step.{Bind.{context_under, with_handed}, Find.find_reply}}
 
 -- the thread that has called through a reply
 abbrev pub caller_in : Option Object → Option ObjId

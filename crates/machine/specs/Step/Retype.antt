@@ -1,32 +1,16 @@
 -- Retype (seL4 manual, seL4_Untyped_Retype): untyped memory becomes objects of one kind, whose capabilities come into the slots of
 -- a window of a CNode.
-use Rattle.std.specs.Prelude.{ℕ, ◌+◌, ◌*◌, ◌^◌, ◌&&◌, nat_le, nat_lt, List, [], ◌∷◌, map, Option, Some, None, Result, Ok, Err}
-use Rattle.std.specs.Prelude.{if◌then◌else◌}
-use Rattle.std.specs.List.{range_with_len}
-use Rattle.base.specs.declared.ids.ObjId.{ObjId}
-use Rattle.base.specs.declared.ids.SlotRef.{SlotRef}
-use Rattle.base.specs.declared.limits.TheConstants.{MAX_MADE, MAX_PRESENT, MAX_RADIX, MAX_SLOTS, MAX_THREADS, OBJECT_NUMBERS}
-use Rattle.base.specs.declared.refusal.Cause.{Cause}
-use Rattle.base.specs.declared.refusal.Cause.TheVariants as cause
+use Rattle.std.specs.{List.range_with_len, Prelude.{[], ℕ, ◌&&◌, ◌*◌, ◌+◌, ◌^◌, ◌∷◌, Err, List, None, Ok, Option, Result, Some}}
+use Rattle.std.specs.Prelude.{if◌then◌else◌, map, nat_le, nat_lt}
+use Rattle.base.specs.declared.{ids.{ObjId.ObjId, SlotRef.SlotRef}, limits.TheConstants.{MAX_MADE, MAX_PRESENT, MAX_RADIX, MAX_SLOTS}}
+use Rattle.base.specs.declared.{limits.TheConstants.{MAX_THREADS, OBJECT_NUMBERS}, refusal.Cause.{Cause, Cause as cause}}
 use Rattle.base.specs.declared.refusal.LookupFailure.TheVariants.{MissingCapability}
-use Rattle.machine.specs.declared.call.Answer.TheVariants as answer
-use Rattle.machine.specs.declared.call.Made.{Made}
-use Rattle.machine.specs.declared.call.Made.TheVariants.{Done}
-use Rattle.machine.specs.declared.cap.Detail.{Detail}
-use Rattle.machine.specs.declared.cap.Detail.TheVariants as d
-use Rattle.machine.specs.declared.object.MemoryKind.{MemoryKind}
+use Rattle.machine.specs.declared.{call.{Answer.Answer as answer, Made.{Made, TheVariants.Done}}, cap.Detail.{Detail, Detail as d}}
+use Rattle.machine.specs.{declared.object.{MemoryKind.MemoryKind, Object.{Object, Object as o}, Untyped.Untyped}, Counts.objects_in}
 use Rattle.machine.specs.declared.object.MemoryKind.TheVariants as kind
-use Rattle.machine.specs.declared.object.Object.{Object}
-use Rattle.machine.specs.declared.object.Object.TheVariants as o
-use Rattle.machine.specs.declared.object.Untyped.{Untyped}
-use Rattle.machine.specs.Counts.{objects_in, slots_in, threads_in}
-use Rattle.machine.specs.Lookup.{Level, level_at, lookup_of}
-use Rattle.machine.specs.Machine.{Machine, object_of, cap_of}
-use Rattle.machine.specs.Memory.{Source, all_taken, begun, new_object, new_size, with_all_made}
-use Rattle.machine.specs.Objects.{end_of, slot_count, thread_count}
-use Rattle.machine.specs.Refusing.{◌>>=◌}
-use Rattle.machine.specs.Step.Find.{find_cap}
-use Rattle.machine.specs.Step.Target.{vacant}
+use Rattle.machine.specs.{Counts.{slots_in, threads_in}, Lookup.{Level, level_at, lookup_of}, Machine.{Machine, cap_of, object_of}}
+use Rattle.machine.specs.{Memory.{Source, all_taken, begun, new_object, new_size, with_all_made}, Objects.{end_of, slot_count}}
+use Rattle.machine.specs.{Objects.thread_count, Refusing.◌>>=◌, Step.{Find.find_cap, Target.vacant}}
 
 -- a capability that has to be an untyped's
 abbrev pub of_untyped : Detail → Result (Unit {0}) Cause

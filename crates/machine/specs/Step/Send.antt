@@ -1,23 +1,14 @@
 -- Send and Call (seL4 manual, seL4_Send and seL4_Call): the message goes to the thread that waits first to receive; where none does,
 -- the sender waits. A call waits for its answer, and lends its scheduling context to a receiver that has none ("Scheduling Contexts",
 -- passive servers).
-use Rattle.std.specs.Prelude.{ℕ, Bool, List, Option, Some, None, Result, Ok}
-use Rattle.base.specs.declared.ids.ObjId.{ObjId}
-use Rattle.base.specs.declared.refusal.Cause.{Cause}
+use Rattle.std.specs.Prelude.{ℕ, Bool, List, None, Ok, Option, Result, Some}
+use Rattle.base.specs.declared.{ids.ObjId.ObjId, refusal.Cause.Cause}
 use Rattle.machine.specs.declared.call.Answer.TheVariants as answer
-use Rattle.machine.specs.declared.call.Made.{Made}
-use Rattle.machine.specs.declared.call.Made.TheVariants.{Done, Blocked}
-use Rattle.machine.specs.declared.thread.Lent.{Lent}
-use Rattle.machine.specs.declared.thread.Receiving.{Receiving}
-use Rattle.machine.specs.declared.thread.RunState.TheVariants as state
-use Rattle.machine.specs.declared.thread.Sending.{Sending}
-use Rattle.machine.specs.Capabilities.{can_write}
-use Rattle.machine.specs.Machine.{Machine, object_of}
-use Rattle.machine.specs.Refusing.{◌>>=◌}
-use Rattle.machine.specs.Releasing.{with_blocked, with_called, with_halted}
-use Rattle.machine.specs.Step.Bind.{context_under, with_handed}
-use Rattle.machine.specs.Step.Deliver.{answer_through, delivered, first_at, receiver_in, sending_by}
-use Rattle.machine.specs.Step.Find.{find_endpoint, permitted}
+use Rattle.machine.specs.declared.{call.Made.{Made, TheVariants.{Blocked, Done}}, thread.{Lent.Lent, Receiving.Receiving}}
+use Rattle.machine.specs.{declared.thread.{RunState.RunState as state, Sending.Sending}, Capabilities.can_write, Machine.Machine}
+use Rattle.machine.specs.{Machine.object_of, Refusing.◌>>=◌, Releasing.{with_blocked, with_called, with_halted}, Step.Bind.context_under}
+use Rattle.machine.specs.Step.{Bind.with_handed, Deliver.{answer_through, delivered, first_at, receiver_in, sending_by}, Find.find_endpoint}
+use Rattle.machine.specs.Step.Find.{permitted}
 
 -- a message goes to a receiver, or its sender waits
 abbrev pub sent_or_waits : Machine → ObjId → Sending → Option (ObjId × Receiving) → Made × Machine

@@ -1,20 +1,11 @@
 -- Signal (seL4 manual, "Notifications"): the first thread that waits gets the badge and is ready, else the badge joins the word.
-use Rattle.std.specs.Prelude.{ℕ, Option, Some, None, Result, Ok, unwrap_or}
-use Rattle.std.specs.Int.RustNames.{bit_or}
-use Rattle.base.specs.declared.ids.ObjId.{ObjId}
-use Rattle.base.specs.declared.refusal.Cause.{Cause}
-use Rattle.machine.specs.declared.call.Answer.TheVariants as answer
-use Rattle.machine.specs.declared.call.Made.{Made}
-use Rattle.machine.specs.declared.call.Made.TheVariants.{Done}
-use Rattle.machine.specs.declared.object.Object.{Object}
-use Rattle.machine.specs.declared.object.Object.TheVariants as o
+use Rattle.std.specs.{Int.RustNames.bit_or, Prelude.{ℕ, None, Ok, Option, Result, Some, unwrap_or}}
+use Rattle.base.specs.declared.{ids.ObjId.ObjId, refusal.Cause.Cause}
+use Rattle.machine.specs.declared.{call.{Answer.Answer as answer, Made.{Made, TheVariants.Done}}, object.Object.{Object, Object as o}}
 use Rattle.machine.specs.declared.thread.Inbox.TheVariants as inbox
 use Rattle.machine.specs.declared.thread.RunState.TheVariants as state
-use Rattle.machine.specs.Capabilities.{can_write}
-use Rattle.machine.specs.Changes.{with_pending, with_tcb, first_waiting, without_first}
-use Rattle.machine.specs.Machine.{Machine, object_of}
-use Rattle.machine.specs.Refusing.{◌>>=◌}
-use Rattle.machine.specs.Step.Find.{find_notification, permitted}
+use Rattle.machine.specs.{Capabilities.can_write, Changes.{first_waiting, with_pending, with_tcb, without_first}, Machine.Machine}
+use Rattle.machine.specs.{Machine.object_of, Refusing.◌>>=◌, Step.Find.{find_notification, permitted}}
 
 -- the word of a notification, if it has one
 abbrev pub pending_in : Option Object → Option ℕ

@@ -1,19 +1,9 @@
 -- Setspace and Clearspace (seL4 manual, seL4_TCB_SetSpace; confine's own as two calls): a thread gets another root for its capability
 -- space, or loses the one that it has.
-use Rattle.std.specs.Prelude.{ℕ, Option, Some, Result, Ok}
-use Rattle.base.specs.declared.ids.ObjId.{ObjId}
-use Rattle.base.specs.declared.ids.SlotRef.{SlotRef}
-use Rattle.base.specs.declared.refusal.Cause.{Cause}
-use Rattle.machine.specs.declared.call.Answer.TheVariants as answer
-use Rattle.machine.specs.declared.call.Made.{Made}
-use Rattle.machine.specs.declared.call.Made.TheVariants.{Done}
-use Rattle.machine.specs.declared.cap.Cap.{Cap}
-use Rattle.machine.specs.Lookup.{root_of}
-use Rattle.machine.specs.Machine.{Machine, cap_of}
-use Rattle.machine.specs.Refusing.{◌>>=◌}
-use Rattle.machine.specs.Step.Delete.{deleted}
-use Rattle.machine.specs.Step.Find.{find_cap, find_tcb}
-use Rattle.machine.specs.Step.Target.{of_cnode}
+use Rattle.std.specs.Prelude.{ℕ, Ok, Option, Result, Some}
+use Rattle.base.specs.declared.{ids.{ObjId.ObjId, SlotRef.SlotRef}, refusal.Cause.Cause}
+use Rattle.machine.specs.{declared.{call.{Answer.Answer as answer, Made.{Made, TheVariants.Done}}, cap.Cap.Cap}, Lookup.root_of}
+use Rattle.machine.specs.{Machine.{Machine, cap_of}, Refusing.◌>>=◌, Step.{Delete.deleted, Find.{find_cap, find_tcb}, Target.of_cnode}}
 use Rattle.machine.specs.Tree.{with_copy}
 
 -- a thread's root slot loses its capability, and what can't stay without it goes too

@@ -1,19 +1,10 @@
 -- Suspend and Resume (seL4 manual, seL4_TCB_Suspend, seL4_TCB_Resume): a thread stops, or goes on. One that is blocked and goes on is
 -- aborted (confine's own).
-use Rattle.std.specs.Prelude.{ℕ, Option, Some, Result, Ok}
-use Rattle.base.specs.declared.ids.ObjId.{ObjId}
-use Rattle.base.specs.declared.refusal.Cause.{Cause}
-use Rattle.machine.specs.declared.call.Answer.TheVariants as answer
-use Rattle.machine.specs.declared.call.Made.{Made}
-use Rattle.machine.specs.declared.call.Made.TheVariants.{Done}
-use Rattle.machine.specs.declared.object.Object.{Object}
-use Rattle.machine.specs.declared.object.Object.TheVariants as o
-use Rattle.machine.specs.declared.thread.RunState.{RunState}
-use Rattle.machine.specs.declared.thread.RunState.TheVariants as state
-use Rattle.machine.specs.Machine.{Machine, object_of}
-use Rattle.machine.specs.Refusing.{◌>>=◌}
-use Rattle.machine.specs.Releasing.{with_aborted, with_ready, with_suspended}
-use Rattle.machine.specs.Step.Find.{find_tcb}
+use Rattle.std.specs.Prelude.{ℕ, Ok, Option, Result, Some}
+use Rattle.base.specs.declared.{ids.ObjId.ObjId, refusal.Cause.Cause}
+use Rattle.machine.specs.declared.{call.{Answer.Answer as answer, Made.{Made, TheVariants.Done}}, object.Object.{Object, Object as o}}
+use Rattle.machine.specs.{declared.thread.RunState.{RunState, RunState as state}, Machine.{Machine, object_of}, Refusing.◌>>=◌}
+use Rattle.machine.specs.{Releasing.{with_aborted, with_ready, with_suspended}, Step.Find.find_tcb}
 
 unfoldable pub suspend_of : Machine → ObjId → ℕ → Result (Made × Machine) Cause
 suspend_of m caller address = do

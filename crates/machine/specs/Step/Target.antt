@@ -1,20 +1,10 @@
 -- The slots that a call names below a CNode: an empty one to fill, and a filled one to take from (seL4 manual, "Capability Address
 -- Lookup"; the order of the conditions is confine's own).
-use Rattle.std.specs.Prelude.{ℕ, ◌==◌, ◌&&◌, nat_le, Option, Some, None, Result, Ok, Err, if◌then◌else◌}
-use Rattle.base.specs.declared.ids.ObjId.{ObjId}
-use Rattle.base.specs.declared.ids.SlotRef.{SlotRef}
-use Rattle.base.specs.declared.refusal.Cause.{Cause}
-use Rattle.base.specs.declared.refusal.Cause.TheVariants as cause
-use Rattle.base.specs.declared.refusal.LookupFailure.TheVariants.{InvalidRoot, MissingCapability, DepthMismatch}
-use Rattle.machine.specs.declared.cap.Cap.{Cap}
-use Rattle.machine.specs.declared.cap.Detail.{Detail}
-use Rattle.machine.specs.declared.cap.Detail.TheVariants as d
-use Rattle.machine.specs.declared.slot_address.Ends.{Ends}
-use Rattle.machine.specs.declared.slot_address.SlotAddress.{SlotAddress}
-use Rattle.machine.specs.Bits.{bits}
-use Rattle.machine.specs.Lookup.{Level, level_at, walk, counted, lookup_of}
-use Rattle.machine.specs.Machine.{Machine, cap_of}
-use Rattle.machine.specs.Refusing.{◌>>=◌}
+use Rattle.std.specs.Prelude.{ℕ, ◌&&◌, ◌==◌, Err, None, Ok, Option, Result, Some, if◌then◌else◌, nat_le}
+use Rattle.base.specs.declared.{ids.{ObjId.ObjId, SlotRef.SlotRef}, refusal.Cause.{Cause, Cause as cause}}
+use Rattle.base.specs.declared.refusal.LookupFailure.TheVariants.{DepthMismatch, InvalidRoot, MissingCapability}
+use Rattle.machine.specs.declared.{cap.{Cap.Cap, Detail.{Detail, Detail as d}}, slot_address.{Ends.Ends, SlotAddress.SlotAddress}}
+use Rattle.machine.specs.{Bits.bits, Lookup.{Level, counted, level_at, lookup_of, walk}, Machine.{Machine, cap_of}, Refusing.◌>>=◌}
 use Rattle.machine.specs.Step.Find.{find_cap}
 
 -- a lookup begins at a CNode

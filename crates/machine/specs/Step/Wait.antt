@@ -1,18 +1,10 @@
 -- Wait (seL4 manual, "Notifications"): answers the word and takes it; where there is none, the thread waits for one, after those
 -- that wait already.
-use Rattle.std.specs.Prelude.{ℕ, Option, Some, None, Result, Ok}
-use Rattle.base.specs.declared.ids.ObjId.{ObjId}
-use Rattle.base.specs.declared.refusal.Cause.{Cause}
-use Rattle.machine.specs.declared.call.Answer.TheVariants as answer
-use Rattle.machine.specs.declared.call.Made.{Made}
-use Rattle.machine.specs.declared.call.Made.TheVariants.{Done, Blocked}
-use Rattle.machine.specs.declared.thread.RunState.TheVariants as state
-use Rattle.machine.specs.Capabilities.{can_read}
-use Rattle.machine.specs.Changes.{with_pending}
-use Rattle.machine.specs.Machine.{Machine, object_of}
-use Rattle.machine.specs.Refusing.{◌>>=◌}
-use Rattle.machine.specs.Releasing.{with_blocked}
-use Rattle.machine.specs.Step.Find.{find_notification, permitted}
+use Rattle.std.specs.Prelude.{ℕ, None, Ok, Option, Result, Some}
+use Rattle.base.specs.declared.{ids.ObjId.ObjId, refusal.Cause.Cause}
+use Rattle.machine.specs.declared.call.{Answer.Answer as answer, Made.{Made, TheVariants.{Blocked, Done}}}
+use Rattle.machine.specs.{declared.thread.RunState.RunState as state, Capabilities.can_read, Changes.with_pending, Machine.Machine}
+use Rattle.machine.specs.{Machine.object_of, Refusing.◌>>=◌, Releasing.with_blocked, Step.Find.{find_notification, permitted}}
 use Rattle.machine.specs.Step.Signal.{pending_in}
 
 -- the word is taken, or the caller waits

@@ -1,16 +1,8 @@
 -- Read and Write (confine's own): one word of a frame's memory, through the frame's capability.
-use Rattle.std.specs.Prelude.{ℕ, List, Option, Some, None, Result, Ok, Err, nat_lt, slice_index, if◌then◌else◌}
-use Rattle.base.specs.declared.ids.ObjId.{ObjId}
-use Rattle.base.specs.declared.refusal.Cause.{Cause}
-use Rattle.base.specs.declared.refusal.Cause.TheVariants as cause
-use Rattle.machine.specs.declared.call.Answer.TheVariants as answer
-use Rattle.machine.specs.declared.call.Made.{Made}
-use Rattle.machine.specs.declared.call.Made.TheVariants.{Done}
-use Rattle.machine.specs.Capabilities.{can_read, can_write}
-use Rattle.machine.specs.Changes.{with_word}
-use Rattle.machine.specs.Machine.{Machine, words_of}
-use Rattle.machine.specs.Refusing.{◌>>=◌}
-use Rattle.machine.specs.Step.Find.{find_frame, permitted}
+use Rattle.std.specs.Prelude.{ℕ, Err, List, None, Ok, Option, Result, Some, if◌then◌else◌, nat_lt, slice_index}
+use Rattle.base.specs.declared.{ids.ObjId.ObjId, refusal.Cause.{Cause, Cause as cause}}
+use Rattle.machine.specs.{declared.call.{Answer.Answer as answer, Made.{Made, TheVariants.Done}}, Capabilities.{can_read, can_write}}
+use Rattle.machine.specs.{Changes.with_word, Machine.{Machine, words_of}, Refusing.◌>>=◌, Step.Find.{find_frame, permitted}}
 
 -- a frame has 512 words
 abbrev pub in_frame : ℕ → Result (Unit {0}) Cause

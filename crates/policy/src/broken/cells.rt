@@ -1,4 +1,4 @@
-ghost use Rattle.std.specs.Prelude.{◌≡◌, ℕ};
+ghost use Rattle.std.specs.Prelude.{ℕ, ◌≡◌};
 ghost use Rattle.policy.specs.Search.{FindsCell};
 
 use base::{Kind, Label, Labels};

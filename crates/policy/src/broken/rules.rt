@@ -1,10 +1,7 @@
-ghost use Rattle.std.specs.Prelude.{◌≡◌, ◌≢◌, ◌↔◌, ◌∷◌, [], ℕ, true, false, IsTrue};
-ghost use Rattle.base.specs.Kinds.{is_structural};
-ghost use Rattle.base.specs.Labels.{is_in};
-ghost use Rattle.policy.specs.Closed.{IsGivenByControl};
-ghost use Rattle.policy.specs.Broken.{SubjectsDisagree, ControlLacks, GrantLacks, DomainLacks, DeriveLacks, ReplyLacks, LentLacks, p1, p2, p3, p4, p5, p6, p7, p8};
-ghost use Rattle.policy.specs.Policy.{allows};
-ghost use Rattle.policy.specs.Search.{FindsBroken};
+ghost use Rattle.std.specs.Prelude.{[], ℕ, ◌↔◌, ◌∷◌, ◌≡◌, ◌≢◌, IsTrue, false, true};
+ghost use Rattle.base.specs.{Kinds.is_structural, Labels.is_in};
+ghost use Rattle.policy.specs.Broken.{ControlLacks, DeriveLacks, DomainLacks, GrantLacks, LentLacks, ReplyLacks, SubjectsDisagree, p1, p2};
+ghost use Rattle.policy.specs.{Broken.{p3, p4, p5, p6, p7, p8}, Closed.IsGivenByControl, Policy.allows, Search.FindsBroken};
 
 use super::Broken;
 use super::cells::first_cell;

@@ -1,14 +1,9 @@
-ghost use Rattle.std.specs.Prelude.{◌≡◌, ◌∷◌, ◌↔◌, ◌≤◌, ◌⊎◌, [], ℕ, false, true, Some};
-ghost use Rattle.base.specs.declared.ids.ObjId.{ObjId as Id};
+ghost use Rattle.std.specs.Prelude.{[], ℕ, ◌↔◌, ◌∷◌, ◌≡◌, ◌≤◌, ◌⊎◌, Some, false, true};
+ghost use Rattle.base.specs.{declared.ids.ObjId.ObjId as Id, Kinds.kind_number};
 ghost use Rattle.base.specs.declared.kind.Kind.TheVariants as authority;
-ghost use Rattle.base.specs.Kinds.{kind_number};
-ghost use Rattle.machine.specs.Authority.{label_of, lent_of, state_links};
-ghost use Rattle.machine.specs.Machine.{object_of};
-ghost use Rattle.policy.specs.Places.{FindsLeast};
-ghost use Rattle.policy.specs.Policy.{allows};
-ghost use Rattle.verdict.specs.Outside.{LiesUnder};
-ghost use Rattle.verdict.specs.Rules.{a4, a5, a6};
-ghost use Rattle.verdict.specs.Sources.{context_in, lends_in, holds_in, keeps_in};
+ghost use Rattle.machine.specs.{Authority.{label_of, lent_of, state_links}, Machine.object_of};
+ghost use Rattle.policy.specs.{Places.FindsLeast, Policy.allows};
+ghost use Rattle.verdict.specs.{Outside.LiesUnder, Rules.{a4, a5, a6}, Sources.{context_in, holds_in, keeps_in, lends_in}};
 ghost use Rattle.verdict.specs.Verdict.{place_of};
 
 use crate::Denial;

@@ -1,4 +1,4 @@
-use Rattle.base.proofs.RightsWords.{rights_word-rights_of_word, rights_of_word-rights_word, named_iff, rights_once}
+use Rattle.base.proofs.RightsWords.{named_iff, rights_of_word-rights_word, rights_once, rights_word-rights_of_word}
 use Rattle.base.proofs.rights.rights_words_are_read_back.Goals as goal
 
 pub returns : goal.returns

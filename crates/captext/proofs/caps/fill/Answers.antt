@@ -1,10 +1,7 @@
 -- What the tests found is what the table asks of a capability.
-use Rattle.std.proofs.Common.{◌≡◌, true, false, sym, ap, ◌∙◌}
-use Rattle.table.specs.Building.{declares_slot}
-use Rattle.table.specs.Rules.{kind_at}
-use Rattle.captext.specs.Tables.{is_claimed, may_fill}
-use Rattle.captext.proofs.Admits.{admits_cap}
-use Rattle.captext.proofs.CapLines.{target_takes}
+use Rattle.std.proofs.Common.{◌∙◌, ◌≡◌, ap, false, sym, true}
+use Rattle.table.specs.{Building.declares_slot, Rules.kind_at}
+use Rattle.captext.{specs.Tables.{is_claimed, may_fill}, proofs.{Admits.admits_cap, CapLines.target_takes}}
 use Rattle.captext.proofs.caps.fill.Goals as goal
 
 pub add_cap-requires : goal.add_cap-requires

@@ -1,5 +1,4 @@
-use Rattle.captext.proofs.NameLaws.{label_iff}
-use Rattle.captext.proofs.PolicyLaws.{policy_iff, policy_once}
+use Rattle.captext.proofs.{NameLaws.label_iff, PolicyLaws.{policy_iff, policy_once}}
 use Rattle.captext.proofs.policies.policies_are_read_back.Goals as goal
 
 pub returns : goal.returns

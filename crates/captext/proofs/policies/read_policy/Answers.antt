@@ -1,10 +1,6 @@
 -- What is read is what the definition says, and the laws of that.
-use Rattle.words.proofs.FirstFaults.{faults, refused_for}
-use Rattle.words.proofs.ListLaws.{found, only}
-use Rattle.words.specs.Text.{lines_of}
-use Rattle.captext.specs.Policies.{policy_format, read_policy_of}
-use Rattle.captext.specs.PolicyText.{policy_header}
-use Rattle.captext.proofs.PolicyLaws.{format, plain_header}
+use Rattle.words.{specs.Text.lines_of, proofs.{FirstFaults.{faults, refused_for}, ListLaws.{found, only}}}
+use Rattle.captext.{specs.{Policies.{policy_format, read_policy_of}, PolicyText.policy_header}, proofs.PolicyLaws.{format, plain_header}}
 use Rattle.captext.proofs.policies.read_policy.Goals as goal
 
 pub returns : goal.returns

@@ -1,16 +1,10 @@
 -- The places where the reading begins and ends, each by its law.
-use Rattle.std.proofs.Common.{◌≡◌, ℕ, ◌+◌, List, Option, Result, Ok, Err, sym, ap, ◌∙◌, subst}
-use Rattle.std.proofs.lemmas.Result.{err_from_is_err_and}
-use Rattle.machine.specs.declared.layout.Version.{Version}
-use Rattle.machine.specs.Layout.{Layout, empty_layout}
-use Rattle.words.specs.Reading.{header_at, judged, read_text}
-use Rattle.words.specs.Text.{Progress, lines_of}
-use Rattle.words.specs.declared.faults.Fault.{Fault}
-use Rattle.words.specs.declared.faults.Wrong.TheVariants.{Syntax, Tree}
-use Rattle.words.specs.Fault.{fault_at}
-use Rattle.words.proofs.ReadingLaws.{begins, ends_followed, ends_judged, ends_misjudged, no_beginning, no_more, stops_by}
-use Rattle.captext.specs.TableText.{table_header}
-use Rattle.captext.specs.Tables.{grown, table_line, read_table_of}
+use Rattle.std.proofs.{Common.{ℕ, ◌+◌, ◌∙◌, ◌≡◌, Err, List, Ok, Option, Result, ap, subst, sym}, lemmas.Result.err_from_is_err_and}
+use Rattle.machine.specs.{declared.layout.Version.Version, Layout.{Layout, empty_layout}}
+use Rattle.words.specs.{declared.faults.{Fault.Fault, Wrong.TheVariants.{Syntax, Tree}}, Fault.fault_at, Reading.{header_at, judged}}
+use Rattle.words.{specs.{Reading.read_text, Text.{Progress, lines_of}}, proofs.ReadingLaws.{begins, ends_followed, ends_judged}}
+use Rattle.words.proofs.ReadingLaws.{ends_misjudged, no_beginning, no_more, stops_by}
+use Rattle.captext.specs.{TableText.table_header, Tables.{grown, read_table_of, table_line}}
 use Rattle.captext.proofs.tables.table_of.Goals as goal
 
 -- what a text of a version gives

@@ -1,7 +1,7 @@
 -- What the lines left make of the draft so far is what the whole text makes.
 use Rattle.std.proofs.Common.{◌≡◌, length}
 use Rattle.words.specs.Reading.{judged, read_lines}
-use Rattle.captext.specs.Tables.{grown, table_line, read_table_of}
+use Rattle.captext.specs.Tables.{grown, read_table_of, table_line}
 use Rattle.captext.proofs.tables.table_of.Given as goal
 
 abbrev pub invariant-loop-words : goal.invariant-loop-words

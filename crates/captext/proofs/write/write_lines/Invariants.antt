@@ -1,4 +1,4 @@
-use Rattle.std.proofs.Common.{◌≡◌, ◌++◌, take, map, string_bytes}
+use Rattle.std.proofs.Common.{◌++◌, ◌≡◌, map, string_bytes, take}
 use Rattle.words.specs.Text.{text_of}
 use Rattle.captext.proofs.write.write_lines.Given as goal
 

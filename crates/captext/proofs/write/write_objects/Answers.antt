@@ -1,6 +1,5 @@
-use Rattle.std.proofs.Common.{[], length, get_or, arith, ap, ◌∙◌}
-use Rattle.captext.specs.TableText.{object_words}
-use Rattle.captext.proofs.Written.{named_all, named_more}
+use Rattle.std.proofs.Common.{[], ◌∙◌, ap, arith, get_or, length}
+use Rattle.captext.{specs.TableText.object_words, proofs.Written.{named_all, named_more}}
 use Rattle.captext.proofs.write.write_objects.Goals as goal
 
 -- the next object is written with its name

@@ -1,5 +1,4 @@
-use Rattle.std.proofs.Common.{◌≡◌, ◌++◌, take, map, string_bytes}
-use Rattle.std.specs.List.{zip}
+use Rattle.std.{specs.List.zip, proofs.Common.{◌++◌, ◌≡◌, map, string_bytes, take}}
 use Rattle.words.specs.Text.{text_of}
 use Rattle.captext.specs.TableText.{object_words}
 use Rattle.captext.proofs.write.write_objects.Given as goal

@@ -1,13 +1,10 @@
 -- One name more is written after a comma, but for the first.
-use Rattle.std.proofs.Common.{◌≡◌, ◌++◌, Bool, true, false, cond, [], ◌∷◌, ◌+◌, get_or, take, map, filter, string_bytes, sym, ap, ◌∙◌}
-use Rattle.std.proofs.lemmas.List.{append-nil, map-append}
-use Rattle.std.proofs.lemmas.List.Elements.{filter_more}
-use Rattle.base.specs.declared.kind.Kind.TheVariants.{Control}
-use Rattle.base.specs.declared.kind.TheConstants.Kind.{ALL}
-use Rattle.base.specs.Kinds.{is_among, kind_name}
-use Rattle.certificate.proofs.KindWords.{name_written, same_written, separator_is_text}
+use Rattle.std.proofs.Common.{[], ◌++◌, ◌+◌, ◌∙◌, ◌∷◌, ◌≡◌, Bool, ap, cond, false, filter, get_or, map, string_bytes, sym, take, true}
+use Rattle.std.proofs.lemmas.List.{append-nil, map-append, Elements.filter_more}
+use Rattle.base.specs.{declared.kind.{Kind.TheVariants.Control, TheConstants.Kind.ALL}, Kinds.{is_among, kind_name}}
+use Rattle.certificate.proofs.{KindWords.{name_written, same_written, separator_is_text}, kinds.kinds_string.Goals.else-has}
+use Rattle.certificate.proofs.kinds.kinds_string.Goals.{then-has+in_ok-write}
 use Rattle.certificate.proofs.kinds.kinds_string.Goals as goal
-use Rattle.certificate.proofs.kinds.kinds_string.Goals.{then-has+in_ok-write, else-has}
 
 pub fact_in-write : goal.fact_in-write
 fact_in-write c = separator_is_text _ _ c.loop-kind.invariant.1

@@ -1,4 +1,4 @@
-use Rattle.std.proofs.Common.{◌≡◌, ◌++◌, take, map, filter}
+use Rattle.std.proofs.Common.{◌++◌, ◌≡◌, filter, map, take}
 use Rattle.table.specs.Rules.{kind_at}
 use Rattle.certificate.specs.Right.{cap_line, is_cnode}
 use Rattle.certificate.proofs.making.add_caps.Given as goal

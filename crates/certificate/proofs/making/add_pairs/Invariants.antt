@@ -1,4 +1,4 @@
-use Rattle.std.proofs.Common.{◌≡◌, ◌++◌, take, map}
+use Rattle.std.proofs.Common.{◌++◌, ◌≡◌, map, take}
 use Rattle.certificate.specs.Right.{derive_line}
 use Rattle.certificate.proofs.making.add_pairs.Given as goal
 

@@ -1,5 +1,4 @@
-use Rattle.certificate.specs.declared.line.Line.TheVariants.{Cap}
-use Rattle.certificate.proofs.RightLines.{given_kinds}
+use Rattle.certificate.{specs.declared.line.Line.TheVariants.Cap, proofs.RightLines.given_kinds}
 use Rattle.certificate.proofs.making.cap_line.Goals as goal
 
 -- the kinds that the code finds are those that the capability gives

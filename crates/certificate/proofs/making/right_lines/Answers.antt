@@ -1,7 +1,5 @@
-use Rattle.std.proofs.Common.{◌≡◌, ◌++◌, List, map, filter, ap, ◌∙◌}
-use Rattle.machine.specs.declared.layout.Binding.{Binding}
-use Rattle.machine.specs.declared.layout.Filled.{Filled}
-use Rattle.machine.specs.declared.layout.Pair.{Pair}
+use Rattle.std.proofs.Common.{◌++◌, ◌∙◌, ◌≡◌, List, ap, filter, map}
+use Rattle.machine.specs.declared.layout.{Binding.Binding, Filled.Filled, Pair.Pair}
 use Rattle.table.specs.Rules.{kind_at}
 use Rattle.certificate.specs.Right.{cap_line, cap_lines, derive_line, is_cnode, is_thread, runs_line, space_line, space_lines}
 use Rattle.certificate.proofs.RightLines.{sections}

@@ -1,9 +1,6 @@
 -- What is read is what the definition says, and the laws of that.
-use Rattle.words.proofs.FirstFaults.{faults, refused_for}
-use Rattle.words.proofs.ListLaws.{found, only}
-use Rattle.words.specs.Text.{lines_of}
-use Rattle.certificate.specs.Certificate.{certificate_header}
-use Rattle.certificate.specs.Reading.{certificate_format, read_certificate_of}
+use Rattle.words.{specs.Text.lines_of, proofs.{FirstFaults.{faults, refused_for}, ListLaws.{found, only}}}
+use Rattle.certificate.specs.{Certificate.certificate_header, Reading.{certificate_format, read_certificate_of}}
 use Rattle.certificate.proofs.Certificates.{format, plain_header}
 use Rattle.certificate.proofs.reading.read.Goals as goal
 

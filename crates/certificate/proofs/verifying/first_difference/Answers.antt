@@ -1,5 +1,5 @@
 -- Past the shorter list, the lists are one or the longer one has a line more.
-use Rattle.std.proofs.Common.{◌≡◌, min, length, arith}
+use Rattle.std.proofs.Common.{◌≡◌, arith, length, min}
 use Rattle.certificate.proofs.Differences.{differ_at_end, same_lists}
 use Rattle.certificate.proofs.verifying.first_difference.Goals as goal
 

@@ -1,7 +1,6 @@
-use Rattle.std.proofs.Common.{◌≡◌, ◌∷◌, take, map, string_bytes}
+use Rattle.std.proofs.Common.{◌∷◌, ◌≡◌, map, string_bytes, take}
 use Rattle.words.specs.Text.{text_of}
-use Rattle.certificate.specs.Certificate.{certificate_header}
-use Rattle.certificate.specs.Line.{line_words}
+use Rattle.certificate.specs.{Certificate.certificate_header, Line.line_words}
 use Rattle.certificate.proofs.writing.certificate_string.Given as goal
 
 -- the lines so far are the header's and those of the certificate so far

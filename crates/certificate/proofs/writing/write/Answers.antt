@@ -1,6 +1,5 @@
 use Rattle.std.proofs.Common.{◌≡◌}
-use Rattle.certificate.specs.Certificate.{certificate_text}
-use Rattle.certificate.proofs.Certificates.{certificate_is_read}
+use Rattle.certificate.{specs.Certificate.certificate_text, proofs.Certificates.certificate_is_read}
 use Rattle.certificate.proofs.writing.write.Goals as goal
 
 -- the text of a certificate for the table is read back

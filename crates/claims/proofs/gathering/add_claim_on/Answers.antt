@@ -1,7 +1,5 @@
-use Rattle.std.proofs.Common.{◌+◌, inl, inr, sym, subst, ◌∙◌}
-use Rattle.claims.specs.Holding.{AreStrongestBefore}
-use Rattle.claims.specs.declared.claim.Claim.{Claim}
-use Rattle.claims.proofs.HoldingLaws.{claimed_exact, unclaimed_full}
+use Rattle.std.proofs.Common.{◌+◌, ◌∙◌, inl, inr, subst, sym}
+use Rattle.claims.{specs.{declared.claim.Claim.Claim, Holding.AreStrongestBefore}, proofs.HoldingLaws.{claimed_exact, unclaimed_full}}
 use Rattle.claims.proofs.PairByPair.{claim_added, none_added, other_label, same_label}
 use Rattle.claims.proofs.gathering.add_claim_on.Goals as goal
 

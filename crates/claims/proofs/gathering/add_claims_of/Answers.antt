@@ -1,8 +1,7 @@
 -- All pairs of the label are done.
-use Rattle.std.proofs.Common.{◌≡◌, length, subst, arith}
+use Rattle.std.proofs.Common.{◌≡◌, arith, length, subst}
 use Rattle.policy.specs.Policy.{allows}
-use Rattle.claims.specs.Holding.{AreStrongestBefore}
-use Rattle.claims.proofs.PairByPair.{label_done}
+use Rattle.claims.{specs.Holding.AreStrongestBefore, proofs.PairByPair.label_done}
 use Rattle.claims.proofs.gathering.add_claims_of.Goals as goal
 
 pub returns : goal.returns

@@ -2,8 +2,7 @@
 use Rattle.std.proofs.Common.{subst}
 use Rattle.policy.specs.Policy.{allows}
 use Rattle.table.specs.Rules.{IsLawful}
-use Rattle.claims.specs.Holding.{AreStrongest}
-use Rattle.claims.proofs.HoldingLaws.{exact_kept}
+use Rattle.claims.{specs.Holding.AreStrongest, proofs.HoldingLaws.exact_kept}
 use Rattle.claims.proofs.gathering.strongest.Goals as goal
 
 pub returns-clause-kept : goal.returns-clause-kept

@@ -1,8 +1,7 @@
 -- From no claim on, up to the pairs of the last label.
-use Rattle.std.proofs.Common.{◌≡◌, length, sym, subst, arith}
+use Rattle.std.proofs.Common.{◌≡◌, arith, length, subst, sym}
 use Rattle.policy.specs.Policy.{allows}
-use Rattle.claims.specs.Holding.{AreStrongestBefore}
-use Rattle.claims.proofs.PairByPair.{all_done, none_before}
+use Rattle.claims.{specs.Holding.AreStrongestBefore, proofs.PairByPair.{all_done, none_before}}
 use Rattle.claims.proofs.gathering.strongest_by.Goals as goal
 
 pub loop-number-init : goal.loop-number-init

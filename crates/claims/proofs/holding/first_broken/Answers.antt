@@ -2,8 +2,7 @@
 use Rattle.std.proofs.Common.{All, subst}
 use Rattle.policy.specs.Policy.{allows}
 use Rattle.table.specs.Rules.{IsLawful}
-use Rattle.claims.specs.Holding.{Holds, IsKept}
-use Rattle.claims.proofs.HoldingLaws.{all_kept, if_none}
+use Rattle.claims.{specs.Holding.{Holds, IsKept}, proofs.HoldingLaws.{all_kept, if_none}}
 use Rattle.claims.proofs.holding.first_broken.Goals as goal
 
 pub returns-clause-hold : goal.returns-clause-hold

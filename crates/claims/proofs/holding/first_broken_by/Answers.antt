@@ -1,12 +1,9 @@
 -- The claim at which the search ends is the first that doesn't hold, and each before it does.
-use Rattle.std.proofs.Common.{◌≡◌, ℕ, ◌<◌, false, true, get_or, length, refl, sym, ap, subst, ◌∙◌, inl, inr, arith}
-use Rattle.std.proofs.lemmas.Bool.{cases_lt}
-use Rattle.std.proofs.lemmas.List.{get_or_default}
-use Rattle.std.proofs.lemmas.Option.{get_or_from_slice_get, slice_get_read}
+use Rattle.std.proofs.{Common.{ℕ, ◌<◌, ◌∙◌, ◌≡◌, ap, arith, false, get_or, inl, inr, length, refl, subst, sym, true}, lemmas.Bool.cases_lt}
+use Rattle.std.proofs.lemmas.{List.get_or_default, Option.{get_or_from_slice_get, slice_get_read}}
 use Rattle.policy.specs.Policy.{allows}
 use Rattle.verdict.specs.Apart.{GoesTo}
-use Rattle.claims.specs.Holding.{Holds, is_within}
-use Rattle.claims.proofs.HoldingLaws.{outside_breaks, within_holds}
+use Rattle.claims.{specs.Holding.{Holds, is_within}, proofs.HoldingLaws.{outside_breaks, within_holds}}
 use Rattle.claims.proofs.holding.first_broken_by.Goals as goal
 
 pub returns-then-not-is_within-clause-broken : goal.returns-then-not-is_within-clause-broken

@@ -1,7 +1,6 @@
-use Rattle.std.proofs.Common.{ℕ, ◌<◌, get_or, IfSome}
+use Rattle.std.proofs.Common.{ℕ, ◌<◌, IfSome, get_or}
 use Rattle.policy.specs.Policy.{allows}
-use Rattle.claims.specs.Holding.{AreExtents, Holds}
-use Rattle.claims.specs.declared.claim.Claim.{Claim}
+use Rattle.claims.specs.{declared.claim.Claim.Claim, Holding.{AreExtents, Holds}}
 use Rattle.claims.proofs.holding.first_broken_by.Given as goal
 
 -- the claims so far hold, and what was found last is of the policy

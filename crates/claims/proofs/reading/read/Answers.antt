@@ -1,10 +1,6 @@
 -- What is read is what the definition says, and the laws of that.
-use Rattle.words.proofs.FirstFaults.{faults, refused_for}
-use Rattle.words.proofs.ListLaws.{found, only}
-use Rattle.words.specs.Text.{lines_of}
-use Rattle.claims.specs.ClaimsText.{claims_header}
-use Rattle.claims.specs.Reading.{claims_format, read_claims_of}
-use Rattle.claims.proofs.ClaimsLaws.{format, plain_header}
+use Rattle.words.{specs.Text.lines_of, proofs.{FirstFaults.{faults, refused_for}, ListLaws.{found, only}}}
+use Rattle.claims.{specs.{ClaimsText.claims_header, Reading.{claims_format, read_claims_of}}, proofs.ClaimsLaws.{format, plain_header}}
 use Rattle.claims.proofs.reading.read.Goals as goal
 
 pub returns : goal.returns

@@ -1,4 +1,4 @@
-use Rattle.std.proofs.Common.{◌≡◌, ◌∷◌, take, map, string_bytes}
+use Rattle.std.proofs.Common.{◌∷◌, ◌≡◌, map, string_bytes, take}
 use Rattle.words.specs.Text.{text_of}
 use Rattle.claims.specs.ClaimsText.{claim_words, claims_header}
 use Rattle.claims.proofs.writing.claims_string.Given as goal

@@ -1,6 +1,5 @@
 use Rattle.std.proofs.Common.{◌≡◌}
-use Rattle.claims.specs.ClaimsText.{claims_text}
-use Rattle.claims.proofs.ClaimsLaws.{claims_are_read}
+use Rattle.claims.{specs.ClaimsText.claims_text, proofs.ClaimsLaws.claims_are_read}
 use Rattle.claims.proofs.writing.write.Goals as goal
 
 -- the text of claims for the table is read back

@@ -1,5 +1,5 @@
 -- The filled target is in no pair of the tree, and the parent of the copy is filled.
-use Rattle.std.proofs.Common.{sym, ◌∙◌}
+use Rattle.std.proofs.Common.{◌∙◌, sym}
 use Rattle.cnodeops.proofs.CopyLemmas.{filled_alone, filled_now, object_there, parent_apart, parent_still}
 use Rattle.cnodeops.proofs.copies.add_copy.Goals as goal
 

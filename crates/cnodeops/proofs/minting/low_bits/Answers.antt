@@ -1,7 +1,5 @@
 -- A value masked by as many ones as bits are taken.
-use Rattle.std.proofs.Common.{◌≡◌, ◌-◌, ◌^◌, ap, ◌∙◌, arith, bit_and}
-use Rattle.std.proofs.lemmas.Nat.{and_mask}
-use Rattle.std.proofs.lemmas.Nat.Bits.{ones_shr}
+use Rattle.std.proofs.{Common.{◌-◌, ◌^◌, ◌∙◌, ◌≡◌, ap, arith, bit_and}, lemmas.Nat.{and_mask, Bits.ones_shr}}
 use Rattle.cnodeops.proofs.minting.low_bits.Goals as goal
 
 pub returns : goal.returns

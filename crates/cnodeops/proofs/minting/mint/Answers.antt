@@ -1,10 +1,7 @@
 -- A mint fills an empty slot that is there, and the machine stays well formed.
-use Rattle.std.proofs.Common.{sym, ap, ◌∙◌}
-use Rattle.std.specs.Prelude.{Option}
-use Rattle.machine.specs.declared.object.Object.{Object}
-use Rattle.machine.specs.Machine.{object_of}
-use Rattle.machine.specs.Step.Mint.{minted}
-use Rattle.cnodeops.proofs.CopyLemmas.{source_filled, target_there, target_vacant, minted_formed}
+use Rattle.std.{specs.Prelude.Option, proofs.Common.{◌∙◌, ap, sym}}
+use Rattle.machine.specs.{declared.object.Object.Object, Machine.object_of, Step.Mint.minted}
+use Rattle.cnodeops.proofs.CopyLemmas.{minted_formed, source_filled, target_there, target_vacant}
 use Rattle.cnodeops.proofs.minting.mint.Goals as goal
 
 pub derive-requires-clause-there : goal.derive-requires-clause-there

@@ -1,15 +1,9 @@
 -- One seat more is dealt.
-use Rattle.std.proofs.Common.{◌≡◌, ◌∙◌, ◌+◌, ℕ, List, Some, length, arith, refl, ap, sym, subst}
-use Rattle.std.proofs.lemmas.List.{length_push}
-use Rattle.std.proofs.lemmas.Option.{slice_get_read, slice_get_within}
-use Rattle.std.specs.Prelude.{slice_get}
+use Rattle.std.{specs.Prelude.slice_get, proofs.Common.{ℕ, ◌+◌, ◌∙◌, ◌≡◌, List, Some, ap, arith, length, refl, subst, sym}}
+use Rattle.std.proofs.lemmas.{List.length_push, Option.{slice_get_read, slice_get_within}}
 use Rattle.atomic_table.specs.Seated.{TableId}
-use Rattle.cores.specs.declared.view.About.{About}
-use Rattle.cores.specs.declared.view.View.{View}
-use Rattle.cores.specs.Moves.{after_deal}
-use Rattle.cores.specs.Seats.{CanDeal, Known, about_in, new_seat}
-use Rattle.cores.proofs.Seating.{each_more}
-use Rattle.cores.proofs.Visiting.{Knowing}
+use Rattle.cores.specs.{declared.view.{About.About, View.View}, Moves.after_deal, Seats.{CanDeal, Known, about_in, new_seat}}
+use Rattle.cores.proofs.{Seating.each_more, Visiting.Knowing}
 use Rattle.cores.proofs.opened.all_seats.Goals as goal
 
 pub deal-requires-clause-next : goal.deal-requires-clause-next

@@ -1,7 +1,5 @@
-use Rattle.std.proofs.Common.{◌≡◌, ◌+◌, ◌-◌, ◌<◌, ◌≤◌, ℕ, Some, length, vec_len, vec_capacity}
-use Rattle.std.specs.Prelude.{slice_get}
-use Rattle.cores.specs.Seats.{CanDeal, about_in, new_seat}
-use Rattle.cores.specs.Tokens.{IsAt}
+use Rattle.std.{specs.Prelude.slice_get, proofs.Common.{ℕ, ◌+◌, ◌-◌, ◌<◌, ◌≡◌, ◌≤◌, Some, length, vec_capacity, vec_len}}
+use Rattle.cores.specs.{Seats.{CanDeal, about_in, new_seat}, Tokens.IsAt}
 use Rattle.cores.proofs.opened.all_seats.Given as goal
 
 -- the seats of the cores before this one are dealt

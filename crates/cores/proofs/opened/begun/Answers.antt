@@ -1,5 +1,5 @@
 -- The keeper of a new word may deal all seats.
-use Rattle.std.proofs.Common.{rules, ◌≡◌, ◌∙◌, ap}
+use Rattle.std.proofs.Common.{◌∙◌, ◌≡◌, ap, rules}
 use Rattle.cores.proofs.Visiting.{Knowing}
 use Rattle.cores.proofs.opened.begun.Goals as goal
 

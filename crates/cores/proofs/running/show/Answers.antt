@@ -1,9 +1,6 @@
 -- Both seats have seen the history that the first sees with the second as its guest.
-use Rattle.std.proofs.Common.{◌≡◌, ◌∙◌, ap, sym, subst}
-use Rattle.cores.specs.declared.view.About.{About}
-use Rattle.cores.specs.History.{IsExactFor, IsLegal}
-use Rattle.cores.specs.Moves.{hand_as_guest}
-use Rattle.cores.specs.Seats.{about_in}
+use Rattle.std.proofs.Common.{◌∙◌, ◌≡◌, ap, subst, sym}
+use Rattle.cores.specs.{declared.view.About.About, History.{IsExactFor, IsLegal}, Moves.hand_as_guest, Seats.about_in}
 use Rattle.cores.proofs.Visiting.{Knowing, guest_is, guest_saw, host_left, left_view, saw_guest, saw_hand, saw_legal, seated_at, seen_by}
 use Rattle.cores.proofs.running.show.Goals as goal
 

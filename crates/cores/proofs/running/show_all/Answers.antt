@@ -1,8 +1,6 @@
 -- One seat more has seen the whole history.
-use Rattle.std.proofs.Common.{◌≡◌, ◌∙◌, ◌<◌, length, arith, slice_index_or, sym, subst}
-use Rattle.std.proofs.lemmas.List.{get_or_default, length-set}
-use Rattle.cores.specs.Seats.{Known, Looks}
-use Rattle.cores.proofs.Closing.{done_further, left_further}
+use Rattle.std.proofs.{Common.{◌<◌, ◌∙◌, ◌≡◌, arith, length, slice_index_or, subst, sym}, lemmas.List.{get_or_default, length-set}}
+use Rattle.cores.{specs.Seats.{Known, Looks}, proofs.Closing.{done_further, left_further}}
 use Rattle.cores.proofs.running.show_all.Goals as goal
 
 pub loop-number-preserved : goal.loop-number-preserved

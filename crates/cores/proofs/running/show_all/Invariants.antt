@@ -1,4 +1,4 @@
-use Rattle.std.proofs.Common.{◌≡◌, ◌<◌, ◌≤◌, ℕ, length, slice_index_or}
+use Rattle.std.proofs.Common.{ℕ, ◌<◌, ◌≡◌, ◌≤◌, length, slice_index_or}
 use Rattle.cores.specs.Seats.{Known, Looks}
 use Rattle.cores.proofs.running.show_all.Given as goal
 

@@ -1,9 +1,5 @@
-use Rattle.std.proofs.Common.{rules, ◌≡◌, ◌∙◌, [], sym, ap, subst}
-use Rattle.cores.specs.declared.view.Noted.{Noted}
-use Rattle.cores.specs.declared.view.View.{View}
-use Rattle.cores.specs.Moves.{after_record}
-use Rattle.cores.specs.Tokens.{CanRecord}
-use Rattle.cores.proofs.Keeps.{records}
+use Rattle.std.proofs.Common.{[], ◌∙◌, ◌≡◌, ap, rules, subst, sym}
+use Rattle.cores.{specs.{declared.view.{Noted.Noted, View.View}, Moves.after_record, Tokens.CanRecord}, proofs.Keeps.records}
 use Rattle.cores.proofs.steps.record_this.Goals as goal
 
 pub fetch_add-requires : goal.fetch_add-requires

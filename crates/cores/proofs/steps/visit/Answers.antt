@@ -1,5 +1,5 @@
 use Rattle.std.proofs.Common.{rules}
-use Rattle.cores.proofs.Keeps.{visits, hosts}
+use Rattle.cores.proofs.Keeps.{hosts, visits}
 use Rattle.cores.proofs.steps.visit.Goals as goal
 
 pub split_seat-guest-requires : goal.split_seat-guest-requires

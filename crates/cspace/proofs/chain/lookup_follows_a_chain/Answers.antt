@@ -1,6 +1,6 @@
 -- Each way a lookup ends, from the walk's and the chain's.
-use Rattle.cspace.proofs.LookupLemmas.{finds, found, fails, failed, ends}
-use Rattle.cspace.proofs.EndLemmas.{unique, unique_failure, never_both, never_missing, empty_found}
+use Rattle.cspace.proofs.{EndLemmas.{empty_found, never_both, never_missing, unique, unique_failure}, LookupLemmas.{ends, failed, fails}}
+use Rattle.cspace.proofs.LookupLemmas.{finds, found}
 use Rattle.cspace.proofs.chain.lookup_follows_a_chain.Goals as goal
 
 pub returns-clause-found : goal.returns-clause-found

@@ -1,6 +1,6 @@
 -- A guard that is longer than what is left, or differs from it, ends the lookup.
-use Rattle.std.proofs.Common.{sym, ◌∙◌, arith}
-use Rattle.cspace.proofs.BitLemmas.{after-short, after-equal, after-unequal}
+use Rattle.std.proofs.Common.{◌∙◌, arith, sym}
+use Rattle.cspace.proofs.BitLemmas.{after-equal, after-short, after-unequal}
 use Rattle.cspace.proofs.level.after_guard.Goals as goal
 
 pub returns-then-size-left-clause-value : goal.returns-then-size-left-clause-value

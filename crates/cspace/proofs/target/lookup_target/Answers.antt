@@ -1,7 +1,6 @@
 -- What a result says, once its cause is written as a refusal.
-use Rattle.std.proofs.Common.{Ok, Err, refl, ap, ◌∙◌}
-use Rattle.std.proofs.lemmas.Result.{err_from_is_err_and}
-use Rattle.cspace.proofs.TargetLemmas.{target_refused_found, target_refused_failed}
+use Rattle.std.proofs.{Common.{◌∙◌, Err, Ok, ap, refl}, lemmas.Result.err_from_is_err_and}
+use Rattle.cspace.proofs.TargetLemmas.{target_refused_failed, target_refused_found}
 use Rattle.cspace.proofs.target.lookup_target.Goals as goal
 
 pub returns-in_err-resolve_target-clause-found : goal.returns-in_err-resolve_target-clause-found

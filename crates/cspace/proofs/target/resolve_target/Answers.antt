@@ -1,6 +1,6 @@
 -- The lookup of a target ends where the chain does.
-use Rattle.cspace.proofs.RadixLemmas.{takes_bits}
-use Rattle.cspace.proofs.TargetLemmas.{target_found_where, target_failed_where, target_either, target_one_way, target_not_missing}
+use Rattle.cspace.proofs.{RadixLemmas.takes_bits, TargetLemmas.{target_either, target_failed_where, target_found_where, target_not_missing}}
+use Rattle.cspace.proofs.TargetLemmas.{target_one_way}
 use Rattle.cspace.proofs.target.resolve_target.Goals as goal
 
 pub returns : goal.returns

@@ -1,11 +1,8 @@
 -- The walk's end, with no bits left.
-use Rattle.std.proofs.Common.{◌≡◌, ℕ, sym, ap, ◌∙◌, arith, Ok}
+use Rattle.std.proofs.Common.{ℕ, ◌∙◌, ◌≡◌, Ok, ap, arith, sym}
 use Rattle.base.specs.declared.ids.SlotRef.{SlotRef}
-use Rattle.machine.specs.Bits.{bits}
-use Rattle.machine.specs.Lookup.{walk, counted}
-use Rattle.cspace.specs.Strings.{level_shown}
-use Rattle.cspace.proofs.RootLemmas.{counted-shown, failed-cases}
-use Rattle.cspace.proofs.TargetLemmas.{deep, below-ends}
+use Rattle.machine.specs.{Bits.bits, Lookup.{counted, walk}}
+use Rattle.cspace.{specs.Strings.level_shown, proofs.{RootLemmas.{counted-shown, failed-cases}, TargetLemmas.{below-ends, deep}}}
 use Rattle.cspace.proofs.target.target_below.Goals as goal
 
 pub returns : goal.returns

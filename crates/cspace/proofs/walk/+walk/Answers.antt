@@ -1,11 +1,8 @@
 -- A walk ends with a hop that fails, with no bits left, or at a slot that shows no CNode; else it goes on.
-use Rattle.std.proofs.Common.{◌≡◌, ℕ, sym, ap, ◌∙◌, arith, Bool, List, Result, Ok}
-use Rattle.base.specs.declared.ids.SlotRef.{SlotRef}
-use Rattle.base.specs.declared.refusal.LookupFailure.{LookupFailure}
+use Rattle.std.proofs.{Common.{ℕ, ◌∙◌, ◌≡◌, Bool, List, Ok, Result, ap, arith, sym}, lemmas.Result.err_from_is_err_and}
+use Rattle.base.specs.declared.{ids.SlotRef.SlotRef, refusal.LookupFailure.LookupFailure}
 use Rattle.machine.specs.Bits.{bits}
-use Rattle.cspace.specs.Strings.{level_shown}
-use Rattle.cspace.proofs.WalkLemmas.{walk-err, walk-done, walk-none, walk-some}
-use Rattle.std.proofs.lemmas.Result.{err_from_is_err_and}
+use Rattle.cspace.{specs.Strings.level_shown, proofs.WalkLemmas.{walk-done, walk-err, walk-none, walk-some}}
 use Rattle.cspace.proofs.walk.+walk.Goals as goal
 
 pub returns-in_err-slot : goal.returns-in_err-slot

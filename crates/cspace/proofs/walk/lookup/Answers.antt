@@ -1,8 +1,6 @@
 -- What a result says, once its cause is written as a refusal.
-use Rattle.std.proofs.Common.{Ok, Err, refl, ap, ◌∙◌}
-use Rattle.std.proofs.lemmas.Result.{err_from_is_err_and}
-use Rattle.cspace.specs.Chain.{Finds, Fails}
-use Rattle.cspace.proofs.EndLemmas.{refused_found, refused_failed}
+use Rattle.std.proofs.{Common.{◌∙◌, Err, Ok, ap, refl}, lemmas.Result.err_from_is_err_and}
+use Rattle.cspace.{specs.Chain.{Fails, Finds}, proofs.EndLemmas.{refused_failed, refused_found}}
 use Rattle.cspace.proofs.walk.lookup.Goals as goal
 
 pub returns-in_err-resolve-clause-found : goal.returns-in_err-resolve-clause-found

@@ -1,13 +1,9 @@
 -- A lookup is a walk from the thread's root, and ends where the chain does.
-use Rattle.std.proofs.Common.{◌≡◌, sym, ap, ◌∙◌, arith, Err}
-use Rattle.base.specs.declared.refusal.Cause.TheVariants.{FailedLookup}
-use Rattle.base.specs.declared.refusal.LookupFailure.TheVariants.{InvalidRoot}
+use Rattle.std.proofs.Common.{◌∙◌, ◌≡◌, Err, ap, arith, sym}
+use Rattle.base.specs.declared.refusal.{Cause.TheVariants.FailedLookup, LookupFailure.TheVariants.InvalidRoot}
 use Rattle.machine.specs.Lookup.{counted, lookup_of}
-use Rattle.cspace.specs.Strings.{level_shown}
-use Rattle.cspace.proofs.RootLemmas.{lookup_of-none, lookup_of-some, counted-shown, failed-cases}
-use Rattle.cspace.proofs.RadixLemmas.{takes_bits}
-use Rattle.cspace.proofs.LookupLemmas.{ends}
-use Rattle.cspace.proofs.EndLemmas.{found_where, failed_where, one_way, not_missing}
+use Rattle.cspace.{specs.Strings.level_shown, proofs.{EndLemmas.{failed_where, found_where, not_missing, one_way}, LookupLemmas.ends}}
+use Rattle.cspace.proofs.{RadixLemmas.takes_bits, RootLemmas.{counted-shown, failed-cases, lookup_of-none, lookup_of-some}}
 use Rattle.cspace.proofs.walk.resolve.Goals as goal
 
 pub returns-in_default : goal.returns-in_default

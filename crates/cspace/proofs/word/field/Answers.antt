@@ -1,7 +1,5 @@
 -- A shifted word, masked by as many ones as the field has bits.
-use Rattle.std.proofs.Common.{◌≡◌, ◌-◌, ◌/◌, ◌^◌, ◌≤◌, ap, ◌∙◌, arith, bit_and}
-use Rattle.std.proofs.lemmas.Nat.{and_mask}
-use Rattle.std.proofs.lemmas.Nat.Bits.{ones_shr}
+use Rattle.std.proofs.{Common.{◌-◌, ◌/◌, ◌^◌, ◌∙◌, ◌≡◌, ◌≤◌, ap, arith, bit_and}, lemmas.Nat.{and_mask, Bits.ones_shr}}
 use Rattle.cspace.proofs.word.field.Goals as goal
 
 pub returns : goal.returns

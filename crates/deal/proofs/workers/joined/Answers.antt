@@ -1,9 +1,5 @@
-use Rattle.std.proofs.Common.{◌≡◌, ℕ, length, Some, sym, ap, ◌∙◌, slice_get, vec_len, rules}
-use Rattle.std.specs.Result.{result_from_control_flow}
-use Rattle.std.proofs.lemmas.Iterator.Adapters.{YieldsList-from_vec}
-use Rattle.std.proofs.lemmas.Iterator.Consumers.{YieldsList-turn}
-use Rattle.std.proofs.lemmas.Option.{slice_get-get_or}
-use Rattle.std.proofs.lemmas.List.{length_push}
+use Rattle.std.{specs.Result.result_from_control_flow, proofs.Common.{ℕ, ◌∙◌, ◌≡◌, Some, ap, length, rules, slice_get, sym, vec_len}}
+use Rattle.std.proofs.lemmas.{Iterator.{Adapters.YieldsList-from_vec, Consumers.YieldsList-turn}, List.length_push, Option.slice_get-get_or}
 use Rattle.deal.proofs.Joining.{next_share}
 use Rattle.deal.proofs.workers.joined.Goals as goal
 

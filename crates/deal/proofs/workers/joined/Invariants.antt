@@ -1,4 +1,4 @@
-use Rattle.std.proofs.Common.{◌≡◌, ◌++◌, map, drop, length}
+use Rattle.std.proofs.Common.{◌++◌, ◌≡◌, drop, length, map}
 use Rattle.deal.specs.Shares.{start_of}
 use Rattle.deal.proofs.workers.joined.Given as goal
 

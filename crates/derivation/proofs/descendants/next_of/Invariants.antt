@@ -1,5 +1,5 @@
 -- No slot of a lower index is one.
-use Rattle.std.specs.Prelude.{◌≡◌, ◌<◌}
+use Rattle.std.specs.Prelude.{◌<◌, ◌≡◌}
 use Rattle.base.specs.declared.ids.SlotRef.{SlotRef}
 use Rattle.machine.specs.WellFormed.{Descends}
 use Rattle.derivation.specs.Descendants.{IsBehind}

@@ -1,7 +1,6 @@
 -- Each turn raises the slots of one object, in the order of the list.
-use Rattle.std.proofs.Common.{◌≡◌, ◌≤◌, length, sym, ap, ◌∙◌, arith}
-use Rattle.std.specs.Prelude.{Some, None, slice_get}
-use Rattle.derivation.proofs.GoingSlots.{raised_all, raised_on, listed_same, none_found, rest_again}
+use Rattle.std.{specs.Prelude.{None, Some, slice_get}, proofs.Common.{◌∙◌, ◌≡◌, ◌≤◌, ap, arith, length, sym}}
+use Rattle.derivation.proofs.GoingSlots.{listed_same, none_found, raised_all, raised_on, rest_again}
 use Rattle.derivation.proofs.leaving.raise_going.Goals as goal
 
 pub returns-in_default : goal.returns-in_default

@@ -1,8 +1,7 @@
 -- Raising what is left is raising all.
 use Rattle.std.proofs.Common.{◌≡◌, drop}
 use Rattle.machine.specs.Machine.{Machine}
-use Rattle.derivation.specs.OwnSlots.{is_going_slot, is_slot_among}
-use Rattle.derivation.specs.Raising.{AreRaisedFrom}
+use Rattle.derivation.specs.{OwnSlots.{is_going_slot, is_slot_among}, Raising.AreRaisedFrom}
 use Rattle.derivation.proofs.leaving.raise_going.Given as goal
 
 abbrev pub invariant-loop-index : goal.invariant-loop-index

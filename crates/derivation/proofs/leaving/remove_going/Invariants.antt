@@ -1,8 +1,7 @@
 -- Where what is left leaves, all have left.
 use Rattle.std.proofs.Common.{◌≡◌, drop}
 use Rattle.machine.specs.Machine.{Machine}
-use Rattle.derivation.specs.OwnSlots.{is_going_slot, is_slot_among}
-use Rattle.derivation.specs.Removing.{HaveLeft}
+use Rattle.derivation.specs.{OwnSlots.{is_going_slot, is_slot_among}, Removing.HaveLeft}
 use Rattle.derivation.proofs.leaving.remove_going.Given as goal
 
 abbrev pub invariant-loop-index : goal.invariant-loop-index

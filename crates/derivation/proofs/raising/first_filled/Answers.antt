@@ -1,12 +1,9 @@
 -- From an empty slot the way goes on from its parent, and at a filled one it ends.
-use Rattle.std.proofs.Common.{subst, sym}
-use Rattle.std.specs.Prelude.{Option, Some, None}
+use Rattle.std.{specs.Prelude.{None, Option, Some}, proofs.Common.{subst, sym}}
 use Rattle.base.specs.declared.ids.SlotRef.{SlotRef}
-use Rattle.machine.specs.Machine.{parent_of}
-use Rattle.machine.specs.Orphans.{Nearest, climbs, no_ancestor, survives}
+use Rattle.machine.specs.{Machine.parent_of, Orphans.{Nearest, climbs, no_ancestor, survives}}
 use Rattle.objects.proofs.Ways.{way_shortens}
-use Rattle.derivation.specs.Raising.{is_empty}
-use Rattle.derivation.proofs.Hangs.{seen_empty}
+use Rattle.derivation.{specs.Raising.is_empty, proofs.Hangs.seen_empty}
 use Rattle.derivation.proofs.raising.first_filled.Goals as goal
 
 pub returns : goal.returns

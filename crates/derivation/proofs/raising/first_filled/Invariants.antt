@@ -1,8 +1,7 @@
 -- Where the way from the slot that was come to ends, that from the first one ends.
 use Rattle.std.specs.Prelude.{Option, Some}
 use Rattle.base.specs.declared.ids.SlotRef.{SlotRef}
-use Rattle.machine.specs.Machine.{parent_of}
-use Rattle.machine.specs.Orphans.{Nearest}
+use Rattle.machine.specs.{Machine.parent_of, Orphans.Nearest}
 use Rattle.objects.proofs.Ways.{steps_up}
 use Rattle.derivation.specs.Raising.{is_empty}
 use Rattle.derivation.proofs.raising.first_filled.Given as goal

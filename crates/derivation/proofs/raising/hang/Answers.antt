@@ -1,15 +1,10 @@
 -- What a slot descends from is above it, so it may come below that.
-use Rattle.std.proofs.Common.{sym, ap, subst, ◌∙◌}
-use Rattle.std.specs.Prelude.{Option, Some, None}
+use Rattle.std.{specs.Prelude.{None, Option, Some}, proofs.Common.{◌∙◌, ap, subst, sym}}
 use Rattle.base.specs.declared.ids.SlotRef.{SlotRef}
-use Rattle.machine.specs.Machine.{with_parent}
-use Rattle.machine.specs.Tree.{IsRanked}
+use Rattle.machine.specs.{Machine.with_parent, Tree.IsRanked}
 use Rattle.objects.proofs.PairLemmas.{place-without_parent}
-use Rattle.derivation.specs.Raising.{parent_hung}
-use Rattle.derivation.specs.Removing.{HasParents}
-use Rattle.derivation.proofs.Hangs.{below_named, high_end, hung_below, hung_root, low_end, ranked_hung}
-use Rattle.derivation.proofs.Moves.{slot_without_parent}
-use Rattle.derivation.proofs.Pairs.{taken_from_parent}
+use Rattle.derivation.{specs.{Raising.parent_hung, Removing.HasParents}, proofs.Hangs.{below_named, high_end, hung_below, hung_root}}
+use Rattle.derivation.proofs.{Hangs.{low_end, ranked_hung}, Moves.slot_without_parent, Pairs.taken_from_parent}
 use Rattle.derivation.proofs.raising.hang.Goals as goal
 
 pub attach-requires-clause-below : goal.attach-requires-clause-below

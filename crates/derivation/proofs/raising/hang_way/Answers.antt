@@ -1,12 +1,10 @@
 -- Each turn hangs one slot, and its parent at first is the next.
-use Rattle.std.proofs.Common.{◌≡◌, true, sym, ◌∙◌}
-use Rattle.std.specs.Prelude.{Some}
+use Rattle.std.{specs.Prelude.Some, proofs.Common.{◌∙◌, ◌≡◌, sym, true}}
 use Rattle.machine.specs.Machine.{parent_of}
 use Rattle.objects.proofs.Ways.{way_shortens}
-use Rattle.derivation.specs.Raising.{is_empty}
-use Rattle.derivation.proofs.Hangs.{below_heir, below_next, filled_raised, parent_as_first, rest_raised, root_raised, seen_empty, way_next}
+use Rattle.derivation.{specs.Raising.is_empty, proofs.Hangs.{below_heir, below_next, filled_raised, parent_as_first, rest_raised}}
+use Rattle.derivation.proofs.{Hangs.{root_raised, seen_empty, way_next}, raising.hang_way.Goals.In-Some}
 use Rattle.derivation.proofs.raising.hang_way.Goals as goal
-use Rattle.derivation.proofs.raising.hang_way.Goals.{In-Some}
 
 pub hang-requires : goal.hang-requires
 hang-requires c = below_heir c.loop-heir.state c.loop-heir.at c.args.heir c.loop-heir.invariant.way

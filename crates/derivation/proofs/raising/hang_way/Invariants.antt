@@ -1,10 +1,7 @@
 -- Raising what is left is raising all. What has been hung is below the slot that was come to.
-use Rattle.std.proofs.Common.{◌≡◌, ◌⊎◌}
-use Rattle.std.specs.Prelude.{Some}
+use Rattle.std.{specs.Prelude.Some, proofs.Common.{◌≡◌, ◌⊎◌}}
 use Rattle.base.specs.declared.ids.SlotRef.{SlotRef}
-use Rattle.machine.specs.Machine.{Machine, parent_of, same_slot}
-use Rattle.machine.specs.Orphans.{Nearest}
-use Rattle.machine.specs.WellFormed.{Descends}
+use Rattle.machine.specs.{Machine.{Machine, parent_of, same_slot}, Orphans.Nearest, WellFormed.Descends}
 use Rattle.objects.proofs.Ways.{steps_up}
 use Rattle.derivation.specs.Raising.{AreRaisedFrom, is_empty}
 use Rattle.derivation.proofs.raising.hang_way.Given as goal

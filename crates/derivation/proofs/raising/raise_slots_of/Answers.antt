@@ -1,10 +1,7 @@
 -- Each turn raises the slot of the next index, and at the end all of the object's have had theirs.
-use Rattle.std.proofs.Common.{◌≡◌, ◌+◌, sym, ap, ◌∙◌, arith, ◌||◌}
-use Rattle.std.proofs.lemmas.Bool.{false≢true}
+use Rattle.std.proofs.{Common.{◌+◌, ◌||◌, ◌∙◌, ◌≡◌, ap, arith, sym}, lemmas.Bool.false≢true}
 use Rattle.machine.specs.Machine.{same_slot}
-use Rattle.derivation.specs.OwnSlots.{is_slot_below, is_slot_of}
-use Rattle.derivation.proofs.Hangs.{nothing_raised}
-use Rattle.derivation.proofs.OwnSlots.{none_below, one_below}
+use Rattle.derivation.{specs.OwnSlots.{is_slot_below, is_slot_of}, proofs.{Hangs.nothing_raised, OwnSlots.{none_below, one_below}}}
 use Rattle.derivation.proofs.Raises.{raised_from_alike, raised_more}
 use Rattle.derivation.proofs.raising.raise_slots_of.Goals as goal
 

@@ -1,6 +1,5 @@
 -- The slots of the object that come before have been raised.
-use Rattle.derivation.specs.OwnSlots.{is_slot_below}
-use Rattle.derivation.specs.Raising.{AreRaisedFrom}
+use Rattle.derivation.specs.{OwnSlots.is_slot_below, Raising.AreRaisedFrom}
 use Rattle.derivation.proofs.raising.raise_slots_of.Given as goal
 
 abbrev pub invariant-loop-index : goal.invariant-loop-index

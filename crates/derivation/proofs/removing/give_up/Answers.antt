@@ -1,8 +1,7 @@
 -- The parent is filled and stands above, so it may have the children.
-use Rattle.std.proofs.Common.{sym, subst}
-use Rattle.derivation.specs.Moving.{handed_over}
-use Rattle.derivation.specs.Removing.{HasParents, parent_past}
-use Rattle.derivation.proofs.Removals.{above_apart, above_no_lower, handed_has}
+use Rattle.std.proofs.Common.{subst, sym}
+use Rattle.derivation.{specs.{Moving.handed_over, Removing.{HasParents, parent_past}}, proofs.Removals.{above_apart, above_no_lower}}
+use Rattle.derivation.proofs.Removals.{handed_has}
 use Rattle.derivation.proofs.removing.give_up.Goals as goal
 
 pub hand_over-requires-clause-target : goal.hand_over-requires-clause-target

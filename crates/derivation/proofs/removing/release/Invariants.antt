@@ -1,11 +1,8 @@
 -- Once all are given up, the tree is as if all had been at first. Each turn leaves one less.
-use Rattle.std.proofs.Common.{◌≡◌}
-use Rattle.std.specs.Prelude.{Some, None}
-use Rattle.std.specs.FinMap.{keys}
+use Rattle.std.{specs.{FinMap.keys, Prelude.{None, Some}}, proofs.Common.◌≡◌}
 use Rattle.base.specs.declared.ids.SlotRef.{SlotRef}
 use Rattle.machine.specs.Machine.{parent_of}
-use Rattle.derivation.specs.Removing.{parent_past}
-use Rattle.derivation.proofs.Children.{children_among}
+use Rattle.derivation.{specs.Removing.parent_past, proofs.Children.children_among}
 use Rattle.derivation.proofs.removing.release.Given as goal
 
 abbrev pub invariant-loop-child : goal.invariant-loop-child

@@ -1,7 +1,6 @@
 -- The slot has given its children up, and then leaves.
-use Rattle.std.proofs.Common.{sym, subst}
-use Rattle.derivation.specs.Removing.{HasParents, parent_past, parent_without}
-use Rattle.derivation.proofs.Removals.{leaves}
+use Rattle.std.proofs.Common.{subst, sym}
+use Rattle.derivation.{specs.Removing.{HasParents, parent_past, parent_without}, proofs.Removals.leaves}
 use Rattle.derivation.proofs.removing.remove_node.Goals as goal
 
 pub returns : goal.returns

@@ -1,8 +1,7 @@
 -- Each turn the slot of the next index leaves, and at the end all of the object's have left.
-use Rattle.std.proofs.Common.{◌≡◌, ◌+◌, false, sym, ap, ◌∙◌, arith, ◌||◌}
+use Rattle.std.proofs.Common.{◌+◌, ◌||◌, ◌∙◌, ◌≡◌, ap, arith, false, sym}
 use Rattle.machine.specs.Machine.{same_slot}
-use Rattle.derivation.specs.OwnSlots.{is_slot_below, is_slot_of}
-use Rattle.derivation.proofs.Leavings.{left_alike, left_more, none_left}
+use Rattle.derivation.{specs.OwnSlots.{is_slot_below, is_slot_of}, proofs.Leavings.{left_alike, left_more, none_left}}
 use Rattle.derivation.proofs.OwnSlots.{none_below, one_below}
 use Rattle.derivation.proofs.removing.remove_slots_of.Goals as goal
 

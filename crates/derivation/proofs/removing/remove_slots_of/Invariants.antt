@@ -1,6 +1,5 @@
 -- The slots of the object that come before have left.
-use Rattle.derivation.specs.OwnSlots.{is_slot_below}
-use Rattle.derivation.specs.Removing.{HaveLeft}
+use Rattle.derivation.specs.{OwnSlots.is_slot_below, Removing.HaveLeft}
 use Rattle.derivation.proofs.removing.remove_slots_of.Given as goal
 
 abbrev pub invariant-loop-index : goal.invariant-loop-index

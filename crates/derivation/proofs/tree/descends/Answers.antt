@@ -1,9 +1,8 @@
 -- Up the tree each step is shorter, and what a slot descends from is its parent or above that.
-use Rattle.std.proofs.Common.{inl, inr, refl, sym, ◌∙◌, subst}
-use Rattle.machine.specs.WellFormed.{Descends, child, further}
-use Rattle.machine.proofs.Ids.{slots_same}
-use Rattle.derivation.proofs.Climbs.{descends_by, slots_differ}
+use Rattle.std.proofs.Common.{◌∙◌, inl, inr, refl, subst, sym}
+use Rattle.machine.{specs.WellFormed.{Descends, child, further}, proofs.Ids.slots_same}
 use Rattle.objects.proofs.Ways.{way_shortens}
+use Rattle.derivation.proofs.Climbs.{descends_by, slots_differ}
 use Rattle.derivation.proofs.tree.descends.Goals as goal
 
 pub returns-then-eq : goal.returns-then-eq

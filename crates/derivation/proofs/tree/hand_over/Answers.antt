@@ -1,13 +1,9 @@
 -- Each child that is left comes from the one parent to the other, which is no lower.
-use Rattle.std.proofs.Common.{◌<◌, sym, ap, ◌∙◌, subst}
-use Rattle.std.specs.FinMap.{keys}
-use Rattle.machine.specs.Machine.{with_parent, without_parent}
-use Rattle.machine.specs.Tree.{IsRanked}
+use Rattle.std.{specs.FinMap.keys, proofs.Common.{◌<◌, ◌∙◌, ap, subst, sym}}
+use Rattle.machine.specs.{Machine.{with_parent, without_parent}, Tree.IsRanked}
 use Rattle.objects.proofs.PairLemmas.{place-with_parent, place-without_parent}
-use Rattle.derivation.specs.Moving.{StandsNoLower, handed_over}
-use Rattle.derivation.proofs.Children.{among_first, children_among, one_less, still_apart}
-use Rattle.derivation.proofs.Moves.{handed_over-none, handed_over-step, slot_with_parent, slot_without_parent}
-use Rattle.derivation.proofs.Pairs.{taken_from_parent}
+use Rattle.derivation.{specs.Moving.{StandsNoLower, handed_over}, proofs.Children.{among_first, children_among, one_less, still_apart}}
+use Rattle.derivation.proofs.{Moves.{handed_over-none, handed_over-step, slot_with_parent, slot_without_parent}, Pairs.taken_from_parent}
 use Rattle.derivation.proofs.Ranks.{handed_no_lower}
 use Rattle.derivation.proofs.tree.hand_over.Goals as goal
 

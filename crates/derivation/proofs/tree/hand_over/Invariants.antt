@@ -1,11 +1,8 @@
 -- Once all are handed over, the tree is as if all had been at first. Each turn leaves one less.
-use Rattle.std.proofs.Common.{◌≡◌}
-use Rattle.std.specs.Prelude.{IsTrue}
-use Rattle.std.specs.FinMap.{keys}
+use Rattle.std.{specs.{FinMap.keys, Prelude.IsTrue}, proofs.Common.◌≡◌}
 use Rattle.machine.specs.Machine.{has_slot}
 use Rattle.objects.specs.Pairs.{IsFilledOrGoing}
-use Rattle.derivation.specs.Moving.{StandsNoLower, handed_over}
-use Rattle.derivation.proofs.Children.{children_among}
+use Rattle.derivation.{specs.Moving.{StandsNoLower, handed_over}, proofs.Children.children_among}
 use Rattle.derivation.proofs.tree.hand_over.Given as goal
 
 abbrev pub invariant-loop-child : goal.invariant-loop-child

@@ -1,8 +1,7 @@
 -- The two steps make the exchange.
-use Rattle.std.proofs.Common.{inl, sym, ap, ◌∙◌}
+use Rattle.std.proofs.Common.{◌∙◌, ap, inl, sym}
 use Rattle.machine.specs.Machine.{parent_of}
-use Rattle.derivation.specs.Moving.{handed_over}
-use Rattle.derivation.proofs.Moves.{apart_lifted, place_lifted, slot_filled, slot_lifted, taken_over}
+use Rattle.derivation.{specs.Moving.handed_over, proofs.Moves.{apart_lifted, place_lifted, slot_filled, slot_lifted, taken_over}}
 use Rattle.derivation.proofs.tree.move_node.Goals as goal
 
 pub lift-requires-clause-target : goal.lift-requires-clause-target

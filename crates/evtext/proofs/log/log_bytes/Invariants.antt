@@ -1,4 +1,4 @@
-use Rattle.std.proofs.Common.{◌≡◌, ◌∷◌, take, map}
+use Rattle.std.proofs.Common.{◌∷◌, ◌≡◌, map, take}
 use Rattle.machine.specs.Spelling.{entry_words}
 use Rattle.words.specs.Text.{text_of}
 use Rattle.evtext.specs.Log.{log_header}

@@ -1,13 +1,8 @@
-use Rattle.std.proofs.Common.{◌∷◌, ◌∙◌, sym, ap, length, take, map}
-use Rattle.std.proofs.lemmas.List.{length_push}
-use Rattle.std.proofs.lemmas.Slice.Zip.{zip_turn, zip_end}
-use Rattle.std.specs.Iterator.Adapters.{zip_first, zip_second}
-use Rattle.std.specs.List.{zip}
-use Rattle.std.specs.Slice.Iter.{iter_rest}
+use Rattle.std.{specs.{Iterator.Adapters.{zip_first, zip_second}, List.zip, Slice.Iter.iter_rest}, proofs.Common.{◌∙◌, ◌∷◌, ap, length}}
+use Rattle.std.proofs.{Common.{map, sym, take}, lemmas.{List.length_push, Slice.Zip.{zip_end, zip_turn}}}
 use Rattle.machine.specs.Spelling.{entry_words}
 use Rattle.words.specs.Text.{text_of}
-use Rattle.evtext.specs.Log.{log_header}
-use Rattle.evtext.proofs.Logs.{lines_more, lines_all}
+use Rattle.evtext.{specs.Log.log_header, proofs.Logs.{lines_all, lines_more}}
 use Rattle.evtext.proofs.log.run_bytes.Goals as goal
 
 pub loop-event-preserved : goal.loop-event-preserved

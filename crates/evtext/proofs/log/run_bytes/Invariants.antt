@@ -1,5 +1,4 @@
-use Rattle.std.proofs.Common.{◌≡◌, ◌∷◌, length, take, map}
-use Rattle.std.specs.List.{zip}
+use Rattle.std.{specs.List.zip, proofs.Common.{◌∷◌, ◌≡◌, length, map, take}}
 use Rattle.machine.specs.Spelling.{entry_words}
 use Rattle.words.specs.Text.{text_of}
 use Rattle.evtext.specs.Log.{log_header}

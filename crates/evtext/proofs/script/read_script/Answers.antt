@@ -1,9 +1,6 @@
 -- What is read is what the definition says, and the laws of that.
-use Rattle.words.proofs.FirstFaults.{faults, refused_for}
-use Rattle.words.proofs.ListLaws.{found, only}
-use Rattle.words.specs.Text.{lines_of}
-use Rattle.evtext.specs.Script.{read_script_of, script_format, script_header}
-use Rattle.evtext.proofs.Scripts.{format, plain_header}
+use Rattle.words.{specs.Text.lines_of, proofs.{FirstFaults.{faults, refused_for}, ListLaws.{found, only}}}
+use Rattle.evtext.{specs.Script.{read_script_of, script_format, script_header}, proofs.Scripts.{format, plain_header}}
 use Rattle.evtext.proofs.script.read_script.Goals as goal
 
 pub returns : goal.returns

@@ -1,5 +1,4 @@
-use Rattle.std.proofs.Common.{[], ◌∷◌, ◌++◌, ap, ◌∙◌}
-use Rattle.std.specs.Fmt.{decimal}
+use Rattle.std.{specs.Fmt.decimal, proofs.Common.{[], ◌++◌, ◌∙◌, ◌∷◌, ap}}
 use Rattle.machine.specs.Spelling.{call_words}
 use Rattle.evtext.proofs.Lines.{line_written}
 use Rattle.evtext.proofs.script.write_line.Goals as goal

@@ -1,10 +1,8 @@
 -- The digits but the last are those of a tenth of the number.
-use Rattle.std.proofs.Common.{◌≡◌, ◌++◌, [], ◌∷◌, ℕ, ◌+◌, ◌/◌, ◌%◌, ◌≤◌, ◌<◌, ◌^◌, length, ap, ◌∙◌, arith, append_assoc}
-use Rattle.std.proofs.lemmas.Fmt.{decimal_digit, decimal_step}
-use Rattle.std.proofs.lemmas.List.{length-append}
-use Rattle.std.specs.Fmt.{decimal}
+use Rattle.std.{specs.Fmt.decimal, proofs.Common.{[], ℕ, ◌%◌, ◌++◌, ◌+◌, ◌/◌, ◌<◌, ◌^◌, ◌∙◌, ◌∷◌, ◌≡◌, ◌≤◌, ap, append_assoc, arith}}
+use Rattle.std.proofs.{Common.length, lemmas.{Fmt.{decimal_digit, decimal_step}, List.length-append}}
+use Rattle.evtext.proofs.writing.+put_decimal.Goals.{else-number-ge10, then-number-ge10}
 use Rattle.evtext.proofs.writing.+put_decimal.Goals as goal
-use Rattle.evtext.proofs.writing.+put_decimal.Goals.{then-number-ge10, else-number-ge10}
 
 longer : (n : ℕ) → 10 ≤ n → n < 2 ^ 64 → length (decimal n) ≡ length (decimal (n / 10)) + 1
 longer n more small = ap length (decimal_step n more small) ∙ length-append (decimal (n / 10)) ((48 + n % 10) ∷ [])

@@ -1,5 +1,4 @@
-use Rattle.std.proofs.Common.{arith}
-use Rattle.std.proofs.lemmas.Fmt.{length-decimal-le}
+use Rattle.std.proofs.{Common.arith, lemmas.Fmt.length-decimal-le}
 use Rattle.evtext.proofs.writing.write_number.Goals as goal
 
 pub put_decimal-requires : goal.put_decimal-requires

@@ -1,5 +1,4 @@
-use Rattle.std.proofs.Common.{◌≡◌, ◌∷◌, take, map}
-use Rattle.std.specs.Fmt.{decimal}
+use Rattle.std.{specs.Fmt.decimal, proofs.Common.{◌∷◌, ◌≡◌, map, take}}
 use Rattle.evtext.specs.Written.{written}
 use Rattle.evtext.proofs.writing.write_numbers.Given as goal
 

@@ -1,11 +1,7 @@
 -- The first that waits is aborted, and the others are left to be; where nobody waits, all were.
-use Rattle.std.proofs.Common.{◌≡◌, ◌<◌, length, sym, ap, subst, ◌∙◌}
-use Rattle.std.specs.Prelude.{Some, None}
-use Rattle.machine.specs.Changes.{first_waiting}
-use Rattle.machine.specs.Machine.{Machine, queue_of}
-use Rattle.machine.specs.WellFormed.{LinksAgree}
-use Rattle.finalising.specs.Finalised.{members, with_waiters_aborted}
-use Rattle.finalising.proofs.Waiters.{FirstAborted, first_aborted, none_left}
+use Rattle.std.{specs.Prelude.{None, Some}, proofs.Common.{◌<◌, ◌∙◌, ◌≡◌, ap, length, subst, sym}}
+use Rattle.machine.specs.{Changes.first_waiting, Machine.{Machine, queue_of}, WellFormed.LinksAgree}
+use Rattle.finalising.{specs.Finalised.{members, with_waiters_aborted}, proofs.Waiters.{FirstAborted, first_aborted, none_left}}
 use Rattle.finalising.proofs.kinds.abort_waiters.Goals as goal
 
 pub loop-thread-smaller : goal.loop-thread-smaller

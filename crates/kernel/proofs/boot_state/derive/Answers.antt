@@ -1,7 +1,6 @@
 -- The slots of the next pair are filled, its child is in no pair so far, and one more has its parent.
 use Rattle.std.proofs.Common.{inl}
-use Rattle.kernel.proofs.BootLemmas.{boot-derived}
-use Rattle.kernel.proofs.BootPairs.{filled_slot, next_above, next_below, next_ranked, next_root}
+use Rattle.kernel.proofs.{BootLemmas.boot-derived, BootPairs.{filled_slot, next_above, next_below, next_ranked, next_root}}
 use Rattle.kernel.proofs.boot_state.derive.Goals as goal
 
 pub attach-requires-clause-below : goal.attach-requires-clause-below

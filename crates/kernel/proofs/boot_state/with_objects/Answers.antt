@@ -1,8 +1,5 @@
-use Rattle.std.proofs.Common.{◌≡◌, ◌+◌, [], ◌∷◌, ◌++◌, take, sym, ap, ◌∙◌}
-use Rattle.std.proofs.lemmas.List.{take_more}
-use Rattle.machine.specs.Boot.{bound}
-use Rattle.machine.specs.Layout.{Layout, bound_context, bound_thread}
-use Rattle.machine.specs.Machine.{Machine, with_new}
+use Rattle.std.proofs.{Common.{[], ◌++◌, ◌+◌, ◌∙◌, ◌∷◌, ◌≡◌, ap, sym, take}, lemmas.List.take_more}
+use Rattle.machine.specs.{Boot.bound, Layout.{Layout, bound_context, bound_thread}, Machine.{Machine, with_new}}
 use Rattle.kernel.proofs.BootLemmas.{boot-nothing, boot-object}
 use Rattle.kernel.proofs.boot_state.with_objects.Goals as goal
 

@@ -1,10 +1,7 @@
 -- An event that was made is a step, and so is one that was refused; each keeps a machine well formed.
-use Rattle.std.proofs.Common.{◌∙◌, sym, subst}
+use Rattle.std.proofs.Common.{◌∙◌, subst, sym}
 use Rattle.base.specs.declared.refusal.Refusal.{Refusal}
-use Rattle.machine.specs.declared.call.Outcome.{Outcome}
-use Rattle.machine.specs.declared.call.Outcome.TheVariants.{Refused}
-use Rattle.machine.specs.Step.{Step}
-use Rattle.machine.proofs.Steps.{made_steps}
+use Rattle.machine.{specs.{declared.call.Outcome.{Outcome, TheVariants.Refused}, Step.Step}, proofs.Steps.made_steps}
 use Rattle.kernel.proofs.Makings.{refused_by_row, unmade_is}
 use Rattle.kernel.proofs.calls.step.Goals as goal
 

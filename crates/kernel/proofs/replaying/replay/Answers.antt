@@ -1,11 +1,7 @@
-use Rattle.std.proofs.Common.{◌≡◌, ◌+◌, ◌++◌, ◌∷◌, ◌∙◌, [], Bool, List, length, ap, arith, refl, sym, subst, take}
-use Rattle.std.proofs.Math.Seq.{take-length}
-use Rattle.std.proofs.lemmas.List.{take_more}
-use Rattle.std.proofs.lemmas.Option.{slice_get_read}
-use Rattle.std.proofs.lemmas.Result.{err_from_is_err_and}
+use Rattle.std.proofs.{Common.{[], ◌++◌, ◌+◌, ◌∙◌, ◌∷◌, ◌≡◌, Bool, List, ap, arith, length, refl, subst, sym, take}, Math.Seq.take-length}
+use Rattle.std.proofs.lemmas.{List.take_more, Option.slice_get_read, Result.err_from_is_err_and}
 use Rattle.machine.specs.Step.{Step}
-use Rattle.kernel.specs.Legal.{Entry, Follows, LacksMemoryIn, Leads}
-use Rattle.kernel.proofs.LegalLemmas.{led_further, legal_ends}
+use Rattle.kernel.{specs.Legal.{Entry, Follows, LacksMemoryIn, Leads}, proofs.LegalLemmas.{led_further, legal_ends}}
 use Rattle.kernel.proofs.replaying.replay.Goals as goal
 
 -- the entry is no step from where those before it lead

@@ -1,11 +1,6 @@
-use Rattle.std.proofs.Common.{◌≡◌, ◌+◌, List, ◌∷◌, ◌++◌, [], ap, sym, subst, ◌∙◌, append_assoc, drop, take, length, arith}
-use Rattle.std.proofs.Math.Seq.{drop-append_seam, take-length}
-use Rattle.std.specs.List.{All, zip}
-use Rattle.std.proofs.lemmas.List.{take_more, length_push}
-use Rattle.machine.specs.declared.call.Event.{Event}
-use Rattle.machine.specs.declared.call.Outcome.{Outcome}
-use Rattle.machine.specs.Run.{Run}
-use Rattle.machine.proofs.Steps.{Ended}
+use Rattle.std.{specs.List.{All, zip}, proofs.Common.{[], ◌++◌, ◌+◌, ◌∙◌, ◌∷◌, ◌≡◌, List, ap, append_assoc, arith, drop, length, subst}}
+use Rattle.std.proofs.{Common.{sym, take}, Math.Seq.{drop-append_seam, take-length}, lemmas.List.{length_push, take_more}}
+use Rattle.machine.{specs.{declared.call.{Event.Event, Outcome.Outcome}, Run.Run}, proofs.Steps.Ended}
 use Rattle.kernel.proofs.RunLemmas.{run_further}
 use Rattle.kernel.proofs.runs.run.Goals as goal
 

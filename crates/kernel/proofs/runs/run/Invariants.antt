@@ -1,7 +1,5 @@
-use Rattle.std.proofs.Common.{◌≡◌, ◌++◌, List, ◌+◌, ◌-◌, ◌≤◌, length, take, vec_len, vec_capacity}
-use Rattle.machine.specs.declared.call.Outcome.{Outcome as Ended}
-use Rattle.machine.specs.Run.{Run}
-use Rattle.machine.specs.WellFormed.{IsWellFormed}
+use Rattle.std.proofs.Common.{◌++◌, ◌+◌, ◌-◌, ◌≡◌, ◌≤◌, List, length, take, vec_capacity, vec_len}
+use Rattle.machine.specs.{declared.call.Outcome.Outcome as Ended, Run.Run, WellFormed.IsWellFormed}
 use Rattle.kernel.proofs.runs.run.Given as goal
 
 abbrev pub invariant-loop-event : goal.invariant-loop-event

@@ -1,6 +1,5 @@
-use Rattle.std.proofs.Common.{sym, ap, ◌∙◌, option_to_list}
-use Rattle.labels.specs.TableEdges.{edges_of_binding}
-use Rattle.labels.proofs.EdgeLists.{one_added, none_added}
+use Rattle.std.proofs.Common.{◌∙◌, ap, option_to_list, sym}
+use Rattle.labels.{specs.TableEdges.edges_of_binding, proofs.EdgeLists.{none_added, one_added}}
 use Rattle.labels.proofs.boot_authority.add_binding.Goals as goal
 
 pub returns-in_ok-add-clause-ok : goal.returns-in_ok-add-clause-ok

@@ -1,5 +1,5 @@
-use Rattle.std.proofs.Common.{◌≡◌, get_or, refl, rules, arith}
-use Rattle.labels.proofs.EdgeLists.{one_more, none_added}
+use Rattle.std.proofs.Common.{◌≡◌, arith, get_or, refl, rules}
+use Rattle.labels.proofs.EdgeLists.{none_added, one_more}
 use Rattle.labels.proofs.boot_authority.add_slot.Goals as goal
 
 pub loop-edge-init : goal.loop-edge-init

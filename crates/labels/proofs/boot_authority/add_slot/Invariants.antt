@@ -1,4 +1,4 @@
-use Rattle.std.proofs.Common.{◌≡◌, ℕ, ◌||◌, take}
+use Rattle.std.proofs.Common.{ℕ, ◌||◌, ◌≡◌, take}
 use Rattle.base.specs.declared.kind.Kind.{Kind}
 use Rattle.policy.specs.Policy.{allows}
 use Rattle.labels.proofs.boot_authority.add_slot.Given as goal

@@ -1,6 +1,5 @@
 use Rattle.std.proofs.Common.{[], flat_map}
-use Rattle.labels.specs.TableEdges.{edges_of_binding, edges_of_filled}
-use Rattle.labels.proofs.TableAuthority.{found_more}
+use Rattle.labels.{specs.TableEdges.{edges_of_binding, edges_of_filled}, proofs.TableAuthority.found_more}
 use Rattle.labels.proofs.boot_authority.collected.Goals as goal
 
 pub loop-filled-preserved : goal.loop-filled-preserved

@@ -1,4 +1,4 @@
-use Rattle.std.proofs.Common.{◌≡◌, ℕ, ◌++◌, take, flat_map}
+use Rattle.std.proofs.Common.{ℕ, ◌++◌, ◌≡◌, flat_map, take}
 use Rattle.base.specs.declared.kind.Kind.{Kind}
 use Rattle.policy.specs.Policy.{allows}
 use Rattle.labels.specs.TableEdges.{edges_of_binding, edges_of_filled}

@@ -1,7 +1,5 @@
-use Rattle.machine.specs.Capabilities.{gives}
-use Rattle.machine.specs.Layout.{declared_label}
-use Rattle.labels.specs.SlotEdges.{edge_between}
-use Rattle.labels.proofs.EdgeLists.{edges_more}
+use Rattle.machine.specs.{Capabilities.gives, Layout.declared_label}
+use Rattle.labels.{specs.SlotEdges.edge_between, proofs.EdgeLists.edges_more}
 use Rattle.labels.proofs.edges.push_kinds.Goals as goal
 
 pub loop-kind-preserved : goal.loop-kind-preserved

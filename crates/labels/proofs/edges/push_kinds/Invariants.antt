@@ -1,6 +1,5 @@
-use Rattle.std.proofs.Common.{◌≡◌, ◌++◌, take, filter, flat_map}
-use Rattle.machine.specs.Capabilities.{gives}
-use Rattle.machine.specs.Layout.{declared_label}
+use Rattle.std.proofs.Common.{◌++◌, ◌≡◌, filter, flat_map, take}
+use Rattle.machine.specs.{Capabilities.gives, Layout.declared_label}
 use Rattle.labels.specs.SlotEdges.{edge_between}
 use Rattle.labels.proofs.edges.push_kinds.Given as goal
 

@@ -1,4 +1,5 @@
-use Rattle.machine.proofs.RemovalLooks.{object_of-removed, queue_of-removed, words_of-removed, cap_of-removed, parent_of-removed, going-removed, next-removed}
+use Rattle.machine.proofs.RemovalLooks.{cap_of-removed, going-removed, next-removed, object_of-removed, parent_of-removed, queue_of-removed}
+use Rattle.machine.proofs.RemovalLooks.{words_of-removed}
 use Rattle.machine.proofs.removal_laws.a_removal_is_told_by_its_look_ups.Goals as goal
 
 pub returns-clause-objects : goal.returns-clause-objects

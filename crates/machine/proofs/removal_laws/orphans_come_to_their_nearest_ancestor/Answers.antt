@@ -1,4 +1,4 @@
-use Rattle.machine.proofs.RemovalLooks.{nearest_survives, gone_has_no_parent}
+use Rattle.machine.proofs.RemovalLooks.{gone_has_no_parent, nearest_survives}
 use Rattle.machine.proofs.removal_laws.orphans_come_to_their_nearest_ancestor.Goals as goal
 
 pub returns-clause-stays : goal.returns-clause-stays

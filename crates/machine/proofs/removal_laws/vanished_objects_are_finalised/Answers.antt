@@ -1,4 +1,5 @@
-use Rattle.machine.proofs.RemovalTable.{queued_aborted, holder_halted, context_lost, queue_left, reply_stays, context_unbound, thread_untouched, unlinked_stays}
+use Rattle.machine.proofs.RemovalTable.{context_lost, context_unbound, holder_halted, queue_left, queued_aborted, reply_stays}
+use Rattle.machine.proofs.RemovalTable.{thread_untouched, unlinked_stays}
 use Rattle.machine.proofs.removal_laws.vanished_objects_are_finalised.Goals as goal
 
 pub returns-clause-queued : goal.returns-clause-queued

@@ -1,5 +1,4 @@
-use Rattle.machine.specs.Gone.{gone_of}
-use Rattle.machine.proofs.GoneLemmas.{gone_least, gone_decided, losing_decided}
+use Rattle.machine.{specs.Gone.gone_of, proofs.GoneLemmas.{gone_decided, gone_least, losing_decided}}
 use Rattle.machine.proofs.removal_laws.what_goes_is_the_least_closed_set.Goals as goal
 
 pub returns-clause-least : goal.returns-clause-least

@@ -1,4 +1,4 @@
-use Rattle.machine.proofs.Steps.{steps_agree, refused_changes_nothing}
+use Rattle.machine.proofs.Steps.{refused_changes_nothing, steps_agree}
 use Rattle.machine.proofs.step_laws.steps_of_one_event_agree.Goals as goal
 
 pub returns-clause-agree : goal.returns-clause-agree

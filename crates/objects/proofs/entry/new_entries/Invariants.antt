@@ -1,7 +1,5 @@
-use Rattle.std.proofs.Common.{◌≡◌, map, take}
-use Rattle.std.specs.List.{AllByRecursion}
-use Rattle.objects.specs.Entries.{new_entry}
-use Rattle.objects.specs.Radices.{HasRadix}
+use Rattle.std.{specs.List.AllByRecursion, proofs.Common.{◌≡◌, map, take}}
+use Rattle.objects.specs.{Entries.new_entry, Radices.HasRadix}
 use Rattle.objects.proofs.entry.new_entries.Given as goal
 
 -- the entries so far are made

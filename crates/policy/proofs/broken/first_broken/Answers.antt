@@ -1,8 +1,5 @@
-use Rattle.std.proofs.Common.{Some, None, arith}
-use Rattle.std.proofs.lemmas.Option.{slice_get-get_or}
-use Rattle.policy.specs.Policy.{allows}
-use Rattle.policy.proofs.Places.{none_more, none_at_all, least_here}
-use Rattle.policy.proofs.RulePlaces.{all_rules, of_rules, of_all}
+use Rattle.std.proofs.{Common.{None, Some, arith}, lemmas.Option.slice_get-get_or}
+use Rattle.policy.{specs.Policy.allows, proofs.{Places.{least_here, none_at_all, none_more}, RulePlaces.{all_rules, of_all, of_rules}}}
 use Rattle.policy.proofs.broken.first_broken.Goals as goal
 
 pub returns-in-Some : goal.returns-in-Some

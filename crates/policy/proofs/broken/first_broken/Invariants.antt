@@ -1,9 +1,6 @@
 -- no rule so far is broken
 use Rattle.std.proofs.Common.{[]}
-use Rattle.policy.specs.Broken.{IsBrokenAt, broken_place}
-use Rattle.policy.specs.Policy.{allows}
-use Rattle.policy.proofs.Places.{NoneSoFar}
-use Rattle.policy.proofs.RulePlaces.{all_rules, of_rule}
+use Rattle.policy.{specs.{Broken.{IsBrokenAt, broken_place}, Policy.allows}, proofs.{Places.NoneSoFar, RulePlaces.{all_rules, of_rule}}}
 use Rattle.policy.proofs.broken.first_broken.Given as goal
 
 abbrev pub invariant-loop-rule : goal.invariant-loop-rule

@@ -1,5 +1,4 @@
-use Rattle.std.proofs.Common.{◌≡◌, ◌||◌, Bool, true, false, take, refl, sym, ap, ◌∙◌, arith}
-use Rattle.std.proofs.lemmas.List.Folds.{list_any_more}
+use Rattle.std.proofs.{Common.{◌||◌, ◌∙◌, ◌≡◌, Bool, ap, arith, false, refl, sym, take, true}, lemmas.List.Folds.list_any_more}
 use Rattle.policy.specs.Policy.{allows, is_edge}
 use Rattle.policy.proofs.closing.add_all.Goals as goal
 

@@ -1,6 +1,5 @@
-use Rattle.std.proofs.Common.{sym, ◌∙◌}
-use Rattle.policy.specs.Policy.{allows}
-use Rattle.policy.proofs.ClosingSets.{given_told}
+use Rattle.std.proofs.Common.{◌∙◌, sym}
+use Rattle.policy.{specs.Policy.allows, proofs.ClosingSets.given_told}
 use Rattle.policy.proofs.closing.given.Goals as goal
 
 pub returns : goal.returns

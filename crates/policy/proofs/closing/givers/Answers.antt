@@ -1,5 +1,4 @@
-use Rattle.policy.specs.Policy.{allows}
-use Rattle.policy.proofs.ClosingSets.{givers_told}
+use Rattle.policy.{specs.Policy.allows, proofs.ClosingSets.givers_told}
 use Rattle.policy.proofs.closing.givers.Goals as goal
 
 pub returns : goal.returns

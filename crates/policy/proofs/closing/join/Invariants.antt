@@ -1,8 +1,6 @@
-use Rattle.std.proofs.Common.{◌≡◌, ◌<◌, ◌⊎◌, ℕ, true}
-use Rattle.base.specs.declared.kind.Kind.{Kind}
-use Rattle.base.specs.Labels.{is_in}
-use Rattle.policy.specs.Closing.{IsWithin}
-use Rattle.policy.specs.Policy.{allows}
+use Rattle.std.proofs.Common.{ℕ, ◌<◌, ◌≡◌, ◌⊎◌, true}
+use Rattle.base.specs.{declared.kind.Kind.Kind, Labels.is_in}
+use Rattle.policy.specs.{Closing.IsWithin, Policy.allows}
 use Rattle.policy.proofs.closing.join.Given as goal
 
 -- the edges to the labels so far are added, and no other

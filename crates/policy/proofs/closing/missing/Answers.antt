@@ -1,5 +1,4 @@
-use Rattle.policy.specs.Policy.{allows}
-use Rattle.policy.proofs.ClosingSets.{derivations_missing, runs_missing, replies_missing, given_missing}
+use Rattle.policy.{specs.Policy.allows, proofs.ClosingSets.{derivations_missing, given_missing, replies_missing, runs_missing}}
 use Rattle.policy.proofs.closing.missing.Goals as goal
 
 pub returns-in-Derive : goal.returns-in-Derive

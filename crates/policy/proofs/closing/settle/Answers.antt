@@ -1,6 +1,5 @@
 use Rattle.std.proofs.Common.{subst}
-use Rattle.policy.specs.Settling.{Grows}
-use Rattle.policy.proofs.ClosingGrowth.{absent_falls}
+use Rattle.policy.{specs.Settling.Grows, proofs.ClosingGrowth.absent_falls}
 use Rattle.policy.proofs.closing.settle.Goals as goal
 
 pub loop-policy-smaller : goal.loop-policy-smaller

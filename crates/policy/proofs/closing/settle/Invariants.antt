@@ -1,8 +1,4 @@
-use Rattle.policy.specs.Closed.{IsClosed}
-use Rattle.policy.specs.Closing.{IsWithin}
-use Rattle.policy.specs.Domain.{EdgeTest}
-use Rattle.policy.specs.Policy.{allows}
-use Rattle.policy.proofs.ClosingGrowth.{absent_count}
+use Rattle.policy.{specs.{Closed.IsClosed, Closing.IsWithin, Domain.EdgeTest, Policy.allows}, proofs.ClosingGrowth.absent_count}
 use Rattle.policy.proofs.closing.settle.Given as goal
 
 -- what was there is there, and every closed policy that has it has what is there now

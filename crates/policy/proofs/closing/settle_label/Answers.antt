@@ -1,14 +1,10 @@
-use Rattle.std.proofs.Common.{◌≡◌, ◌↔◌, ℕ, true, sym, ◌∙◌, subst, arith}
-use mathlib.Core.Bool.{false≢true}
-use Rattle.std.proofs.lemmas.Option.{slice_get-get_or}
+use Rattle.std.proofs.{Common.{ℕ, ◌↔◌, ◌∙◌, ◌≡◌, arith, subst, sym, true}, lemmas.Option.slice_get-get_or}
 use Rattle.base.specs.Labels.{is_in}
-use Rattle.policy.specs.Settling.{Grows, IsSettled, Shares}
-use Rattle.policy.specs.Policy.{allows}
-use Rattle.policy.proofs.ClosingGrowth.{grows_more, grows_no_more}
-use Rattle.policy.proofs.ClosingSets.{one_more_kind}
-use Rattle.policy.proofs.KindNumbers.{all_kinds, kind_number_below}
+use Rattle.policy.{specs.{Policy.allows, Settling.{Grows, IsSettled, Shares}}, proofs.ClosingGrowth.{grows_more, grows_no_more}}
+use Rattle.policy.proofs.{ClosingSets.one_more_kind, KindNumbers.{all_kinds, kind_number_below}, closing.settle_label.Goals.else-branch}
+use Rattle.policy.proofs.closing.settle_label.Goals.{then-branch}
 use Rattle.policy.proofs.closing.settle_label.Goals as goal
-use Rattle.policy.proofs.closing.settle_label.Goals.{then-branch, else-branch}
+use mathlib.Core.Bool.{false≢true}
 
 pub loop-kind-preserved : goal.loop-kind-preserved
 loop-kind-preserved c =

@@ -1,9 +1,6 @@
-use Rattle.std.proofs.Common.{◌≡◌, ◌<◌, ◌↔◌, ℕ, true, false}
-use Rattle.base.specs.declared.kind.Kind.{Kind}
-use Rattle.base.specs.Kinds.{kind_number}
-use Rattle.base.specs.Labels.{is_in}
-use Rattle.policy.specs.Settling.{Grows, IsSettled, Shares}
-use Rattle.policy.specs.Policy.{allows}
+use Rattle.std.proofs.Common.{ℕ, ◌<◌, ◌↔◌, ◌≡◌, false, true}
+use Rattle.base.specs.{declared.kind.Kind.Kind, Kinds.kind_number, Labels.is_in}
+use Rattle.policy.specs.{Policy.allows, Settling.{Grows, IsSettled, Shares}}
 use Rattle.policy.proofs.closing.settle_label.Given as goal
 
 -- if nothing changed, no edge of the kinds so far is missing; who shares with the label

@@ -1,12 +1,11 @@
-use Rattle.std.proofs.Common.{ℕ, sym, ◌∙◌, subst, below_more, arith}
-use mathlib.Core.Bool.{false≢true}
+use Rattle.std.proofs.Common.{ℕ, ◌∙◌, arith, below_more, subst, sym}
 use Rattle.base.specs.declared.kind.Kind.{Kind}
-use Rattle.policy.specs.Settling.{Grows, IsSettled}
-use Rattle.policy.specs.Policy.{allows, JoinsBelow}
-use Rattle.policy.proofs.ClosingGrowth.{grows_more, grows_no_more}
+use Rattle.policy.{specs.{Policy.{JoinsBelow, allows}, Settling.{Grows, IsSettled}}, proofs.ClosingGrowth.{grows_more, grows_no_more}}
 use Rattle.policy.proofs.ClosingRules.{asked_starts, closed_if_settled}
+use Rattle.policy.proofs.closing.settle_labels.Goals.{in-Some+in_ok-settle_label+else-branch, in-Some+in_ok-settle_label+then-branch}
+use Rattle.policy.proofs.closing.settle_labels.Goals.{in_default}
 use Rattle.policy.proofs.closing.settle_labels.Goals as goal
-use Rattle.policy.proofs.closing.settle_labels.Goals.{in-Some+in_ok-settle_label+then-branch, in-Some+in_ok-settle_label+else-branch, in_default}
+use mathlib.Core.Bool.{false≢true}
 
 pub loop-number-preserved : goal.loop-number-preserved
 loop-number-preserved c =

@@ -1,4 +1,4 @@
-use Rattle.policy.proofs.Unbroken.{unbroken, closed_if}
+use Rattle.policy.proofs.Unbroken.{closed_if, unbroken}
 use Rattle.policy.proofs.laws.closed_policies_are_unbroken.Goals as goal
 
 pub returns : goal.returns

@@ -1,4 +1,4 @@
-use Rattle.policy.specs.Take.MayTake.{unbinds, ends, removes}
+use Rattle.policy.specs.Take.MayTake.{ends, removes, unbinds}
 use Rattle.policy.proofs.laws.takes_follow_paths.Goals as goal
 
 pub returns-clause-unbinds : goal.returns-clause-unbinds

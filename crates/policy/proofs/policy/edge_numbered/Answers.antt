@@ -1,10 +1,8 @@
-use Rattle.std.proofs.Common.{◌/◌, ◌%◌, slice_index_or, arith}
-use mathlib.Core.Bool.{false≢true}
-use Rattle.base.specs.declared.kind.Kind.TheVariants.{Control}
-use Rattle.base.specs.declared.kind.TheConstants.Kind.{ALL}
-use Rattle.policy.specs.Rows.{edge_at, kind_count}
-use Rattle.policy.proofs.RowEdges.{parts_within}
+use Rattle.std.proofs.Common.{◌%◌, ◌/◌, arith, slice_index_or}
+use Rattle.base.specs.declared.kind.{Kind.TheVariants.Control, TheConstants.Kind.ALL}
+use Rattle.policy.{specs.Rows.{edge_at, kind_count}, proofs.RowEdges.parts_within}
 use Rattle.policy.proofs.policy.edge_numbered.Goals as goal
+use mathlib.Core.Bool.{false≢true}
 
 pub nonzero_div-row : goal.nonzero_div-row
 nonzero_div-row c =

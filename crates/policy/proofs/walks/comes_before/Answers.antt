@@ -1,6 +1,5 @@
-use Rattle.std.proofs.Common.{length, sym, ap, ◌∙◌}
-use Rattle.std.specs.Ordering.{is_some_and, is_lt}
-use Rattle.policy.proofs.WalkOrder.{numbers_cmp, apart_first, same_first}
+use Rattle.std.{specs.Ordering.{is_lt, is_some_and}, proofs.Common.{◌∙◌, ap, length, sym}}
+use Rattle.policy.proofs.WalkOrder.{apart_first, numbers_cmp, same_first}
 use Rattle.policy.proofs.walks.comes_before.Goals as goal
 
 pub returns-then-one-other : goal.returns-then-one-other

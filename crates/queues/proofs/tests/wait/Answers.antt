@@ -1,14 +1,10 @@
 -- Nobody waits where there are no objects, and nobody comes to wait as objects are added.
-use Rattle.std.proofs.Common.{◌≡◌, [], Bool, true, false, cond, sym, ap, subst, ◌∙◌, arith}
-use Rattle.std.specs.Prelude.{Some, is_some, Contains}
+use Rattle.std.{specs.{Cmp.tied_itself, Ordering.is_eq, Prelude.{Contains, Some, is_some}}, proofs.Common.{[], ◌∙◌, ◌≡◌, Bool, ap, arith}}
+use Rattle.std.proofs.Common.{cond, false, subst, sym, true}
 use Rattle.base.specs.declared.ids.ObjId.{ObjId}
-use Rattle.machine.specs.declared.object.Object.{Object}
-use Rattle.machine.specs.Machine.{Machine, same_id, queue_of, object_of, empty_machine, with_new}
-use Rattle.machine.proofs.LookUps.{id_total, queue_of-empty}
-use Rattle.machine.proofs.LookUps.{queue_of-with_new, object_of-with_new}
+use Rattle.machine.specs.{declared.object.Object.Object, Machine.{Machine, empty_machine, object_of, queue_of, same_id, with_new}}
+use Rattle.machine.proofs.LookUps.{id_total, object_of-with_new, queue_of-empty, queue_of-with_new}
 use Rattle.objects.specs.Waiting.{WaitsNowhere}
-use Rattle.std.specs.Cmp.{tied_itself}
-use Rattle.std.specs.Ordering.{is_eq}
 use Rattle.queues.proofs.tests.wait.Goals as goal
 
 empty_waits : (thread : ObjId) → WaitsNowhere empty_machine thread

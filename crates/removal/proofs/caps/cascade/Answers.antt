@@ -1,8 +1,6 @@
 -- A turn looks through one more object, and no more are going than there are objects.
-use Rattle.std.proofs.Common.{sym, ap, ◌∙◌, arith}
-use Rattle.std.specs.Prelude.{slice_get}
-use Rattle.removal.proofs.Cascading.{cascade_ended, cascade_more, none_past_all}
-use Rattle.removal.proofs.Dropped.{listed_at}
+use Rattle.std.{specs.Prelude.slice_get, proofs.Common.{◌∙◌, ap, arith, sym}}
+use Rattle.removal.proofs.{Cascading.{cascade_ended, cascade_more, none_past_all}, Dropped.listed_at}
 use Rattle.removal.proofs.caps.cascade.Goals as goal
 
 pub returns-in_default-clause-emptied : goal.returns-in_default-clause-emptied

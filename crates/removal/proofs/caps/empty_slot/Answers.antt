@@ -1,5 +1,5 @@
 -- There is room for what has lost its last capability, and it comes to be going as the others are.
-use Rattle.std.proofs.Common.{sym, ◌∙◌}
+use Rattle.std.proofs.Common.{◌∙◌, sym}
 use Rattle.removal.proofs.Going.{one_more_going, room_in, same_going}
 use Rattle.removal.proofs.caps.empty_slot.Goals as goal
 

@@ -1,12 +1,8 @@
 -- Each slot that there is has been emptied.
-use Rattle.std.proofs.Common.{◌≡◌, inr, refl, sym, ap, subst, ◌∙◌, arith}
-use Rattle.std.specs.Prelude.{Some, None, IsTrue, Contains}
+use Rattle.std.{specs.Prelude.{Contains, IsTrue, None, Some}, proofs.Common.{◌∙◌, ◌≡◌, ap, arith, inr, refl, subst, sym}}
 use Rattle.base.specs.declared.ids.SlotRef.{SlotRef}
-use Rattle.machine.specs.declared.cap.Cap.{Cap}
-use Rattle.machine.specs.Machine.{Machine, cap_of, has_slot}
-use Rattle.removal.specs.UnderWay.{emptied, emptied_below, slots_at}
-use Rattle.removal.proofs.Cascading.{below_more}
-use Rattle.removal.proofs.Turns.{all_hollow, listed_on}
+use Rattle.machine.specs.{declared.cap.Cap.Cap, Machine.{Machine, cap_of, has_slot}}
+use Rattle.removal.{specs.UnderWay.{emptied, emptied_below, slots_at}, proofs.{Cascading.below_more, Turns.{all_hollow, listed_on}}}
 use Rattle.removal.proofs.caps.empty_slots_of.Goals as goal
 
 pub empty_slot-requires-clause-place : goal.empty_slot-requires-clause-place

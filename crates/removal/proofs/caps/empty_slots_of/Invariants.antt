@@ -1,6 +1,5 @@
 -- The slots below the index have been emptied.
-use Rattle.std.proofs.Common.{◌≡◌}
-use Rattle.std.specs.Prelude.{Contains}
+use Rattle.std.{specs.Prelude.Contains, proofs.Common.◌≡◌}
 use Rattle.removal.specs.UnderWay.{AreGoing, emptied_below}
 use Rattle.removal.proofs.caps.empty_slots_of.Given as goal
 

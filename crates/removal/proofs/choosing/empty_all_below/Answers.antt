@@ -1,9 +1,8 @@
 -- Each turn takes out one that descends, and none is left where the slot has no child.
-use Rattle.std.proofs.Common.{◌∙◌}
-use Rattle.std.specs.FinMap.{keys}
+use Rattle.std.{specs.FinMap.keys, proofs.Common.◌∙◌}
 use Rattle.machine.specs.Below.{is_below}
-use Rattle.removal.proofs.Chosen.{same_parents}
-use Rattle.removal.proofs.Clearing.{below_empty, cleared_more, clearing_begun, fewer_pairs, node_listed, parents_cleared}
+use Rattle.removal.proofs.{Chosen.same_parents, Clearing.{below_empty, cleared_more, clearing_begun, fewer_pairs, node_listed}}
+use Rattle.removal.proofs.Clearing.{parents_cleared}
 use Rattle.removal.proofs.choosing.empty_all_below.Goals as goal
 
 pub loop-child-init : goal.loop-child-init

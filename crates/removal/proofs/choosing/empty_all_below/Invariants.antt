@@ -1,7 +1,5 @@
 -- What descends from the slot is out of the tree and empty, or still descends from it. Each turn leaves one pair less.
-use Rattle.std.specs.Prelude.{is_some}
-use Rattle.std.specs.FinMap.{keys}
-use Rattle.std.specs.List.{count_by}
+use Rattle.std.specs.{FinMap.keys, List.count_by, Prelude.is_some}
 use Rattle.machine.specs.Machine.{parent_of}
 use Rattle.removal.proofs.Clearing.{Clears}
 use Rattle.removal.proofs.choosing.empty_all_below.Given as goal

@@ -1,11 +1,8 @@
 -- A slot that has left the tree is emptied as it would have been there.
-use Rattle.std.proofs.Common.{inl, ap, ◌∙◌}
-use Rattle.machine.specs.Machine.{Machine, parent_of, same_slot}
-use Rattle.machine.specs.WellFormed.{child}
-use Rattle.machine.proofs.Exchange.{slot_itself}
+use Rattle.std.proofs.Common.{◌∙◌, ap, inl}
+use Rattle.machine.{specs.{Machine.{Machine, parent_of, same_slot}, WellFormed.child}, proofs.Exchange.slot_itself}
 use Rattle.derivation.proofs.Leavings.{left_alone, node_left}
-use Rattle.removal.proofs.Beside.{going_stays}
-use Rattle.removal.proofs.EmptiedLooks.{emptied_apart, parents-emptied}
+use Rattle.removal.proofs.{Beside.going_stays, EmptiedLooks.{emptied_apart, parents-emptied}}
 use Rattle.removal.proofs.choosing.take_out.Goals as goal
 
 pub empty_slot-requires-clause-going : goal.empty_slot-requires-clause-going

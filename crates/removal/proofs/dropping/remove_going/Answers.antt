@@ -1,10 +1,7 @@
 -- Each that is going is cut off when its turn comes.
-use Rattle.std.proofs.Common.{refl, sym, ap, ◌∙◌, arith}
-use Rattle.std.specs.Prelude.{slice_get}
-use Rattle.machine.specs.Changes.{without_object}
-use Rattle.machine.proofs.ObjectGone.{going-without_object}
-use Rattle.removal.specs.Dropping.{without_objects}
-use Rattle.removal.proofs.Dropped.{all_taken, cut_off_stays, listed_at, none_past, one_more_gone}
+use Rattle.std.{specs.Prelude.slice_get, proofs.Common.{◌∙◌, ap, arith, refl, sym}}
+use Rattle.machine.{specs.Changes.without_object, proofs.ObjectGone.going-without_object}
+use Rattle.removal.{specs.Dropping.without_objects, proofs.Dropped.{all_taken, cut_off_stays, listed_at, none_past, one_more_gone}}
 use Rattle.removal.proofs.dropping.remove_going.Goals as goal
 
 pub loop-next-init : goal.loop-next-init

@@ -1,7 +1,6 @@
-use Rattle.std.proofs.Common.{◌≡◌, sym, subst}
-use Rattle.machine.specs.Machine.{Machine, same_slot}
-use Rattle.machine.specs.WellFormed.{IsWellFormed}
-use Rattle.removal.proofs.Finds.{one_found, formed_filled}
+use Rattle.std.proofs.Common.{◌≡◌, subst, sym}
+use Rattle.machine.specs.{Machine.{Machine, same_slot}, WellFormed.IsWellFormed}
+use Rattle.removal.proofs.Finds.{formed_filled, one_found}
 use Rattle.removal.proofs.removing.remove.Goals as goal
 
 pub empty_all_with-requires : goal.empty_all_with-requires

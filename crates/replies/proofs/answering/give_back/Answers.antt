@@ -1,5 +1,5 @@
 -- What was lent may be handed over where it is given back.
-use Rattle.std.proofs.Common.{sym, ◌∙◌}
+use Rattle.std.proofs.Common.{◌∙◌, sym}
 use Rattle.replies.proofs.Returning.{called_free, called_there, invoker_runs}
 use Rattle.replies.proofs.answering.give_back.Goals as goal
 

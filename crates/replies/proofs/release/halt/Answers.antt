@@ -1,7 +1,5 @@
-use Rattle.std.proofs.Common.{sym, subst}
-use Rattle.machine.specs.Machine.{Machine}
-use Rattle.machine.specs.WellFormed.{IsWellFormed}
-use Rattle.machine.proofs.MessageFormed.{halted_formed}
+use Rattle.std.proofs.Common.{subst, sym}
+use Rattle.machine.{specs.{Machine.Machine, WellFormed.IsWellFormed}, proofs.MessageFormed.halted_formed}
 use Rattle.replies.proofs.release.halt.Goals as goal
 
 pub returns-clause-well_formed : goal.returns-clause-well_formed

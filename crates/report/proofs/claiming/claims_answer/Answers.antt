@@ -1,6 +1,6 @@
-use Rattle.std.proofs.Common.{length, refl, ap, ◌∙◌}
-use Rattle.report.specs.Claimed as claimed
+use Rattle.std.proofs.Common.{◌∙◌, ap, length, refl}
 use Rattle.reptext.specs.Reports.{hold_data, line_of}
+use Rattle.report.specs.Claimed as claimed
 use Rattle.report.proofs.claiming.claims_answer.Goals as goal
 
 pub returns-in_ok-hold_report-in-None-clause-right : goal.returns-in_ok-hold_report-in-None-clause-right

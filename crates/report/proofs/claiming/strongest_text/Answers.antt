@@ -1,12 +1,7 @@
 -- The strongest claims are claims of the table, so that their text is read back.
-use Rattle.std.proofs.Common.{◌≡◌, ℕ, Ok, IfOk, sym, subst}
-use Rattle.std.specs.Prelude.{Vec}
-use Rattle.std.specs.declared.alloc.Global.{Global}
-use Rattle.claims.specs.Claims.{AreClaimsOf}
-use Rattle.claims.specs.ClaimsText.{claims_text}
-use Rattle.claims.specs.Reading.{read_claims_of}
-use Rattle.report.specs.Claimed.{TellsStrongest}
-use Rattle.report.proofs.Answered.{both_hold}
+use Rattle.std.{specs.{declared.alloc.Global.Global, Prelude.Vec}, proofs.Common.{ℕ, ◌≡◌, IfOk, Ok, subst, sym}}
+use Rattle.claims.specs.{Claims.AreClaimsOf, ClaimsText.claims_text, Reading.read_claims_of}
+use Rattle.report.{specs.Claimed.TellsStrongest, proofs.Answered.both_hold}
 use Rattle.report.proofs.claiming.strongest_text.Goals as goal
 
 pub returns-clause-text : goal.returns-clause-text

@@ -1,5 +1,4 @@
-use Rattle.std.proofs.Common.{Bool, not, ap, filter, rules, ◌∙◌}
-use Rattle.std.proofs.lemmas.Fn.{filter_same}
+use Rattle.std.proofs.{Common.{◌∙◌, Bool, ap, filter, not, rules}, lemmas.Fn.filter_same}
 use Rattle.base.specs.declared.edge.Edge.{Edge}
 use Rattle.policy.specs.Policy.{allows}
 use Rattle.report.proofs.closing.missing_edges.Goals as goal

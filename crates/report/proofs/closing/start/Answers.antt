@@ -1,5 +1,4 @@
-use Rattle.std.proofs.Common.{ap, refl}
-use Rattle.std.specs.Prelude.{Some}
+use Rattle.std.{specs.Prelude.Some, proofs.Common.{ap, refl}}
 use Rattle.report.proofs.closing.start.Goals as goal
 
 -- the source that is left is that of the engine

@@ -1,7 +1,6 @@
 -- The least policy for the table alone is the least that has no edge given.
 use Rattle.std.proofs.Common.{subst}
-use Rattle.report.specs.Closings.{IsClosing}
-use Rattle.report.proofs.ClosedText.{surplus_told}
+use Rattle.report.{specs.Closings.IsClosing, proofs.ClosedText.surplus_told}
 use Rattle.report.proofs.closing.surplus_answer.Goals as goal
 
 pub returns-clause-right : goal.returns-clause-right

@@ -1,9 +1,6 @@
-use Rattle.std.proofs.Common.{◌∙◌}
-use Rattle.std.specs.Io.KnownBytes.{Appends}
+use Rattle.std.{specs.Io.KnownBytes.Appends, proofs.Common.◌∙◌}
 use Rattle.devices.specs.Devices.{AppendsBeginning}
-use Rattle.report.specs.Commands.{IsAnswer}
-use Rattle.report.specs.Files.{contents_of}
-use Rattle.report.proofs.Answered.{at_contents, began, unlabelled, written}
+use Rattle.report.{specs.{Commands.IsAnswer, Files.contents_of}, proofs.Answered.{at_contents, began, unlabelled, written}}
 use Rattle.report.proofs.engine.carry_out.Goals as goal
 
 pub returns : goal.returns

@@ -1,22 +1,12 @@
 -- Command by command.
-use Rattle.certificate.specs.Reading.{read_certificate_of}
+use Rattle.evtext.specs.{Log.read_log_of, Script.read_script_of}
 use Rattle.claims.specs.Reading.{read_claims_of}
-use Rattle.evtext.specs.Log.{read_log_of}
-use Rattle.evtext.specs.Script.{read_script_of}
-use Rattle.report.specs.Alone.{Lists}
-use Rattle.report.specs.Answers.{Checks, Verifies, read_nothing}
-use Rattle.report.specs.Claimed.{JudgesClaims, WritesStrongest}
-use Rattle.report.specs.Closings.{Closes}
-use Rattle.report.specs.OneAnswer.{RunsInMemory}
-use Rattle.report.specs.Questions.{Draws, Tells}
-use Rattle.report.specs.Replays.{Replays}
-use Rattle.reptext.specs.declared.file.File.TheVariants as file
-use Rattle.report.proofs.OneAnswer.{one_answer}
-use Rattle.report.proofs.OneClaimed.{claims_once, strongest_told_once}
-use Rattle.report.proofs.OneClosing.{close_once, tell_once}
-use Rattle.report.proofs.OneDrawing.{draw_once, list_once}
-use Rattle.report.proofs.OneLog.{replay_once, run_told_once}
-use Rattle.report.proofs.OneReport.{check_once, verify_once}
+use Rattle.certificate.specs.Reading.{read_certificate_of}
+use Rattle.reptext.specs.declared.file.File.{File as file}
+use Rattle.report.specs.{Alone.Lists, Answers.{Checks, Verifies, read_nothing}, Claimed.{JudgesClaims, WritesStrongest}, Closings.Closes}
+use Rattle.report.{specs.{OneAnswer.RunsInMemory, Questions.{Draws, Tells}, Replays.Replays}, proofs.OneAnswer.one_answer}
+use Rattle.report.proofs.{OneClaimed.{claims_once, strongest_told_once}, OneClosing.{close_once, tell_once}, OneDrawing.draw_once}
+use Rattle.report.proofs.{OneDrawing.list_once, OneLog.{replay_once, run_told_once}, OneReport.{check_once, verify_once}}
 use Rattle.report.proofs.laws.reports_are_functions_of_the_bytes.Goals as goal
 
 pub returns-clause-check : goal.returns-clause-check

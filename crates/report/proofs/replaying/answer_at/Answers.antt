@@ -1,5 +1,4 @@
-use Rattle.std.proofs.Common.{refl}
-use Rattle.std.proofs.lemmas.Option.{slice_get_read}
+use Rattle.std.proofs.{Common.refl, lemmas.Option.slice_get_read}
 use Rattle.report.proofs.replaying.answer_at.Goals as goal
 
 -- the entry is there, and the kernel makes its step where those before lead

@@ -1,6 +1,4 @@
-use Rattle.std.proofs.Common.{◌++◌, ◌∙◌, ap}
-use Rattle.std.specs.List.{zip}
-use Rattle.std.proofs.lemmas.Result.{IfOk-weaker}
+use Rattle.std.{specs.List.zip, proofs.{Common.{◌++◌, ◌∙◌, ap}, lemmas.Result.IfOk-weaker}}
 use Rattle.evtext.specs.Log.{log_text}
 use Rattle.report.proofs.running.log_of_run.Goals as goal
 

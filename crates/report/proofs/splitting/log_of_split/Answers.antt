@@ -1,5 +1,4 @@
-use Rattle.std.proofs.Common.{◌∙◌, subst}
-use Rattle.std.proofs.lemmas.Result.{IfOk-weaker}
+use Rattle.std.proofs.{Common.{◌∙◌, subst}, lemmas.Result.IfOk-weaker}
 use Rattle.split.specs.SplitRun.{IsSplitRun}
 use Rattle.report.proofs.splitting.log_of_split.Goals as goal
 

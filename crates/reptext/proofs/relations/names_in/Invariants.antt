@@ -1,8 +1,6 @@
-use Rattle.std.proofs.Common.{◌≡◌, map}
-use Rattle.std.specs.List.{filter, range_with_len}
+use Rattle.std.{specs.List.{filter, range_with_len}, proofs.Common.{◌≡◌, map}}
+use Rattle.serde_json.specs.{Data.string, View.view}
 use Rattle.base.specs.Labels.{is_in}
-use Rattle.serde_json.specs.Data.{string}
-use Rattle.serde_json.specs.View.{view}
 use Rattle.captext.specs.PolicyText.{label_name}
 use Rattle.reptext.proofs.relations.names_in.Given as goal
 

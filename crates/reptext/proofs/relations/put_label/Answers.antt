@@ -1,12 +1,8 @@
-use Rattle.std.proofs.Common.{◌∙◌, ap, arith, map}
-use Rattle.std.specs.List.{filter}
+use Rattle.std.{specs.List.filter, proofs.Common.{◌∙◌, ap, arith, map}}
+use Rattle.serde_json.{specs.{Data.put, View.{members_view, view}}, proofs.Views.members_view-insert_entry}
 use Rattle.base.specs.Labels.{is_in}
-use Rattle.serde_json.specs.Data.{put}
-use Rattle.serde_json.specs.View.{members_view, view}
-use Rattle.serde_json.proofs.Views.{members_view-insert_entry}
 use Rattle.captext.specs.PolicyText.{label_name}
-use Rattle.reptext.specs.Reports.{labels_of, names_data}
-use Rattle.reptext.proofs.LabelLists.{same_set}
+use Rattle.reptext.{specs.Reports.{labels_of, names_data}, proofs.LabelLists.same_set}
 use Rattle.reptext.proofs.relations.put_label.Goals as goal
 
 pub returns : goal.returns

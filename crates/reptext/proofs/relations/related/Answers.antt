@@ -1,4 +1,4 @@
-use Rattle.std.proofs.Common.{◌≡◌, ◌↔◌, ℕ, true, subst, sym}
+use Rattle.std.proofs.Common.{ℕ, ◌↔◌, ◌≡◌, subst, sym, true}
 use Rattle.base.specs.Labels.{is_in}
 use Rattle.policy.specs.Policy.{allows}
 use Rattle.reptext.specs.Relations.{relates}

@@ -1,4 +1,4 @@
-use Rattle.std.proofs.Common.{◌≡◌, ◌<◌, ◌↔◌, ℕ, true, length}
+use Rattle.std.proofs.Common.{ℕ, ◌<◌, ◌↔◌, ◌≡◌, length, true}
 use Rattle.policy.specs.Policy.{allows}
 use Rattle.reptext.specs.Relations.{relates, relation_of}
 use Rattle.reptext.proofs.relations.sets_of.Given as goal

@@ -1,7 +1,5 @@
-use Rattle.std.proofs.Common.{◌∙◌, ap}
-use Rattle.std.proofs.lemmas.Result.{IfOk-weaker}
-use Rattle.reptext.specs.Reports.{line_of}
-use Rattle.reptext.proofs.Names.{check_has_no_float}
+use Rattle.std.proofs.{Common.{◌∙◌, ap}, lemmas.Result.IfOk-weaker}
+use Rattle.reptext.{specs.Reports.line_of, proofs.Names.check_has_no_float}
 use Rattle.reptext.proofs.reports.check_report.Goals as goal
 
 pub line_of-requires : goal.line_of-requires

@@ -1,6 +1,5 @@
 -- the report tells the rule's name and the names at the place
-use Rattle.std.proofs.Common.{◌∙◌, ap, map, string_bytes}
-use Rattle.std.proofs.lemmas.Result.{IfOk-weaker}
+use Rattle.std.proofs.{Common.{◌∙◌, ap, map, string_bytes}, lemmas.Result.IfOk-weaker}
 use Rattle.verdict.specs.Verdict.{rule_name}
 use Rattle.reptext.specs.Reports.{denial_report}
 use Rattle.reptext.proofs.reports.denial_text.Goals as goal

@@ -1,6 +1,5 @@
-use Rattle.std.proofs.Common.{◌≡◌, map, take, string_bytes}
-use Rattle.serde_json.specs.Data.{string}
-use Rattle.serde_json.specs.View.{view}
+use Rattle.std.proofs.Common.{◌≡◌, map, string_bytes, take}
+use Rattle.serde_json.specs.{Data.string, View.view}
 use Rattle.reptext.proofs.reports.names_value.Given as goal
 
 abbrev pub invariant-loop-name : goal.invariant-loop-name

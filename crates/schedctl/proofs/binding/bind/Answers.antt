@@ -1,4 +1,4 @@
-use Rattle.machine.specs.declared.call.Call.TheVariants as call
+use Rattle.machine.specs.declared.call.Call.{Call as call}
 use Rattle.schedctl.proofs.binding.bind.Goals as goal
 
 pub returns-clause-well_formed : goal.returns-clause-well_formed

@@ -1,6 +1,5 @@
 use Rattle.std.proofs.lemmas.Result.{IfOk-weaker}
-use Rattle.machine.specs.Boot.{IsBoot}
-use Rattle.machine.specs.Machine.{Machine}
+use Rattle.machine.specs.{Boot.IsBoot, Machine.Machine}
 use Rattle.split.specs.SplitRun.{IsSplitRun}
 use Rattle.split.proofs.splitting.split.Goals as goal
 

@@ -1,9 +1,7 @@
-use Rattle.std.proofs.Common.{◌≡◌, ◌<◌, ◌∙◌, rules, length, inr, ap, sym, subst, eqb-true}
+use Rattle.std.proofs.Common.{◌<◌, ◌∙◌, ◌≡◌, ap, eqb-true, inr, length, rules, subst, sym}
 use Rattle.base.specs.Refusals.{plain}
 use Rattle.machine.specs.declared.call.Outcome.TheVariants.{Refused}
-use Rattle.split.specs.SplitRun.{on_core}
-use Rattle.split.specs.Workers.{events_of}
-use Rattle.split.proofs.OneCore.{one_left}
+use Rattle.split.{specs.{SplitRun.on_core, Workers.events_of}, proofs.OneCore.one_left}
 use Rattle.split.proofs.workers.work.Goals as goal
 
 -- the log is full

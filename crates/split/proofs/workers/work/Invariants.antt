@@ -1,7 +1,6 @@
 use Rattle.std.proofs.Common.{◌≡◌, take}
 use Rattle.cores.specs.Seats.{IsOf}
-use Rattle.split.specs.SplitRun.{on_core}
-use Rattle.split.specs.Workers.{events_of}
+use Rattle.split.specs.{SplitRun.on_core, Workers.events_of}
 use Rattle.split.proofs.workers.work.Given as goal
 
 -- the seat has made the events on its core that stand before this one

@@ -1,10 +1,6 @@
 -- Record by record.
-use Rattle.table.proofs.BootContents.{boot-parts}
-use Rattle.table.proofs.BootFresh.{boot-fresh}
-use Rattle.table.proofs.BootLinks.{boot-links}
-use Rattle.table.proofs.BootNumbers.{boot-numbers}
-use Rattle.table.proofs.BootSlots.{boot-slots}
-use Rattle.table.proofs.BootTree.{boot-ranked}
+use Rattle.table.proofs.{BootContents.boot-parts, BootFresh.boot-fresh, BootLinks.boot-links, BootNumbers.boot-numbers}
+use Rattle.table.proofs.{BootSlots.boot-slots, BootTree.boot-ranked}
 use Rattle.table.proofs.boot_law.boot_states_are_well_formed.Goals as goal
 
 pub returns-clause-well_formed : goal.returns-clause-well_formed

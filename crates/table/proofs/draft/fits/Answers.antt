@@ -1,8 +1,6 @@
 -- A value whose bits above the guard's size are zero is below `2^size`.
-use Rattle.std.proofs.Common.{◌≡◌, ℕ, ◌+◌, ◌*◌, ◌/◌, ◌^◌, ◌<◌, ◌≤◌, ◌↔◌, ◌&&◌, ◌⊎◌, nat_eq, nat_lt, sym, ap, ◌∙◌, inl, inr, arith}
-use Rattle.std.proofs.lemmas.Bool.{cases_lt, eq-eqb, lt-ltb, le-ltb, le-leb, ne_eqb}
-use Rattle.std.proofs.lemmas.Nat.{pow_pos}
-use Rattle.std.proofs.Math.Nat.{div-lt_iff_lt-mul}
+use Rattle.std.proofs.Common.{ℕ, ◌&&◌, ◌*◌, ◌+◌, ◌/◌, ◌<◌, ◌^◌, ◌↔◌, ◌∙◌, ◌≡◌, ◌≤◌, ◌⊎◌, ap, arith, inl, inr, nat_eq, nat_lt, sym}
+use Rattle.std.proofs.{Math.Nat.div-lt_iff_lt-mul, lemmas.{Bool.{cases_lt, eq-eqb, le-leb, le-ltb, lt-ltb, ne_eqb}, Nat.pow_pos}}
 use Rattle.table.proofs.draft.fits.Goals as goal
 
 shifted_out : (value power : ℕ) → 0 < power → nat_eq (value / power) 0 ≡ nat_lt value power

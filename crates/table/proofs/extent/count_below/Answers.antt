@@ -1,7 +1,6 @@
 -- Starts rise, so a partition point tells those below an address.
-use Rattle.std.proofs.Common.{rules, nat_lt}
-use Rattle.std.proofs.lemmas.Bool.{ltb-true, ltb-false}
-use Rattle.std.proofs.lemmas.List.Sorted.{IsPartitionedBy-ltb, IsPartitionPoint-from_clause}
+use Rattle.std.proofs.{Common.{nat_lt, rules}, lemmas.{Bool.{ltb-false, ltb-true}, List.Sorted.IsPartitionPoint-from_clause}}
+use Rattle.std.proofs.lemmas.List.Sorted.{IsPartitionedBy-ltb}
 use Rattle.table.proofs.ApartLemmas.{starts_rise}
 use Rattle.table.proofs.extent.count_below.Goals as goal
 

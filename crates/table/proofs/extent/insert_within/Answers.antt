@@ -1,7 +1,5 @@
 -- The extent goes behind those that start below its end.
-use Rattle.std.proofs.Common.{◌≡◌, true}
-use Rattle.std.proofs.lemmas.List.Sorted.{IsPermutation-insert}
-use Rattle.std.specs.Result.{is_ok}
+use Rattle.std.{specs.Result.is_ok, proofs.{Common.{◌≡◌, true}, lemmas.List.Sorted.IsPermutation-insert}}
 use Rattle.table.proofs.ApartLemmas.{apart_with}
 use Rattle.table.proofs.extent.insert_within.Goals as goal
 

@@ -1,6 +1,6 @@
 -- Up to the bits of an address the sum is compared without overflow, and more bits don't fit.
-use Rattle.std.proofs.Common.{sym, ◌∙◌}
-use Rattle.table.proofs.ExtentLemmas.{shifted, few_fit, many_exceed}
+use Rattle.std.proofs.Common.{◌∙◌, sym}
+use Rattle.table.proofs.ExtentLemmas.{few_fit, many_exceed, shifted}
 use Rattle.table.proofs.extent.is_addressable.Goals as goal
 
 pub overflow_sub-result : goal.overflow_sub-result

@@ -1,5 +1,5 @@
 -- An object below the addresses' end has no more bits than an address.
-use Rattle.std.proofs.Common.{arith, ◌≤◌, sym, ◌∙◌}
+use Rattle.std.proofs.Common.{◌∙◌, ◌≤◌, arith, sym}
 use Rattle.base.specs.declared.limits.TheConstants.{ADDRESS_BITS}
 use Rattle.table.proofs.ExtentLemmas.{small}
 use Rattle.table.proofs.extent.is_aligned.Goals as goal

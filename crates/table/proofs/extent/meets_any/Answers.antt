@@ -1,6 +1,5 @@
 -- The last that starts below the extent's end meets it if any does.
-use Rattle.std.proofs.Common.{◌≡◌, ℕ, ◌≤◌, nat_lt, false, arith, sym, ◌∙◌}
-use Rattle.std.proofs.lemmas.Bool.Decides.{nat_tests}
+use Rattle.std.proofs.{Common.{ℕ, ◌∙◌, ◌≡◌, ◌≤◌, arith, false, nat_lt, sym}, lemmas.Bool.Decides.nat_tests}
 use Rattle.table.proofs.ApartLemmas.{last_below, none_below}
 use Rattle.table.proofs.extent.meets_any.Goals as goal
 

@@ -1,12 +1,8 @@
 -- The draft of a table has all its capabilities marked original.
-use Rattle.std.proofs.Common.{◌≡◌, ◌∙◌, true, refl, sym, ap, subst}
-use Rattle.std.proofs.lemmas.List.Elements.{All-map}
-use Rattle.machine.specs.declared.layout.Filled.{Filled}
-use Rattle.machine.specs.Layout.{Layout}
-use Rattle.table.specs.Rules.{IsLawful}
-use Rattle.table.specs.Tree.{tree_fault}
-use Rattle.table.proofs.BuiltUp.{built_from_draft, draft_from_built}
-use Rattle.table.proofs.TreeLemmas.{draft_remarked, lawful_marked, marked_again, none_from_tree, remark, unmarked}
+use Rattle.std.proofs.{Common.{◌∙◌, ◌≡◌, ap, refl, subst, sym, true}, lemmas.List.Elements.All-map}
+use Rattle.machine.specs.{declared.layout.Filled.Filled, Layout.Layout}
+use Rattle.table.{specs.{Rules.IsLawful, Tree.tree_fault}, proofs.{BuiltUp.{built_from_draft, draft_from_built}, TreeLemmas.draft_remarked}}
+use Rattle.table.proofs.TreeLemmas.{lawful_marked, marked_again, none_from_tree, remark, unmarked}
 use Rattle.table.proofs.laws.lawful_tables_are_built_up.Goals as goal
 
 pub returns : goal.returns

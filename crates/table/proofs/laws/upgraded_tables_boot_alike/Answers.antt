@@ -1,7 +1,6 @@
 -- Neither reads the version.
 use Rattle.std.proofs.Common.{refl}
-use Rattle.machine.specs.Authority.{label_at, label_of}
-use Rattle.machine.specs.Layout.{declared_label, initial_of}
+use Rattle.machine.specs.{Authority.{label_at, label_of}, Layout.{declared_label, initial_of}}
 use Rattle.table.proofs.Upgraded.{boots, boots_upgraded}
 use Rattle.table.proofs.laws.upgraded_tables_boot_alike.Goals as goal
 

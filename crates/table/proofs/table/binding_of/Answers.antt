@@ -1,12 +1,8 @@
 -- The threads rise, so a search among them finds the one or tells that there is none.
-use Rattle.std.proofs.Common.{rules, ◌≡◌, ◌<◌, AllPairs, List, sym}
+use Rattle.std.{specs.{declared.cmp.Ordering.TheVariants.Less, Cmp.nat_cmp_is}, proofs.Common.{◌<◌, ◌≡◌, AllPairs, List, rules, sym}}
 use Rattle.std.proofs.lemmas.List.Sorted.{answers_always}
-use Rattle.std.specs.Cmp.{nat_cmp_is}
-use Rattle.std.specs.declared.cmp.Ordering.TheVariants.{Less}
-use Rattle.machine.specs.declared.layout.Binding.{Binding}
-use Rattle.machine.specs.Machine.{id_cmp}
-use Rattle.machine.proofs.LookUps.{id_total}
-use Rattle.table.proofs.SearchLemmas.{found_at, searchable, not_found}
+use Rattle.machine.{specs.{declared.layout.Binding.Binding, Machine.id_cmp}, proofs.LookUps.id_total}
+use Rattle.table.proofs.SearchLemmas.{found_at, not_found, searchable}
 use Rattle.table.proofs.table.binding_of.Goals as goal
 
 rises : (bindings : List Binding) → AllPairs (λ one other. one.thread.0 < other.thread.0) bindings

@@ -1,9 +1,7 @@
 -- The slots rise, so a search among them finds the one or tells that there is none.
-use Rattle.std.proofs.Common.{rules, ap, option_map}
-use Rattle.std.proofs.lemmas.List.Sorted.{answers_always}
-use Rattle.machine.specs.declared.layout.Filled.{Filled}
-use Rattle.machine.proofs.LookUps.{slot_total}
-use Rattle.table.proofs.SearchLemmas.{found_at, searchable, not_found}
+use Rattle.std.proofs.{Common.{ap, option_map, rules}, lemmas.List.Sorted.answers_always}
+use Rattle.machine.{specs.declared.layout.Filled.Filled, proofs.LookUps.slot_total}
+use Rattle.table.proofs.SearchLemmas.{found_at, not_found, searchable}
 use Rattle.table.proofs.tree.cap_in.Goals as goal
 
 pub returns-in-Ok : goal.returns-in-Ok

@@ -1,12 +1,7 @@
 -- The slots rise, so that which is found is the one.
-use Rattle.std.proofs.Common.{sym, ap, ◌∙◌, option_map}
-use Rattle.std.proofs.lemmas.Bool.{ltb-true}
-use Rattle.std.specs.Cmp.{tied_itself}
+use Rattle.std.{specs.Cmp.tied_itself, proofs.{Common.{◌∙◌, ap, option_map, sym}, lemmas.Bool.ltb-true}}
 use Rattle.base.specs.declared.ids.SlotRef.{SlotRef}
-use Rattle.machine.specs.declared.layout.Filled.{Filled}
-use Rattle.machine.specs.Machine.{slot_cmp}
-use Rattle.machine.proofs.Ids.{slots_same}
-use Rattle.machine.proofs.LookUps.{slot_total}
+use Rattle.machine.{specs.{declared.layout.Filled.Filled, Machine.slot_cmp}, proofs.{Ids.slots_same, LookUps.slot_total}}
 use Rattle.table.proofs.SearchLemmas.{found_there}
 use Rattle.table.proofs.tree.cap_near.Goals as goal
 

@@ -1,5 +1,4 @@
-use Rattle.table.specs.Tree.{tree_of, with_mark}
-use Rattle.table.proofs.TreeLemmas.{Marked}
+use Rattle.table.{specs.Tree.{tree_of, with_mark}, proofs.TreeLemmas.Marked}
 use Rattle.table.proofs.tree.mark_originals.Given as goal
 
 abbrev pub invariant-loop-i : goal.invariant-loop-i

@@ -1,12 +1,7 @@
 -- The slots rise, so that which is found is the one, and none is between two neighbours.
-use Rattle.std.proofs.Common.{refl, sym, ap, ◌∙◌, option_map}
-use Rattle.std.proofs.lemmas.Bool.{ltb-true}
-use Rattle.std.specs.Cmp.{tied_itself}
+use Rattle.std.{specs.Cmp.tied_itself, proofs.{Common.{◌∙◌, ap, option_map, refl, sym}, lemmas.Bool.ltb-true}}
 use Rattle.base.specs.declared.ids.SlotRef.{SlotRef}
-use Rattle.machine.specs.declared.layout.Pair.{Pair}
-use Rattle.machine.specs.Machine.{slot_cmp}
-use Rattle.machine.proofs.Ids.{slots_same}
-use Rattle.machine.proofs.LookUps.{slot_total}
+use Rattle.machine.{specs.{declared.layout.Pair.Pair, Machine.slot_cmp}, proofs.{Ids.slots_same, LookUps.slot_total}}
 use Rattle.table.proofs.SearchLemmas.{found_there, none_between}
 use Rattle.table.proofs.tree.parent_near.Goals as goal
 

@@ -1,9 +1,7 @@
 -- The first pair that breaks a rule is told, or there is none.
-use Rattle.std.proofs.Common.{◌≡◌, ◌<◌, ◌≤◌, ◌⊎◌, inl, inr, true, [], get_or, sym, ap, ◌∙◌, arith}
-use Rattle.std.proofs.lemmas.Bool.{cases_lt}
+use Rattle.std.proofs.{Common.{[], ◌<◌, ◌∙◌, ◌≡◌, ◌≤◌, ◌⊎◌, ap, arith, get_or, inl, inr, sym, true}, lemmas.Bool.cases_lt}
 use Rattle.std.proofs.lemmas.List.{get_or_default}
-use Rattle.table.specs.Tree.{is_kin, tree_of}
-use Rattle.table.proofs.TreeLemmas.{fault_here, fault_nowhere}
+use Rattle.table.{specs.Tree.{is_kin, tree_of}, proofs.TreeLemmas.{fault_here, fault_nowhere}}
 use Rattle.table.proofs.tree.tree_fault.Goals as goal
 
 pub returns-then-not-is_kin : goal.returns-then-not-is_kin

@@ -1,4 +1,4 @@
-use Rattle.std.proofs.Common.{◌≡◌, ℕ, ◌<◌, true, [], get_or}
+use Rattle.std.proofs.Common.{[], ℕ, ◌<◌, ◌≡◌, get_or, true}
 use Rattle.machine.specs.declared.layout.Pair.{Pair}
 use Rattle.table.specs.Tree.{is_kin, tree_of}
 use Rattle.table.proofs.tree.tree_fault.Given as goal

@@ -1,5 +1,5 @@
 -- Who waits nowhere still does once the holder is halted.
-use Rattle.std.proofs.Common.{sym, subst}
+use Rattle.std.proofs.Common.{subst, sym}
 use Rattle.machine.specs.Machine.{Machine}
 use Rattle.objects.specs.Waiting.{WaitsNowhere}
 use Rattle.transfer.proofs.Elsewhere.{free_halted_holder}

@@ -1,11 +1,7 @@
 -- The first filled slot refuses, and empty ones leave it to the rest.
-use Rattle.std.proofs.Common.{◌≡◌, ℕ, zero, suc, ◌+◌, ◌-◌, refl, sym, ◌∙◌, arith, Err}
-use Rattle.std.specs.Prelude.{Some, None}
-use Rattle.base.specs.declared.ids.ObjId.{ObjId}
-use Rattle.base.specs.declared.refusal.Cause.TheVariants.{DeleteFirst}
-use Rattle.machine.specs.declared.cap.Cap.{Cap}
-use Rattle.machine.specs.Machine.{Machine, cap_of}
-use Rattle.machine.specs.Step.Retype.{all_vacant, window}
+use Rattle.std.{specs.Prelude.{None, Some}, proofs.Common.{ℕ, ◌+◌, ◌-◌, ◌∙◌, ◌≡◌, Err, arith, refl, suc, sym, zero}}
+use Rattle.base.specs.declared.{ids.ObjId.ObjId, refusal.Cause.TheVariants.DeleteFirst}
+use Rattle.machine.specs.{declared.cap.Cap.Cap, Machine.{Machine, cap_of}, Step.Retype.{all_vacant, window}}
 use Rattle.untyped.proofs.conditions.all_vacant.Goals as goal
 
 first_filled :

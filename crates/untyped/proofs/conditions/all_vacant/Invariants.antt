@@ -1,4 +1,4 @@
-use Rattle.std.proofs.Common.{◌≡◌, ℕ, ◌+◌}
+use Rattle.std.proofs.Common.{ℕ, ◌+◌, ◌≡◌}
 use Rattle.machine.specs.Step.Retype.{all_vacant, window}
 use Rattle.untyped.proofs.conditions.all_vacant.Given as goal
 

@@ -1,5 +1,5 @@
 -- Each slot is filled in its turn, and the later ones stay free.
-use Rattle.std.proofs.Common.{◌≡◌, ◌≢◌, zero, suc, ap, arith}
+use Rattle.std.proofs.Common.{◌≡◌, ◌≢◌, ap, arith, suc, zero}
 use Rattle.base.specs.declared.ids.SlotRef.{SlotRef}
 use Rattle.untyped.proofs.Filled.{alone_stays, filling_stays, object_stays, other_stays, slot_stays}
 use Rattle.untyped.proofs.filling.fill.Goals as goal

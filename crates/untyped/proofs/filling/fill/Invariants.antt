@@ -1,10 +1,6 @@
-use Rattle.std.proofs.Common.{◌≡◌, ◌+◌, ◌<◌, ◌≤◌, IsSome, IsTrue, ℕ}
-use Rattle.std.specs.Prelude.{None}
-use Rattle.machine.specs.Machine.{cap_of, has_slot, object_of}
-use Rattle.machine.specs.Step.Retype.{window}
-use Rattle.machine.specs.Tree.{IsAlone}
-use Rattle.untyped.specs.Batch.{with_caps}
-use Rattle.untyped.specs.Windows.{slots_of}
+use Rattle.std.{specs.Prelude.None, proofs.Common.{ℕ, ◌+◌, ◌<◌, ◌≡◌, ◌≤◌, IsSome, IsTrue}}
+use Rattle.machine.specs.{Machine.{cap_of, has_slot, object_of}, Step.Retype.window, Tree.IsAlone}
+use Rattle.untyped.specs.{Batch.with_caps, Windows.slots_of}
 use Rattle.untyped.proofs.filling.fill.Given as goal
 
 -- those that are left are filled after these, and are still free, and their objects are there

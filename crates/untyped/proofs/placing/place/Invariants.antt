@@ -1,4 +1,4 @@
-use Rattle.std.proofs.Common.{◌≡◌, ◌≤◌, length, ℕ, ◌+◌, ◌*◌, ◌^◌, ◌++◌, take}
+use Rattle.std.proofs.Common.{ℕ, ◌*◌, ◌++◌, ◌+◌, ◌^◌, ◌≡◌, ◌≤◌, length, take}
 use Rattle.machine.specs.Memory.{all_taken, new_size}
 use Rattle.untyped.specs.Batch.{new_objects}
 use Rattle.untyped.proofs.placing.place.Given as goal

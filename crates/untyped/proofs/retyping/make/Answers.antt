@@ -1,6 +1,5 @@
 -- What was there is there after objects are added, and a retype may be made at once.
-use Rattle.std.proofs.Common.{length, ap, ◌∙◌, arith}
-use Rattle.std.proofs.lemmas.List.{length-take-le}
+use Rattle.std.proofs.{Common.{◌∙◌, ap, arith, length}, lemmas.List.length-take-le}
 use Rattle.untyped.proofs.Grown.{all_made, cap_past_news, free_past_news, length-new_objects, news_there}
 use Rattle.untyped.proofs.retyping.make.Goals as goal
 

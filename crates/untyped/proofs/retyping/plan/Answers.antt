@@ -1,11 +1,8 @@
 -- What was found in a well-formed machine, and met each condition, can be made.
-use Rattle.std.proofs.Common.{refl, sym, ap, subst, ◌∙◌}
-use Rattle.machine.specs.declared.object.Object.{Object}
-use Rattle.machine.specs.Memory.{Source}
-use Rattle.machine.specs.Step.Retype.{within_limits}
+use Rattle.std.proofs.Common.{◌∙◌, ap, refl, subst, sym}
+use Rattle.machine.specs.{declared.object.Object.Object, Memory.Source, Step.Retype.within_limits}
 use Rattle.cspace.specs.Strings.{level_shown}
-use Rattle.untyped.specs.Shown.{source_shown}
-use Rattle.untyped.proofs.Planned.{IsBegun, begins, can_be_made}
+use Rattle.untyped.{specs.Shown.source_shown, proofs.Planned.{IsBegun, begins, can_be_made}}
 use Rattle.untyped.proofs.retyping.plan.Goals as goal
 
 pub roomy-requires-clause-bits : goal.roomy-requires-clause-bits

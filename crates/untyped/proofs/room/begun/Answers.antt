@@ -1,6 +1,5 @@
 -- The first child says whether there is one.
-use Rattle.untyped.specs.Shown.{source_shown}
-use Rattle.untyped.proofs.Children.{begun_first, begun_later}
+use Rattle.untyped.{specs.Shown.source_shown, proofs.Children.{begun_first, begun_later}}
 use Rattle.untyped.proofs.room.begun.Goals as goal
 
 pub returns-in-Some : goal.returns-in-Some

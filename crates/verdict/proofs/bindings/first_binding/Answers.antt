@@ -1,8 +1,7 @@
 -- the first place is at the first that has one
-use Rattle.std.proofs.Common.{length, ap, arith}
-use Rattle.policy.specs.Policy.{allows}
-use Rattle.table.proofs.Lookups.{read_at, bound_from}
-use Rattle.policy.proofs.Places.{none_more, none_at_all, least_here}
+use Rattle.std.proofs.Common.{ap, arith, length}
+use Rattle.policy.{specs.Policy.allows, proofs.Places.{least_here, none_at_all, none_more}}
+use Rattle.table.proofs.Lookups.{bound_from, read_at}
 use Rattle.verdict.proofs.BindingPlaces.{bindings}
 use Rattle.verdict.proofs.bindings.first_binding.Goals as goal
 

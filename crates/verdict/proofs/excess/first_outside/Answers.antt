@@ -1,11 +1,9 @@
 -- one object more
-use Rattle.std.proofs.Common.{◌+◌, sym, subst, arith}
-use Rattle.policy.specs.Places.{FindsLeast}
-use Rattle.policy.specs.Policy.{allows}
-use Rattle.verdict.specs.Verdict.{place_of}
-use Rattle.verdict.proofs.OutsideObjects.{LiesBelow, least_kept, least_new, least_of_all_objects}
+use Rattle.std.proofs.Common.{◌+◌, arith, subst, sym}
+use Rattle.policy.specs.{Places.FindsLeast, Policy.allows}
+use Rattle.verdict.{specs.Verdict.place_of, proofs.OutsideObjects.{LiesBelow, least_kept, least_new, least_of_all_objects}}
+use Rattle.verdict.proofs.excess.first_outside.Goals.{else-rule_of, then-rule_of}
 use Rattle.verdict.proofs.excess.first_outside.Goals as goal
-use Rattle.verdict.proofs.excess.first_outside.Goals.{then-rule_of, else-rule_of}
 
 pub loop-number-preserved : goal.loop-number-preserved
 loop-number-preserved c =

@@ -1,8 +1,6 @@
 -- the least at the objects so far
-use Rattle.policy.specs.Places.{FindsLeast}
-use Rattle.policy.specs.Policy.{allows}
-use Rattle.verdict.specs.Verdict.{place_of}
-use Rattle.verdict.proofs.OutsideObjects.{LiesBelow}
+use Rattle.policy.specs.{Places.FindsLeast, Policy.allows}
+use Rattle.verdict.{specs.Verdict.place_of, proofs.OutsideObjects.LiesBelow}
 use Rattle.verdict.proofs.excess.first_outside.Given as goal
 
 abbrev pub invariant-loop-number : goal.invariant-loop-number

@@ -1,17 +1,9 @@
 -- nothing lies outside, or the first denial names the first place
-use Rattle.std.proofs.Common.{◌≡◌, Option, Some, None, IfNone, IfSome}
-use Rattle.machine.specs.Layout.{Layout}
-use Rattle.machine.specs.Machine.{Machine}
-use Rattle.policy.specs.Domain.{EdgeTest}
-use Rattle.policy.specs.Places.{FindsLeast}
-use Rattle.policy.specs.Policy.{allows}
-use Rattle.verdict.specs.declared.denial.Denial.{Denial}
-use Rattle.verdict.specs.Confined.{IsConfined}
-use Rattle.verdict.specs.Outside.{LiesOutside}
-use Rattle.verdict.specs.Rules.{Excess}
-use Rattle.verdict.specs.Verdict.{IsOutside, excess_of, place_of}
-use Rattle.verdict.proofs.OutsideObjects.{first_place, nothing_outside}
-use Rattle.verdict.proofs.Outsides.{confined_within}
+use Rattle.std.proofs.Common.{◌≡◌, IfNone, IfSome, None, Option, Some}
+use Rattle.machine.specs.{Layout.Layout, Machine.Machine}
+use Rattle.policy.specs.{Domain.EdgeTest, Places.FindsLeast, Policy.allows}
+use Rattle.verdict.specs.{declared.denial.Denial.Denial, Confined.IsConfined, Outside.LiesOutside, Rules.Excess, Verdict.IsOutside}
+use Rattle.verdict.{specs.Verdict.{excess_of, place_of}, proofs.{OutsideObjects.{first_place, nothing_outside}, Outsides.confined_within}}
 use Rattle.verdict.proofs.excess.outside.Goals as goal
 
 module _ (t : Layout) (allowed : EdgeTest) (m : Machine) where

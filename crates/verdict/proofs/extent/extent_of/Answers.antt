@@ -1,5 +1,4 @@
-use Rattle.std.proofs.Common.{sym, ◌∙◌}
-use Rattle.std.proofs.lemmas.Bool.{false≢true}
+use Rattle.std.proofs.{Common.{◌∙◌, sym}, lemmas.Bool.false≢true}
 use Rattle.verdict.proofs.extent.extent_of.Goals as goal
 
 pub returns-then-full : goal.returns-then-full

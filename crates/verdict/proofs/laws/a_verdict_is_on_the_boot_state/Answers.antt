@@ -1,9 +1,9 @@
 -- A table declares what its boot state has; and it has a boot state.
-use Rattle.policy.specs.Policy.{allows}
-use Rattle.policy.proofs.Unbroken.{closed_if}
-use Rattle.verdict.specs.declared.denial.Denial.TheVariants as denial
-use Rattle.verdict.proofs.BootPlaces.{boot_confined, broken_outside, confined_accepted, first_closed, first_outside, least_broken, outside_declared}
+use Rattle.policy.{specs.Policy.allows, proofs.Unbroken.closed_if}
 use Rattle.table.proofs.BootState.{boot_state, boot_state_is}
+use Rattle.verdict.specs.declared.denial.Denial.TheVariants as denial
+use Rattle.verdict.proofs.BootPlaces.{boot_confined, broken_outside, confined_accepted, first_closed, first_outside, least_broken}
+use Rattle.verdict.proofs.BootPlaces.{outside_declared}
 use Rattle.verdict.proofs.laws.a_verdict_is_on_the_boot_state.Goals as goal
 
 pub returns-clause-place : goal.returns-clause-place

@@ -1,11 +1,7 @@
 -- Part by part of the path.
-use Rattle.std.proofs.Common.{◌≡◌, ℕ, true, [], ◌∷◌, ◌⊎◌, inl, inr, refl}
-use Rattle.std.proofs.lemmas.List.Elements.{All-from_recursion}
-use Rattle.base.specs.declared.kind.Kind.{Kind}
-use Rattle.base.specs.declared.kind.Kind.TheVariants as authority
-use Rattle.policy.specs.Cut.{IsNear, is_link}
-use Rattle.policy.specs.Cut.IsNear.{stays, along, against}
-use Rattle.policy.specs.Domain.{EdgeTest}
+use Rattle.std.proofs.{Common.{[], ℕ, ◌∷◌, ◌≡◌, ◌⊎◌, inl, inr, refl, true}, lemmas.List.Elements.All-from_recursion}
+use Rattle.base.specs.declared.kind.Kind.{Kind, Kind as authority}
+use Rattle.policy.specs.{Cut.{IsNear, is_link, IsNear.{against, along, stays}}, Domain.EdgeTest}
 use Rattle.verdict.proofs.laws.cuts_follow_paths.Goals as goal
 
 pub returns-clause-base : goal.returns-clause-base

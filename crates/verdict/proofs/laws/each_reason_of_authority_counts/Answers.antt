@@ -1,9 +1,8 @@
 -- Reason by reason.
 use Rattle.policy.specs.Policy.{allows}
 use Rattle.verdict.proofs.LinkReasons as by
-use Rattle.verdict.proofs.Reasons.{m, within, node_kind, thread_kind, capability_counts, root_counts, pair_counts}
-use Rattle.verdict.proofs.SmallSystem.{id, slot, space_cap, signal_cap, signalling}
-use Rattle.verdict.proofs.Unsafe.{edges}
+use Rattle.verdict.proofs.{Reasons.{capability_counts, m, node_kind, pair_counts, root_counts, thread_kind, within}, SmallSystem.id}
+use Rattle.verdict.proofs.{SmallSystem.{signal_cap, signalling, slot, space_cap}, Unsafe.edges}
 use Rattle.verdict.proofs.laws.each_reason_of_authority_counts.Goals as goal
 
 pub returns-clause-capability : goal.returns-clause-capability

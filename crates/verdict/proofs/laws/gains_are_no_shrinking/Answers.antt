@@ -1,6 +1,6 @@
 -- What grows doesn't shrink.
-use Rattle.verdict.proofs.Gains.{budget_grows, capability_grows, context_grows, holding_grows, inbox_grows, made_grows, mark_grows, memory_grows, queue_grows}
-use Rattle.verdict.proofs.Gains.{runner_grows, state_grows, wait_grows, word_grows}
+use Rattle.verdict.proofs.Gains.{budget_grows, capability_grows, context_grows, holding_grows, inbox_grows, made_grows, mark_grows}
+use Rattle.verdict.proofs.Gains.{memory_grows, queue_grows, runner_grows, state_grows, wait_grows, word_grows}
 use Rattle.verdict.proofs.laws.gains_are_no_shrinking.Goals as goal
 
 pub returns-clause-word : goal.returns-clause-word

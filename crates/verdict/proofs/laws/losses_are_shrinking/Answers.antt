@@ -1,9 +1,8 @@
 -- Loss by loss.
 use Rattle.std.proofs.Common.{inl, inr, refl}
-use Rattle.machine.specs.declared.object.Object.TheVariants as o
-use Rattle.verdict.specs.Shrinks.Lessens.{released, freed, unbound}
-use Rattle.verdict.specs.Shrinks.Stops.{goes_on, aborted, halted}
-use Rattle.verdict.proofs.Losses.{blocked, capability_left, lessened, member_left}
+use Rattle.machine.specs.declared.object.Object.{Object as o}
+use Rattle.verdict.{specs.Shrinks.{Lessens.{freed, released, unbound}, Stops.{aborted, goes_on, halted}}, proofs.Losses.blocked}
+use Rattle.verdict.proofs.Losses.{capability_left, lessened, member_left}
 use Rattle.verdict.proofs.laws.losses_are_shrinking.Goals as goal
 
 pub returns-clause-vanished : goal.returns-clause-vanished

@@ -1,18 +1,10 @@
 -- By what a made retype keeps.
-use Rattle.std.proofs.Common.{◌≡◌, ℕ, Some, Ok}
+use Rattle.std.proofs.Common.{ℕ, ◌≡◌, Ok, Some}
 use Rattle.base.specs.declared.ids.ObjId.{ObjId}
-use Rattle.machine.specs.declared.call.Made.{Made}
-use Rattle.machine.specs.declared.object.MemoryKind.{MemoryKind}
-use Rattle.machine.specs.Authority.{label_of}
-use Rattle.machine.specs.Layout.{Layout}
-use Rattle.machine.specs.Machine.{Machine}
-use Rattle.machine.specs.Step.Retype.{retype_of}
-use Rattle.machine.proofs.RetypeRow.{retype_done}
-use Rattle.policy.specs.Closed.{IsClosed}
-use Rattle.policy.specs.Domain.{EdgeTest}
-use Rattle.verdict.specs.Invariant.{IsSound}
-use Rattle.verdict.proofs.Keeps.{Keeps, some_event}
-use Rattle.verdict.proofs.RetypeKeeps.{retype_keeps}
+use Rattle.machine.specs.{declared.{call.Made.Made, object.MemoryKind.MemoryKind}, Authority.label_of, Layout.Layout, Machine.Machine}
+use Rattle.machine.{specs.Step.Retype.retype_of, proofs.RetypeRow.retype_done}
+use Rattle.policy.specs.{Closed.IsClosed, Domain.EdgeTest}
+use Rattle.verdict.{specs.Invariant.IsSound, proofs.{Keeps.{Keeps, some_event}, RetypeKeeps.retype_keeps}}
 use Rattle.verdict.proofs.making.what_is_made_stays_within_authority.Goals as goal
 
 keeps :

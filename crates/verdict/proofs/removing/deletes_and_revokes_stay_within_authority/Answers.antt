@@ -1,6 +1,5 @@
 use Rattle.machine.proofs.RemovalRows.{delete_done, revoke_done}
-use Rattle.verdict.proofs.Keeps.{some_event}
-use Rattle.verdict.proofs.RemovalCalls.{delete_keeps, revoke_keeps}
+use Rattle.verdict.proofs.{Keeps.some_event, RemovalCalls.{delete_keeps, revoke_keeps}}
 use Rattle.verdict.proofs.removing.deletes_and_revokes_stay_within_authority.Goals as goal
 
 pub returns : goal.returns

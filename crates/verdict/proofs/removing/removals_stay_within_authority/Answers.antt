@@ -1,6 +1,4 @@
-use Rattle.verdict.proofs.Keeps.{some_event}
-use Rattle.verdict.proofs.RemovalKeeps.{removed_keeps, removed_sound, share_stays}
-use Rattle.verdict.proofs.RemovalShrinks.{absent_after}
+use Rattle.verdict.proofs.{Keeps.some_event, RemovalKeeps.{removed_keeps, removed_sound, share_stays}, RemovalShrinks.absent_after}
 use Rattle.verdict.proofs.removing.removals_stay_within_authority.Goals as goal
 
 pub returns : goal.returns

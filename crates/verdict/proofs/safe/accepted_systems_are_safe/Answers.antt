@@ -1,10 +1,6 @@
 -- From what is known of boot states, by induction over runs.
-use Rattle.policy.specs.Policy.{allows}
-use Rattle.verdict.specs.declared.denial.Denial.TheVariants as denial
-use Rattle.verdict.proofs.AtBoot.{boot_of_table}
-use Rattle.policy.proofs.Unbroken.{closed_if}
-use Rattle.verdict.proofs.BootPlaces.{boot_confined}
-use Rattle.verdict.proofs.Runs.{safe_from}
+use Rattle.policy.{specs.Policy.allows, proofs.Unbroken.closed_if}
+use Rattle.verdict.{specs.declared.denial.Denial.Denial as denial, proofs.{AtBoot.boot_of_table, BootPlaces.boot_confined, Runs.safe_from}}
 use Rattle.verdict.proofs.safe.accepted_systems_are_safe.Goals as goal
 
 pub returns : goal.returns

@@ -1,7 +1,5 @@
 -- a search by its test
-use Rattle.std.proofs.Common.{◌∙◌, rules, tests}
-use Rattle.std.proofs.lemmas.Iterator.{YieldsList-from_slice}
-use Rattle.std.proofs.lemmas.Iterator.Search.{find_from_yields_List}
+use Rattle.std.proofs.{Common.{◌∙◌, rules, tests}, lemmas.Iterator.{YieldsList-from_slice, Search.find_from_yields_List}}
 use Rattle.policy.specs.Policy.{allows}
 use Rattle.verdict.specs.Slots.{is_missing}
 use Rattle.verdict.proofs.slots.first_missing.Goals as goal

@@ -1,8 +1,7 @@
 -- The arrows from the next label come after those before.
-use Rattle.std.proofs.Common.{length, string_bytes, subst, sym, arith}
+use Rattle.std.proofs.Common.{arith, length, string_bytes, subst, sym}
 use Rattle.policy.specs.Policy.{allows}
-use Rattle.views.specs.Drawing.{AddsArrows, pairs_with}
-use Rattle.views.proofs.Arrows.{adds_label, label_is, label_there}
+use Rattle.views.{specs.Drawing.{AddsArrows, pairs_with}, proofs.Arrows.{adds_label, label_is, label_there}}
 use Rattle.views.proofs.drawing.write_arrows.Goals.{in-Some+in_ok-write_arrows_from, in_default}
 use Rattle.views.proofs.drawing.write_arrows.Goals as goal
 

@@ -1,5 +1,4 @@
-use Rattle.std.proofs.Common.{length, string_bytes}
-use Rattle.std.specs.List.{flat_map, range_with_len}
+use Rattle.std.{specs.List.{flat_map, range_with_len}, proofs.Common.{length, string_bytes}}
 use Rattle.policy.specs.Policy.{allows}
 use Rattle.views.specs.Drawing.{AddsArrows, pairs_with}
 use Rattle.views.proofs.drawing.write_arrows.Given as goal

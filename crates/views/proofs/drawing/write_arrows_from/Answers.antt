@@ -1,7 +1,6 @@
-use Rattle.std.proofs.Common.{◌∷◌, [], string_bytes, subst, sym, arith}
+use Rattle.std.proofs.Common.{[], ◌∷◌, arith, string_bytes, subst, sym}
 use Rattle.policy.specs.Policy.{allows}
-use Rattle.views.specs.Drawing.{AddsArrows}
-use Rattle.views.proofs.Arrows.{adds_pair, label_is, label_there}
+use Rattle.views.{specs.Drawing.AddsArrows, proofs.Arrows.{adds_pair, label_is, label_there}}
 use Rattle.views.proofs.drawing.write_arrows_from.Goals.{in-Some+in_ok-write_authority, in_default}
 use Rattle.views.proofs.drawing.write_arrows_from.Goals as goal
 

@@ -1,12 +1,10 @@
 -- Where a label has authority on another, the reason has a first edge.
-use Rattle.std.proofs.Common.{◌<◌, List, length, string_bytes, subst, sym, ◌∙◌}
-use mathlib.Core.Bool.{false≢true}
+use Rattle.std.proofs.Common.{◌<◌, ◌∙◌, List, length, string_bytes, subst, sym}
 use Rattle.base.specs.declared.edge.Edge.{Edge}
-use Rattle.policy.specs.Places.{IsLeast}
-use Rattle.policy.specs.Policy.{allows}
-use Rattle.policy.specs.Reasons.{IsFullBy, IsTakeBy, IsWhy, reason_place}
+use Rattle.policy.specs.{Places.IsLeast, Policy.allows, Reasons.{IsFullBy, IsTakeBy, IsWhy, reason_place}}
 use Rattle.views.proofs.Arrows.{adds_dashed, adds_itself, adds_nothing, adds_solid, differ, full_reason_there, take_reason_there}
 use Rattle.views.proofs.drawing.write_authority.Goals as goal
+use mathlib.Core.Bool.{false≢true}
 
 pub returns-then-eq-clause-drawn : goal.returns-then-eq-clause-drawn
 returns-then-eq-clause-drawn c =

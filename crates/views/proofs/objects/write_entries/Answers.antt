@@ -1,6 +1,5 @@
-use Rattle.std.proofs.Common.{[], length, get_or, arith, ap, ◌∙◌}
-use Rattle.views.specs.Objects.{entry_words}
-use Rattle.views.proofs.Numbered.{all, more}
+use Rattle.std.proofs.Common.{[], ◌∙◌, ap, arith, get_or, length}
+use Rattle.views.{specs.Objects.entry_words, proofs.Numbered.{all, more}}
 use Rattle.views.proofs.objects.write_entries.Goals as goal
 
 -- the next object is written with its number and its name

@@ -1,4 +1,4 @@
-use Rattle.std.proofs.Common.{◌≡◌, ◌++◌, take, map, string_bytes}
+use Rattle.std.proofs.Common.{◌++◌, ◌≡◌, map, string_bytes, take}
 use Rattle.words.specs.Text.{text_of}
 use Rattle.views.specs.Objects.{entries, entry_words}
 use Rattle.views.proofs.objects.write_entries.Given as goal

@@ -1,5 +1,5 @@
 -- Each clause from the lemma that says it.
-use Rattle.words.proofs.FirstFaults.{has_first_fault, refuses, is_text, reads, read_or_refused, not_both, one_first_fault}
+use Rattle.words.proofs.FirstFaults.{has_first_fault, is_text, not_both, one_first_fault, read_or_refused, reads, refuses}
 use Rattle.words.proofs.first_fault.a_text_is_refused_for_its_first_fault.Goals as goal
 
 pub returns-clause-refused : goal.returns-clause-refused

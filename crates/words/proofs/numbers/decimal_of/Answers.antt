@@ -1,5 +1,5 @@
-use Rattle.std.proofs.Common.{◌-◌, get_or, refl, sym, ◌∙◌, arith}
-use Rattle.words.proofs.Decimals.{zero_first, stray, over, digit_more, digits_more, small_more, read}
+use Rattle.std.proofs.Common.{◌-◌, ◌∙◌, arith, get_or, refl, sym}
+use Rattle.words.proofs.Decimals.{digit_more, digits_more, over, read, small_more, stray, zero_first}
 use Rattle.words.proofs.numbers.decimal_of.Goals as goal
 
 pub returns-then-not-has_no_leading_zero : goal.returns-then-not-has_no_leading_zero

@@ -1,7 +1,4 @@
-use Rattle.std.proofs.Common.{◌≡◌, ◌<◌, ◌^◌, true, take}
-use Rattle.std.specs.Char.{is_ascii_digit}
-use Rattle.std.specs.List.{list_all}
-use Rattle.std.specs.Str.Parse.{digits_value}
+use Rattle.std.{specs.{Char.is_ascii_digit, List.list_all, Str.Parse.digits_value}, proofs.Common.{◌<◌, ◌^◌, ◌≡◌, take, true}}
 use Rattle.words.proofs.numbers.decimal_of.Given as goal
 
 -- the number so far is that of the digits so far

@@ -1,5 +1,5 @@
 use Rattle.std.proofs.lemmas.Fmt.{decimal_injective}
-use Rattle.words.proofs.Spellings.{decimal_iff, decimal_word, hexadecimal_iff, hexadecimal_word, hexadecimal_once, apart}
+use Rattle.words.proofs.Spellings.{apart, decimal_iff, decimal_word, hexadecimal_iff, hexadecimal_once, hexadecimal_word}
 use Rattle.words.proofs.numbers.numbers_are_read_back.Goals as goal
 
 pub returns : goal.returns

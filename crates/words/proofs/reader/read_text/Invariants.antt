@@ -1,7 +1,6 @@
 -- What the lines left make of what was read so far is what the whole text makes.
 use Rattle.std.proofs.Common.{◌≡◌, length}
-use Rattle.words.specs.Reading.{as_read, judged, read_lines, read_text}
-use Rattle.words.specs.Text.{lines_of, words_of}
+use Rattle.words.specs.{Reading.{as_read, judged, read_lines, read_text}, Text.{lines_of, words_of}}
 use Rattle.words.proofs.reader.read_text.Given as goal
 
 abbrev pub invariant-loop-words : goal.invariant-loop-words

@@ -1,4 +1,4 @@
-use Rattle.std.proofs.Common.{◌≡◌, ◌&&◌, not, length, refl, arith}
+use Rattle.std.proofs.Common.{◌&&◌, ◌≡◌, arith, length, not, refl}
 use Rattle.base.proofs.LabelParts.{by_parts}
 use Rattle.base.proofs.labels.Labels.difference.Goals as goal
 

@@ -1,7 +1,5 @@
-use Rattle.std.proofs.Common.{◌≡◌, ◌*◌, ◌+◌, ◌<◌, ℕ, true, false, Option, Some, None, refl, sym, subst, arith}
-use Rattle.std.specs.Prelude.{IfSome}
-use Rattle.base.specs.Labels.{is_in}
-use Rattle.base.proofs.LabelParts.{least_in_part, none_at_all, none_in_part}
+use Rattle.std.{specs.Prelude.IfSome, proofs.Common.{ℕ, ◌*◌, ◌+◌, ◌<◌, ◌≡◌, None, Option, Some, arith, false, refl, subst, sym, true}}
+use Rattle.base.{specs.Labels.is_in, proofs.LabelParts.{least_in_part, none_at_all, none_in_part}}
 use Rattle.base.proofs.labels.Labels.first.Goals as goal
 
 -- what holds of a number holds of a label that has it

@@ -1,4 +1,4 @@
-use Rattle.std.proofs.Common.{◌≡◌, ◌<◌, ◌*◌, ℕ, false}
+use Rattle.std.proofs.Common.{ℕ, ◌*◌, ◌<◌, ◌≡◌, false}
 use Rattle.base.specs.Labels.{is_in}
 use Rattle.base.proofs.labels.Labels.first.Given as goal
 

@@ -1,4 +1,4 @@
-use Rattle.std.proofs.Common.{get_or, ◌∙◌}
+use Rattle.std.proofs.Common.{◌∙◌, get_or}
 use Rattle.base.specs.Labels.{is_in, is_in_part, no_part}
 use Rattle.base.proofs.labels.Labels.has.Goals as goal
 

@@ -1,4 +1,4 @@
-use Rattle.std.proofs.Common.{◌≡◌, ◌&&◌, length, refl, arith}
+use Rattle.std.proofs.Common.{◌&&◌, ◌≡◌, arith, length, refl}
 use Rattle.base.proofs.LabelParts.{by_parts}
 use Rattle.base.proofs.labels.Labels.intersection.Goals as goal
 

@@ -1,4 +1,4 @@
-use Rattle.std.proofs.Common.{◌≡◌, ◌==◌, ◌/◌, ap, ◌∙◌}
+use Rattle.std.proofs.Common.{◌/◌, ◌==◌, ◌∙◌, ◌≡◌, ap}
 use Rattle.base.proofs.LabelParts.{in_one_part}
 use Rattle.base.proofs.labels.Labels.only.Goals as goal
 

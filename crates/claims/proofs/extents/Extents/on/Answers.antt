@@ -1,4 +1,4 @@
-use Rattle.std.proofs.Common.{◌≡◌, true, false, sym, ◌∙◌}
+use Rattle.std.proofs.Common.{◌∙◌, ◌≡◌, false, sym, true}
 use Rattle.base.specs.Labels.{is_in}
 use Rattle.claims.proofs.extents.Extents.on.Goals as goal
 

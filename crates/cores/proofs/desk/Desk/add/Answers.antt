@@ -1,19 +1,11 @@
 -- The seat visits the keeper, its call is recorded, and it leaves: what each knows on the way.
-use Rattle.std.proofs.Common.{◌≡◌, ◌∙◌, ℕ, ◌+◌, ◌∷◌, ◌++◌, [], Some, length, refl, ap, arith, sym, subst}
-use Rattle.std.proofs.lemmas.List.{length-map, length_push}
-use Rattle.std.specs.Prelude.{slice_get, vec_capacity}
+use Rattle.std.{specs.Prelude.{slice_get, vec_capacity}, proofs.Common.{[], ℕ, ◌++◌, ◌+◌, ◌∙◌, ◌∷◌, ◌≡◌, Some, ap, arith, length, refl}}
+use Rattle.std.proofs.{Common.{subst, sym}, lemmas.List.{length-map, length_push}}
 use Rattle.machine.specs.declared.call.Event.{Event}
-use Rattle.cores.specs.declared.view.About.{About}
-use Rattle.cores.specs.declared.view.Hand.{Hand}
-use Rattle.cores.specs.declared.view.Keeping.{Keeping}
-use Rattle.cores.specs.declared.view.Noted.{Noted}
-use Rattle.cores.specs.declared.view.View.{View}
-use Rattle.cores.specs.History.{IsExactFor, IsLegal}
-use Rattle.cores.specs.Moves.{recorded}
-use Rattle.cores.specs.Rule.{about}
-use Rattle.cores.specs.Seats.{Calls, Known, about_in, hand_in, history_of, keeping_in, known, seat_view}
-use Rattle.cores.proofs.Adding.{calls_more, can_record, exact_more, host_view, hosts_view, in_order_more, keeps_view, legal_more, records_view}
-use Rattle.cores.proofs.Visiting.{Knowing, left_view, seated_at}
+use Rattle.cores.specs.{declared.view.{About.About, Hand.Hand, Keeping.Keeping, Noted.Noted, View.View}, History.{IsExactFor, IsLegal}}
+use Rattle.cores.specs.{Moves.recorded, Rule.about, Seats.{Calls, Known, about_in, hand_in, history_of, keeping_in, known, seat_view}}
+use Rattle.cores.proofs.Adding.{calls_more, can_record, exact_more, host_view, hosts_view, in_order_more, keeps_view, legal_more}
+use Rattle.cores.proofs.{Adding.records_view, Visiting.{Knowing, left_view, seated_at}}
 use Rattle.cores.proofs.desk.Desk.add.Goals as goal
 
 pub record-requires-clause-may : goal.record-requires-clause-may

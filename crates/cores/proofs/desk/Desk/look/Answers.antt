@@ -1,9 +1,7 @@
 -- The seat that has looked has seen the keeper's history.
-use Rattle.std.proofs.Common.{◌≡◌, ◌∙◌, ap, sym, subst}
-use Rattle.cores.specs.declared.view.About.{About}
-use Rattle.cores.specs.History.{IsExactFor, IsLegal}
-use Rattle.cores.specs.Seats.{about_in}
-use Rattle.cores.proofs.Visiting.{Knowing, guest_is, guest_saw, left_view, saw_guest, saw_legal, seated_at, seen_by}
+use Rattle.std.proofs.Common.{◌∙◌, ◌≡◌, ap, subst, sym}
+use Rattle.cores.{specs.{declared.view.About.About, History.{IsExactFor, IsLegal}, Seats.about_in}, proofs.Visiting.{Knowing, guest_is}}
+use Rattle.cores.proofs.Visiting.{guest_saw, left_view, saw_guest, saw_legal, seated_at, seen_by}
 use Rattle.cores.proofs.desk.Desk.look.Goals as goal
 
 pub invariant_of-seat : goal.invariant_of-seat

@@ -1,5 +1,4 @@
-use Rattle.std.proofs.Common.{◌≡◌, ◌-◌, ◌≤◌, false, length, take}
-use Rattle.std.specs.Io.KnownBytes.{Appends}
+use Rattle.std.{specs.Io.KnownBytes.Appends, proofs.Common.{◌-◌, ◌≡◌, ◌≤◌, false, length, take}}
 use Rattle.devices.proofs.sink.Sink.write_whole.Given as goal
 
 -- what was written so far is a beginning of the bytes, and nothing failed

@@ -1,5 +1,4 @@
-use Rattle.std.proofs.Common.{◌≡◌, ◌-◌, ◌^◌, false, vec_len, vec_items}
-use Rattle.std.specs.Io.KnownBytes.{Consumes}
+use Rattle.std.{specs.Io.KnownBytes.Consumes, proofs.Common.{◌-◌, ◌^◌, ◌≡◌, false, vec_items, vec_len}}
 use Rattle.devices.proofs.source.Source.read_whole.Given as goal
 
 -- the bytes that were read so far were left at first, and nothing failed

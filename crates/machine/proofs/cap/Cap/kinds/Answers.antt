@@ -1,16 +1,10 @@
 -- A set with one more kind has that one, and of the others those that it had.
-use Rattle.std.proofs.Common.{◌≡◌, ◌≢◌, ℕ, ◌<◌, ◌+◌, ◌^◌, ◌==◌, inl, inr, ◌&&◌, Bool, true, false, nat_lt, get_or, bit_or, sym, ap, ◌∙◌, arith, zero-add, refl}
-use Rattle.std.proofs.lemmas.Bool.{eq-eqb, lt-ltb, le-ltb}
-use Rattle.std.proofs.lemmas.Bool.Decides.{eqb_tells, nat_tests}
-use Rattle.std.proofs.lemmas.List.{get_or-map}
-use Rattle.std.proofs.lemmas.List.FromFn.{get_or-range_with_len}
-use Rattle.std.proofs.lemmas.Nat.{and_or_apart, and_or_self, or_lt, pow_apart, pow_below}
-use Rattle.base.specs.declared.kind.Kind.{Kind}
-use Rattle.base.specs.declared.kind.TheConstants.Kind.{ALL}
-use Rattle.base.specs.Kinds.{is_among, kind_bit, kind_number}
-use Rattle.machine.specs.Capabilities.{gives}
+use Rattle.std.proofs.Common.{ℕ, ◌&&◌, ◌+◌, ◌<◌, ◌==◌, ◌^◌, ◌∙◌, ◌≡◌, ◌≢◌, Bool, ap, arith, bit_or, false, get_or, inl, inr, nat_lt, refl}
+use Rattle.std.proofs.{Common.{sym, true, zero-add}, lemmas.Bool.{eq-eqb, le-ltb, lt-ltb, Decides.{eqb_tells, nat_tests}}}
+use Rattle.std.proofs.lemmas.{List.{get_or-map, FromFn.get_or-range_with_len}, Nat.{and_or_apart, and_or_self, or_lt, pow_apart, pow_below}}
+use Rattle.base.specs.{declared.kind.{Kind.Kind, TheConstants.Kind.ALL}, Kinds.{is_among, kind_bit, kind_number}}
+use Rattle.machine.{specs.Capabilities.gives, proofs.cap.Cap.kinds.Goals.{else-gives, then-gives}}
 use Rattle.machine.proofs.cap.Cap.kinds.Goals as goal
-use Rattle.machine.proofs.cap.Cap.kinds.Goals.{then-gives, else-gives}
 
 number_at : (i : ℕ) (d : Kind) → i < 17 → kind_number (get_or ALL i d) ≡ i
 number_at i d small = sym (get_or-map kind_number ALL i d 0 small) ∙ get_or-range_with_len 0 17 i 0 small ∙ zero-add i

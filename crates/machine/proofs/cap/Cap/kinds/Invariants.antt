@@ -1,6 +1,5 @@
-use Rattle.std.proofs.Common.{◌≡◌, ◌<◌, ◌^◌, ◌&&◌, nat_lt}
-use Rattle.base.specs.declared.kind.Kind.{Kind}
-use Rattle.base.specs.Kinds.{is_among, kind_number}
+use Rattle.std.proofs.Common.{◌&&◌, ◌<◌, ◌^◌, ◌≡◌, nat_lt}
+use Rattle.base.specs.{declared.kind.Kind.Kind, Kinds.{is_among, kind_number}}
 use Rattle.machine.specs.Capabilities.{gives}
 use Rattle.machine.proofs.cap.Cap.kinds.Given as goal
 

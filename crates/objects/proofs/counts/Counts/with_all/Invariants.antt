@@ -1,5 +1,4 @@
-use Rattle.std.proofs.Common.{◌≡◌, ◌+◌, ◌*◌, ◌^◌, ◌≤◌, take}
-use Rattle.std.specs.List.{fold}
+use Rattle.std.{specs.List.fold, proofs.Common.{◌*◌, ◌+◌, ◌^◌, ◌≡◌, ◌≤◌, take}}
 use Rattle.objects.specs.Counts.{one_more}
 use Rattle.objects.proofs.counts.Counts.with_all.Given as goal
 

@@ -1,9 +1,7 @@
 -- A write through `get_mut` edits the one place.
-use Rattle.std.proofs.Common.{refl, sym, arith}
-use Rattle.std.proofs.lemmas.Bool.{false≢true}
-use Rattle.objects.proofs.EditLemmas.{edited_past, edited_within}
+use Rattle.std.proofs.{Common.{arith, refl, sym}, lemmas.Bool.false≢true}
+use Rattle.objects.proofs.{EditLemmas.{edited_past, edited_within}, numbers.Table.set.Goals.{in-Some, in_default}}
 use Rattle.objects.proofs.numbers.Table.set.Goals as goal
-use Rattle.objects.proofs.numbers.Table.set.Goals.{in-Some, in_default}
 
 pub returns : goal.returns
 returns c =

@@ -1,10 +1,7 @@
 -- A change through `get_mut` edits the one slot.
-use Rattle.std.proofs.Common.{refl, sym, arith}
-use Rattle.std.proofs.lemmas.Bool.{false≢true}
-use Rattle.objects.specs.Family.{after}
-use Rattle.objects.proofs.EditLemmas.{edited_past, edited_within}
+use Rattle.std.proofs.{Common.{arith, refl, sym}, lemmas.Bool.false≢true}
+use Rattle.objects.{specs.Family.after, proofs.{EditLemmas.{edited_past, edited_within}, slots.Slots.change.Goals.{in-Some, in_default}}}
 use Rattle.objects.proofs.slots.Slots.change.Goals as goal
-use Rattle.objects.proofs.slots.Slots.change.Goals.{in-Some, in_default}
 
 pub returns : goal.returns
 returns c =

@@ -1,9 +1,6 @@
-use Rattle.std.proofs.Common.{◌≡◌, ◌<◌, [], ◌∷◌, ◌++◌, length, sym, ap, ◌∙◌, arith}
-use Rattle.machine.specs.Changes.{with_going}
-use Rattle.machine.specs.Counts.{objects_in}
-use Rattle.objects.specs.State.{machine_of}
-use Rattle.objects.proofs.CountedStates.{going_gives, sound_going}
-use Rattle.objects.proofs.PairLemmas.{paired-with_going}
+use Rattle.std.proofs.Common.{[], ◌++◌, ◌<◌, ◌∙◌, ◌∷◌, ◌≡◌, ap, arith, length, sym}
+use Rattle.machine.specs.{Changes.with_going, Counts.objects_in}
+use Rattle.objects.{specs.State.machine_of, proofs.{CountedStates.{going_gives, sound_going}, PairLemmas.paired-with_going}}
 use Rattle.objects.proofs.StateLemmas.{going-machine_of}
 use Rattle.objects.proofs.state.State.add_going.Goals as goal
 

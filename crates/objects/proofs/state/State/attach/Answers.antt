@@ -1,10 +1,7 @@
 use Rattle.std.proofs.Common.{refl}
-use Rattle.objects.proofs.TreeState.{attach_gives, IsConsistent-attached}
-use Rattle.objects.proofs.CountLemmas.{counts-with_parent}
 use Rattle.machine.proofs.CapCounts.{caps_to-with_parent}
-use Rattle.objects.proofs.CapsKept.{caps-attached}
-use Rattle.objects.proofs.CountedStates.{sound_after}
-use Rattle.objects.proofs.PairLemmas.{paired-with_parent}
+use Rattle.objects.proofs.{CapsKept.caps-attached, CountLemmas.counts-with_parent, CountedStates.sound_after, PairLemmas.paired-with_parent}
+use Rattle.objects.proofs.TreeState.{IsConsistent-attached, attach_gives}
 use Rattle.objects.proofs.state.State.attach.Goals as goal
 
 pub invariant_of-self : goal.invariant_of-self

@@ -1,8 +1,6 @@
 use Rattle.std.proofs.Common.{arith}
 use Rattle.machine.specs.Changes.{with_none_going}
-use Rattle.objects.specs.State.{machine_of}
-use Rattle.objects.proofs.CountedStates.{going_gives, sound_going}
-use Rattle.objects.proofs.PairLemmas.{paired-with_none_going}
+use Rattle.objects.{specs.State.machine_of, proofs.{CountedStates.{going_gives, sound_going}, PairLemmas.paired-with_none_going}}
 use Rattle.objects.proofs.state.State.clear_going.Goals as goal
 
 pub invariant_of-self : goal.invariant_of-self

@@ -1,10 +1,7 @@
 use Rattle.std.proofs.Common.{refl}
-use Rattle.objects.proofs.TreeState.{detach_gives, IsConsistent-detached}
-use Rattle.objects.proofs.CountLemmas.{counts-without_parent}
 use Rattle.machine.proofs.CapCounts.{caps_to-without_parent}
-use Rattle.objects.proofs.CapsKept.{caps-detached}
-use Rattle.objects.proofs.CountedStates.{sound_after}
-use Rattle.objects.proofs.PairLemmas.{paired-without_parent}
+use Rattle.objects.proofs.{CapsKept.caps-detached, CountLemmas.counts-without_parent, CountedStates.sound_after}
+use Rattle.objects.proofs.{PairLemmas.paired-without_parent, TreeState.{IsConsistent-detached, detach_gives}}
 use Rattle.objects.proofs.state.State.detach.Goals as goal
 
 pub invariant_of-self : goal.invariant_of-self

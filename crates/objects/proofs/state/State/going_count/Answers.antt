@@ -1,4 +1,4 @@
-use Rattle.std.proofs.Common.{length, sym, ap, ◌∙◌}
+use Rattle.std.proofs.Common.{◌∙◌, ap, length, sym}
 use Rattle.objects.proofs.StateLemmas.{going-machine_of}
 use Rattle.objects.proofs.state.State.going_count.Goals as goal
 

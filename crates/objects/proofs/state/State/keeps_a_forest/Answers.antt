@@ -1,4 +1,4 @@
-use Rattle.objects.proofs.TreeState.{pair_below, pair_above, is_ranked, is_acyclic}
+use Rattle.objects.proofs.TreeState.{is_acyclic, is_ranked, pair_above, pair_below}
 use Rattle.objects.proofs.state.State.keeps_a_forest.Goals as goal
 
 pub returns-clause-below : goal.returns-clause-below

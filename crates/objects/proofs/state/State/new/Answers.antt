@@ -1,6 +1,5 @@
 use Rattle.std.proofs.Common.{refl}
-use Rattle.objects.proofs.ConsistentLemmas.{empty_gives}
-use Rattle.objects.proofs.CountedStates.{sound_empty}
+use Rattle.objects.proofs.{ConsistentLemmas.empty_gives, CountedStates.sound_empty}
 use Rattle.objects.proofs.state.State.new.Goals as goal
 
 pub invariant_of-result : goal.invariant_of-result

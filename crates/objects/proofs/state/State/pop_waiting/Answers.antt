@@ -1,9 +1,7 @@
 -- Who waits first waits once, so that it leaves as any other that waits.
-use Rattle.std.proofs.Common.{◌≡◌, ◌∷◌, sym, ap, ◌∙◌}
-use Rattle.machine.specs.Changes.{first_waiting}
-use Rattle.machine.specs.Machine.{Machine, queue_of}
-use Rattle.machine.proofs.Leaving.{first_leaves}
-use Rattle.machine.proofs.Queues.{first_in, nobody_leaves, queue_by_first}
+use Rattle.std.proofs.Common.{◌∙◌, ◌∷◌, ◌≡◌, ap, sym}
+use Rattle.machine.{specs.{Changes.first_waiting, Machine.{Machine, queue_of}}, proofs.{Leaving.first_leaves, Queues.first_in}}
+use Rattle.machine.proofs.Queues.{nobody_leaves, queue_by_first}
 use Rattle.objects.proofs.ConsistentLemmas.{first_once, first_waiting-machine_of}
 use Rattle.objects.proofs.state.State.pop_waiting.Goals as goal
 

@@ -1,6 +1,5 @@
 use Rattle.std.proofs.Common.{refl}
-use Rattle.objects.proofs.CountedStates.{cap_set_gives, sound_put}
-use Rattle.objects.proofs.TreeState.{put_cap_gives}
+use Rattle.objects.proofs.{CountedStates.{cap_set_gives, sound_put}, TreeState.put_cap_gives}
 use Rattle.objects.proofs.state.State.put_cap.Goals as goal
 
 pub invariant_of-self : goal.invariant_of-self

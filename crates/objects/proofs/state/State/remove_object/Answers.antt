@@ -1,4 +1,4 @@
-use Rattle.std.proofs.Common.{sym, ap, ◌∙◌, option_copied}
+use Rattle.std.proofs.Common.{◌∙◌, ap, option_copied, sym}
 use Rattle.objects.proofs.Removed.{counts_it, nothing_removed, removed_gives, sound_removed}
 use Rattle.objects.proofs.state.State.remove_object.Goals as goal
 

@@ -1,5 +1,4 @@
-use Rattle.objects.proofs.ConsistentLemmas.{replace_gives}
-use Rattle.objects.proofs.CountedStates.{sound_replace}
+use Rattle.objects.proofs.{ConsistentLemmas.replace_gives, CountedStates.sound_replace}
 use Rattle.objects.proofs.state.State.replace.Goals as goal
 
 pub invariant_of-self : goal.invariant_of-self

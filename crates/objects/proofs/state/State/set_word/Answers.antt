@@ -1,5 +1,4 @@
-use Rattle.objects.proofs.ConsistentLemmas.{word_gives}
-use Rattle.objects.proofs.CountedStates.{sound_word}
+use Rattle.objects.proofs.{ConsistentLemmas.word_gives, CountedStates.sound_word}
 use Rattle.objects.proofs.state.State.set_word.Goals as goal
 
 pub invariant_of-self : goal.invariant_of-self

@@ -1,8 +1,6 @@
-use Rattle.std.proofs.Common.{refl, sym, ap, ◌∙◌, arith}
-use Rattle.std.specs.Option.{option_copied}
+use Rattle.std.{specs.Option.option_copied, proofs.Common.{◌∙◌, ap, arith, refl, sym}}
 use Rattle.machine.proofs.CapCounts.{caps_to-some, without_nothing}
-use Rattle.objects.proofs.CountedStates.{cap_set_gives, sound_take}
-use Rattle.objects.proofs.TreeState.{take_cap_gives}
+use Rattle.objects.proofs.{CountedStates.{cap_set_gives, sound_take}, TreeState.take_cap_gives}
 use Rattle.objects.proofs.state.State.take_cap.Goals as goal
 
 pub overflow_sub-count : goal.overflow_sub-count

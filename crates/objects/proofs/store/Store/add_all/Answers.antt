@@ -1,10 +1,8 @@
 -- The entries are added one by one, where room was found for all of them before.
-use Rattle.std.proofs.Common.{◌+◌, length, sym, ap, ◌∙◌, arith}
-use Rattle.std.proofs.lemmas.List.{length-map, nil_from_length}
-use Rattle.std.proofs.lemmas.Result.{err_from_is_err_and}
-use Rattle.std.specs.Vec.Iter.{into_iter_items}
-use Rattle.objects.specs.Entries.{new_entry, with_more}
-use Rattle.objects.proofs.PlaceLemmas.{IsPlaced-same, same_by_number, IsPlaced-added, added_by_number}
+use Rattle.std.{specs.Vec.Iter.into_iter_items, proofs.{Common.{◌+◌, ◌∙◌, ap, arith, length, sym}, lemmas.List.length-map}}
+use Rattle.std.proofs.lemmas.{List.nil_from_length, Result.err_from_is_err_and}
+use Rattle.objects.{specs.Entries.{new_entry, with_more}, proofs.PlaceLemmas.{IsPlaced-added, IsPlaced-same, added_by_number}}
+use Rattle.objects.proofs.PlaceLemmas.{same_by_number}
 use Rattle.objects.proofs.store.Store.add_all.Goals as goal
 
 pub returns-in_err-reserve-clause-err : goal.returns-in_err-reserve-clause-err

@@ -1,7 +1,5 @@
-use Rattle.std.proofs.Common.{◌≡◌, ◌+◌, length, map}
-use Rattle.std.specs.Vec.Iter.{into_iter_items, into_iter_len}
-use Rattle.objects.specs.Entries.{new_entry, with_more}
-use Rattle.objects.specs.Places.{entries_by_number, IsPlaced, HasRoom}
+use Rattle.std.{specs.Vec.Iter.{into_iter_items, into_iter_len}, proofs.Common.{◌+◌, ◌≡◌, length, map}}
+use Rattle.objects.specs.{Entries.{new_entry, with_more}, Places.{HasRoom, IsPlaced, entries_by_number}}
 use Rattle.objects.proofs.store.Store.add_all.Given as goal
 
 -- those that are left, added under the numbers from this one on, give all; and there is room for them

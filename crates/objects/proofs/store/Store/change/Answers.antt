@@ -1,6 +1,4 @@
-use Rattle.objects.specs.Entries.{change_slot_in}
-use Rattle.objects.specs.Family.{after}
-use Rattle.objects.proofs.PlaceLemmas.{IsPlaced-changed, changed_by_number}
+use Rattle.objects.{specs.{Entries.change_slot_in, Family.after}, proofs.PlaceLemmas.{IsPlaced-changed, changed_by_number}}
 use Rattle.objects.proofs.store.Store.change.Goals as goal
 
 pub invariant_of-self : goal.invariant_of-self

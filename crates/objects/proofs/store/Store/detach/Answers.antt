@@ -1,6 +1,5 @@
-use Rattle.std.proofs.Common.{sym, ap, ◌∙◌}
-use Rattle.objects.specs.declared.links.TreeLinks.{TreeLinks}
-use Rattle.objects.specs.Family.{leaving_from}
+use Rattle.std.proofs.Common.{◌∙◌, ap, sym}
+use Rattle.objects.specs.{declared.links.TreeLinks.TreeLinks, Family.leaving_from}
 use Rattle.objects.proofs.store.Store.detach.Goals as goal
 
 pub returns-in-Some : goal.returns-in-Some

@@ -1,5 +1,4 @@
-use Rattle.objects.specs.Entries.{replace_in}
-use Rattle.objects.proofs.PlaceLemmas.{IsPlaced-changed, changed_by_number}
+use Rattle.objects.{specs.Entries.replace_in, proofs.PlaceLemmas.{IsPlaced-changed, changed_by_number}}
 use Rattle.objects.proofs.store.Store.replace.Goals as goal
 
 pub invariant_of-self : goal.invariant_of-self

@@ -1,5 +1,4 @@
-use Rattle.objects.specs.Entries.{set_caps_in}
-use Rattle.objects.proofs.PlaceLemmas.{IsPlaced-changed, changed_by_number}
+use Rattle.objects.{specs.Entries.set_caps_in, proofs.PlaceLemmas.{IsPlaced-changed, changed_by_number}}
 use Rattle.objects.proofs.store.Store.set_caps.Goals as goal
 
 pub invariant_of-self : goal.invariant_of-self

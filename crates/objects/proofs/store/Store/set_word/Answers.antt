@@ -1,5 +1,4 @@
-use Rattle.objects.specs.Entries.{set_word_in}
-use Rattle.objects.proofs.PlaceLemmas.{IsPlaced-changed, changed_by_number}
+use Rattle.objects.{specs.Entries.set_word_in, proofs.PlaceLemmas.{IsPlaced-changed, changed_by_number}}
 use Rattle.objects.proofs.store.Store.set_word.Goals as goal
 
 pub invariant_of-self : goal.invariant_of-self

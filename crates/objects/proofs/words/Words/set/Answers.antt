@@ -1,9 +1,7 @@
 -- A write through `get_mut` sets the one word; past the end there is none to set.
-use Rattle.std.proofs.Common.{length, refl, sym, arith, inl, inr}
-use Rattle.std.proofs.lemmas.Bool.{cases_lt, false≢true}
-use Rattle.std.proofs.lemmas.List.{set_past}
-use Rattle.objects.proofs.words.Words.set.Goals as goal
+use Rattle.std.proofs.{Common.{arith, inl, inr, length, refl, sym}, lemmas.{Bool.{cases_lt, false≢true}, List.set_past}}
 use Rattle.objects.proofs.words.Words.set.Goals.{in-Some, in_default}
+use Rattle.objects.proofs.words.Words.set.Goals as goal
 
 pub returns : goal.returns
 returns c =

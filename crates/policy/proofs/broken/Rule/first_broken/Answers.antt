@@ -1,14 +1,9 @@
-use Rattle.std.proofs.Common.{◌≡◌, ℕ, ◌<◌, ◌≤◌, ◌-◌, ◌∷◌, List, Option, arith, ap, ◌∙◌, sym, subst, slice_get}
-use Rattle.std.specs.List.{AllZip, range_with_len}
-use Rattle.std.specs.Prelude.{filter_map}
+use Rattle.std.{specs.{List.{AllZip, range_with_len}, Prelude.filter_map}, proofs.Common.{ℕ, ◌-◌, ◌<◌, ◌∙◌, ◌∷◌, ◌≡◌, ◌≤◌, List, Option}}
+use Rattle.std.proofs.Common.{ap, arith, slice_get, subst, sym}
 use Rattle.rayon.proofs.ToStd.{nat_range-All}
 use Rattle.base.specs.declared.label.TheConstants.Label as Label
-use Rattle.policy.specs.declared.broken.Broken.{Broken}
-use Rattle.policy.specs.Policy.{JoinsBelow, allows}
-use Rattle.policy.specs.Search.{FindsBroken}
-use Rattle.policy.specs.Sweep.{count_of, place_of, rule_number}
-use Rattle.policy.proofs.Sweep.{numbers, found_first, all_pass, least_found}
-use Rattle.policy.proofs.RulePlaces.{of_places, of_rule}
+use Rattle.policy.specs.{declared.broken.Broken.Broken, Policy.{JoinsBelow, allows}, Search.FindsBroken, Sweep.{count_of, place_of}}
+use Rattle.policy.{specs.Sweep.rule_number, proofs.{RulePlaces.{of_places, of_rule}, Sweep.{all_pass, found_first, least_found, numbers}}}
 use Rattle.policy.proofs.broken.Rule.first_broken.Goals as goal
 
 -- each place is below the rule's count, and every answer passes

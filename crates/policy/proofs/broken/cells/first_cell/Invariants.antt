@@ -1,8 +1,6 @@
 -- no kind so far has any labels
 use Rattle.std.proofs.Common.{◌<◌}
-use Rattle.base.specs.declared.kind.Kind.{Kind}
-use Rattle.base.specs.declared.labels.Labels.{Labels}
-use Rattle.base.specs.Kinds.{kind_number}
+use Rattle.base.specs.{declared.{kind.Kind.Kind, labels.Labels.Labels}, Kinds.kind_number}
 use Rattle.policy.specs.Search.{IsNobody}
 use Rattle.policy.proofs.broken.cells.first_cell.Given as goal
 

@@ -1,5 +1,4 @@
-use Rattle.policy.specs.Policy.{allows}
-use Rattle.policy.proofs.Rules.{control_found}
+use Rattle.policy.{specs.Policy.allows, proofs.Rules.control_found}
 use Rattle.policy.proofs.broken.rules.control_lacks.Goals as goal
 
 pub returns-in_err-kind : goal.returns-in_err-kind

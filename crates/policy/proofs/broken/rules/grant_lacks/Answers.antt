@@ -1,5 +1,4 @@
-use Rattle.policy.specs.Policy.{allows}
-use Rattle.policy.proofs.Rules.{grant_found}
+use Rattle.policy.{specs.Policy.allows, proofs.Rules.grant_found}
 use Rattle.policy.proofs.broken.rules.grant_lacks.Goals as goal
 
 pub returns-in_err-kind : goal.returns-in_err-kind

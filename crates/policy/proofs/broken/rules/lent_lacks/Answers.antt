@@ -1,6 +1,5 @@
-use Rattle.std.proofs.Common.{Some, None}
-use Rattle.policy.specs.Policy.{allows}
-use Rattle.policy.proofs.Rules.{loan_found}
+use Rattle.std.proofs.Common.{None, Some}
+use Rattle.policy.{specs.Policy.allows, proofs.Rules.loan_found}
 use Rattle.policy.proofs.broken.rules.lent_lacks.Goals as goal
 
 pub returns-in_err-context : goal.returns-in_err-context

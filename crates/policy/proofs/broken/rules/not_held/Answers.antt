@@ -1,5 +1,4 @@
-use Rattle.policy.specs.Policy.{allows}
-use Rattle.policy.proofs.RuleSets.{reply_told}
+use Rattle.policy.{specs.Policy.allows, proofs.RuleSets.reply_told}
 use Rattle.policy.proofs.broken.rules.not_held.Goals as goal
 
 pub returns : goal.returns

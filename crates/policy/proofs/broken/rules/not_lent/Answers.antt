@@ -1,5 +1,4 @@
-use Rattle.policy.specs.Policy.{allows}
-use Rattle.policy.proofs.RuleSets.{loan_told}
+use Rattle.policy.{specs.Policy.allows, proofs.RuleSets.loan_told}
 use Rattle.policy.proofs.broken.rules.not_lent.Goals as goal
 
 pub returns : goal.returns

@@ -1,5 +1,4 @@
-use Rattle.policy.specs.Policy.{allows}
-use Rattle.policy.proofs.Rules.{disagreement_found}
+use Rattle.policy.{specs.Policy.allows, proofs.Rules.disagreement_found}
 use Rattle.policy.proofs.broken.rules.subjects_disagree.Goals as goal
 
 pub returns-in_err-kind : goal.returns-in_err-kind

@@ -1,6 +1,5 @@
 use Rattle.std.proofs.Common.{ℕ}
-use Rattle.policy.specs.Policy.{allows}
-use Rattle.policy.proofs.Stepping.{domain_joined}
+use Rattle.policy.{specs.Policy.allows, proofs.Stepping.domain_joined}
 use Rattle.policy.proofs.broken.steps.domain.Goals as goal
 
 pub returns : goal.returns

@@ -1,8 +1,5 @@
-use Rattle.std.proofs.Common.{refl, sym, ◌∙◌, subst}
-use Rattle.std.proofs.lemmas.Bool.{eq-eqb, eqb-true}
-use Rattle.policy.specs.Domain.{IsInDomain}
-use Rattle.policy.specs.Policy.{allows}
-use Rattle.policy.proofs.Stepping.{domain_joined}
+use Rattle.std.proofs.{Common.{◌∙◌, refl, subst, sym}, lemmas.Bool.{eq-eqb, eqb-true}}
+use Rattle.policy.{specs.{Domain.IsInDomain, Policy.allows}, proofs.Stepping.domain_joined}
 use Rattle.policy.proofs.broken.steps.subjects.Goals as goal
 
 pub returns : goal.returns

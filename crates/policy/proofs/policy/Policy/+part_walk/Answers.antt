@@ -1,7 +1,5 @@
-use Rattle.std.proofs.Common.{◌++◌, ◌∷◌, [], sym, ap, ◌∙◌, subst}
-use Rattle.policy.specs.Policy.{allows}
-use Rattle.policy.specs.Walks.{FindsWalk, lesser_of}
-use Rattle.policy.proofs.Walking.{IsPartWalk, with_or_without}
+use Rattle.std.proofs.Common.{[], ◌++◌, ◌∙◌, ◌∷◌, ap, subst, sym}
+use Rattle.policy.{specs.{Policy.allows, Walks.{FindsWalk, lesser_of}}, proofs.Walking.{IsPartWalk, with_or_without}}
 use Rattle.policy.proofs.policy.Policy.+part_walk.Goals as goal
 
 pub returns-clause-least : goal.returns-clause-least

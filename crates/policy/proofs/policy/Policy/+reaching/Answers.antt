@@ -1,5 +1,4 @@
-use Rattle.policy.specs.Policy.{allows}
-use Rattle.policy.proofs.Walking.{more_steps}
+use Rattle.policy.{specs.Policy.allows, proofs.Walking.more_steps}
 use Rattle.policy.proofs.policy.Policy.+reaching.Goals as goal
 
 pub returns-in-Some : goal.returns-in-Some

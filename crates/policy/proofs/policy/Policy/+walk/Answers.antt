@@ -1,13 +1,8 @@
-use Rattle.std.proofs.Common.{sym, ◌∙◌, subst}
-use mathlib.Core.Bool.{false≢true}
-use Rattle.std.proofs.lemmas.Bool.{eq-eqb, eqb-true}
-use Rattle.policy.specs.Places.{IsLeast}
-use Rattle.policy.specs.Policy.{allows}
-use Rattle.policy.specs.Reasons.{reason_place}
-use Rattle.policy.specs.Walks.{FindsWalk, IsWalk}
-use Rattle.policy.proofs.Walking.{stays_put, stays_nowhere, no_first, least_front}
+use Rattle.std.proofs.{Common.{◌∙◌, subst, sym}, lemmas.Bool.{eq-eqb, eqb-true}}
+use Rattle.policy.{specs.{Places.IsLeast, Policy.allows, Reasons.reason_place, Walks.{FindsWalk, IsWalk}}, proofs.Walking.least_front}
+use Rattle.policy.proofs.{Walking.{no_first, stays_nowhere, stays_put}, policy.Policy.+walk.Goals.{else-eq, then-eq}}
 use Rattle.policy.proofs.policy.Policy.+walk.Goals as goal
-use Rattle.policy.proofs.policy.Policy.+walk.Goals.{then-eq, else-eq}
+use mathlib.Core.Bool.{false≢true}
 
 pub returns-in_default-clause-least : goal.returns-in_default-clause-least
 returns-in_default-clause-least t c =

@@ -1,9 +1,7 @@
-use Rattle.std.proofs.Common.{Some, ◌||◌, [], ◌∷◌, ◌++◌, ◌∙◌, sym, ap, subst, arith}
+use Rattle.std.proofs.Common.{[], ◌++◌, ◌||◌, ◌∙◌, ◌∷◌, Some, ap, arith, subst, sym}
 use Rattle.base.specs.declared.label.TheConstants.Label as Label
-use Rattle.policy.specs.Policy.{allows, is_edge, IsRising, IsAboveLast}
-use Rattle.policy.specs.Rows.{edges_of_rows, last_with}
-use Rattle.policy.proofs.Members.{last_added, not_above, pushed}
-use Rattle.policy.proofs.RowEdges.{edges_added, edges_rising}
+use Rattle.policy.{specs.{Policy.{IsAboveLast, IsRising, allows, is_edge}, Rows.{edges_of_rows, last_with}}, proofs.Members.last_added}
+use Rattle.policy.proofs.{Members.{not_above, pushed}, RowEdges.{edges_added, edges_rising}}
 use Rattle.policy.proofs.policy.Policy.add.Goals as goal
 
 pub returns-in_err-set-clause-rising : goal.returns-in_err-set-clause-rising

@@ -1,8 +1,6 @@
-use Rattle.std.proofs.Common.{◌≡◌, ◌↔◌, true, sym, subst}
+use Rattle.std.proofs.Common.{◌↔◌, ◌≡◌, subst, sym, true}
 use Rattle.base.specs.declared.edge.Edge.{Edge}
-use Rattle.policy.specs.Policy.{allows}
-use Rattle.policy.specs.Walks.{Leads}
-use Rattle.policy.proofs.Walking.{before_is}
+use Rattle.policy.{specs.{Policy.allows, Walks.Leads}, proofs.Walking.before_is}
 use Rattle.policy.proofs.policy.Policy.before.Goals as goal
 
 pub returns : goal.returns

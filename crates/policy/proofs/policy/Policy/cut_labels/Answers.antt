@@ -1,6 +1,4 @@
-use Rattle.policy.specs.Cut.{IsBase}
-use Rattle.policy.specs.Policy.{allows}
-use Rattle.policy.proofs.CutSets.{cut_is, onward_from, onward_to}
+use Rattle.policy.{specs.{Cut.IsBase, Policy.allows}, proofs.CutSets.{cut_is, onward_from, onward_to}}
 use Rattle.policy.proofs.policy.Policy.cut_labels.Goals as goal
 
 pub returns : goal.returns

@@ -1,9 +1,7 @@
-use Rattle.std.proofs.Common.{◌∙◌, true, false, sym, ap, subst, arith}
-use Rattle.std.proofs.lemmas.List.{append-nil}
-use Rattle.policy.specs.Policy.{JoinsBelow}
-use Rattle.policy.proofs.Members.{Has, listed, one_more}
+use Rattle.std.proofs.{Common.{◌∙◌, ap, arith, false, subst, sym, true}, lemmas.List.append-nil}
+use Rattle.policy.{specs.Policy.JoinsBelow, proofs.{Members.{Has, listed, one_more}, policy.Policy.edges.Goals.in-Some+else-contains}}
+use Rattle.policy.proofs.policy.Policy.edges.Goals.{in-Some+then-contains+in_ok-push, in_default}
 use Rattle.policy.proofs.policy.Policy.edges.Goals as goal
-use Rattle.policy.proofs.policy.Policy.edges.Goals.{in-Some+then-contains+in_ok-push, in-Some+else-contains, in_default}
 
 pub loop-number-preserved : goal.loop-number-preserved
 loop-number-preserved c = elim c.match-edge_numbered.branch [

@@ -1,7 +1,5 @@
-use Rattle.std.proofs.Common.{◌≡◌, map}
-use Rattle.std.specs.List.{filter, range_with_len}
-use Rattle.policy.specs.Policy.{allows}
-use Rattle.policy.specs.Rows.{edge_at}
+use Rattle.std.{specs.List.{filter, range_with_len}, proofs.Common.{◌≡◌, map}}
+use Rattle.policy.specs.{Policy.allows, Rows.edge_at}
 use Rattle.policy.proofs.policy.Policy.edges.Given as goal
 
 -- of the edges so far, those that the policy allows

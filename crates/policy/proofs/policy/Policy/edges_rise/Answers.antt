@@ -1,6 +1,5 @@
 use Rattle.std.proofs.Common.{subst}
-use Rattle.policy.specs.Policy.{IsRising, JoinsLabels}
-use Rattle.policy.proofs.RowEdges.{edges_join, edges_rising}
+use Rattle.policy.{specs.Policy.{IsRising, JoinsLabels}, proofs.RowEdges.{edges_join, edges_rising}}
 use Rattle.policy.proofs.policy.Policy.edges_rise.Goals as goal
 
 pub returns-clause-rising : goal.returns-clause-rising

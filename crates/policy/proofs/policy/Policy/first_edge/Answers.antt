@@ -1,10 +1,8 @@
 use Rattle.std.proofs.Common.{arith}
-use mathlib.Core.Bool.{false≢true}
-use Rattle.policy.specs.Policy.{allows}
-use Rattle.policy.specs.Walks.{Leads}
-use Rattle.policy.proofs.Leading.{first_at_label, one_label_more}
-use Rattle.policy.proofs.policy.Policy.first_edge.Goals as goal
+use Rattle.policy.{specs.{Policy.allows, Walks.Leads}, proofs.Leading.{first_at_label, one_label_more}}
 use Rattle.policy.proofs.policy.Policy.first_edge.Goals.{in-Some+in_default-first_edge_of, in_default}
+use Rattle.policy.proofs.policy.Policy.first_edge.Goals as goal
+use mathlib.Core.Bool.{false≢true}
 
 pub returns-in-Some-first_edge_of : goal.returns-in-Some-first_edge_of
 returns-in-Some-first_edge_of c =

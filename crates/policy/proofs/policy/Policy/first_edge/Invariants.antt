@@ -1,7 +1,6 @@
 use Rattle.std.proofs.Common.{◌<◌}
 use Rattle.base.specs.declared.edge.Edge.{Edge}
-use Rattle.policy.specs.Policy.{allows}
-use Rattle.policy.specs.Walks.{Leads}
+use Rattle.policy.specs.{Policy.allows, Walks.Leads}
 use Rattle.policy.proofs.policy.Policy.first_edge.Given as goal
 
 -- by none of the edges that the labels so far have the step leads there

@@ -1,6 +1,4 @@
-use Rattle.policy.specs.Policy.{allows}
-use Rattle.policy.specs.Walks.{Leads}
-use Rattle.policy.proofs.Leading.{first_of_label}
+use Rattle.policy.{specs.{Policy.allows, Walks.Leads}, proofs.Leading.first_of_label}
 use Rattle.policy.proofs.policy.Policy.first_edge_of.Goals as goal
 
 pub returns-in_err-kind : goal.returns-in_err-kind

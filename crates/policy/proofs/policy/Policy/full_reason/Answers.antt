@@ -1,8 +1,5 @@
-use Rattle.std.proofs.Common.{◌∙◌, sym, subst}
-use Rattle.policy.specs.Policy.{allows}
-use Rattle.policy.specs.Reasons.{IsFullBy}
-use Rattle.policy.specs.Walks.{FindsWalk, lesser_of}
-use Rattle.policy.proofs.FullWalks.{full_least}
+use Rattle.std.proofs.Common.{◌∙◌, subst, sym}
+use Rattle.policy.{specs.{Policy.allows, Reasons.IsFullBy, Walks.{FindsWalk, lesser_of}}, proofs.FullWalks.full_least}
 use Rattle.policy.proofs.policy.Policy.full_reason.Goals as goal
 
 pub returns-clause-least : goal.returns-clause-least

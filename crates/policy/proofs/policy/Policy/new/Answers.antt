@@ -1,7 +1,5 @@
-use Rattle.std.proofs.Common.{sym, ap, ◌∙◌, lit≤}
-use Rattle.policy.specs.Policy.{last_edge}
-use Rattle.policy.specs.Rows.{edges_of_rows}
-use Rattle.policy.proofs.RowEdges.{no_bits, no_rows}
+use Rattle.std.proofs.Common.{◌∙◌, ap, lit≤, sym}
+use Rattle.policy.{specs.{Policy.last_edge, Rows.edges_of_rows}, proofs.RowEdges.{no_bits, no_rows}}
 use Rattle.policy.proofs.policy.Policy.new.Goals as goal
 
 pub invariant_of-result : goal.invariant_of-result

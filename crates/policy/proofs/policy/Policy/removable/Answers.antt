@@ -1,7 +1,6 @@
-use Rattle.std.proofs.Common.{sym, ◌∙◌}
+use Rattle.std.proofs.Common.{◌∙◌, sym}
 use Rattle.base.specs.Labels.{is_in}
-use Rattle.policy.specs.Policy.{allows}
-use Rattle.policy.proofs.TakeSets.{removable_is}
+use Rattle.policy.{specs.Policy.allows, proofs.TakeSets.removable_is}
 use Rattle.policy.proofs.policy.Policy.removable.Goals as goal
 
 pub returns : goal.returns

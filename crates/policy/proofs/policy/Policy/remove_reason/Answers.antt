@@ -1,9 +1,5 @@
-use Rattle.std.proofs.Common.{[], ◌∷◌, ◌++◌, ap, ◌∙◌, subst}
-use Rattle.std.proofs.lemmas.Result.{IfOk-weaker}
-use Rattle.policy.specs.Policy.{allows}
-use Rattle.policy.specs.Walks.{FindsWalk}
-use Rattle.policy.proofs.TakeWalks.{remove_least}
-use Rattle.policy.proofs.Walking.{IsPartWalk}
+use Rattle.std.proofs.{Common.{[], ◌++◌, ◌∙◌, ◌∷◌, ap, subst}, lemmas.Result.IfOk-weaker}
+use Rattle.policy.{specs.{Policy.allows, Walks.FindsWalk}, proofs.{TakeWalks.remove_least, Walking.IsPartWalk}}
 use Rattle.policy.proofs.policy.Policy.remove_reason.Goals as goal
 
 pub returns-clause-least : goal.returns-clause-least

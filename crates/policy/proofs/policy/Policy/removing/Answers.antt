@@ -1,7 +1,4 @@
-use Rattle.policy.specs.Policy.{allows}
-use Rattle.policy.specs.Take.{MayRemoveFrom}
-use Rattle.policy.proofs.CutSets.{onward_from, onward_to}
-use Rattle.policy.proofs.TakeSets.{removing_is}
+use Rattle.policy.{specs.{Policy.allows, Take.MayRemoveFrom}, proofs.{CutSets.{onward_from, onward_to}, TakeSets.removing_is}}
 use Rattle.policy.proofs.policy.Policy.removing.Goals as goal
 
 pub returns : goal.returns

@@ -1,9 +1,6 @@
-use Rattle.std.proofs.Common.{◌≡◌, get_or, ap, sym, ◌∙◌, arith}
-use Rattle.base.specs.Labels.{is_in, no_labels}
-use Rattle.base.proofs.LabelParts.{in_no_labels}
-use Rattle.policy.specs.Policy.{allows}
-use Rattle.policy.specs.Rows.{row_of}
-use Rattle.policy.proofs.RowEdges.{row_allows}
+use Rattle.std.proofs.Common.{◌∙◌, ◌≡◌, ap, arith, get_or, sym}
+use Rattle.base.{specs.Labels.{is_in, no_labels}, proofs.LabelParts.in_no_labels}
+use Rattle.policy.{specs.{Policy.allows, Rows.row_of}, proofs.RowEdges.row_allows}
 use Rattle.policy.proofs.policy.Policy.row.Goals as goal
 
 pub returns-in-Some : goal.returns-in-Some

@@ -1,12 +1,10 @@
-use Rattle.std.proofs.Common.{◌≡◌, ℕ, true, ◌↔◌, ◌||◌, ◌+◌, ◌==◌, refl, sym, ap, ◌∙◌, subst, arith}
-use mathlib.Core.Bool.{false≢true}
-use Rattle.std.proofs.lemmas.Bool.{eq-eqb, eqb-true}
+use Rattle.std.proofs.{Common.{ℕ, ◌+◌, ◌==◌, ◌||◌, ◌↔◌, ◌∙◌, ◌≡◌, ap, arith, refl, subst, sym, true}, lemmas.Bool.{eq-eqb, eqb-true}}
 use Rattle.base.specs.Labels.{is_in}
-use Rattle.policy.specs.Policy.{allows}
-use Rattle.policy.specs.Steps.{is_joined, IsSource}
-use Rattle.policy.proofs.Stepping.{IsBelow, more_below, none_more, joined_by, none_common, some_common, source_from, source_met}
+use Rattle.policy.{specs.{Policy.allows, Steps.{IsSource, is_joined}}, proofs.Stepping.{IsBelow, joined_by, more_below, none_common}}
+use Rattle.policy.proofs.{Stepping.{none_more, some_common, source_from, source_met}, policy.Policy.sources.Goals.in-Some+else-is_some}
+use Rattle.policy.proofs.policy.Policy.sources.Goals.{in-Some+then-is_some, in_default}
 use Rattle.policy.proofs.policy.Policy.sources.Goals as goal
-use Rattle.policy.proofs.policy.Policy.sources.Goals.{in-Some+then-is_some, in-Some+else-is_some, in_default}
+use mathlib.Core.Bool.{false≢true}
 
 pub loop-number-preserved : goal.loop-number-preserved
 loop-number-preserved c from =

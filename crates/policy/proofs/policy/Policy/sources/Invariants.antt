@@ -1,8 +1,6 @@
-use Rattle.std.proofs.Common.{◌≡◌, ℕ, true, ◌↔◌}
+use Rattle.std.proofs.Common.{ℕ, ◌↔◌, ◌≡◌, true}
 use Rattle.base.specs.Labels.{is_in}
-use Rattle.policy.specs.Policy.{allows}
-use Rattle.policy.specs.Steps.{IsSource}
-use Rattle.policy.proofs.Stepping.{IsBelow}
+use Rattle.policy.{specs.{Policy.allows, Steps.IsSource}, proofs.Stepping.IsBelow}
 use Rattle.policy.proofs.policy.Policy.sources.Given as goal
 
 abbrev pub invariant-loop-number : goal.invariant-loop-number

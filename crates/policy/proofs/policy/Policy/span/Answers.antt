@@ -1,6 +1,5 @@
 use Rattle.std.proofs.Common.{subst}
-use Rattle.policy.specs.Policy.{JoinsBelow}
-use Rattle.policy.proofs.RowEdges.{edges_join_below}
+use Rattle.policy.{specs.Policy.JoinsBelow, proofs.RowEdges.edges_join_below}
 use Rattle.policy.proofs.policy.Policy.span.Goals as goal
 
 pub returns-clause-joins : goal.returns-clause-joins

@@ -1,7 +1,6 @@
-use Rattle.std.proofs.Common.{◌≡◌, ◌||◌, sym, ap, ◌∙◌}
+use Rattle.std.proofs.Common.{◌||◌, ◌∙◌, ◌≡◌, ap, sym}
 use Rattle.base.specs.Labels.{is_in}
-use Rattle.policy.specs.Policy.{allows}
-use Rattle.policy.proofs.TakeSets.{TakeSets, take_is}
+use Rattle.policy.{specs.Policy.allows, proofs.TakeSets.{TakeSets, take_is}}
 use Rattle.policy.proofs.policy.Policy.take_labels.Goals as goal
 
 pub returns : goal.returns

@@ -1,8 +1,5 @@
-use Rattle.std.proofs.Common.{◌∙◌, sym, ap, subst}
-use Rattle.policy.specs.Policy.{allows}
-use Rattle.policy.specs.Reasons.{IsTakeBy}
-use Rattle.policy.specs.Walks.{FindsWalk, lesser_of}
-use Rattle.policy.proofs.TakeWalks.{take_least}
+use Rattle.std.proofs.Common.{◌∙◌, ap, subst, sym}
+use Rattle.policy.{specs.{Policy.allows, Reasons.IsTakeBy, Walks.{FindsWalk, lesser_of}}, proofs.TakeWalks.take_least}
 use Rattle.policy.proofs.policy.Policy.take_reason.Goals as goal
 
 pub returns-clause-least : goal.returns-clause-least

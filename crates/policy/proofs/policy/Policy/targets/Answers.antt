@@ -1,11 +1,9 @@
-use Rattle.std.proofs.Common.{◌≡◌, ℕ, true, ◌↔◌, ◌+◌, sym, ap, ◌∙◌, subst, arith}
-use mathlib.Core.Bool.{false≢true}
+use Rattle.std.proofs.Common.{ℕ, ◌+◌, ◌↔◌, ◌∙◌, ◌≡◌, ap, arith, subst, sym, true}
 use Rattle.base.specs.Labels.{is_in}
-use Rattle.policy.specs.Policy.{allows}
-use Rattle.policy.specs.Steps.{is_joined}
-use Rattle.policy.proofs.Stepping.{IsBelow, more_below, none_more, joined_by}
+use Rattle.policy.{specs.{Policy.allows, Steps.is_joined}, proofs.Stepping.{IsBelow, joined_by, more_below, none_more}}
+use Rattle.policy.proofs.policy.Policy.targets.Goals.{in-Some+else-has, in-Some+then-has, in_default}
 use Rattle.policy.proofs.policy.Policy.targets.Goals as goal
-use Rattle.policy.proofs.policy.Policy.targets.Goals.{in-Some+then-has, in-Some+else-has, in_default}
+use mathlib.Core.Bool.{false≢true}
 
 pub loop-number-preserved : goal.loop-number-preserved
 loop-number-preserved c to =

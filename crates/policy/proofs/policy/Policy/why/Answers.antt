@@ -1,7 +1,5 @@
 use Rattle.std.proofs.Common.{refl, subst}
-use Rattle.policy.specs.Policy.{allows}
-use Rattle.policy.specs.Reasons.{IsFullBy, IsTakeBy, full_edges, take_edges}
-use Rattle.policy.specs.Walks.{FindsWalk}
+use Rattle.policy.specs.{Policy.allows, Reasons.{IsFullBy, IsTakeBy, full_edges, take_edges}, Walks.FindsWalk}
 use Rattle.policy.proofs.policy.Policy.why.Goals as goal
 
 pub returns-in-Some-2-clause-why : goal.returns-in-Some-2-clause-why

@@ -1,7 +1,6 @@
-use Rattle.std.proofs.Common.{subst}
-use Rattle.std.specs.Prelude.{IfOk}
-use Rattle.report.specs.Claimed as claimed
+use Rattle.std.{specs.Prelude.IfOk, proofs.Common.subst}
 use Rattle.verdict.specs.System.{System}
+use Rattle.report.specs.Claimed as claimed
 use Rattle.report.proofs.claiming.ClaimingCommand.judge.Goals as goal
 
 pub returns-in-Ok-clause-right : goal.returns-in-Ok-clause-right

@@ -1,11 +1,8 @@
 -- The list of threads has room for the context's number, and has the new thread there.
-use Rattle.std.proofs.Common.{◌≡◌, ◌+◌, ◌<◌, ◌≤◌, None, subst, sym, refl, length, vec_len, arith}
-use Rattle.std.proofs.lemmas.Grind.{common_steps}
-use Rattle.table.specs.Aims.{thread_bound_to}
-use Rattle.table.proofs.BindingAdded.{threads_with}
-use Rattle.table.proofs.ListLemmas.{lengthened}
+use Rattle.std.proofs.{Common.{◌+◌, ◌<◌, ◌≡◌, ◌≤◌, None, arith, length, refl, subst, sym, vec_len}, lemmas.Grind.common_steps}
+use Rattle.table.{specs.Aims.thread_bound_to, proofs.{BindingAdded.threads_with, ListLemmas.lengthened}}
+use Rattle.table.proofs.bindings.Bindings.add.Goals.{else-context-len, then-context-len+in_ok-resize}
 use Rattle.table.proofs.bindings.Bindings.add.Goals as goal
-use Rattle.table.proofs.bindings.Bindings.add.Goals.{then-context-len+in_ok-resize, else-context-len}
 
 pub invariant_of-self-2 : goal.invariant_of-self-2
 invariant_of-self-2 c =

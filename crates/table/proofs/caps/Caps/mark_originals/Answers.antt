@@ -1,10 +1,7 @@
 -- Each capability is still for its object.
-use Rattle.std.proofs.Common.{◌≡◌, ◌++◌, ◌∙◌, ap, sym, subst, arith, drop, length, List, map, take}
-use Rattle.std.proofs.Math.Seq.{take-append_seam}
+use Rattle.std.proofs.{Common.{◌++◌, ◌∙◌, ◌≡◌, List, ap, arith, drop, length, map, subst, sym, take}, Math.Seq.take-append_seam}
 use Rattle.machine.specs.declared.layout.Filled.{Filled}
-use Rattle.table.specs.Aims.{Marks}
-use Rattle.table.specs.Tree.{is_original, tree_of, with_mark}
-use Rattle.table.proofs.TreeLemmas.{marks_marked}
+use Rattle.table.{specs.{Aims.Marks, Tree.{is_original, tree_of, with_mark}}, proofs.TreeLemmas.marks_marked}
 use Rattle.table.proofs.caps.Caps.mark_originals.Goals as goal
 
 pub invariant_of-self : goal.invariant_of-self

@@ -1,7 +1,6 @@
 -- What is added was admitted.
 use Rattle.std.proofs.Common.{subst, sym}
-use Rattle.table.specs.Building.{AdmitsBinding}
-use Rattle.table.proofs.BindingAdded.{draft_binding, context_low, not_bound}
+use Rattle.table.{specs.Building.AdmitsBinding, proofs.BindingAdded.{context_low, draft_binding, not_bound}}
 use Rattle.table.proofs.draft.Draft.add_binding.Goals as goal
 
 pub invariant_of-self-2 : goal.invariant_of-self-2

@@ -1,7 +1,6 @@
 -- What is added was admitted.
 use Rattle.std.proofs.Common.{subst, sym}
-use Rattle.table.specs.Building.{AdmitsCap}
-use Rattle.table.proofs.CapAdded.{draft_filled, aimed_low}
+use Rattle.table.{specs.Building.AdmitsCap, proofs.CapAdded.{aimed_low, draft_filled}}
 use Rattle.table.proofs.draft.Draft.add_cap.Goals as goal
 
 pub invariant_of-self-2 : goal.invariant_of-self-2

@@ -1,7 +1,6 @@
 -- What is added was admitted.
 use Rattle.std.proofs.Common.{subst, sym}
-use Rattle.table.specs.Building.{AdmitsLabel}
-use Rattle.table.proofs.LabelAdded.{draft_label}
+use Rattle.table.{specs.Building.AdmitsLabel, proofs.LabelAdded.draft_label}
 use Rattle.table.proofs.draft.Draft.add_label.Goals as goal
 
 pub invariant_of-self-2 : goal.invariant_of-self-2

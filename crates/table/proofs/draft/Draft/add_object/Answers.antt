@@ -1,7 +1,6 @@
 -- What is added was admitted.
 use Rattle.std.proofs.Common.{subst, sym}
-use Rattle.table.specs.Building.{AdmitsObject}
-use Rattle.table.proofs.ObjectAdded.{draft_initial}
+use Rattle.table.{specs.Building.AdmitsObject, proofs.ObjectAdded.draft_initial}
 use Rattle.table.proofs.draft.Draft.add_object.Goals as goal
 
 pub invariant_of-self-2 : goal.invariant_of-self-2

@@ -1,12 +1,8 @@
 -- What is marked is a draft still, and a table where its tree has no fault.
-use Rattle.std.proofs.Common.{◌≡◌, ◌∙◌, ap, sym, subst, List, map}
-use Rattle.machine.specs.declared.layout.Filled.{Filled}
-use Rattle.machine.specs.declared.layout.Pair.{Pair}
-use Rattle.machine.specs.Layout.{Layout, initial_cap, initial_parent}
-use Rattle.table.specs.declared.draft.Draft.TheInside.{Inside}
-use Rattle.table.specs.Rules.{IsDraft, IsLawful}
-use Rattle.table.specs.Tree.{is_original, source_of, tree_fault, tree_of, with_mark, with_originals}
-use Rattle.table.proofs.TreeLemmas.{draft_remarked, lawful_marked}
+use Rattle.std.proofs.Common.{◌∙◌, ◌≡◌, List, ap, map, subst, sym}
+use Rattle.machine.specs.{declared.layout.{Filled.Filled, Pair.Pair}, Layout.{Layout, initial_cap, initial_parent}}
+use Rattle.table.specs.{declared.draft.Draft.TheInside.Inside, Rules.{IsDraft, IsLawful}, Tree.{is_original, source_of, tree_fault}}
+use Rattle.table.{specs.Tree.{tree_of, with_mark, with_originals}, proofs.TreeLemmas.{draft_remarked, lawful_marked}}
 use Rattle.table.proofs.draft.Draft.mark_originals.Goals as goal
 
 abbrev view : Inside → Layout

@@ -1,6 +1,5 @@
 -- The name isn't there yet, so it goes last.
-use Rattle.std.proofs.Common.{◌∙◌, ap, map}
-use Rattle.std.specs.String.{string_bytes}
+use Rattle.std.{specs.String.string_bytes, proofs.Common.{◌∙◌, ap, map}}
 use Rattle.table.proofs.NameLemmas.{added}
 use Rattle.table.proofs.names.Names.add.Goals as goal
 

@@ -1,7 +1,5 @@
 -- A name's place among the strings is its place among their bytes.
-use Rattle.std.proofs.Common.{◌∙◌, sym, ap, position}
-use Rattle.std.specs.Str.{bytes_eq}
-use Rattle.std.specs.String.{string_bytes}
+use Rattle.std.{specs.{Str.bytes_eq, String.string_bytes}, proofs.Common.{◌∙◌, ap, position, sym}}
 use Rattle.table.proofs.NameLemmas.{position-map}
 use Rattle.table.proofs.names.Names.number.Goals as goal
 

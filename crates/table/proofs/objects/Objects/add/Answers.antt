@@ -1,11 +1,7 @@
 -- The new object's extent goes among the others', none of which it meets.
-use Rattle.std.proofs.Common.{arith, ◌≡◌, Bool, true, false, not, ap, ◌∙◌}
-use Rattle.std.proofs.lemmas.Bool.{false≢true}
+use Rattle.std.{specs.List.list_any, proofs.{Common.{◌∙◌, ◌≡◌, Bool, ap, arith, false, not, true}, lemmas.Bool.false≢true}}
 use Rattle.std.proofs.lemmas.Grind.{common_steps}
-use Rattle.std.specs.List.{list_any}
-use Rattle.table.specs.Inventory.{Inventory}
-use Rattle.table.specs.Placement.{meets, touches}
-use Rattle.table.proofs.ExtentLemmas.{extents_with, meets_any-extents}
+use Rattle.table.{specs.{Inventory.Inventory, Placement.{meets, touches}}, proofs.ExtentLemmas.{extents_with, meets_any-extents}}
 use Rattle.table.proofs.objects.Objects.add.Goals as goal
 
 unmet : (met : Bool) → not met ≡ true → met ≡ false

@@ -1,10 +1,6 @@
 -- The extents are those of the objects.
-use Rattle.std.proofs.Common.{◌∙◌, sym, ap, not, subst}
-use Rattle.std.specs.List.{list_any}
-use Rattle.std.specs.List.Sorted.{IsPermutation}
-use Rattle.table.proofs.ExtentLemmas.{meets_any-extents}
-use Rattle.table.specs.Inventory.{Inventory, extents_from}
-use Rattle.table.specs.Placement.{meets}
+use Rattle.std.{specs.List.{list_any, Sorted.IsPermutation}, proofs.Common.{◌∙◌, ap, not, subst, sym}}
+use Rattle.table.{specs.{Inventory.{Inventory, extents_from}, Placement.meets}, proofs.ExtentLemmas.meets_any-extents}
 use Rattle.table.proofs.objects.Objects.is_free.Goals as goal
 
 pub meets_any-requires : goal.meets_any-requires

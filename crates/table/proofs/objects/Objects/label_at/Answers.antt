@@ -1,12 +1,9 @@
 -- The memory of the one extent that holds the address, where it is an untyped's.
-use Rattle.std.proofs.Common.{◌≡◌, ℕ, IsPermutation, Option, None, Some, sym, ap, subst, ◌∙◌}
-use Rattle.std.proofs.lemmas.Option.{slice_get-get_or, slice_get_past}
-use Rattle.std.specs.List.{find, slice_get}
-use Rattle.std.specs.Option.{option_map}
-use Rattle.machine.specs.declared.layout.Initial.{Initial}
-use Rattle.machine.specs.Authority.{has_memory_at}
-use Rattle.table.specs.Inventory.{Inventory, extents_from}
-use Rattle.table.proofs.ExtentLemmas.{has_it, is_numbered, lacks_it, memory_nowhere, memory_there, no_memory_there}
+use Rattle.std.{specs.{List.{find, slice_get}, Option.option_map}, proofs.Common.{ℕ, ◌∙◌, ◌≡◌, IsPermutation, None, Option, Some, ap}}
+use Rattle.std.proofs.{Common.{subst, sym}, lemmas.Option.{slice_get-get_or, slice_get_past}}
+use Rattle.machine.specs.{declared.layout.Initial.Initial, Authority.has_memory_at}
+use Rattle.table.{specs.Inventory.{Inventory, extents_from}, proofs.ExtentLemmas.{has_it, is_numbered, lacks_it, memory_nowhere}}
+use Rattle.table.proofs.ExtentLemmas.{memory_there, no_memory_there}
 use Rattle.table.proofs.objects.Objects.label_at.Goals as goal
 
 label : Initial → ℕ

@@ -1,6 +1,6 @@
 -- what the type keeps
 use Rattle.std.proofs.Common.{subst}
-use Rattle.verdict.specs.System.{System, IsAcceptedSystem}
+use Rattle.verdict.specs.System.{IsAcceptedSystem, System}
 use Rattle.verdict.proofs.accepted.Accepted.table.Goals as goal
 
 pub returns-clause-accepted : goal.returns-clause-accepted

@@ -1,14 +1,9 @@
 -- of the contexts that a thread is bound to and that it lent the lesser one to which an edge is lacking
-use Rattle.std.proofs.Common.{◌≡◌, [], ◌∷◌, Option, Some, sym, subst}
-use Rattle.std.specs.Prelude.{◌↔◌}
+use Rattle.std.{specs.Prelude.◌↔◌, proofs.Common.{[], ◌∷◌, ◌≡◌, Option, Some, subst, sym}}
 use Rattle.base.specs.declared.ids.ObjId.{ObjId}
-use Rattle.policy.specs.Places.{FindsLeast}
-use Rattle.policy.specs.Policy.{allows}
-use Rattle.verdict.specs.declared.denial.Denial.{Denial}
-use Rattle.verdict.specs.Outside.{LiesUnder}
-use Rattle.verdict.specs.Rules.{a4}
-use Rattle.verdict.specs.Verdict.{place_of}
-use Rattle.verdict.proofs.OutsidePlaces.{IsLacked, least_binding, no_binding}
+use Rattle.policy.specs.{Places.FindsLeast, Policy.allows}
+use Rattle.verdict.{specs.{declared.denial.Denial.Denial, Outside.LiesUnder, Rules.a4, Verdict.place_of}, proofs.OutsidePlaces.IsLacked}
+use Rattle.verdict.proofs.OutsidePlaces.{least_binding, no_binding}
 use Rattle.verdict.proofs.excess.links.binding_at.Goals as goal
 
 pub returns : goal.returns

@@ -1,12 +1,8 @@
 -- nothing is recorded of the kinds so far
 use Rattle.std.proofs.Common.{[], ◌∷◌}
 use Rattle.base.specs.Kinds.{kind_number}
-use Rattle.policy.specs.Policy.{allows}
-use Rattle.policy.proofs.KindNumbers.{all_kinds}
-use Rattle.policy.proofs.Places.{NoneSoFar}
-use Rattle.verdict.specs.Outside.{LiesOutside}
-use Rattle.verdict.specs.Rules.{a6}
-use Rattle.verdict.specs.Verdict.{place_of}
+use Rattle.policy.{specs.Policy.allows, proofs.{KindNumbers.all_kinds, Places.NoneSoFar}}
+use Rattle.verdict.specs.{Outside.LiesOutside, Rules.a6, Verdict.place_of}
 use Rattle.verdict.proofs.excess.links.first_record.Given as goal
 
 abbrev pub invariant-loop-kind : goal.invariant-loop-kind

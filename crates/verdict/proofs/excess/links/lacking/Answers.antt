@@ -1,6 +1,5 @@
 -- a context that is there, and to whose label the edge is lacking
-use Rattle.std.proofs.Common.{sym, ap, ◌∙◌}
-use Rattle.std.proofs.lemmas.Option.{same_Some}
+use Rattle.std.proofs.{Common.{◌∙◌, ap, sym}, lemmas.Option.same_Some}
 use Rattle.machine.specs.Authority.{label_of}
 use Rattle.verdict.proofs.excess.links.lacking.Goals as goal
 

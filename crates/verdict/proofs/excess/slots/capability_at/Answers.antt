@@ -1,5 +1,5 @@
 -- one kind of one capability
-use Rattle.std.proofs.Common.{sym, ◌∙◌}
+use Rattle.std.proofs.Common.{◌∙◌, sym}
 use Rattle.policy.specs.Policy.{allows}
 use Rattle.verdict.proofs.OutsidePlaces.{capability_by, least_lacking, not_given}
 use Rattle.verdict.proofs.excess.slots.capability_at.Goals as goal

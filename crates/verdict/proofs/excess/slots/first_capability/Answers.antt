@@ -1,11 +1,7 @@
 -- the first place is in the first slot that has one
-use Rattle.std.proofs.Common.{◌≡◌, Some, sym, ap, ◌∙◌, arith, option_copied}
-use Rattle.std.proofs.lemmas.List.FromFn.{length-range_with_len}
-use Rattle.machine.specs.declared.object.Object.TheVariants as o
-use Rattle.machine.specs.Machine.{object_of}
-use Rattle.policy.specs.Policy.{allows}
-use Rattle.policy.proofs.Places.{least_here, none_at_all, none_more}
-use Rattle.policy.proofs.Sweep.{stands}
+use Rattle.std.proofs.{Common.{◌∙◌, ◌≡◌, Some, ap, arith, option_copied, sym}, lemmas.List.FromFn.length-range_with_len}
+use Rattle.machine.specs.{declared.object.Object.Object as o, Machine.object_of}
+use Rattle.policy.{specs.Policy.allows, proofs.{Places.{least_here, none_at_all, none_more}, Sweep.stands}}
 use Rattle.verdict.proofs.OutsidePlaces.{node_slots}
 use Rattle.verdict.proofs.excess.slots.first_capability.Goals as goal
 

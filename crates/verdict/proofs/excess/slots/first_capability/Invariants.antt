@@ -1,11 +1,7 @@
 -- nothing lies outside in the slots so far
 use Rattle.std.proofs.Common.{[], ◌∷◌}
-use Rattle.policy.specs.Policy.{allows}
-use Rattle.policy.proofs.Places.{NoneSoFar}
-use Rattle.policy.proofs.Sweep.{numbers}
-use Rattle.verdict.specs.Outside.{LiesOutside}
-use Rattle.verdict.specs.Rules.{a1}
-use Rattle.verdict.specs.Verdict.{place_of}
+use Rattle.policy.{specs.Policy.allows, proofs.{Places.NoneSoFar, Sweep.numbers}}
+use Rattle.verdict.specs.{Outside.LiesOutside, Rules.a1, Verdict.place_of}
 use Rattle.verdict.proofs.excess.slots.first_capability.Given as goal
 
 abbrev pub invariant-loop-index : goal.invariant-loop-index

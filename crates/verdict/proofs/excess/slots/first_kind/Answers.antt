@@ -1,9 +1,6 @@
 -- the first place is at the first kind that has one
-use Rattle.std.proofs.Common.{arith}
-use Rattle.std.proofs.lemmas.Option.{slice_get-get_or}
-use Rattle.policy.specs.Policy.{allows}
-use Rattle.policy.proofs.KindNumbers.{all_kinds}
-use Rattle.policy.proofs.Places.{least_here, none_at_all, none_more}
+use Rattle.std.proofs.{Common.arith, lemmas.Option.slice_get-get_or}
+use Rattle.policy.{specs.Policy.allows, proofs.{KindNumbers.all_kinds, Places.{least_here, none_at_all, none_more}}}
 use Rattle.verdict.proofs.OutsidePlaces.{slot_kinds}
 use Rattle.verdict.proofs.excess.slots.first_kind.Goals as goal
 

@@ -1,10 +1,7 @@
 -- the first place is in the first slot that has one
-use Rattle.std.proofs.Common.{◌≡◌, Some, sym, ap, ◌∙◌, arith, option_copied}
-use Rattle.std.proofs.lemmas.List.FromFn.{length-range_with_len}
+use Rattle.std.proofs.{Common.{◌∙◌, ◌≡◌, Some, ap, arith, option_copied, sym}, lemmas.List.FromFn.length-range_with_len}
 use Rattle.machine.specs.Machine.{object_of}
-use Rattle.policy.specs.Policy.{allows}
-use Rattle.policy.proofs.Places.{least_here, none_at_all, none_more}
-use Rattle.policy.proofs.Sweep.{stands}
+use Rattle.policy.{specs.Policy.allows, proofs.{Places.{least_here, none_at_all, none_more}, Sweep.stands}}
 use Rattle.verdict.proofs.OutsidePlaces.{child_slots}
 use Rattle.verdict.proofs.excess.slots.first_pair.Goals as goal
 

@@ -1,9 +1,6 @@
 -- a thread's one slot
-use Rattle.std.proofs.Common.{◌≡◌, Some, refl, sym, ap, ◌∙◌, option_copied}
-use Rattle.machine.specs.declared.object.Object.TheVariants as o
-use Rattle.machine.specs.Machine.{object_of}
-use Rattle.machine.specs.Objects.{kind_of_object}
-use Rattle.std.specs.Option.{option_map}
+use Rattle.std.{specs.Option.option_map, proofs.Common.{◌∙◌, ◌≡◌, Some, ap, option_copied, refl, sym}}
+use Rattle.machine.specs.{declared.object.Object.Object as o, Machine.object_of, Objects.kind_of_object}
 use Rattle.policy.specs.Policy.{allows}
 use Rattle.verdict.proofs.OutsidePlaces.{least_lacking, root_by}
 use Rattle.verdict.proofs.excess.slots.root_at.Goals as goal

@@ -1,14 +1,11 @@
 -- one slot more
-use Rattle.std.proofs.Common.{◌≡◌, ◌+◌, ◌≤◌, ◌<◌, get_or, length, Some, slice_get, sym, ap, subst, ◌∙◌, arith}
+use Rattle.std.proofs.Common.{◌+◌, ◌<◌, ◌∙◌, ◌≡◌, ◌≤◌, Some, ap, arith, get_or, length, slice_get, subst, sym}
 use Rattle.std.proofs.lemmas.Option.{slice_get-get_or}
 use Rattle.machine.specs.declared.layout.Filled.{Filled}
-use Rattle.policy.specs.Places.{FindsLeast}
-use Rattle.policy.specs.Policy.{allows}
-use Rattle.verdict.specs.Verdict.{place_of}
-use Rattle.verdict.proofs.SlotPlaces.{BreaksAt}
-use Rattle.verdict.proofs.LeastOfSlots.{BrokenAmong, least_at, least_kept, least_new, least_of_all_slots}
+use Rattle.policy.specs.{Places.FindsLeast, Policy.allows}
+use Rattle.verdict.{specs.Verdict.place_of, proofs.LeastOfSlots.{BrokenAmong, least_at, least_kept, least_new, least_of_all_slots}}
+use Rattle.verdict.proofs.{SlotPlaces.BreaksAt, slots.SlotCheck.first_denial.Goals.{else-rule_of, then-rule_of}}
 use Rattle.verdict.proofs.slots.SlotCheck.first_denial.Goals as goal
-use Rattle.verdict.proofs.slots.SlotCheck.first_denial.Goals.{then-rule_of, else-rule_of}
 
 pub loop-index-preserved : goal.loop-index-preserved
 loop-index-preserved c =

@@ -1,8 +1,6 @@
 -- the least at the slots so far
-use Rattle.policy.specs.Places.{FindsLeast}
-use Rattle.policy.specs.Policy.{allows}
-use Rattle.verdict.specs.Verdict.{place_of}
-use Rattle.verdict.proofs.LeastOfSlots.{BrokenAmong}
+use Rattle.policy.specs.{Places.FindsLeast, Policy.allows}
+use Rattle.verdict.{specs.Verdict.place_of, proofs.LeastOfSlots.BrokenAmong}
 use Rattle.verdict.proofs.slots.SlotCheck.first_denial.Given as goal
 
 abbrev pub invariant-loop-index : goal.invariant-loop-index
