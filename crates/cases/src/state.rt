@@ -9,7 +9,7 @@ use evtext::read_script;
 use kernel::{boot, run};
 use machine::Event;
 use objects::State;
-use std::alloc::Global;
+use std::alloc::{AllocError, Global};
 use table::Table;
 
 /// Which events of a script are run.
@@ -33,7 +33,11 @@ pub fn state_after(
     until: Until,
 ) -> Result<String, Wrong> {
     match read_table(alloc, table) {
-        Ok(table) => state_of(alloc, &table, script, until),
+        Ok(table) => {
+            let told = state_of(alloc, &table, script, until);
+            drop(table);
+            told
+        }
         Err(_) => Err(Wrong("the table has a fault")),
     }
 }
@@ -60,7 +64,11 @@ fn events_until(events: &[Event], until: Until) -> Result<&[Event], Wrong> {
 
 fn after_events(alloc: Global, table: &Table, events: &[Event]) -> Result<String, Wrong> {
     match boot(alloc, table) {
-        Ok(mut state) => after_run(alloc, table, &mut state, events),
+        Ok(mut state) => {
+            let told = after_run(alloc, table, &mut state, events);
+            drop(state);
+            told
+        }
         Err(_) => Err(NO_MEMORY),
     }
 }
@@ -75,9 +83,16 @@ fn after_run(
     requires { IsWellFormed state.old }
 {
     let mut outcomes = Vec::new(alloc);
-    if run(state, events, &mut outcomes).is_err() {
-        return Err(NO_MEMORY);
+    let ran = run(state, events, &mut outcomes);
+    drop(outcomes);
+    match ran {
+        Ok(()) => Ok(told(alloc, table, state)?),
+        Err(_) => Err(NO_MEMORY),
     }
+}
+
+/// The text of a state.
+fn told(alloc: Global, table: &Table, state: &mut State) -> Result<String, AllocError> {
     let mut text = String::new(alloc);
     tell_state(&mut text, table, state)?;
     Ok(text)

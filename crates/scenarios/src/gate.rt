@@ -192,7 +192,10 @@ fn are_too_few_or_many<R: Abort + AllocGlobal + Threads + Sync>(
     workers: usize,
 ) {
     match checker::check(rt, rt.alloc(), table, policy, workers, &Open) {
-        Ok(_) => assert!(rt; false),
+        Ok(verdict) => {
+            drop(verdict);
+            assert!(rt; false)
+        }
         Err(error) => {
             assert_eq!(rt; error, CheckError::WorkerCount);
             assert_eq!(rt; Refusal::from(error).code, 45);
@@ -201,19 +204,26 @@ fn are_too_few_or_many<R: Abort + AllocGlobal + Threads + Sync>(
 }
 
 fn refuses_for<R: Abort + AllocGlobal + Threads + Sync>(rt: &R, table: &Table) -> Result<(), Fail> {
-    let policy = read_policy(rt.alloc(), POLICY.as_bytes(), table)
-        .ok()
-        .ok_or("a policy")?;
-    for workers in [0, 17] {
-        are_too_few_or_many(rt, table, &policy, workers);
+    match read_policy(rt.alloc(), POLICY.as_bytes(), table) {
+        Ok(policy) => {
+            for workers in [0, 17] {
+                are_too_few_or_many(rt, table, &policy, workers);
+            }
+            drop(policy);
+            Ok(())
+        }
+        Err(_) => Err(Fail::new("a policy")),
     }
-    Ok(())
 }
 
 #[test]
 fn workers_are_1_to_16(rt: HostRuntime) -> Result<(), Fail> {
-    let table = read_table(rt.alloc(), TABLE.as_bytes())
-        .ok()
-        .ok_or("a table")?;
-    refuses_for(&rt, &table)
+    match read_table(rt.alloc(), TABLE.as_bytes()) {
+        Ok(table) => {
+            let refused = refuses_for(&rt, &table);
+            drop(table);
+            refused
+        }
+        Err(_) => Err(Fail::new("a table")),
+    }
 }

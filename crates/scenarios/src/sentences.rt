@@ -26,6 +26,5 @@ end
 ";
 
 fn table(alloc: Global) -> Result<Table, Fail> {
-    let table = read_table(alloc, TABLE.as_bytes()).ok().ok_or("a table")?;
-    Ok(table)
+    read_table(alloc, TABLE.as_bytes()).map_err(|_| Fail::new("a table"))
 }

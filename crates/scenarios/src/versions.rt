@@ -5,6 +5,7 @@ use slips::{Text, explain_fault};
 use std::alloc::{AllocError, Global};
 use std::process::Abort;
 use std::test::Fail;
+use table::Table;
 
 /// A table that begins with this header, and has so many labels.
 fn table_of(alloc: Global, header: &str, labels: u64) -> Result<String, AllocError> {
@@ -23,18 +24,28 @@ fn told(alloc: Global, text: &str) -> Result<String, Fail> {
     Ok(explain_fault(alloc, Text::Table, "t", bytes, b"", fault)?)
 }
 
-#[test]
-fn an_upgrade_changes_the_header_alone(rt: HostRuntime) -> Result<(), Fail> {
-    let alloc = rt.alloc();
+/// Asserts that the text of an upgraded table is the first one with another header.
+fn is_upgraded<R: Abort + AllocGlobal>(rt: &R, table: &Table) -> Result<(), Fail> {
     let lines = TABLE
         .strip_prefix("confine-table 1")
         .ok_or("the first header")?;
-    let mut table = read_table(alloc, TABLE.as_bytes()).ok().ok_or("a table")?;
-    table.upgrade();
-    let text = write_table(alloc, &table).ok().ok_or("its text")?;
-    let upgraded = format!(in alloc; "confine-table 2{lines}")?;
+    let text = write_table(rt.alloc(), table).ok().ok_or("its text")?;
+    let upgraded = format!(in rt.alloc(); "confine-table 2{lines}")?;
     assert_eq!(rt; text.as_slice(), upgraded.as_bytes());
     Ok(())
+}
+
+#[test]
+fn an_upgrade_changes_the_header_alone(rt: HostRuntime) -> Result<(), Fail> {
+    match read_table(rt.alloc(), TABLE.as_bytes()) {
+        Ok(mut table) => {
+            table.upgrade();
+            let upgraded = is_upgraded(&rt, &table);
+            drop(table);
+            upgraded
+        }
+        Err(_) => Err(Fail::new("a table")),
+    }
 }
 
 #[test]

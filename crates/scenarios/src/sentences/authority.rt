@@ -1,5 +1,7 @@
 use captext::{read_policy, read_table};
 use explain::{explain_reach, explain_why};
+use policy::Policy;
+use std::alloc::Global;
 use std::process::Abort;
 use std::test::Fail;
 use std::thread::Threads;
@@ -110,29 +112,47 @@ fn are_told<R: Abort + AllocGlobal + Threads + Sync>(
     rows: &[Row],
 ) -> Result<(), Fail> {
     for row in rows {
-        let policy = read_policy(rt.alloc(), row.policy.as_bytes(), table)
-            .ok()
-            .ok_or("a policy")?;
-        let lines = explain_why(
-            rt,
-            rt.alloc(),
-            "table",
-            table,
-            &policy,
-            row.actor,
-            row.object,
-        );
-        let lines = lines.ok().ok_or("memory")?;
-        assert_eq!(rt; lines.as_str(), row.lines);
+        let policy = policy(rt.alloc(), row.policy, table)?;
+        let told = is_told(rt, table, &policy, row);
+        drop(policy);
+        told?;
     }
+    Ok(())
+}
+
+/// A policy, and a table of labels alone.
+fn policy(alloc: Global, text: &str, table: &Table) -> Result<Policy, Fail> {
+    read_policy(alloc, text.as_bytes(), table).map_err(|_| Fail::new("a policy"))
+}
+
+fn labels(alloc: Global) -> Result<Table, Fail> {
+    read_table(alloc, LABELS.as_bytes()).map_err(|_| Fail::new("a table"))
+}
+
+/// Asserts that a row has its lines, by its policy.
+fn is_told<R: Abort + AllocGlobal + Threads + Sync>(
+    rt: &R,
+    table: &Table,
+    policy: &Policy,
+    row: &Row,
+) -> Result<(), Fail> {
+    let lines = explain_why(
+        rt,
+        rt.alloc(),
+        "table",
+        table,
+        policy,
+        row.actor,
+        row.object,
+    );
+    let lines = lines.ok().ok_or("memory")?;
+    assert_eq!(rt; lines.as_str(), row.lines);
     Ok(())
 }
 
 #[test]
 fn tells_whence_the_edges_of_a_reason_come(rt: HostRuntime) -> Result<(), Fail> {
-    let labels = read_table(rt.alloc(), LABELS.as_bytes())
-        .ok()
-        .ok_or("a table")?;
+    let labels = labels(rt.alloc())?;
     let told = are_told(&rt, &labels, &BY_RULE);
     drop(labels);
     told
@@ -145,19 +165,16 @@ fn is_reach_told<R: Abort + AllocGlobal>(
     policy: &str,
     lines: &str,
 ) -> Result<(), Fail> {
-    let policy = read_policy(rt.alloc(), policy.as_bytes(), table)
-        .ok()
-        .ok_or("a policy")?;
-    let told = explain_reach(rt.alloc(), table, &policy)?;
-    assert_eq!(rt; told.as_str(), lines);
+    let policy = self::policy(rt.alloc(), policy, table)?;
+    let told = explain_reach(rt.alloc(), table, &policy);
+    drop(policy);
+    assert_eq!(rt; told?.as_str(), lines);
     Ok(())
 }
 
 #[test]
 fn tells_whom_each_label_may_change(rt: HostRuntime) -> Result<(), Fail> {
-    let labels = read_table(rt.alloc(), LABELS.as_bytes())
-        .ok()
-        .ok_or("a table")?;
+    let labels = labels(rt.alloc())?;
     let told = is_reach_told(
         &rt,
         &labels,
