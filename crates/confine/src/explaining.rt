@@ -2,6 +2,7 @@ use crate::files::Files;
 use crate::request::{Invocation, Request};
 use base::Refusal;
 use captext::{object_name, read_table, write_table};
+use causes::{Caller, explain_illegal, explain_refusal};
 use evtext::read_log;
 use explain::{
     explain_broken, explain_closing, explain_closing_command, explain_denial, explain_outside,
@@ -10,9 +11,7 @@ use explain::{
 use machine::{Event, Outcome};
 use policy::Policy;
 use report::{Asked, End, Fault, File, Finding, Heard, Listener, OnClose, answer_at};
-use slips::{
-    Caller, Text, explain_fault, explain_illegal, explain_refusal, explain_roots, explain_threads,
-};
+use slips::{Text, explain_fault, explain_roots, explain_threads};
 use std::alloc::{AllocError, Global};
 use std::fmt;
 use std::io::ErrorKind;

@@ -1,0 +1,8 @@
+//! Words on the entries of a log: why a call is refused, or what the kernel answers to it.
+#![tactic(auto)]
+
+mod calls;
+mod refused;
+mod sought;
+
+pub use calls::{Caller, explain_illegal, explain_refusal};
