@@ -8,3 +8,5 @@ mod LimitedLists
 mod Scripts
 mod LogTexts
 mod OneLog
+mod SameBytes
+mod PairsOfDigits

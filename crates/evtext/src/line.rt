@@ -1,4 +1,4 @@
-ghost use Rattle.std.specs.Prelude.{◌≡◌};
+ghost use Rattle.std.specs.{Prelude.◌≡◌, Str.bytes_eq};
 ghost use Rattle.words.specs.{Parts.by_word, Reading.Gives};
 ghost use Rattle.evtext.specs.Event.{call_at, configure_at, copy_at, data_at, event_at, four_at, memory_kind_at, message_at, mint_at};
 ghost use Rattle.evtext.specs.Event.{move_at, optional_at, optional_slot_at, receive_at, reply_at, retype_at, rights_at, slot_address_at};
@@ -34,6 +34,21 @@ impl Claimed {
     }
 }
 
+// Whether a word is this one: most differ in their lengths or their first bytes.
+pub(crate) fn is(word: &[u8], wanted: &[u8]) -> bool
+    ensures { result ≡ bytes_eq word.now wanted.now }
+{
+    if word.len() != wanted.len() {
+        return false;
+    }
+    for index in 0..word.len() {
+        if word[index] != wanted[index] {
+            return false;
+        }
+    }
+    true
+}
+
 /// The next words as an event.
 #[tactic(auto, unfolding(crate::specs::Event::event_at, words::specs::Parts::in_turn, words::specs::Parts::read_as, words::specs::Reading::bind))]
 pub(crate) fn next_event(words: &mut Words<'_>) -> Result<Claimed, Wrong>
@@ -57,48 +72,48 @@ fn next_call(words: &mut Words<'_>) -> Result<Call, Wrong>
     ensures { Gives (λ call. (call, words.new)) result (call_at words.old) }
 {
     let name = words.word()?;
-    if name == b"signal".as_slice() {
+    if is(name, b"signal") {
         let address = words.number()?;
         Ok(Call::Signal { address })
-    } else if name == b"poll".as_slice() {
+    } else if is(name, b"poll") {
         let address = words.number()?;
         Ok(Call::Poll { address })
-    } else if name == b"wait".as_slice() {
+    } else if is(name, b"wait") {
         let address = words.number()?;
         Ok(Call::Wait { address })
-    } else if name == b"send".as_slice() {
+    } else if is(name, b"send") {
         let (address, words, capability) = next_message(words)?;
         Ok(Call::Send {
             address,
             words,
             capability,
         })
-    } else if name == b"call".as_slice() {
+    } else if is(name, b"call") {
         let (address, words, capability) = next_message(words)?;
         Ok(Call::Call {
             address,
             words,
             capability,
         })
-    } else if name == b"recv".as_slice() {
+    } else if is(name, b"recv") {
         next_receive(words)
-    } else if name == b"reply".as_slice() {
+    } else if is(name, b"reply") {
         next_reply(words)
-    } else if name == b"fetch".as_slice() {
+    } else if is(name, b"fetch") {
         Ok(Call::Fetch)
-    } else if name == b"copy".as_slice() {
+    } else if is(name, b"copy") {
         next_copy(words)
-    } else if name == b"mint".as_slice() {
+    } else if is(name, b"mint") {
         next_mint(words)
-    } else if name == b"move".as_slice() {
+    } else if is(name, b"move") {
         next_move(words)
-    } else if name == b"delete".as_slice() {
+    } else if is(name, b"delete") {
         let slot = next_slot_address(words)?;
         Ok(Call::Delete { slot })
-    } else if name == b"revoke".as_slice() {
+    } else if is(name, b"revoke") {
         let slot = next_slot_address(words)?;
         Ok(Call::Revoke { slot })
-    } else if name == b"retype".as_slice() {
+    } else if is(name, b"retype") {
         next_retype(words)
     } else {
         next_thread_call(name, words)
@@ -110,29 +125,29 @@ fn next_call(words: &mut Words<'_>) -> Result<Call, Wrong>
 fn next_thread_call(name: &[u8], words: &mut Words<'_>) -> Result<Call, Wrong>
     ensures { Gives (λ call. (call, words.new)) result (by_word thread_calls name.now words.old) }
 {
-    if name == b"read".as_slice() {
+    if is(name, b"read") {
         let (address, index) = next_two(words)?;
         Ok(Call::Read { address, index })
-    } else if name == b"write".as_slice() {
+    } else if is(name, b"write") {
         next_write(words)
-    } else if name == b"setspace".as_slice() {
+    } else if is(name, b"setspace") {
         let (thread, space) = next_two(words)?;
         Ok(Call::SetSpace { thread, space })
-    } else if name == b"clearspace".as_slice() {
+    } else if is(name, b"clearspace") {
         let thread = words.number()?;
         Ok(Call::ClearSpace { thread })
-    } else if name == b"suspend".as_slice() {
+    } else if is(name, b"suspend") {
         let thread = words.number()?;
         Ok(Call::Suspend { thread })
-    } else if name == b"resume".as_slice() {
+    } else if is(name, b"resume") {
         let thread = words.number()?;
         Ok(Call::Resume { thread })
-    } else if name == b"configure".as_slice() {
+    } else if is(name, b"configure") {
         next_configure(words)
-    } else if name == b"bind".as_slice() {
+    } else if is(name, b"bind") {
         let (context, thread) = next_two(words)?;
         Ok(Call::Bind { context, thread })
-    } else if name == b"unbind".as_slice() {
+    } else if is(name, b"unbind") {
         let context = words.number()?;
         Ok(Call::Unbind { context })
     } else {
@@ -197,7 +212,7 @@ fn next_optional(words: &mut Words<'_>) -> Result<Option<u64>, Wrong>
     ensures { Gives (λ address. (address, words.new)) result (optional_at words.old) }
 {
     let word = words.word()?;
-    if word == b"-".as_slice() {
+    if is(word, b"-") {
         return Ok(None);
     }
     let address = decimal_of(word).ok_or(Wrong::Syntax)?;
@@ -210,7 +225,7 @@ fn next_optional_slot(words: &mut Words<'_>) -> Result<Option<SlotAddress>, Wron
     ensures { Gives (λ slot. (slot, words.new)) result (optional_slot_at words.old) }
 {
     let word = words.word()?;
-    if word == b"-".as_slice() {
+    if is(word, b"-") {
         return Ok(None);
     }
     let root = decimal_of(word).ok_or(Wrong::Syntax)?;
@@ -355,10 +370,10 @@ fn next_data(words: &mut Words<'_>) -> Result<CapData, Wrong>
     ensures { Gives (λ given. (given, words.new)) result (data_at words.old) }
 {
     let name = words.word()?;
-    if name == b"badge".as_slice() {
+    if is(name, b"badge") {
         let badge = words.number()?;
         Ok(CapData::Badge(badge))
-    } else if name == b"guard".as_slice() {
+    } else if is(name, b"guard") {
         let size = words.number()?;
         let value = words.number()?;
         Ok(CapData::Guard { size, value })

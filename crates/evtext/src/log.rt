@@ -7,7 +7,7 @@ ghost use Rattle.evtext.specs.Log.{IsLog, log_format, log_line, log_step, log_te
 
 use crate::line::next_event;
 use crate::outcome::next_result;
-use crate::writing::{write_event, write_outcome};
+use crate::writing::{write_bytes, write_event, write_outcome};
 use base::Refusal;
 use machine::{Event, Log, Outcome};
 use std::alloc::{AllocError, Global};
@@ -134,8 +134,7 @@ fn write_entry(text: &mut Vec<u8>, event: &Event, outcome: &Outcome) -> Result<(
         ≡ text.old.items ++ line_text (entry_words (event.now, outcome.now))) }
 {
     write_event(text, event)?;
-    text.extend_from_slice(b" =")?;
+    write_bytes(text, b" =")?;
     write_outcome(text, outcome)?;
-    text.push(b'\n')?;
-    Ok(())
+    write_bytes(text, b"\n")
 }

@@ -2,7 +2,7 @@ ghost use Rattle.std.specs.Prelude.{◌≡◌};
 ghost use Rattle.words.specs.Reading.{Gives};
 ghost use Rattle.evtext.specs.Outcome.{answer_at, equals_at, flag_at, outcome_at, received_at};
 
-use crate::line::next_four;
+use crate::line::{is, next_four};
 use base::Refusal;
 use machine::{Answer, Message, Outcome};
 use words::{Words, Wrong};
@@ -13,7 +13,7 @@ pub(crate) fn next_result(words: &mut Words<'_>) -> Result<Outcome, Wrong>
     ensures { Gives (λ outcome. (outcome, words.new)) result (equals_at words.old) }
 {
     let word = words.word()?;
-    if word != b"=".as_slice() {
+    if !is(word, b"=") {
         return Err(Wrong::Syntax);
     }
     next_outcome(words)
@@ -25,12 +25,12 @@ fn next_outcome(words: &mut Words<'_>) -> Result<Outcome, Wrong>
     ensures { Gives (λ outcome. (outcome, words.new)) result (outcome_at words.old) }
 {
     let name = words.word()?;
-    if name == b"done".as_slice() {
+    if is(name, b"done") {
         let answer = next_answer(words)?;
         Ok(Outcome::Done(answer))
-    } else if name == b"blocked".as_slice() {
+    } else if is(name, b"blocked") {
         Ok(Outcome::Blocked)
-    } else if name == b"refused".as_slice() {
+    } else if is(name, b"refused") {
         let code = words.number()?;
         let detail = words.number()?;
         Ok(Outcome::Refused(Refusal { code, detail }))
@@ -47,16 +47,16 @@ fn next_answer(words: &mut Words<'_>) -> Result<Answer, Wrong>
     let Some(name) = words.next_word() else {
         return Ok(Answer::Nothing);
     };
-    if name == b"word".as_slice() {
+    if is(name, b"word") {
         let word = words.number()?;
         Ok(Answer::Word(word))
-    } else if name == b"msg".as_slice() {
+    } else if is(name, b"msg") {
         let message = next_received(words)?;
         Ok(Answer::Message(message))
-    } else if name == b"count".as_slice() {
+    } else if is(name, b"count") {
         let count = words.number()?;
         Ok(Answer::Count(count))
-    } else if name == b"aborted".as_slice() {
+    } else if is(name, b"aborted") {
         Ok(Answer::Aborted)
     } else {
         Err(Wrong::Syntax)
@@ -84,9 +84,9 @@ fn next_flag(words: &mut Words<'_>) -> Result<bool, Wrong>
     ensures { Gives (λ flag. (flag, words.new)) result (flag_at words.old) }
 {
     let word = words.word()?;
-    if word == b"1".as_slice() {
+    if is(word, b"1") {
         Ok(true)
-    } else if word == b"0".as_slice() {
+    } else if is(word, b"0") {
         Ok(false)
     } else {
         Err(Wrong::Syntax)

@@ -18,24 +18,73 @@ const SPELLED_RIGHTS: u8 = 0b1111;
 // A number below 2^64 has so many digits at most.
 const MOST_DIGITS: usize = 20;
 
-// Puts the number in decimal at the end of the text, which has room for it.
-fn put_decimal(text: &mut Vec<u8>, number: u64)
+// Makes room for so many more bytes, which mostly is there.
+fn make_room(text: &mut Vec<u8>, count: usize) -> Result<(), AllocError>
+    ensures items { text.new.items ≡ text.old.items }
+    ensures len { vec_len text.new ≡ vec_len text.old }
+    ensures room { OnOk result (vec_len text.new + count ≤ vec_capacity text.new) }
+{
+    if text.capacity() - text.len() < count {
+        text.reserve(count)?;
+    }
+    Ok(())
+}
+
+// Puts the bytes, which are few, at the end of the text, which has room for them.
+fn put_bytes(text: &mut Vec<u8>, bytes: &[u8])
+    requires { vec_len text.old + length bytes.now ≤ vec_capacity text.old }
+    ensures { text.new.items ≡ text.old.items ++ bytes.now }
+{
+    for byte in bytes {
+        text.push_reserved(*byte);
+    }
+}
+
+// Puts the number in decimal at the end of the text, which has room for it, two digits at a time.
+fn put_digits(text: &mut Vec<u8>, number: u64)
     requires { vec_len text.old + length (decimal number) ≤ vec_capacity text.old }
     ensures items { text.new.items ≡ text.old.items ++ decimal number }
     ensures len { vec_len text.new ≡ vec_len text.old + length (decimal number) }
     ensures capacity { vec_capacity text.new ≡ vec_capacity text.old }
 {
-    if number >= 10 {
-        put_decimal(text, number / 10);
+    if number < 10 {
+        text.push_reserved(b'0' + number as u8);
+        return;
     }
-    text.push_reserved(b'0' + (number % 10) as u8);
+    if number >= 100 {
+        put_digits(text, number / 100);
+    }
+    let pair = (number % 100) as u8;
+    text.push_reserved(b'0' + pair / 10);
+    text.push_reserved(b'0' + pair % 10);
+}
+
+// The same, where numbers of one digit are the most.
+fn put_decimal(text: &mut Vec<u8>, number: u64)
+    requires { vec_len text.old + length (decimal number) ≤ vec_capacity text.old }
+    ensures { text.new.items ≡ text.old.items ++ decimal number }
+{
+    if number < 10 {
+        text.push_reserved(b'0' + number as u8);
+    } else {
+        put_digits(text, number);
+    }
+}
+
+// Writes the bytes, which are few.
+pub(crate) fn write_bytes(text: &mut Vec<u8>, bytes: &[u8]) -> Result<(), AllocError>
+    ensures { OnOk result (text.new.items ≡ text.old.items ++ bytes.now) }
+{
+    make_room(text, bytes.len())?;
+    put_bytes(text, bytes);
+    Ok(())
 }
 
 // Writes the number in decimal, and no space before it.
 fn write_decimal(text: &mut Vec<u8>, number: u64) -> Result<(), AllocError>
     ensures { OnOk result (text.new.items ≡ text.old.items ++ decimal number) }
 {
-    text.reserve(MOST_DIGITS)?;
+    make_room(text, MOST_DIGITS)?;
     put_decimal(text, number);
     Ok(())
 }
@@ -44,7 +93,7 @@ fn write_decimal(text: &mut Vec<u8>, number: u64) -> Result<(), AllocError>
 fn write_number(text: &mut Vec<u8>, number: u64) -> Result<(), AllocError>
     ensures { OnOk result (text.new.items ≡ written text.old.items (decimal number ∷ [])) }
 {
-    text.reserve(1 + MOST_DIGITS)?;
+    make_room(text, 1 + MOST_DIGITS)?;
     text.push_reserved(b' ');
     put_decimal(text, number);
     Ok(())
@@ -53,8 +102,10 @@ fn write_number(text: &mut Vec<u8>, number: u64) -> Result<(), AllocError>
 fn write_word(text: &mut Vec<u8>, word: &str) -> Result<(), AllocError>
     ensures { OnOk result (text.new.items ≡ written text.old.items (word.now ∷ [])) }
 {
-    text.push(b' ')?;
-    text.extend_from_slice(word.as_bytes())
+    make_room(text, 1 + word.len())?;
+    text.push_reserved(b' ');
+    put_bytes(text, word.as_bytes());
+    Ok(())
 }
 
 // Writes a name and numbers after it.
@@ -73,7 +124,7 @@ fn write_optional(text: &mut Vec<u8>, number: Option<u64>) -> Result<(), AllocEr
 {
     match number {
         Some(number) => write_number(text, number),
-        None => text.extend_from_slice(b" -"),
+        None => write_bytes(text, b" -"),
     }
 }
 
@@ -90,7 +141,7 @@ fn write_optional_slot(text: &mut Vec<u8>, slot: &Option<SlotAddress>) -> Result
 {
     match slot {
         Some(slot) => write_slot(text, slot),
-        None => text.extend_from_slice(b" -"),
+        None => write_bytes(text, b" -"),
     }
 }
 
@@ -113,7 +164,7 @@ fn write_letter(
     ensures { OnOk result (text.new.items ≡ text.old.items ++ letter_of rights right.0 letter.now) }
 {
     if rights.contains(right) {
-        text.extend_from_slice(letter)?;
+        write_bytes(text, letter)?;
     }
     Ok(())
 }
@@ -128,7 +179,7 @@ fn write_rights(text: &mut Vec<u8>, rights: Rights) -> Result<(), AllocError>
     ensures { OnOk result (text.new.items ≡ written text.old.items (rights_word rights ∷ [])) }
 {
     if has_none(rights) {
-        return text.extend_from_slice(b" -");
+        return write_bytes(text, b" -");
     }
     text.push(b' ')?;
     write_letter(text, rights, Rights::READ, b"r")?;
@@ -323,9 +374,9 @@ fn write_message(text: &mut Vec<u8>, message: &Message) -> Result<(), AllocError
     write_number(text, message.badge)?;
     write_four(text, &message.words)?;
     if message.capability {
-        text.extend_from_slice(b" 1")
+        write_bytes(text, b" 1")
     } else {
-        text.extend_from_slice(b" 0")
+        write_bytes(text, b" 0")
     }
 }
 
@@ -333,20 +384,20 @@ fn write_answer(text: &mut Vec<u8>, answer: &Answer) -> Result<(), AllocError>
     ensures { OnOk result (text.new.items ≡ written text.old.items (answer_words answer.now)) }
 {
     match answer {
-        Answer::Nothing => text.extend_from_slice(b" done"),
+        Answer::Nothing => write_bytes(text, b" done"),
         Answer::Word(word) => {
-            text.extend_from_slice(b" done word")?;
+            write_bytes(text, b" done word")?;
             write_number(text, *word)
         }
         Answer::Message(message) => {
-            text.extend_from_slice(b" done msg")?;
+            write_bytes(text, b" done msg")?;
             write_message(text, message)
         }
         Answer::Count(count) => {
-            text.extend_from_slice(b" done count")?;
+            write_bytes(text, b" done count")?;
             write_number(text, *count)
         }
-        Answer::Aborted => text.extend_from_slice(b" done aborted"),
+        Answer::Aborted => write_bytes(text, b" done aborted"),
     }
 }
 
@@ -356,7 +407,7 @@ pub(crate) fn write_outcome(text: &mut Vec<u8>, outcome: &Outcome) -> Result<(),
 {
     match outcome {
         Outcome::Done(answer) => write_answer(text, answer),
-        Outcome::Blocked => text.extend_from_slice(b" blocked"),
+        Outcome::Blocked => write_bytes(text, b" blocked"),
         Outcome::Refused(refusal) => write_numbers(
             text,
             "refused",

@@ -1,4 +1,4 @@
-use Rattle.evtext.proofs.writing.+put_decimal.Given as goal
+use Rattle.evtext.proofs.writing.+put_digits.Given as goal
 
-abbrev pub decreases-put_decimal : goal.decreases-put_decimal
-decreases-put_decimal l = l.number
+abbrev pub decreases-put_digits : goal.decreases-put_digits
+decreases-put_digits l = l.number

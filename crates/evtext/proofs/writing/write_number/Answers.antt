@@ -4,6 +4,6 @@ use Rattle.evtext.proofs.writing.write_number.Goals as goal
 pub put_decimal-requires : goal.put_decimal-requires
 put_decimal-requires c =
     let few = length-decimal-le 20 c.args.number (omega arith) (omega (arith, c.ranges.number.fits)) c.ranges.number.fits in
-    let room = c.in_ok-reserve.ensures.ok in
+    let room = c.in_ok-make_room.ensures.room in
     let longer = c.push_reserved.ensures.len in
     let same = c.push_reserved.ensures.capacity in omega (arith, few, room, longer, same)
