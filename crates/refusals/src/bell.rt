@@ -1,12 +1,11 @@
 //! The system of these tests, a thread with a notification of its own: its texts, and what they say,
 //! worked by hand.
+use crate::memory::{Stopped, holds};
 use base::{CoreNo, Edge, Kind, Kinds, Label, ObjId, SlotRef};
 use bitflags::Flags;
 use certificate::Line;
 use machine::{Answer, Call, Event, Object, Outcome};
 use objects::State;
-use std::process::Abort;
-use std::test::Fail;
 use table::Table;
 
 pub const TABLE: &str = "\
@@ -79,16 +78,16 @@ const ROOT: SlotRef = SlotRef {
     index: 0,
 };
 
-fn label() -> Result<Label, Fail> {
-    Ok(Label::new(0).ok_or("label")?)
+fn label() -> Result<Label, Stopped> {
+    Ok(Label::new(0).ok_or(Stopped::Wrong("label"))?)
 }
 
-pub fn core() -> Result<CoreNo, Fail> {
-    Ok(CoreNo::new(0).ok_or("core")?)
+pub fn core() -> Result<CoreNo, Stopped> {
+    Ok(CoreNo::new(0).ok_or(Stopped::Wrong("core"))?)
 }
 
 /// The edges of the policy.
-pub fn edges() -> Result<[Edge; 6], Fail> {
+pub fn edges() -> Result<[Edge; 6], Stopped> {
     let a = label()?;
     let edge = |kind| Edge {
         from: a,
@@ -106,13 +105,13 @@ pub fn edges() -> Result<[Edge; 6], Fail> {
 }
 
 /// The edges that the table gives: those of the policy but derive, which no pair gives.
-pub fn table_edges() -> Result<[Edge; 5], Fail> {
+pub fn table_edges() -> Result<[Edge; 5], Stopped> {
     let [reset, notify, await_, space, _, runs] = edges()?;
     Ok([reset, notify, await_, space, runs])
 }
 
 /// The edges that the notification's capability gives.
-pub fn slot_edges() -> Result<[Edge; 3], Fail> {
+pub fn slot_edges() -> Result<[Edge; 3], Stopped> {
     let [reset, notify, await_, ..] = edges()?;
     Ok([reset, notify, await_])
 }
@@ -123,7 +122,7 @@ fn kinds_given() -> Kinds {
 }
 
 /// The certificate's lines.
-pub fn certificate_lines() -> Result<[Line; 3], Fail> {
+pub fn certificate_lines() -> Result<[Line; 3], Stopped> {
     let a = label()?;
     Ok([
         Line::Cap {
@@ -146,7 +145,7 @@ pub fn certificate_lines() -> Result<[Line; 3], Fail> {
     ])
 }
 
-fn event(call: Call) -> Result<Event, Fail> {
+fn event(call: Call) -> Result<Event, Stopped> {
     Ok(Event {
         core: core()?,
         thread: THREAD,
@@ -155,7 +154,7 @@ fn event(call: Call) -> Result<Event, Fail> {
 }
 
 /// The script's events.
-pub fn events() -> Result<[Event; 2], Fail> {
+pub fn events() -> Result<[Event; 2], Stopped> {
     Ok([
         event(Call::Signal { address: 0 })?,
         event(Call::Poll { address: 0 })?,
@@ -169,11 +168,11 @@ pub const DONE: Outcome = Outcome::Done(Answer::Nothing);
 pub const WORD: Outcome = Outcome::Done(Answer::Word(4));
 
 /// Asserts that a table is the system's.
-pub fn is_the_system(rt: &impl Abort, table: &Table) -> Result<(), Fail> {
-    assert_eq!(rt; table.object_count(), 4);
-    assert!(rt; names_the_notification(table));
-    assert!(rt; has_the_root(table));
-    assert!(rt; has_the_binding(table));
+pub fn is_the_system(table: &Table) -> Result<(), Stopped> {
+    holds(table.object_count() == 4, "another number of objects")?;
+    holds(names_the_notification(table), "another notification")?;
+    holds(has_the_root(table), "another root")?;
+    holds(has_the_binding(table), "another binding")?;
     Ok(())
 }
 
@@ -196,9 +195,9 @@ fn has_the_binding(table: &Table) -> bool {
 }
 
 /// Asserts that a state is that of the system before a call.
-pub fn is_booted(rt: &impl Abort, state: &State) -> Result<(), Fail> {
-    assert_eq!(rt; state.next_id(), 4);
-    assert!(rt; is_unsignalled(state));
+pub fn is_booted(state: &State) -> Result<(), Stopped> {
+    holds(state.next_id() == 4, "another next number")?;
+    holds(is_unsignalled(state), "a word that is pending")?;
     Ok(())
 }
 

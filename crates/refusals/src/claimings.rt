@@ -1,8 +1,7 @@
 //! The engines of `claims`: for claims, and for the strongest that hold.
 use crate::engine::{Answer, EMPTY_POLICY, answers};
+use crate::memory::Stopped;
 use report::{End, Silence, Watched, check_claims, write_claims};
-use std::process::Abort;
-use std::test::Fail;
 use std::thread::Threads;
 
 /// A table of two labels, which have no authority without an edge.
@@ -30,40 +29,10 @@ fn claims_onto<R: AllocGlobal + Threads + Sync>(rt: &R, page: Vec<u8>) -> (End, 
     (end, out.into_inner())
 }
 
-fn hold<R: Abort + AllocGlobal + Threads + Sync>(rt: &R, count: u64) -> Result<(), Fail> {
+pub fn hold<R: AllocGlobal + Threads + Sync>(rt: &R, count: u64) -> Result<(), Stopped> {
     answers(rt, count, Answer::new(0, HOLD), |page| {
         claims_onto(rt, page)
     })
-}
-
-#[test]
-fn engine_claims_after_99(rt: HostRuntime) -> Result<(), Fail> {
-    hold(&rt, 99)
-}
-
-#[test]
-fn engine_claims_after_94(rt: HostRuntime) -> Result<(), Fail> {
-    hold(&rt, 94)
-}
-
-#[test]
-fn engine_claims_after_89(rt: HostRuntime) -> Result<(), Fail> {
-    hold(&rt, 89)
-}
-
-#[test]
-fn engine_claims_after_84(rt: HostRuntime) -> Result<(), Fail> {
-    hold(&rt, 84)
-}
-
-#[test]
-fn engine_claims_after_79(rt: HostRuntime) -> Result<(), Fail> {
-    hold(&rt, 79)
-}
-
-#[test]
-fn engine_claims_after_74(rt: HostRuntime) -> Result<(), Fail> {
-    hold(&rt, 74)
 }
 
 /// Runs the engine that writes the strongest claims onto a page.
@@ -82,28 +51,8 @@ fn strongest_onto<R: AllocGlobal + Threads + Sync>(rt: &R, page: Vec<u8>) -> (En
     (end, out.into_inner())
 }
 
-fn are_written<R: Abort + AllocGlobal + Threads + Sync>(rt: &R, count: u64) -> Result<(), Fail> {
+pub fn are_written<R: AllocGlobal + Threads + Sync>(rt: &R, count: u64) -> Result<(), Stopped> {
     answers(rt, count, Answer::new(0, CLAIMS), |page| {
         strongest_onto(rt, page)
     })
-}
-
-#[test]
-fn engine_strongest_after_99(rt: HostRuntime) -> Result<(), Fail> {
-    are_written(&rt, 99)
-}
-
-#[test]
-fn engine_strongest_after_94(rt: HostRuntime) -> Result<(), Fail> {
-    are_written(&rt, 94)
-}
-
-#[test]
-fn engine_strongest_after_89(rt: HostRuntime) -> Result<(), Fail> {
-    are_written(&rt, 89)
-}
-
-#[test]
-fn engine_strongest_after_84(rt: HostRuntime) -> Result<(), Fail> {
-    are_written(&rt, 84)
 }

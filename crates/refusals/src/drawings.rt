@@ -1,8 +1,7 @@
 //! The engines of `draw` and of `list`.
 use crate::engine::{Answer, answers};
+use crate::memory::Stopped;
 use report::{End, Silence, Watched, draw, list};
-use std::process::Abort;
-use std::test::Fail;
 
 /// A table of two labels and an object.
 const TABLE: &str = "confine-table 1\nlabel a\nlabel b\nnotification n b 0x3000\nend\n";
@@ -22,7 +21,7 @@ fn draw_onto<R: AllocGlobal>(rt: &R, page: Vec<u8>) -> (End, Vec<u8>) {
     (end, out.into_inner())
 }
 
-fn draws<R: Abort + AllocGlobal>(rt: &R, count: u64) -> Result<(), Fail> {
+pub fn draws<R: AllocGlobal>(rt: &R, count: u64) -> Result<(), Stopped> {
     answers(rt, count, Answer::new(0, DRAWING), |page| {
         draw_onto(rt, page)
     })
@@ -36,43 +35,8 @@ fn list_onto<R: AllocGlobal>(rt: &R, page: Vec<u8>) -> (End, Vec<u8>) {
     (end, out.into_inner())
 }
 
-fn lists<R: Abort + AllocGlobal>(rt: &R, count: u64) -> Result<(), Fail> {
+pub fn lists<R: AllocGlobal>(rt: &R, count: u64) -> Result<(), Stopped> {
     answers(rt, count, Answer::new(0, "0 notification n b\n"), |page| {
         list_onto(rt, page)
     })
-}
-
-#[test]
-fn engine_draw_after_99(rt: HostRuntime) -> Result<(), Fail> {
-    draws(&rt, 99)
-}
-
-#[test]
-fn engine_draw_after_94(rt: HostRuntime) -> Result<(), Fail> {
-    draws(&rt, 94)
-}
-
-#[test]
-fn engine_draw_after_89(rt: HostRuntime) -> Result<(), Fail> {
-    draws(&rt, 89)
-}
-
-#[test]
-fn engine_draw_after_84(rt: HostRuntime) -> Result<(), Fail> {
-    draws(&rt, 84)
-}
-
-#[test]
-fn engine_draw_after_79(rt: HostRuntime) -> Result<(), Fail> {
-    draws(&rt, 79)
-}
-
-#[test]
-fn engine_list_after_89(rt: HostRuntime) -> Result<(), Fail> {
-    lists(&rt, 89)
-}
-
-#[test]
-fn engine_list_after_84(rt: HostRuntime) -> Result<(), Fail> {
-    lists(&rt, 84)
 }

@@ -1,9 +1,7 @@
 //! How an engine answers that may be refused memory; the engine of `run`, for a log, for a denial and for a fault.
 use crate::bell::{LOG, POLICY, SCRIPT, TABLE};
-use crate::memory::{are, prepared, refused, spend};
+use crate::memory::{Stopped, are, holds, prepared, spend};
 use report::{End, Silence, Watched, run};
-use std::process::Abort;
-use std::test::Fail;
 use std::thread::Threads;
 
 /// A policy that the system is denied by.
@@ -40,38 +38,33 @@ impl<'a> Answer<'a> {
 }
 
 /// Whether an engine was refused memory: then it has written nothing, or what it may write without. Else it has answered.
-fn was_refused(
-    rt: &impl Abort,
-    end: End,
-    written: &[u8],
-    answer: Answer<'_>,
-) -> Result<bool, Fail> {
+fn was_refused(end: End, written: &[u8], answer: Answer<'_>) -> Result<bool, Stopped> {
     if end == End::NoMemory {
-        assert_eq!(rt; written.len(), 0);
+        holds(written.len() == 0, "something is written")?;
         return Ok(true);
     }
-    assert_eq!(rt; end, End::Status(answer.status));
+    holds(end == End::Status(answer.status), "another end")?;
     if let Some(text) = answer.without_memory {
         if written == text.as_bytes() {
             return Ok(true);
         }
     }
-    are(rt, written, answer.text.as_bytes())?;
+    are(written, answer.text.as_bytes())?;
     Ok(false)
 }
 
 /// Runs an engine onto a page with room for its answer.
-fn is_refused<R: Abort + AllocGlobal, F: Fn(Vec<u8>) -> (End, Vec<u8>) + Drop>(
+fn is_refused<R: AllocGlobal, F: Fn(Vec<u8>) -> (End, Vec<u8>) + Drop>(
     rt: &R,
     answer: Answer<'_>,
     engine: &F,
-) -> Result<bool, Fail>
+) -> Result<bool, Stopped>
     requires { F.IsAlwaysCallable engine.now }
 {
     match prepared(Vec::with_capacity(rt.alloc(), answer.text.len())) {
         Ok(page) => {
             let (end, written) = engine(page);
-            let result = was_refused(rt, end, &written, answer);
+            let result = was_refused(end, &written, answer);
             drop(written);
             result
         }
@@ -80,18 +73,18 @@ fn is_refused<R: Abort + AllocGlobal, F: Fn(Vec<u8>) -> (End, Vec<u8>) + Drop>(
 }
 
 /// Runs an engine after so many allocations. One that is refused memory is run again, and has to answer then.
-pub fn answers<R: Abort + AllocGlobal, F: Fn(Vec<u8>) -> (End, Vec<u8>) + Drop>(
+pub fn answers<R: AllocGlobal, F: Fn(Vec<u8>) -> (End, Vec<u8>) + Drop>(
     rt: &R,
     count: u64,
     answer: Answer<'_>,
     engine: F,
-) -> Result<(), Fail>
+) -> Result<(), Stopped>
     requires { F.IsAlwaysCallable engine }
 {
     spend(rt.alloc(), count)?;
     if is_refused(rt, answer, &engine)? {
-        assert!(rt; !is_refused(rt, answer, &engine)?);
-        return Err(refused());
+        holds(!is_refused(rt, answer, &engine)?, "refused a second time")?;
+        return Err(Stopped::Refused);
     }
     Ok(())
 }
@@ -120,121 +113,31 @@ pub fn run_onto<R: AllocGlobal + Threads + Sync>(
     (end, out.into_inner())
 }
 
-fn logs<R: Abort + AllocGlobal + Threads + Sync>(rt: &R, count: u64) -> Result<(), Fail> {
+pub fn logs<R: AllocGlobal + Threads + Sync>(rt: &R, count: u64) -> Result<(), Stopped> {
     answers(rt, count, Answer::new(0, LOG), |page| {
         run_onto(rt, TABLE, POLICY, SCRIPT, page)
     })
 }
 
-#[test]
-fn engine_log_after_99(rt: HostRuntime) -> Result<(), Fail> {
-    logs(&rt, 99)
-}
-
-#[test]
-fn engine_log_after_94(rt: HostRuntime) -> Result<(), Fail> {
-    logs(&rt, 94)
-}
-
-#[test]
-fn engine_log_after_89(rt: HostRuntime) -> Result<(), Fail> {
-    logs(&rt, 89)
-}
-
-#[test]
-fn engine_log_after_84(rt: HostRuntime) -> Result<(), Fail> {
-    logs(&rt, 84)
-}
-
-#[test]
-fn engine_log_after_79(rt: HostRuntime) -> Result<(), Fail> {
-    logs(&rt, 79)
-}
-
-#[test]
-fn engine_log_after_74(rt: HostRuntime) -> Result<(), Fail> {
-    logs(&rt, 74)
-}
-
-#[test]
-fn engine_log_after_69(rt: HostRuntime) -> Result<(), Fail> {
-    logs(&rt, 69)
-}
-
-#[test]
-fn engine_log_after_64(rt: HostRuntime) -> Result<(), Fail> {
-    logs(&rt, 64)
-}
-
-#[test]
-fn engine_log_after_59(rt: HostRuntime) -> Result<(), Fail> {
-    logs(&rt, 59)
-}
-
-#[test]
-fn engine_log_after_54(rt: HostRuntime) -> Result<(), Fail> {
-    logs(&rt, 54)
-}
-
-fn denies<R: Abort + AllocGlobal + Threads + Sync>(rt: &R, count: u64) -> Result<(), Fail> {
+pub fn denies<R: AllocGlobal + Threads + Sync>(rt: &R, count: u64) -> Result<(), Stopped> {
     answers(rt, count, Answer::new(1, DENIAL), |page| {
         run_onto(rt, TABLE, EMPTY_POLICY, SCRIPT, page)
     })
 }
 
-#[test]
-fn engine_denial_after_64(rt: HostRuntime) -> Result<(), Fail> {
-    denies(&rt, 64)
-}
-
-#[test]
-fn engine_denial_after_59(rt: HostRuntime) -> Result<(), Fail> {
-    denies(&rt, 59)
-}
-
-#[test]
-fn engine_denial_after_54(rt: HostRuntime) -> Result<(), Fail> {
-    denies(&rt, 54)
-}
-
-fn tells_a_fault<R: Abort + AllocGlobal + Threads + Sync>(rt: &R, count: u64) -> Result<(), Fail> {
+pub fn tells_a_fault<R: AllocGlobal + Threads + Sync>(rt: &R, count: u64) -> Result<(), Stopped> {
     answers(rt, count, Answer::new(2, FAULT), |page| {
         run_onto(rt, FAULTY_TABLE, POLICY, SCRIPT, page)
     })
 }
 
-#[test]
-fn engine_fault_after_99(rt: HostRuntime) -> Result<(), Fail> {
-    tells_a_fault(&rt, 99)
-}
-
-#[test]
-fn engine_fault_after_94(rt: HostRuntime) -> Result<(), Fail> {
-    tells_a_fault(&rt, 94)
-}
-
 const FAULTY_SCRIPT: &str = "{\"fault\":50,\"file\":\"script\",\"line\":1}\n";
 
-fn tells_a_fault_of_a_script<R: Abort + AllocGlobal + Threads + Sync>(
+pub fn tells_a_fault_of_a_script<R: AllocGlobal + Threads + Sync>(
     rt: &R,
     count: u64,
-) -> Result<(), Fail> {
+) -> Result<(), Stopped> {
     answers(rt, count, Answer::new(2, FAULTY_SCRIPT), |page| {
         run_onto(rt, TABLE, POLICY, FAULTY, page)
     })
-}
-
-#[test]
-fn engine_fault_script_after_74(rt: HostRuntime) -> Result<(), Fail> {
-    tells_a_fault_of_a_script(&rt, 74)
-}
-
-#[test]
-fn engine_fault_script_after_69(rt: HostRuntime) -> Result<(), Fail> {
-    tells_a_fault_of_a_script(&rt, 69)
-}
-
-#[test]
-fn engine_fault_script_after_64(rt: HostRuntime) -> Result<(), Fail> {
-    tells_a_fault_of_a_script(&rt, 64)
 }

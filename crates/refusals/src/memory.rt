@@ -1,12 +1,9 @@
-//! Allocations of a test's own, a call that may be refused memory, and how a test ends where it was.
+//! Allocations of the program's own, a call that may be refused memory, and how a call ends where it was.
 ghost use Rattle.std.specs.Prelude.{◌≡◌, IfOk, Ok};
 
 use base::Refusal;
 use captext::Fault;
 use std::alloc::Global;
-use std::fmt::Debug;
-use std::process::Abort;
-use std::test::Fail;
 
 /// The refusal of a call that there was no memory for.
 pub const NO_MEMORY: Refusal = Refusal {
@@ -14,90 +11,107 @@ pub const NO_MEMORY: Refusal = Refusal {
     detail: 0,
 };
 
+/// What is wrong where a call says something else than that there is no memory.
+pub const OTHER_ERROR: &str = "another error than that of memory";
+
 /// The fault of a text that there was no memory to read: 40, at no line.
 pub const UNREAD: Fault = Fault {
     number: 40,
     line: 0,
 };
 
+/// Why a call isn't one that met no refusal and answered its value.
+#[derive(Clone, Copy)]
+pub enum Stopped {
+    /// Memory was refused before the call.
+    Before,
+    /// The call was refused memory, said so, changed nothing, and answered its value when it was made again.
+    Refused,
+    /// Something else isn't as it has to be.
+    Wrong(&'static str),
+}
+
+/// Asserts what has to hold, with what it is where it doesn't.
+pub fn holds(is_so: bool, wrong: &'static str) -> Result<(), Stopped> {
+    if is_so {
+        Ok(())
+    } else {
+        Err(Stopped::Wrong(wrong))
+    }
+}
+
 /// Makes so many allocations, and gives them back.
-pub fn spend(alloc: Global, count: u64) -> Result<(), Fail> {
+pub fn spend(alloc: Global, count: u64) -> Result<(), Stopped> {
     for number in 0..count {
         prepared(Box::new(alloc, number))?;
     }
     Ok(())
 }
 
-/// What a test made before its call.
-pub fn prepared<T, E: Drop>(made: Result<T, E>) -> Result<T, Fail>
+/// What was made before the call.
+pub fn prepared<T, E: Drop>(made: Result<T, E>) -> Result<T, Stopped>
     ensures { IfOk result (λ value. made ≡ Ok value) }
 {
     match made {
         Ok(value) => Ok(value),
-        Err(_) => Err(Fail::new("refused before the call")),
+        Err(_) => Err(Stopped::Before),
     }
 }
 
 /// Makes a call, whose value has to pass a test. One that is refused memory has to say so by this error; it is made again
 /// then, and has to have its value. What it gave is let go here, as a value of any type: a function that lets go of a
 /// `Table` by name has a step for each of its fields, at each way out.
-pub fn tries<T, E, C, F>(rt: &impl Abort, no_memory: E, call: C, test: F) -> Result<(), Fail>
+pub fn tries<T, E, C, F>(no_memory: E, call: C, test: F) -> Result<(), Stopped>
 where
     T: Drop,
-    E: PartialEq + Debug + Drop,
+    E: PartialEq + Drop,
     C: Fn() -> Result<T, E> + Drop,
-    F: Fn(&T) -> Result<(), Fail> + Drop,
+    F: Fn(&T) -> Result<(), Stopped> + Drop,
     requires call { C.IsAlwaysCallable call }
     requires test { F.IsAlwaysCallable test }
 {
     match call() {
         Ok(value) => test(&value),
         Err(error) => {
-            assert_eq!(rt; error, no_memory);
+            holds(error == no_memory, OTHER_ERROR)?;
             lend(again(call()), test)?;
-            Err(refused())
+            Err(Stopped::Refused)
         }
     }
 }
 
 /// What a call answered that was made again.
-pub fn again<T, E: Drop>(answer: Result<T, E>) -> Result<T, Fail> {
+pub fn again<T, E: Drop>(answer: Result<T, E>) -> Result<T, Stopped> {
     match answer {
         Ok(value) => Ok(value),
-        Err(_) => Err(Fail::new("refused a second time")),
+        Err(_) => Err(Stopped::Wrong("refused a second time")),
     }
 }
 
 /// Lends what was made to the rest of a test. It is let go here, as in [`tries`].
-pub fn lend<T: Drop, F: Fn(&T) -> Result<(), Fail> + Drop>(
-    made: Result<T, Fail>,
+pub fn lend<T: Drop, F: Fn(&T) -> Result<(), Stopped> + Drop>(
+    made: Result<T, Stopped>,
     test: F,
-) -> Result<(), Fail>
+) -> Result<(), Stopped>
     requires { F.IsAlwaysCallable test }
 {
     match made {
         Ok(value) => test(&value),
-        Err(fail) => Err(fail),
+        Err(stopped) => Err(stopped),
     }
 }
 
 /// Lends a value to a test that changes it, as [`lend`].
-pub fn lend_mut<T: Drop, F: Fn(&mut T) -> Result<(), Fail> + Drop>(
+pub fn lend_mut<T: Drop, F: Fn(&mut T) -> Result<(), Stopped> + Drop>(
     mut value: T,
     test: F,
-) -> Result<(), Fail>
+) -> Result<(), Stopped>
     requires { F.IsAlwaysCallable test }
 {
     test(&mut value)
 }
 
 /// Asserts that these items are the expected ones.
-pub fn are<T: PartialEq + Debug>(rt: &impl Abort, items: &[T], expected: &[T]) -> Result<(), Fail> {
-    assert_eq!(rt; items, expected);
-    Ok(())
-}
-
-/// The end of a test whose call was refused memory, and said so.
-pub fn refused() -> Fail {
-    Fail::new("refused, as promised")
+pub fn are<T: PartialEq>(items: &[T], expected: &[T]) -> Result<(), Stopped> {
+    holds(items == expected, "other items than expected")
 }

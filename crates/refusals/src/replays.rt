@@ -1,9 +1,8 @@
 //! The engine of `replay`, for a log that is legal, within the policy and outside, and for a fault.
 use crate::bell::{LOG, POLICY, TABLE};
 use crate::engine::{Answer, EMPTY_POLICY, FAULTY, answers};
+use crate::memory::Stopped;
 use report::{End, Silence, Watched, replay};
-use std::process::Abort;
-use std::test::Fail;
 
 const LEGAL: &str = "{\"entries\":2,\"state\":\"within\",\"verdict\":\"legal\"}\n";
 
@@ -29,110 +28,20 @@ fn replay_onto<R: AllocGlobal>(rt: &R, policy: &str, log: &str, page: Vec<u8>) -
     (end, out.into_inner())
 }
 
-fn replays<R: Abort + AllocGlobal>(rt: &R, count: u64) -> Result<(), Fail> {
+pub fn replays<R: AllocGlobal>(rt: &R, count: u64) -> Result<(), Stopped> {
     answers(rt, count, Answer::new(0, LEGAL), |page| {
         replay_onto(rt, POLICY, LOG, page)
     })
 }
 
-#[test]
-fn engine_replay_after_99(rt: HostRuntime) -> Result<(), Fail> {
-    replays(&rt, 99)
-}
-
-#[test]
-fn engine_replay_after_94(rt: HostRuntime) -> Result<(), Fail> {
-    replays(&rt, 94)
-}
-
-#[test]
-fn engine_replay_after_89(rt: HostRuntime) -> Result<(), Fail> {
-    replays(&rt, 89)
-}
-
-#[test]
-fn engine_replay_after_84(rt: HostRuntime) -> Result<(), Fail> {
-    replays(&rt, 84)
-}
-
-#[test]
-fn engine_replay_after_79(rt: HostRuntime) -> Result<(), Fail> {
-    replays(&rt, 79)
-}
-
-#[test]
-fn engine_replay_after_74(rt: HostRuntime) -> Result<(), Fail> {
-    replays(&rt, 74)
-}
-
-#[test]
-fn engine_replay_after_69(rt: HostRuntime) -> Result<(), Fail> {
-    replays(&rt, 69)
-}
-
-#[test]
-fn engine_replay_after_64(rt: HostRuntime) -> Result<(), Fail> {
-    replays(&rt, 64)
-}
-
-#[test]
-fn engine_replay_after_59(rt: HostRuntime) -> Result<(), Fail> {
-    replays(&rt, 59)
-}
-
-#[test]
-fn engine_replay_after_54(rt: HostRuntime) -> Result<(), Fail> {
-    replays(&rt, 54)
-}
-
-fn ends_outside<R: Abort + AllocGlobal>(rt: &R, count: u64) -> Result<(), Fail> {
+pub fn ends_outside<R: AllocGlobal>(rt: &R, count: u64) -> Result<(), Stopped> {
     answers(rt, count, Answer::new(1, OUTSIDE), |page| {
         replay_onto(rt, EMPTY_POLICY, LOG, page)
     })
 }
 
-#[test]
-fn engine_replay_outside_after_64(rt: HostRuntime) -> Result<(), Fail> {
-    ends_outside(&rt, 64)
-}
-
-#[test]
-fn engine_replay_outside_after_59(rt: HostRuntime) -> Result<(), Fail> {
-    ends_outside(&rt, 59)
-}
-
-#[test]
-fn engine_replay_outside_after_54(rt: HostRuntime) -> Result<(), Fail> {
-    ends_outside(&rt, 54)
-}
-
-#[test]
-fn engine_replay_outside_after_49(rt: HostRuntime) -> Result<(), Fail> {
-    ends_outside(&rt, 49)
-}
-
-#[test]
-fn engine_replay_outside_after_44(rt: HostRuntime) -> Result<(), Fail> {
-    ends_outside(&rt, 44)
-}
-
-fn tells_a_fault<R: Abort + AllocGlobal>(rt: &R, count: u64) -> Result<(), Fail> {
+pub fn tells_a_fault<R: AllocGlobal>(rt: &R, count: u64) -> Result<(), Stopped> {
     answers(rt, count, Answer::new(2, FAULTY_LOG), |page| {
         replay_onto(rt, POLICY, FAULTY, page)
     })
-}
-
-#[test]
-fn engine_fault_log_after_74(rt: HostRuntime) -> Result<(), Fail> {
-    tells_a_fault(&rt, 74)
-}
-
-#[test]
-fn engine_fault_log_after_69(rt: HostRuntime) -> Result<(), Fail> {
-    tells_a_fault(&rt, 69)
-}
-
-#[test]
-fn engine_fault_log_after_64(rt: HostRuntime) -> Result<(), Fail> {
-    tells_a_fault(&rt, 64)
 }

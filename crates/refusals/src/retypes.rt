@@ -3,15 +3,13 @@ ghost use Rattle.machine.specs.WellFormed.{IsWellFormed};
 
 use crate::bell::core;
 use crate::engine::{Answer, answers, run_onto};
-use crate::memory::{NO_MEMORY, again, are, lend, prepared, refused, spend};
+use crate::memory::{NO_MEMORY, OTHER_ERROR, Stopped, again, are, holds, lend, prepared, spend};
 use crate::states::booted;
 use base::{ObjId, Refusal, SlotRef};
 use captext::read_table;
 use kernel::{replay, retype_refusal, run, step};
 use machine::{Call, Event, MemoryKind, Object, Outcome};
 use objects::State;
-use std::process::Abort;
-use std::test::Fail;
 use std::thread::Threads;
 use table::Table;
 
@@ -76,7 +74,7 @@ fn one(kind: MemoryKind, offset: u64) -> Wanted {
 }
 
 impl Wanted {
-    fn event(self) -> Result<Event, Fail> {
+    fn event(self) -> Result<Event, Stopped> {
         Ok(Event {
             core: core()?,
             thread: THREAD,
@@ -128,28 +126,39 @@ fn standing(state: &State, wanted: Wanted) -> (u64, Option<u64>, bool, bool) {
     )
 }
 
+/// What is wrong where a call that is refused memory leaves something else than it found.
+const CHANGED: &str = "changed, and refused";
+
+/// Asserts that an object lies at an address.
+fn is_at(state: &State, id: ObjId, address: u64) -> Result<(), Stopped> {
+    let found = state.object(id).map(Object::address);
+    holds(found == Some(address), "another address")
+}
+
 /// Asserts that objects are refused.
-fn refuses(rt: &impl Abort, state: &State, wanted: Wanted, code: u64) -> Result<(), Fail>
+fn refuses(state: &State, wanted: Wanted, code: u64) -> Result<(), Stopped>
     requires { IsWellFormed state.now }
 {
     let refusal = retype_refusal(state, wanted.event()?);
-    assert_eq!(rt; refusal, Some(Refusal { code, detail: 0 }));
-    Ok(())
+    let expected = Some(Refusal { code, detail: 0 });
+    holds(refusal == expected, "another refusal")
 }
 
 /// Asserts that objects were made, of which the first has this number.
-fn are_made(rt: &impl Abort, state: &State, wanted: Wanted, first: u64) {
+fn are_made(state: &State, wanted: Wanted, first: u64) -> Result<(), Stopped> {
     let next = first.saturating_add(wanted.count);
-    assert_eq!(rt; state.next_id(), next);
+    holds(state.next_id() == next, "another next number")?;
     let first_cap = state.cap(slot(wanted.offset)).map(|cap| cap.object);
-    assert_eq!(rt; first_cap, Some(ObjId(first)));
+    holds(first_cap == Some(ObjId(first)), "another first object")?;
     let last_cap = state.cap(wanted.last()).map(|cap| cap.object);
-    assert_eq!(rt; last_cap, Some(ObjId(next.saturating_sub(1))));
-    assert_eq!(rt; state.parent(slot(wanted.offset)), Some(slot(0)));
+    let last = ObjId(next.saturating_sub(1));
+    holds(last_cap == Some(last), "another last object")?;
+    let parent = state.parent(slot(wanted.offset));
+    holds(parent == Some(slot(0)), "another parent")
 }
 
 /// What an event that makes objects comes to.
-fn making(state: &mut State, wanted: Wanted) -> Result<Outcome, Fail>
+fn making(state: &mut State, wanted: Wanted) -> Result<Outcome, Stopped>
     requires { IsWellFormed state.old }
     ensures { IsWellFormed state.new }
 {
@@ -158,43 +167,42 @@ fn making(state: &mut State, wanted: Wanted) -> Result<Outcome, Fail>
 }
 
 /// Makes objects. Where memory is refused, nothing changes, and the same event is done when it comes again.
-fn steps(rt: &impl Abort, state: &mut State, wanted: Wanted) -> Result<(), Fail>
+fn steps(state: &mut State, wanted: Wanted) -> Result<(), Stopped>
     requires { IsWellFormed state.old }
     ensures { IsWellFormed state.new }
 {
     let before = standing(state, wanted);
     let outcome = making(state, wanted)?;
     if outcome == wanted.done() {
-        are_made(rt, state, wanted, before.0);
+        are_made(state, wanted, before.0)?;
         return Ok(());
     }
-    assert_eq!(rt; outcome, Outcome::Refused(NO_MEMORY));
-    assert_eq!(rt; standing(state, wanted), before);
+    holds(outcome == Outcome::Refused(NO_MEMORY), OTHER_ERROR)?;
+    holds(standing(state, wanted) == before, CHANGED)?;
     let outcome = making(state, wanted)?;
-    assert_eq!(rt; outcome, wanted.done());
-    are_made(rt, state, wanted, before.0);
-    Err(refused())
+    holds(outcome == wanted.done(), "refused a second time")?;
+    are_made(state, wanted, before.0)?;
+    Err(Stopped::Refused)
 }
 
 /// Makes an endpoint, then a thread, at the first addresses where they fit.
-fn steps_twice(rt: &impl Abort, state: &mut State) -> Result<(), Fail>
+fn steps_twice(state: &mut State) -> Result<(), Stopped>
     requires { IsWellFormed state.old }
 {
-    assert_eq!(rt; watermark(state), Some(0x1000));
-    steps(rt, state, one(MemoryKind::Endpoint, 2))?;
-    assert_eq!(rt; state.object(ObjId(4)).map(Object::address), Some(0x1000));
-    refuses(rt, state, one(MemoryKind::Endpoint, 2), 8)?;
-    refuses(rt, state, one(MemoryKind::Frame, 3), 10)?;
-    steps(rt, state, one(MemoryKind::Tcb, 3))?;
-    assert_eq!(rt; state.object(ObjId(5)).map(Object::address), Some(0x1400));
-    assert_eq!(rt; watermark(state), Some(0x1800));
-    Ok(())
+    holds(watermark(state) == Some(0x1000), "another watermark")?;
+    steps(state, one(MemoryKind::Endpoint, 2))?;
+    is_at(state, ObjId(4), 0x1000)?;
+    refuses(state, one(MemoryKind::Endpoint, 2), 8)?;
+    refuses(state, one(MemoryKind::Frame, 3), 10)?;
+    steps(state, one(MemoryKind::Tcb, 3))?;
+    is_at(state, ObjId(5), 0x1400)?;
+    holds(watermark(state) == Some(0x1800), "another watermark")
 }
 
-fn steps_after_boot<R: Abort + AllocGlobal>(rt: &R, table: &Table) -> Result<(), Fail> {
+fn steps_after_boot<R: AllocGlobal>(rt: &R, table: &Table) -> Result<(), Stopped> {
     match booted(rt, table) {
         Ok(mut state) => {
-            let result = steps_twice(rt, &mut state);
+            let result = steps_twice(&mut state);
             drop(state);
             result
         }
@@ -203,34 +211,20 @@ fn steps_after_boot<R: Abort + AllocGlobal>(rt: &R, table: &Table) -> Result<(),
 }
 
 /// The table of a text, after so many allocations.
-fn table<R: AllocGlobal>(rt: &R, count: u64, text: &str) -> Result<Table, Fail> {
+fn table<R: AllocGlobal>(rt: &R, count: u64, text: &str) -> Result<Table, Stopped> {
     spend(rt.alloc(), count)?;
     prepared(read_table(rt.alloc(), text.as_bytes()))
 }
 
-fn steps_of_events<R: Abort + AllocGlobal>(rt: &R, count: u64) -> Result<(), Fail> {
+pub fn steps_of_events<R: AllocGlobal>(rt: &R, count: u64) -> Result<(), Stopped> {
     lend(table(rt, count, TABLE), |table| steps_after_boot(rt, table))
 }
 
-#[test]
-fn step_after_70(rt: HostRuntime) -> Result<(), Fail> {
-    steps_of_events(&rt, 70)
-}
-
-#[test]
-fn step_after_65(rt: HostRuntime) -> Result<(), Fail> {
-    steps_of_events(&rt, 65)
-}
-
 /// Makes objects in the boot state.
-fn makes_after_boot<R: Abort + AllocGlobal>(
-    rt: &R,
-    table: &Table,
-    wanted: Wanted,
-) -> Result<(), Fail> {
+fn makes_after_boot<R: AllocGlobal>(rt: &R, table: &Table, wanted: Wanted) -> Result<(), Stopped> {
     match booted(rt, table) {
         Ok(mut state) => {
-            let result = steps(rt, &mut state, wanted);
+            let result = steps(&mut state, wanted);
             drop(state);
             result
         }
@@ -239,7 +233,7 @@ fn makes_after_boot<R: Abort + AllocGlobal>(
 }
 
 /// Makes a CNode, which has slots.
-fn makes_a_cnode<R: Abort + AllocGlobal>(rt: &R, count: u64) -> Result<(), Fail> {
+pub fn makes_a_cnode<R: AllocGlobal>(rt: &R, count: u64) -> Result<(), Stopped> {
     let wanted = Wanted {
         bits: 3,
         ..one(MemoryKind::CNode, 2)
@@ -249,36 +243,16 @@ fn makes_a_cnode<R: Abort + AllocGlobal>(rt: &R, count: u64) -> Result<(), Fail>
     })
 }
 
-#[test]
-fn step_cnode_after_70(rt: HostRuntime) -> Result<(), Fail> {
-    makes_a_cnode(&rt, 70)
-}
-
-#[test]
-fn step_cnode_after_65(rt: HostRuntime) -> Result<(), Fail> {
-    makes_a_cnode(&rt, 65)
-}
-
 /// Makes a frame, which has words.
-fn makes_a_frame<R: Abort + AllocGlobal>(rt: &R, count: u64) -> Result<(), Fail> {
+pub fn makes_a_frame<R: AllocGlobal>(rt: &R, count: u64) -> Result<(), Stopped> {
     let wanted = one(MemoryKind::Frame, 2);
     lend(table(rt, count, TABLE), |table| {
         makes_after_boot(rt, table, wanted)
     })
 }
 
-#[test]
-fn step_frame_after_70(rt: HostRuntime) -> Result<(), Fail> {
-    makes_a_frame(&rt, 70)
-}
-
-#[test]
-fn step_frame_after_65(rt: HostRuntime) -> Result<(), Fail> {
-    makes_a_frame(&rt, 65)
-}
-
 /// Makes sixteen CNodes at once.
-fn makes_sixteen<R: Abort + AllocGlobal>(rt: &R, count: u64) -> Result<(), Fail> {
+pub fn makes_sixteen<R: AllocGlobal>(rt: &R, count: u64) -> Result<(), Stopped> {
     let wanted = Wanted {
         kind: MemoryKind::CNode,
         bits: 1,
@@ -290,44 +264,9 @@ fn makes_sixteen<R: Abort + AllocGlobal>(rt: &R, count: u64) -> Result<(), Fail>
     })
 }
 
-#[test]
-fn step_sixteen_after_70(rt: HostRuntime) -> Result<(), Fail> {
-    makes_sixteen(&rt, 70)
-}
-
-#[test]
-fn step_sixteen_after_65(rt: HostRuntime) -> Result<(), Fail> {
-    makes_sixteen(&rt, 65)
-}
-
-#[test]
-fn step_sixteen_after_60(rt: HostRuntime) -> Result<(), Fail> {
-    makes_sixteen(&rt, 60)
-}
-
-#[test]
-fn step_sixteen_after_55(rt: HostRuntime) -> Result<(), Fail> {
-    makes_sixteen(&rt, 55)
-}
-
-#[test]
-fn step_sixteen_after_50(rt: HostRuntime) -> Result<(), Fail> {
-    makes_sixteen(&rt, 50)
-}
-
-#[test]
-fn step_sixteen_after_45(rt: HostRuntime) -> Result<(), Fail> {
-    makes_sixteen(&rt, 45)
-}
-
-#[test]
-fn step_sixteen_after_40(rt: HostRuntime) -> Result<(), Fail> {
-    makes_sixteen(&rt, 40)
-}
-
 /// Runs an event that makes an object, twice. One that is refused memory is an outcome, the run goes on, and the second
 /// makes the object.
-fn runs_into(rt: &impl Abort, state: &mut State, outcomes: &mut Vec<Outcome>) -> Result<(), Fail>
+fn runs_into(state: &mut State, outcomes: &mut Vec<Outcome>) -> Result<(), Stopped>
     requires { IsWellFormed state.old }
 {
     const FILLED: Outcome = Outcome::Refused(Refusal { code: 8, detail: 0 });
@@ -336,34 +275,34 @@ fn runs_into(rt: &impl Abort, state: &mut State, outcomes: &mut Vec<Outcome>) ->
     let before = standing(state, wanted);
     match run(state, &events, outcomes) {
         Ok(()) => {
-            are_made(rt, state, wanted, before.0);
+            are_made(state, wanted, before.0)?;
             if outcomes.first() == Some(&Outcome::Refused(NO_MEMORY)) {
-                are(rt, outcomes, &[Outcome::Refused(NO_MEMORY), wanted.done()])?;
-                return Err(refused());
+                are(outcomes, &[Outcome::Refused(NO_MEMORY), wanted.done()])?;
+                return Err(Stopped::Refused);
             }
-            are(rt, outcomes, &[wanted.done(), FILLED])
+            are(outcomes, &[wanted.done(), FILLED])
         }
         Err(error) => {
-            assert_eq!(rt; error, NO_MEMORY);
-            assert_eq!(rt; outcomes.len(), 0);
-            assert_eq!(rt; standing(state, wanted), before);
+            holds(error == NO_MEMORY, OTHER_ERROR)?;
+            holds(outcomes.len() == 0, "an outcome is left")?;
+            holds(standing(state, wanted) == before, CHANGED)?;
             again(run(state, &events, outcomes))?;
-            are(rt, outcomes, &[wanted.done(), FILLED])?;
-            Err(refused())
+            are(outcomes, &[wanted.done(), FILLED])?;
+            Err(Stopped::Refused)
         }
     }
 }
 
-fn runs_on<R: Abort + AllocGlobal>(rt: &R, state: &mut State) -> Result<(), Fail>
+fn runs_on<R: AllocGlobal>(rt: &R, state: &mut State) -> Result<(), Stopped>
     requires { IsWellFormed state.old }
 {
     let mut outcomes = Vec::new(rt.alloc());
-    let result = runs_into(rt, state, &mut outcomes);
+    let result = runs_into(state, &mut outcomes);
     drop(outcomes);
     result
 }
 
-fn runs_after_boot<R: Abort + AllocGlobal>(rt: &R, table: &Table) -> Result<(), Fail> {
+fn runs_after_boot<R: AllocGlobal>(rt: &R, table: &Table) -> Result<(), Stopped> {
     match booted(rt, table) {
         Ok(mut state) => {
             let result = runs_on(rt, &mut state);
@@ -374,49 +313,34 @@ fn runs_after_boot<R: Abort + AllocGlobal>(rt: &R, table: &Table) -> Result<(), 
     }
 }
 
-fn runs_of_events<R: Abort + AllocGlobal>(rt: &R, count: u64) -> Result<(), Fail> {
+pub fn runs_of_events<R: AllocGlobal>(rt: &R, count: u64) -> Result<(), Stopped> {
     lend(table(rt, count, TABLE), |table| runs_after_boot(rt, table))
 }
 
-#[test]
-fn run_retype_after_70(rt: HostRuntime) -> Result<(), Fail> {
-    runs_of_events(&rt, 70)
-}
-
-#[test]
-fn run_retype_after_65(rt: HostRuntime) -> Result<(), Fail> {
-    runs_of_events(&rt, 65)
-}
-
-#[test]
-fn run_retype_after_60(rt: HostRuntime) -> Result<(), Fail> {
-    runs_of_events(&rt, 60)
-}
-
 /// Replays a log in which an object is made. Where memory is refused, it is replayed the second time.
-fn replays_on(rt: &impl Abort, state: &mut State) -> Result<(), Fail>
+fn replays_on(state: &mut State) -> Result<(), Stopped>
     requires { IsWellFormed state.old }
 {
     let wanted = one(MemoryKind::Endpoint, 2);
     let entries = [(wanted.event()?, wanted.done())];
     match replay(state, &entries) {
         Ok(stop) => {
-            assert_eq!(rt; stop, None);
+            holds(stop == None, "the replay stops")?;
             Ok(())
         }
         Err(error) => {
-            assert_eq!(rt; error, NO_MEMORY);
+            holds(error == NO_MEMORY, OTHER_ERROR)?;
             let stop = again(replay(state, &entries))?;
-            assert_eq!(rt; stop, None);
-            Err(refused())
+            holds(stop == None, "the replay stops")?;
+            Err(Stopped::Refused)
         }
     }
 }
 
-fn replays_after_boot<R: Abort + AllocGlobal>(rt: &R, table: &Table) -> Result<(), Fail> {
+fn replays_after_boot<R: AllocGlobal>(rt: &R, table: &Table) -> Result<(), Stopped> {
     match booted(rt, table) {
         Ok(mut state) => {
-            let result = replays_on(rt, &mut state);
+            let result = replays_on(&mut state);
             drop(state);
             result
         }
@@ -424,20 +348,10 @@ fn replays_after_boot<R: Abort + AllocGlobal>(rt: &R, table: &Table) -> Result<(
     }
 }
 
-fn replays_of_events<R: Abort + AllocGlobal>(rt: &R, count: u64) -> Result<(), Fail> {
+pub fn replays_of_events<R: AllocGlobal>(rt: &R, count: u64) -> Result<(), Stopped> {
     lend(table(rt, count, TABLE), |table| {
         replays_after_boot(rt, table)
     })
-}
-
-#[test]
-fn replay_after_70(rt: HostRuntime) -> Result<(), Fail> {
-    replays_of_events(&rt, 70)
-}
-
-#[test]
-fn replay_after_65(rt: HostRuntime) -> Result<(), Fail> {
-    replays_of_events(&rt, 65)
 }
 
 const POLICY: &str = "\
@@ -483,7 +397,7 @@ confine-log 1
 end
 ";
 
-fn logs<R: Abort + AllocGlobal + Threads + Sync>(rt: &R, count: u64) -> Result<(), Fail> {
+pub fn logs<R: AllocGlobal + Threads + Sync>(rt: &R, count: u64) -> Result<(), Stopped> {
     let answer = Answer {
         without_memory: Some(LOG_WITHOUT_MEMORY),
         ..Answer::new(0, LOG)
@@ -491,64 +405,4 @@ fn logs<R: Abort + AllocGlobal + Threads + Sync>(rt: &R, count: u64) -> Result<(
     answers(rt, count, answer, |page| {
         run_onto(rt, TABLE, POLICY, SCRIPT, page)
     })
-}
-
-#[test]
-fn engine_log_retype_after_99(rt: HostRuntime) -> Result<(), Fail> {
-    logs(&rt, 99)
-}
-
-#[test]
-fn engine_log_retype_after_94(rt: HostRuntime) -> Result<(), Fail> {
-    logs(&rt, 94)
-}
-
-#[test]
-fn engine_log_retype_after_89(rt: HostRuntime) -> Result<(), Fail> {
-    logs(&rt, 89)
-}
-
-#[test]
-fn engine_log_retype_after_84(rt: HostRuntime) -> Result<(), Fail> {
-    logs(&rt, 84)
-}
-
-#[test]
-fn engine_log_retype_after_79(rt: HostRuntime) -> Result<(), Fail> {
-    logs(&rt, 79)
-}
-
-#[test]
-fn engine_log_retype_after_74(rt: HostRuntime) -> Result<(), Fail> {
-    logs(&rt, 74)
-}
-
-#[test]
-fn engine_log_retype_after_69(rt: HostRuntime) -> Result<(), Fail> {
-    logs(&rt, 69)
-}
-
-#[test]
-fn engine_log_retype_after_64(rt: HostRuntime) -> Result<(), Fail> {
-    logs(&rt, 64)
-}
-
-#[test]
-fn engine_log_retype_after_59(rt: HostRuntime) -> Result<(), Fail> {
-    logs(&rt, 59)
-}
-
-#[test]
-fn engine_log_retype_after_54(rt: HostRuntime) -> Result<(), Fail> {
-    logs(&rt, 54)
-}
-
-#[test]
-fn engine_log_retype_after_49(rt: HostRuntime) -> Result<(), Fail> {
-    logs(&rt, 49)
-}
-
-#[test]
-fn engine_log_retype_after_44(rt: HostRuntime) -> Result<(), Fail> {
-    logs(&rt, 44)
 }
