@@ -6,7 +6,7 @@ use Rattle.machine.specs.{Machine.{Machine, parent_of, same_slot, without_parent
 use Rattle.machine.specs.{Orphans.without_nodes, Removal.parent_after, Tree.IsAlone, WellFormed.{Descends, child, further}}
 use Rattle.machine.proofs.{LookUps.one_slot, OrphanLemmas.{climbed, nearest_stays}, RemovalStays.further_on}
 use Rattle.derivation.{specs.{Removing.{HasParents, HaveLeft, parent_without}, Thinning.IsThinned}, proofs.Ancestors.only_nearest}
-use Rattle.derivation.proofs.{Ancestors.parents_kept, Leavings.{leaf_left, node_left}}
+use Rattle.derivation.proofs.Ancestors.{parents_kept}
 
 -- at first nothing has left
 pub thinned_at_first : (m : Machine) (gone : SlotRef → Bool) → IsThinned m gone m
