@@ -103,6 +103,3 @@ pub fn lookup(state: &State, thread: ObjId, address: u64) -> Result<(SlotRef, u3
 {
     Ok(resolve(state, thread, address)?)
 }
-
-#[cfg(test)]
-mod tests;

@@ -72,6 +72,3 @@ pub fn take_out(state: &mut State, id: ObjId, thread: ObjId)
 {
     state.take_waiting(id, thread);
 }
-
-#[cfg(test)]
-mod tests;

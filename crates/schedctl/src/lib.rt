@@ -12,6 +12,3 @@ mod links;
 pub use binding::{bind, unbind};
 pub use configuring::configure;
 pub use links::{context_under, hand_over, part};
-
-#[cfg(test)]
-mod tests;
