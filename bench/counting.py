@@ -18,13 +18,13 @@ SIGNALS = 1_000_000
 # Instructions of the whole program for each event of a script, or for each line of a full table: what an unproved build of the same
 # sources took, which leaves hints on inlining, and 3% more; for a line 1.05 times what it took when there were 64 labels at most.
 LIMITS = {
-    "moves": 8_010,
-    "removals": 9_880,
-    "messages": 4_270,
-    "their replay": 3_840,
-    "messages that lend": 4_760,
-    "messages that don't": 4_380,
-    "signals and polls": 2_950,
+    "moves": 5_410,
+    "removals": 8_640,
+    "messages": 3_610,
+    "their replay": 3_340,
+    "messages that lend": 4_070,
+    "messages that don't": 3_640,
+    "signals and polls": 2_420,
     "lines checked": 7_240,
 }
 
