@@ -1,6 +1,6 @@
 //! The system of these tests, a thread with a notification of its own: its texts, and what they say,
 //! worked by hand.
-use crate::memory::{Stopped, holds};
+use crate::memory::{Stopped, Wrong, holds};
 use base::{CoreNo, Edge, Kind, Kinds, Label, ObjId, SlotRef};
 use bitflags::Flags;
 use certificate::Line;
@@ -79,11 +79,11 @@ const ROOT: SlotRef = SlotRef {
 };
 
 fn label() -> Result<Label, Stopped> {
-    Ok(Label::new(0).ok_or(Stopped::Wrong("label"))?)
+    Ok(Label::new(0).ok_or(Stopped::Wrong(Wrong::Label))?)
 }
 
 pub fn core() -> Result<CoreNo, Stopped> {
-    Ok(CoreNo::new(0).ok_or(Stopped::Wrong("core"))?)
+    Ok(CoreNo::new(0).ok_or(Stopped::Wrong(Wrong::Core))?)
 }
 
 /// The edges of the policy.
@@ -169,10 +169,10 @@ pub const WORD: Outcome = Outcome::Done(Answer::Word(4));
 
 /// Asserts that a table is the system's.
 pub fn is_the_system(table: &Table) -> Result<(), Stopped> {
-    holds(table.object_count() == 4, "another number of objects")?;
-    holds(names_the_notification(table), "another notification")?;
-    holds(has_the_root(table), "another root")?;
-    holds(has_the_binding(table), "another binding")?;
+    holds(table.object_count() == 4, Wrong::ObjectCount)?;
+    holds(names_the_notification(table), Wrong::Notification)?;
+    holds(has_the_root(table), Wrong::Root)?;
+    holds(has_the_binding(table), Wrong::Binding)?;
     Ok(())
 }
 
@@ -196,8 +196,8 @@ fn has_the_binding(table: &Table) -> bool {
 
 /// Asserts that a state is that of the system before a call.
 pub fn is_booted(state: &State) -> Result<(), Stopped> {
-    holds(state.next_id() == 4, "another next number")?;
-    holds(is_unsignalled(state), "a word that is pending")?;
+    holds(state.next_id() == 4, Wrong::NextNumber)?;
+    holds(is_unsignalled(state), Wrong::Pending)?;
     Ok(())
 }
 

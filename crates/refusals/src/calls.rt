@@ -1,5 +1,5 @@
 //! The calls by their names.
-use crate::memory::Stopped;
+use crate::memory::{Stopped, Wrong};
 use crate::{
     authority, certificates, checks, claimings, closings, drawings, edges, engine, logs, openings,
     readers, replays, retypes, splits, states, tables, verdicts, writers,
@@ -119,6 +119,6 @@ fn end_otherwise<R: AllocGlobal + Threads + Wait + Sync>(
         "engine_fault_script" => engine::tells_a_fault_of_a_script(rt, count),
         "engine_fault_certificate" => checks::tells_a_fault_of_a_certificate(rt, count),
         "engine_fault_log" => replays::tells_a_fault(rt, count),
-        _ => Err(Stopped::Wrong("no call has this name")),
+        _ => Err(Stopped::Wrong(Wrong::Name)),
     }
 }

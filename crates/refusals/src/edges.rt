@@ -1,7 +1,7 @@
 //! `policy::Policy::add` and `policy::Policy::edges`.
 use crate::bell::edges;
 use crate::memory::{
-    NO_MEMORY, OTHER_ERROR, Stopped, again, are, holds, lend_mut, prepared, spend, tries,
+    NO_MEMORY, Stopped, Wrong, again, are, holds, lend_mut, prepared, spend, tries,
 };
 use base::Edge;
 use policy::Policy;
@@ -9,19 +9,19 @@ use policy::Policy;
 /// Asserts that of the system's edges a policy has these, and that the last of them is its last.
 pub fn has_edges(policy: &Policy, rising: &[Edge]) -> Result<(), Stopped> {
     for edge in &edges()? {
-        holds(policy.has(*edge) == rising.contains(edge), "other edges")?;
+        holds(policy.has(*edge) == rising.contains(edge), Wrong::Edges)?;
     }
-    holds(policy.last() == rising.last().copied(), "another last edge")?;
+    holds(policy.last() == rising.last().copied(), Wrong::LastEdge)?;
     Ok(())
 }
 
 /// Adds the first of these edges to a policy of the others: an edge that is refused isn't in it, and comes in the second time.
 fn adds_the_first(policy: &mut Policy, rising: &[Edge]) -> Result<(), Stopped> {
-    let (first, others) = rising.split_first().ok_or(Stopped::Wrong("edges"))?;
+    let (first, others) = rising.split_first().ok_or(Stopped::Wrong(Wrong::NoEdge))?;
     match policy.add(*first) {
         Ok(()) => has_edges(policy, rising),
         Err(error) => {
-            holds(error == NO_MEMORY, OTHER_ERROR)?;
+            holds(error == NO_MEMORY, Wrong::Error)?;
             has_edges(policy, others)?;
             again(policy.add(*first))?;
             has_edges(policy, rising)?;

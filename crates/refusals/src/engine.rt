@@ -1,6 +1,6 @@
 //! How an engine answers that may be refused memory; the engine of `run`, for a log, for a denial and for a fault.
 use crate::bell::{LOG, POLICY, SCRIPT, TABLE};
-use crate::memory::{Stopped, are, holds, prepared, spend};
+use crate::memory::{Stopped, Wrong, are, holds, prepared, spend};
 use report::{End, Silence, Watched, run};
 use std::thread::Threads;
 
@@ -40,10 +40,10 @@ impl<'a> Answer<'a> {
 /// Whether an engine was refused memory: then it has written nothing, or what it may write without. Else it has answered.
 fn was_refused(end: End, written: &[u8], answer: Answer<'_>) -> Result<bool, Stopped> {
     if end == End::NoMemory {
-        holds(written.len() == 0, "something is written")?;
+        holds(written.len() == 0, Wrong::Written)?;
         return Ok(true);
     }
-    holds(end == End::Status(answer.status), "another end")?;
+    holds(end == End::Status(answer.status), Wrong::End)?;
     if let Some(text) = answer.without_memory {
         if written == text.as_bytes() {
             return Ok(true);
@@ -83,7 +83,7 @@ pub fn answers<R: AllocGlobal, F: Fn(Vec<u8>) -> (End, Vec<u8>) + Drop>(
 {
     spend(rt.alloc(), count)?;
     if is_refused(rt, answer, &engine)? {
-        holds(!is_refused(rt, answer, &engine)?, "refused a second time")?;
+        holds(!is_refused(rt, answer, &engine)?, Wrong::RefusedAgain)?;
         return Err(Stopped::Refused);
     }
     Ok(())

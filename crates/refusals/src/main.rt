@@ -67,6 +67,6 @@ fn told(ended: Result<(), Stopped>) -> &'static str {
         Ok(()) => "passed",
         Err(Stopped::Before) => "before",
         Err(Stopped::Refused) => "refused",
-        Err(Stopped::Wrong(wrong)) => wrong,
+        Err(Stopped::Wrong(wrong)) => wrong.words(),
     }
 }

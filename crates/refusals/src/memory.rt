@@ -11,9 +11,6 @@ pub const NO_MEMORY: Refusal = Refusal {
     detail: 0,
 };
 
-/// What is wrong where a call says something else than that there is no memory.
-pub const OTHER_ERROR: &str = "another error than that of memory";
-
 /// The fault of a text that there was no memory to read: 40, at no line.
 pub const UNREAD: Fault = Fault {
     number: 40,
@@ -28,11 +25,80 @@ pub enum Stopped {
     /// The call was refused memory, said so, changed nothing, and answered its value when it was made again.
     Refused,
     /// Something else isn't as it has to be.
-    Wrong(&'static str),
+    Wrong(Wrong),
+}
+
+/// What isn't as it has to be: something else than was expected, or something that is left.
+#[derive(Clone, Copy)]
+pub enum Wrong {
+    Address,
+    Binding,
+    Changed,
+    Core,
+    Denied,
+    Edges,
+    End,
+    Error,
+    FirstObject,
+    Items,
+    Label,
+    LastEdge,
+    LastObject,
+    Name,
+    NextNumber,
+    NoEdge,
+    Notification,
+    ObjectCount,
+    OutcomeLeft,
+    Parent,
+    Pending,
+    Refusal,
+    RefusedAgain,
+    ReplayStops,
+    Root,
+    SeatCount,
+    Watermark,
+    Written,
+}
+
+impl Wrong {
+    /// What is wrong, in words.
+    pub fn words(self) -> &'static str {
+        match self {
+            Wrong::Address => "another address",
+            Wrong::Binding => "another binding",
+            Wrong::Changed => "changed, and refused",
+            Wrong::Core => "core",
+            Wrong::Denied => "denied",
+            Wrong::Edges => "other edges",
+            Wrong::End => "another end",
+            Wrong::Error => "another error than that of memory",
+            Wrong::FirstObject => "another first object",
+            Wrong::Items => "other items than expected",
+            Wrong::Label => "label",
+            Wrong::LastEdge => "another last edge",
+            Wrong::LastObject => "another last object",
+            Wrong::Name => "no call has this name",
+            Wrong::NextNumber => "another next number",
+            Wrong::NoEdge => "edges",
+            Wrong::Notification => "another notification",
+            Wrong::ObjectCount => "another number of objects",
+            Wrong::OutcomeLeft => "an outcome is left",
+            Wrong::Parent => "another parent",
+            Wrong::Pending => "a word that is pending",
+            Wrong::Refusal => "another refusal",
+            Wrong::RefusedAgain => "refused a second time",
+            Wrong::ReplayStops => "the replay stops",
+            Wrong::Root => "another root",
+            Wrong::SeatCount => "another number of seats",
+            Wrong::Watermark => "another watermark",
+            Wrong::Written => "something is written",
+        }
+    }
 }
 
 /// Asserts what has to hold, with what it is where it doesn't.
-pub fn holds(is_so: bool, wrong: &'static str) -> Result<(), Stopped> {
+pub fn holds(is_so: bool, wrong: Wrong) -> Result<(), Stopped> {
     if is_so {
         Ok(())
     } else {
@@ -73,7 +139,7 @@ where
     match call() {
         Ok(value) => test(&value),
         Err(error) => {
-            holds(error == no_memory, OTHER_ERROR)?;
+            holds(error == no_memory, Wrong::Error)?;
             lend(again(call()), test)?;
             Err(Stopped::Refused)
         }
@@ -84,7 +150,7 @@ where
 pub fn again<T, E: Drop>(answer: Result<T, E>) -> Result<T, Stopped> {
     match answer {
         Ok(value) => Ok(value),
-        Err(_) => Err(Stopped::Wrong("refused a second time")),
+        Err(_) => Err(Stopped::Wrong(Wrong::RefusedAgain)),
     }
 }
 
@@ -113,5 +179,5 @@ pub fn lend_mut<T: Drop, F: Fn(&mut T) -> Result<(), Stopped> + Drop>(
 
 /// Asserts that these items are the expected ones.
 pub fn are<T: PartialEq>(items: &[T], expected: &[T]) -> Result<(), Stopped> {
-    holds(items == expected, "other items than expected")
+    holds(items == expected, Wrong::Items)
 }

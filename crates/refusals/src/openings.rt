@@ -1,6 +1,6 @@
 //! `cores::Opened::open`.
 use crate::bell::{POLICY, core};
-use crate::memory::{NO_MEMORY, Stopped, holds, lend, prepared, tries};
+use crate::memory::{NO_MEMORY, Stopped, Wrong, holds, lend, prepared, tries};
 use crate::tables::with_table;
 use captext::read_policy;
 use cores::Opened;
@@ -16,7 +16,7 @@ fn opens_for<R: AllocGlobal>(rt: &R, accepted: &Accepted<'_>) -> Result<(), Stop
     tries(
         NO_MEMORY,
         || Opened::open(rt.alloc(), accepted, 2, &cores, 1),
-        |(_, seats)| { holds(seats.len() == 1, "another number of seats") },
+        |(_, seats)| { holds(seats.len() == 1, Wrong::SeatCount) },
     )
 }
 
@@ -28,7 +28,7 @@ fn opens_with<R: AllocGlobal + Threads + Sync>(
     let verdict = prepared(judge(rt, rt.alloc(), table, policy, 1, &Open));
     lend(verdict, |verdict| match verdict {
         Ok(accepted) => opens_for(rt, accepted),
-        Err(_) => Err(Stopped::Wrong("denied")),
+        Err(_) => Err(Stopped::Wrong(Wrong::Denied)),
     })
 }
 

@@ -3,7 +3,7 @@ ghost use Rattle.machine.specs.WellFormed.{IsWellFormed};
 
 use crate::bell::core;
 use crate::engine::{Answer, answers, run_onto};
-use crate::memory::{NO_MEMORY, OTHER_ERROR, Stopped, again, are, holds, lend, prepared, spend};
+use crate::memory::{NO_MEMORY, Stopped, Wrong, again, are, holds, lend, prepared, spend};
 use crate::states::booted;
 use base::{ObjId, Refusal, SlotRef};
 use captext::read_table;
@@ -127,12 +127,12 @@ fn standing(state: &State, wanted: Wanted) -> (u64, Option<u64>, bool, bool) {
 }
 
 /// What is wrong where a call that is refused memory leaves something else than it found.
-const CHANGED: &str = "changed, and refused";
+const CHANGED: Wrong = Wrong::Changed;
 
 /// Asserts that an object lies at an address.
 fn is_at(state: &State, id: ObjId, address: u64) -> Result<(), Stopped> {
     let found = state.object(id).map(Object::address);
-    holds(found == Some(address), "another address")
+    holds(found == Some(address), Wrong::Address)
 }
 
 /// Asserts that objects are refused.
@@ -141,20 +141,20 @@ fn refuses(state: &State, wanted: Wanted, code: u64) -> Result<(), Stopped>
 {
     let refusal = retype_refusal(state, wanted.event()?);
     let expected = Some(Refusal { code, detail: 0 });
-    holds(refusal == expected, "another refusal")
+    holds(refusal == expected, Wrong::Refusal)
 }
 
 /// Asserts that objects were made, of which the first has this number.
 fn are_made(state: &State, wanted: Wanted, first: u64) -> Result<(), Stopped> {
     let next = first.saturating_add(wanted.count);
-    holds(state.next_id() == next, "another next number")?;
+    holds(state.next_id() == next, Wrong::NextNumber)?;
     let first_cap = state.cap(slot(wanted.offset)).map(|cap| cap.object);
-    holds(first_cap == Some(ObjId(first)), "another first object")?;
+    holds(first_cap == Some(ObjId(first)), Wrong::FirstObject)?;
     let last_cap = state.cap(wanted.last()).map(|cap| cap.object);
     let last = ObjId(next.saturating_sub(1));
-    holds(last_cap == Some(last), "another last object")?;
+    holds(last_cap == Some(last), Wrong::LastObject)?;
     let parent = state.parent(slot(wanted.offset));
-    holds(parent == Some(slot(0)), "another parent")
+    holds(parent == Some(slot(0)), Wrong::Parent)
 }
 
 /// What an event that makes objects comes to.
@@ -177,10 +177,10 @@ fn steps(state: &mut State, wanted: Wanted) -> Result<(), Stopped>
         are_made(state, wanted, before.0)?;
         return Ok(());
     }
-    holds(outcome == Outcome::Refused(NO_MEMORY), OTHER_ERROR)?;
+    holds(outcome == Outcome::Refused(NO_MEMORY), Wrong::Error)?;
     holds(standing(state, wanted) == before, CHANGED)?;
     let outcome = making(state, wanted)?;
-    holds(outcome == wanted.done(), "refused a second time")?;
+    holds(outcome == wanted.done(), Wrong::RefusedAgain)?;
     are_made(state, wanted, before.0)?;
     Err(Stopped::Refused)
 }
@@ -189,14 +189,14 @@ fn steps(state: &mut State, wanted: Wanted) -> Result<(), Stopped>
 fn steps_twice(state: &mut State) -> Result<(), Stopped>
     requires { IsWellFormed state.old }
 {
-    holds(watermark(state) == Some(0x1000), "another watermark")?;
+    holds(watermark(state) == Some(0x1000), Wrong::Watermark)?;
     steps(state, one(MemoryKind::Endpoint, 2))?;
     is_at(state, ObjId(4), 0x1000)?;
     refuses(state, one(MemoryKind::Endpoint, 2), 8)?;
     refuses(state, one(MemoryKind::Frame, 3), 10)?;
     steps(state, one(MemoryKind::Tcb, 3))?;
     is_at(state, ObjId(5), 0x1400)?;
-    holds(watermark(state) == Some(0x1800), "another watermark")
+    holds(watermark(state) == Some(0x1800), Wrong::Watermark)
 }
 
 fn steps_after_boot<R: AllocGlobal>(rt: &R, table: &Table) -> Result<(), Stopped> {
@@ -283,8 +283,8 @@ fn runs_into(state: &mut State, outcomes: &mut Vec<Outcome>) -> Result<(), Stopp
             are(outcomes, &[wanted.done(), FILLED])
         }
         Err(error) => {
-            holds(error == NO_MEMORY, OTHER_ERROR)?;
-            holds(outcomes.len() == 0, "an outcome is left")?;
+            holds(error == NO_MEMORY, Wrong::Error)?;
+            holds(outcomes.len() == 0, Wrong::OutcomeLeft)?;
             holds(standing(state, wanted) == before, CHANGED)?;
             again(run(state, &events, outcomes))?;
             are(outcomes, &[wanted.done(), FILLED])?;
@@ -325,13 +325,13 @@ fn replays_on(state: &mut State) -> Result<(), Stopped>
     let entries = [(wanted.event()?, wanted.done())];
     match replay(state, &entries) {
         Ok(stop) => {
-            holds(stop == None, "the replay stops")?;
+            holds(stop == None, Wrong::ReplayStops)?;
             Ok(())
         }
         Err(error) => {
-            holds(error == NO_MEMORY, OTHER_ERROR)?;
+            holds(error == NO_MEMORY, Wrong::Error)?;
             let stop = again(replay(state, &entries))?;
-            holds(stop == None, "the replay stops")?;
+            holds(stop == None, Wrong::ReplayStops)?;
             Err(Stopped::Refused)
         }
     }

@@ -3,7 +3,7 @@ ghost use Rattle.std.specs.Prelude.{IfOk};
 ghost use Rattle.machine.specs.WellFormed.{IsWellFormed};
 
 use crate::bell::{DONE, WORD, events, is_booted};
-use crate::memory::{NO_MEMORY, OTHER_ERROR, Stopped, again, are, holds, prepared, tries};
+use crate::memory::{NO_MEMORY, Stopped, Wrong, again, are, holds, prepared, tries};
 use crate::tables::with_table;
 use kernel::{boot, run};
 use machine::Outcome;
@@ -30,8 +30,8 @@ fn runs_into(state: &mut State, outcomes: &mut Vec<Outcome>) -> Result<(), Stopp
     match run(state, &events, outcomes) {
         Ok(()) => are(outcomes, &[DONE, WORD]),
         Err(error) => {
-            holds(error == NO_MEMORY, OTHER_ERROR)?;
-            holds(outcomes.len() == 0, "an outcome is left")?;
+            holds(error == NO_MEMORY, Wrong::Error)?;
+            holds(outcomes.len() == 0, Wrong::OutcomeLeft)?;
             is_booted(state)?;
             again(run(state, &events, outcomes))?;
             are(outcomes, &[DONE, WORD])?;

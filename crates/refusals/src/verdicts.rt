@@ -1,7 +1,7 @@
 //! `verdict::judge` and `checker::check`.
 use crate::bell::POLICY;
 use crate::certificates::is_the_certificate;
-use crate::memory::{NO_MEMORY, Stopped, holds, lend, prepared, tries};
+use crate::memory::{NO_MEMORY, Stopped, Wrong, holds, lend, prepared, tries};
 use crate::tables::with_table;
 use captext::read_policy;
 use checker::{CheckError, Verdict, check};
@@ -19,7 +19,7 @@ fn accepts_with<R: AllocGlobal + Threads + Sync>(
     tries(
         NO_MEMORY,
         || judge(rt, rt.alloc(), table, policy, 1, &Open),
-        |verdict| { holds(verdict.is_ok(), "denied") },
+        |verdict| { holds(verdict.is_ok(), Wrong::Denied) },
     )
 }
 
@@ -35,7 +35,7 @@ pub fn accepts<R: AllocGlobal + Threads + Sync>(rt: &R, count: u64) -> Result<()
 fn is_accepted(verdict: &Verdict<'_>) -> Result<(), Stopped> {
     match verdict {
         Verdict::Accept(_, certificate) => is_the_certificate(certificate),
-        Verdict::Deny(_) => Err(Stopped::Wrong("denied")),
+        Verdict::Deny(_) => Err(Stopped::Wrong(Wrong::Denied)),
     }
 }
 
