@@ -1,4 +1,4 @@
-"""Policies: the rules P1 to P8, the least closed policy, full and cut authority, what may be taken, and reasons, as docs/POLICY.md and
+"""Policies: the rules P1 to P8, the least closed policy, full and cut authority, what may be taken, and reasons, as docs/RULES.md and
 docs/WRITING_POLICIES.md have them. A policy is a set of edges (label, kind, label), all by number; `count` is how many labels there are."""
 from texts import KINDS
 
