@@ -1,22 +1,21 @@
 -- The system whose policy gives nothing by control isn't safe: its thread makes an endpoint of untyped memory of another label, whose
 -- capability resets the endpoint.
 use Rattle.std.specs.FinMap as map
-use Rattle.std.proofs.Common.{[], ℕ, ◌<◌, ◌∙◌, ◌∷◌, ◌≡◌, Bool, List, None, Ok, Some, ap, arith, false, if◌then◌else◌, lit<, option_map}
+use Rattle.std.proofs.Common.{[], ℕ, ◌<◌, ◌∙◌, ◌∷◌, ◌≡◌, Bool, List, Ok, Some, ap, arith, false, if◌then◌else◌, lit<, lit≤, option_map}
 use Rattle.std.proofs.Common.{refl, suc, sym, true, zero}
 use Rattle.base.specs.declared.{ids.ObjId.ObjId, kind.Kind.TheVariants.Reset}
 use Rattle.machine.specs.declared.call.{Answer.TheVariants.Count, Call.TheVariants.Retype, Event.Event, Made.TheVariants.Done}
 use Rattle.machine.specs.{declared.{call.Outcome.Outcome as outcome, object.Object.{Object, Object as o}}, Authority.HasAuthority}
 use Rattle.machine.specs.declared.object.MemoryKind.TheVariants as kind
 use Rattle.machine.specs.{Authority.{label_at, label_of, HasAuthority.by_cap}, Bits.bits, Boot.{IsBoot, booted}, Counts.objects_in}
-use Rattle.machine.specs.{Counts.{slots_in, threads_in}, Layout.{bound_context, bound_thread, declared_label, initial_cap, initial_of}}
-use Rattle.machine.specs.{Lookup.{hop, level_at, lookup_of, walk}, Machine.{Machine, cap_of, id_cmp, object_of, same_id}, Memory.Source}
-use Rattle.machine.specs.{Memory.{begun, has_child, new_cap, new_detail, new_object, with_made}, Objects.kind_of_object, Step.admitted}
-use Rattle.machine.specs.Step.{made_by, step_of, Find.find_cap, Retype.{find_taker, find_untyped, retype_of, within_limits}, Step.ends}
+use Rattle.machine.specs.{Counts.{slots_in, threads_in}, Machine.{Machine, cap_of, id_cmp, object_of, same_id}, Memory.Source}
+use Rattle.machine.specs.{Memory.{begun, has_child, new_cap, new_detail, new_object, with_made}, Objects.kind_of_object, Step.step_of}
+use Rattle.machine.specs.Step.{Retype.{find_taker, find_untyped, retype_of, within_limits}, Step.ends}
 use Rattle.machine.proofs.{LookUps.{id_apart, id_total}, ObjectMade.{MakesObject, made_makes}}
 use Rattle.policy.specs.Needed.{control_gives_all}
-use Rattle.verdict.{specs.Counterexamples.UnsafeWithout, proofs.{ControlPolicy.{has, others, within}, ControlSystem.making}}
-use Rattle.verdict.proofs.{ControlSystem.{making_confined, making_lawful, memory, memory_cap, own, own_cap}, EvenPolicy.even}
-use Rattle.verdict.proofs.{SmallSystem.{context, id, slot, thread}, UnsafeBy.unsafe_without}
+use Rattle.verdict.{specs.Counterexamples.UnsafeWithout, proofs.{ControlSystem.{joins, making, memory, own}, FewLabels.among}}
+use Rattle.verdict.proofs.SmallSystem.{context, finding, id, reading, slot, stepping, thread}
+use Rattle.verdict.proofs.UnsafeBy.{LeadsOutside, tests, unsafe_by_tests}
 
 unfoldable pub retyping : Event
 retyping = record { core = 0; thread = id 1; call = Retype 0 kind.Endpoint 0 1 2 1 }
@@ -38,7 +37,7 @@ beyond n k small = grind arith
 
 module _ (m : Machine) (boot : IsBoot making m) where
   object_at : (n : ℕ) → booted making (id n) ≡ map.find id_cmp (id n) objects
-  unfolding making initial_of bound_context bound_thread
+  unfolding making reading
   object_at zero = refl
   object_at (suc zero) = refl
   object_at (suc (suc zero)) = refl
@@ -53,34 +52,6 @@ module _ (m : Machine) (boot : IsBoot making m) where
       (λ q. boot.objects q ∙ object_at q.0 ∙ sym (map.get-from_sorted id_cmp objects q tt)))
       ∙ map.entries-from_sorted id_cmp objects tt
 
-  caller : object_of m (id 1) ≡ Some (thread (Some (id 2)))
-  caller = boot.objects (id 1) ∙ object_at 1
-
-  node : object_of m (id 0) ≡ Some own
-  node = boot.objects (id 0) ∙ object_at 0
-
-  runs_on : object_of m (id 2) ≡ Some (context (Some (id 1)))
-  runs_on = boot.objects (id 2) ∙ object_at 2
-
-  untyped : object_of m (id 3) ≡ Some (o.Untyped memory)
-  untyped = boot.objects (id 3) ∙ object_at 3
-
-  root : cap_of m (slot 1 0) ≡ Some own_cap
-  unfolding making initial_cap
-  root = boot.caps (slot 1 0)
-
-  held : cap_of m (slot 0 0) ≡ Some memory_cap
-  unfolding making initial_cap
-  held = boot.caps (slot 0 0)
-
-  held_own : cap_of m (slot 0 1) ≡ Some own_cap
-  unfolding making initial_cap
-  held_own = boot.caps (slot 0 1)
-
-  empty : cap_of m (slot 0 2) ≡ None
-  unfolding making initial_cap
-  empty = boot.caps (slot 0 2)
-
   number : m.next ≡ 4
   unfolding making
   number = boot.next
@@ -89,12 +60,12 @@ module _ (m : Machine) (boot : IsBoot making m) where
   after_retype = with_made m source kind.Endpoint 0 (slot 0 2)
 
   finds : find_untyped m (id 1) 0 ≡ Ok source
-  unfolding find_untyped find_cap lookup_of level_at walk hop
-  finds = rw (caller, root, node, held, untyped) refl
+  unfolding find_untyped finding making reading
+  finds = rw (boot.objects (id 1), boot.caps (slot 1 0), boot.objects (id 0), boot.caps (slot 0 0), boot.objects (id 3)) refl
 
   takes : find_taker m (id 1) 1 ≡ Ok (record { node = id 0; guard = bits 62 0; radix = 2 })
-  unfolding find_taker lookup_of level_at walk hop
-  takes = rw (caller, root, node, held_own, node) refl
+  unfolding find_taker finding making reading
+  takes = rw (boot.objects (id 1), boot.caps (slot 1 0), boot.objects (id 0), boot.caps (slot 0 1), boot.objects (id 0)) refl
 
   begins : begun m source ≡ source
   begins = same_either (has_child m (slot 0 0)) source
@@ -104,24 +75,20 @@ module _ (m : Machine) (boot : IsBoot making m) where
   fits = rw (all_objects, number) refl
 
   retypes : retype_of m (id 1) 0 kind.Endpoint 0 1 2 1 ≡ Ok (Done (Count 1), after_retype)
-  unfolding retype_of after_retype
-  retypes = rw (finds, takes, empty, begins, fits) refl
-
-  admits : admitted m 0 (id 1) ≡ Ok (record { core = 0; budget = 10; period = 10 })
-  unfolding admitted
-  admits = rw (caller, runs_on) refl
+  unfolding after_retype making reading retype_of
+  retypes = rw (finds, takes, boot.caps (slot 0 2), begins, fits) refl
 
   made : step_of m retyping ≡ (outcome.Done (Count 1), after_retype)
-  unfolding retyping step_of made_by
-  made = rw (admits, retypes) refl
+  unfolding making reading retyping stepping
+  made = rw (boot.objects (id 1), boot.objects (id 2), retypes) refl
 
   makes : MakesObject m source 0x8010 (o.Endpoint (record { address = 0x8000 })) (new_detail kind.Endpoint) (slot 0 2) after_retype
   unfolding after_retype
   makes = made_makes m source kind.Endpoint 0 (slot 0 2)
 
   node_after : object_of after_retype (id 0) ≡ Some own
-  unfolding object_of
-  node_after = makes.objects (id 0) ∙ rw number node
+  unfolding making object_of reading
+  node_after = makes.objects (id 0) ∙ rw number (boot.objects (id 0))
 
   new_after : object_of after_retype (id 4) ≡ Some (o.Endpoint (record { address = 0x8000 }))
   new_after = makes.objects (id 4) ∙ rw number refl
@@ -130,7 +97,7 @@ module _ (m : Machine) (boot : IsBoot making m) where
   cap_after = makes.caps (slot 0 2) ∙ rw number refl
 
   node_label : label_of making after_retype (id 0) ≡ Some 0
-  unfolding making initial_of declared_label label_of
+  unfolding label_of making reading
   node_label = rw node_after refl
 
   -- what is made has the label of the memory
@@ -142,22 +109,20 @@ module _ (m : Machine) (boot : IsBoot making m) where
   outside =
       by_cap (slot 0 2) (new_cap 4 kind.Endpoint) cap_after (ap (option_map kind_of_object) node_after) refl node_label new_label
 
+leads : (m : Machine) → IsBoot making m → LeadsOutside making (among 2 joins) m
+unfolding among
+leads m boot = record {
+  events = retyping ∷ [];
+  outcomes = outcome.Done (Count 1) ∷ [];
+  next = after_retype m boot;
+  run = (after_retype m boot, ends (made m boot), refl);
+  from = 0;
+  kind = Reset;
+  to = 1;
+  has = outside m boot;
+  missing = refl;
+}
+
 pub unsafe_without_control : UnsafeWithout control_gives_all
-unfolding even
-unsafe_without_control = unsafe_without control_gives_all making has (record {
-  lawful = making_lawful;
-  labels = within;
-  others = others;
-  confined = making_confined;
-  leads = λ m boot. record {
-    events = retyping ∷ [];
-    outcomes = outcome.Done (Count 1) ∷ [];
-    next = after_retype m boot;
-    run = (after_retype m boot, ends (made m boot), refl);
-    from = 0;
-    kind = Reset;
-    to = 1;
-    has = outside m boot;
-    missing = refl;
-  };
-})
+unfolding making tests
+unsafe_without_control = unsafe_by_tests control_gives_all making 2 joins (lit≤ tt) refl refl leads

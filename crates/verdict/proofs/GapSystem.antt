@@ -1,12 +1,11 @@
 -- A system whose policy lacks one derive edge: a thread of label 0 with a CNode of its label, which holds a capability for itself and one
 -- for a CNode of label 1 that was derived from one in a CNode of label 2. The thread copies that capability into the CNode that it is for.
-use Rattle.std.{specs.{List.All, Prelude.codes}, proofs.Common.{[], ℕ, ◌∷◌, ◌≡◌, None, Some, false, inl, lit<, lit≤, refl, true}}
-use Rattle.std.proofs.lemmas.List.{Elements.All-from_recursion, Sums.AllPass-from_list_all}
-use Rattle.machine.specs.{declared.{cap.{Cap.Cap, Detail.Detail as d}, object.Object.{Object, Object as o}}, Layout.{Layout, initial_cap}}
+use Rattle.std.{specs.Prelude.codes, proofs.Common.{[], ℕ, ◌&&◌, ◌==◌, ◌∷◌, None, Some, false, nat_lt, not, true}}
+use Rattle.base.specs.declared.kind.Kind.TheVariants.{Derive, Holds}
+use Rattle.machine.specs.{declared.{cap.{Cap.Cap, Detail.Detail as d}, object.Object.{Object, Object as o}}, Layout.Layout}
 use Rattle.machine.specs.declared.layout.Version.TheVariants as version
-use Rattle.machine.specs.Layout.{initial_of, initial_parent}
-use Rattle.table.specs.{Rules.{IsBindingOf, IsCapOf, IsLawful, IsObjectOf, IsSlotPair}, Tree.{IsPairOf, is_original, source_of}}
-use Rattle.verdict.proofs.{SmallSystem.{filled, id, labelled, slot, thread}, TestTables.{lawful_by_tests, names_differ, pairs_test, tests}}
+use Rattle.policy.specs.Domain.{EdgeTest}
+use Rattle.verdict.proofs.SmallSystem.{filled, id, labelled, slot, thread}
 
 abbrev pub cnode : ℕ → Object
 cnode address = o.CNode (record { address = address; radix = 1 })
@@ -37,93 +36,9 @@ gap = record {
   bindings = record { thread = id 3; context = id 4 } ∷ [];
 }
 
-caps_fit : All (IsCapOf gap.objects) gap.caps
-unfolding gap
-caps_fit = All-from_recursion (IsCapOf gap.objects) gap.caps (
-  record {
-    place = record { holder = labelled 0 (cnode 0x1000); held = refl; within = lit< tt };
-    target = labelled 0 (cnode 0x1000);
-    aimed = refl;
-    root = λ e. cc;
-    detail = (lit≤ tt, lit< tt);
-  },
-  (
-    record {
-      place = record { holder = labelled 0 (cnode 0x1000); held = refl; within = lit< tt };
-      target = labelled 1 (cnode 0x1040);
-      aimed = refl;
-      root = λ e. cc;
-      detail = (lit≤ tt, lit< tt);
-    },
-    (
-      record {
-        place = record { holder = labelled 2 (cnode 0x1080); held = refl; within = lit< tt };
-        target = labelled 1 (cnode 0x1040);
-        aimed = refl;
-        root = λ e. cc;
-        detail = (lit≤ tt, lit< tt);
-      },
-      (
-        record {
-          place = record { holder = labelled 0 (thread None); held = refl; within = lit< tt };
-          target = labelled 0 (cnode 0x1000);
-          aimed = refl;
-          root = λ _. refl;
-          detail = (lit≤ tt, lit< tt);
-        },
-        tt,
-      ),
-    ),
-  ),
-)
-
-pub gap_lawful : IsLawful gap
-unfolding gap initial_of initial_cap initial_parent pairs_test tests is_original source_of
-gap_lawful = lawful_by_tests gap refl (record {
-  labels = record { few = lit≤ tt; spelled = search (AllPass-from_list_all); differ = names_differ gap.labels refl };
-  names = record { few = lit≤ tt; spelled = search (AllPass-from_list_all); differ = names_differ gap.names refl };
-  objects =
-      All-from_recursion (IsObjectOf 3) gap.objects (
-        record { label = lit< tt; blank = (lit< tt, lit≤ tt); aligned = refl; end = lit≤ tt },
-        (
-          record { label = lit< tt; blank = (lit< tt, lit≤ tt); aligned = refl; end = lit≤ tt },
-          (
-            record { label = lit< tt; blank = (lit< tt, lit≤ tt); aligned = refl; end = lit≤ tt },
-            (
-              record { label = lit< tt; blank = (tt, refl, refl); aligned = refl; end = lit≤ tt },
-              (
-                record { label = lit< tt; blank = ((lit≤ tt, lit≤ tt, lit≤ tt, lit< tt), refl); aligned = refl; end = lit≤ tt },
-                tt,
-              ),
-            ),
-          ),
-        ),
-      );
-  caps = caps_fit;
-  pairs =
-      All-from_recursion (IsSlotPair gap.objects) gap.pairs (
-        record {
-          parent = record { holder = labelled 2 (cnode 0x1080); held = refl; within = lit< tt };
-          child = record { holder = labelled 0 (cnode 0x1000); held = refl; within = lit< tt };
-        },
-        tt,
-      );
-  bindings = All-from_recursion (IsBindingOf gap.objects) gap.bindings (record { thread = refl; context = refl }, tt);
-  marked =
-      All-from_recursion (λ filled. filled.cap.original ≡ is_original gap filled.slot filled.cap.detail) gap.caps
-      (refl, (refl, (refl, (refl, tt))));
-  tree =
-      All-from_recursion (IsPairOf gap) gap.pairs (
-        record {
-          above = node_cap 1;
-          below = derived_cap;
-          parent = refl;
-          child = refl;
-          object = refl;
-          original = refl;
-          badge = inl refl;
-          rights = refl;
-        },
-        tt,
-      );
-})
+-- The policy, of the labels 0, 1 and 2, obeys every rule but one part of one: each label may do everything to 0 and 1, and 2 derives
+-- on 0, and 0 on 1, but 2 doesn't on 1.
+abbrev pub joins : EdgeTest
+joins a Holds b = true
+joins a Derive b = nat_lt b 2 && not (a == 2 && b == 1)
+joins a k b = nat_lt b 2

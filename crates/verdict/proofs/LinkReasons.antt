@@ -1,6 +1,6 @@
 -- For each link of an object that gives authority a state that it takes out of a policy: the boot state of the small system, where the
 -- thread's place has another content.
-use Rattle.std.{specs.Prelude.{None, Some, option_map}, proofs.Common.{[], ℕ, ◌∙◌, ◌∷◌, ◌≡◌, ◌≢◌, ap, arith, false, inl, inr, refl, subst}}
+use Rattle.std.{specs.Prelude.{None, Some, option_map}, proofs.Common.{[], ℕ, ◌∙◌, ◌∷◌, ◌≡◌, ◌≢◌, ◌||◌, ap, arith, false, inl, inr, refl, subst}}
 use Rattle.std.proofs.{Common.{sym, true}, lemmas.{Bool.false≢true, Option.same_Some}}
 use Rattle.base.specs.declared.{ids.ObjId.ObjId, kind.Kind.{Kind, Kind as authority}}
 use Rattle.machine.specs.declared.{object.{Object.{Object, Object as o}, Reply.Reply}, thread.{Calling.Calling, Lent.Lent}}
@@ -13,9 +13,10 @@ use Rattle.machine.specs.{Authority.HasAuthority.{by_cap, by_link, by_pair, by_r
 use Rattle.machine.{specs.{Machine.{object_of, same_id, with_object}, Objects.kind_of_object, WellFormed.kind_of}, proofs.Ids.at_other}
 use Rattle.machine.proofs.{Ids.one_or_two, LookUps.{cap_of-with_object, object_of-with_object, one_id, parent_of-with_object}}
 use Rattle.machine.proofs.RoundLemmas.{or_second}
-use Rattle.policy.specs.{Domain.EdgeTest, Policy.{allows, is_edge}}
+use Rattle.policy.specs.{Domain.EdgeTest, Policy.is_edge}
 use Rattle.verdict.{specs.{Confined.IsConfined, Counterexamples.TakesOut}, proofs.{ObjectLabels.same_label, Reasons.{label_there, m}}}
-use Rattle.verdict.proofs.{Reasons.{thread_kind, within}, SmallSystem.{id, signalling}, Unsafe.edges}
+use Rattle.verdict.proofs.{Reasons.{thread_kind, within}, SmallSystem.{id, signalling}, Unsafe.parted}
+use Rattle.verdict.proofs.FewLabels.{among}
 
 -- the boot state with this content in the thread's place
 abbrev changed : Object → Machine
@@ -78,7 +79,7 @@ thread_back object q e = elim (one_or_two q (id 1)) [
 
 -- a policy that has these edges too
 abbrev HasEdges : EdgeTest → Type 0
-HasEdges allowed = (from : ℕ) (k : Kind) (to : ℕ) → allows edges from k to ≡ true → allowed from k to ≡ true
+HasEdges more = (from : ℕ) (k : Kind) (to : ℕ) → parted from k to ≡ true → more from k to ≡ true
 
 lies_within :
     (object : Object) (allowed : EdgeTest) → kind_of_object object ≢ kind.CNode → HasEdges allowed
@@ -190,14 +191,13 @@ two_labelled end to same e =
 -- the policies
 
 abbrev with_edge : Kind → EdgeTest
-with_edge k = allows (record { from = 0; kind = k; to = 2 } ∷ edges)
+with_edge k from kind to = is_edge from kind to (record { from = 0; kind = k; to = 2 }) || parted from kind to
 
-alike : HasEdges (allows edges)
+alike : HasEdges parted
 alike from k to e = e
 
 more : (kind : Kind) → HasEdges (with_edge kind)
-unfolding allows
-more kind from k to e = or_second (is_edge from k to (record { from = 0; kind = kind; to = 2 })) (allows edges from k to) e
+more kind from k to e = or_second (is_edge from k to (record { from = 0; kind = kind; to = 2 })) (parted from k to) e
 
 two_apart : id 2 ≢ id 1
 two_apart same = let one : 2 ≡ 1 = ap (λ (q : ObjId). q.0) same in omega (arith, one)
@@ -211,19 +211,19 @@ not_node same = cc
 reply_not_node : kind.Reply ≢ kind.CNode
 reply_not_node same = cc
 
-ready_within : IsConfined signalling (allows edges) (changed (o.Tcb thread))
-ready_within = lies_within (o.Tcb thread) (allows edges) not_node alike (λ k end to e labelled. absurd (no_link k end e))
+ready_within : IsConfined signalling parted (changed (o.Tcb thread))
+ready_within = lies_within (o.Tcb thread) parted not_node alike (λ k end to e labelled. absurd (no_link k end e))
 
-called_within : IsConfined signalling (allows edges) (changed (o.Tcb (record thread { state = state.Called calling })))
+called_within : IsConfined signalling parted (changed (o.Tcb (record thread { state = state.Called calling })))
 called_within =
-    lies_within (o.Tcb (record thread { state = state.Called calling })) (allows edges) not_node alike
+    lies_within (o.Tcb (record thread { state = state.Called calling })) parted not_node alike
     (λ k end to e labelled. absurd (calls_link k end e))
 
-free_within : IsConfined signalling (allows edges) (changed (o.Reply answer))
-free_within = lies_within (o.Reply answer) (allows edges) reply_not_node alike (λ k end to e labelled. absurd (free_link k end e))
+free_within : IsConfined signalling parted (changed (o.Reply answer))
+free_within = lies_within (o.Reply answer) parted reply_not_node alike (λ k end to e labelled. absurd (free_link k end e))
 
 sender_within : IsConfined signalling (with_edge authority.Send) (changed (o.Tcb (record thread { state = state.Sending sending })))
-unfolding allows
+unfolding among
 sender_within =
     lies_within (o.Tcb (record thread { state = state.Sending sending })) (with_edge authority.Send) not_node (more authority.Send)
     (λ k end to e labelled.
@@ -232,7 +232,7 @@ sender_within =
 
 receiver_within :
     IsConfined signalling (with_edge authority.Receive) (changed (o.Tcb (record thread { state = state.Receiving receiving })))
-unfolding allows
+unfolding among
 receiver_within =
     lies_within (o.Tcb (record thread { state = state.Receiving receiving })) (with_edge authority.Receive) not_node
     (more authority.Receive)
@@ -250,49 +250,49 @@ takes_out lesser greater allowed k end to lies apart labelled linked lacks =
     record { t = signalling; allowed = allowed; m = m; id = id 1; within = lies; out = lies_out greater allowed k end to apart labelled linked lacks }
 
 pub runs_counts : TakesOut (o.Tcb thread) (o.Tcb (record thread { context = Some (id 0) }))
-unfolding allows
-runs_counts = takes_out _ _ (allows edges) authority.Runs (id 0) 1 ready_within node_apart label_node refl refl
+unfolding among
+runs_counts = takes_out _ _ parted authority.Runs (id 0) 1 ready_within node_apart label_node refl refl
 
 pub lent_counts :
     TakesOut (o.Tcb (record thread { state = state.Called calling }))
     (o.Tcb (record thread { state = state.Called (record calling { lent = Some lent }) }))
-unfolding allows
-lent_counts = takes_out _ _ (allows edges) authority.Runs (id 0) 1 called_within node_apart label_node refl refl
+unfolding among
+lent_counts = takes_out _ _ parted authority.Runs (id 0) 1 called_within node_apart label_node refl refl
 
 pub send_counts : TakesOut (o.Tcb thread) (o.Tcb (record thread { state = state.Sending sending }))
-unfolding allows
-send_counts = takes_out _ _ (allows edges) authority.Send (id 2) 2 ready_within two_apart label_two refl refl
+unfolding among
+send_counts = takes_out _ _ parted authority.Send (id 2) 2 ready_within two_apart label_two refl refl
 
 pub grant_counts :
     TakesOut (o.Tcb (record thread { state = state.Sending sending }))
     (o.Tcb (record thread { state = state.Sending (record sending { grant = true }) }))
-unfolding allows
+unfolding among
 grant_counts = takes_out _ _ (with_edge authority.Send) authority.Grant (id 2) 2 sender_within two_apart label_two refl refl
 
 pub call_counts :
     TakesOut (o.Tcb (record thread { state = state.Sending sending }))
     (o.Tcb (record thread { state = state.Sending (record sending { is_call = true }) }))
-unfolding allows
+unfolding among
 call_counts = takes_out _ _ (with_edge authority.Send) authority.Call (id 2) 2 sender_within two_apart label_two refl refl
 
 pub receive_counts : TakesOut (o.Tcb thread) (o.Tcb (record thread { state = state.Receiving receiving }))
-unfolding allows
-receive_counts = takes_out _ _ (allows edges) authority.Receive (id 2) 2 ready_within two_apart label_two refl refl
+unfolding among
+receive_counts = takes_out _ _ parted authority.Receive (id 2) 2 ready_within two_apart label_two refl refl
 
 pub reply_counts :
     TakesOut (o.Tcb (record thread { state = state.Receiving receiving }))
     (o.Tcb (record thread { state = state.Receiving (record receiving { reply = Some (id 0) }) }))
-unfolding allows
+unfolding among
 reply_counts = takes_out _ _ (with_edge authority.Receive) authority.Reply (id 0) 1 receiver_within node_apart label_node refl refl
 
 pub await_counts : TakesOut (o.Tcb thread) (o.Tcb (record thread { state = state.Waiting (id 2) }))
-unfolding allows
-await_counts = takes_out _ _ (allows edges) authority.Await (id 2) 2 ready_within two_apart label_two refl refl
+unfolding among
+await_counts = takes_out _ _ parted authority.Await (id 2) 2 ready_within two_apart label_two refl refl
 
 pub waiting_counts : TakesOut (o.Reply answer) (o.Reply (record answer { state = reply.Waiting (id 0) }))
-unfolding allows
-waiting_counts = takes_out _ _ (allows edges) authority.Holds (id 0) 1 free_within node_apart label_node refl refl
+unfolding among
+waiting_counts = takes_out _ _ parted authority.Holds (id 0) 1 free_within node_apart label_node refl refl
 
 pub called_counts : TakesOut (o.Reply answer) (o.Reply (record answer { state = reply.Called (id 0) }))
-unfolding allows
-called_counts = takes_out _ _ (allows edges) authority.Holds (id 0) 1 free_within node_apart label_node refl refl
+unfolding among
+called_counts = takes_out _ _ parted authority.Holds (id 0) 1 free_within node_apart label_node refl refl

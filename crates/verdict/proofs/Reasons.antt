@@ -6,10 +6,9 @@ use Rattle.machine.specs.{declared.object.ObjectKind.ObjectKind as kind, Authori
 use Rattle.machine.specs.{Boot.IsBoot, Layout.{declared_label, initial_of}, Machine.{Machine, object_of, with_cap, with_parent}}
 use Rattle.machine.{specs.{Objects.kind_of_object, WellFormed.kind_of}, proofs.LookUps.{cap_of-with_cap, object_of-with_cap}}
 use Rattle.machine.proofs.LookUps.{object_of-with_parent, parent_of-with_parent}
-use Rattle.policy.specs.Policy.{allows}
 use Rattle.table.{specs.Rules.kind_at, proofs.{AtBoot.{boot_kind, boot_label}, BootState.{boot_state, boot_state_is}}}
 use Rattle.verdict.{specs.Confined.IsConfined, proofs.{ObjectLabels.same_label, SmallSystem.{id, signal_cap, signalling, slot, space_cap}}}
-use Rattle.verdict.proofs.Unsafe.{confined, edges}
+use Rattle.verdict.proofs.{FewLabels.among, Unsafe.{parted, confined}}
 
 abbrev pub m : Machine
 m = boot_state signalling
@@ -17,7 +16,7 @@ m = boot_state signalling
 boot : IsBoot signalling m
 boot = boot_state_is signalling
 
-pub within : IsConfined signalling (allows edges) m
+pub within : IsConfined signalling parted m
 within = confined m boot
 
 pub node_kind : kind_of m (id 0) ≡ Some kind.CNode
@@ -34,8 +33,8 @@ label_there n q same = same_label signalling m n q same ∙ boot_label signallin
 
 -- with one change the state isn't confined
 
-pub capability_counts : ¬ IsConfined signalling (allows edges) (with_cap m (slot 0 1) space_cap)
-unfolding signalling initial_of declared_label allows
+pub capability_counts : ¬ IsConfined signalling parted (with_cap m (slot 0 1) space_cap)
+unfolding among declared_label initial_of signalling
 capability_counts all =
     let n : Machine = with_cap m (slot 0 1) space_cap in
     let there = object_of-with_cap m (slot 0 1) space_cap in
@@ -44,8 +43,8 @@ capability_counts all =
     let label = label_there n (id 0) (there (id 0)) in
     false≢true (all 1 authority.Control 1 (by_cap (slot 0 1) space_cap held is_node refl label label))
 
-pub root_counts : ¬ IsConfined signalling (allows edges) (with_cap m (slot 1 0) signal_cap)
-unfolding signalling initial_of declared_label allows
+pub root_counts : ¬ IsConfined signalling parted (with_cap m (slot 1 0) signal_cap)
+unfolding among declared_label initial_of signalling
 root_counts all =
     let n : Machine = with_cap m (slot 1 0) signal_cap in
     let there = object_of-with_cap m (slot 1 0) signal_cap in
@@ -55,8 +54,8 @@ root_counts all =
     let target = label_there n (id 2) (there (id 2)) in
     false≢true (all 0 authority.Space 2 (by_root (slot 1 0) signal_cap held is_thread source target))
 
-pub pair_counts : ¬ IsConfined signalling (allows edges) (with_parent m (slot 0 0) (slot 1 0))
-unfolding signalling initial_of declared_label allows
+pub pair_counts : ¬ IsConfined signalling parted (with_parent m (slot 0 0) (slot 1 0))
+unfolding among declared_label initial_of signalling
 pair_counts all =
     let n : Machine = with_parent m (slot 0 0) (slot 1 0) in
     let there = object_of-with_parent m (slot 0 0) (slot 1 0) in

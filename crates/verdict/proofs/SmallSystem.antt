@@ -1,17 +1,18 @@
 -- A small system: a CNode of label 1, a thread of label 0, a notification of label 2, and a scheduling context of label 0 for core
 -- 0. The thread finds the notification at the address 0, and runs on the context.
-use Rattle.std.{specs.Prelude.codes, proofs.Common.{[], ℕ, ◌∷◌, ◌≡◌, None, Option, Some, arith, false, lit<, lit≤, refl, true}}
-use Rattle.std.proofs.lemmas.List.{Elements.All-from_recursion, Sums.AllPass-from_list_all}
+use Rattle.std.{specs.Prelude.codes, proofs.Common.{[], ℕ, ◌∷◌, Bool, None, Option, Some, false, refl, true}}
 use Rattle.base.specs.declared.ids.{ObjId.ObjId, SlotRef.SlotRef}
 use Rattle.machine.specs.declared.{cap.{Badged.Badged, Cap.Cap}, layout.{Filled.Filled, Initial.Initial}, object.Object.Object}
 use Rattle.machine.specs.declared.cap.Detail.TheVariants as d
 use Rattle.machine.specs.declared.layout.Version.TheVariants as version
-use Rattle.machine.specs.{declared.object.Object.Object as o, Layout.{Layout, initial_of, initial_parent}}
+use Rattle.machine.specs.{declared.object.Object.Object as o, Layout.{Layout, bound_context, bound_thread, declared_label, initial_cap}}
+use Rattle.machine.specs.{Layout.{initial_of, initial_parent}, Lookup.{hop, level_at, lookup_of, walk}, Step.{admitted, made_by, step_of}}
+use Rattle.machine.specs.Step.{Find.find_cap, Target.lookup_target_of}
 use Rattle.machine.specs.declared.thread.Inbox.TheVariants as inbox
 use Rattle.machine.specs.declared.thread.RunState.TheVariants as state
 use Rattle.policy.specs.Domain.{EdgeTest}
-use Rattle.table.specs.{Rules.{IsBindingOf, IsCapOf, IsLawful, IsObjectOf}, Tree.{is_original, source_of}}
-use Rattle.verdict.proofs.TestTables.{lawful_by_tests, names_differ, pairs_test, tests}
+use Rattle.table.specs.Rules.{IsLawful}
+use Rattle.verdict.proofs.TestTables.{lawful_by_tests, rebuilding}
 
 abbrev pub id : ℕ → ObjId
 id n = record { 0 = n }
@@ -69,47 +70,21 @@ signalling = record {
   bindings = record { thread = id 1; context = id 3 } ∷ [];
 }
 
-signal_fits : IsCapOf signalling.objects (filled (slot 0 0) signal_cap)
-unfolding signalling
-signal_fits = record {
-  place = record { holder = labelled 1 node; held = refl; within = lit< tt };
-  target = labelled 2 (notification None);
-  aimed = refl;
-  root = λ e. cc;
-  detail = (lit< tt, lit< tt);
-}
-
-space_fits : IsCapOf signalling.objects (filled (slot 1 0) space_cap)
-unfolding signalling
-space_fits = record {
-  place = record { holder = labelled 0 (thread None); held = refl; within = lit< tt };
-  target = labelled 1 node;
-  aimed = refl;
-  root = λ _. refl;
-  detail = (lit≤ tt, lit< tt);
-}
-
 pub signalling_lawful : IsLawful signalling
-unfolding signalling initial_of initial_parent pairs_test tests is_original source_of
-signalling_lawful = lawful_by_tests signalling refl (record {
-  labels = record { few = lit≤ tt; spelled = search (AllPass-from_list_all); differ = names_differ signalling.labels refl };
-  names = record { few = lit≤ tt; spelled = search (AllPass-from_list_all); differ = names_differ signalling.names refl };
-  objects =
-      All-from_recursion (IsObjectOf 3) signalling.objects (
-        record { label = lit< tt; blank = (lit< tt, lit≤ tt); aligned = refl; end = lit≤ tt },
-        (
-          record { label = lit< tt; blank = (tt, refl, refl); aligned = refl; end = lit≤ tt },
-          (
-            record { label = lit< tt; blank = refl; aligned = refl; end = lit≤ tt },
-            (record { label = lit< tt; blank = ((lit≤ tt, lit≤ tt, lit≤ tt, lit< tt), refl); aligned = refl; end = lit≤ tt }, tt),
-          ),
-        ),
-      );
-  caps = All-from_recursion (IsCapOf signalling.objects) signalling.caps (signal_fits, (space_fits, tt));
-  pairs = λ i d within. absurd (omega arith);
-  bindings =
-      All-from_recursion (IsBindingOf signalling.objects) signalling.bindings (record { thread = refl; context = refl }, tt);
-  marked =
-      All-from_recursion (λ filled. filled.cap.original ≡ is_original signalling filled.slot filled.cap.detail) signalling.caps (refl, (refl, tt));
-  tree = λ i d within. absurd (omega arith);
-})
+unfolding rebuilding signalling
+signalling_lawful = lawful_by_tests signalling refl refl
+
+-- what the table of a boot state is read by
+unfoldable pub reading : Bool
+unfolding bound_context bound_thread declared_label initial_cap initial_of initial_parent
+reading = true
+
+-- what capabilities are found by
+unfoldable pub finding : Bool
+unfolding find_cap hop level_at lookup_of lookup_target_of walk
+finding = true
+
+-- what an event is admitted and made by
+unfoldable pub stepping : Bool
+unfolding admitted made_by step_of
+stepping = true

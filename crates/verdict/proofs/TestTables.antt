@@ -1,142 +1,199 @@
--- A table without controls is lawful where it passes tests, and each of its lines fits.
-use Rattle.std.specs.{declared.cmp.Ordering.{Ordering, TheVariants.{Equal, Greater, Less}}, List.{All, AllPairs, list_all}, Ordering.is_lt}
-use Rattle.std.{specs.Str.bytes_eq, proofs.Common.{[], ℕ, ◌&&◌, ◌∙◌, ◌∷◌, ◌≡◌, ◌≢◌, Bool, List, ap, arith, eqb, false, get_or, length}}
-use Rattle.std.proofs.{Common.{nat_le, nat_lt, not, refl, sym, true}, lemmas.Bool.{eqb-true, false≢true, leb-true, ltb-true}}
-use Rattle.std.proofs.lemmas.{List.{Elements.recursion_from_All, Kept.AllPairs-cons, Sums.AllPass-from_list_all}, Slice.Eq.bytes_eq-Decides}
-use Rattle.base.specs.declared.{ids.ObjId.ObjId, limits.TheConstants.{MAX_OBJECTS, MAX_SLOTS, MAX_THREADS}}
-use Rattle.machine.specs.declared.{cap.Detail.Detail, layout.{Binding.Binding, Filled.Filled, Initial.Initial, Pair.Pair}}
-use Rattle.machine.specs.declared.cap.Detail.TheVariants as d
-use Rattle.machine.specs.{declared.object.{Object.{Object, Object as o}, ObjectKind.ObjectKind as kind}, Capabilities.kind_of_detail}
-use Rattle.machine.{specs.{Layout.{Layout, most_labels}, Machine.{same_id, slot_cmp}, Objects.{address_of, end_of}}, proofs.Ids.itself}
-use Rattle.table.specs.{Placement.{IsApart, meets}, Rules.{IsBindingOf, IsCapOf, IsLawful, IsObjectOf, IsSlotPair, LabelsFit}}
-use Rattle.table.specs.{Rules.{is_control_of, slots_in, threads_in}, Tree.{IsPairOf, is_for_untyped, is_original}}
-use borrow.Author.Tests.{lt-ltb}
+-- A table without controls is lawful where it is built up again of its items, each of which passes the tests of the table so far.
+use Rattle.std.{specs.{List.{AllByRecursion, list_all}, Prelude.is_some}, proofs.Common.{[], ℕ, ◌&&◌, ◌++◌, ◌==◌, ◌∷◌, ◌≡◌, Bool, List, None, Option, Some, ap}}
+use Rattle.std.proofs.Common.{false, length, map, nat_le, nat_lt, not, refl, subst, sym, true}
+use Rattle.std.proofs.lemmas.{Bool.{and_parts, eqb-true, false≢true, leb-true, ltb-true}, List.Elements.recursion_from_All}
+use Rattle.std.proofs.lemmas.List.Sums.{AllPass-from_list_all}
+use Rattle.base.specs.declared.core_number.TheConstants.CoreNo as CoreNo
+use Rattle.base.specs.declared.{ids.ObjId.ObjId, limits.TheConstants.{ADDRESS_END, MAX_PERIOD, MAX_RADIX}}
+use Rattle.machine.specs.declared.{layout.Initial.Initial, object.{Object.{Object, Object as o}, ObjectKind.{ObjectKind, ObjectKind as kind}}}
+use Rattle.machine.specs.declared.{object.{ReplyState.{ReplyState, ReplyState as reply}, Share.Share}, thread.{Inbox.{Inbox, Inbox as inbox}, RunState.RunState}}
+use Rattle.machine.specs.{declared.thread.RunState.RunState as run, Layout.{Layout, empty_layout, initial_cap, initial_of, initial_parent}}
+use Rattle.machine.specs.{Layout.most_labels, Objects.end_of}
+use Rattle.words.specs.Name.{is_name}
+use Rattle.table.specs.Building.{declares_slot, has_cap_to, has_control, has_room, is_above_bindings, is_above_caps, is_above_pairs, is_bound}
+use Rattle.table.specs.Building.{is_fitting, is_free, may_hold, repeats_control, repeats_untyped}
+use Rattle.table.specs.Items.{BindingItem, CapItem, Item, LabelItem, ObjectItem, PairItem, with_item}
+use Rattle.table.specs.{Names.{label_named, object_named}, Placement.is_aligned, Rules.{IsAtRest, IsBlank, IsDraft, IsLawful, IsWithinLimits}}
+use Rattle.table.{specs.{Rules.kind_at, Tree.{is_kin, is_original, source_of, tree_fault, with_originals}}, proofs.BindingAdded.draft_binding}
+use Rattle.table.proofs.{CapAdded.draft_filled, DraftKept.draft_empty, LabelAdded.draft_label, ObjectAdded.draft_initial, Pairs.draft_pair}
+use Rattle.table.proofs.TreeLemmas.{as_original, lawful_marked}
 
--- what holds of each element and each later one, by a test
+-- objects as they are at boot
 
-unfoldable pub pairs_test : {X : Type 0} → (X → X → Bool) → List X → Bool
-pairs_test p [] = true
-pairs_test p (x ∷ xs) = list_all (p x) xs && pairs_test p xs
+abbrev starts : RunState → Inbox → Option ObjId → Bool
+starts run.Ready inbox.Empty None = true
+starts run.Inactive inbox.Empty None = true
+starts _ _ _ = false
 
-both : (a b : Bool) → (a && b) ≡ true → (a ≡ true) × (b ≡ true)
-both true b e = (refl, e)
-both false b e = absurd (false≢true e)
+starting :
+    (state : RunState) (message : Inbox) (context : Option ObjId) → starts state message context ≡ true
+    → IsAtRest state × (message ≡ inbox.Empty) × (context ≡ None)
+starting run.Ready inbox.Empty None e = (tt, refl, refl)
+starting run.Inactive inbox.Empty None e = (tt, refl, refl)
+starting _ _ _ e = absurd (false≢true e)
 
-pairs_pass : {X : Type 0} (p : X → X → Bool) (xs : List X) → pairs_test p xs ≡ true → AllPairs (λ a b. p a b ≡ true) xs
-unfolding pairs_test
-pairs_pass p [] e = λ i j d below within. absurd (omega arith)
-pairs_pass p (x ∷ xs) e =
-    let parts = both (list_all (p x) xs) (pairs_test p xs) e in
-    AllPairs-cons (λ a b. p a b ≡ true) x xs (AllPass-from_list_all (p x) xs parts.0) (pairs_pass p xs parts.1)
+abbrev is_free_reply : ReplyState → Bool
+is_free_reply reply.Free = true
+is_free_reply _ = false
+
+freed : (state : ReplyState) → is_free_reply state ≡ true → state ≡ reply.Free
+freed reply.Free e = refl
+freed _ e = absurd (false≢true e)
+
+abbrev has_limits : Option Share → Bool
+has_limits None = true
+has_limits (Some share) =
+    nat_le 1 share.budget && (nat_le share.budget share.period && (nat_le share.period MAX_PERIOD && nat_lt share.core CoreNo.COUNT))
+
+limited : (share : Option Share) → has_limits share ≡ true → IsWithinLimits share
+limited None e = tt
+limited (Some share) e =
+    let l = and_parts _ _ e in
+    let m = and_parts _ _ l.1 in
+    let n = and_parts _ _ m.1 in (leb-true _ _ l.0, leb-true _ _ m.0, leb-true _ _ n.0, ltb-true _ _ n.1)
+
+nothing : {X : Type 0} (x : Option X) → not (is_some x) ≡ true → x ≡ None
+nothing None e = refl
+nothing (Some x) e = absurd (false≢true e)
+
+abbrev is_blank : Object → Bool
+is_blank (o.Untyped memory) = nat_le 4 memory.bits && (nat_le memory.bits 47 && memory.watermark == memory.base)
+is_blank (o.CNode node) = nat_lt 0 node.radix && nat_le node.radix MAX_RADIX
+is_blank (o.Tcb thread) = starts thread.state thread.inbox thread.context
+is_blank (o.Endpoint _) = true
+is_blank (o.Notification notification) = not (is_some notification.pending)
+is_blank (o.Reply answer) = is_free_reply answer.state
+is_blank (o.Context context) = has_limits context.share && not (is_some context.thread)
+is_blank (o.Frame _) = true
+is_blank (o.Control _) = false
+
+blank : (object : Object) → is_blank object ≡ true → IsBlank object
+blank (o.Untyped memory) e =
+    let l = and_parts _ _ e in
+    let m = and_parts _ _ l.1 in (leb-true _ _ l.0, leb-true _ _ m.0, eqb-true _ _ m.1)
+blank (o.CNode node) e = let l = and_parts _ _ e in (ltb-true _ _ l.0, leb-true _ _ l.1)
+blank (o.Tcb thread) e = starting thread.state thread.inbox thread.context e
+blank (o.Endpoint _) e = tt
+blank (o.Notification notification) e = nothing notification.pending e
+blank (o.Reply answer) e = freed answer.state e
+blank (o.Context context) e = let l = and_parts _ _ e in (limited context.share l.0, nothing context.thread l.1)
+blank (o.Frame _) e = tt
+blank (o.Control _) e = absurd (false≢true e)
+
+-- a thread and a context
+abbrev may_bind : Option ObjectKind → Option ObjectKind → Bool
+may_bind (Some kind.Tcb) (Some kind.Context) = true
+may_bind _ _ = false
+
+bound_kinds : (a b : Option ObjectKind) → may_bind a b ≡ true → (a ≡ Some kind.Tcb) × (b ≡ Some kind.Context)
+bound_kinds (Some kind.Tcb) (Some kind.Context) e = (refl, refl)
+bound_kinds _ _ e = absurd (false≢true e)
+
+-- the tests of an item
+
+abbrev tests : Layout → Item → List Bool
+tests t (LabelItem name) =
+    is_name name ∷ not (is_some (label_named t name)) ∷ nat_lt (length t.labels) (most_labels t.version) ∷ []
+tests t (ObjectItem name initial) =
+    is_name name ∷ not (is_some (object_named t name)) ∷ nat_lt initial.label (length t.labels) ∷ is_blank initial.object
+    ∷ not (repeats_control t initial.object) ∷ has_room t initial.object ∷ nat_le (end_of initial.object) ADDRESS_END
+    ∷ is_aligned initial.object ∷ is_free t initial.object ∷ []
+tests t (CapItem filled) =
+    is_above_caps t filled.slot ∷ declares_slot t filled.slot ∷ may_hold (initial_of t filled.slot.holder) filled.cap.detail
+    ∷ is_fitting t filled.cap ∷ not (repeats_untyped t filled.cap) ∷ filled.cap.original ∷ []
+tests t (PairItem pair) = is_above_pairs t pair.child ∷ declares_slot t pair.parent ∷ declares_slot t pair.child ∷ []
+tests t (BindingItem binding) =
+    is_above_bindings t binding.thread ∷ may_bind (kind_at t binding.thread) (kind_at t binding.context)
+    ∷ not (is_bound t binding.context) ∷ []
 
 unless : (b : Bool) → not b ≡ true → b ≡ false
 unless true e = absurd (false≢true e)
 unless false e = refl
 
-less : (r : Ordering) → is_lt r ≡ true → r ≡ Less
-less Less e = refl
-less Equal e = absurd (false≢true e)
-less Greater e = absurd (false≢true e)
+each_true : (bs : List Bool) → list_all (λ b. b) bs ≡ true → AllByRecursion (λ b. b ≡ true) bs
+each_true bs e = recursion_from_All (λ b. b ≡ true) bs (AllPass-from_list_all (λ b. b) bs e)
 
-pub names_differ :
-    (names : List (List ℕ)) → pairs_test (λ a b. not (bytes_eq a b)) names ≡ true → AllPairs (λ one other. one ≢ other) names
-names_differ names e = λ i j d below within same.
-    false≢true
-    (sym (unless _ (pairs_pass (λ a b. not (bytes_eq a b)) names e i j d below within)) ∙ (bytes_eq-Decides _ _).1 same)
+draft_with : (t : Layout) (item : Item) → list_all (λ b. b) (tests t item) ≡ true → IsDraft t → IsDraft (with_item t item)
+draft_with t (LabelItem name) e draft =
+    let l = each_true (tests t (LabelItem name)) e in
+    draft_label t name draft (record { spelled = l.0; fresh = unless _ l.1.0; room = ltb-true _ _ l.1.1.0 })
+draft_with t (ObjectItem name initial) e draft =
+    let l = each_true (tests t (ObjectItem name initial)) e in
+    let m = l.1.1.1.1 in
+    draft_initial t name initial draft (record {
+      spelled = l.0;
+      fresh = unless _ l.1.0;
+      label = ltb-true _ _ l.1.1.0;
+      blank = blank initial.object l.1.1.1.0;
+      controls = unless _ m.0;
+      room = m.1.0;
+      end = leb-true _ _ m.1.1.0;
+      aligned = m.1.1.1.0;
+      free = m.1.1.1.1.0;
+    })
+draft_with t (CapItem filled) e draft =
+    let l = each_true (tests t (CapItem filled)) e in
+    let m = l.1.1.1 in
+    draft_filled t filled draft
+    (record { rises = l.0; slot = l.1.0; root = l.1.1.0; fits = m.0; once = unless _ m.1.0; original = m.1.1.0 })
+draft_with t (PairItem pair) e draft =
+    let l = each_true (tests t (PairItem pair)) e in
+    draft_pair t pair draft (record { rises = l.0; parent = l.1.0; child = l.1.1.0 })
+draft_with t (BindingItem binding) e draft =
+    let l = each_true (tests t (BindingItem binding)) e in
+    let kinds = bound_kinds _ _ l.1.0 in
+    draft_binding t binding draft (record { rises = l.0; thread = kinds.0; context = kinds.1; once = unless _ l.1.1.0 })
 
-apart_from_meets : (one other : Object) → meets one other ≡ false → IsApart one other
-apart_from_meets one other e address a b =
-    let first : nat_lt (address_of one) (end_of other) ≡ true = lt-ltb (address_of one) (end_of other) (omega arith) in
-    let second : nat_lt (address_of other) (end_of one) ≡ true = lt-ltb (address_of other) (end_of one) (omega arith) in
-    false≢true (sym e ∙ ap (λ t. t && nat_lt (address_of other) (end_of one)) first ∙ second)
+-- a table and then items, and whether each passes
 
-all_apart :
-    (initials : List Initial) → pairs_test (λ a b. not (meets a.object b.object)) initials ≡ true
-    → AllPairs (λ one other. IsApart one.object other.object) initials
-all_apart initials e = λ i j d below within.
-    let apart = pairs_pass (λ (a b : Initial). not (meets a.object b.object)) initials e i j d below within in
-    apart_from_meets (get_or initials i d).object (get_or initials j d).object (unless _ apart)
+unfoldable pub built : Layout → List Item → Layout
+built t [] = t
+built t (item ∷ more) = built (with_item t item) more
 
-abbrev is_no_control : Object → Bool
-is_no_control (o.Control _) = false
-is_no_control _ = true
+unfoldable pub passes : Layout → List Item → Bool
+passes t [] = true
+passes t (item ∷ more) = list_all (λ b. b) (tests t item) && passes (with_item t item) more
 
-no_control : (object : Object) → is_no_control object ≡ true → (core : ℕ) → is_control_of object core ≡ false
-no_control (o.Control _) e core = absurd (false≢true e)
-no_control _ e core = refl
+built_draft : (t : Layout) (items : List Item) → passes t items ≡ true → IsDraft t → IsDraft (built t items)
+unfolding built passes
+built_draft t [] e draft = draft
+built_draft t (item ∷ more) e draft =
+    let l = and_parts _ _ e in built_draft (with_item t item) more l.1 (draft_with t item l.0 draft)
 
-no_untyped : (detail : Detail) → kind_of_detail detail ≡ kind.Untyped → not (is_for_untyped detail) ≡ true → ⊥
-no_untyped d.Untyped is e = false≢true e
-no_untyped _ is e = cc
+-- the items of a table, whose capabilities are marked later
 
--- limits, no control, and no range that meets another; slots rise, of which the first alone may hold a capability for untyped memory;
--- and children and bound threads rise, each with a context of its own
-unfoldable pub tests : Layout → List Bool
-tests t =
-    eqb (length t.names) (length t.objects) ∷ nat_le (length t.objects) MAX_OBJECTS ∷ nat_le (slots_in t.objects) MAX_SLOTS
-    ∷ nat_le (threads_in t.objects) MAX_THREADS ∷ pairs_test (λ a b. not (meets a.object b.object)) t.objects
-    ∷ list_all (λ initial. is_no_control initial.object) t.objects
-    ∷ pairs_test (λ a b. is_lt (slot_cmp a.slot b.slot)) t.caps
-    ∷ pairs_test (λ a b. not (is_for_untyped b.cap.detail)) t.caps
-    ∷ pairs_test (λ a b. is_lt (slot_cmp a.child b.child)) t.pairs
-    ∷ pairs_test (λ a b. nat_lt a.thread.0 b.thread.0) t.bindings
-    ∷ pairs_test (λ a b. not (same_id a.context b.context)) t.bindings ∷ []
+unfoldable pub objects_named : List (List ℕ) → List Initial → List Item
+objects_named [] initials = []
+objects_named (name ∷ names) [] = []
+objects_named (name ∷ names) (initial ∷ more) = ObjectItem name initial ∷ objects_named names more
 
--- the lines of a table; the names of objects are as those of labels, and no more than there can be objects
-pub record LinesFit (t : Layout) : Type 0 where
-  pub labels : LabelsFit (most_labels t.version) t.labels
-  pub names : LabelsFit MAX_OBJECTS t.names
-  pub objects : All (IsObjectOf (length t.labels)) t.objects
-  pub caps : All (IsCapOf t.objects) t.caps
-  pub pairs : All (IsSlotPair t.objects) t.pairs
-  pub bindings : All (IsBindingOf t.objects) t.bindings
-  pub marked : All (λ filled. filled.cap.original ≡ is_original t filled.slot filled.cap.detail) t.caps
-  pub tree : All (IsPairOf t) t.pairs
+unfoldable pub items_of : Layout → List Item
+items_of t =
+    map LabelItem t.labels
+    ++ (objects_named t.names t.objects
+    ++ (map (λ filled. CapItem (as_original filled)) t.caps ++ (map PairItem t.pairs ++ map BindingItem t.bindings)))
 
-pub lawful_by_tests : (t : Layout) → list_all (λ b. b) (tests t) ≡ true → LinesFit t → IsLawful t
-unfolding tests
-lawful_by_tests t is fit =
-    let l = recursion_from_All (λ b. b ≡ true) (tests t) (AllPass-from_list_all (λ b. b) (tests t) is) in
-    let c = l.1.1.1.1.1.1 in
-    record {
-      draft = record {
-        labels = fit.labels;
-        objects = record {
-          spelled = fit.names.spelled;
-          differ = fit.names.differ;
-          named = eqb-true _ _ l.0;
-          few = leb-true _ _ l.1.0;
-          few_slots = leb-true _ _ l.1.1.0;
-          few_threads = leb-true _ _ l.1.1.1.0;
-          each = fit.objects;
-          apart = all_apart t.objects l.1.1.1.1.0;
-          controls_differ = λ i j d below within core is.
-              no_control (get_or t.objects j d).object
-              (AllPass-from_list_all (λ (initial : Initial). is_no_control initial.object) t.objects l.1.1.1.1.1.0 j d within) core;
-        };
-        caps = record {
-          each = fit.caps;
-          rise = λ i j d below within.
-              less _ (pairs_pass (λ (a b : Filled). is_lt (slot_cmp a.slot b.slot)) t.caps c.0 i j d below within);
-          untypeds_once = λ i j d below within untyped.
-              absurd
-              (no_untyped (get_or t.caps j d).cap.detail untyped (pairs_pass (λ (a b : Filled). not (is_for_untyped b.cap.detail)) t.caps c.1.0 i j d below within));
-        };
-        pairs = record {
-          each = fit.pairs;
-          rise = λ i j d below within.
-              less _ (pairs_pass (λ (a b : Pair). is_lt (slot_cmp a.child b.child)) t.pairs c.1.1.0 i j d below within);
-        };
-        bindings = record {
-          each = fit.bindings;
-          rise = λ i j d below within.
-              ltb-true _ _ (pairs_pass (λ (a b : Binding). nat_lt a.thread.0 b.thread.0) t.bindings c.1.1.1.0 i j d below within);
-          contexts_differ = λ i j d below within same.
-              let apart = pairs_pass (λ (a b : Binding). not (same_id a.context b.context)) t.bindings c.1.1.1.1.0 i j d below within in
-              false≢true
-              (sym (unless _ apart) ∙ ap (λ (x : ObjId). same_id x (get_or t.bindings j d).context) same ∙ itself (get_or t.bindings j d).context);
-        };
-      };
-      marked = fit.marked;
-      tree = fit.tree;
-    }
+-- the table that is built up of the items of another
+unfoldable pub again : Layout → Layout
+again t = built (empty_layout t.version) (items_of t)
+
+-- whether each item passes, and the tree has no fault
+unfoldable pub is_rebuilt : Layout → Bool
+is_rebuilt t = passes (empty_layout t.version) (items_of t) && not (is_some (tree_fault (with_originals (again t))))
+
+unfoldable pub marked_again : Layout → Layout
+marked_again t = with_originals (again t)
+
+pub lawful_by_tests : (t : Layout) → is_rebuilt t ≡ true → marked_again t ≡ t → IsLawful t
+unfolding again is_rebuilt marked_again
+lawful_by_tests t e same =
+    let l = and_parts (passes (empty_layout t.version) (items_of t)) _ e in
+    let draft = built_draft (empty_layout t.version) (items_of t) l.0 (draft_empty t.version) in
+    subst IsLawful same (lawful_marked (again t) draft (nothing (tree_fault (with_originals (again t))) l.1))
+
+-- what the tests compute with
+unfoldable pub rebuilding : Bool
+unfolding again built declares_slot has_cap_to has_control has_room initial_cap initial_of initial_parent is_above_bindings is_above_caps
+    is_above_pairs is_bound is_fitting is_free is_kin is_original is_rebuilt items_of kind_at label_named marked_again object_named
+    objects_named passes source_of tree_fault
+rebuilding = true

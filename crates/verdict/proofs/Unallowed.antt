@@ -1,20 +1,19 @@
 -- A signal from a label without authority over the notification's is not allowed.
-use Rattle.std.proofs.Common.{[], ℕ, ◌∙◌, ◌≡◌, ◌≢◌, ◌⊎◌, None, Ok, Some, arith, false, inl, inr, refl, subst, sym, true}
+use Rattle.std.proofs.Common.{ℕ, ◌∙◌, ◌≡◌, ◌≢◌, ◌⊎◌, None, Ok, Some, arith, false, inl, inr, refl, subst, sym, true}
 use Rattle.std.proofs.lemmas.{Bool.false≢true, Option.{none-some, same_Some}}
 use Rattle.base.specs.{declared.{ids.ObjId.ObjId, kind.Kind.Kind}, Kinds.is_structural}
 use Rattle.base.specs.declared.kind.Kind.TheVariants as authority
 use Rattle.machine.specs.declared.call.{Answer.TheVariants.Nothing, Call.TheVariants.Signal, Event.Event, Outcome.TheVariants.Done}
 use Rattle.machine.specs.{declared.object.{Notification.Notification, Object.{Object, Object as o}}, Authority.label_of, Boot.IsBoot}
-use Rattle.machine.specs.{Changes.{first_waiting, with_pending}, Layout.{Layout, bound_context, bound_thread, declared_label, initial_cap}}
-use Rattle.machine.specs.{Layout.initial_of, Lookup.{hop, level_at, lookup_of, walk}, Machine.{Machine, cap_of, object_of, queue_of}}
-use Rattle.machine.specs.Step.{Step, admitted, made_by, step_of, Find.{find_cap, find_notification}, Signal.{signal_of, signalled}}
+use Rattle.machine.specs.{Changes.{first_waiting, with_pending}, Layout.Layout, Machine.{Machine, object_of}}
+use Rattle.machine.specs.Step.{Step, step_of, Find.find_notification, Signal.{signal_of, signalled}}
 use Rattle.machine.{specs.Step.Step.ends, proofs.LookUps.object_of-with_object}
 use Rattle.policy.specs.{Domain.EdgeTest, Full.{IsFull, is_modifying, IsFull.{grants, links, modifies, notifies, own, receives, replies}}}
 use Rattle.policy.specs.Full.IsFull.{sends}
 use Rattle.table.proofs.{AtBoot.boot_label, BootState.{boot_state, boot_state_is}}
 use Rattle.verdict.specs.{Allowed.{IsAllowedStep, IsLabelled, IsModified, MayModify}, Counterexamples.UnallowedSignal, Shrinks.IsSame}
-use Rattle.verdict.{specs.Shrinks.Shrinks, proofs.{Gains.word_grows, SmallSystem.{context, id, no_edges, node, notification, signal_cap}}}
-use Rattle.verdict.proofs.SmallSystem.{signalling, signalling_lawful, slot, space_cap, thread}
+use Rattle.verdict.{specs.Shrinks.Shrinks, proofs.{Gains.word_grows, SmallSystem.{finding, id, no_edges, notification, reading, signalling}}}
+use Rattle.verdict.proofs.SmallSystem.{signalling_lawful, slot, stepping}
 
 -- a change of a notification's word, without full authority
 
@@ -80,74 +79,42 @@ pub signal : Event
 signal = record { core = 0; thread = id 1; call = Signal 0 }
 
 module _ (m : Machine) (boot : IsBoot signalling m) where
-  caller : object_of m (id 1) ≡ Some (thread (Some (id 3)))
-  unfolding signalling initial_of bound_context
-  caller = boot.objects (id 1)
-
-  runs_on : object_of m (id 3) ≡ Some (context (Some (id 1)))
-  unfolding signalling initial_of bound_thread
-  runs_on = boot.objects (id 3)
-
-  space : object_of m (id 0) ≡ Some node
-  unfolding signalling initial_of
-  space = boot.objects (id 0)
-
-  silent : object_of m (id 2) ≡ Some (notification None)
-  unfolding signalling initial_of
-  silent = boot.objects (id 2)
-
-  nobody : queue_of m (id 2) ≡ Some []
-  unfolding signalling initial_of
-  nobody = boot.queues (id 2)
-
-  root : cap_of m (slot 1 0) ≡ Some space_cap
-  unfolding signalling initial_cap
-  root = boot.caps (slot 1 0)
-
-  held : cap_of m (slot 0 0) ≡ Some signal_cap
-  unfolding signalling initial_cap
-  held = boot.caps (slot 0 0)
-
-  admits : admitted m 0 (id 1) ≡ Ok (record { core = 0; budget = 10; period = 10 })
-  unfolding admitted
-  admits = rw (caller, runs_on) refl
-
   pub finds : find_notification m (id 1) 0 ≡ Ok (id 2, record { rights = record { 0 = 2 }; badge = 1 })
-  unfolding find_notification find_cap lookup_of level_at walk hop
-  finds = rw (caller, root, space, held) refl
+  unfolding find_notification finding reading signalling
+  finds = rw (boot.objects (id 1), boot.caps (slot 1 0), boot.objects (id 0), boot.caps (slot 0 0)) refl
 
   pub after_signal : Machine
   after_signal = with_pending m (id 2) (Some 1)
 
   made : step_of m signal ≡ (Done Nothing, after_signal)
-  unfolding signal after_signal step_of made_by signal_of signalled first_waiting
-  made = rw (admits, finds, nobody, silent) refl
+  unfolding after_signal first_waiting reading signal signal_of signalled signalling stepping
+  made = rw (boot.objects (id 1), boot.objects (id 3), finds, boot.queues (id 2), boot.objects (id 2)) refl
 
   pub signals : Step m signal (Done Nothing) after_signal
   signals = ends made
 
   pending : object_of after_signal (id 2) ≡ Some (notification (Some 1))
-  unfolding after_signal with_pending
-  pending = rw silent (object_of-with_object m (id 2) (notification (Some 1)) (id 2))
+  unfolding after_signal reading signalling with_pending
+  pending = rw (boot.objects (id 2)) (object_of-with_object m (id 2) (notification (Some 1)) (id 2))
 
   pub caller_label : label_of signalling m (id 1) ≡ Some 0
-  unfolding signalling initial_of declared_label
+  unfolding reading signalling
   caller_label = boot_label signalling m boot (id 1)
 
   pub notification_label : label_of signalling m (id 2) ≡ Some 2
-  unfolding signalling initial_of declared_label
+  unfolding reading signalling
   notification_label = boot_label signalling m boot (id 2)
 
   -- a policy that allows it has an edge from label 0 that isn't structural, or lets it run on what is labelled 2
   pub signal_unallowed :
       (allowed : EdgeTest) → ((k : Kind) (to : ℕ) → is_structural k ≡ false → allowed 0 k to ≡ false)
       → allowed 0 authority.Runs 2 ≡ false → ¬ IsAllowedStep signalling allowed m signal after_signal
-  unfolding signal
+  unfolding reading signal signalling
   signal_unallowed allowed lacks idle =
       let old : Notification = record { address = 0x3000; pending = None } in
       let new : Notification = record { address = 0x3000; pending = Some 1 } in
       let not_full = structural_not_full allowed 0 2 (λ same. absurd (omega arith)) lacks idle in
-      word_unallowed signalling allowed m after_signal signal (id 2) old new 0 2 silent pending
+      word_unallowed signalling allowed m after_signal signal (id 2) old new 0 2 (boot.objects (id 2)) pending
       (λ same. cc) caller_label notification_label
       not_full
 

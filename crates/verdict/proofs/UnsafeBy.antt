@@ -1,12 +1,14 @@
--- How a system is shown to need a rule: a run leads from its boot state to authority outside its policy.
-use Rattle.std.proofs.{Common.{ℕ, ◌∙◌, ◌≡◌, ◌≢◌, List, false, subst, sym}, lemmas.Bool.false≢true}
+-- How a system is shown to need a rule: a run leads from its boot state to authority outside its policy; and the rest are tests.
+use Rattle.std.proofs.{Common.{ℕ, ◌&&◌, ◌∙◌, ◌≡◌, ◌≢◌, ◌≤◌, Bool, List, false, subst, sym, true}, lemmas.Bool.{and_parts, false≢true}}
 use Rattle.base.specs.declared.kind.Kind.{Kind}
-use Rattle.machine.specs.{declared.call.{Event.Event, Outcome.Outcome}, Authority.HasAuthority, Boot.IsBoot, Layout.Layout, Machine.Machine}
-use Rattle.machine.specs.Run.{Run}
+use Rattle.base.specs.declared.label.TheConstants.Label as Label
+use Rattle.machine.specs.{declared.call.{Event.Event, Outcome.Outcome}, Authority.HasAuthority, Boot.IsBoot, Layout.{Layout, declared_label, initial_of}}
+use Rattle.machine.specs.{Machine.Machine, Run.Run}
 use Rattle.policy.specs.{Domain.EdgeTest, Needed.{Obeys, Rule}, Policy.allows}
-use Rattle.table.{specs.Rules.IsLawful, proofs.BootState.{boot_state, boot_state_is}}
+use Rattle.table.{specs.Rules.{IsLawful, kind_at}, proofs.BootState.{boot_state, boot_state_is}}
 use Rattle.verdict.{specs.{Confined.IsConfined, Counterexamples.UnsafeWithout, Safe.{IsReached, IsSafe}}, proofs.TestPolicies.IsWithin}
-use Rattle.verdict.proofs.TestPolicies.{allows_policy, is_policy, policy_of}
+use Rattle.verdict.proofs.{FewLabels.{among, few_within, others_obeyed, passes_others, trying}, LineByLine.{confined_by_lines, is_within}}
+use Rattle.verdict.proofs.{TestPolicies.{allows_policy, is_policy, policy_of}, TestTables.{is_rebuilt, lawful_by_tests, marked_again, rebuilding}}
 
 -- a run that leads outside
 pub record LeadsOutside (t : Layout) (allowed : EdgeTest) (m : Machine) : Type 0 where
@@ -20,15 +22,7 @@ pub record LeadsOutside (t : Layout) (allowed : EdgeTest) (m : Machine) : Type 0
   pub has : HasAuthority t next from kind to
   pub missing : allowed from kind to ≡ false
 
--- a system that such a run shows to need the rule
-pub record Needs (rule : Rule) (t : Layout) (allowed : EdgeTest) : Type 0 where
-  pub lawful : IsLawful t
-  pub labels : IsWithin allowed
-  pub others : (other : Rule) → other ≢ rule → Obeys allowed other
-  pub confined : (m : Machine) → IsBoot t m → IsConfined t allowed m
-  pub leads : (m : Machine) → IsBoot t m → LeadsOutside t allowed m
-
-not_safe : (t : Layout) (allowed : EdgeTest) → ((m : Machine) → IsBoot t m → LeadsOutside t allowed m) → ¬ IsSafe t allowed
+pub not_safe : (t : Layout) (allowed : EdgeTest) → ((m : Machine) → IsBoot t m → LeadsOutside t allowed m) → ¬ IsSafe t allowed
 not_safe t allowed leads safe =
     let out = leads (boot_state t) (boot_state_is t) in
     let reached : IsReached t out.next =
@@ -40,6 +34,39 @@ not_safe t allowed leads safe =
       run = out.run;
     } in
     false≢true (sym out.missing ∙ safe.confined out.next reached out.from out.kind out.to out.has)
+
+-- a system that is shown to need the rule
+pub record Needs (rule : Rule) (t : Layout) (allowed : EdgeTest) : Type 0 where
+  pub lawful : IsLawful t
+  pub labels : IsWithin allowed
+  pub others : (other : Rule) → other ≢ rule → Obeys allowed other
+  pub confined : (m : Machine) → IsBoot t m → IsConfined t allowed m
+  pub unsafe : ¬ IsSafe t allowed
+
+-- the tests of a table and of a policy of few labels
+unfoldable pub pass : Rule → Layout → ℕ → EdgeTest → Bool
+pass rule t n joins = is_rebuilt t && (is_within t (among n joins) && passes_others n joins rule)
+
+-- what they compute with
+unfoldable pub tests : Bool
+unfolding declared_label initial_of is_within kind_at pass rebuilding trying
+tests = true
+
+pub needs_by_tests :
+    (rule : Rule) (t : Layout) (n : ℕ) (joins : EdgeTest) → n ≤ Label.COUNT → pass rule t n joins ≡ true → marked_again t ≡ t
+    → ¬ IsSafe t (among n joins) → Needs rule t (among n joins)
+unfolding pass
+needs_by_tests rule t n joins few e same unsafe =
+    let l = and_parts (is_rebuilt t) _ e in
+    let m = and_parts (is_within t (among n joins)) _ l.1 in
+    let lawful = lawful_by_tests t l.0 same in
+    record {
+      lawful = lawful;
+      labels = few_within n joins few;
+      others = others_obeyed n joins rule m.1;
+      confined = confined_by_lines t (among n joins) m.0 lawful;
+      unsafe = unsafe;
+    }
 
 -- such a system, with what else its policy keeps
 pub unsafe_keeping :
@@ -55,9 +82,15 @@ unsafe_keeping rule t allowed Keeps needs keeps =
       policy = is_policy allowed needs.labels;
       others = λ other differ. subst (λ test. Obeys test other) (sym same) (needs.others other differ);
       confined = λ m boot. subst (λ test. IsConfined t test m) (sym same) (needs.confined m boot);
-      unsafe = λ safe. not_safe t allowed needs.leads (subst (IsSafe t) same safe);
+      unsafe = λ safe. needs.unsafe (subst (IsSafe t) same safe);
     } in
     (system, subst Keeps (sym same) keeps)
 
 pub unsafe_without : (rule : Rule) (t : Layout) (allowed : EdgeTest) → Needs rule t allowed → UnsafeWithout rule
 unsafe_without rule t allowed needs = (unsafe_keeping rule t allowed (λ test. Unit {0}) needs tt).0
+
+pub unsafe_by_tests :
+    (rule : Rule) (t : Layout) (n : ℕ) (joins : EdgeTest) → n ≤ Label.COUNT → pass rule t n joins ≡ true → marked_again t ≡ t
+    → ((m : Machine) → IsBoot t m → LeadsOutside t (among n joins) m) → UnsafeWithout rule
+unsafe_by_tests rule t n joins few e same leads =
+    unsafe_without rule t (among n joins) (needs_by_tests rule t n joins few e same (not_safe t (among n joins) leads))

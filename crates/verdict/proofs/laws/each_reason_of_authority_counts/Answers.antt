@@ -1,19 +1,18 @@
 -- Reason by reason.
-use Rattle.policy.specs.Policy.{allows}
 use Rattle.verdict.proofs.LinkReasons as by
 use Rattle.verdict.proofs.{Reasons.{capability_counts, m, node_kind, pair_counts, root_counts, thread_kind, within}, SmallSystem.id}
-use Rattle.verdict.proofs.{SmallSystem.{signal_cap, signalling, slot, space_cap}, Unsafe.edges}
+use Rattle.verdict.proofs.{SmallSystem.{signal_cap, signalling, slot, space_cap}, Unsafe.parted}
 use Rattle.verdict.proofs.laws.each_reason_of_authority_counts.Goals as goal
 
 pub returns-clause-capability : goal.returns-clause-capability
 returns-clause-capability c =
-    (signalling, allows edges, m, slot 0 1, space_cap, node_kind, within, capability_counts)
+    (signalling, parted, m, slot 0 1, space_cap, node_kind, within, capability_counts)
 
 pub returns-clause-root : goal.returns-clause-root
-returns-clause-root c = (signalling, allows edges, m, slot 1 0, signal_cap, thread_kind, within, root_counts)
+returns-clause-root c = (signalling, parted, m, slot 1 0, signal_cap, thread_kind, within, root_counts)
 
 pub returns-clause-pair : goal.returns-clause-pair
-returns-clause-pair c = (signalling, allows edges, m, slot 0 0, slot 1 0, within, pair_counts)
+returns-clause-pair c = (signalling, parted, m, slot 0 0, slot 1 0, within, pair_counts)
 
 pub returns-clause-runs : goal.returns-clause-runs
 returns-clause-runs c = (by.thread, id 0, by.runs_counts)
