@@ -1,20 +1,20 @@
 -- Configure, Bind and Unbind within a caller's authority: its label may use the scheduling context, a thread that comes to run on
 -- it is one that the label controls, and one that runs on it no more only loses it.
-use Rattle.std.proofs.{Common.{ℕ, ◌∙◌, ◌≡◌, ◌≢◌, ◌⊎◌, None, Option, Some, ap, inl, inr, refl, subst, sym, true}, lemmas.Option.none-some}
+use Rattle.std.proofs.{Common.{ℕ, ◌∙◌, ◌≡◌, ◌≢◌, None, Option, Some, ap, inr, refl, subst, sym, true}, lemmas.Option.none-some}
 use Rattle.std.proofs.lemmas.Option.{same_Some}
-use Rattle.base.specs.declared.{ids.{ObjId.ObjId, SlotRef.SlotRef}, kind.Kind.Kind as authority}
+use Rattle.base.specs.declared.{ids.{ObjId.ObjId}, kind.Kind.Kind as authority}
 use Rattle.machine.specs.declared.{call.Event.Event, cap.Detail.Detail as d, object.{Context.Context, Object.Object as o}, thread.Tcb.Tcb}
-use Rattle.machine.specs.{Authority.{label_of, HasAuthority.by_link}, Capabilities.kind_of_detail, Layout.Layout, Machine.{Machine, cap_of}}
-use Rattle.machine.specs.{Machine.{object_of, queue_of, with_object, words_of}, Releasing.with_unbound, Step.Bind.thread_on}
+use Rattle.machine.specs.{Authority.{label_of, HasAuthority.by_link}, Capabilities.kind_of_detail, Layout.Layout, Machine.{Machine}}
+use Rattle.machine.specs.{Machine.{object_of, with_object}, Releasing.with_unbound, Step.Bind.thread_on}
 use Rattle.machine.{specs.{Step.Bind.without_thread, WellFormed.IsThread}, proofs.ContextRow.{BindDone, ConfigureDone, UnbindDone}}
 use Rattle.machine.proofs.{ContextsFormed.{bound_is, share_is, unbound_is}, Finding.{FindsObject, found_kind}, FoundObjects.context_of_kind}
-use Rattle.machine.proofs.{FoundObjects.tcb_of_kind, Ids.{at_other, one_or_two}, LookUps.{cap_of-with_object, object_of-with_object}}
-use Rattle.machine.proofs.{LookUps.{queue_of-with_object, words_of-with_object}, RunsLinks.runs_bound}
+use Rattle.machine.proofs.{FoundObjects.tcb_of_kind, Ids.{at_other}, LookUps.{object_of-with_object}}
+use Rattle.machine.proofs.{RunsLinks.runs_bound}
 use Rattle.policy.specs.{Closed.IsClosed, Domain.EdgeTest, Full.IsFull.modifies, Take.{MayTake, MayTake.unbinds}}
 use Rattle.verdict.specs.{Budgets.{MayConfigure, configures}, Invariant.{IsHeld, IsSound}, Shrinks.{Lessens.released, Stops.goes_on}}
 use Rattle.verdict.proofs.{Contents.{context_fits, full, loses_links}, ContextTouches.{linked_keeps, runs_on, thread_keeps}, Held.held_of}
-use Rattle.verdict.proofs.{Keeps.{Acts, Keeps, unchanged}, MessageParts.{IsReached, reached, thread_label}, SetKeeps.set_keeps}
-use Rattle.verdict.proofs.{Shrinking.same_context, SlotKeeps.IsOpened, ThreadKeeps.{may_control, to_thread}}
+use Rattle.verdict.proofs.{Keeps.{Keeps, unchanged}, MessageParts.{IsReached, reached, thread_label}, SetKeeps.set_keeps}
+use Rattle.verdict.proofs.{SlotKeeps.IsOpened, ThreadKeeps.{may_control, to_thread}}
 
 module _
     (t : Layout) (allowed : EdgeTest) (event : Event) (a : ℕ) (m : Machine) (sound : IsSound t allowed m)

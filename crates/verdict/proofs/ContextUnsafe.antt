@@ -1,29 +1,28 @@
 -- The system whose policy lacks that who may bind a context may run on it isn't safe: its thread binds the context of another label to a
 -- second thread.
-use Rattle.std.proofs.Common.{[], ◌∙◌, ◌∷◌, ◌≡◌, None, Ok, Some, lit≤, refl}
+use Rattle.std.proofs.Common.{[], ◌∷◌, ◌≡◌, List, None, Ok, Some, lit≤, refl}
 use Rattle.base.specs.declared.kind.Kind.TheVariants.{Runs}
 use Rattle.machine.specs.declared.call.{Answer.TheVariants.Nothing, Call.TheVariants.Bind, Event.Event, Made.TheVariants.Done}
-use Rattle.machine.specs.{declared.call.Outcome.Outcome as outcome, Authority.{HasAuthority, label_of, HasAuthority.by_link}, Boot.IsBoot}
-use Rattle.machine.specs.{Changes.{with_context, with_tcb}, Machine.{Machine, object_of, with_object}}
-use Rattle.machine.specs.Step.{step_of, Bind.{bind_of, with_bound}, Find.{find_context, find_tcb}, Step.ends}
-use Rattle.machine.proofs.LookUps.{object_of-with_object}
+use Rattle.machine.specs.{declared.call.Outcome.Outcome as outcome, Authority.{HasAuthority, HasAuthority.by_link}, Boot.IsBoot}
+use Rattle.machine.specs.{Changes.{with_context, with_tcb}, Machine.Machine, Step.{step_of, Bind.{bind_of, with_bound}}}
+use Rattle.machine.specs.Step.Find.{find_context, find_tcb}
 use Rattle.policy.specs.Needed.{context_runs}
-use Rattle.table.proofs.AtBoot.{boot_label}
-use Rattle.verdict.{specs.Counterexamples.UnsafeWithout, proofs.{ContextSystem.{binding, joins, second, spare}, FewLabels.among}}
-use Rattle.verdict.proofs.{ObjectLabels.label_stays, SmallSystem.{finding, id, reading, slot, stepping}}
-use Rattle.verdict.proofs.UnsafeBy.{LeadsOutside, tests, unsafe_by_tests}
+use Rattle.verdict.{specs.Counterexamples.UnsafeWithout, proofs.{BootChanges.{Change, becomes, changing, label_now, object_now, with_changes}}}
+use Rattle.verdict.proofs.{ContextSystem.{binding, joins, second, spare}, FewLabels.among, SmallSystem.{finding, id, reading, slot, stepping}}
+use Rattle.verdict.proofs.UnsafeBy.{LeadsOutside, led_by_one, tests, unsafe_by_tests}
 
 unfoldable pub binds : Event
 binds = record { core = 0; thread = id 1; call = Bind 0 1 }
 
+-- the second thread names its context, and the context the thread
+
+abbrev named : List Change
+named = becomes 4 (second (Some (id 3))) ∷ []
+
+abbrev bound : List Change
+bound = becomes 3 (spare (Some (id 4))) ∷ named
+
 module _ (m : Machine) (boot : IsBoot binding m) where
-  -- the second thread names its context
-  pub named : Machine
-  named = with_object m (id 4) (second (Some (id 3)))
-
-  pub after_bind : Machine
-  after_bind = with_object named (id 3) (spare (Some (id 4)))
-
   finds : find_context m (id 1) 0 ≡ Ok (id 3)
   unfolding binding find_context finding reading
   finds = rw (boot.objects (id 1), boot.caps (slot 1 0), boot.objects (id 0), boot.caps (slot 0 0)) refl
@@ -32,55 +31,30 @@ module _ (m : Machine) (boot : IsBoot binding m) where
   unfolding binding find_tcb finding reading
   finds_thread = rw (boot.objects (id 1), boot.caps (slot 1 0), boot.objects (id 0), boot.caps (slot 0 1)) refl
 
-  still_unused : object_of named (id 3) ≡ Some (spare None)
-  unfolding binding named reading
-  still_unused = object_of-with_object m (id 4) (second (Some (id 3))) (id 3) ∙ boot.objects (id 3)
+  binds_both : with_bound m (id 3) (id 4) ≡ with_changes m bound
+  unfolding binding changing reading with_bound with_changes with_context with_tcb
+  binds_both =
+      rw (boot.objects (id 3), boot.objects (id 4), boot.objects (id 4), object_now binding m boot named (id 3)) refl
 
-  bound : with_bound m (id 3) (id 4) ≡ after_bind
-  unfolding after_bind binding named reading with_bound with_context with_tcb
-  bound = rw (boot.objects (id 3), boot.objects (id 4), boot.objects (id 4), still_unused) refl
-
-  made_bind : bind_of m (id 1) 0 1 ≡ Ok (Done Nothing, after_bind)
+  made_bind : bind_of m (id 1) 0 1 ≡ Ok (Done Nothing, with_changes m bound)
   unfolding bind_of binding reading
-  made_bind = rw (finds, finds_thread, boot.objects (id 3), boot.objects (id 4), bound) refl
+  made_bind = rw (finds, finds_thread, boot.objects (id 3), boot.objects (id 4), binds_both) refl
 
-  made : step_of m binds ≡ (outcome.Done Nothing, after_bind)
+  made : step_of m binds ≡ (outcome.Done Nothing, with_changes m bound)
   unfolding binding binds reading stepping
   made = rw (boot.objects (id 1), boot.objects (id 2), made_bind) refl
 
-  bound_thread_is : object_of after_bind (id 4) ≡ Some (second (Some (id 3)))
-  unfolding after_bind named
-  bound_thread_is =
-      object_of-with_object named (id 3) (spare (Some (id 4))) (id 4)
-      ∙ object_of-with_object m (id 4) (second (Some (id 3))) (id 4)
-
-  bound_context_is : object_of after_bind (id 3) ≡ Some (spare (Some (id 4)))
-  unfolding after_bind
-  bound_context_is = object_of-with_object named (id 3) (spare (Some (id 4))) (id 3)
-
   -- the second thread runs on the context
-  outside : HasAuthority binding after_bind 0 Runs 1
-  unfolding binding reading
+  outside : HasAuthority binding (with_changes m bound) 0 Runs 1
+  unfolding binding changing reading
   outside =
-      by_link (id 4) (id 3) (second (Some (id 3))) bound_thread_is refl
-      (label_stays binding m after_bind (id 4) (second None) (second (Some (id 3))) (boot.objects (id 4)) bound_thread_is refl
-      ∙ boot_label binding m boot (id 4))
-      (label_stays binding m after_bind (id 3) (spare None) (spare (Some (id 4))) (boot.objects (id 3)) bound_context_is refl
-      ∙ boot_label binding m boot (id 3))
+      by_link (id 4) (id 3) (second (Some (id 3))) (object_now binding m boot bound (id 4)) refl
+      (label_now binding m boot bound 4 (second None) (second (Some (id 3))) refl refl refl)
+      (label_now binding m boot bound 3 (spare None) (spare (Some (id 4))) refl refl refl)
 
 leads : (m : Machine) → IsBoot binding m → LeadsOutside binding (among 2 joins) m
 unfolding among
-leads m boot = record {
-  events = binds ∷ [];
-  outcomes = outcome.Done Nothing ∷ [];
-  next = after_bind m boot;
-  run = (after_bind m boot, ends (made m boot), refl);
-  from = 0;
-  kind = Runs;
-  to = 1;
-  has = outside m boot;
-  missing = refl;
-}
+leads m boot = led_by_one binding (among 2 joins) m binds _ (with_changes m bound) (made m boot) 0 Runs 1 (outside m boot) refl
 
 pub unsafe_without_running : UnsafeWithout context_runs
 unfolding binding tests

@@ -10,12 +10,12 @@ use Rattle.machine.specs.declared.object.MemoryKind.TheVariants as kind
 use Rattle.machine.specs.{Authority.{label_at, label_of, HasAuthority.by_cap}, Bits.bits, Boot.{IsBoot, booted}, Counts.objects_in}
 use Rattle.machine.specs.{Counts.{slots_in, threads_in}, Machine.{Machine, cap_of, id_cmp, object_of, same_id}, Memory.Source}
 use Rattle.machine.specs.{Memory.{begun, has_child, new_cap, new_detail, new_object, with_made}, Objects.kind_of_object, Step.step_of}
-use Rattle.machine.specs.Step.{Retype.{find_taker, find_untyped, retype_of, within_limits}, Step.ends}
+use Rattle.machine.specs.Step.{Retype.{find_taker, find_untyped, retype_of, within_limits}}
 use Rattle.machine.proofs.{LookUps.{id_apart, id_total}, ObjectMade.{MakesObject, made_makes}}
 use Rattle.policy.specs.Needed.{control_gives_all}
 use Rattle.verdict.{specs.Counterexamples.UnsafeWithout, proofs.{ControlSystem.{joins, making, memory, own}, FewLabels.among}}
 use Rattle.verdict.proofs.SmallSystem.{context, finding, id, reading, slot, stepping, thread}
-use Rattle.verdict.proofs.UnsafeBy.{LeadsOutside, tests, unsafe_by_tests}
+use Rattle.verdict.proofs.UnsafeBy.{LeadsOutside, led_by_one, tests, unsafe_by_tests}
 
 unfoldable pub retyping : Event
 retyping = record { core = 0; thread = id 1; call = Retype 0 kind.Endpoint 0 1 2 1 }
@@ -111,17 +111,7 @@ module _ (m : Machine) (boot : IsBoot making m) where
 
 leads : (m : Machine) → IsBoot making m → LeadsOutside making (among 2 joins) m
 unfolding among
-leads m boot = record {
-  events = retyping ∷ [];
-  outcomes = outcome.Done (Count 1) ∷ [];
-  next = after_retype m boot;
-  run = (after_retype m boot, ends (made m boot), refl);
-  from = 0;
-  kind = Reset;
-  to = 1;
-  has = outside m boot;
-  missing = refl;
-}
+leads m boot = led_by_one making (among 2 joins) m retyping _ (after_retype m boot) (made m boot) 0 Reset 1 (outside m boot) refl
 
 pub unsafe_without_control : UnsafeWithout control_gives_all
 unfolding making tests

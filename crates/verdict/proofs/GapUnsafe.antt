@@ -1,17 +1,17 @@
 -- The system whose policy lacks one derive edge isn't safe: its thread copies a derived capability into another label's CNode, and what
 -- it was derived from then derives there.
-use Rattle.std.proofs.Common.{[], ℕ, ◌∙◌, ◌∷◌, ◌≡◌, Ok, Some, lit≤, refl, true}
+use Rattle.std.proofs.Common.{ℕ, ◌∙◌, ◌≡◌, Ok, Some, lit≤, refl, true}
 use Rattle.base.specs.declared.{kind.Kind.TheVariants.Derive}
 use Rattle.machine.specs.declared.call.{Answer.TheVariants.Nothing, Call.TheVariants.Copy, Event.Event, Made.TheVariants.Done}
 use Rattle.machine.specs.declared.{call.Outcome.Outcome as outcome, slot_address.SlotAddress.SlotAddress}
 use Rattle.machine.specs.{Authority.{HasAuthority, label_of, HasAuthority.by_pair}, Boot.IsBoot, Layout.declared_label}
-use Rattle.machine.specs.{Machine.{Machine, object_of, parent_of, with_cap, with_parent}, Step.{step_of, Copy.copy_of, Step.ends}}
+use Rattle.machine.specs.{Machine.{Machine, object_of, with_cap, with_parent}, Step.{step_of, Copy.copy_of}}
 use Rattle.machine.{specs.{Step.Target.{ends_of, source_of, target_of}, Tree.with_copy}, proofs.LookUps.parent_of-with_parent}
 use Rattle.policy.specs.{Closed.MayBeGranted, Domain.{EdgeTest, IsInDomain}, Needed.derive_by_grant, Policy.allows}
 use Rattle.table.proofs.AtBoot.{boot_label}
 use Rattle.verdict.{specs.Counterexamples.UnsafeWithout, proofs.{FewLabels.{among, granted_derives}, GapSystem.{derived_cap, gap, joins}}}
 use Rattle.verdict.proofs.{ObjectLabels.same_label, SmallSystem.{finding, id, reading, slot, stepping}}
-use Rattle.verdict.proofs.UnsafeBy.{LeadsOutside, needs_by_tests, not_safe, tests, unsafe_keeping}
+use Rattle.verdict.proofs.UnsafeBy.{LeadsOutside, led_by_one, needs_by_tests, not_safe, tests, unsafe_keeping}
 
 -- the slot of the other CNode, and the slot of the thread's own that holds that CNode's capability
 abbrev to : SlotAddress
@@ -72,17 +72,7 @@ module _ (m : Machine) (boot : IsBoot gap m) where
 
 leads : (m : Machine) → IsBoot gap m → LeadsOutside gap (among 3 joins) m
 unfolding among
-leads m boot = record {
-  events = copying ∷ [];
-  outcomes = outcome.Done Nothing ∷ [];
-  next = after_copy m boot;
-  run = (after_copy m boot, ends (made m boot), refl);
-  from = 2;
-  kind = Derive;
-  to = 1;
-  has = outside m boot;
-  missing = refl;
-}
+leads m boot = led_by_one gap (among 3 joins) m copying _ (after_copy m boot) (made m boot) 2 Derive 1 (outside m boot) refl
 
 abbrev DerivesGranted : EdgeTest → Type 0
 DerivesGranted test =

@@ -1,6 +1,6 @@
 -- The boot state of a lawful table is confined where each line of the table passes a test: all that it gives is in the policy.
-use Rattle.std.{specs.{List.{All, list_all}, Prelude.slice_get}, proofs.Common.{ℕ, ◌&&◌, ◌∙◌, ◌≡◌, Bool, List, Option, Some, ap, false, not}}
-use Rattle.std.proofs.{Common.{refl, subst, sym, true, ◌||◌}, lemmas.Bool.{and_parts, false≢true}}
+use Rattle.std.{specs.{List.{list_all}, Prelude.slice_get}, proofs.Common.{ℕ, ◌&&◌, ◌∙◌, ◌≡◌, Bool, List, Option, Some, ap, false, not}}
+use Rattle.std.proofs.{Common.{subst, sym, true, ◌||◌}, lemmas.Bool.{and_parts, false≢true}}
 use Rattle.std.proofs.lemmas.{List.Sums.AllPass-from_list_all, Option.{get_or_from_slice_get, slice_get_within}}
 use Rattle.base.specs.declared.{ids.{ObjId.ObjId, SlotRef.SlotRef}, kind.Kind.{Kind, TheVariants.{Derive, Runs, Space}}}
 use Rattle.machine.specs.declared.{cap.{Cap.Cap, Detail.Detail}, layout.{Binding.Binding, Filled.Filled, Pair.Pair}}

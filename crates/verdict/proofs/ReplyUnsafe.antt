@@ -1,16 +1,16 @@
 -- The system of a receiver and a caller isn't safe where the policy lacks that replies hold threads: the receiver waits with a reply,
 -- which then waits with it.
-use Rattle.std.proofs.Common.{[], ◌∷◌, Some, false, lit≤, refl, true}
+use Rattle.std.proofs.Common.{Some, false, lit≤, refl, true}
 use Rattle.base.specs.declared.kind.Kind.TheVariants.{Holds}
-use Rattle.machine.specs.declared.{call.Outcome.Outcome as outcome, object.Object.Object as o, thread.Inbox.Inbox as inbox}
+use Rattle.machine.specs.declared.{object.Object.Object as o, thread.Inbox.Inbox as inbox}
 use Rattle.machine.specs.declared.object.ReplyState.TheVariants as reply
 use Rattle.machine.specs.{declared.thread.RunState.RunState as state, Authority.{HasAuthority, HasAuthority.by_link}, Boot.IsBoot}
-use Rattle.machine.specs.{Machine.Machine, Step.Step.ends}
+use Rattle.machine.specs.Machine.{Machine}
 use Rattle.policy.specs.{Domain.EdgeTest, Needed.reply_holds}
 use Rattle.verdict.specs.Counterexamples.{UnsafeWithout}
 use Rattle.verdict.proofs.{BootChanges.{changing, label_now, object_now, with_changes}, FewLabels.among}
 use Rattle.verdict.proofs.{ReplyRun.{receive_made, received, receiving, waiting}, ReplySystem.{answers, receiver, serving}}
-use Rattle.verdict.proofs.{SmallSystem.{id, reading}, UnsafeBy.{LeadsOutside, tests, unsafe_by_tests}}
+use Rattle.verdict.proofs.{SmallSystem.{id, reading}, UnsafeBy.{LeadsOutside, led_by_one, tests, unsafe_by_tests}}
 
 -- each label has every edge to each but that
 abbrev joins : EdgeTest
@@ -27,17 +27,7 @@ outside m boot =
 
 leads : (m : Machine) → IsBoot serving m → LeadsOutside serving (among 2 joins) m
 unfolding among
-leads m boot = record {
-  events = receiving ∷ [];
-  outcomes = outcome.Blocked ∷ [];
-  next = with_changes m received;
-  run = (with_changes m received, ends (receive_made m boot), refl);
-  from = 0;
-  kind = Holds;
-  to = 0;
-  has = outside m boot;
-  missing = refl;
-}
+leads m boot = led_by_one serving (among 2 joins) m receiving _ (with_changes m received) (receive_made m boot) 0 Holds 0 (outside m boot) refl
 
 pub unsafe_without_holding : UnsafeWithout reply_holds
 unfolding serving tests

@@ -1,6 +1,6 @@
 -- A table without controls is lawful where it is built up again of its items, each of which passes the tests of the table so far.
-use Rattle.std.{specs.{List.{AllByRecursion, list_all}, Prelude.is_some}, proofs.Common.{[], ℕ, ◌&&◌, ◌++◌, ◌==◌, ◌∷◌, ◌≡◌, Bool, List, None, Option, Some, ap}}
-use Rattle.std.proofs.Common.{false, length, map, nat_le, nat_lt, not, refl, subst, sym, true}
+use Rattle.std.{specs.{List.{AllByRecursion, list_all}, Prelude.is_some}, proofs.Common.{[], ℕ, ◌&&◌, ◌++◌, ◌==◌, ◌∷◌, ◌≡◌, Bool, List, None, Option, Some}}
+use Rattle.std.proofs.Common.{false, length, map, nat_le, nat_lt, not, refl, subst, true}
 use Rattle.std.proofs.lemmas.{Bool.{and_parts, eqb-true, false≢true, leb-true, ltb-true}, List.Elements.recursion_from_All}
 use Rattle.std.proofs.lemmas.List.Sums.{AllPass-from_list_all}
 use Rattle.base.specs.declared.core_number.TheConstants.CoreNo as CoreNo

@@ -1,9 +1,9 @@
 -- How a system is shown to need a rule: a run leads from its boot state to authority outside its policy; and the rest are tests.
-use Rattle.std.proofs.{Common.{ℕ, ◌&&◌, ◌∙◌, ◌≡◌, ◌≢◌, ◌≤◌, Bool, List, false, subst, sym, true}, lemmas.Bool.{and_parts, false≢true}}
+use Rattle.std.proofs.{Common.{[], ℕ, ◌&&◌, ◌∙◌, ◌∷◌, ◌≡◌, ◌≢◌, ◌≤◌, Bool, List, false, refl, subst, sym, true}, lemmas.Bool.{and_parts, false≢true}}
 use Rattle.base.specs.declared.kind.Kind.{Kind}
 use Rattle.base.specs.declared.label.TheConstants.Label as Label
 use Rattle.machine.specs.{declared.call.{Event.Event, Outcome.Outcome}, Authority.HasAuthority, Boot.IsBoot, Layout.{Layout, declared_label, initial_of}}
-use Rattle.machine.specs.{Machine.Machine, Run.Run}
+use Rattle.machine.specs.{Machine.Machine, Run.Run, Step.{step_of, Step.ends}}
 use Rattle.policy.specs.{Domain.EdgeTest, Needed.{Obeys, Rule}, Policy.allows}
 use Rattle.table.{specs.Rules.{IsLawful, kind_at}, proofs.BootState.{boot_state, boot_state_is}}
 use Rattle.verdict.{specs.{Confined.IsConfined, Counterexamples.UnsafeWithout, Safe.{IsReached, IsSafe}}, proofs.TestPolicies.IsWithin}
@@ -21,6 +21,23 @@ pub record LeadsOutside (t : Layout) (allowed : EdgeTest) (m : Machine) : Type 0
   pub to : ℕ
   pub has : HasAuthority t next from kind to
   pub missing : allowed from kind to ≡ false
+
+-- one event leads there
+pub led_by_one :
+    (t : Layout) (allowed : EdgeTest) (m : Machine) (event : Event) (outcome : Outcome) (next : Machine)
+    → step_of m event ≡ (outcome, next) → (from : ℕ) (k : Kind) (to : ℕ) → HasAuthority t next from k to
+    → allowed from k to ≡ false → LeadsOutside t allowed m
+led_by_one t allowed m event outcome next made from k to has missing = record {
+  events = event ∷ [];
+  outcomes = outcome ∷ [];
+  next = next;
+  run = (next, ends made, refl);
+  from = from;
+  kind = k;
+  to = to;
+  has = has;
+  missing = missing;
+}
 
 pub not_safe : (t : Layout) (allowed : EdgeTest) → ((m : Machine) → IsBoot t m → LeadsOutside t allowed m) → ¬ IsSafe t allowed
 not_safe t allowed leads safe =
