@@ -51,15 +51,7 @@ pub target-walk :
 unfolding lookup_target_of
 target-walk m from index depth level shows within = rw (shows, within) refl
 
--- what it is where a walk ends with so many bits left
-pub target_from :
-    (m : Machine) (from : SlotRef) (index depth : ℕ) (level : Level) (place : SlotRef × ℕ) → level_at m from ≡ Some level
-    → in_depth depth ≡ Ok tt → counted (walk 65 m level (bits depth index)) ≡ Ok place
-    → lookup_target_of m from index depth ≡ exactly place
-unfolding lookup_target_of
-target_from m from index depth level place shows within ends = rw (shows, within, ends) refl
-
--- .. and from a CNode that was found
+-- what it is where a walk from a CNode that was found ends with so many bits left
 pub below-ends :
     (m : Machine) (index depth : ℕ) (level : Level) (place : SlotRef × ℕ) → in_depth depth ≡ Ok tt
     → counted (walk 65 m level (bits depth index)) ≡ Ok place → target_below m level index depth ≡ exactly place

@@ -1,11 +1,11 @@
 -- Slots leave the derivation tree: one, and some and then others; they are alone then, and who was alone stays so.
-use Rattle.std.{specs.Prelude.{None, Option, Some, if◌then◌else◌, option_and_then}, proofs.Common.{◌||◌, ◌∙◌, ◌≡◌, ◌≢◌, Bool, ap, cond}}
-use Rattle.std.proofs.{Common.{false, inl, inr, refl, subst, sym, true}, lemmas.Bool.false≢true}
+use Rattle.std.{specs.Prelude.{None, Option, Some, if◌then◌else◌, option_and_then}, proofs.Common.{◌||◌, ◌∙◌, ◌≡◌, ◌≢◌, Bool, ap}}
+use Rattle.std.proofs.{Common.{false, refl, subst, sym, true}, lemmas.Bool.false≢true}
 use Rattle.base.specs.declared.ids.SlotRef.{SlotRef}
-use Rattle.machine.specs.{Machine.{Machine, parent_of, same_slot, without_parent}, Orphans.{Nearest, climbs, no_ancestor, past, survives}}
+use Rattle.machine.specs.{Machine.{Machine, parent_of, same_slot}, Orphans.{Nearest, climbs, no_ancestor, past, survives}}
 use Rattle.machine.{specs.Tree.IsAlone, proofs.{LookUps.one_slot, RoundLemmas.or_second}}
-use Rattle.derivation.{specs.{Raising.{AreRaised, is_empty}, Removing.{HasParents, HaveLeft, parent_without}}, proofs.Ancestors.end_stays}
-use Rattle.derivation.proofs.{Ancestors.none_above, Pairs.{apart_slots, parent_of-without_parent}}
+use Rattle.derivation.{specs.{Removing.{HasParents, HaveLeft, parent_without}}, proofs.Ancestors.end_stays}
+use Rattle.derivation.proofs.{Ancestors.none_above, Pairs.{apart_slots}}
 
 -- one slot leaves
 module _ (old new : Machine) (slot : SlotRef) (not_below : parent_of old slot ≢ Some slot)
@@ -187,23 +187,3 @@ module _ (old new : Machine) (these : SlotRef → Bool) (left : HaveLeft old new
   alone_where_left slot alone =
       still_alone old new slot alone (root_stays slot (these slot) refl)
       (λ child at. parent_found old these child (way_up child slot at) refl)
-
-module _ (old new : Machine) (raised : SlotRef → Type 0) (up : AreRaised old new raised) where
-  root_where_raised : (slot : SlotRef) → parent_of old slot ≡ None → parent_of new slot ≡ None
-  root_where_raised slot root =
-      elim (up.others slot) [
-        | inl same ↦ same ∙ root
-        | inr is ↦
-            none_above
-            (subst (λ (from : Option SlotRef). Nearest (parent_of old) (is_empty old) from (parent_of new slot)) root (up.up slot is))
-      ]
-
-  parent_where_raised :
-      (child slot : SlotRef) → parent_of new child ≡ Some slot → (low : SlotRef) × (parent_of old low ≡ Some slot)
-  parent_where_raised child slot at =
-      elim (up.others child) [
-        | inl same ↦ (child, sym same ∙ at)
-        | inr is ↦
-            parent_found old (is_empty old) child
-            (subst (λ (to : Option SlotRef). Nearest (parent_of old) (is_empty old) (parent_of old child) to) at (up.up child is)) refl
-      ]

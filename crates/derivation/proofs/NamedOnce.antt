@@ -3,7 +3,7 @@ use Rattle.std.{specs.Prelude.{◌↔◌, AllPairs, Contains, None, Option, Some
 use Rattle.std.proofs.Common.{◌⊎◌, List, ap, arith, inl, inr, length, refl, subst, suc, sym, zero}
 use Rattle.std.proofs.lemmas.List.{Elements.All-contains_itself, Kept.AllPairs-cons}
 use Rattle.base.specs.declared.ids.SlotRef.{SlotRef}
-use Rattle.machine.specs.{Machine.{Machine, parent_of}, WellFormed.{Descends, child, further}}
+use Rattle.machine.specs.{Machine.{Machine}, WellFormed.{Descends}}
 use Rattle.derivation.specs.Descendants.{AreAllDescendants, AreNamed, IsBehind, IsLower, next, none}
 
 -- numbers in order

@@ -1,11 +1,11 @@
 -- A derivation tree that slots are leaving stays so by each step of a removal, and once they are alone it is what the removal makes.
-use Rattle.std.{specs.{FinMap.values, Prelude.{None, Option, Some, filter, if◌then◌else◌}}, proofs.Common.{◌∙◌, ◌≡◌, ◌≢◌, Bool, ap, false}}
+use Rattle.std.{specs.{FinMap.values, Prelude.{None, Option, Some, filter, if◌then◌else◌}}, proofs.Common.{◌∙◌, ◌≡◌, Bool, false}}
 use Rattle.std.proofs.{Common.{inl, refl, subst, sym, true}, lemmas.Bool.false≢true}
 use Rattle.base.specs.declared.ids.SlotRef.{SlotRef}
-use Rattle.machine.specs.{Machine.{Machine, parent_of, same_slot, without_parent}, Orphans.{Nearest, climbs, no_ancestor, survives}}
+use Rattle.machine.specs.{Machine.{Machine, parent_of}, Orphans.{Nearest, climbs, no_ancestor, survives}}
 use Rattle.machine.specs.{Orphans.without_nodes, Removal.parent_after, Tree.IsAlone, WellFormed.{Descends, child, further}}
-use Rattle.machine.proofs.{LookUps.one_slot, OrphanLemmas.{climbed, nearest_stays}, RemovalStays.further_on}
-use Rattle.derivation.{specs.{Removing.{HasParents, HaveLeft, parent_without}, Thinning.IsThinned}, proofs.Ancestors.only_nearest}
+use Rattle.machine.proofs.{OrphanLemmas.{climbed, nearest_stays}, RemovalStays.further_on}
+use Rattle.derivation.{specs.{Removing.{HaveLeft}, Thinning.IsThinned}, proofs.Ancestors.only_nearest}
 use Rattle.derivation.proofs.Ancestors.{parents_kept}
 
 -- at first nothing has left
@@ -59,10 +59,6 @@ module _ (m : Machine) (gone : SlotRef → Bool) (now : Machine) (thin : IsThinn
               way_where_left (thin.nearest slot to stays way) (left.up slot (staying slot (these slot) refl stays));
           joins = λ slot parent at. joins_where_left slot parent (these slot) refl at;
         }
-
-  -- one that goes leaves
-  going_itself : (slot : SlotRef) → gone slot ≡ true → (q : SlotRef) → same_slot q slot ≡ true → gone q ≡ true
-  going_itself slot goes q same = ap gone (one_slot q slot same) ∙ goes
 
   -- once all that go are alone, each slot has the parent that the removal gives it
   module _ (acyclic : (slot : SlotRef) → ¬ (Descends m slot slot)) (alone : (slot : SlotRef) → gone slot ≡ true → IsAlone now slot) where
