@@ -45,11 +45,6 @@ module _ (entries : Entries) (kin : AreKin (entry_of entries)) where
       let less : kin.order a < kin.order b = kin.later a b behind in
       let equal : kin.order a ≡ kin.order b = ap kin.order same in omega arith
 
-  parent_differs : (c p : SlotRef) → (old c).parent ≡ Some p → p ≢ c
-  parent_differs c p is same =
-      let less : kin.depth p < kin.depth c = kin.deeper c p is in
-      let equal : kin.depth p ≡ kin.depth c = ap kin.depth same in omega arith
-
   -- a root comes under a parent
 
   module _ (slot parent : SlotRef) (below : there slot) (above : there parent)

@@ -281,9 +281,6 @@ module _ (entries : Entries) (numbers : ℕ) (id thread : ObjId)
     abbrev without : ObjId → Option Entry
     without = entry_of (quitting entries id thread stands e.ends)
 
-    abbrev standing_between : ObjId → Standing
-    standing_between q = standing_of (entry_of between q)
-
     precedes : (q : ObjId) → stands.previous ≡ Some q → (standing_old q).next ≡ Some thread
     precedes q before = queued.back q thread before
 

@@ -204,9 +204,6 @@ module _ (ends ends' : ObjId → Ends) (standing standing' : ObjId → Standing)
   previous_here : (standing' t).previous ≡ (ends q).last
   previous_here = ap (λ s. s.previous) joins.joined
 
-  no_last_free : (ends q).last ≢ Some t
-  no_last_free is = let at = (queues.last_is q t is).0 in cc
-
   -- the others wait where they did, behind whom they did
   as_before : (a : ObjId) → a ≢ t → ((standing' a).at ≡ (standing a).at) × ((standing' a).previous ≡ (standing a).previous)
   as_before a apart =

@@ -61,12 +61,6 @@ module _ (ends ends' : ObjId → Ends) (standing standing' : ObjId → Standing)
   apart_behind : (b : ObjId) → (standing t).next ≡ Some b → b ≢ t
   apart_behind b is same = apart_next t b is (sym same)
 
-  -- nobody stands on both sides
-  one_side : (a : ObjId) → (standing t).previous ≡ Some a → (standing t).next ≢ Some a
-  one_side a before behind =
-      let early : queues.rank a < queues.rank t = queues.later a t (queues.back a t before) in
-      let late : queues.rank t < queues.rank a = queues.later t a behind in omega arith
-
   at_other : (a : ObjId) → a ≢ t → (standing' a).at ≡ (standing a).at
   at_other a apart =
       elim (cases_some (standing t).previous a) [
