@@ -6,6 +6,7 @@ pub mod CountLemmas
 pub mod CountedStates
 pub mod Detaching
 pub mod EditLemmas
+pub mod Emptied
 pub mod EntryLemmas
 pub mod Families
 pub mod Forests

@@ -3,8 +3,7 @@
 use Rattle.std.specs.Prelude.{None, Option, Some, option_and_then}
 use Rattle.base.specs.declared.ids.{ObjId.ObjId, SlotRef.SlotRef}
 use Rattle.machine.specs.declared.cap.Cap.{Cap}
-use Rattle.objects.specs.declared.{entry.Entry.Entry, links.TreeLinks.TreeLinks, slots.{Slot.Slot, SlotChange.SlotChange}}
-use Rattle.objects.specs.declared.slots.SlotChange.TheVariants as change
+use Rattle.objects.specs.declared.{entry.Entry.Entry, links.TreeLinks.TreeLinks, slots.Slot.Slot}
 use Rattle.objects.specs.{Entries.{Entries, change_slot_in, entry_of, slot_at, with_entry}, Forest.{IsForest, Links}}
 
 -- what a slot holds, if it is there
@@ -35,14 +34,6 @@ by_links links =
 -- the links that slots have are those of a forest
 abbrev pub AreKin : (ObjId → Option Entry) → Type 0
 AreKin entry = IsForest (by_links (links_at entry))
-
--- what a slot is after a change
-abbrev pub after : SlotChange → Slot → Slot
-after (change.Cap cap) slot = record slot { cap = cap }
-after (change.First first) slot = record slot { links = record slot.links { first = first } }
-after (change.Next next) slot = record slot { links = record slot.links { next = next } }
-after (change.Previous previous) slot = record slot { links = record slot.links { previous = previous } }
-after (change.Under parent next) slot = record slot { links = record slot.links { parent = parent; next = next; previous = None } }
 
 -- the entries with a slot changed, if it is there
 abbrev pub with_slot : Entries → SlotRef → (Slot → Slot) → Entries

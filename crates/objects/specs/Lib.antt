@@ -8,5 +8,6 @@ pub mod Pairs
 pub mod Places
 pub mod Queues
 pub mod Radices
+pub mod Roots
 pub mod State
 pub mod Waiting

@@ -1,10 +1,10 @@
-ghost use Rattle.std.specs.{List.AllByRecursion, Prelude.{◌≡◌, IfOk, OnOk, map}};
-ghost use Rattle.objects.specs.{Entries.new_entry, Radices.HasRadix};
+ghost use Rattle.std.specs.{List.AllByRecursion, Prelude.{◌≡◌, IfOk, OnOk, Some, map, option_copied}};
+ghost use Rattle.objects.specs.{Entries.new_entry, Radices.HasRadix, Roots.root_in};
 
 use crate::links::{Ends, Standing};
 use crate::slots::Slots;
 use crate::words::Words;
-use machine::Object;
+use machine::{Cap, Object};
 use std::alloc::{AllocError, Global};
 
 /// An object with all that belongs to it.
@@ -19,6 +19,18 @@ pub struct Entry {
     pub words: Words,
     /// How many slots hold a capability for it.
     pub caps: u64,
+}
+
+impl Entry {
+    /// What the root slot holds, if the object is a thread.
+    pub fn root(&self) -> Option<&Cap>
+        ensures { option_copied result ≡ root_in (Some self.now) }
+    {
+        match &self.object {
+            Object::Tcb(_) => self.slots.get(0)?.cap.as_ref(),
+            _ => None,
+        }
+    }
 }
 
 // The entry of a new object.

@@ -1,14 +1,14 @@
 //! Where the entry of an object is kept: from numbers to places, and the entries at these.
-ghost use Rattle.std.specs.Prelude.{ℕ, ◌+◌, ◌≡◌, OnOk, option_copied};
-ghost use Rattle.objects.specs.{Entries.{change_slot_in, replace_in, set_caps_in, set_ends_in, set_standing_in, set_word_in}, Family.after};
+ghost use Rattle.std.specs.Prelude.{ℕ, ◌+◌, ◌-◌, ◌<◌, ◌^◌, ◌≡◌, ◌≤◌, None, OnOk, option_copied, option_map};
+ghost use Rattle.objects.specs.Entries.{caps_in, change_slot_in, replace_in, set_caps_in, set_ends_in, set_standing_in, set_word_in, slot_at};
+ghost use Rattle.objects.specs.Family.{cap_in};
 ghost use Rattle.objects.specs.Places.{AddsEntry, HasRoom, RemovesEntry, SameEntries, placed, places_in, with_placed};
 
 use crate::entry::Entry;
 use crate::links::{Ends, Standing};
 use crate::numbers::{Places, begin, late_place_of, make_room, place_of, set_place, take_place};
-use crate::slots::SlotChange;
 use base::{ObjId, SlotRef};
-use machine::Object;
+use machine::{Cap, Object};
 use slab::Slab;
 use std::alloc::{AllocError, Global};
 
@@ -23,15 +23,73 @@ pub fn entry<'a>(places: &Places, entries: &'a Slab<Entry>, id: ObjId) -> Option
     entries.get(place)
 }
 
-/// Changes the slot, if it is there.
-#[inline]
-pub fn change_slot(places: &Places, entries: &mut Slab<Entry>, at: SlotRef, change: SlotChange)
+/// Says what the slot holds, if it is there.
+pub fn set_cap(places: &Places, entries: &mut Slab<Entry>, at: SlotRef, cap: Option<Cap>)
     ensures { entries.new
-        ≡ with_placed (places_in places.now) entries.old at.holder (change_slot_in at.index (after change)) }
+        ≡ with_placed (places_in places.now) entries.old at.holder (change_slot_in at.index (λ slot. record slot { cap = cap })) }
 {
     if let Some(place) = place_of(places, at.holder.0) {
         if let Some(entry) = entries.get_mut(place) {
-            entry.slots.change(at.index, change);
+            entry.slots.set_cap(at.index, cap);
+        }
+    }
+}
+
+/// Says which the slot's first child is, if the slot is there.
+pub fn set_first(places: &Places, entries: &mut Slab<Entry>, at: SlotRef, first: Option<SlotRef>)
+    ensures { entries.new
+        ≡ with_placed (places_in places.now) entries.old at.holder (change_slot_in at.index (λ slot. record slot { links = record slot.links { first = first } })) }
+{
+    if let Some(place) = place_of(places, at.holder.0) {
+        if let Some(entry) = entries.get_mut(place) {
+            entry.slots.set_first(at.index, first);
+        }
+    }
+}
+
+/// Says which sibling follows the slot, if it is there.
+pub fn set_next(places: &Places, entries: &mut Slab<Entry>, at: SlotRef, next: Option<SlotRef>)
+    ensures { entries.new
+        ≡ with_placed (places_in places.now) entries.old at.holder (change_slot_in at.index (λ slot. record slot { links = record slot.links { next = next } })) }
+{
+    if let Some(place) = place_of(places, at.holder.0) {
+        if let Some(entry) = entries.get_mut(place) {
+            entry.slots.set_next(at.index, next);
+        }
+    }
+}
+
+/// Says which sibling the slot follows, if it is there.
+pub fn set_previous(
+    places: &Places,
+    entries: &mut Slab<Entry>,
+    at: SlotRef,
+    previous: Option<SlotRef>,
+)
+    ensures { entries.new
+        ≡ with_placed (places_in places.now) entries.old at.holder (change_slot_in at.index (λ slot. record slot { links = record slot.links { previous = previous } })) }
+{
+    if let Some(place) = place_of(places, at.holder.0) {
+        if let Some(entry) = entries.get_mut(place) {
+            entry.slots.set_previous(at.index, previous);
+        }
+    }
+}
+
+/// Says whose child the slot is, if it is there, and which sibling follows it. It follows none.
+pub fn set_under(
+    places: &Places,
+    entries: &mut Slab<Entry>,
+    at: SlotRef,
+    parent: Option<SlotRef>,
+    next: Option<SlotRef>,
+)
+    ensures { entries.new
+        ≡ with_placed (places_in places.now) entries.old at.holder (change_slot_in at.index (λ slot. record slot { links = record slot.links { parent = parent; next = next; previous = None } })) }
+{
+    if let Some(place) = place_of(places, at.holder.0) {
+        if let Some(entry) = entries.get_mut(place) {
+            entry.slots.set_under(at.index, parent, next);
         }
     }
 }
@@ -80,15 +138,40 @@ pub fn set_word(places: &Places, entries: &mut Slab<Entry>, id: ObjId, index: u6
     }
 }
 
-/// Says how many capabilities there are for the object, if it is present.
-pub fn set_caps(places: &Places, entries: &mut Slab<Entry>, id: ObjId, caps: u64)
-    ensures { entries.new ≡ with_placed (places_in places.now) entries.old id (set_caps_in caps) }
+/// Counts one capability more for the object, if it is present.
+pub fn count_more(places: &Places, entries: &mut Slab<Entry>, id: ObjId)
+    requires { caps_in (placed (places_in places.now) entries.old id) + 1 < 2 ^ 64 }
+    ensures { entries.new
+        ≡ with_placed (places_in places.now) entries.old id (set_caps_in (caps_in (placed (places_in places.now) entries.old id) + 1)) }
 {
     if let Some(place) = place_of(places, id.0) {
         if let Some(entry) = entries.get_mut(place) {
-            entry.caps = caps;
+            entry.caps += 1;
         }
     }
+}
+
+/// Counts one capability less for the object, if it is present.
+pub fn count_less(places: &Places, entries: &mut Slab<Entry>, id: ObjId)
+    requires { 1 ≤ caps_in (placed (places_in places.now) entries.old id) }
+    ensures { entries.new
+        ≡ with_placed (places_in places.now) entries.old id (set_caps_in (caps_in (placed (places_in places.now) entries.old id) - 1)) }
+{
+    if let Some(place) = place_of(places, id.0) {
+        if let Some(entry) = entries.get_mut(place) {
+            entry.caps -= 1;
+        }
+    }
+}
+
+/// Empties the slot, if it is there, and tells for which object its capability was.
+pub fn empty_slot(places: &Places, entries: &mut Slab<Entry>, at: SlotRef) -> Option<ObjId>
+    ensures value { result ≡ option_map (λ cap. cap.object) (cap_in (slot_at (placed (places_in places.now) entries.old) at)) }
+    ensures emptied { entries.new
+        ≡ with_placed (places_in places.now) entries.old at.holder (change_slot_in at.index (λ slot. record slot { cap = None })) }
+{
+    let place = place_of(places, at.holder.0)?;
+    entries.get_mut(place)?.slots.empty_at(at.index)
 }
 
 /// Makes room for so many more entries.

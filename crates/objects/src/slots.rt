@@ -1,8 +1,8 @@
-ghost use Rattle.std.specs.Prelude.{◌≡◌, IfOk, option_copied, replicate, slice_get};
-ghost use Rattle.objects.specs.{Edits.edited, Entries.empty_slot, Family.after};
+ghost use Rattle.std.specs.Prelude.{◌≡◌, IfOk, None, option_copied, option_map, replicate, slice_get};
+ghost use Rattle.objects.specs.{Edits.edited, Entries.empty_slot, Family.cap_in};
 
 use crate::links::TreeLinks;
-use base::SlotRef;
+use base::{ObjId, SlotRef};
 use machine::Cap;
 use std::alloc::{AllocError, Global};
 use std::marker::Model;
@@ -19,39 +19,6 @@ impl Slot {
         cap: None,
         links: TreeLinks::NONE,
     };
-
-    // Takes the change.
-    #[inline]
-    fn take(&mut self, change: SlotChange)
-        ensures { self.new ≡ after change self.old }
-    {
-        match change {
-            SlotChange::Cap(cap) => self.cap = cap,
-            SlotChange::First(first) => self.links.first = first,
-            SlotChange::Next(next) => self.links.next = next,
-            SlotChange::Previous(previous) => self.links.previous = previous,
-            SlotChange::Under(parent, next) => {
-                self.links.parent = parent;
-                self.links.next = next;
-                self.links.previous = None;
-            }
-        }
-    }
-}
-
-/// A change of a slot. It is made where the slot is, which is not copied.
-#[derive(Clone, Copy)]
-pub enum SlotChange {
-    /// What the slot holds.
-    Cap(Option<Cap>),
-    /// Its first child.
-    First(Option<SlotRef>),
-    /// Which sibling follows it.
-    Next(Option<SlotRef>),
-    /// Which sibling it follows.
-    Previous(Option<SlotRef>),
-    /// Its parent, and which sibling follows it. It follows none.
-    Under(Option<SlotRef>, Option<SlotRef>),
 }
 
 /// The slots of an object.
@@ -86,13 +53,67 @@ impl Slots {
         self.items.get(index as usize)
     }
 
-    /// Changes the slot at the index, if there is one.
-    #[inline]
-    pub fn change(&mut self, index: u64, change: SlotChange)
-        ensures { self.new ≡ edited (after change) self.old index }
+    /// Says what the slot at the index holds, if there is one.
+    pub fn set_cap(&mut self, index: u64, cap: Option<Cap>)
+        ensures { self.new ≡ edited (λ slot. record slot { cap = cap }) self.old index }
     {
         if let Some(slot) = self.items.get_mut(index as usize) {
-            slot.take(change);
+            slot.cap = cap;
         }
+    }
+
+    /// Says which the first child of the slot at the index is, if there is such a slot.
+    pub fn set_first(&mut self, index: u64, first: Option<SlotRef>)
+        ensures { self.new ≡ edited (λ slot. record slot { links = record slot.links { first = first } }) self.old index }
+    {
+        if let Some(slot) = self.items.get_mut(index as usize) {
+            slot.links.first = first;
+        }
+    }
+
+    /// Says which sibling follows the slot at the index, if there is such a slot.
+    pub fn set_next(&mut self, index: u64, next: Option<SlotRef>)
+        ensures { self.new ≡ edited (λ slot. record slot { links = record slot.links { next = next } }) self.old index }
+    {
+        if let Some(slot) = self.items.get_mut(index as usize) {
+            slot.links.next = next;
+        }
+    }
+
+    /// Says which sibling the slot at the index follows, if there is such a slot.
+    pub fn set_previous(&mut self, index: u64, previous: Option<SlotRef>)
+        ensures { self.new ≡ edited (λ slot. record slot { links = record slot.links { previous = previous } }) self.old index }
+    {
+        if let Some(slot) = self.items.get_mut(index as usize) {
+            slot.links.previous = previous;
+        }
+    }
+
+    /// Says whose child the slot at the index is, if there is one, and which sibling follows it. It follows none.
+    pub fn set_under(&mut self, index: u64, parent: Option<SlotRef>, next: Option<SlotRef>)
+        ensures { self.new ≡ edited (λ slot. record slot { links = record slot.links { parent = parent; next = next; previous = None } }) self.old index }
+    {
+        if let Some(slot) = self.items.get_mut(index as usize) {
+            slot.links.parent = parent;
+            slot.links.next = next;
+            slot.links.previous = None;
+        }
+    }
+
+    // For which object the capability in the slot at the index is, if there is one.
+    fn object_at(&self, index: u64) -> Option<ObjId>
+        ensures { result ≡ option_map (λ cap. cap.object) (cap_in (slice_get self.now index)) }
+    {
+        Some(self.get(index)?.cap.as_ref()?.object)
+    }
+
+    /// Empties the slot at the index, if there is one, and tells for which object its capability was.
+    pub fn empty_at(&mut self, index: u64) -> Option<ObjId>
+        ensures value { result ≡ option_map (λ cap. cap.object) (cap_in (slice_get self.old index)) }
+        ensures emptied { self.new ≡ edited (λ slot. record slot { cap = None }) self.old index }
+    {
+        let object = self.object_at(index);
+        self.set_cap(index, None);
+        object
     }
 }

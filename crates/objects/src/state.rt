@@ -51,7 +51,8 @@ impl State {
     ghost use Rattle.machine.specs.{Counts.threads_in, Machine.{cap_of, empty_machine, has_slot, object_of, parent_of, with_cap, with_new}};
     ghost use Rattle.machine.specs.{Machine.{with_object, with_parent, without_cap, without_parent, words_of}, Objects.slot_count};
     ghost use Rattle.machine.specs.{Objects.thread_count, Tree.{IsAlone, IsRanked}, WellFormed.Descends};
-    ghost use Rattle.objects.specs.{Pairs.{AreFilled, AreFilledOrGoing, IsFilledOrGoing, MayEmpty}, Waiting.{WaitsNowhere, WaitsThere}};
+    ghost use Rattle.objects.specs.{Pairs.{AreFilled, AreFilledOrGoing, IsFilledOrGoing, MayEmpty}, Roots.root_cap};
+    ghost use Rattle.objects.specs.Waiting.{WaitsNowhere, WaitsThere};
 
     /// A state with no objects, which takes its memory from the allocator.
     pub fn new(alloc: Global) -> State
@@ -159,6 +160,13 @@ impl State {
         self.store.held(slot)
     }
 
+    /// The capability in a thread's root slot, where it is; none where that slot is empty or the object is no thread.
+    pub fn root(&self, thread: ObjId) -> Option<&Cap>
+        ensures { option_copied result ≡ root_cap self.now thread }
+    {
+        self.store.root(thread)
+    }
+
     /// The slot whose capability that in this one was derived from, if it was derived (seL4 manual,
     /// "Capability Derivation Tree").
     pub fn parent(&self, slot: SlotRef) -> Option<SlotRef>
@@ -246,9 +254,8 @@ impl State {
         requires object { IsSome (object_of self.old cap.object) }
         ensures { self.new ≡ with_cap self.old slot cap }
     {
-        let count = self.cap_count(cap.object);
         self.store.set_cap(slot, Some(cap));
-        self.store.set_caps(cap.object, count + 1);
+        self.store.count_more(cap.object);
     }
 
     /// Empties the slot, which is in no pair of the derivation tree, or whose holder is going: then it keeps
@@ -257,10 +264,8 @@ impl State {
         requires { MayEmpty self.old slot }
         ensures { self.new ≡ without_cap self.old slot }
     {
-        if let Some(&cap) = self.held(slot) {
-            let count = self.cap_count(cap.object);
-            self.store.set_cap(slot, None);
-            self.store.set_caps(cap.object, count - 1);
+        if let Some(object) = self.store.empty_slot(slot) {
+            self.store.count_less(object);
         }
     }
 

@@ -6,7 +6,7 @@ use crate::entry::{Entry, new_entries};
 use crate::links::{Ends, Standing, TreeLinks};
 use crate::numbers::{Places, no_places};
 use crate::places;
-use crate::slots::{Slot, SlotChange};
+use crate::slots::Slot;
 use base::{ObjId, SlotRef};
 use machine::{Cap, Object};
 use slab::Slab;
@@ -44,12 +44,12 @@ impl Model for Store {
 
 impl Store {
     ghost use Rattle.std.specs.FinMap as finite;
-    ghost use Rattle.std.specs.{List.AllByRecursion, Prelude.{◌+◌, ◌≤◌, length, map, slice_get}};
+    ghost use Rattle.std.specs.{List.AllByRecursion, Prelude.{◌+◌, ◌-◌, ◌<◌, ◌^◌, ◌≤◌, length, map, slice_get}};
     ghost use Rattle.base.specs.declared.limits.TheConstants.{OBJECT_NUMBERS};
     ghost use Rattle.objects.specs.Entries.{caps_in, entry_of, new_entry, replace_in, set_caps_in, set_ends_in, set_standing_in};
-    ghost use Rattle.objects.specs.{Entries.{set_word_in, slot_at, with_entry, with_more}, Family.{after, attached, cap_in, detached}};
+    ghost use Rattle.objects.specs.{Entries.{set_word_in, slot_at, with_entry, with_more}, Family.{attached, cap_in, detached}};
     ghost use Rattle.objects.specs.{Family.{leaving, links_at, parent_in, with_links, with_slot}, Links.{pushed, quitted, standing_of}};
-    ghost use Rattle.objects.specs.{Links.with_standing, Radices.HasRadix};
+    ghost use Rattle.objects.specs.{Links.with_standing, Radices.HasRadix, Roots.root_in};
 
     /// No entries.
     pub fn new(alloc: Global) -> Store
@@ -95,6 +95,13 @@ impl Store {
         ensures { option_copied result ≡ cap_in (slot_at (entry_of self.now) at) }
     {
         self.slot(at)?.cap.as_ref()
+    }
+
+    /// What the root slot of the thread holds.
+    pub fn root(&self, thread: ObjId) -> Option<&Cap>
+        ensures { option_copied result ≡ root_in (entry_of self.now thread) }
+    {
+        self.entry(thread)?.root()
     }
 
     /// The parent of the slot.
@@ -165,18 +172,29 @@ impl Store {
         }
     }
 
-    #[inline]
-    fn change(&mut self, at: SlotRef, change: SlotChange)
-        ensures { self.new ≡ with_slot self.old at (after change) }
-    {
-        places::change_slot(&self.places, &mut self.entries, at, change);
-    }
-
     /// Says what the slot holds, if it is there.
     pub fn set_cap(&mut self, at: SlotRef, cap: Option<Cap>)
         ensures { self.new ≡ with_slot self.old at (λ slot. record slot { cap = cap }) }
     {
-        self.change(at, SlotChange::Cap(cap));
+        places::set_cap(&self.places, &mut self.entries, at, cap);
+    }
+
+    fn put_first(&mut self, at: SlotRef, first: Option<SlotRef>)
+        ensures { self.new ≡ with_links self.old (Some at) (λ l. record l { first = first }) }
+    {
+        places::set_first(&self.places, &mut self.entries, at, first);
+    }
+
+    fn put_next(&mut self, at: SlotRef, next: Option<SlotRef>)
+        ensures { self.new ≡ with_links self.old (Some at) (λ l. record l { next = next }) }
+    {
+        places::set_next(&self.places, &mut self.entries, at, next);
+    }
+
+    fn put_previous(&mut self, at: SlotRef, previous: Option<SlotRef>)
+        ensures { self.new ≡ with_links self.old (Some at) (λ l. record l { previous = previous }) }
+    {
+        places::set_previous(&self.places, &mut self.entries, at, previous);
     }
 
     // Says which the slot's first child is, if a slot is named.
@@ -184,7 +202,7 @@ impl Store {
         ensures { self.new ≡ with_links self.old at (λ l. record l { first = first }) }
     {
         if let Some(at) = at {
-            self.change(at, SlotChange::First(first));
+            self.put_first(at, first);
         }
     }
 
@@ -193,7 +211,7 @@ impl Store {
         ensures { self.new ≡ with_links self.old at (λ l. record l { next = next }) }
     {
         if let Some(at) = at {
-            self.change(at, SlotChange::Next(next));
+            self.put_next(at, next);
         }
     }
 
@@ -202,7 +220,7 @@ impl Store {
         ensures { self.new ≡ with_links self.old at (λ l. record l { previous = previous }) }
     {
         if let Some(at) = at {
-            self.change(at, SlotChange::Previous(previous));
+            self.put_previous(at, previous);
         }
     }
 
@@ -211,7 +229,7 @@ impl Store {
         ensures { self.new
             ≡ with_links self.old (Some at) (λ l. record l { parent = parent; next = next; previous = None }) }
     {
-        self.change(at, SlotChange::Under(parent, next));
+        places::set_under(&self.places, &mut self.entries, at, parent, next);
     }
 
     /// Puts a slot that has no parent before the children of another.
@@ -258,11 +276,28 @@ impl Store {
         places::set_word(&self.places, &mut self.entries, id, index, word);
     }
 
-    /// Says how many capabilities there are for the object, if it is present.
-    pub fn set_caps(&mut self, id: ObjId, caps: u64)
-        ensures { self.new ≡ with_entry self.old id (set_caps_in caps) }
+    /// Counts one capability more for the object, if it is present.
+    pub fn count_more(&mut self, id: ObjId)
+        requires { caps_in (entry_of self.old id) + 1 < 2 ^ 64 }
+        ensures { self.new ≡ with_entry self.old id (set_caps_in (caps_in (entry_of self.old id) + 1)) }
     {
-        places::set_caps(&self.places, &mut self.entries, id, caps);
+        places::count_more(&self.places, &mut self.entries, id);
+    }
+
+    /// Counts one capability less for the object, if it is present.
+    pub fn count_less(&mut self, id: ObjId)
+        requires { 1 ≤ caps_in (entry_of self.old id) }
+        ensures { self.new ≡ with_entry self.old id (set_caps_in (caps_in (entry_of self.old id) - 1)) }
+    {
+        places::count_less(&self.places, &mut self.entries, id);
+    }
+
+    /// Empties the slot, if it is there, and tells for which object its capability was.
+    pub fn empty_slot(&mut self, at: SlotRef) -> Option<ObjId>
+        ensures value { result ≡ option_map (λ cap. cap.object) (cap_in (slot_at (entry_of self.old) at)) }
+        ensures emptied { self.new ≡ with_slot self.old at (λ slot. record slot { cap = None }) }
+    {
+        places::empty_slot(&self.places, &mut self.entries, at)
     }
 
     fn set_ends(&mut self, id: ObjId, ends: Ends)

@@ -1,15 +1,17 @@
 -- A change through `get_mut` edits the one slot.
 use Rattle.std.proofs.{Common.{arith, refl, sym}, lemmas.Bool.false≢true}
-use Rattle.objects.{specs.Family.after, proofs.{EditLemmas.{edited_past, edited_within}, slots.Slots.change.Goals.{in-Some, in_default}}}
-use Rattle.objects.proofs.slots.Slots.change.Goals as goal
+use Rattle.objects.specs.declared.slots.Slot.{Slot}
+use Rattle.objects.proofs.{EditLemmas.{edited_past, edited_within}, slots.Slots.set_cap.Goals.{in-Some, in_default}}
+use Rattle.objects.proofs.slots.Slots.set_cap.Goals as goal
 
 pub returns : goal.returns
 returns c =
     elim c.match-get_mut.branch [
       | in-Some w ↦
-          rw (w.self-inside-is, w.take.ensures, ← c.self.view_is)
+          rw (w.self-inside-is, ← c.self.view_is)
           (sym
-          (edited_within (after c.args.change) w.in-Some.slot.now c.self.inside.items.items c.args.index
+          (edited_within (λ (slot : Slot). record slot { cap = c.args.cap })
+          w.in-Some.slot.now c.self.inside.items.items c.args.index
           (omega (arith, w.in-Some.ensures.variant.0 refl)) w.in-Some.ensures.value))
       | in_default w ↦
           rw (w.self-inside-is, ← c.self.view_is)
