@@ -2,7 +2,7 @@
 -- is listed.
 use Rattle.std.specs.{Cmp.unsigned_tied, List.list_any, Map.lookup, Prelude.{◌||◌, IsSome, None, Option, Some, is_some, nat_eq, option_map}}
 use Rattle.std.specs.HashMap as hash
-use Rattle.std.{specs.Prelude.slice_get, proofs.Common.{[], ℕ, ◌+◌, ◌∙◌, ◌∷◌, ◌≡◌, ◌≢◌, Bool, List, ap, arith, cond, eq-eqb, false, length}}
+use Rattle.std.{specs.Prelude.slice_get, proofs.Common.{[], ℕ, ◌++◌, ◌+◌, ◌∙◌, ◌∷◌, ◌≡◌, ◌≢◌, Bool, List, ap, arith, cond, eq-eqb, false, length}}
 use Rattle.std.proofs.{Common.{map, refl, replicate, suc, sym, true, zero}, lemmas.{Bool.false≢true, List.{map-append, nil_from_length}}}
 use Rattle.std.proofs.lemmas.List.Folds.{list_any-append}
 use Rattle.base.specs.declared.ids.ObjId.{ObjId}
@@ -35,12 +35,21 @@ pub unplaced : (places : Places) → places.early ≡ [] → places.late.entries
 unplaced places early late a =
     ap (λ xs. from_either (slice_get xs a) (lookup (nat_eq a) places.late.entries)) early ∙ ap (λ es. lookup (nat_eq a) es) late
 
-pub begun :
-    (places : Places) (count number : ℕ) → places.early ≡ [] → length places.late.entries ≡ 0
-    → from_either (slice_get (replicate count None) number) (hash.get nat_eq places.late number) ≡ places_in places number
-begun places count number early none =
-    let late = nil_from_length places.late.entries none in
-    nothing_early count number _ (ap (λ es. lookup (nat_eq number) es) late) ∙ sym (unplaced places early late number)
+-- where nothing is hashed, a table that comes to have more numbers tells the same of each
+widened_early :
+    (early : List (Option ℕ)) (count number : ℕ) (late : Option ℕ) → late ≡ None
+    → from_either (slice_get (early ++ replicate count None) number) late ≡ from_either (slice_get early number) late
+widened_early [] count number late none = nothing_early count number late none ∙ sym none
+widened_early (place ∷ early) count zero late none = refl
+widened_early (place ∷ early) count (suc number) late none = widened_early early count number late none
+
+pub widened :
+    (places : Places) (count number : ℕ) → length places.late.entries ≡ 0
+    → from_either (slice_get (places.early ++ replicate count None) number) (hash.get nat_eq places.late number)
+    ≡ places_in places number
+widened places count number none =
+    widened_early places.early count number _
+    (ap (λ es. lookup (nat_eq number) es) (nil_from_length places.late.entries none))
 
 -- a number in use is listed: among the first
 

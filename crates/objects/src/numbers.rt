@@ -1,12 +1,15 @@
 //! From the number of an object to the place of its entry.
 ghost use Rattle.std.specs.HashMap as hash;
-ghost use Rattle.std.specs.Prelude.{[], ℕ, ◌+◌, ◌≡◌, ◌≢◌, ◌≤◌, IfOk, IsTrue, None, OnOk, Some, nat_eq, replicate, slice_get};
+ghost use Rattle.std.specs.Prelude.{[], ℕ, ◌++◌, ◌+◌, ◌-◌, ◌<◌, ◌≡◌, ◌≢◌, ◌≤◌, None, OnErr, OnOk, Some, length, nat_eq, replicate, slice_get};
 ghost use Rattle.objects.specs.{Edits.edited, Places.places_in};
 
 use base::MAX_OBJECTS;
 use std::alloc::{AllocError, Global};
 use std::collections::HashMap;
 use std::marker::Model;
+
+/// How many numbers have a table at most: 16 bytes each.
+const WIDEST: u64 = 1 << 20;
 
 /// The place of each number from 0 on, for so many numbers; none of a number that isn't in use.
 #[derive(Drop)]
@@ -34,20 +37,20 @@ impl Table {
         }
     }
 
-    /// For so many numbers, none in use.
-    pub fn unused(alloc: Global, count: usize) -> Result<Table, AllocError>
-        ensures { IfOk result (λ table. table ≡ replicate count None) }
+    /// For how many numbers it is.
+    pub fn len(&self) -> usize
+        ensures { result ≡ length self.now }
     {
-        let mut items = Vec::new(alloc);
-        items.resize(count, None)?;
-        Ok(Table { items })
+        self.items.len()
     }
 
-    /// Whether it is for no numbers.
-    pub fn is_empty(&self) -> bool
-        ensures { IsTrue result → self.now ≡ [] }
+    /// Makes it for so many numbers in all, if it is for fewer: those that come to it aren't in use.
+    pub fn widen(&mut self, count: usize) -> Result<(), AllocError>
+        requires { length self.old ≤ count }
+        ensures widened { OnOk result (self.new ≡ self.old ++ replicate (count - length self.old) None) }
+        ensures same { OnErr result (self.new ≡ self.old) }
     {
-        self.items.is_empty()
+        self.items.resize(count, None)
     }
 
     /// The place of the number, if the table is for it.
@@ -67,8 +70,8 @@ impl Table {
     }
 }
 
-/// The places of the numbers in use. The first numbers have a table, so that the objects of a table of capabilities are found at once;
-/// those after them are hashed.
+/// The places of the numbers in use. The first numbers have a table, so that the objects of a table of capabilities are found at once,
+/// and many that are made later; those after them are hashed.
 #[derive(Drop)]
 pub struct Places {
     pub early: Table,
@@ -105,14 +108,29 @@ pub fn late_place_of(late: &HashMap<u64, usize>, number: u64) -> Option<usize>
     late.get(&number).copied()
 }
 
-/// Makes the table of the first numbers, where no number was in use before.
-pub fn begin(alloc: Global, places: &mut Places) -> Result<(), AllocError>
-    ensures { (number : ℕ) → places_in places.new number ≡ places_in places.old number }
+/// Makes the table wide enough for the number, at least twice as wide as it was, unless the number is too high for it or a number is
+/// hashed already.
+///
+/// No place has changed, even on an error.
+#[tactic(auto, using(crate::proofs::NumberLemmas::widened))]
+pub fn widen(places: &mut Places, number: u64) -> Result<(), AllocError>
+    ensures { (other : ℕ) → places_in places.new other ≡ places_in places.old other }
 {
-    if places.early.is_empty() && places.late.is_empty() {
-        places.early = Table::unused(alloc, MAX_OBJECTS)?;
+    let len = places.early.len();
+    if number >= WIDEST || number < len as u64 || !places.late.is_empty() {
+        return Ok(());
     }
-    Ok(())
+    places.early.widen(width_for(len, number as usize))
+}
+
+// How many numbers a table of so many comes to be for, so that it is for the number too.
+fn width_for(len: usize, number: usize) -> usize
+    requires { number < WIDEST }
+    ensures { (len ≤ result) × (number < result) }
+{
+    len.max(MAX_OBJECTS)
+        .max(number + 1)
+        .max(len.saturating_mul(2).min(WIDEST as usize))
 }
 
 /// Makes room for so many more numbers.

@@ -6,11 +6,11 @@ ghost use Rattle.objects.specs.Places.{AddsEntry, HasRoom, RemovesEntry, SameEnt
 
 use crate::entry::Entry;
 use crate::links::{Ends, Standing};
-use crate::numbers::{Places, begin, late_place_of, make_room, place_of, set_place, take_place};
+use crate::numbers::{Places, late_place_of, make_room, place_of, set_place, take_place, widen};
 use base::{ObjId, SlotRef};
 use machine::{Cap, Object};
 use slab::Slab;
-use std::alloc::{AllocError, Global};
+use std::alloc::AllocError;
 
 /// The object's entry.
 pub fn entry<'a>(places: &Places, entries: &'a Slab<Entry>, id: ObjId) -> Option<&'a Entry>
@@ -174,19 +174,19 @@ pub fn empty_slot(places: &Places, entries: &mut Slab<Entry>, at: SlotRef) -> Op
     entries.get_mut(place)?.slots.empty_at(at.index)
 }
 
-/// Makes room for so many more entries.
+/// Makes room for so many more entries, under numbers from a first on.
 ///
 /// No entry has changed, even on an error.
 pub fn reserve(
-    alloc: Global,
     places: &mut Places,
     entries: &mut Slab<Entry>,
+    first: u64,
     count: usize,
 ) -> Result<(), AllocError>
     ensures same { SameEntries (places_in places.old) (places_in places.new) entries.old entries.new }
     ensures room { OnOk result (HasRoom places.new entries.new count) }
 {
-    begin(alloc, places)?;
+    widen(places, first.saturating_add(count as u64))?;
     make_room(places, count)?;
     entries.reserve(count)
 }

@@ -394,7 +394,7 @@ impl Store {
         ensures err { OnErr result (self.new ≡ self.old) }
     {
         let made = new_entries(self.alloc, objects)?;
-        places::reserve(self.alloc, &mut self.places, &mut self.entries, made.len())?;
+        places::reserve(&mut self.places, &mut self.entries, first, made.len())?;
         let mut number = first;
         for entry in made {
             places::add_reserved(&mut self.places, &mut self.entries, number, entry);
