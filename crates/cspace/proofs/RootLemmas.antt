@@ -5,8 +5,18 @@ use Rattle.base.specs.declared.{ids.{ObjId.ObjId, SlotRef.SlotRef}, refusal.{Cau
 use Rattle.base.specs.declared.refusal.Cause.TheVariants as cause
 use Rattle.base.specs.declared.refusal.LookupFailure.TheVariants.{InvalidRoot}
 use Rattle.machine.specs.{declared.object.Object.{Object, Object as o}, Bits.bits, Lookup.{Level, counted, lookup_of, walk}}
-use Rattle.machine.specs.Machine.{Machine, object_of}
+use Rattle.machine.specs.{Lookup.{level_at, level_of_cap, root_of}, Machine.{Machine, cap_of, object_of}}
+use Rattle.objects.specs.Roots.{held_by_thread, root_cap}
 use Rattle.cspace.{specs.{Roots.{level_of_root, root_level}, Strings.place_shown}, proofs.BitLemmas.length-bits}
+
+-- the root of a thread is the CNode that the capability in its root slot shows
+pub root_level_by_cap : (m : Machine) (thread : ObjId) → level_of_cap m (root_cap m thread) ≡ root_level m thread
+unfolding level_at
+root_level_by_cap m thread = by_object (object_of m thread) where
+  by_object :
+      (object : Option Object) → level_of_cap m (held_by_thread object (cap_of m (root_of thread))) ≡ level_of_root m thread object
+  by_object (Some (o.Tcb thread')) = refl
+  by_object _ = refl
 
 -- a thread without a root
 pub lookup_of-none :

@@ -16,4 +16,4 @@ pub use find::{
 };
 pub use level::Level;
 pub use target::{lookup_target, resolve_target, target_below};
-pub use walk::{level_at, lookup, resolve};
+pub use walk::{level_at, level_of_cap, lookup, resolve};

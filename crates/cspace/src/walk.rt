@@ -1,20 +1,18 @@
-ghost use Rattle.std.specs.{Option.option_map, Prelude.{ℕ, ◌<◌, ◌↔◌, ◌≡◌, ◌≢◌, ◌≤◌, ◌⊎◌, IfErr, IfOk, IsErrAnd}};
+ghost use Rattle.std.specs.{Option.option_map, Prelude.{ℕ, ◌<◌, ◌↔◌, ◌≡◌, ◌≢◌, ◌≤◌, ◌⊎◌, IfErr, IfOk, IsErrAnd, Some}};
 ghost use Rattle.base.specs.declared.{ids.SlotRef.SlotRef as Slot, refusal.Cause.TheVariants.FailedLookup};
 ghost use Rattle.base.specs.{declared.refusal.LookupFailure.{LookupFailure as Failure, TheVariants.MissingCapability}, Refusals.refusal_of};
-ghost use Rattle.machine.specs.{Bits.bits, Lookup.{level_at, lookup_of, walk}};
+ghost use Rattle.machine.specs.{Bits.bits, Lookup.{level_at, level_of_cap, lookup_of, walk}};
 ghost use Rattle.cspace.specs.{Chain.{Fails, Finds}, Roots.root_level, Strings.{level_shown, place_shown}};
 
 use crate::level::Level;
 use base::{Cause, LookupFailure, ObjId, Refusal, SlotRef};
-use machine::{Detail, Object};
+use machine::{Cap, Detail, Object};
 use objects::State;
 
-/// The CNode whose capability the slot holds.
-#[tactic(auto, unfolding(machine::specs::Lookup::level_at))]
-pub fn level_at(state: &State, slot: SlotRef) -> Option<Level>
-    ensures { option_map level_shown result ≡ level_at state.now slot }
+/// The CNode that a capability shows, if it is a CNode's.
+pub fn level_of_cap(state: &State, cap: &Cap) -> Option<Level>
+    ensures { option_map level_shown result ≡ level_of_cap state.now (Some cap.now) }
 {
-    let cap = state.held(slot)?;
     let Detail::CNode(guard) = cap.detail else {
         return None;
     };
@@ -28,20 +26,22 @@ pub fn level_at(state: &State, slot: SlotRef) -> Option<Level>
     })
 }
 
+/// The CNode whose capability the slot holds.
+#[tactic(auto, unfolding(machine::specs::Lookup::level_at))]
+pub fn level_at(state: &State, slot: SlotRef) -> Option<Level>
+    ensures { option_map level_shown result ≡ level_at state.now slot }
+{
+    let cap = state.held(slot)?;
+    level_of_cap(state, cap)
+}
+
 /// The CNode at a thread's root, if the number is a thread's.
+#[tactic(auto, using(crate::proofs::RootLemmas::root_level_by_cap))]
 fn root_level(state: &State, thread: ObjId) -> Option<Level>
     ensures { option_map level_shown result ≡ root_level state.now thread }
 {
-    let Some(Object::Tcb(_)) = state.object(thread) else {
-        return None;
-    };
-    level_at(
-        state,
-        SlotRef {
-            holder: thread,
-            index: 0,
-        },
-    )
+    let cap = state.root(thread)?;
+    level_of_cap(state, cap)
 }
 
 /// The slot where the low `left` bits of an address end, from a CNode on, and how many bits are left
