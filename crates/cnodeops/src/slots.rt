@@ -5,7 +5,7 @@ ghost use Rattle.cspace.specs.Strings.{level_shown};
 ghost use Rattle.cnodeops.specs.Below.{source_below};
 
 use base::{Cause, LookupFailure, ObjId, SlotRef};
-use cspace::{Level, find_cap, level_at, resolve, resolve_target, target_below};
+use cspace::{Level, level_at, level_of_cap, resolve, target_below};
 use machine::{Cap, Detail, Ends, SlotAddress};
 use objects::State;
 
@@ -24,13 +24,19 @@ fn of_cnode(detail: &Detail) -> Result<(), Cause>
 /// # Errors
 ///
 /// Those of the look-up, and that what is named as the root is no CNode's capability.
-#[tactic(auto, unfolding(machine::specs::Step::Target::target_of))]
+#[tactic(auto, unfolding(machine::specs::Lookup::level_at, machine::specs::Step::Find::find_cap, machine::specs::Step::Target::target_of, machine::specs::Step::Target::lookup_target_of, cspace::specs::Below::target_below))]
 pub fn target(state: &State, caller: ObjId, address: SlotAddress) -> Result<SlotRef, Cause>
     ensures { result ≡ target_of state.now caller address }
 {
-    let (slot, cap) = find_cap(state, caller, address.root)?;
-    of_cnode(&cap.detail)?;
-    resolve_target(state, slot, address.index, address.depth)
+    let (node, _) = resolve(state, caller, address.root)?;
+    let Some(root) = state.held(node) else {
+        return Err(Cause::InvalidCapability);
+    };
+    of_cnode(&root.detail)?;
+    let Some(level) = level_of_cap(state, root) else {
+        return Err(Cause::FailedLookup(LookupFailure::InvalidRoot));
+    };
+    target_below(state, &level, address.index, address.depth)
 }
 
 /// Refuses to fill a slot that is filled, where this is what it holds (seL4 manual,
@@ -90,7 +96,7 @@ fn source(
 }
 
 /// The slots that a caller names to fill one from the other.
-#[tactic(auto, unfolding(machine::specs::Step::Find::find_cap, machine::specs::Step::Target::ends_of, machine::specs::Step::Target::target_of, machine::specs::Step::Target::lookup_target_of, cspace::specs::Below::target_below))]
+#[tactic(auto, unfolding(machine::specs::Lookup::level_at, machine::specs::Step::Find::find_cap, machine::specs::Step::Target::ends_of, machine::specs::Step::Target::target_of, machine::specs::Step::Target::lookup_target_of, cspace::specs::Below::target_below))]
 pub fn ends(state: &State, caller: ObjId, to: SlotAddress, from: SlotAddress) -> Result<Ends, Cause>
     ensures { result ≡ ends_of state.now caller to from }
 {
@@ -99,7 +105,7 @@ pub fn ends(state: &State, caller: ObjId, to: SlotAddress, from: SlotAddress) ->
         return Err(Cause::InvalidCapability);
     };
     of_cnode(&root.detail)?;
-    let Some(level) = level_at(state, node) else {
+    let Some(level) = level_of_cap(state, root) else {
         return Err(Cause::FailedLookup(LookupFailure::InvalidRoot));
     };
     let target = target_below(state, &level, to.index, to.depth)?;
