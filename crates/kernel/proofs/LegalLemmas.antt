@@ -2,14 +2,16 @@
 -- one machine.
 use Rattle.std.{specs.{List.{All, zip}, Prelude.{Option, is_some, length, map, not, slice_get, take}}, proofs.Common.{[], ℕ, ◌++◌, ◌<◌}}
 use Rattle.std.proofs.Common.{◌∙◌, ◌∷◌, ◌≡◌, ◌≢◌, ◌⊎◌, Bool, Err, List, None, Ok, Result, Some, ap, arith, inl, inr, refl, subst, suc, sym}
-use Rattle.std.proofs.{Common.zero, Math.Seq.take-length, lemmas.{Bool.cases_order, List.map_push, Option.{same_Some, slice_get_within}}}
+use Rattle.std.proofs.{Common.{zero, ◌+◌}, Math.{Nat.le_refl, Seq.take-length}, lemmas.{Bool.cases_order, List.{map_push, take_more}}}
+use Rattle.std.proofs.lemmas.Option.{get_or_from_slice_get, same_Some, slice_get_within}
 use Rattle.base.specs.{declared.refusal.{Cause.Cause, Refusal.Refusal}, Refusals.{out_of_memory, refusal_of}}
 use Rattle.base.proofs.CauseLemmas.{cause_no_memory}
 use Rattle.machine.specs.{declared.call.{Event.Event, Made.Made, Outcome.{Outcome, TheVariants.Refused}}, Machine.Machine}
-use Rattle.machine.{specs.{Outcomes.IsRefused, Step.{LacksMemory, Step, made_by, takes_memory, Step.lacks}}, proofs.Steps.Ended}
+use Rattle.machine.{specs.{Outcomes.IsRefused, Run.Run, Step.{LacksMemory, Step, made_by, step_of, takes_memory, Step.{ends, lacks}}}, proofs.Steps.Ended}
 use Rattle.machine.proofs.Steps.{refused_changes_nothing, refused_steps, runs_end, steps_agree}
 use Rattle.untyped.specs.Making.{refusal_in}
-use Rattle.kernel.{specs.{Legal.{Entry, Follows, Leads, StopsAt}, Refusals.lasting_refusal}, proofs.RunLemmas.run_further}
+use Rattle.kernel.specs.Legal.{Entry, Follows, IsLack, IsLeftAt, IsReachedIn, LacksMemoryIn, Leads, StopsAt, next_of}
+use Rattle.kernel.{specs.Refusals.lasting_refusal, proofs.RunLemmas.run_further}
 
 -- of a call that takes memory, what it is refused in any case is what its row says
 lasting_is : (m : Machine) (event : Event) → takes_memory event.call ≡ Bool.true → lasting_refusal m event ≡ refusal_in (made_by m event)
@@ -68,6 +70,22 @@ not_lacking m event refusal takes some next step =
       by (inr (inl lack)) = refused_lacks_none m event (Refused refusal) m refusal (made_by m event) refl row lack
       by (inr (inr lack)) = refused_lacks_none m event (Refused out_of_memory) next refusal (made_by m event) refl row lack
 
+-- the step of a call that lacked no memory is the one that its event makes where there is memory
+pub with_memory :
+    (m : Machine) (event : Event) (came : Outcome) (next : Machine) → Step m event came next → ¬ (IsLack event came)
+    → next ≡ next_of m event
+with_memory m event came next (ends is) memory = sym (ap (λ (step : Outcome × Machine). step.1) is)
+with_memory m event came next (lacks lack) memory = absurd (memory (lack.takes, lack.refused))
+
+-- and so is a refusal that comes in any case
+refused_next :
+    (m : Machine) (event : Event) (refusal : Refusal) → takes_memory event.call ≡ Bool.true
+    → lasting_refusal m event ≡ Some refusal → m ≡ next_of m event
+refused_next m event refusal takes some =
+    let row : refusal_in (made_by m event) ≡ Some refusal = sym (lasting_is m event takes) ∙ some in
+    with_memory m event (Refused refusal) m (is_refused m event refusal takes some)
+    (λ lack. refused_lasts refusal (made_by m event) row (cc (lack.1)))
+
 -- so it may end for want of memory exactly where it isn't refused in any case
 pub follows_lack :
     (m : Machine) (event : Event) (refusal : Option Refusal) (lacking : Bool) → takes_memory event.call ≡ Bool.true
@@ -75,7 +93,8 @@ pub follows_lack :
 follows_lack m event None Bool.true takes is told = may_lack m event takes is
 follows_lack m event None Bool.false takes is told = cc
 follows_lack m event (Some refusal) Bool.true takes is told = cc
-follows_lack m event (Some refusal) Bool.false takes is told = not_lacking m event refusal takes is
+follows_lack m event (Some refusal) Bool.false takes is told =
+    (not_lacking m event refusal takes is, refused_next m event refusal takes is)
 
 -- a step that lacked memory, and one with the same outcome, leave the machine as it was
 lacking_agree :
@@ -150,3 +169,60 @@ pub legal_ends : (first last : Machine) (entries : List Entry) → Leads first e
 legal_ends first last entries ran =
     subst (All Ended) (zipped entries)
     (runs_end first (map (λ (e : Entry). e.0) entries) (map (λ (e : Entry). e.1) entries) last ran)
+
+-- how the machine stands where a log stops, or lacks memory: it is reached by the log's events
+
+-- an event that isn't the step that its entry tells came to something else
+pub stops :
+    (first last next : Machine) (entries : List Entry) (at : ℕ) (entry : Entry) → slice_get entries at ≡ Some entry
+    → Leads first (take at entries) last → Follows last entry.0 entry.1 next Bool.false
+    → (stop : StopsAt first entries at) × (next ≡ next_of stop.last stop.entry.0)
+stops first last next entries at entry here led follows =
+    (record { entry = entry; here = here; last = last; led = led; stuck = follows.0 }, follows.1)
+
+-- what an event makes where there is memory is a step
+makes_next : (m : Machine) (event : Event) (next : Machine) → next ≡ next_of m event → Step m event (step_of m event).0 next
+makes_next m event next is = subst (λ (after : Machine). Step m event (step_of m event).0 after) (sym is) (ends refl)
+
+-- the events before an entry, and its own
+reached_by_one :
+    (first last next : Machine) (entries : List Entry) (at : ℕ) (entry : Entry) (came : Outcome) → slice_get entries at ≡ Some entry
+    → Leads first (take at entries) last → Step last entry.0 came next → IsReachedIn first entries next
+reached_by_one first last next entries at entry came here led step =
+    let within : at < length entries = slice_get_within entries at entry here in
+    let more : take (at + 1) entries ≡ take at entries ++ entry ∷ [] =
+    take_more entries at entry within ∙ ap (λ (x : Entry). take at entries ++ x ∷ []) (get_or_from_slice_get entries at entry entry here) in
+    let events : List Entry → List Event = map (λ (e : Entry). e.0) in
+    let outcomes : List Outcome = map (λ (e : Entry). e.1) (take at entries) ++ came ∷ [] in
+    let ran : Run first (events (take at entries) ++ entry.0 ∷ []) outcomes next =
+    run_further first (events (take at entries)) (map (λ (e : Entry). e.1) (take at entries)) last entry.0 came next led step in
+    record {
+      count = at + 1;
+      within = omega (arith, within);
+      outcomes = outcomes;
+      ran = rw (more, map_push (λ (e : Entry). e.0) (take at entries) entry) ran;
+    }
+
+pub left_is_reached :
+    (first last : Machine) (entries : List Entry) (result : Result (Option ℕ) Refusal) → IsLeftAt first entries last result
+    → IsReachedIn first entries last
+left_is_reached first last entries (Ok None) led =
+    record {
+      count = length entries;
+      within = le_refl (length entries);
+      outcomes = map (λ (e : Entry). e.1) entries;
+      ran = subst (λ (es : List Entry). Run first (map (λ (e : Entry). e.0) es) (map (λ (e : Entry). e.1) entries) last) (sym (take-length entries)) led;
+    }
+left_is_reached first last entries (Ok (Some at)) left =
+    let stop : StopsAt first entries at = left.0 in
+    reached_by_one first stop.last last entries at stop.entry (step_of stop.last stop.entry.0).0 stop.here stop.led
+    (makes_next stop.last stop.entry.0 last left.1)
+left_is_reached first last entries (Err _) left =
+    let lack : LacksMemoryIn first entries = left.0 in
+    let within : lack.at < length entries = slice_get_within entries lack.at lack.entry lack.here in
+    record {
+      count = lack.at;
+      within = omega (arith, within);
+      outcomes = map (λ (e : Entry). e.1) (take lack.at entries);
+      ran = subst (λ (m : Machine). Leads first (take lack.at entries) m) (sym left.1) lack.led;
+    }

@@ -1,8 +1,8 @@
--- Legal logs: their events and outcomes are a run; and where a log stops to be one (confine's own).
-use Rattle.std.specs.Prelude.{ℕ, ◌≡◌, ◌≢◌, Bool, List, Some, map, slice_get, take}
-use Rattle.base.specs.Refusals.{out_of_memory}
+-- Legal logs: their events and outcomes are a run; where a log stops to be one, and how the machine stands there (confine's own).
+use Rattle.std.specs.Prelude.{ℕ, ◌≡◌, ◌≢◌, ◌≤◌, Bool, Err, List, None, Ok, Option, Result, Some, length, map, slice_get, take}
+use Rattle.base.specs.{declared.refusal.Refusal.Refusal, Refusals.out_of_memory}
 use Rattle.machine.specs.{declared.call.{Event.Event, Outcome.{Outcome, TheVariants.Refused}}, Machine.Machine, Run.Run, Step.Step}
-use Rattle.machine.specs.Step.{takes_memory}
+use Rattle.machine.specs.Step.{step_of, takes_memory}
 
 abbrev pub Entry : Type 0
 Entry = Event × Outcome
@@ -19,10 +19,14 @@ pub record StopsAt (first : Machine) (entries : List Entry) (at : ℕ) : Type 0 
   pub led : Leads first (take at entries) last
   pub stuck : (next : Machine) → ¬ (Step last entry.0 entry.1 next)
 
--- the event came to the outcome, or no step of it does
+-- the machine after an event, where there is memory
+abbrev pub next_of : Machine → Event → Machine
+next_of m event = (step_of m event).1
+
+-- the event came to the outcome; or no step of it does, and it came to what it comes to where there is memory
 abbrev pub Follows : Machine → Event → Outcome → Machine → Bool → Type 0
 Follows old event outcome new Bool.true = Step old event outcome new
-Follows old event outcome new Bool.false = (next : Machine) → ¬ (Step old event outcome next)
+Follows old event outcome new Bool.false = ((next : Machine) → ¬ (Step old event outcome next)) × (new ≡ next_of old event)
 
 -- a call that takes memory ended for want of it
 abbrev pub IsLack : Event → Outcome → Type 0
@@ -42,3 +46,17 @@ pub record LacksMemoryIn (first : Machine) (entries : List Entry) : Type 0 where
   pub last : Machine
   pub led : Leads first (take at entries) last
   pub lack : MayLack last entry.0 entry.1
+
+-- how a replay leaves the machine: where all entries lead; after the event of the entry that is no step, which came to something else; or
+-- before the entry that lacks memory
+abbrev pub IsLeftAt : Machine → List Entry → Machine → Result (Option ℕ) Refusal → Type 0
+IsLeftAt first entries last (Ok None) = Leads first entries last
+IsLeftAt first entries last (Ok (Some at)) = (stop : StopsAt first entries at) × (last ≡ next_of stop.last stop.entry.0)
+IsLeftAt first entries last (Err _) = (lack : LacksMemoryIn first entries) × (last ≡ lack.last)
+
+-- the events of the first entries lead there, whatever they come to
+pub record IsReachedIn (first : Machine) (entries : List Entry) (last : Machine) : Type 0 where
+  pub count : ℕ
+  pub within : count ≤ length entries
+  pub outcomes : List Outcome
+  pub ran : Run first (map (λ entry. entry.0) (take count entries)) outcomes last

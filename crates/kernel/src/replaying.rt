@@ -1,8 +1,8 @@
-ghost use Rattle.std.specs.Prelude.{ℕ, ◌≡◌, All, Bool, Decides, IfErr, IfOk, List, MatchOption, take};
+ghost use Rattle.std.specs.Prelude.{ℕ, ◌≡◌, All, Bool, Decides, IfErr, IfOk, List, MatchOption, OnErr, take};
 ghost use Rattle.base.specs.Refusals.{out_of_memory};
 ghost use Rattle.machine.specs.{declared.call.Outcome.TheVariants.Refused, Machine.Machine, Step.{MayEnd, takes_memory}};
 ghost use Rattle.machine.specs.WellFormed.{IsWellFormed};
-ghost use Rattle.kernel.specs.Legal.{Entry, Follows, IsLack, LacksMemoryIn, Leads, MayLack, StopsAt};
+ghost use Rattle.kernel.specs.Legal.{Entry, Follows, IsLack, IsLeftAt, IsReachedIn, LacksMemoryIn, Leads, MayLack, StopsAt};
 
 use crate::calls::{retype_refusal, step};
 use base::Refusal;
@@ -14,13 +14,18 @@ use objects::State;
 ///
 /// A retype that was refused memory is a step that changes nothing, wherever it could be made.
 ///
+/// Where it stops at an entry, the event of that entry was made, and came to something else than is told.
+///
 /// # Errors
 ///
-/// 40, where a retype could be done that the log tells otherwise, and is refused memory here.
+/// 40, where a retype could be done that the log tells otherwise, and is refused memory here. Then the entries
+/// before it were made.
 pub fn replay(state: &mut State, entries: &[(Event, Outcome)]) -> Result<Option<usize>, Refusal>
     requires { IsWellFormed state.old }
     ensures found { IfOk result (λ stop. MatchOption stop (Leads state.old entries.now state.new) (StopsAt state.old entries.now)) }
     ensures ends { IfOk result (λ stop. MatchOption stop (All (λ entry. MayEnd entry.0 entry.1) entries.now) (λ at. All (λ entry. MayEnd entry.0 entry.1) (take at entries.now))) }
+    ensures left { IsLeftAt state.old entries.now state.new result }
+    ensures reached { IsReachedIn state.old entries.now state.new }
     ensures well_formed { IsWellFormed state.new }
     ensures refused { IfErr result (λ refusal. (refusal ≡ out_of_memory) × LacksMemoryIn state.old entries.now) }
 {
@@ -40,6 +45,7 @@ fn follow(state: &mut State, event: &Event, outcome: &Outcome) -> Result<bool, R
     ensures followed { IfOk result (Follows state.old event.now outcome.now state.new) }
     ensures well_formed { IsWellFormed state.new }
     ensures refused { IfErr result (λ refusal. (refusal ≡ out_of_memory) × MayLack state.old event.now outcome.now) }
+    ensures kept { OnErr result (state.new ≡ state.old) }
 {
     if is_lack(event, outcome) {
         return Ok(could_lack(state, event));

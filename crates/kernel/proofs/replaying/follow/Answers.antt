@@ -1,0 +1,10 @@
+use Rattle.std.proofs.Common.{refl, subst, sym}
+use Rattle.machine.specs.declared.call.Outcome.{Outcome}
+use Rattle.kernel.specs.Legal.{Follows}
+use Rattle.kernel.proofs.replaying.follow.Goals as goal
+
+-- the log tells that memory was lacking
+pub returns-then-is_lack-clause-followed : goal.returns-then-is_lack-clause-followed
+returns-then-is_lack-clause-followed c =
+    subst (λ (told : Outcome). Follows c.args.state.now c.args.event.now told c.args.state.now c.could_lack.result)
+    (sym ((c.if-is_lack.ensures.0 refl).1)) c.could_lack.ensures
