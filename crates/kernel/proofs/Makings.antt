@@ -1,5 +1,5 @@
 -- What the code of an event came to is a step: it was made, or refused by a condition or for want of memory.
-use Rattle.std.{specs.Prelude.IsOk, proofs.Common.{◌≡◌, Bool, Err, Ok, Result, ap, refl, subst, sym}}
+use Rattle.std.{specs.Prelude.IsOk, proofs.Common.{◌≡◌, Bool, Err, Ok, Result, refl, subst, sym}}
 use Rattle.base.specs.{declared.refusal.Cause.Cause, Refusals.refusal_of}
 use Rattle.machine.specs.declared.call.{Event.Event, Made.Made, Outcome.TheVariants.Refused, Unmade.{Unmade, Unmade as unmade}}
 use Rattle.machine.specs.{Machine.Machine, Makes.MakesWithMemory, Outcomes.unmade_refusal, Step.{Step, made_by, takes_memory, Step.lacks}}

@@ -25,10 +25,10 @@ use untyped::retype;
 
 // Makes the call of an event, one that takes no memory, once its thread is admitted.
 #[tactic(auto, unfolding(machine::specs::Step::made_by))]
-fn make(state: &mut State, event: Event) -> Result<Made, Cause>
+fn make(state: &mut State, event: &Event) -> Result<Made, Cause>
     requires formed { IsWellFormed state.old }
-    requires without_memory { takes_memory event.call ≡ Bool.false }
-    ensures { Makes state.old state.new result (made_by state.old event) }
+    requires without_memory { takes_memory event.now.call ≡ Bool.false }
+    ensures { Makes state.old state.new result (made_by state.old event.now) }
 {
     admit(state, event.core, event.thread)?;
     match event.call {
@@ -86,12 +86,11 @@ fn make(state: &mut State, event: Event) -> Result<Made, Cause>
 
 // Makes the retype of an event, once its thread is admitted.
 #[tactic(auto, unfolding(machine::specs::Step::made_by))]
-fn make_with_memory(state: &mut State, event: Event) -> Result<Made, Unmade>
+fn make_with_memory(state: &mut State, event: &Event) -> Result<Made, Unmade>
     requires formed { IsWellFormed state.old }
-    requires with_memory { takes_memory event.call ≡ Bool.true }
-    ensures { MakesWithMemory state.old state.new result (made_by state.old event) }
+    requires with_memory { takes_memory event.now.call ≡ Bool.true }
+    ensures { MakesWithMemory state.old state.new result (made_by state.old event.now) }
 {
-    let Event { core, thread, call } = event;
     let Call::Retype {
         untyped,
         kind,
@@ -99,12 +98,13 @@ fn make_with_memory(state: &mut State, event: Event) -> Result<Made, Unmade>
         to,
         offset,
         count,
-    } = call
+    } = event.call
     else {
         unreachable!()
     };
-    admit(state, core, thread)?;
-    retype(state, thread, untyped, kind, bits, to, offset, count)
+    let caller = event.thread;
+    admit(state, event.core, caller)?;
+    retype(state, caller, untyped, kind, bits, to, offset, count)
 }
 
 /// One kernel call, whole: what it answers, and the state after it. A refused call leaves the state
@@ -120,19 +120,62 @@ pub fn step(state: &mut State, event: Event) -> Outcome
     ensures begun { (misuse : Misuse) → result ≢ Refused (misuse_refusal misuse) }
     ensures well_formed { IsWellFormed state.new }
 {
+    take_step(state, &event)
+}
+
+/// The same as [`step`], of an event that isn't copied.
+pub(crate) fn take_step(state: &mut State, event: &Event) -> Outcome
+    requires { IsWellFormed state.old }
+    ensures stepped { Step state.old event.now result state.new }
+    ensures refusals { IsRefused result → state.new ≡ state.old }
+    ensures ends { MayEnd event.now result }
+    ensures begun { (misuse : Misuse) → result ≢ Refused (misuse_refusal misuse) }
+    ensures well_formed { IsWellFormed state.new }
+{
     // Laws, so that the state stays well formed and refusals are those of the rows.
     steps_keep_machines_well_formed();
     calls_are_refused_by_conditions();
+    settle(state, event)
+}
+
+// How an event ends.
+fn settle(state: &mut State, event: &Event) -> Outcome
+    requires { IsWellFormed state.old }
+    ensures stepped { Step state.old event.now result state.new }
+    ensures refusals { IsRefused result → state.new ≡ state.old }
+{
     if event.call.takes_memory() {
-        return match make_with_memory(state, event) {
-            Ok(made) => Outcome::from(made),
-            Err(unmade) => Outcome::Refused(Refusal::from(unmade)),
-        };
+        return settle_retype(state, event);
     }
-    match make(state, event) {
+    settle_call(state, event)
+}
+
+// How a retype ends.
+fn settle_retype(state: &mut State, event: &Event) -> Outcome
+    requires formed { IsWellFormed state.old }
+    requires with_memory { takes_memory event.now.call ≡ Bool.true }
+    ensures stepped { Step state.old event.now result state.new }
+    ensures refusals { IsRefused result → state.new ≡ state.old }
+{
+    match make_with_memory(state, event) {
         Ok(made) => Outcome::from(made),
-        Err(cause) => Outcome::Refused(Refusal::from(cause)),
+        Err(unmade) => Outcome::Refused(Refusal::from(unmade)),
     }
+}
+
+// How any other call ends.
+fn settle_call(state: &mut State, event: &Event) -> Outcome
+    requires formed { IsWellFormed state.old }
+    requires without_memory { takes_memory event.now.call ≡ Bool.false }
+    ensures stepped { Step state.old event.now result state.new }
+    ensures refusals { IsRefused result → state.new ≡ state.old }
+{
+    let answer = match make(state, event) {
+        Ok(Made::Done(answer)) => answer,
+        Ok(Made::Blocked) => return Outcome::Blocked,
+        Err(cause) => return Outcome::Refused(Refusal::from(cause)),
+    };
+    Outcome::Done(answer)
 }
 
 /// Why a retype is refused, however much memory there is; none where [`step`] could make it, and none

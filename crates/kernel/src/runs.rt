@@ -3,7 +3,7 @@ ghost use Rattle.std.specs.Prelude.{vec_len};
 ghost use Rattle.base.specs.Refusals.{plain};
 ghost use Rattle.machine.specs.{declared.call.Outcome.Outcome as Ended, Run.Run, Step.MayEnd, WellFormed.IsWellFormed};
 
-use crate::calls::step;
+use crate::calls::take_step;
 use base::Refusal;
 use machine::{Event, Outcome, calls_are_refused_by_conditions};
 use objects::State;
@@ -32,7 +32,7 @@ pub fn run(state: &mut State, events: &[Event], outcomes: &mut Vec<Outcome>) -> 
     calls_are_refused_by_conditions();
     outcomes.reserve(events.len())?;
     for event in events {
-        outcomes.push_reserved(step(state, *event));
+        outcomes.push_reserved(take_step(state, event));
     }
     Ok(())
 }

@@ -11,10 +11,10 @@ loop-event-preserved c = record {
       let events = c.args.events.now in
       let i = c.loop-event.event-index in
       let item = c.event-item.result in
-      let outcome = c.step.result in
-      let further : Run c.args.state.now (take i events ++ item ∷ []) (before.0 ++ outcome ∷ []) c.step.new.state =
+      let outcome = c.take_step.result in
+      let further : Run c.args.state.now (take i events ++ item ∷ []) (before.0 ++ outcome ∷ []) c.take_step.new.state =
       run_further c.args.state.now
-      (take i events) before.0 c.loop-event.state item outcome c.step.new.state before.2 c.step.ensures.stepped in
+      (take i events) before.0 c.loop-event.state item outcome c.take_step.new.state before.2 c.take_step.ensures.stepped in
       let more : take (i + 1) events ≡ take i events ++ item ∷ [] =
       take_more events i item c.loop-event-test.true ∙ ap (λ last. take i events ++ last ∷ []) (sym c.event-item.is) in (
         before.0 ++ outcome ∷ [],
@@ -24,9 +24,9 @@ loop-event-preserved c = record {
       );
   counted =
       let pushed : length c.push_reserved.new.self.items ≡ length c.loop-event.outcomes.items + 1 =
-      ap length c.push_reserved.ensures.items ∙ length_push c.loop-event.outcomes.items c.step.result in
+      ap length c.push_reserved.ensures.items ∙ length_push c.loop-event.outcomes.items c.take_step.result in
       omega arith;
-  formed = c.step.ensures.well_formed;
+  formed = c.take_step.ensures.well_formed;
   room = omega arith;
 }
 
