@@ -1,8 +1,8 @@
 -- The test whether a slot descends from another decides it.
-use Rattle.std.specs.{Bool.Decides, FinMap.{contains_key-keys, keys}, List.list_any, Prelude.{◌&&◌, ◌||◌, None, Option, Some, is_some}}
+use Rattle.std.specs.{Bool.Decides, FinMap.{contains_key-keys, keys}, List.list_any, Prelude.{◌||◌, None, Option, Some, is_some}}
 use Rattle.std.proofs.{Common.{◌∙◌, ◌≡◌, Bool, List, ap, false, not, refl, sym, true}, lemmas.Bool.false≢true}
 use Rattle.base.specs.declared.ids.SlotRef.{SlotRef}
-use Rattle.machine.specs.{Below.{has_parent_below, is_below, is_child_beside}, Machine.{Machine, parent_of, same_slot, slot_cmp}}
+use Rattle.machine.specs.{Below.{has_parent_below, is_below, is_child_beside}, Machine.{Machine, parent_of, same_slot}}
 use Rattle.machine.{specs.{Rounds.staying, WellFormed.{Descends, child, further}}, proofs.{Exchange.slot_itself, LookUps.one_slot}}
 use Rattle.machine.proofs.RoundLemmas.{both_pass, leaves, not_passes, or_second, stays}
 

@@ -2,7 +2,7 @@
 use Rattle.std.specs.{Bool.Decides, FinMap.{contains_key-keys, keys}, List.list_any, Prelude.{◌&&◌, ◌||◌, None, Option, Some, is_some}}
 use Rattle.std.proofs.{Common.{◌∙◌, ◌≡◌, Bool, List, ap, false, not, refl, subst, sym, true}, lemmas.Bool.false≢true}
 use Rattle.base.specs.declared.ids.{ObjId.ObjId, SlotRef.SlotRef}
-use Rattle.machine.specs.{declared.{cap.Cap.Cap, object.Object.{Object, Object as o}}, Gone.{IsClosedSet, IsGone, IsLeastSet, LosesAll}}
+use Rattle.machine.specs.{declared.{cap.Cap.Cap, object.Object.{Object}}, Gone.{IsClosedSet, IsGone, IsLeastSet, LosesAll}}
 use Rattle.machine.specs.Gone.{given, goes_beside, gone_of, has_slots, holders, is_filled_with, is_for, is_holder, loses_all, some_cap}
 use Rattle.machine.specs.{Gone.{stays_for, with_last}, Machine.{Machine, cap_of, object_of, same_id, same_slot}, Rounds.staying}
 use Rattle.machine.proofs.{FiniteLemmas.ties_itself, LookUps.{id_apart, id_total, one_id, one_slot}, RoundLemmas.{any_found, any_weaker}}

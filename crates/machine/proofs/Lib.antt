@@ -31,10 +31,9 @@ pub mod RetypeRow
 pub mod RetypeFormed
 pub mod FillsFormed
 pub mod MovesFormed
-pub mod Inversion
 pub mod Outlines
 pub mod SetObject
-pub mod Formed
+pub mod Calls
 pub mod Threads
 pub mod Steps
 pub mod AuthorityLemmas

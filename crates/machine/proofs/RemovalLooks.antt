@@ -1,6 +1,6 @@
 -- What each look-up of a machine answers after a removal.
-use Rattle.std.specs.{FinMap.{contains_key-keys, keys, values}, Prelude.{[], ℕ, None, Option, Some, filter, is_some, option_map}}
-use Rattle.std.proofs.{Common.{◌∙◌, ◌≡◌, Bool, List, ap, cond, false, refl, sym, true}, lemmas.Bool.false≢true}
+use Rattle.std.specs.{FinMap.{contains_key-keys, keys, values}, Prelude.{[], None, Option, Some, filter, is_some, option_map}}
+use Rattle.std.proofs.{Common.{◌∙◌, ◌≡◌, Bool, ap, cond, false, refl, sym, true}, lemmas.Bool.false≢true}
 use Rattle.base.specs.declared.ids.{ObjId.ObjId, SlotRef.SlotRef}
 use Rattle.machine.specs.{Finalising.{finalised, staying_in}, Gone.gone_of, Machine.{Machine, cap_of, object_of, parent_of, queue_of}}
 use Rattle.machine.specs.{Machine.words_of, Orphans.{Nearest, without_nodes}, Removal.{cap_after, object_after, parent_after, queue_after}}

@@ -1,5 +1,5 @@
 -- Slots, the parts of objects, and numbers and ranges of a well-formed machine fit after a removal.
-use Rattle.std.{specs.Prelude.{ℕ, None, Option, Some, option_map}, proofs.Common.{◌<◌, ◌∙◌, ◌≡◌, ◌≤◌, ◌⊎◌, Bool, List, ap, arith, cond}}
+use Rattle.std.{specs.Prelude.{ℕ, None, Option, Some, option_map}, proofs.Common.{◌<◌, ◌∙◌, ◌≡◌, Bool, List, ap, arith, cond}}
 use Rattle.std.proofs.{Common.{false, inl, inr, refl, subst, sym, true}, lemmas.Option.{none-some, same_Some}}
 use Rattle.base.specs.declared.ids.{ObjId.ObjId, SlotRef.SlotRef}
 use Rattle.machine.specs.{declared.{cap.Cap.Cap, object.{Object.{Object, Object as o}, Untyped.Untyped}}, Finalising.finalised}

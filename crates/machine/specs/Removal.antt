@@ -1,6 +1,6 @@
 -- Removal of capabilities: those that go with them, the objects that lose their last, what becomes of the rest, and the derivation
 -- tree (seL4 manual, "Deletion, Revocation, and Recycling").
-use Rattle.std.specs.{FinMap.{keys, values}, Prelude.{[], ℕ, Bool, List, None, Option, Some, filter, if◌then◌else◌, option_map}}
+use Rattle.std.specs.{FinMap.{keys, values}, Prelude.{[], ℕ, Bool, List, None, Option, filter, if◌then◌else◌, option_map}}
 use Rattle.base.specs.declared.ids.{ObjId.ObjId, SlotRef.SlotRef}
 use Rattle.machine.specs.{declared.{cap.Cap.Cap, object.Object.Object}, Finalising.{finalised, staying_in}, Finite.tabulate, Gone.gone_of}
 use Rattle.machine.specs.{Gone.loses_all, Machine.{Machine, cap_of, object_of, parent_of, queue_of, words_of}, Orphans.without_nodes}

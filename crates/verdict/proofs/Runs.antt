@@ -2,9 +2,9 @@
 use Rattle.std.proofs.{Common.{[], ℕ, ◌∙◌, ◌∷◌, ◌≡◌, ◌⊎◌, List, Some, ap, inl, inr, refl, subst, sym}, lemmas.Option.same_Some}
 use Rattle.base.specs.declared.ids.ObjId.{ObjId}
 use Rattle.machine.specs.declared.{call.{Call.Call, Event.Event, Outcome.Outcome}, object.{Context.Context, Object.Object as o}}
-use Rattle.machine.specs.declared.call.Call.TheVariants as call
 use Rattle.machine.{specs.{Authority.label_of, Boot.IsBoot, Layout.Layout, Machine.Machine, Run.Run, Step.Step}, proofs.Admission.IsCaller}
-use Rattle.machine.proofs.{Formed.step_formed, Inversion.{CallDone, EventDone, step_done}}
+use Rattle.machine.proofs.Calls.{CallDone, EventDone, step_done, step_formed}
+use Rattle.machine.specs.declared.call.Call.TheVariants as call
 use Rattle.policy.specs.{Closed.IsClosed, Domain.EdgeTest}
 use Rattle.verdict.specs.{Bounded.{IsAffected, IsBoundedStep}, Budgets.{KeepsBudgets, configures}, Invariant.IsSound, Safe.IsReached}
 use Rattle.verdict.{specs.{Safe.{IsSafe, KeepsBounds}, Shrinks.IsSame}, proofs.{Bounds.bounded_allowed, ContextKeeps.bind_keeps}}

@@ -2,8 +2,8 @@
 -- and a thread's context goes over to another thread.
 use Rattle.std.specs.Prelude.{ℕ, Err, None, Ok, Option, Result, Some}
 use Rattle.base.specs.declared.{ids.ObjId.ObjId, refusal.Cause.{Cause, Cause as cause}}
-use Rattle.machine.specs.declared.{call.{Answer.Answer as answer, Made.{Made, TheVariants.Done}}, object.{Context.Context, Object.Object}}
-use Rattle.machine.specs.{declared.{object.Object.Object as o, thread.Tcb.Tcb}, Changes.{with_context, with_tcb}, Machine.Machine}
+use Rattle.machine.specs.declared.{call.{Answer.Answer as answer, Made.{Made, TheVariants.Done}}, object.{Object.Object}}
+use Rattle.machine.specs.{declared.{object.Object.Object as o}, Changes.{with_context, with_tcb}, Machine.Machine}
 use Rattle.machine.specs.{Machine.object_of, Refusing.◌>>=◌, Releasing.with_unbound, Step.Find.{find_context, find_tcb}}
 
 -- the thread that runs on a scheduling context

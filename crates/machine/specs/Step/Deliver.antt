@@ -6,7 +6,7 @@ use Rattle.base.specs.declared.{ids.ObjId.ObjId, refusal.Cause.{Cause, Cause as 
 use Rattle.machine.specs.declared.{cap.Badged.Badged, object.Object.{Object, Object as o}, slot_address.Ends.Ends}
 use Rattle.machine.specs.declared.{slot_address.SlotAddress.SlotAddress, thread.{Message.Message, Receiving.Receiving, RunState.RunState}}
 use Rattle.machine.specs.declared.thread.RunState.TheVariants as state
-use Rattle.machine.specs.{declared.thread.{Sending.Sending, Tcb.Tcb}, Capabilities.{can_grant, can_grant_reply, can_write}}
+use Rattle.machine.specs.{declared.thread.{Sending.Sending}, Capabilities.{can_grant, can_grant_reply, can_write}}
 use Rattle.machine.specs.{Changes.first_waiting, Machine.{Machine, cap_of, object_of}, Refusing.◌>>=◌, Releasing.{with_called, with_given}}
 use Rattle.machine.specs.{Releasing.{with_halted, with_ready}, Step.{Copy.copyable, Find.{find_cap, permitted}, Target.{target_of, vacant}}}
 use Rattle.machine.specs.Tree.{with_copy}

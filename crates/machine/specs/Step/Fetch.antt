@@ -1,5 +1,5 @@
 -- Fetch (confine's own): what the thread was given and has not fetched yet.
-use Rattle.std.specs.Prelude.{Err, None, Ok, Option, Result, Some}
+use Rattle.std.specs.Prelude.{Err, Ok, Option, Result, Some}
 use Rattle.base.specs.declared.{ids.ObjId.ObjId, refusal.Cause.{Cause, Cause as cause}}
 use Rattle.machine.specs.declared.{call.{Answer.{Answer, Answer as answer}, Made.{Made, TheVariants.Done}}, object.Object.Object}
 use Rattle.machine.specs.{declared.{object.Object.Object as o, thread.Inbox.Inbox}, Changes.with_tcb, Machine.{Machine, object_of}}

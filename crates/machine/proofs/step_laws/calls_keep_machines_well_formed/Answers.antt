@@ -1,4 +1,4 @@
-use Rattle.machine.proofs.Formed.{makes_formed}
+use Rattle.machine.proofs.Calls.{makes_formed}
 use Rattle.machine.proofs.step_laws.calls_keep_machines_well_formed.Goals as goal
 
 pub returns : goal.returns

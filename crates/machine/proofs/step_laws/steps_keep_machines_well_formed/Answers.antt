@@ -1,4 +1,4 @@
-use Rattle.machine.proofs.Formed.{run_formed, step_formed}
+use Rattle.machine.proofs.Calls.{run_formed, step_formed}
 use Rattle.machine.proofs.step_laws.steps_keep_machines_well_formed.Goals as goal
 
 pub returns-clause-step : goal.returns-clause-step
