@@ -2,8 +2,8 @@
 //! for each of its slots.
 use base::{ObjId, SlotRef};
 use machine::{
-    CNode, Calling, Cap, Context, Control, Detail, Endpoint, Frame, Inbox, Notification, Object,
-    Receiving, Reply, ReplyState, RunState, Sending, Share, Tcb, Untyped,
+    CNode, Calling, Cap, Context, Control, Detail, Endpoint, Frame, Inbox, Message, Notification,
+    Object, Receiving, Reply, ReplyState, RunState, Sending, Share, Tcb, Untyped,
 };
 use objects::State;
 use std::alloc::AllocError;
@@ -256,10 +256,20 @@ fn tell_receiving(
 fn tell_inbox(text: &mut String, inbox: &Inbox) -> Result<(), AllocError> {
     match inbox {
         Inbox::Empty => write!(text, ", inbox empty"),
-        Inbox::Message(message) => write!(text, ", inbox message {message}"),
+        Inbox::Message(message) => tell_message(text, message),
         Inbox::Word(word) => write!(text, ", inbox word {word}"),
         Inbox::Aborted => write!(text, ", inbox aborted"),
     }
+}
+
+fn tell_message(text: &mut String, message: &Message) -> Result<(), AllocError> {
+    let [first, second, third, fourth] = message.words;
+    let badge = message.badge;
+    let came = u8::from(message.capability);
+    write!(
+        text,
+        ", inbox message {badge} {first} {second} {third} {fourth} {came}"
+    )
 }
 
 /// Tells who waits at an object, first in first out, and takes them from its queue.

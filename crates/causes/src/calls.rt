@@ -1,6 +1,7 @@
 //! The sentences on the entries of a log: on calls that are refused, and on an entry that is no step.
 use crate::refused::Refused;
 use base::{ObjId, Refusal};
+use evtext::entry_line;
 use machine::{Event, ObjectKind, Outcome};
 use std::alloc::{AllocError, Global};
 use std::fmt;
@@ -36,13 +37,15 @@ pub fn explain_refusal(
     event: &Event,
     refusal: Refusal,
 ) -> Result<String, AllocError> {
+    let entry = entry_line(alloc, event, &Outcome::Refused(refusal))?;
+    let (call, _) = parts_of(&entry);
     let Refusal { code, detail } = refusal;
     let why = Refused {
         caller,
         event,
         refusal,
     };
-    format!(in alloc; "{name}:{line}: `{event}` is refused {code} {detail}: {why}")
+    format!(in alloc; "{name}:{line}: `{call}` is refused {code} {detail}: {why}")
 }
 
 /// What the kernel answers to an entry that is no step, in a sentence: that of the number `entry`, from 1, in the
@@ -58,8 +61,12 @@ pub fn explain_illegal(
 ) -> Result<String, AllocError> {
     // The header is a line too.
     let line = entry.wrapping_add(1);
+    let answered = entry_line(alloc, event, came)?;
+    let logged = entry_line(alloc, event, told)?;
+    let (call, answer) = parts_of(&answered);
+    let (_, claim) = parts_of(&logged);
     let mut sentence = format!(in alloc;
-        "{name}:{line}: entry {entry} is no step of the system: `{event}` comes to `{came}` there, and not to `{told}`"
+        "{name}:{line}: entry {entry} is no step of the system: `{call}` comes to `{answer}` there, and not to `{claim}`"
     )?;
     if let Outcome::Refused(refusal) = came {
         let why = Refused {
@@ -70,4 +77,10 @@ pub fn explain_illegal(
         write!(sentence, ": {why}")?;
     }
     Ok(sentence)
+}
+
+/// The event and the outcome of a log's line.
+fn parts_of(line: &[u8]) -> (&str, &str) {
+    let text = str::from_utf8(line).unwrap_or_default();
+    text.trim_end().split_once(" = ").unwrap_or_default()
 }

@@ -6,15 +6,27 @@ use Rattle.base.specs.{declared.rights.Rights.Rights, Rights.{IsRights, letter_o
 use Rattle.base.proofs.RightsWords.{rights_again, rights_named}
 use Rattle.machine.specs.declared.{call.CapData.{CapData, TheVariants.{Badge, Guard}}, object.MemoryKind.{MemoryKind, TheVariants.CNode}}
 use Rattle.machine.specs.declared.object.MemoryKind.TheVariants.{Context, Endpoint, Frame, Notification, Reply, Tcb, Untyped}
-use Rattle.machine.specs.{declared.slot_address.SlotAddress.SlotAddress, KindWords.{memory_kind_of, memory_kind_word}, Spelling.data_words}
-use Rattle.machine.{specs.Spelling.{four_words, optional_slot_words, optional_word, slot_address_words}, proofs.KindWords.memory_again}
-use Rattle.machine.proofs.KindWords.{memory_takes}
-use Rattle.words.specs.{Number.{dec_of, number_at}, Parts.{IsPart, by_word, in_turn, keyed, read_as}, Reading.{bind, word_at}}
+use Rattle.machine.specs.{declared.slot_address.SlotAddress.SlotAddress, KindWords.{memory_kind_of, memory_kind_word}}
+use Rattle.machine.proofs.KindWords.{memory_again, memory_takes}
+use Rattle.words.specs.{Number.{dec_of}, Parts.{IsPart, by_word, keyed, read_as}, Reading.{bind, word_at}}
 use Rattle.words.{specs.Text.IsPlainWord, proofs.Parts.{after_word, both_parts, keyed_part, number_part, part_as, read_as_again, takes_as}}
 use Rattle.words.proofs.{Parts.word_part, Spellings.decimal_iff, TextLaws.both, WordLaws.{plain_bytes, plain_decimal, word_then}}
-use Rattle.evtext.specs.Event.{AreFour, IsData, IsOptional, IsOptionalSlot, IsSlotAddress, data_at, four_at, four_of, guard_of}
-use Rattle.evtext.specs.Event.{memory_kind_at, message_at, optional_at, optional_of, optional_slot_at, rights_at, slot_address_at}
-use Rattle.evtext.specs.Event.{slot_address_of, two_at}
+use Rattle.evtext.specs.Operands.{AreFour, IsData, IsOptional, IsOptionalSlot, IsSlotAddress, Shape, data_at, data_words, four_at, four_of}
+use Rattle.evtext.specs.Operands.{four_words, guard_of, memory_kind_at, nothing, nothing_at, optional_at, optional_of, optional_slot_at}
+use Rattle.evtext.specs.Operands.{optional_slot_words, optional_word, rights_at, slot_address_at, slot_address_of, slot_address_words}
+
+-- a shape's reading and spelling are one another's inverse
+abbrev pub IsShape : {X : Type 0} → Shape X → Type 0
+IsShape shape = IsPart shape.read shape.spell shape.Fits
+
+-- no operand is no word
+pub nothing_part : IsShape nothing
+unfolding nothing_at
+nothing_part =
+    record { takes = λ words taken h. (ap (λ t. t.1) (same words taken h), tt); again = λ x rest is. refl; plain = λ x is. tt }
+  where
+    same : (words : List (List ℕ)) (taken : Unit {0} × List (List ℕ)) → nothing_at words ≡ Ok taken → (tt, words) ≡ taken
+    same words taken h = cc
 
 -- a slot is three numbers
 pub slot_address_part : IsPart slot_address_at slot_address_words IsSlotAddress
@@ -186,77 +198,3 @@ plain_optional_slot (Some slot) is = slot_address_part.plain slot is
 
 pub optional_slot_part : IsPart optional_slot_at optional_slot_words IsOptionalSlot
 optional_slot_part = record { takes = optional_slot_takes; again = optional_slot_again; plain = plain_optional_slot }
-
--- the operands of each call
-
-pub message_operands : IsPart
-    message_at
-    (λ parts. decimal parts.0 ∷ (four_words parts.1.0 ++ optional_word parts.1.1 ∷ []))
-    (λ parts. (parts.0 < 2 ^ 64) × (AreFour parts.1.0 × IsOptional parts.1.1))
-unfolding message_at
-message_operands = both_parts number_part (both_parts four_part optional_part)
-
-pub receive_operands : IsPart
-    (in_turn number_at (in_turn optional_at optional_slot_at))
-    (λ parts. decimal parts.0 ∷ optional_word parts.1.0 ∷ optional_slot_words parts.1.1)
-    (λ parts. (parts.0 < 2 ^ 64) × (IsOptional parts.1.0 × IsOptionalSlot parts.1.1))
-receive_operands = both_parts number_part (both_parts optional_part optional_slot_part)
-
-pub reply_operands : IsPart
-    (in_turn number_at four_at)
-    (λ parts. decimal parts.0 ∷ four_words parts.1)
-    (λ parts. (parts.0 < 2 ^ 64) × AreFour parts.1)
-reply_operands = both_parts number_part four_part
-
-pub two_part : IsPart two_at (λ parts. decimal parts.0 ∷ decimal parts.1 ∷ []) (λ parts. (parts.0 < 2 ^ 64) × (parts.1 < 2 ^ 64))
-unfolding two_at
-two_part = both_parts number_part number_part
-
-pub write_operands : IsPart
-    (in_turn number_at (in_turn number_at number_at))
-    (λ parts. decimal parts.0 ∷ decimal parts.1.0 ∷ decimal parts.1.1 ∷ [])
-    (λ parts. (parts.0 < 2 ^ 64) × ((parts.1.0 < 2 ^ 64) × (parts.1.1 < 2 ^ 64)))
-write_operands = both_parts number_part (both_parts number_part number_part)
-
-pub configure_operands : IsPart
-    (in_turn number_at (in_turn number_at (in_turn number_at number_at)))
-    (λ parts. decimal parts.0 ∷ decimal parts.1.0 ∷ decimal parts.1.1.0 ∷ decimal parts.1.1.1 ∷ [])
-    (λ parts. (parts.0 < 2 ^ 64) × ((parts.1.0 < 2 ^ 64) × ((parts.1.1.0 < 2 ^ 64) × (parts.1.1.1 < 2 ^ 64))))
-configure_operands = both_parts number_part (both_parts number_part (both_parts number_part number_part))
-
-pub copy_operands : IsPart
-    (in_turn slot_address_at (in_turn slot_address_at rights_at))
-    (λ parts. slot_address_words parts.0 ++ (slot_address_words parts.1.0 ++ rights_word parts.1.1 ∷ []))
-    (λ parts. IsSlotAddress parts.0 × (IsSlotAddress parts.1.0 × IsRights parts.1.1))
-copy_operands = both_parts slot_address_part (both_parts slot_address_part rights_part)
-
-pub mint_operands : IsPart
-    (in_turn slot_address_at (in_turn slot_address_at (in_turn rights_at data_at)))
-    (λ parts. slot_address_words parts.0 ++ (slot_address_words parts.1.0 ++ rights_word parts.1.1.0 ∷ data_words parts.1.1.1))
-    (λ parts. IsSlotAddress parts.0 × (IsSlotAddress parts.1.0 × (IsRights parts.1.1.0 × IsData parts.1.1.1)))
-mint_operands = both_parts slot_address_part (both_parts slot_address_part (both_parts rights_part data_part))
-
-pub move_operands : IsPart
-    (in_turn slot_address_at slot_address_at)
-    (λ parts. slot_address_words parts.0 ++ slot_address_words parts.1)
-    (λ parts. IsSlotAddress parts.0 × IsSlotAddress parts.1)
-move_operands = both_parts slot_address_part slot_address_part
-
-pub retype_operands : IsPart
-    (in_turn number_at (in_turn memory_kind_at (in_turn number_at (in_turn number_at (in_turn number_at number_at)))))
-    (λ parts.
-    decimal parts.0
-    ∷ memory_kind_word parts.1.0
-    ∷ decimal parts.1.1.0
-    ∷ decimal parts.1.1.1.0
-    ∷ decimal parts.1.1.1.1.0
-    ∷ decimal parts.1.1.1.1.1
-    ∷ [])
-    (λ parts.
-    (parts.0 < 2 ^ 64)
-    × (⊤
-    × ((parts.1.1.0 < 2 ^ 64)
-    × ((parts.1.1.1.0 < 2 ^ 64) × ((parts.1.1.1.1.0 < 2 ^ 64) × (parts.1.1.1.1.1 < 2 ^ 64))))))
-retype_operands =
-    both_parts number_part (both_parts memory_kind_part
-    (both_parts number_part (both_parts number_part (both_parts number_part number_part))))

@@ -2,16 +2,15 @@
 use Rattle.std.{specs.{Bool.{⊤, Decides}, Fmt.decimal, List.AllByRecursion, Str.bytes_eq}, proofs.Common.{[], ℕ, ◌++◌, ◌∙◌, ◌∷◌, ◌≡◌, Bool}}
 use Rattle.std.proofs.{Common.{List, None, Ok, Some, ap, codes, cond, false, refl, subst, sym, true}, lemmas.Option.{none-some, same_Some}}
 use Rattle.std.proofs.lemmas.Slice.Eq.{bytes_eq-Decides}
-use Rattle.machine.specs.{declared.call.{Answer.Answer, Event.Event, Outcome.Outcome}, Spelling.{answer_words, entry_words, flag_word}}
+use Rattle.machine.specs.declared.call.{Answer.Answer, Event.Event, Outcome.Outcome}
 use Rattle.machine.specs.declared.call.Answer.TheVariants as answer
 use Rattle.machine.specs.declared.call.Outcome.TheVariants as outcome
-use Rattle.machine.specs.Spelling.{message_words, outcome_words}
 use Rattle.words.specs.{Parts.{IsLastPart, IsPart, by_word, keyed, read_as}, Reading.{bind, word_at}, Text.{IsPlainLine, IsPlainWord}}
 use Rattle.words.proofs.Parts.{IsChoice, after_word, both_parts, keyed_last, keyed_takes, last_after_word, number_part, part_as}
 use Rattle.words.proofs.{Parts.{read_as_again, then_last, word_part}, WordLaws.{plain_bytes, plain_decimal}}
-use Rattle.evtext.specs.{Log.{IsEntry, entry_at}, Outcome.{IsAnswer, IsMessage, IsOutcome, aborted_at, answer_at, blocked_at, equals_at}}
-use Rattle.evtext.{specs.Outcome.{flag_at, flag_of, message_of, outcome_at, received_at, refused_of}, proofs.CallParts.four_part}
-use Rattle.evtext.proofs.EventWords.{event_part}
+use Rattle.evtext.specs.{Log.{IsEntry, entry_at, entry_words}, Outcome.{IsAnswer, IsMessage, IsOutcome, aborted_at, answer_at}}
+use Rattle.evtext.specs.Outcome.{answer_words, blocked_at, equals_at, flag_at, flag_of, flag_word, message_of, message_words, outcome_at}
+use Rattle.evtext.{specs.Outcome.{outcome_words, received_at, refused_of}, proofs.{CallParts.four_part, EventWords.event_part}}
 
 -- a yes or no is a word
 

@@ -3,11 +3,11 @@ use Rattle.std.proofs.Common.{ℕ, ◌&&◌, ◌<◌, ◌∙◌, ◌≡◌, Bool
 use Rattle.std.proofs.lemmas.Bool.{and_from, and_parts, cond-true}
 use Rattle.base.specs.declared.core_number.TheConstants.CoreNo as CoreNo
 use Rattle.base.specs.declared.limits.TheConstants.{MAX_EVENTS}
-use Rattle.machine.specs.{declared.call.{Event.Event, Outcome.Outcome}, Spelling.{entry_words, event_words}}
+use Rattle.machine.specs.declared.call.{Event.Event, Outcome.Outcome}
 use Rattle.words.{specs.{declared.faults.Wrong.TheVariants.Limit, Reading.bind}, proofs.Parts.{alone_again, alone_takes, last_again}}
 use Rattle.words.proofs.{Parts.last_takes, WordLaws.bind_ok}
-use Rattle.evtext.{specs.{Event.{HasNumbers, within_limits}, Log.{IsEntry, log_line}, Script.script_line}, proofs.EntryWords.entry_part}
-use Rattle.evtext.proofs.EventWords.{event_part}
+use Rattle.evtext.specs.{Event.{HasNumbers, event_words, within_limits}, Log.{IsEntry, entry_words, log_line}, Script.script_line}
+use Rattle.evtext.proofs.{EntryWords.entry_part, EventWords.event_part}
 
 -- words that spell an event
 abbrev pub IsEventLine : List (List ℕ) → Event → Type 0

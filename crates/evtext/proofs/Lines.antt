@@ -1,8 +1,7 @@
 -- A line is written at the end of a text word by word.
 use Rattle.std.proofs.Common.{[], ℕ, ◌++◌, ◌∙◌, ◌∷◌, ◌≡◌, List, ap, append_assoc, refl, sym}
-use Rattle.machine.specs.Spelling.{spelled}
 use Rattle.words.specs.Text.{line_text}
-use Rattle.evtext.specs.Written.{written}
+use Rattle.evtext.specs.Written.{spelled, written}
 
 -- words are written after a first one as they are spelled with it
 written-spelled : (text word : List ℕ) (words : List (List ℕ)) → written (text ++ word) words ≡ text ++ spelled (word ∷ words)

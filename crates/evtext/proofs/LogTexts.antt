@@ -1,8 +1,8 @@
 -- A log is a list of events and their outcomes: the laws of whole logs, from those of its lines.
 use Rattle.std.proofs.{Common.{ℕ, ◌↔◌, ◌≡◌, List, Ok, codes, refl}, lemmas.Bool.and_right}
-use Rattle.machine.specs.{declared.call.{Event.Event, Outcome.Outcome}, Spelling.entry_words}
+use Rattle.machine.specs.declared.call.{Event.Event, Outcome.Outcome}
 use Rattle.words.{specs.Text.IsPlainLine, proofs.{ListLaws.{IsListFormat, list_again, list_takes}, WordLaws.plain_bytes}}
-use Rattle.evtext.specs.Log.{IsEntry, IsLog, IsSpellableEntry, log_header, log_line, log_step, log_text, read_log_of}
+use Rattle.evtext.specs.Log.{IsEntry, IsLog, IsSpellableEntry, entry_words, log_header, log_line, log_step, log_text, read_log_of}
 use Rattle.evtext.proofs.{EntryWords.plain_entry, EventLines.{entry_read, entry_read_back}, LimitedLists.{IsLimitedLine, limited_format}}
 use Rattle.evtext.proofs.Scripts.{numbers}
 

@@ -1,9 +1,9 @@
 -- A text is the text of one script, or of one log.
 use Rattle.std.{specs.List.AllByRecursion, proofs.{Common.{[], ◌∙◌, ◌≡◌, List, sym}, lemmas.List.append-nil}}
-use Rattle.machine.specs.{declared.call.{Event.Event, Outcome.Outcome}, Spelling.{entry_words, event_words}}
+use Rattle.machine.specs.declared.call.{Event.Event, Outcome.Outcome}
 use Rattle.words.proofs.{ListLaws.one_list, Parts.{last_once, part_once}}
-use Rattle.evtext.specs.{Event.HasNumbers, Log.{IsEntry, log_header, log_text}, Script.{script_header, script_text}}
-use Rattle.evtext.proofs.{EntryWords.{entry_part, plain_entry}, EventWords.{event_part, plain_event}}
+use Rattle.evtext.specs.{Event.{HasNumbers, event_words}, Log.{IsEntry, entry_words, log_header, log_text}, Script.script_header}
+use Rattle.evtext.{specs.Script.script_text, proofs.{EntryWords.{entry_part, plain_entry}, EventWords.{event_part, plain_event}}}
 use Rattle.evtext.proofs.LogTexts as logs
 use Rattle.evtext.proofs.Scripts as scripts
 

@@ -1,9 +1,9 @@
 -- A script is a list of events: the laws of whole scripts, from those of its lines.
 use Rattle.std.proofs.{Common.{ℕ, ◌≡◌, List, Ok, arith, codes, refl}, lemmas.Bool.and_right}
-use Rattle.machine.specs.{declared.call.Event.Event, Spelling.event_words}
+use Rattle.machine.specs.declared.call.Event.{Event}
 use Rattle.words.{specs.Text.IsPlainLine, proofs.{ListLaws.{IsListFormat, list_again}, WordLaws.plain_bytes}}
-use Rattle.evtext.specs.{Event.{HasNumbers, IsSpellable}, Script.{IsScript, read_script_of, script_header, script_line, script_step}}
-use Rattle.evtext.{specs.Script.script_text, proofs.{EventLines.{line_read, line_read_back}, EventWords.plain_event}}
+use Rattle.evtext.specs.{Event.{HasNumbers, IsSpellable, event_words}, Script.{IsScript, read_script_of, script_header, script_line}}
+use Rattle.evtext.{specs.Script.{script_step, script_text}, proofs.{EventLines.{line_read, line_read_back}, EventWords.plain_event}}
 use Rattle.evtext.proofs.LimitedLists.{IsLimitedLine, limited_format}
 
 -- an event of a core that there can be has numbers of 64 bits

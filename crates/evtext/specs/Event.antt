@@ -1,200 +1,199 @@
--- How the words of a line are read as an event: its core, its thread, then a call by its name and operands (confine's own).
-use Rattle.std.specs.{Option.option_map, Prelude.{[], ℕ, ◌&&◌, ◌<◌, ◌^◌, ◌∷◌, Err, List, None, Ok, Option, Result, Some, codes}}
-use Rattle.std.specs.{Prelude.{if◌then◌else◌, nat_lt}, Str.bytes_eq}
+-- The lines of scripts: an event is its core, its thread, and a call, which is a name with operands (confine's own).
+use Rattle.std.specs.{Fmt.decimal, Prelude.{[], ℕ, ◌&&◌, ◌<◌, ◌^◌, ◌∷◌, Err, List, Ok, Result, codes, if◌then◌else◌, nat_lt}}
 use Rattle.base.specs.declared.core_number.TheConstants.CoreNo as CoreNo
-use Rattle.base.specs.{declared.{limits.TheConstants.MAX_EVENTS, rights.Rights.Rights}, Rights.{IsRights, rights_of_word}}
+use Rattle.base.specs.declared.limits.TheConstants.{MAX_EVENTS}
 use Rattle.machine.specs.declared.call.Call.{Call, TheVariants.{Bind, ClearSpace, Configure, Copy, Delete, Fetch, Mint, Move, Poll, Read}}
 use Rattle.machine.specs.declared.call.Call.TheVariants.{Receive, Reply, Resume, Retype, Revoke, Send, SetSpace, Signal, Suspend, Unbind}
-use Rattle.machine.specs.declared.call.{Call.TheVariants.{Wait, Write}, CapData.{CapData, TheVariants.{Badge, Guard}}, Event.Event}
+use Rattle.machine.specs.declared.call.{Call.TheVariants.{Wait, Write}, Event.Event}
 use Rattle.machine.specs.declared.call.Call.TheVariants as call
-use Rattle.machine.specs.{declared.{object.MemoryKind.MemoryKind, slot_address.SlotAddress.SlotAddress}, KindWords.memory_kind_of}
-use Rattle.words.specs.{declared.faults.Wrong.{Wrong, TheVariants.Limit}, Number.{dec_of, number_at}, Parts.{PartReader, in_turn, keyed}}
-use Rattle.words.specs.{Parts.read_as, Reading.{◌>>=◌, or_syntax, word_at}}
+use Rattle.words.specs.{declared.faults.Wrong.{Wrong, TheVariants.Limit}, Number.number_at, Parts.{PartReader, in_turn, keyed, read_as}}
+use Rattle.evtext.specs.Operands.{Shape, both, data_given, four, memory_kind, nothing, number, optional, optional_slot, rights, slot_address}
+use Rattle.evtext.specs.Operands.{two_numbers}
 
--- the slot of three numbers: root, index and depth
-abbrev pub slot_address_of : ℕ × (ℕ × ℕ) → SlotAddress
-slot_address_of parts = record { root = parts.0; index = parts.1.0; depth = parts.1.1 }
+-- how the lines of a call are written: its name, the shape of its operands, and the call that these make
+pub record Form : Type 1 where
+  pub Operands : Type 0
+  pub name : List ℕ
+  pub shape : Shape Operands
+  pub call_of : Operands → Call
 
--- the next words as a slot
-unfoldable pub slot_address_at : PartReader SlotAddress
-slot_address_at = read_as slot_address_of (in_turn number_at (in_turn number_at number_at))
+abbrev pub form : {X : Type 0} → List ℕ → Shape X → (X → Call) → Form
+form {X} name shape call_of = record { Operands = X; name = name; shape = shape; call_of = call_of }
 
--- the next word as a set of the four rights
-unfoldable pub rights_at : PartReader Rights
-rights_at words = do
-  word ← word_at words
-  rights ← or_syntax (rights_of_word word.0)
-  Ok (rights, word.1)
+abbrev pub signal_form : Form
+signal_form = form (codes "signal") number Signal
 
--- the guard of two numbers: size and value
-abbrev pub guard_of : ℕ × ℕ → CapData
-guard_of parts = Guard parts.0 parts.1
+abbrev pub poll_form : Form
+poll_form = form (codes "poll") number Poll
 
--- the next words as what a mint gives
-unfoldable pub data_at : PartReader CapData
-data_at = keyed ((codes "badge", read_as Badge number_at) ∷ (codes "guard", read_as guard_of (in_turn number_at number_at)) ∷ [])
+abbrev pub wait_form : Form
+wait_form = form (codes "wait") number Wait
 
--- the copy of a target, a source and rights
-abbrev pub copy_call : SlotAddress × (SlotAddress × Rights) → Call
-copy_call parts = Copy parts.0 parts.1.0 parts.1.1
+abbrev pub send_form : Form
+send_form = form (codes "send") (both number (both four optional)) (λ parts. Send parts.0 parts.1.0 parts.1.1)
 
--- the next words as the operands of a copy
-unfoldable pub copy_at : PartReader Call
-copy_at = read_as copy_call (in_turn slot_address_at (in_turn slot_address_at rights_at))
+abbrev pub call_form : Form
+call_form = form (codes "call") (both number (both four optional)) (λ parts. call.Call parts.0 parts.1.0 parts.1.1)
 
--- the mint of a target, a source, rights, and what it gives
-abbrev pub mint_call : SlotAddress × (SlotAddress × (Rights × CapData)) → Call
-mint_call parts = Mint parts.0 parts.1.0 parts.1.1.0 parts.1.1.1
+abbrev pub receive_form : Form
+receive_form = form (codes "recv") (both number (both optional optional_slot)) (λ parts. Receive parts.0 parts.1.0 parts.1.1)
 
--- the next words as the operands of a mint
-unfoldable pub mint_at : PartReader Call
-mint_at = read_as mint_call (in_turn slot_address_at (in_turn slot_address_at (in_turn rights_at data_at)))
+abbrev pub reply_form : Form
+reply_form = form (codes "reply") (both number four) (λ parts. Reply parts.0 parts.1)
 
--- the move of a target and a source
-abbrev pub move_call : SlotAddress × SlotAddress → Call
-move_call parts = Move parts.0 parts.1
+abbrev pub fetch_form : Form
+fetch_form = form (codes "fetch") nothing (λ _. Fetch)
 
--- the next words as the operands of a move
-unfoldable pub move_at : PartReader Call
-move_at = read_as move_call (in_turn slot_address_at slot_address_at)
+abbrev pub copy_form : Form
+copy_form = form (codes "copy") (both slot_address (both slot_address rights)) (λ parts. Copy parts.0 parts.1.0 parts.1.1)
 
--- the next word as a kind of object that is made of memory
-unfoldable pub memory_kind_at : PartReader MemoryKind
-memory_kind_at words = do
-  word ← word_at words
-  kind ← or_syntax (memory_kind_of word.0)
-  Ok (kind, word.1)
+abbrev pub mint_form : Form
+mint_form =
+    form (codes "mint") (both slot_address (both slot_address (both rights data_given)))
+    (λ parts. Mint parts.0 parts.1.0 parts.1.1.0 parts.1.1.1)
 
--- the retype of untyped memory, a kind, bits, a CNode, an offset and a count
-abbrev pub retype_call : ℕ × (MemoryKind × (ℕ × (ℕ × (ℕ × ℕ)))) → Call
-retype_call parts = Retype parts.0 parts.1.0 parts.1.1.0 parts.1.1.1.0 parts.1.1.1.1.0 parts.1.1.1.1.1
+abbrev pub move_form : Form
+move_form = form (codes "move") (both slot_address slot_address) (λ parts. Move parts.0 parts.1)
 
--- the next words as the operands of a retype
-unfoldable pub retype_at : PartReader Call
-retype_at =
-    read_as retype_call
-    (in_turn number_at (in_turn memory_kind_at (in_turn number_at (in_turn number_at (in_turn number_at number_at)))))
+abbrev pub delete_form : Form
+delete_form = form (codes "delete") slot_address Delete
 
--- the words of a message
-abbrev pub four_of : ℕ × (ℕ × (ℕ × ℕ)) → List ℕ
-four_of parts = parts.0 ∷ parts.1.0 ∷ parts.1.1.0 ∷ parts.1.1.1 ∷ []
+abbrev pub revoke_form : Form
+revoke_form = form (codes "revoke") slot_address Revoke
 
--- the next words as the four words of a message
-unfoldable pub four_at : PartReader (List ℕ)
-four_at = read_as four_of (in_turn number_at (in_turn number_at (in_turn number_at number_at)))
+abbrev pub retype_form : Form
+retype_form =
+    form (codes "retype") (both number (both memory_kind (both number (both number two_numbers))))
+    (λ parts. Retype parts.0 parts.1.0 parts.1.1.0 parts.1.1.1.0 parts.1.1.1.1.0 parts.1.1.1.1.1)
 
--- an address, or `-` for none
-abbrev pub optional_of : List ℕ → Option (Option ℕ)
-optional_of word = if bytes_eq word (codes "-") then Some None else option_map (λ n. Some n) (dec_of word)
+abbrev pub read_form : Form
+read_form = form (codes "read") two_numbers (λ parts. Read parts.0 parts.1)
 
--- the next word as an address, or `-` for none
-unfoldable pub optional_at : PartReader (Option ℕ)
-optional_at words = do
-  word ← word_at words
-  address ← or_syntax (optional_of word.0)
-  Ok (address, word.1)
+abbrev pub write_form : Form
+write_form = form (codes "write") (both number two_numbers) (λ parts. Write parts.0 parts.1.0 parts.1.1)
 
--- the next words as a slot, or `-` for none
-unfoldable pub optional_slot_at : PartReader (Option SlotAddress)
-optional_slot_at words = do
-  word ← word_at words
-  if bytes_eq word.0 (codes "-") then Ok (None, word.1) else read_as (λ slot. Some slot) slot_address_at words
+abbrev pub set_space_form : Form
+set_space_form = form (codes "setspace") two_numbers (λ parts. SetSpace parts.0 parts.1)
 
--- the sending of words, and of the capability at an address, to an address
-abbrev pub send_call : ℕ × (List ℕ × Option ℕ) → Call
-send_call parts = Send parts.0 parts.1.0 parts.1.1
+abbrev pub clear_space_form : Form
+clear_space_form = form (codes "clearspace") number ClearSpace
 
-abbrev pub endpoint_call : ℕ × (List ℕ × Option ℕ) → Call
-endpoint_call parts = call.Call parts.0 parts.1.0 parts.1.1
+abbrev pub suspend_form : Form
+suspend_form = form (codes "suspend") number Suspend
 
--- the next words as the operands of a send or a call
-unfoldable pub message_at : PartReader (ℕ × (List ℕ × Option ℕ))
-message_at = in_turn number_at (in_turn four_at optional_at)
+abbrev pub resume_form : Form
+resume_form = form (codes "resume") number Resume
 
--- the receive of an endpoint, a reply and a slot
-abbrev pub receive_call : ℕ × (Option ℕ × Option SlotAddress) → Call
-receive_call parts = Receive parts.0 parts.1.0 parts.1.1
+abbrev pub configure_form : Form
+configure_form =
+    form (codes "configure") (both number (both number two_numbers)) (λ parts. Configure parts.0 parts.1.0 parts.1.1.0 parts.1.1.1)
 
--- the next words as the operands of a receive
-unfoldable pub receive_at : PartReader Call
-receive_at = read_as receive_call (in_turn number_at (in_turn optional_at optional_slot_at))
+abbrev pub bind_form : Form
+bind_form = form (codes "bind") two_numbers (λ parts. Bind parts.0 parts.1)
 
--- the reply of a reply object and words
-abbrev pub reply_call : ℕ × List ℕ → Call
-reply_call parts = Reply parts.0 parts.1
+abbrev pub unbind_form : Form
+unbind_form = form (codes "unbind") number Unbind
 
--- the next words as the operands of a reply
-unfoldable pub reply_at : PartReader Call
-reply_at = read_as reply_call (in_turn number_at four_at)
+-- the words after the name of a form as a call
+abbrev pub call_by : Form → PartReader Call
+call_by form = read_as form.call_of form.shape.read
 
--- the next words as two numbers
-unfoldable pub two_at : PartReader (ℕ × ℕ)
-two_at = in_turn number_at number_at
+-- the name of a form, and how a call is read off the words after it
+abbrev pub reader_of : Form → List ℕ × PartReader Call
+reader_of form = (form.name, call_by form)
 
--- the read of a frame's word
-abbrev pub read_call : ℕ × ℕ → Call
-read_call parts = Read parts.0 parts.1
-
--- the write of a word to a frame
-abbrev pub write_call : ℕ × (ℕ × ℕ) → Call
-write_call parts = Write parts.0 parts.1.0 parts.1.1
-
--- the next words as the operands of a write
-unfoldable pub write_at : PartReader Call
-write_at = read_as write_call (in_turn number_at (in_turn number_at number_at))
-
--- a thread gets a space
-abbrev pub set_space_call : ℕ × ℕ → Call
-set_space_call parts = SetSpace parts.0 parts.1
-
--- a control gives a context a budget and a period
-abbrev pub configure_call : ℕ × (ℕ × (ℕ × ℕ)) → Call
-configure_call parts = Configure parts.0 parts.1.0 parts.1.1.0 parts.1.1.1
-
--- the next words as the operands of a configure
-unfoldable pub configure_at : PartReader Call
-configure_at = read_as configure_call (in_turn number_at (in_turn number_at (in_turn number_at number_at)))
-
--- a context gets a thread
-abbrev pub bind_call : ℕ × ℕ → Call
-bind_call parts = Bind parts.0 parts.1
-
--- no operands
-unfoldable pub fetch_at : PartReader Call
-fetch_at words = Ok (Fetch, words)
-
--- calls on frames, threads, controls and scheduling contexts: their names, then their operands
+-- calls on frames, threads, controls and scheduling contexts
 unfoldable pub thread_calls : List (List ℕ × PartReader Call)
 thread_calls =
-    (codes "read", read_as read_call two_at)
-    ∷ (codes "write", write_at)
-    ∷ (codes "setspace", read_as set_space_call two_at)
-    ∷ (codes "clearspace", read_as ClearSpace number_at)
-    ∷ (codes "suspend", read_as Suspend number_at)
-    ∷ (codes "resume", read_as Resume number_at)
-    ∷ (codes "configure", configure_at)
-    ∷ (codes "bind", read_as bind_call two_at)
-    ∷ (codes "unbind", read_as Unbind number_at)
+    reader_of read_form
+    ∷ reader_of write_form
+    ∷ reader_of set_space_form
+    ∷ reader_of clear_space_form
+    ∷ reader_of suspend_form
+    ∷ reader_of resume_form
+    ∷ reader_of configure_form
+    ∷ reader_of bind_form
+    ∷ reader_of unbind_form
     ∷ []
+
+-- all calls
+abbrev pub calls : List (List ℕ × PartReader Call)
+calls =
+    reader_of signal_form
+    ∷ reader_of poll_form
+    ∷ reader_of wait_form
+    ∷ reader_of send_form
+    ∷ reader_of call_form
+    ∷ reader_of receive_form
+    ∷ reader_of reply_form
+    ∷ reader_of fetch_form
+    ∷ reader_of copy_form
+    ∷ reader_of mint_form
+    ∷ reader_of move_form
+    ∷ reader_of delete_form
+    ∷ reader_of revoke_form
+    ∷ reader_of retype_form
+    ∷ thread_calls
 
 -- the next words as a call: its name, then its operands
 unfoldable pub call_at : PartReader Call
-call_at = keyed (
-    (codes "signal", read_as Signal number_at)
-    ∷ (codes "poll", read_as Poll number_at)
-    ∷ (codes "wait", read_as Wait number_at)
-    ∷ (codes "send", read_as send_call message_at)
-    ∷ (codes "call", read_as endpoint_call message_at)
-    ∷ (codes "recv", receive_at)
-    ∷ (codes "reply", reply_at)
-    ∷ (codes "fetch", fetch_at)
-    ∷ (codes "copy", copy_at)
-    ∷ (codes "mint", mint_at)
-    ∷ (codes "move", move_at)
-    ∷ (codes "delete", read_as Delete slot_address_at)
-    ∷ (codes "revoke", read_as Revoke slot_address_at)
-    ∷ (codes "retype", retype_at)
-    ∷ thread_calls)
+call_at = keyed calls
+
+-- the words of a form with these operands
+abbrev pub words_by : (form : Form) → form.Operands → List (List ℕ)
+words_by form operands = form.name ∷ form.shape.spell operands
+
+-- a call: its name, then its operands
+abbrev pub call_words : Call → List (List ℕ)
+call_words (Signal address) = words_by signal_form address
+call_words (Poll address) = words_by poll_form address
+call_words (Wait address) = words_by wait_form address
+call_words (Send address words capability) = words_by send_form (address, (words, capability))
+call_words (call.Call address words capability) = words_by call_form (address, (words, capability))
+call_words (Receive address reply slot) = words_by receive_form (address, (reply, slot))
+call_words (Reply address words) = words_by reply_form (address, words)
+call_words Fetch = words_by fetch_form tt
+call_words (Copy to from rights) = words_by copy_form (to, (from, rights))
+call_words (Mint to from rights given) = words_by mint_form (to, (from, (rights, given)))
+call_words (Move to from) = words_by move_form (to, from)
+call_words (Delete slot) = words_by delete_form slot
+call_words (Revoke slot) = words_by revoke_form slot
+call_words (Retype untyped kind bits to offset count) = words_by retype_form (untyped, (kind, (bits, (to, (offset, count)))))
+call_words (Read address index) = words_by read_form (address, index)
+call_words (Write address index word) = words_by write_form (address, (index, word))
+call_words (SetSpace thread space) = words_by set_space_form (thread, space)
+call_words (ClearSpace thread) = words_by clear_space_form thread
+call_words (Suspend thread) = words_by suspend_form thread
+call_words (Resume thread) = words_by resume_form thread
+call_words (Configure control context budget period) = words_by configure_form (control, (context, (budget, period)))
+call_words (Bind context thread) = words_by bind_form (context, thread)
+call_words (Unbind context) = words_by unbind_form context
+
+-- a call whose operands can be spelled: its numbers are of 64 bits, and its rights are a set of the four
+abbrev pub HasWords : Call → Type 0
+HasWords (Signal address) = signal_form.shape.Fits address
+HasWords (Poll address) = poll_form.shape.Fits address
+HasWords (Wait address) = wait_form.shape.Fits address
+HasWords (Send address words capability) = send_form.shape.Fits (address, (words, capability))
+HasWords (call.Call address words capability) = call_form.shape.Fits (address, (words, capability))
+HasWords (Receive address reply slot) = receive_form.shape.Fits (address, (reply, slot))
+HasWords (Reply address words) = reply_form.shape.Fits (address, words)
+HasWords Fetch = fetch_form.shape.Fits tt
+HasWords (Copy to from rights) = copy_form.shape.Fits (to, (from, rights))
+HasWords (Mint to from rights given) = mint_form.shape.Fits (to, (from, (rights, given)))
+HasWords (Move to from) = move_form.shape.Fits (to, from)
+HasWords (Delete slot) = delete_form.shape.Fits slot
+HasWords (Revoke slot) = revoke_form.shape.Fits slot
+HasWords (Retype untyped kind bits to offset count) = retype_form.shape.Fits (untyped, (kind, (bits, (to, (offset, count)))))
+HasWords (Read address index) = read_form.shape.Fits (address, index)
+HasWords (Write address index word) = write_form.shape.Fits (address, (index, word))
+HasWords (SetSpace thread space) = set_space_form.shape.Fits (thread, space)
+HasWords (ClearSpace thread) = clear_space_form.shape.Fits thread
+HasWords (Suspend thread) = suspend_form.shape.Fits thread
+HasWords (Resume thread) = resume_form.shape.Fits thread
+HasWords (Configure control context budget period) = configure_form.shape.Fits (control, (context, (budget, period)))
+HasWords (Bind context thread) = bind_form.shape.Fits (context, thread)
+HasWords (Unbind context) = unbind_form.shape.Fits context
 
 -- the event of a core, a thread and a call
 abbrev pub event_of : ℕ × (ℕ × Call) → Event
@@ -204,60 +203,13 @@ event_of parts = record { core = parts.0; thread = record { 0 = parts.1.0 }; cal
 unfoldable pub event_at : PartReader Event
 event_at = read_as event_of (in_turn number_at (in_turn number_at call_at))
 
+-- an event: core, thread, call
+abbrev pub event_words : Event → List (List ℕ)
+event_words event = decimal event.core ∷ decimal event.thread.0 ∷ call_words event.call
+
 -- an event of a core that there can be, before which there are not too many
 unfoldable pub within_limits : ℕ → Event → Result Event Wrong
 within_limits before event = if nat_lt event.core CoreNo.COUNT && nat_lt before MAX_EVENTS then Ok event else Err Limit
-
--- a slot whose numbers are of 64 bits
-abbrev pub IsSlotAddress : SlotAddress → Type 0
-IsSlotAddress slot = (slot.root < 2 ^ 64) × (slot.index < 2 ^ 64) × (slot.depth < 2 ^ 64)
-
--- a badge or a guard of 64-bit numbers
-abbrev pub IsData : CapData → Type 0
-IsData (Badge badge) = badge < 2 ^ 64
-IsData (Guard size value) = (size < 2 ^ 64) × (value < 2 ^ 64)
-
--- four words of 64 bits
-abbrev pub AreFour : List ℕ → Type 0
-AreFour (first ∷ second ∷ third ∷ fourth ∷ []) = (first < 2 ^ 64) × (second < 2 ^ 64) × (third < 2 ^ 64) × (fourth < 2 ^ 64)
-AreFour _ = ⊥
-
--- an address of 64 bits, where there is one
-abbrev pub IsOptional : Option ℕ → Type 0
-IsOptional None = Unit {0}
-IsOptional (Some address) = address < 2 ^ 64
-
-abbrev pub IsOptionalSlot : Option SlotAddress → Type 0
-IsOptionalSlot None = Unit {0}
-IsOptionalSlot (Some slot) = IsSlotAddress slot
-
--- a call whose numbers are of 64 bits, and whose rights are a set of the four: further bits have no letter
-abbrev pub HasWords : Call → Type 0
-HasWords (Signal address) = address < 2 ^ 64
-HasWords (Poll address) = address < 2 ^ 64
-HasWords (Wait address) = address < 2 ^ 64
-HasWords (Send address words capability) = (address < 2 ^ 64) × AreFour words × IsOptional capability
-HasWords (call.Call address words capability) = (address < 2 ^ 64) × AreFour words × IsOptional capability
-HasWords (Receive address reply slot) = (address < 2 ^ 64) × IsOptional reply × IsOptionalSlot slot
-HasWords (Reply address words) = (address < 2 ^ 64) × AreFour words
-HasWords Fetch = Unit {0}
-HasWords (Copy to from rights) = IsSlotAddress to × IsSlotAddress from × IsRights rights
-HasWords (Mint to from rights given) = IsSlotAddress to × IsSlotAddress from × IsRights rights × IsData given
-HasWords (Move to from) = IsSlotAddress to × IsSlotAddress from
-HasWords (Delete slot) = IsSlotAddress slot
-HasWords (Revoke slot) = IsSlotAddress slot
-HasWords (Retype untyped kind bits to offset count) =
-    (untyped < 2 ^ 64) × (bits < 2 ^ 64) × (to < 2 ^ 64) × (offset < 2 ^ 64) × (count < 2 ^ 64)
-HasWords (Read address index) = (address < 2 ^ 64) × (index < 2 ^ 64)
-HasWords (Write address index word) = (address < 2 ^ 64) × (index < 2 ^ 64) × (word < 2 ^ 64)
-HasWords (SetSpace thread space) = (thread < 2 ^ 64) × (space < 2 ^ 64)
-HasWords (ClearSpace thread) = thread < 2 ^ 64
-HasWords (Suspend thread) = thread < 2 ^ 64
-HasWords (Resume thread) = thread < 2 ^ 64
-HasWords (Configure control context budget period) =
-    (control < 2 ^ 64) × (context < 2 ^ 64) × (budget < 2 ^ 64) × (period < 2 ^ 64)
-HasWords (Bind context thread) = (context < 2 ^ 64) × (thread < 2 ^ 64)
-HasWords (Unbind context) = context < 2 ^ 64
 
 -- an event that a line can have: of a core that there can be, with numbers of 64 bits and sets of the four rights
 abbrev pub IsSpellable : Event → Type 0

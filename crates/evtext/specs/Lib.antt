@@ -1,3 +1,4 @@
+pub mod Operands
 pub mod Event
 pub mod Outcome
 pub mod Script

@@ -2,13 +2,17 @@
 -- outcome, `end` (confine's own).
 use Rattle.std.specs.{List.AllByRecursion, Prelude.{[], ℕ, ◌++◌, ◌∷◌, ◌≤◌, List, Ok, Result, codes, length}}
 use Rattle.base.specs.declared.limits.TheConstants.{MAX_EVENTS}
-use Rattle.machine.specs.{declared.call.{Event.Event, Outcome.Outcome}, Spelling.entry_words}
+use Rattle.machine.specs.declared.call.{Event.Event, Outcome.Outcome}
 use Rattle.words.specs.{declared.faults.{Fault.Fault, Wrong.Wrong}, Parts.{PartReader, in_turn}, Reading.{◌>>=◌, Format, ended_at}}
 use Rattle.words.specs.{Reading.{list_format, list_text, read_format}, Text.{lines_of, words_of}}
-use Rattle.evtext.specs.{Event.{HasNumbers, IsSpellable, event_at, within_limits}, Outcome.{IsOutcome, equals_at}}
+use Rattle.evtext.specs.{Event.{HasNumbers, IsSpellable, event_at, event_words, within_limits}, Outcome.{IsOutcome, equals_at, outcome_words}}
 
 abbrev pub log_header : List (List ℕ)
 log_header = words_of (codes "confine-log 1")
+
+-- an entry of a log: an event, then `=` and its outcome
+abbrev pub entry_words : Event × Outcome → List (List ℕ)
+entry_words entry = event_words entry.0 ++ codes "=" ∷ outcome_words entry.1
 
 -- the text of a log
 abbrev pub log_text : List (Event × Outcome) → List ℕ

@@ -1,13 +1,19 @@
--- How the words of a line are read as an outcome: that the call is done, and what it answers, that it is blocked, or that it is
--- refused (confine's own).
-use Rattle.std.specs.{Prelude.{[], ℕ, ◌<◌, ◌^◌, ◌∷◌, Bool, List, None, Ok, Option, Some, codes, false, if◌then◌else◌, true}, Str.bytes_eq}
+-- How an outcome is spelled as words of a line, and read off them: that the call is done, and what it answers, that it is blocked,
+-- or that it is refused (confine's own).
+use Rattle.std.specs.{Fmt.decimal, Prelude.{[], ℕ, ◌++◌, ◌<◌, ◌^◌, ◌∷◌, Bool, List, None, Ok, Option, Some, codes, false, true}}
+use Rattle.std.specs.{Prelude.if◌then◌else◌, Str.bytes_eq}
 use Rattle.machine.specs.declared.{call.{Answer.Answer, Outcome.Outcome}, thread.Message.Message}
 use Rattle.machine.specs.declared.call.Answer.TheVariants as answer
 use Rattle.machine.specs.declared.call.Outcome.TheVariants as outcome
 use Rattle.words.specs.{Number.number_at, Parts.{PartReader, in_turn, keyed, read_as}, Reading.{◌>>=◌, or_syntax, word_at}}
-use Rattle.evtext.specs.Event.{AreFour, four_at}
+use Rattle.evtext.specs.Operands.{AreFour, four_at, four_words}
 
 -- 1 for yes, 0 for no
+abbrev pub flag_word : Bool → List ℕ
+flag_word Bool.true = codes "1"
+flag_word Bool.false = codes "0"
+
+-- and back
 abbrev pub flag_of : List ℕ → Option Bool
 flag_of word = if bytes_eq word (codes "1") then Some true else if bytes_eq word (codes "0") then Some false else None
 
@@ -18,6 +24,11 @@ flag_at words = do
   flag ← or_syntax (flag_of word.0)
   Ok (flag, word.1)
 
+-- a message: badge, four words, and whether a capability arrived
+abbrev pub message_words : Message → List (List ℕ)
+message_words message =
+    decimal message.badge ∷ (four_words message.words ++ flag_word message.capability ∷ [])
+
 -- the message of a badge, four words, and whether a capability arrived
 abbrev pub message_of : ℕ × (List ℕ × Bool) → Message
 message_of parts = record { badge = parts.0; words = parts.1.0; capability = parts.1.1 }
@@ -25,6 +36,14 @@ message_of parts = record { badge = parts.0; words = parts.1.0; capability = par
 -- the next words as a message that was received
 unfoldable pub received_at : PartReader Message
 received_at = read_as message_of (in_turn number_at (in_turn four_at flag_at))
+
+-- what a call that is done answers
+abbrev pub answer_words : Answer → List (List ℕ)
+answer_words answer.Nothing = codes "done" ∷ []
+answer_words (answer.Word word) = codes "done" ∷ codes "word" ∷ decimal word ∷ []
+answer_words (answer.Message message) = codes "done" ∷ codes "msg" ∷ message_words message
+answer_words (answer.Count count) = codes "done" ∷ codes "count" ∷ decimal count ∷ []
+answer_words answer.Aborted = codes "done" ∷ codes "aborted" ∷ []
 
 -- no further words
 unfoldable pub aborted_at : PartReader Answer
@@ -39,6 +58,11 @@ answer_at (word ∷ words) = keyed (
     ∷ (codes "count", read_as answer.Count number_at)
     ∷ (codes "aborted", aborted_at)
     ∷ []) (word ∷ words)
+
+abbrev pub outcome_words : Outcome → List (List ℕ)
+outcome_words (outcome.Done answer) = answer_words answer
+outcome_words outcome.Blocked = codes "blocked" ∷ []
+outcome_words (outcome.Refused refusal) = codes "refused" ∷ decimal refusal.code ∷ decimal refusal.detail ∷ []
 
 -- no further words
 unfoldable pub blocked_at : PartReader Outcome

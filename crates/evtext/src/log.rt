@@ -1,9 +1,9 @@
 ghost use Rattle.std.specs.{List.zip, Prelude.{ℕ, ◌++◌, ◌≡◌, ◌≢◌, Err, IfErr, IfOk, List, Ok, OnOk}};
 ghost use Rattle.base.specs.Refusals.{out_of_memory};
-ghost use Rattle.machine.specs.{declared.call.{Event.Event as EventOf, Outcome.Outcome as OutcomeOf}, Spelling.entry_words};
+ghost use Rattle.machine.specs.declared.call.{Event.Event as EventOf, Outcome.Outcome as OutcomeOf};
 ghost use Rattle.words.specs.{declared.faults.Wrong.Wrong, Fault.{fault_at, no_memory}, FirstFault.{IsFirstFault, TellsFirst}};
 ghost use Rattle.words.specs.{Reading.Reads, Text.{line_text, lines_of}};
-ghost use Rattle.evtext.specs.Log.{IsLog, log_format, log_line, log_step, log_text, read_log_of};
+ghost use Rattle.evtext.specs.Log.{IsLog, entry_words, log_format, log_line, log_step, log_text, read_log_of};
 
 use crate::line::next_event;
 use crate::outcome::next_result;
@@ -72,10 +72,14 @@ impl Reader for Entries {
 fn log_line(words: &mut Words<'_>, before: usize) -> Result<(Event, Outcome), Wrong>
     ensures { result ≡ log_line before words.old }
 {
-    let event = next_event(words)?;
+    let claimed = next_event(words)?;
     let outcome = next_result(words)?;
     words.end()?;
-    let event = event.within_limits(before)?;
+    let event = Event {
+        core: claimed.core_within(before)?,
+        thread: claimed.thread,
+        call: claimed.call,
+    };
     Ok((event, outcome))
 }
 
@@ -102,6 +106,15 @@ pub fn write_run(alloc: Global, events: &[Event], outcomes: &[Outcome]) -> Resul
     ensures memory { IfErr result (λ refusal. refusal ≡ out_of_memory) }
 {
     Ok(run_bytes(alloc, events, outcomes)?)
+}
+
+/// The line of a log that has the event and its outcome.
+pub fn entry_line(alloc: Global, event: &Event, outcome: &Outcome) -> Result<Vec<u8>, AllocError>
+    ensures { IfOk result (λ line. line.items ≡ line_text (entry_words (event.now, outcome.now))) }
+{
+    let mut line = Vec::new(alloc);
+    write_entry(&mut line, event, outcome)?;
+    Ok(line)
 }
 
 fn log_bytes(alloc: Global, log: &[(Event, Outcome)]) -> Result<Vec<u8>, AllocError>

@@ -1,8 +1,10 @@
 ghost use Rattle.std.specs.Prelude.{◌≡◌};
-ghost use Rattle.words.specs.Reading.{Gives};
-ghost use Rattle.evtext.specs.Outcome.{answer_at, equals_at, flag_at, outcome_at, received_at};
+ghost use Rattle.machine.specs.declared.call.Outcome.TheVariants.{Done};
+ghost use Rattle.words.specs.{Number.number_at, Parts.{in_turn, read_as}, Reading.Gives};
+ghost use Rattle.evtext.specs.Outcome.{answer_at, equals_at, flag_at, outcome_at, received_at, refused_of};
 
-use crate::line::{is, next_four};
+use crate::line::is;
+use crate::operands::next_four;
 use base::Refusal;
 use machine::{Answer, Message, Outcome};
 use words::{Words, Wrong};
@@ -20,47 +22,57 @@ pub(crate) fn next_result(words: &mut Words<'_>) -> Result<Outcome, Wrong>
 }
 
 /// The next words as an outcome.
-#[tactic(auto, unfolding(crate::specs::Outcome::outcome_at, crate::specs::Outcome::blocked_at, words::specs::Parts::by_word, words::specs::Parts::in_turn, words::specs::Parts::keyed, words::specs::Parts::read_as, words::specs::Reading::bind))]
+#[tactic(auto, unfolding(crate::specs::Outcome::outcome_at, crate::specs::Outcome::blocked_at, words::specs::Parts::by_word, words::specs::Parts::keyed, words::specs::Reading::bind))]
 fn next_outcome(words: &mut Words<'_>) -> Result<Outcome, Wrong>
     ensures { Gives (λ outcome. (outcome, words.new)) result (outcome_at words.old) }
 {
     let name = words.word()?;
     if is(name, b"done") {
-        let answer = next_answer(words)?;
-        Ok(Outcome::Done(answer))
-    } else if is(name, b"blocked") {
-        Ok(Outcome::Blocked)
-    } else if is(name, b"refused") {
-        let code = words.number()?;
-        let detail = words.number()?;
-        Ok(Outcome::Refused(Refusal { code, detail }))
-    } else {
-        Err(Wrong::Syntax)
+        return next_done(words);
     }
+    if is(name, b"blocked") {
+        return Ok(Outcome::Blocked);
+    }
+    if is(name, b"refused") {
+        return next_refused(words);
+    }
+    Err(Wrong::Syntax)
 }
 
-/// The words after `done` as what the call answers.
+/// The words after `refused` as an outcome: a code and a detail.
+#[tactic(auto, unfolding(words::specs::Parts::in_turn, words::specs::Parts::read_as, words::specs::Reading::bind))]
+fn next_refused(words: &mut Words<'_>) -> Result<Outcome, Wrong>
+    ensures { Gives (λ outcome. (outcome, words.new)) result (read_as refused_of (in_turn number_at number_at) words.old) }
+{
+    let code = words.number()?;
+    let detail = words.number()?;
+    Ok(Outcome::Refused(Refusal { code, detail }))
+}
+
+/// The words after `done` as an outcome: what the call answers.
 #[tactic(auto, unfolding(crate::specs::Outcome::answer_at, crate::specs::Outcome::aborted_at, words::specs::Parts::by_word, words::specs::Parts::keyed, words::specs::Parts::read_as, words::specs::Reading::bind, words::specs::Reading::word_at))]
-fn next_answer(words: &mut Words<'_>) -> Result<Answer, Wrong>
-    ensures { Gives (λ answer. (answer, words.new)) result (answer_at words.old) }
+fn next_done(words: &mut Words<'_>) -> Result<Outcome, Wrong>
+    ensures { Gives (λ outcome. (outcome, words.new)) result (read_as Done answer_at words.old) }
 {
     let Some(name) = words.next_word() else {
-        return Ok(Answer::Nothing);
+        return Ok(Outcome::Done(Answer::Nothing));
     };
     if is(name, b"word") {
         let word = words.number()?;
-        Ok(Answer::Word(word))
-    } else if is(name, b"msg") {
-        let message = next_received(words)?;
-        Ok(Answer::Message(message))
-    } else if is(name, b"count") {
-        let count = words.number()?;
-        Ok(Answer::Count(count))
-    } else if is(name, b"aborted") {
-        Ok(Answer::Aborted)
-    } else {
-        Err(Wrong::Syntax)
+        return Ok(Outcome::Done(Answer::Word(word)));
     }
+    if is(name, b"msg") {
+        let message = next_received(words)?;
+        return Ok(Outcome::Done(Answer::Message(message)));
+    }
+    if is(name, b"count") {
+        let count = words.number()?;
+        return Ok(Outcome::Done(Answer::Count(count)));
+    }
+    if is(name, b"aborted") {
+        return Ok(Outcome::Done(Answer::Aborted));
+    }
+    Err(Wrong::Syntax)
 }
 
 /// The next words as a message that was received.

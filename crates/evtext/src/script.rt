@@ -1,9 +1,9 @@
 ghost use Rattle.std.specs.Prelude.{ℕ, ◌++◌, ◌≡◌, ◌≢◌, IfErr, IfOk, List, Ok, OnOk};
 ghost use Rattle.base.specs.Refusals.{out_of_memory};
-ghost use Rattle.machine.specs.{declared.call.Event.Event as EventOf, Spelling.event_words};
+ghost use Rattle.machine.specs.declared.call.Event.{Event as EventOf};
 ghost use Rattle.words.specs.{declared.faults.Wrong.Wrong, Fault.{fault_at, no_memory}, FirstFault.{IsFirstFault, TellsFirst}};
 ghost use Rattle.words.specs.{Reading.Reads, Text.{line_text, lines_of}};
-ghost use Rattle.evtext.specs.Script.{IsScript, read_script_of, script_format, script_line, script_step, script_text};
+ghost use Rattle.evtext.specs.{Event.event_words, Script.{IsScript, read_script_of, script_format, script_line, script_step, script_text}};
 
 use crate::line::next_event;
 use crate::writing::write_event;
@@ -72,9 +72,13 @@ impl Reader for Script {
 fn script_line(words: &mut Words<'_>, before: usize) -> Result<Event, Wrong>
     ensures { result ≡ script_line before words.old }
 {
-    let event = next_event(words)?;
+    let claimed = next_event(words)?;
     words.end()?;
-    event.within_limits(before)
+    Ok(Event {
+        core: claimed.core_within(before)?,
+        thread: claimed.thread,
+        call: claimed.call,
+    })
 }
 
 /// The text of a script, which has at most 1,000,000 events. A text that was read as these events is

@@ -1,15 +1,14 @@
 //! Words of events and of what they answer, each written after a space at the end of a text. No word is made by itself.
-ghost use Rattle.std.specs.{Fmt.decimal, Int.RustNames.bit_and, Prelude.{[], ◌++◌, ◌+◌, ◌==◌, ◌∷◌, ◌≡◌, ◌≤◌, Bool, OnOk, length, map}};
+ghost use Rattle.std.specs.{Fmt.decimal, Int.RustNames.bit_and, Prelude.{[], ◌++◌, ◌+◌, ◌==◌, ◌∷◌, ◌≡◌, ◌≤◌, OnOk, length, map}};
 ghost use Rattle.std.specs.Prelude.{vec_capacity, vec_len};
 ghost use Rattle.base.specs.Rights.{letter_of, rights_word};
-ghost use Rattle.machine.specs.declared.call.Call.TheVariants as calls;
-ghost use Rattle.machine.specs.Spelling.{answer_words, call_words, data_words, four_words, message_words, optional_slot_words};
-ghost use Rattle.machine.specs.{Spelling.{optional_word, outcome_words, slot_address_words}, Step.takes_memory};
-ghost use Rattle.evtext.specs.Written.{written};
+ghost use Rattle.evtext.specs.{Event.call_words, Operands.{data_words, four_words, optional_slot_words, optional_word, slot_address_words}};
+ghost use Rattle.evtext.specs.{Outcome.{answer_words, message_words, outcome_words}, Written.written};
 
+use crate::call::write_call;
 use base::Rights;
 use bitflags::Flags;
-use machine::{Answer, Call, CapData, Event, Message, Outcome, SlotAddress};
+use machine::{Answer, CapData, Event, Message, Outcome, SlotAddress};
 use std::alloc::AllocError;
 
 // The four rights.
@@ -81,7 +80,7 @@ pub(crate) fn write_bytes(text: &mut Vec<u8>, bytes: &[u8]) -> Result<(), AllocE
 }
 
 // Writes the number in decimal, and no space before it.
-fn write_decimal(text: &mut Vec<u8>, number: u64) -> Result<(), AllocError>
+pub(crate) fn write_decimal(text: &mut Vec<u8>, number: u64) -> Result<(), AllocError>
     ensures { OnOk result (text.new.items ≡ text.old.items ++ decimal number) }
 {
     make_room(text, MOST_DIGITS)?;
@@ -90,7 +89,7 @@ fn write_decimal(text: &mut Vec<u8>, number: u64) -> Result<(), AllocError>
 }
 
 // Writes the number in decimal.
-fn write_number(text: &mut Vec<u8>, number: u64) -> Result<(), AllocError>
+pub(crate) fn write_number(text: &mut Vec<u8>, number: u64) -> Result<(), AllocError>
     ensures { OnOk result (text.new.items ≡ written text.old.items (decimal number ∷ [])) }
 {
     make_room(text, 1 + MOST_DIGITS)?;
@@ -99,7 +98,7 @@ fn write_number(text: &mut Vec<u8>, number: u64) -> Result<(), AllocError>
     Ok(())
 }
 
-fn write_word(text: &mut Vec<u8>, word: &str) -> Result<(), AllocError>
+pub(crate) fn write_word(text: &mut Vec<u8>, word: &str) -> Result<(), AllocError>
     ensures { OnOk result (text.new.items ≡ written text.old.items (word.now ∷ [])) }
 {
     make_room(text, 1 + word.len())?;
@@ -109,7 +108,11 @@ fn write_word(text: &mut Vec<u8>, word: &str) -> Result<(), AllocError>
 }
 
 // Writes a name and numbers after it.
-fn write_numbers(text: &mut Vec<u8>, name: &str, numbers: &[u64]) -> Result<(), AllocError>
+pub(crate) fn write_numbers(
+    text: &mut Vec<u8>,
+    name: &str,
+    numbers: &[u64],
+) -> Result<(), AllocError>
     ensures { OnOk result (text.new.items ≡ written text.old.items (name.now ∷ map decimal numbers.now)) }
 {
     write_word(text, name)?;
@@ -119,7 +122,7 @@ fn write_numbers(text: &mut Vec<u8>, name: &str, numbers: &[u64]) -> Result<(), 
     Ok(())
 }
 
-fn write_optional(text: &mut Vec<u8>, number: Option<u64>) -> Result<(), AllocError>
+pub(crate) fn write_optional(text: &mut Vec<u8>, number: Option<u64>) -> Result<(), AllocError>
     ensures { OnOk result (text.new.items ≡ written text.old.items (optional_word number ∷ [])) }
 {
     match number {
@@ -128,7 +131,7 @@ fn write_optional(text: &mut Vec<u8>, number: Option<u64>) -> Result<(), AllocEr
     }
 }
 
-fn write_slot(text: &mut Vec<u8>, slot: &SlotAddress) -> Result<(), AllocError>
+pub(crate) fn write_slot(text: &mut Vec<u8>, slot: &SlotAddress) -> Result<(), AllocError>
     ensures { OnOk result (text.new.items ≡ written text.old.items (slot_address_words slot.now)) }
 {
     write_number(text, slot.root)?;
@@ -136,7 +139,10 @@ fn write_slot(text: &mut Vec<u8>, slot: &SlotAddress) -> Result<(), AllocError>
     write_number(text, slot.depth)
 }
 
-fn write_optional_slot(text: &mut Vec<u8>, slot: &Option<SlotAddress>) -> Result<(), AllocError>
+pub(crate) fn write_optional_slot(
+    text: &mut Vec<u8>,
+    slot: &Option<SlotAddress>,
+) -> Result<(), AllocError>
     ensures { OnOk result (text.new.items ≡ written text.old.items (optional_slot_words slot.now)) }
 {
     match slot {
@@ -145,7 +151,7 @@ fn write_optional_slot(text: &mut Vec<u8>, slot: &Option<SlotAddress>) -> Result
     }
 }
 
-fn write_four(text: &mut Vec<u8>, words: &[u64; 4]) -> Result<(), AllocError>
+pub(crate) fn write_four(text: &mut Vec<u8>, words: &[u64; 4]) -> Result<(), AllocError>
     ensures { OnOk result (text.new.items ≡ written text.old.items (four_words words.now)) }
 {
     let [first, second, third, fourth] = *words;
@@ -175,7 +181,7 @@ fn has_none(rights: Rights) -> bool
     rights.bits() & SPELLED_RIGHTS == 0
 }
 
-fn write_rights(text: &mut Vec<u8>, rights: Rights) -> Result<(), AllocError>
+pub(crate) fn write_rights(text: &mut Vec<u8>, rights: Rights) -> Result<(), AllocError>
     ensures { OnOk result (text.new.items ≡ written text.old.items (rights_word rights ∷ [])) }
 {
     if has_none(rights) {
@@ -188,7 +194,7 @@ fn write_rights(text: &mut Vec<u8>, rights: Rights) -> Result<(), AllocError>
     write_letter(text, rights, Rights::GRANT_REPLY, b"y")
 }
 
-fn write_data(text: &mut Vec<u8>, given: &CapData) -> Result<(), AllocError>
+pub(crate) fn write_data(text: &mut Vec<u8>, given: &CapData) -> Result<(), AllocError>
     ensures { OnOk result (text.new.items ≡ written text.old.items (data_words given.now)) }
 {
     match given {
@@ -198,7 +204,7 @@ fn write_data(text: &mut Vec<u8>, given: &CapData) -> Result<(), AllocError>
 }
 
 // Writes a name and what is sent: to whom, which words, and which capability.
-fn write_sent(
+pub(crate) fn write_sent(
     text: &mut Vec<u8>,
     name: &str,
     address: u64,
@@ -211,151 +217,6 @@ fn write_sent(
     write_numbers(text, name, &[address])?;
     write_four(text, words)?;
     write_optional(text, capability)
-}
-
-fn write_receive(
-    text: &mut Vec<u8>,
-    address: u64,
-    reply: Option<u64>,
-    slot: &Option<SlotAddress>,
-) -> Result<(), AllocError>
-    ensures { OnOk result (text.new.items ≡ written text.old.items (call_words (calls.Receive address reply slot.now))) }
-{
-    write_numbers(text, "recv", &[address])?;
-    write_optional(text, reply)?;
-    write_optional_slot(text, slot)
-}
-
-fn write_reply(text: &mut Vec<u8>, address: u64, words: &[u64; 4]) -> Result<(), AllocError>
-    ensures { OnOk result (text.new.items ≡ written text.old.items (call_words (calls.Reply address words.now))) }
-{
-    write_numbers(text, "reply", &[address])?;
-    write_four(text, words)
-}
-
-// Writes a name and a slot after it.
-fn write_of_slot(text: &mut Vec<u8>, name: &str, slot: &SlotAddress) -> Result<(), AllocError>
-    ensures { OnOk result (text.new.items ≡ written text.old.items (name.now ∷ slot_address_words slot.now)) }
-{
-    write_word(text, name)?;
-    write_slot(text, slot)
-}
-
-// Writes a name and two slots after it.
-fn write_of_slots(
-    text: &mut Vec<u8>,
-    name: &str,
-    to: &SlotAddress,
-    from: &SlotAddress,
-) -> Result<(), AllocError>
-    ensures { OnOk result (text.new.items ≡ written text.old.items
-        (name.now ∷ (slot_address_words to.now ++ slot_address_words from.now))) }
-{
-    write_of_slot(text, name, to)?;
-    write_slot(text, from)
-}
-
-fn write_copy(
-    text: &mut Vec<u8>,
-    to: &SlotAddress,
-    from: &SlotAddress,
-    rights: Rights,
-) -> Result<(), AllocError>
-    ensures { OnOk result (text.new.items ≡ written text.old.items (call_words (calls.Copy to.now from.now rights))) }
-{
-    write_of_slots(text, "copy", to, from)?;
-    write_rights(text, rights)
-}
-
-fn write_mint(
-    text: &mut Vec<u8>,
-    to: &SlotAddress,
-    from: &SlotAddress,
-    rights: Rights,
-    given: &CapData,
-) -> Result<(), AllocError>
-    ensures { OnOk result (text.new.items
-        ≡ written text.old.items (call_words (calls.Mint to.now from.now rights given.now))) }
-{
-    write_of_slots(text, "mint", to, from)?;
-    write_rights(text, rights)?;
-    write_data(text, given)
-}
-
-// Writes the words of a retype, the one call that takes memory.
-fn write_retype(text: &mut Vec<u8>, call: &Call) -> Result<(), AllocError>
-    requires { takes_memory call.now ≡ Bool.true }
-    ensures { OnOk result (text.new.items ≡ written text.old.items (call_words call.now)) }
-{
-    let Call::Retype {
-        untyped,
-        kind,
-        bits,
-        to,
-        offset,
-        count,
-    } = call
-    else {
-        unreachable!()
-    };
-    write_numbers(text, "retype", &[*untyped])?;
-    write_numbers(text, kind.name(), &[*bits, *to, *offset, *count])
-}
-
-fn write_call(text: &mut Vec<u8>, call: &Call) -> Result<(), AllocError>
-    ensures { OnOk result (text.new.items ≡ written text.old.items (call_words call.now)) }
-{
-    match call {
-        Call::Signal { address } => write_numbers(text, "signal", &[*address]),
-        Call::Poll { address } => write_numbers(text, "poll", &[*address]),
-        Call::Wait { address } => write_numbers(text, "wait", &[*address]),
-        Call::Send {
-            address,
-            words,
-            capability,
-        } => write_sent(text, "send", *address, words, *capability),
-        Call::Call {
-            address,
-            words,
-            capability,
-        } => write_sent(text, "call", *address, words, *capability),
-        Call::Receive {
-            address,
-            reply,
-            slot,
-        } => write_receive(text, *address, *reply, slot),
-        Call::Reply { address, words } => write_reply(text, *address, words),
-        Call::Fetch => write_word(text, "fetch"),
-        Call::Copy { to, from, rights } => write_copy(text, to, from, *rights),
-        Call::Mint {
-            to,
-            from,
-            rights,
-            given,
-        } => write_mint(text, to, from, *rights, given),
-        Call::Move { to, from } => write_of_slots(text, "move", to, from),
-        Call::Delete { slot } => write_of_slot(text, "delete", slot),
-        Call::Revoke { slot } => write_of_slot(text, "revoke", slot),
-        Call::Retype { .. } => write_retype(text, call),
-        Call::Read { address, index } => write_numbers(text, "read", &[*address, *index]),
-        Call::Write {
-            address,
-            index,
-            word,
-        } => write_numbers(text, "write", &[*address, *index, *word]),
-        Call::SetSpace { thread, space } => write_numbers(text, "setspace", &[*thread, *space]),
-        Call::ClearSpace { thread } => write_numbers(text, "clearspace", &[*thread]),
-        Call::Suspend { thread } => write_numbers(text, "suspend", &[*thread]),
-        Call::Resume { thread } => write_numbers(text, "resume", &[*thread]),
-        Call::Configure {
-            control,
-            context,
-            budget,
-            period,
-        } => write_numbers(text, "configure", &[*control, *context, *budget, *period]),
-        Call::Bind { context, thread } => write_numbers(text, "bind", &[*context, *thread]),
-        Call::Unbind { context } => write_numbers(text, "unbind", &[*context]),
-    }
 }
 
 /// Writes the words of the event, and no space before them.

@@ -17,7 +17,6 @@ pub mod Run
 pub mod Boot
 pub mod WellFormed
 pub mod Authority
-pub mod Spelling
 pub mod Narrower
 pub mod Finite
 pub mod Rounds

@@ -14,7 +14,6 @@ mod object;
 mod radix;
 mod removal_laws;
 mod slot_address;
-mod spelling;
 mod step_laws;
 mod thread;
 mod thread_laws;

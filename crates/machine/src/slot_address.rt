@@ -1,5 +1,8 @@
+ghost use Rattle.std.specs.{Fmt.decimal, List.join_with_byte, Prelude.{[], ◌∷◌, Some}};
+
 use crate::Cap;
 use base::SlotRef;
+use std::fmt;
 
 /// A slot as a call names it: the address of a CNode's capability, and below it an index, of which
 /// `depth` bits are looked up (seL4 manual, "Capability Address Lookup").
@@ -9,6 +12,17 @@ pub struct SlotAddress {
     pub index: u64,
     /// 1 to 64, else nothing is found.
     pub depth: u64,
+}
+
+impl fmt::Display for SlotAddress {
+    ghost output = { λ slot. Some (join_with_byte 32 (decimal slot.root ∷ decimal slot.index ∷ decimal slot.depth ∷ [])) };
+
+    fn fmt<W: fmt::Write>(&self, f: &mut fmt::Formatter<W>) -> fmt::Result {
+        let root = self.root;
+        let index = self.index;
+        let depth = self.depth;
+        write!(f, "{root} {index} {depth}")
+    }
 }
 
 /// The slots between which a capability is copied or moved.

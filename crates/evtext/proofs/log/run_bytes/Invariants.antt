@@ -1,7 +1,6 @@
 use Rattle.std.{specs.List.zip, proofs.Common.{◌∷◌, ◌≡◌, length, map, take}}
-use Rattle.machine.specs.Spelling.{entry_words}
 use Rattle.words.specs.Text.{text_of}
-use Rattle.evtext.specs.Log.{log_header}
+use Rattle.evtext.specs.Log.{entry_words, log_header}
 use Rattle.evtext.proofs.log.run_bytes.Given as goal
 
 -- the lines so far are the header's and those of the entries so far

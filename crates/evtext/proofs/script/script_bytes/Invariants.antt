@@ -1,7 +1,6 @@
 use Rattle.std.proofs.Common.{◌∷◌, ◌≡◌, map, take}
-use Rattle.machine.specs.Spelling.{event_words}
 use Rattle.words.specs.Text.{text_of}
-use Rattle.evtext.specs.Script.{script_header}
+use Rattle.evtext.specs.{Event.event_words, Script.script_header}
 use Rattle.evtext.proofs.script.script_bytes.Given as goal
 
 -- the lines so far are the header's and those of the events so far

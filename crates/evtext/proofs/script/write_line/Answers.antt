@@ -1,6 +1,5 @@
 use Rattle.std.{specs.Fmt.decimal, proofs.Common.{[], ◌++◌, ◌∙◌, ◌∷◌, ap}}
-use Rattle.machine.specs.Spelling.{call_words}
-use Rattle.evtext.proofs.Lines.{line_written}
+use Rattle.evtext.{specs.Event.call_words, proofs.Lines.line_written}
 use Rattle.evtext.proofs.script.write_line.Goals as goal
 
 pub returns : goal.returns
