@@ -2,7 +2,7 @@
 use crate::lines::{has_word, part, word};
 
 /// A text that is read.
-#[derive(Clone, Copy, PartialEq, Eq, Debug)]
+#[derive(Clone, Copy, PartialEq, Eq)]
 pub enum Text {
     Table,
     Policy,
@@ -80,16 +80,16 @@ impl Text {
 /// The form by whose word a line of the text is known.
 pub fn form_of(kind: Text, line: &str) -> Option<Form> {
     let word = word(line, kind.words_before())?;
-    for form in Form::ALL {
-        if kind.has(form) && form.word() == word {
-            return Some(form);
+    for form in &Form::ALL {
+        if kind.has(*form) && form.word() == word {
+            return Some(*form);
         }
     }
     None
 }
 
 /// A form of the lines of a text.
-#[derive(Clone, Copy, PartialEq, Eq, Debug)]
+#[derive(Clone, Copy, PartialEq, Eq)]
 pub enum Form {
     Label,
     Untyped,

@@ -1,4 +1,5 @@
 //! Whether a line is one of its text at all: 50.
+use crate::classes::Class;
 use crate::form::{Form, Text, form_of};
 use crate::lines::{Line, text_of, word};
 
@@ -30,9 +31,9 @@ pub enum LayoutFlaw<'a> {
 
 /// What is wrong with the first line.
 pub fn header_flaw(line: &str) -> LayoutFlaw<'_> {
-    for kind in Text::ALL {
+    for kind in &Text::ALL {
         if kind.has_header(line) {
-            return LayoutFlaw::HeaderOf(kind);
+            return LayoutFlaw::HeaderOf(*kind);
         }
     }
     LayoutFlaw::NoHeader
@@ -56,29 +57,25 @@ pub fn bytes_flaw<'a>(line: Line<'a>, before: &str) -> Option<LayoutFlaw<'a>> {
     if bytes.last() == Some(&b'\r') {
         return Some(LayoutFlaw::CarriageReturn);
     }
-    if bytes.iter().any(|byte| *byte == b'\t') {
+    if bytes.contains(&b'\t') {
         return Some(LayoutFlaw::Tab);
     }
-    if bytes.iter().any(|byte| !matches!(*byte, b' '..=b'~')) {
+    if !Class::Printable.has_all(bytes) {
         return Some(LayoutFlaw::NoAscii);
     }
-    spaces_flaw(bytes)
+    spaces_flaw(text_of(bytes))
 }
 
 // Whether words are parted by one space each.
-fn spaces_flaw<'a>(bytes: &[u8]) -> Option<LayoutFlaw<'a>> {
-    if bytes.first() == Some(&b' ') {
+fn spaces_flaw<'a>(line: &str) -> Option<LayoutFlaw<'a>> {
+    if line.starts_with(' ') {
         return Some(LayoutFlaw::SpaceFirst);
     }
-    if bytes.last() == Some(&b' ') {
+    if line.ends_with(' ') {
         return Some(LayoutFlaw::SpaceLast);
     }
-    let mut before = b'-';
-    for byte in bytes {
-        if *byte == b' ' && before == b' ' {
-            return Some(LayoutFlaw::TwoSpaces);
-        }
-        before = *byte;
+    if line.contains("  ") {
+        return Some(LayoutFlaw::TwoSpaces);
     }
     None
 }
@@ -88,11 +85,7 @@ pub fn formless_flaw<'a>(kind: Text, line: &'a str, before: &str) -> LayoutFlaw<
     let Some(first) = word(line, kind.words_before()) else {
         return LayoutFlaw::NoCall;
     };
-    if first
-        .as_bytes()
-        .iter()
-        .any(|byte| matches!(*byte, b'A'..=b'Z'))
-    {
+    if Class::Capital.is_in(first.as_bytes()) {
         return LayoutFlaw::Capitals(first);
     }
     match kind {

@@ -1,6 +1,7 @@
 //! The forms of the lines of all texts, and what is said of a line that isn't spelled as its form has it.
 #![tactic(auto)]
 
+mod classes;
 mod form;
 mod layout;
 mod lines;

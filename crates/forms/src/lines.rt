@@ -67,14 +67,7 @@ pub fn word(line: &str, number: u64) -> Option<&str> {
 
 /// The part of this number, from 0, of those between the separators.
 pub fn part(text: &str, separator: char, number: u64) -> Option<&str> {
-    let mut rest = text;
-    for _ in 0..number {
-        rest = rest.split_once(separator)?.1;
-    }
-    match rest.split_once(separator) {
-        Some((first, _)) => Some(first),
-        None => Some(rest),
-    }
+    text.split(separator).nth(number as usize)
 }
 
 /// Whether the word of this number is there, and is this one.

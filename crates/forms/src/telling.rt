@@ -76,8 +76,8 @@ fn words_of<W: fmt::Write>(
     separator: &str,
 ) -> fmt::Result {
     let mut between = "";
-    for form in Form::ALL {
-        if kind.has(form) && form.section() >= section {
+    for form in &Form::ALL {
+        if kind.has(*form) && form.section() >= section {
             f.write_str(between)?;
             f.write_str(form.word())?;
             between = separator;

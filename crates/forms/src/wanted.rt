@@ -1,9 +1,10 @@
 //! The words of lines: which are wanted, and why one isn't right.
+use crate::classes::Class;
 use crate::lines::part;
 use std::fmt;
 
 /// A word that a form wants.
-#[derive(Clone, Copy, PartialEq, Eq, Debug)]
+#[derive(Clone, Copy)]
 pub enum Wanted {
     Name,
     Decimal,
@@ -28,25 +29,33 @@ pub enum Wanted {
     Fixed,
 }
 
+/// The words of patterns that stand for others. Any other stands for itself, and the form was chosen by it.
+const KEYWORDS: [(&str, Wanted); 14] = [
+    ("NAME", Wanted::Name),
+    ("LABEL", Wanted::Name),
+    ("DEC", Wanted::Decimal),
+    ("HEX", Wanted::Address),
+    ("SLOT", Wanted::Slot),
+    ("RIGHTS", Wanted::Rights),
+    ("START", Wanted::Start),
+    ("KIND", Wanted::Kind),
+    ("KINDS", Wanted::Kinds),
+    ("MATERIAL", Wanted::Material),
+    ("OPTIONAL", Wanted::Optional),
+    ("MINTING", Wanted::Minting),
+    ("TERM", Wanted::Term),
+    ("CAME", Wanted::Came),
+];
+
 impl Wanted {
     /// What a word of a pattern stands for.
     pub fn of(keyword: &str) -> Wanted {
-        match keyword {
-            "NAME" | "LABEL" => Wanted::Name,
-            "DEC" => Wanted::Decimal,
-            "HEX" => Wanted::Address,
-            "SLOT" => Wanted::Slot,
-            "RIGHTS" => Wanted::Rights,
-            "START" => Wanted::Start,
-            "KIND" => Wanted::Kind,
-            "KINDS" => Wanted::Kinds,
-            "MATERIAL" => Wanted::Material,
-            "OPTIONAL" => Wanted::Optional,
-            "MINTING" => Wanted::Minting,
-            "TERM" => Wanted::Term,
-            "CAME" => Wanted::Came,
-            _ => Wanted::Fixed,
+        for (word, wanted) in &KEYWORDS {
+            if *word == keyword {
+                return *wanted;
+            }
         }
+        Wanted::Fixed
     }
 
     /// Its name, where it is missing.
@@ -150,9 +159,18 @@ const MATERIALS: [&str; 8] = [
     "frame",
 ];
 
+/// How a thread starts.
+const STARTS: [&str; 2] = ["ready", "inactive"];
+
+/// What a mint gives.
+const MINTINGS: [&str; 2] = ["badge", "guard"];
+
+/// How many capabilities came along.
+const CAME: [&str; 2] = ["0", "1"];
+
 /// The number of a kind.
 pub fn kind_number(word: &str) -> Option<usize> {
-    KINDS.iter().position(|kind| *kind == word)
+    place_among(&KINDS, word)
 }
 
 /// The longest name.
@@ -176,18 +194,22 @@ pub fn word_flaw(wanted: Wanted, word: &str) -> Option<WordFlaw<'_>> {
 
 // A word that is one of a few.
 fn choice_flaw(wanted: Wanted, word: &str) -> Option<WordFlaw<'_>> {
-    match (wanted, word) {
-        (Wanted::Start, "ready" | "inactive")
-        | (Wanted::Minting, "badge" | "guard")
-        | (Wanted::Came, "0" | "1") => None,
-        (Wanted::Start, _) => Some(WordFlaw::NoStart(word)),
-        (Wanted::Minting, _) => Some(WordFlaw::NoMinting(word)),
-        (Wanted::Came, _) => Some(WordFlaw::NoCame(word)),
-        (Wanted::Material, _) if MATERIALS.iter().position(|kind| *kind == word).is_none() => {
-            Some(WordFlaw::NoMaterial(word))
-        }
+    match wanted {
+        Wanted::Start if !is_one_of(word, &STARTS) => Some(WordFlaw::NoStart(word)),
+        Wanted::Minting if !is_one_of(word, &MINTINGS) => Some(WordFlaw::NoMinting(word)),
+        Wanted::Came if !is_one_of(word, &CAME) => Some(WordFlaw::NoCame(word)),
+        Wanted::Material if !is_one_of(word, &MATERIALS) => Some(WordFlaw::NoMaterial(word)),
         _ => None,
     }
+}
+
+fn is_one_of(word: &str, words: &[&str]) -> bool {
+    place_among(words, word).is_some()
+}
+
+// Where a word stands among others.
+fn place_among(words: &[&str], word: &str) -> Option<usize> {
+    words.iter().position(|one| *one == word)
 }
 
 fn name_flaw(word: &str) -> Option<NameFlaw> {
@@ -195,16 +217,16 @@ fn name_flaw(word: &str) -> Option<NameFlaw> {
     let Some(first) = bytes.first() else {
         return Some(NameFlaw::First);
     };
-    if bytes.iter().any(|byte| *byte == b'.') {
+    if bytes.contains(&b'.') {
         return Some(NameFlaw::Slot);
     }
-    if bytes.iter().any(|byte| is_capital(*byte)) {
+    if Class::Capital.is_in(bytes) {
         return Some(NameFlaw::Capital);
     }
-    if !is_small(*first) {
+    if !Class::Small.has(*first) {
         return Some(NameFlaw::First);
     }
-    if bytes.iter().any(|byte| !is_of_names(*byte)) {
+    if !Class::OfName.has_all(bytes) {
         return Some(NameFlaw::Character);
     }
     if bytes.len() > LONGEST {
@@ -213,25 +235,9 @@ fn name_flaw(word: &str) -> Option<NameFlaw> {
     None
 }
 
-fn is_capital(byte: u8) -> bool {
-    matches!(byte, b'A'..=b'Z')
-}
-
-fn is_small(byte: u8) -> bool {
-    matches!(byte, b'a'..=b'z')
-}
-
-fn is_digit(byte: u8) -> bool {
-    matches!(byte, b'0'..=b'9')
-}
-
-fn is_of_names(byte: u8) -> bool {
-    is_small(byte) || is_digit(byte) || byte == b'_'
-}
-
 /// A decimal number, if the word is one.
 pub fn decimal(word: &str) -> Option<u64> {
-    if word.is_empty() || has_other_than_digits(word) || has_zeros(word) {
+    if !has_digits_alone(word) || has_zeros(word) {
         return None;
     }
     number_of(word, 10)
@@ -259,8 +265,8 @@ fn number_of(digits: &str, radix: u64) -> Option<u64> {
     Some(number)
 }
 
-fn has_other_than_digits(word: &str) -> bool {
-    word.as_bytes().iter().any(|byte| !is_digit(*byte))
+fn has_digits_alone(word: &str) -> bool {
+    !word.is_empty() && Class::Digit.has_all(word.as_bytes())
 }
 
 fn has_zeros(digits: &str) -> bool {
@@ -275,7 +281,7 @@ fn decimal_flaw(word: &str) -> Option<WordFlaw<'_>> {
         NumberFlaw::Hexadecimal
     } else if (word.starts_with('+') || word.starts_with('-')) && word.len() > 1 {
         NumberFlaw::Sign
-    } else if word.is_empty() || has_other_than_digits(word) {
+    } else if !has_digits_alone(word) {
         NumberFlaw::NoDecimal
     } else if has_zeros(word) {
         NumberFlaw::Zeros
@@ -304,14 +310,13 @@ fn hexadecimal_flaw(word: &str) -> Option<NumberFlaw> {
     if hexadecimal(word).is_some() {
         return None;
     }
-    if word.as_bytes().iter().any(|byte| is_capital(*byte)) {
+    if Class::Capital.is_in(word.as_bytes()) {
         return Some(NumberFlaw::CapitalInNumber);
     }
     let Some(digits) = word.strip_prefix("0x") else {
         return Some(NumberFlaw::NoPrefix);
     };
-    let is_odd = |byte: &u8| !(is_digit(*byte) || matches!(*byte, b'a'..=b'f'));
-    if digits.is_empty() || digits.as_bytes().iter().any(is_odd) {
+    if digits.is_empty() || !Class::HexDigit.has_all(digits.as_bytes()) {
         Some(NumberFlaw::NoHexadecimal)
     } else if has_zeros(digits) {
         Some(NumberFlaw::Zeros)
@@ -336,12 +341,15 @@ fn slot_flaw(word: &str) -> Option<WordFlaw<'_>> {
     }
 }
 
-/// The letters of rights, in their order.
-const RIGHTS: &str = "rwgy";
-
-/// The number of a right.
+/// The number of a right, by its letter.
 pub fn right_number(letter: u8) -> Option<usize> {
-    RIGHTS.as_bytes().iter().position(|right| *right == letter)
+    match letter {
+        b'r' => Some(0),
+        b'w' => Some(1),
+        b'g' => Some(2),
+        b'y' => Some(3),
+        _ => None,
+    }
 }
 
 fn rights_flaw(word: &str) -> Option<WordFlaw<'_>> {
