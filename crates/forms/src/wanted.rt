@@ -412,38 +412,50 @@ fn kinds_flaw(word: &str) -> Option<WordFlaw<'_>> {
 
 impl fmt::Display for WordFlaw<'_> {
     fn fmt<W: fmt::Write>(&self, f: &mut fmt::Formatter<W>) -> fmt::Result {
+        if let Some((word, words)) = said_of_word(*self) {
+            return write!(f, "`{word}` {words}");
+        }
         match *self {
             WordFlaw::Missing(wanted) => {
                 let name = wanted.name();
                 write!(f, "{name} is missing")
             }
-            WordFlaw::TooMany(word) => write!(f, "`{word}` is a word too many"),
             WordFlaw::Name(word, flaw) => write!(f, "{}", NoName { word, flaw }),
             WordFlaw::Number(word, flaw) => write!(f, "{}", NoNumber { word, flaw }),
-            WordFlaw::NoDot(word) => write!(
-                f,
-                "`{word}` is no slot: a dot and an index, or `.root`, follow the name"
-            ),
-            WordFlaw::NoIndex(word) => write!(
-                f,
-                "`{word}` is no slot: after the dot stands an index in decimal, or `root`"
-            ),
             WordFlaw::NoRight(word, letter) => write!(
                 f,
                 "`{letter}` in `{word}` is no right: rights are some of `rwgy`, or `-`"
             ),
             WordFlaw::RightTwice(letter) => write!(f, "the right `{letter}` stands twice"),
             WordFlaw::RightsFall => f.write_str("rights stand in the order rwgy"),
-            WordFlaw::NoCame(word) => write!(
-                f,
-                "`{word}` is neither 1, where a capability came along, nor 0"
-            ),
             flaw => write!(f, "{}", NoChoice { flaw }),
         }
     }
 }
 
-/// A word that is none of those from which one is to be chosen.
+// What is said of a word, after it, where nothing else is named.
+fn said_of_word(flaw: WordFlaw<'_>) -> Option<(&str, &'static str)> {
+    match flaw {
+        WordFlaw::TooMany(word) => Some((word, "is a word too many")),
+        WordFlaw::NoDot(word) => Some((
+            word,
+            "is no slot: a dot and an index, or `.root`, follow the name",
+        )),
+        WordFlaw::NoIndex(word) => Some((
+            word,
+            "is no slot: after the dot stands an index in decimal, or `root`",
+        )),
+        WordFlaw::NoCame(word) => Some((
+            word,
+            "is neither 1, where a capability came along, nor 0",
+        )),
+        WordFlaw::NoStart(word) => Some((word, "is neither `ready` nor `inactive`")),
+        WordFlaw::NoMinting(word) => Some((word, "is neither `badge` nor `guard`")),
+        _ => None,
+    }
+}
+
+/// A word that is no kind, or not in its place among kinds.
 #[derive(Clone, Copy)]
 struct NoChoice<'a> {
     flaw: WordFlaw<'a>,
@@ -452,8 +464,6 @@ struct NoChoice<'a> {
 impl fmt::Display for NoChoice<'_> {
     fn fmt<W: fmt::Write>(&self, f: &mut fmt::Formatter<W>) -> fmt::Result {
         match self.flaw {
-            WordFlaw::NoStart(word) => write!(f, "`{word}` is neither `ready` nor `inactive`"),
-            WordFlaw::NoMinting(word) => write!(f, "`{word}` is neither `badge` nor `guard`"),
             WordFlaw::NoKind("") => f.write_str("a comma stands between two kinds alone"),
             WordFlaw::NoKind(word) => {
                 write!(f, "`{word}` is no kind of authority: the kinds are ")?;
@@ -524,19 +534,28 @@ struct NoNumber<'a> {
 
 impl fmt::Display for NoNumber<'_> {
     fn fmt<W: fmt::Write>(&self, f: &mut fmt::Formatter<W>) -> fmt::Result {
-        let word = self.word;
         match self.flaw {
-            NumberFlaw::Hexadecimal => write!(f, "`{word}` is to be a decimal number"),
-            NumberFlaw::Sign => write!(f, "`{word}` has a sign, and numbers have none"),
-            NumberFlaw::Zeros => write!(f, "`{word}` has a leading zero, and numbers have none"),
-            NumberFlaw::Large => write!(f, "`{word}` isn't below 2^64"),
-            NumberFlaw::NoDecimal => write!(f, "`{word}` is no decimal number"),
-            NumberFlaw::NoPrefix => write!(f, "`{word}` is no address: addresses begin with `0x`"),
             NumberFlaw::CapitalInAddress => f.write_str("addresses are written in small letters"),
             NumberFlaw::CapitalInNumber => {
                 f.write_str("hexadecimal numbers are written in small letters")
             }
-            NumberFlaw::NoHexadecimal => write!(f, "`{word}` is no hexadecimal number"),
+            flaw => {
+                let (word, words) = (self.word, said_of_number(flaw));
+                write!(f, "`{word}` {words}")
+            }
         }
+    }
+}
+
+// What is said of a number, after it.
+fn said_of_number(flaw: NumberFlaw) -> &'static str {
+    match flaw {
+        NumberFlaw::Hexadecimal => "is to be a decimal number",
+        NumberFlaw::Sign => "has a sign, and numbers have none",
+        NumberFlaw::Zeros => "has a leading zero, and numbers have none",
+        NumberFlaw::Large => "isn't below 2^64",
+        NumberFlaw::NoDecimal => "is no decimal number",
+        NumberFlaw::NoPrefix => "is no address: addresses begin with `0x`",
+        _ => "is no hexadecimal number",
     }
 }
