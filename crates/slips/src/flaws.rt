@@ -1,7 +1,7 @@
 //! What is said of a line that doesn't meet a condition.
 use crate::caps::{KindFlaw, SlotFlaw};
 use crate::claims::ClaimFlaw;
-use crate::edges::EdgeFlaw;
+use crate::edges::{EdgeFlaw, Numbered};
 use crate::limits::LimitFlaw;
 use crate::memory::PlacedFlaw;
 use crate::names::{KnownFlaw, TwiceFlaw};
@@ -110,19 +110,31 @@ impl fmt::Display for Numbers<'_> {
 
 impl fmt::Display for EdgeFlaw<'_> {
     fn fmt<W: fmt::Write>(&self, f: &mut fmt::Formatter<W>) -> fmt::Result {
-        let (what, here, before, line) = match *self {
-            EdgeFlaw::Twice(line) => return write!(f, "the same edge stands in line {line}"),
-            EdgeFlaw::Labels(here, before, line) => ("label", here, before, line),
-            EdgeFlaw::Kinds(here, before, line) => ("kind", here, before, line),
-        };
-        let (word, number) = (here.word, here.number);
-        write!(
-            f,
-            "edges rise, and the {what} `{word}` has number {number}, "
-        )?;
-        let (word, number) = (before.word, before.number);
-        write!(f, "`{word}` of line {line} number {number}")
+        match *self {
+            EdgeFlaw::Twice(line) => write!(f, "the same edge stands in line {line}"),
+            EdgeFlaw::Labels(here, before, line) => {
+                f.write_str("edges rise, and the label ")?;
+                write_numbers(f, here, before, line)
+            }
+            EdgeFlaw::Kinds(here, before, line) => {
+                f.write_str("edges rise, and the kind ")?;
+                write_numbers(f, here, before, line)
+            }
+        }
     }
+}
+
+// The numbers of two words, of which the second stands in this line.
+fn write_numbers<W: fmt::Write>(
+    f: &mut fmt::Formatter<W>,
+    here: Numbered<'_>,
+    before: Numbered<'_>,
+    line: u64,
+) -> fmt::Result {
+    let (word, number) = (here.word, here.number);
+    write!(f, "`{word}` has number {number}, ")?;
+    let (word, number) = (before.word, before.number);
+    write!(f, "`{word}` of line {line} number {number}")
 }
 
 impl fmt::Display for ClaimFlaw<'_> {
@@ -136,13 +148,8 @@ impl fmt::Display for ClaimFlaw<'_> {
             }
             ClaimFlaw::Twice(line) => write!(f, "a claim on the same labels stands in line {line}"),
             ClaimFlaw::Labels(here, before, line) => {
-                let (word, number) = (here.word, here.number);
-                write!(
-                    f,
-                    "claims rise, and the label `{word}` has number {number}, "
-                )?;
-                let (word, number) = (before.word, before.number);
-                write!(f, "`{word}` of line {line} number {number}")
+                f.write_str("claims rise, and the label ")?;
+                write_numbers(f, here, before, line)
             }
         }
     }
@@ -151,18 +158,12 @@ impl fmt::Display for ClaimFlaw<'_> {
 impl fmt::Display for KnownFlaw<'_> {
     fn fmt<W: fmt::Write>(&self, f: &mut fmt::Formatter<W>) -> fmt::Result {
         match *self {
-            KnownFlaw::NoLabel(name, Text::Table) => {
-                write!(f, "no label above is called `{name}`")
-            }
-            KnownFlaw::NoLabel(name, _) => write!(f, "the table has no label `{name}`"),
+            KnownFlaw::NoLabel(name, text) => write!(f, "{} `{name}`", no_label(text)),
+            KnownFlaw::NoObject(name, text) => write!(f, "{} `{name}`", no_object(text)),
             KnownFlaw::ObjectForLabel(name, line) => write!(
                 f,
                 "`{name}` is an object, of line {line} of the table, and a label stands here"
             ),
-            KnownFlaw::NoObject(name, Text::Table) => {
-                write!(f, "no object above is called `{name}`")
-            }
-            KnownFlaw::NoObject(name, _) => write!(f, "the table has no object `{name}`"),
             KnownFlaw::LabelForObject(name, line) => write!(
                 f,
                 "`{name}` is a label, of line {line} of the table, and an object stands here"
@@ -171,26 +172,37 @@ impl fmt::Display for KnownFlaw<'_> {
     }
 }
 
+// That there is no such label, before its name.
+fn no_label(text: Text) -> &'static str {
+    match text {
+        Text::Table => "no label above is called",
+        _ => "the table has no label",
+    }
+}
+
+// That there is no such object, before its name.
+fn no_object(text: Text) -> &'static str {
+    match text {
+        Text::Table => "no object above is called",
+        _ => "the table has no object",
+    }
+}
+
 impl fmt::Display for TwiceFlaw<'_> {
     fn fmt<W: fmt::Write>(&self, f: &mut fmt::Formatter<W>) -> fmt::Result {
-        match *self {
-            TwiceFlaw::Label(name, line) => {
-                write!(f, "a label is called `{name}` already, in line {line}")
-            }
-            TwiceFlaw::Object(name, line) => {
-                write!(f, "an object is called `{name}` already, in line {line}")
-            }
-            TwiceFlaw::Control(core, line) => {
-                write!(f, "core {core} has a control already, in line {line}")
-            }
-            TwiceFlaw::Untyped(name, line) => write!(
-                f,
-                "`{name}` is untyped memory, and has its one capability already, in line {line}"
+        let (before, word, after, line) = match *self {
+            TwiceFlaw::Label(name, line) => ("a label is called `", name, "` already", line),
+            TwiceFlaw::Object(name, line) => ("an object is called `", name, "` already", line),
+            TwiceFlaw::Control(core, line) => ("core ", core, " has a control already", line),
+            TwiceFlaw::Untyped(name, line) => (
+                "`",
+                name,
+                "` is untyped memory, and has its one capability already",
+                line,
             ),
-            TwiceFlaw::Bound(name, line) => {
-                write!(f, "the context `{name}` is bound already, in line {line}")
-            }
-        }
+            TwiceFlaw::Bound(name, line) => ("the context `", name, "` is bound already", line),
+        };
+        write!(f, "{before}{word}{after}, in line {line}")
     }
 }
 
@@ -213,38 +225,45 @@ impl fmt::Display for PlacedFlaw<'_> {
 
 impl fmt::Display for LimitFlaw {
     fn fmt<W: fmt::Write>(&self, f: &mut fmt::Formatter<W>) -> fmt::Result {
-        match *self {
-            LimitFlaw::Radix(0) => f.write_str("the radix is 0, less than 1"),
-            LimitFlaw::Radix(radix) => write!(f, "the radix is {radix}, more than 12"),
-            LimitFlaw::Bits(bits) if bits < 4 => write!(f, "the bits are {bits}, less than 4"),
-            LimitFlaw::Bits(bits) => write!(f, "the bits are {bits}, more than 47"),
-            LimitFlaw::Core(core) => write!(f, "the core is {core}, more than 15"),
-            LimitFlaw::Budget => f.write_str("the budget is 0, less than 1"),
+        let (what, number, limit) = match *self {
+            LimitFlaw::Radix(0) => ("the radix is", 0, "less than 1"),
+            LimitFlaw::Radix(radix) => ("the radix is", radix, "more than 12"),
+            LimitFlaw::Bits(bits) if bits < 4 => ("the bits are", bits, "less than 4"),
+            LimitFlaw::Bits(bits) => ("the bits are", bits, "more than 47"),
+            LimitFlaw::Core(core) => ("the core is", core, "more than 15"),
+            LimitFlaw::Budget => ("the budget is", 0, "less than 1"),
+            LimitFlaw::Period(period) => (
+                "the period is",
+                period,
+                "more than an hour, 3,600,000,000",
+            ),
             LimitFlaw::Share(budget, period) => {
-                write!(
+                return write!(
                     f,
                     "the budget is {budget}, more than the period of {period}"
-                )
+                );
             }
-            LimitFlaw::Period(period) => {
-                write!(
-                    f,
-                    "the period is {period}, more than an hour, 3,600,000,000"
-                )
+            LimitFlaw::Slots(slots) => {
+                return write!(f, "with it there are {slots} slots, more than 65,536");
             }
-            LimitFlaw::Slots(slots) => write!(
-                f,
-                "with it there are {slots} slots, more than 65,536"
-            ),
-            LimitFlaw::End => f.write_str("the object ends past 2^48"),
-            LimitFlaw::Labels => f.write_str(
-                "there are more than 64 labels: a table that begins with `confine-table 2` has up to 256",
-            ),
-            LimitFlaw::LaterLabels => f.write_str("there are more than 256 labels"),
-            LimitFlaw::Objects => f.write_str("there are more than 4,096 objects"),
-            LimitFlaw::Threads => f.write_str("there are more than 1,024 threads"),
-            LimitFlaw::Events => f.write_str("there are more than 1,000,000 events"),
+            flaw => return f.write_str(past_limit(flaw)),
+        };
+        write!(f, "{what} {number}, {limit}")
+    }
+}
+
+// What is past a limit, where its number isn't told.
+fn past_limit(flaw: LimitFlaw) -> &'static str {
+    match flaw {
+        LimitFlaw::End => "the object ends past 2^48",
+        LimitFlaw::Labels => {
+            "there are more than 64 labels: a table that begins with `confine-table 2` has up to 256"
         }
+        LimitFlaw::LaterLabels => "there are more than 256 labels",
+        LimitFlaw::Objects => "there are more than 4,096 objects",
+        LimitFlaw::Threads => "there are more than 1,024 threads",
+        LimitFlaw::Events => "there are more than 1,000,000 events",
+        _ => "",
     }
 }
 
@@ -284,11 +303,11 @@ pub(crate) fn noun(form: Form) -> &'static str {
 // What a capability's line has after the object of a form.
 fn terms(form: Form) -> &'static str {
     match form {
-        Form::CNode => "its guard's size and value stand after its name, as `62 0x0`",
-        Form::Endpoint => "rights and a badge stand after its name, as `wg 1`",
-        Form::Notification => "rights and a badge stand after its name, as `rw 1`",
-        Form::Frame => "rights alone stand after its name, as `rw`",
-        _ => "nothing stands after its name",
+        Form::CNode => ": its guard's size and value stand after its name, as `62 0x0`",
+        Form::Endpoint => ": rights and a badge stand after its name, as `wg 1`",
+        Form::Notification => ": rights and a badge stand after its name, as `rw 1`",
+        Form::Frame => ": rights alone stand after its name, as `rw`",
+        _ => ": nothing stands after its name",
     }
 }
 
@@ -303,47 +322,36 @@ fn slots(form: Form) -> &'static str {
 
 impl fmt::Display for KindFlaw<'_> {
     fn fmt<W: fmt::Write>(&self, f: &mut fmt::Formatter<W>) -> fmt::Result {
-        match *self {
+        let (name, form, rest) = match *self {
             KindFlaw::Slot(slot, form) => {
                 let (noun, slots) = (noun(form), slots(form));
-                write!(f, "there is no `{slot}`: it would be of {noun}, {slots}")
+                return write!(f, "there is no `{slot}`: it would be of {noun}, {slots}");
+            }
+            KindFlaw::SlotOf(slot, form) => {
+                let (words, place) = of_another_line(form);
+                return write!(f, "{words}, and `{slot}` is {place}");
             }
             KindFlaw::Root(name, form) => {
                 let noun = noun(form);
-                write!(f, "a root is a CNode's, and `{name}` is {noun}")
+                return write!(f, "a root is a CNode's, and `{name}` is {noun}");
             }
-            KindFlaw::Terms(name, form) => {
-                let (noun, terms) = (noun(form), terms(form));
-                write!(f, "`{name}` is {noun}: {terms}")
-            }
+            KindFlaw::Terms(name, form) => (name, form, terms(form)),
             KindFlaw::Rights(name, form) => {
-                let noun = noun(form);
-                write!(
-                    f,
-                    "`{name}` is {noun}: its rights are some of `r` and `w` alone"
-                )
+                (name, form, ": its rights are some of `r` and `w` alone")
             }
-            KindFlaw::NoThread(name, form) => {
-                let noun = noun(form);
-                write!(f, "`{name}` is {noun}, and no thread")
-            }
-            KindFlaw::NoContext(name, form) => {
-                let noun = noun(form);
-                write!(f, "`{name}` is {noun}, and no context")
-            }
-            KindFlaw::SlotOf(slot, Form::CNode) => {
-                write!(
-                    f,
-                    "a `space` line has a thread's root, and `{slot}` is a CNode's slot"
-                )
-            }
-            KindFlaw::SlotOf(slot, _) => {
-                write!(
-                    f,
-                    "a `cap` line has a CNode's slot, and `{slot}` is a thread's root"
-                )
-            }
-        }
+            KindFlaw::NoThread(name, form) => (name, form, ", and no thread"),
+            KindFlaw::NoContext(name, form) => (name, form, ", and no context"),
+        };
+        let noun = noun(form);
+        write!(f, "`{name}` is {noun}{rest}")
+    }
+}
+
+// What stands in the other line of a certificate, and what the slot of a holder of this form is.
+fn of_another_line(form: Form) -> (&'static str, &'static str) {
+    match form {
+        Form::CNode => ("a `space` line has a thread's root", "a CNode's slot"),
+        _ => ("a `cap` line has a CNode's slot", "a thread's root"),
     }
 }
 

@@ -74,8 +74,7 @@ fn right_flaw<'a>(table: Declared<'_>, parent: Row<'_>, child: Row<'_>) -> Optio
     }
     let has = parent.word(3).as_bytes();
     for letter in child.word(3).as_bytes() {
-        let is_lacking = !has.iter().any(|right| *right == *letter);
-        if right_number(*letter).is_some() && is_lacking {
+        if right_number(*letter).is_some() && !has.contains(letter) {
             return Some(TreeFlaw::Right(*letter as char));
         }
     }
