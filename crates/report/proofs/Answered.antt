@@ -8,38 +8,38 @@ use Rattle.report.specs.{Commands.IsUnlabelled, Ends.{IfCannotWrite, IfNoLabel, 
 use Rattle.report.specs.Files.{unknown, whole}
 
 -- what is judged of the values that were loaded is the answer to what the files hold
-pub answered : {X Y : Type 0} (view : X → Y) (judges : Layout → List Edge → Y → List ℕ → ℕ → Type 0) (loaded : Loaded X) (text : List ℕ) (status : ℕ)
-    → judges loaded.table loaded.policy (view loaded.third) text status → (contents : Contents Y) → Gives view contents (Ok loaded)
+pub answered : {X : Type 0} (judges : Layout → List Edge → X → List ℕ → ℕ → Type 0) (loaded : Loaded X) (text : List ℕ) (status : ℕ)
+    → judges loaded.table loaded.policy loaded.third text status → (contents : Contents X) → Gives contents (Ok loaded)
     → IsAnswer judges contents text status
-answered view judges loaded text status right (whole t edges y) gives = rw (gives.0, gives.1, gives.2) right
-answered view judges loaded text status right (faulty file fault) gives = absurd gives
-answered view judges loaded text status right unknown gives = tt
+answered judges loaded text status right (whole t edges y) gives = rw (gives.0, gives.1, gives.2) right
+answered judges loaded text status right (faulty file fault) gives = absurd gives
+answered judges loaded text status right unknown gives = tt
 
 -- a label that the table lacks is lacking in what the files hold
-pub lacking : {X Y : Type 0} (view : X → Y) (lacks : Layout → Option Asked) (loaded : Loaded X) (asked : Asked)
-    → lacks loaded.table ≡ Some asked → (contents : Contents Y) → Gives view contents (Ok loaded) → IsUnlabelled lacks contents asked
-lacking view lacks loaded asked is (whole t edges y) gives = rw gives.0 is
-lacking view lacks loaded asked is (faulty file fault) gives = absurd gives
-lacking view lacks loaded asked is unknown gives = (loaded.table, is)
+pub lacking : {X : Type 0} (lacks : Layout → Option Asked) (loaded : Loaded X) (asked : Asked)
+    → lacks loaded.table ≡ Some asked → (contents : Contents X) → Gives contents (Ok loaded) → IsUnlabelled lacks contents asked
+lacking lacks loaded asked is (whole t edges y) gives = rw gives.0 is
+lacking lacks loaded asked is (faulty file fault) gives = absurd gives
+lacking lacks loaded asked is unknown gives = (loaded.table, is)
 
 -- the label that is told is one that the table lacks
-pub unlabelled : {X Y : Type 0} (view : X → Y) (lacks : Layout → Option Asked) (loaded : Result (Loaded X) Stop) (end : End)
-    (answer : Result Answer Unanswered) (contents : Contents Y) → Gives view contents loaded
-    → IfUnlabelled answer (λ asked. (contents : Contents Y) → Gives view contents loaded → IsUnlabelled lacks contents asked)
+pub unlabelled : {X : Type 0} (lacks : Layout → Option Asked) (loaded : Result (Loaded X) Stop) (end : End)
+    (answer : Result Answer Unanswered) (contents : Contents X) → Gives contents loaded
+    → IfUnlabelled answer (λ asked. (contents : Contents X) → Gives contents loaded → IsUnlabelled lacks contents asked)
     → IfNoLabel end (λ asked. answer ≡ Err (unanswered.NoLabel asked)) → IfNoLabel end (IsUnlabelled lacks contents)
-unlabelled view lacks loaded (ends.Status status) answer contents gives is told = tt
-unlabelled view lacks loaded ends.NoMemory answer contents gives is told = tt
-unlabelled view lacks loaded (ends.CannotRead file) answer contents gives is told = tt
-unlabelled view lacks loaded ends.CannotWrite answer contents gives is told = tt
-unlabelled view lacks loaded (ends.NoLabel asked) answer contents gives is told = (rw told at is) contents gives
+unlabelled lacks loaded (ends.Status status) answer contents gives is told = tt
+unlabelled lacks loaded ends.NoMemory answer contents gives is told = tt
+unlabelled lacks loaded (ends.CannotRead file) answer contents gives is told = tt
+unlabelled lacks loaded ends.CannotWrite answer contents gives is told = tt
+unlabelled lacks loaded (ends.NoLabel asked) answer contents gives is told = (rw told at is) contents gives
 
 -- the answer to all that the files may hold is the answer to what they hold
-pub at_contents : {X Y : Type 0} (view : X → Y) (judges : Layout → List Edge → Y → List ℕ → ℕ → Type 0) (loaded : Result (Loaded X) Stop) (answer : Result Answer Unanswered)
-    (contents : Contents Y) → Gives view contents loaded
-    → IfOk answer (λ answer. (contents : Contents Y) → Gives view contents loaded → IsAnswer judges contents answer.text.items answer.status)
+pub at_contents : {X : Type 0} (judges : Layout → List Edge → X → List ℕ → ℕ → Type 0) (loaded : Result (Loaded X) Stop) (answer : Result Answer Unanswered)
+    (contents : Contents X) → Gives contents loaded
+    → IfOk answer (λ answer. (contents : Contents X) → Gives contents loaded → IsAnswer judges contents answer.text.items answer.status)
     → IfOk answer (λ answer. IsAnswer judges contents answer.text.items answer.status)
-at_contents view judges loaded (Ok answer) contents gives right = right contents gives
-at_contents view judges loaded (Err why) contents gives right = tt
+at_contents judges loaded (Ok answer) contents gives right = right contents gives
+at_contents judges loaded (Err why) contents gives right = tt
 
 -- what was written is the answer, or a beginning of it
 pub written : (end : End) (answer : Result Answer Unanswered) (IsRight : List ℕ → ℕ → Type 0) (A : List ℕ → Type 0)

@@ -1,4 +1,3 @@
-mod Loads
 mod Answered
 mod ClosedLabels
 mod Missing

@@ -26,7 +26,7 @@ claims_once t edges claims text other status another (broken none b first says e
     let same = broken_once (allows edges) claims b c first second in
     (says ∙ (λ i. line_of (broken_data (same.1 i) (same.0 i))) ∙ sym again, exit ∙ sym out)
 
-pub strongest_told_once : JudgesOne (λ t edges (none : List ℕ). WritesStrongest t edges)
+pub strongest_told_once : JudgesOne (λ t edges (none : Unit {0}). WritesStrongest t edges)
 strongest_told_once t edges none =
     verdict_once t edges (TellsStrongest t edges)
     (λ text other is also.

@@ -43,7 +43,7 @@ module _ (test : EdgeTest) (t : Layout) where
       ∙ ap (λ text. again ++ text) (arrows_once pairs rest left drawn too)
       ∙ sym pieces
 
-pub draw_once : JudgesOne (λ t edges (none : List ℕ). Draws t edges)
+pub draw_once : JudgesOne (λ t edges (none : Unit {0}). Draws t edges)
 draw_once t edges none text other status another is also =
     let same = arrows_once (allows edges) t (pairs_of (length t.labels)) is.0.arrows also.0.arrows is.0.drawn also.0.drawn in (
       is.0.is
@@ -52,5 +52,5 @@ draw_once t edges none text other status another is also =
       is.1 ∙ sym also.1,
     )
 
-pub list_once : JudgesOne (λ t edges (none : List ℕ). Lists t)
+pub list_once : JudgesOne (λ t edges (none : Unit {0}). Lists t)
 list_once t edges none text other status another is also = (is.0 ∙ sym also.0, is.1 ∙ sym also.1)

@@ -48,7 +48,7 @@ check_told :
 check_told on_accept.Report t edges text other is also = report_once t edges text other is also
 check_told on_accept.Certificate t edges text other is also = is ∙ sym also
 
-pub check_once : (written : OnAccept) → JudgesOne (λ t edges (none : List ℕ). Checks written t edges)
+pub check_once : (written : OnAccept) → JudgesOne (λ t edges (none : Unit {0}). Checks written t edges)
 check_once written t edges none = verdict_once t edges (TellsCheck written t edges) (check_told written t edges)
 
 -- a certificate

@@ -72,8 +72,8 @@ RunsSplit t edges events = AnswersVerdict t edges (IsLogOfSplit t events)
 abbrev pub no_file : Input NoFile
 no_file = record { old = record {}; new = record {}; bytes = Some []; failed = false }
 
-unfoldable pub read_nothing : Layout → List ℕ → Result (List ℕ) Fault
-read_nothing t bytes = Ok []
+unfoldable pub read_nothing : Layout → List ℕ → Result (Unit {0}) Fault
+read_nothing t bytes = Ok tt
 
 -- a command that asks about no label lacks none
 abbrev pub no_label : Layout → Option Asked

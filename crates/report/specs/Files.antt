@@ -74,18 +74,18 @@ IfUnlabelled (Err (unanswered.CannotRead file)) P = Unit {0}
 IfUnlabelled (Err (unanswered.NoLabel asked)) P = P asked
 
 -- one file was loaded as its text is read, or its text has the fault that the stop tells
-abbrev pub LoadsAs : {X Y : Type 0} → (X → Y) → Result X Stop → Result Y Fault → Type 0
-LoadsAs view (Ok x) read = read ≡ Ok (view x)
-LoadsAs view (Err stop.NoMemory) read = Unit {0}
-LoadsAs view (Err (stop.CannotRead file)) read = Unit {0}
-LoadsAs view (Err (stop.Faulty file fault)) read = read ≡ Err fault
+abbrev pub LoadsAs : {X : Type 0} → Result X Stop → Result X Fault → Type 0
+LoadsAs (Ok x) read = read ≡ Ok x
+LoadsAs (Err stop.NoMemory) read = Unit {0}
+LoadsAs (Err (stop.CannotRead file)) read = Unit {0}
+LoadsAs (Err (stop.Faulty file fault)) read = read ≡ Err fault
 
 -- what was loaded is what the files hold, and the fault that was told is theirs
-abbrev pub Gives : {X Y : Type 0} → (X → Y) → Contents Y → Result (Loaded X) Stop → Type 0
-Gives view unknown loaded = Unit {0}
-Gives view contents (Err stop.NoMemory) = Unit {0}
-Gives view contents (Err (stop.CannotRead file)) = Unit {0}
-Gives view (faulty file fault) (Ok loaded) = ⊥
-Gives view (faulty file fault) (Err (stop.Faulty which told)) = (which ≡ file) × (told ≡ fault)
-Gives view (whole t edges y) (Ok loaded) = (t ≡ loaded.table) × (edges ≡ loaded.policy) × (y ≡ view loaded.third)
-Gives view (whole t edges y) (Err (stop.Faulty which told)) = ⊥
+abbrev pub Gives : {X : Type 0} → Contents X → Result (Loaded X) Stop → Type 0
+Gives unknown loaded = Unit {0}
+Gives contents (Err stop.NoMemory) = Unit {0}
+Gives contents (Err (stop.CannotRead file)) = Unit {0}
+Gives (faulty file fault) (Ok loaded) = ⊥
+Gives (faulty file fault) (Err (stop.Faulty which told)) = (which ≡ file) × (told ≡ fault)
+Gives (whole t edges x) (Ok loaded) = (t ≡ loaded.table) × (edges ≡ loaded.policy) × (x ≡ loaded.third)
+Gives (whole t edges x) (Err (stop.Faulty which told)) = ⊥

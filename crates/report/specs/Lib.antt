@@ -7,4 +7,5 @@ pub mod Alone
 pub mod Claimed
 pub mod Closings
 pub mod Questions
+pub mod Askings
 pub mod OneAnswer

@@ -5,8 +5,9 @@ ghost use Rattle.checker.specs.Check.{IsCheck};
 ghost use Rattle.report.specs.Answers as answers;
 ghost use Rattle.report.specs.Commands.{input, output};
 
-use crate::command::{Answer, denied};
-use crate::question::{Question, answer_question};
+use crate::command::{Answer, Command, denied};
+use crate::engine::carry_out;
+use crate::load::{Loaded, NoFile};
 use crate::{Asked, End, Listener, Sink, Source};
 use base::Refusal;
 use checker::{Certificate, CheckError, Gate, Verdict};
@@ -60,11 +61,11 @@ where
         ensures exit { IfOk result (λ answer. answer.status ≤ 2) }
         ensures memory { IfErr result (λ refusal. refusal ≡ out_of_memory) }
     { judged(rt, alloc, table, policy, on_accept, workers, gate) };
-    let question = Checking {
+    let command = Checking {
         on_accept,
         judge: &judge,
     };
-    answer_question(&question, alloc, table, policy, listener, out)
+    carry_out(&command, alloc, table, policy, &mut NoFile, listener, out)
 }
 
 /// The command `check`.
@@ -74,7 +75,9 @@ struct Checking<'a, J> {
     judge: &'a J,
 }
 
-impl<J: Fn(&Table, &Policy) -> Result<Answer, Refusal>> Question for Checking<'_, J> {
+impl<J: Fn(&Table, &Policy) -> Result<Answer, Refusal>> Command for Checking<'_, J> {
+    type Third = ();
+
     ghost lacks = { λ _. answers.no_label };
 
     ghost may_judge = { λ check. J.IsAlwaysCallable check.judge.now
@@ -83,14 +86,14 @@ impl<J: Fn(&Table, &Policy) -> Result<Answer, Refusal>> Question for Checking<'_
         × IfOk answer (λ answer. answer.status ≤ 2)
         × IfErr answer (λ refusal. refusal ≡ out_of_memory)) };
 
-    ghost judges = { λ check. answers.Checks check.on_accept };
+    ghost judges = { λ check t edges none. answers.Checks check.on_accept t edges };
 
     fn unlabelled(&self, _table: &Table) -> Option<Asked> {
         None
     }
 
-    fn judge(&self, _alloc: Global, table: &Table, policy: &Policy) -> Result<Answer, Refusal> {
-        (self.judge)(table, policy)
+    fn judge(&self, _alloc: Global, loaded: &Loaded<()>) -> Result<Answer, Refusal> {
+        (self.judge)(&loaded.table, &loaded.policy)
     }
 }
 

@@ -1,21 +1,17 @@
-ghost use Rattle.std.specs.{Prelude.{◌≡◌, ◌≤◌, All, IfErr, IfNone, IfOk, IfSome, List, false, length}, Thread.IsSync};
+ghost use Rattle.std.specs.{Prelude.{◌≡◌, ◌≤◌, All, IfErr, IfNone, IfOk, IfSome, false, length}, Thread.IsSync};
 ghost use Rattle.base.specs.Refusals.{out_of_memory};
-ghost use Rattle.claims.specs.{declared.claim.Claim.Claim, Holding.{Holds, IsFirstBroken, IsKept}, Reading.read_claims_of};
-ghost use Rattle.reptext.specs.declared.file.File.TheVariants as file;
+ghost use Rattle.claims.specs.Holding.{Holds, IsFirstBroken, IsKept};
 ghost use Rattle.report.specs.Answers as answers;
 ghost use Rattle.report.specs.Claimed as claimed;
 ghost use Rattle.report.specs.Commands.{input, output};
 
 use crate::command::{Answer, Command, denied};
 use crate::engine::carry_out;
-use crate::load::Loaded;
-use crate::question::{Question, answer_question};
-use crate::{Asked, End, File, Finding, Listener, Sink, Source};
+use crate::load::{Loaded, NoFile};
+use crate::{Asked, End, Finding, Listener, Sink, Source};
 use base::Refusal;
-use captext::Fault;
 use claims::{Claims, first_broken, strongest};
 use deal::Open;
-use policy::Policy;
 use reptext::{broken_report, hold_report};
 use std::alloc::Global;
 use std::thread::Threads;
@@ -72,27 +68,11 @@ struct Claiming<'a, R> {
 impl<R: Threads + Sync> Command for Claiming<'_, R> {
     type Third = Claims;
 
-    ghost third_file = { file.Claims };
-
-    ghost Held = { List Claim };
-
-    ghost held = { λ claims. claims };
-
-    ghost read_of = { read_claims_of };
-
     ghost lacks = { λ _. answers.no_label };
 
     ghost may_judge = { λ _. IsSync R.row };
 
     ghost judges = { λ claiming. claimed.JudgesClaims };
-
-    fn third_file() -> File {
-        File::Claims
-    }
-
-    fn read_third(alloc: Global, table: &Table, bytes: &[u8]) -> Result<Claims, Fault> {
-        claims::read(alloc, bytes, table)
-    }
 
     fn unlabelled(&self, _table: &Table) -> Option<Asked> {
         None
@@ -153,7 +133,8 @@ where
     ensures { claimed.AreWritten (input T.remaining T.failed table.old table.new)
         (input P.remaining P.failed policy.old policy.new) (output O.contents O.failed O.is_flushed out.old out.new) result }
 {
-    answer_question(&Strongest { rt }, alloc, table, policy, listener, out)
+    let command = Strongest { rt };
+    carry_out(&command, alloc, table, policy, &mut NoFile, listener, out)
 }
 
 /// The command `claims` with `--all`.
@@ -162,25 +143,27 @@ struct Strongest<'a, R> {
     rt: &'a R,
 }
 
-impl<R: Threads + Sync> Question for Strongest<'_, R> {
+impl<R: Threads + Sync> Command for Strongest<'_, R> {
+    type Third = ();
+
     ghost lacks = { λ _. answers.no_label };
 
     ghost may_judge = { λ _. IsSync R.row };
 
-    ghost judges = { λ _. claimed.WritesStrongest };
+    ghost judges = { λ _ t edges none. claimed.WritesStrongest t edges };
 
     fn unlabelled(&self, _table: &Table) -> Option<Asked> {
         None
     }
 
-    fn judge(&self, alloc: Global, table: &Table, policy: &Policy) -> Result<Answer, Refusal> {
-        match judge(self.rt, alloc, table, policy, 1, &Open)? {
+    fn judge(&self, alloc: Global, loaded: &Loaded<()>) -> Result<Answer, Refusal> {
+        match judge(self.rt, alloc, &loaded.table, &loaded.policy, 1, &Open)? {
             Ok(accepted) => Ok(Answer {
                 text: strongest_text(alloc, &accepted)?,
                 status: 0,
                 finding: None,
             }),
-            Err(denial) => Ok(denied(alloc, table, denial)?),
+            Err(denial) => Ok(denied(alloc, &loaded.table, denial)?),
         }
     }
 }

@@ -1,14 +1,15 @@
 ghost use Rattle.std.specs.Prelude.{◌≡◌, ◌≤◌, IfErr, IfOk, false};
 ghost use Rattle.base.specs.Refusals.{out_of_memory};
 ghost use Rattle.captext.specs.PolicyText.{edge_lines};
-ghost use Rattle.report.specs.Answers as answers;
 ghost use Rattle.report.specs.Closings as closings;
 ghost use Rattle.report.specs.Commands.{input, output};
 
+use crate::asking::Asking;
 use crate::command::Answer;
+use crate::engine::carry_out;
 use crate::known::no_policy;
-use crate::question::{Question, answer_question};
-use crate::{Asked, End, Listener, Sink, Source};
+use crate::load::NoFile;
+use crate::{End, Listener, Sink, Source};
 use base::{Edge, Refusal};
 use captext::{write_edges, write_policy};
 use kernel::each_table_has_one_boot_state;
@@ -54,7 +55,8 @@ where
     ensures { closings.IsClosedOver on_close (input T.remaining T.failed table.old table.new)
         (input P.remaining P.failed policy.old policy.new) (output O.contents O.failed O.is_flushed out.old out.new) result }
 {
-    answer_question(&Closing { on_close }, alloc, table, policy, listener, out)
+    let asking = Asking::Close(on_close);
+    carry_out(&asking, alloc, table, policy, &mut NoFile, listener, out)
 }
 
 /// Makes a policy for a table alone, as closing one without an edge does.
@@ -77,30 +79,8 @@ where
     close(alloc, table, &mut no_policy(), on_close, listener, out)
 }
 
-/// The command `close`.
-#[derive(Clone, Copy)]
-struct Closing {
-    on_close: OnClose,
-}
-
-impl Question for Closing {
-    ghost lacks = { λ _. answers.no_label };
-
-    ghost may_judge = { λ _. Unit {0} };
-
-    ghost judges = { λ closing. closings.Closes closing.on_close };
-
-    fn unlabelled(&self, _table: &Table) -> Option<Asked> {
-        None
-    }
-
-    fn judge(&self, alloc: Global, table: &Table, policy: &Policy) -> Result<Answer, Refusal> {
-        closed(alloc, table, policy, self.on_close)
-    }
-}
-
 /// What is asked for of the least policy.
-fn closed(
+pub(crate) fn closed(
     alloc: Global,
     table: &Table,
     policy: &Policy,

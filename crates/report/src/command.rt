@@ -1,16 +1,14 @@
-ghost use Rattle.std.specs.Prelude.{ℕ, ◌≡◌, ◌≤◌, IfErr, IfOk, List, None, Option, Result};
+ghost use Rattle.std.specs.Prelude.{ℕ, ◌≡◌, ◌≤◌, IfErr, IfOk, List, None, Option};
 ghost use Rattle.base.specs.{declared.edge.Edge.Edge, Refusals.out_of_memory};
 ghost use Rattle.machine.specs.Layout.{Layout};
-ghost use Rattle.words.specs.{declared.faults.Fault.Fault, Reading.Reads};
 ghost use Rattle.verdict.specs.Verdict.{rule_name};
-ghost use Rattle.reptext.specs.{declared.file.File.File, Places.place_names, Reports.denial_report};
+ghost use Rattle.reptext.specs.{Places.place_names, Reports.denial_report};
 ghost use Rattle.report.specs.declared.end.Asked.{Asked};
 
 use crate::load::Loaded;
-use crate::{Asked, File, Finding};
+use crate::third::ThirdFile;
+use crate::{Asked, Finding};
 use base::Refusal;
-use captext::Fault;
-use machine::{Event, Outcome};
 use reptext::denial_text;
 use std::alloc::{AllocError, Global};
 use table::Table;
@@ -24,19 +22,9 @@ pub(crate) struct Answer {
     pub finding: Option<Finding>,
 }
 
-/// A command: its third file, and what it answers to what the files hold.
+/// A command: what its third file holds, and what it answers to what the files hold.
 pub(crate) trait Command {
-    /// What the third file holds.
-    type Third: Drop;
-
-    // The third file's name, what is seen of what it holds, and how its text is read.
-    ghost third_file: { File };
-
-    ghost Held: { Type 0 };
-
-    ghost held: { Self.Third → Held };
-
-    ghost read_of: { Layout → List ℕ → Result Held Fault };
+    type Third: ThirdFile;
 
     // Which of the labels that it asks about a table lacks first, if it asks about any.
     ghost lacks: { Self → Layout → Option Asked };
@@ -45,19 +33,7 @@ pub(crate) trait Command {
     ghost may_judge: { Self → Type 0 };
 
     // Which text and status are the answer to a table, a policy and what the third file holds.
-    ghost judges: { Self → Layout → List Edge → Held → List ℕ → ℕ → Type 0 };
-
-    fn third_file() -> File
-        ensures { result ≡ third_file };
-
-    /// Reads the third text; a fault that is `Fault::MEMORY` says that memory was refused.
-    fn read_third(alloc: Global, table: &Table, bytes: &[u8]) -> Result<Self::Third, Fault>
-        ensures { Reads held result (read_of table.now bytes.now) };
-
-    /// The entries of the log that the third file holds, if it holds one.
-    fn log_of(_third: &Self::Third) -> Option<&[(Event, Outcome)]> {
-        None
-    }
+    ghost judges: { Self → Layout → List Edge → Self.Third → List ℕ → ℕ → Type 0 };
 
     /// Which of the labels that it asks about the table lacks first.
     fn unlabelled(&self, table: &Table) -> Option<Asked>
@@ -68,7 +44,7 @@ pub(crate) trait Command {
         requires may { may_judge self.now }
         requires labels { lacks self.now loaded.now.table ≡ None }
         ensures right { IfOk result (λ answer.
-            judges self.now loaded.now.table loaded.now.policy (held loaded.now.third) answer.text.items answer.status) }
+            judges self.now loaded.now.table loaded.now.policy loaded.now.third answer.text.items answer.status) }
         ensures exit { IfOk result (λ answer. answer.status ≤ 2) }
         ensures memory { IfErr result (λ refusal. refusal ≡ out_of_memory) };
 }

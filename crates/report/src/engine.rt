@@ -6,6 +6,7 @@ ghost use Rattle.report.specs.Files.{unread_of};
 
 use crate::command::{Answer, Command};
 use crate::load::{Loaded, Stop, load};
+use crate::third::ThirdFile;
 use crate::{Asked, End, File, Heard, Listener, Sink, Source};
 use reptext::fault_report;
 use std::alloc::Global;
@@ -40,11 +41,11 @@ where
     requires policy { P.failed policy.old ≡ false }
     requires third { S.failed third.old ≡ false }
     requires out { O.failed out.old ≡ false }
-    ensures { IsCarriedOut C.third_file C.read_of (C.lacks command.now) (C.judges command.now) (input T.remaining T.failed table.old table.new)
+    ensures { IsCarriedOut C.Third.named C.Third.read_of (C.lacks command.now) (C.judges command.now) (input T.remaining T.failed table.old table.new)
         (input P.remaining P.failed policy.old policy.new) (input S.remaining S.failed third.old third.new)
         (output O.contents O.failed O.is_flushed out.old out.new) result }
 {
-    let loaded = load::<C, T, P, S, L>(alloc, table, policy, third, listener);
+    let loaded = load::<C::Third, T, P, S, L>(alloc, table, policy, third, listener);
     let answer = answer(command, alloc, &loaded);
     announce::<C, L>(listener, &loaded, &answer);
     write(out, answer)
@@ -61,7 +62,7 @@ fn announce<C: Command, L: Listener>(
             let heard = Heard {
                 table: &loaded.table,
                 policy: &loaded.policy,
-                log: C::log_of(&loaded.third),
+                log: loaded.third.log(),
                 finding: answer.finding.as_ref(),
                 text: answer.text.as_slice(),
             };
@@ -81,10 +82,10 @@ fn answer<C: Command>(
     loaded: &Result<Loaded<C::Third>, Stop>,
 ) -> Result<Answer, Unanswered>
     requires { C.may_judge command.now }
-    ensures right { IfOk result (λ answer. (contents : Contents C.Held) → Gives C.held contents loaded.now
+    ensures right { IfOk result (λ answer. (contents : Contents C.Third) → Gives contents loaded.now
         → IsAnswer (C.judges command.now) contents answer.text.items answer.status) }
     ensures exit { IfOk result (λ answer. answer.status ≤ 2) }
-    ensures unlabelled { IfUnlabelled result (λ asked. (contents : Contents C.Held) → Gives C.held contents loaded.now
+    ensures unlabelled { IfUnlabelled result (λ asked. (contents : Contents C.Third) → Gives contents loaded.now
         → IsUnlabelled (C.lacks command.now) contents asked) }
     ensures unread { unread_by result ≡ unread_of loaded.now }
 {
@@ -116,7 +117,7 @@ fn judged<C: Command>(
 ) -> Result<Answer, Unanswered>
     requires { C.may_judge command.now }
     ensures right { IfOk result (λ answer.
-        C.judges command.now loaded.now.table loaded.now.policy (C.held loaded.now.third) answer.text.items answer.status) }
+        C.judges command.now loaded.now.table loaded.now.policy loaded.now.third answer.text.items answer.status) }
     ensures exit { IfOk result (λ answer. answer.status ≤ 2) }
     ensures unlabelled { IfUnlabelled result (λ asked. C.lacks command.now loaded.now.table ≡ Some asked) }
     ensures unread { unread_by result ≡ None }

@@ -4,7 +4,7 @@ ghost use Rattle.captext.specs.{Policies.read_policy_of, Tables.read_table_of};
 ghost use Rattle.report.specs.{Commands.{HasPolicy, HasTable, first_failed, input}, Files.{Gives, IsDeviceStop, IsStopOf, LoadsAs}};
 ghost use Rattle.report.specs.Files.{contents_of, is_unread, unread_of};
 
-use crate::command::Command;
+use crate::third::ThirdFile;
 use crate::{File, Listener, ReadError, Source};
 use captext::{Fault, read_policy, read_table};
 use policy::Policy;
@@ -84,7 +84,7 @@ fn load_table<S: Source, L: Listener>(
 ) -> Result<Table, Stop>
     requires { S.failed source.old ≡ false }
     ensures loaded { IfSome (S.remaining source.old) (λ bytes.
-        LoadsAs (λ t. t) result (read_table_of bytes)) }
+        LoadsAs result (read_table_of bytes)) }
     ensures stops { IfErr result (λ stop. IsStopOf File.Table stop) }
     ensures device { S.failed source.new ≡ is_unread result }
 {
@@ -104,7 +104,7 @@ fn load_policy<S: Source, L: Listener>(
 ) -> Result<Policy, Stop>
     requires { S.failed source.old ≡ false }
     ensures loaded { IfSome (S.remaining source.old) (λ bytes.
-        LoadsAs (λ p. p) result (read_policy_of table.now bytes)) }
+        LoadsAs result (read_policy_of table.now bytes)) }
     ensures stops { IfErr result (λ stop. IsStopOf File.Policy stop) }
     ensures device { S.failed source.new ≡ is_unread result }
 {
@@ -116,41 +116,41 @@ fn load_policy<S: Source, L: Listener>(
 }
 
 /// What the third file holds; its bytes are let go.
-fn load_third<C: Command, S: Source, L: Listener>(
+fn load_third<X: ThirdFile, S: Source, L: Listener>(
     alloc: Global,
     table: &Table,
     source: &mut S,
     listener: &mut L,
-) -> Result<C::Third, Stop>
+) -> Result<X, Stop>
     requires { S.failed source.old ≡ false }
     ensures loaded { IfSome (S.remaining source.old) (λ bytes.
-        LoadsAs C.held result (C.read_of table.now bytes)) }
-    ensures stops { IfErr result (λ stop. IsStopOf C.third_file stop) }
+        LoadsAs result (X.read_of table.now bytes)) }
+    ensures stops { IfErr result (λ stop. IsStopOf X.named stop) }
     ensures device { S.failed source.new ≡ is_unread result }
 {
-    let bytes = read_file(alloc, C::third_file(), source)?;
-    match C::read_third(alloc, table, &bytes) {
+    let bytes = read_file(alloc, X::name(), source)?;
+    match X::read(alloc, table, &bytes) {
         Ok(third) => Ok(third),
-        Err(fault) => Err(stopped(C::third_file(), &bytes, Some(table), fault, listener)),
+        Err(fault) => Err(stopped(X::name(), &bytes, Some(table), fault, listener)),
     }
 }
 
 /// Loads the files one after another, up to the first that stops it.
-pub(crate) fn load<C: Command, T: Source, P: Source, S: Source, L: Listener>(
+pub(crate) fn load<X: ThirdFile, T: Source, P: Source, S: Source, L: Listener>(
     alloc: Global,
     table: &mut T,
     policy: &mut P,
     third: &mut S,
     listener: &mut L,
-) -> Result<Loaded<C::Third>, Stop>
+) -> Result<Loaded<X>, Stop>
     requires table { T.failed table.old ≡ false }
     requires policy { P.failed policy.old ≡ false }
     requires third { S.failed third.old ≡ false }
-    ensures loaded { Gives C.held (contents_of C.third_file C.read_of (T.remaining table.old) (P.remaining policy.old) (S.remaining third.old)) result }
+    ensures loaded { Gives (contents_of X.named X.read_of (T.remaining table.old) (P.remaining policy.old) (S.remaining third.old)) result }
     ensures policy_waits { (policy.new ≡ policy.old) ⊎ HasTable (input T.remaining T.failed table.old table.new) }
     ensures third_waits { (third.new ≡ third.old)
         ⊎ HasPolicy (input T.remaining T.failed table.old table.new) (input P.remaining P.failed policy.old policy.new) }
-    ensures unread { unread_of result ≡ first_failed C.third_file (T.failed table.new) (P.failed policy.new) (S.failed third.new) }
+    ensures unread { unread_of result ≡ first_failed X.named (T.failed table.new) (P.failed policy.new) (S.failed third.new) }
 {
     let table = load_table(alloc, table, listener)?;
     let policy = match load_policy(alloc, &table, policy, listener) {
@@ -160,7 +160,7 @@ pub(crate) fn load<C: Command, T: Source, P: Source, S: Source, L: Listener>(
             return Err(stop);
         }
     };
-    let third = match load_third::<C, S, L>(alloc, &table, third, listener) {
+    let third = match load_third::<X, S, L>(alloc, &table, third, listener) {
         Ok(third) => third,
         Err(stop) => {
             drop(policy);

@@ -1,9 +1,6 @@
-ghost use Rattle.std.specs.Prelude.{◌≡◌, ◌≤◌, IfErr, IfOk, IfSome, List, false};
+ghost use Rattle.std.specs.Prelude.{◌≡◌, ◌≤◌, IfErr, IfOk, IfSome, false};
 ghost use Rattle.base.specs.Refusals.{out_of_memory};
 ghost use Rattle.machine.specs.{Boot.IsBoot, WellFormed.IsWellFormed};
-ghost use Rattle.evtext.specs.Log.{read_log_of};
-ghost use Rattle.kernel.specs.Legal.{Entry};
-ghost use Rattle.reptext.specs.declared.file.File.TheVariants as file;
 ghost use Rattle.report.specs.Answers as answers;
 ghost use Rattle.report.specs.Commands.{input, output};
 ghost use Rattle.report.specs.Replays as replays;
@@ -11,12 +8,11 @@ ghost use Rattle.report.specs.Replays as replays;
 use crate::command::{Answer, Command};
 use crate::engine::carry_out;
 use crate::load::Loaded;
-use crate::{Asked, End, File, Finding, Listener, Sink, Source};
+use crate::third::Entries;
+use crate::{Asked, End, Finding, Listener, Sink, Source};
 use base::Refusal;
-use captext::Fault;
-use evtext::read_log;
 use kernel::boot;
-use machine::{Event, Log, Outcome};
+use machine::{Event, Outcome};
 use objects::State;
 use policy::Policy;
 use reptext::{illegal_report, outside_report, place_names, within_report};
@@ -59,15 +55,7 @@ where
 struct Replaying;
 
 impl Command for Replaying {
-    type Third = Log;
-
-    ghost third_file = { file.Log };
-
-    ghost Held = { List Entry };
-
-    ghost held = { λ log. log.items };
-
-    ghost read_of = { λ table. read_log_of };
+    type Third = Entries;
 
     ghost lacks = { λ _. answers.no_label };
 
@@ -75,40 +63,23 @@ impl Command for Replaying {
 
     ghost judges = { λ replay. replays.Replays };
 
-    fn third_file() -> File {
-        File::Log
-    }
-
-    fn read_third(alloc: Global, _table: &Table, bytes: &[u8]) -> Result<Log, Fault> {
-        read_log(alloc, bytes)
-    }
-
-    fn log_of(third: &Log) -> Option<&[(Event, Outcome)]> {
-        Some(third.as_slice())
-    }
-
     fn unlabelled(&self, _table: &Table) -> Option<Asked> {
         None
     }
 
-    fn judge(&self, alloc: Global, loaded: &Loaded<Log>) -> Result<Answer, Refusal> {
+    fn judge(&self, alloc: Global, loaded: &Loaded<Entries>) -> Result<Answer, Refusal> {
         replayed(alloc, &loaded.table, &loaded.policy, &loaded.third)
     }
 }
 
 /// The answer to a log: the text and status of what its replay comes to.
-fn replayed(
-    alloc: Global,
-    table: &Table,
-    policy: &Policy,
-    entries: &[(Event, Outcome)],
-) -> Result<Answer, Refusal>
-    ensures right { IfOk result (λ answer. replays.Replays table.now policy.now entries.now answer.text.items answer.status) }
+fn replayed(alloc: Global, table: &Table, policy: &Policy, log: &Entries) -> Result<Answer, Refusal>
+    ensures right { IfOk result (λ answer. replays.Replays table.now policy.now log.now answer.text.items answer.status) }
     ensures exit { IfOk result (λ answer. answer.status ≤ 2) }
     ensures memory { IfErr result (λ refusal. refusal ≡ out_of_memory) }
 {
     let mut state = boot(alloc, table)?;
-    replayed_from(alloc, table, policy, entries, &mut state)
+    replayed_from(alloc, table, policy, log.entries.as_slice(), &mut state)
 }
 
 /// The answer to a log that is replayed from the table's boot state, which it brings to where it stops.

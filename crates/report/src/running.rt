@@ -1,21 +1,17 @@
-ghost use Rattle.std.specs.{Prelude.{◌≡◌, IfErr, IfOk, List, false}, Thread.IsSync};
+ghost use Rattle.std.specs.{Prelude.{◌≡◌, IfErr, IfOk, false}, Thread.IsSync};
 ghost use Rattle.base.specs.Refusals.{out_of_memory};
-ghost use Rattle.machine.specs.declared.call.Event.{Event};
-ghost use Rattle.evtext.specs.Script.{read_script_of};
-ghost use Rattle.reptext.specs.declared.file.File.TheVariants as file;
 ghost use Rattle.report.specs.Answers as answers;
 ghost use Rattle.report.specs.Commands.{input, output};
 
 use crate::command::{Answer, Command, denied};
 use crate::engine::carry_out;
 use crate::load::Loaded;
-use crate::{Asked, End, File, Listener, Sink, Source};
+use crate::third::Script;
+use crate::{Asked, End, Listener, Sink, Source};
 use base::Refusal;
-use captext::Fault;
 use deal::Open;
-use evtext::{read_script, write_run};
+use evtext::write_run;
 use kernel::boot;
-use machine::Event;
 use std::alloc::Global;
 use std::thread::Threads;
 use table::Table;
@@ -59,15 +55,7 @@ struct Running<'a, R> {
 }
 
 impl<R: Threads + Sync> Command for Running<'_, R> {
-    type Third = Vec<Event>;
-
-    ghost third_file = { file.Script };
-
-    ghost Held = { List Event };
-
-    ghost held = { λ events. events.items };
-
-    ghost read_of = { λ table. read_script_of };
+    type Third = Script;
 
     ghost lacks = { λ _. answers.no_label };
 
@@ -75,19 +63,11 @@ impl<R: Threads + Sync> Command for Running<'_, R> {
 
     ghost judges = { λ run. answers.Runs };
 
-    fn third_file() -> File {
-        File::Script
-    }
-
-    fn read_third(alloc: Global, _table: &Table, bytes: &[u8]) -> Result<Vec<Event>, Fault> {
-        read_script(alloc, bytes)
-    }
-
     fn unlabelled(&self, _table: &Table) -> Option<Asked> {
         None
     }
 
-    fn judge(&self, alloc: Global, loaded: &Loaded<Vec<Event>>) -> Result<Answer, Refusal> {
+    fn judge(&self, alloc: Global, loaded: &Loaded<Script>) -> Result<Answer, Refusal> {
         match judge(self.rt, alloc, &loaded.table, &loaded.policy, 1, &Open)? {
             Ok(_) => Ok(Answer {
                 text: log_of_run(alloc, &loaded.table, &loaded.third)?,
@@ -100,12 +80,13 @@ impl<R: Threads + Sync> Command for Running<'_, R> {
 }
 
 /// The text of the log of a run of the events from the boot state of the table.
-fn log_of_run(alloc: Global, table: &Table, events: &[Event]) -> Result<Vec<u8>, Refusal>
-    ensures log { IfOk result (λ text. answers.IsLogOfRun table.now events.now text.items) }
+fn log_of_run(alloc: Global, table: &Table, script: &Script) -> Result<Vec<u8>, Refusal>
+    ensures log { IfOk result (λ text. answers.IsLogOfRun table.now script.now text.items) }
     ensures memory { IfErr result (λ refusal. refusal ≡ out_of_memory) }
 {
     let mut state = boot(alloc, table)?;
     let mut outcomes = Vec::new(alloc);
+    let events = script.events.as_slice();
     kernel::run(&mut state, events, &mut outcomes)?;
     write_run(alloc, events, &outcomes)
 }

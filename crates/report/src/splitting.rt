@@ -1,23 +1,18 @@
-ghost use Rattle.std.specs.Prelude.{◌≡◌, ◌≤◌, IfErr, IfOk, List, false};
+ghost use Rattle.std.specs.Prelude.{◌≡◌, ◌≤◌, IfErr, IfOk, false};
 ghost use Rattle.base.specs.Refusals.{out_of_memory};
-ghost use Rattle.machine.specs.declared.call.Event.{Event};
-ghost use Rattle.evtext.specs.Script.{read_script_of};
-ghost use Rattle.reptext.specs.declared.file.File.TheVariants as file;
 ghost use Rattle.report.specs.Answers as answers;
 ghost use Rattle.report.specs.Commands.{input, output};
 
 use crate::command::{Answer, Command, denied};
 use crate::engine::carry_out;
 use crate::load::Loaded;
-use crate::{Asked, End, File, Listener, Sink, Source};
-use base::{MAX_EVENTS, Refusal};
-use captext::Fault;
+use crate::third::Script;
+use crate::{Asked, End, Listener, Sink, Source};
+use base::Refusal;
 use deal::{Gate, Open};
-use evtext::{read_script, write_log};
-use machine::Event;
+use evtext::write_log;
 use split::split;
 use std::alloc::Global;
-use std::marker::Model;
 use std::sync::Wait;
 use std::thread::Threads;
 use table::Table;
@@ -64,24 +59,6 @@ where
     carry_out(&splitting, alloc, table, policy, script, listener, out)
 }
 
-/// The events of a script, which are few enough for a log.
-#[derive(Drop)]
-struct Script {
-    events: Vec<Event>,
-}
-
-impl Model for Script {
-    ghost use Rattle.std.specs.Prelude.{◌≤◌, List, length};
-    ghost use Rattle.base.specs.declared.limits.TheConstants.{MAX_EVENTS};
-    ghost use Rattle.machine.specs.declared.call.Event.{Event as EventOf};
-
-    ghost Value = { List EventOf };
-
-    ghost view = { λ script. script.events.items };
-
-    ghost invariant = { λ script. length script.events.items ≤ MAX_EVENTS };
-}
-
 /// The command `run`, split among workers.
 #[derive(Drop)]
 struct Splitting<'a, J> {
@@ -90,14 +67,6 @@ struct Splitting<'a, J> {
 
 impl<J: Fn(&Loaded<Script>) -> Result<Answer, Refusal>> Command for Splitting<'_, J> {
     type Third = Script;
-
-    ghost third_file = { file.Script };
-
-    ghost Held = { List Event };
-
-    ghost held = { λ script. script };
-
-    ghost read_of = { λ table. read_script_of };
 
     ghost lacks = { λ _. answers.no_label };
 
@@ -108,17 +77,6 @@ impl<J: Fn(&Loaded<Script>) -> Result<Answer, Refusal>> Command for Splitting<'_
         × IfErr answer (λ refusal. refusal ≡ out_of_memory)) };
 
     ghost judges = { λ split. answers.RunsSplit };
-
-    fn third_file() -> File {
-        File::Script
-    }
-
-    fn read_third(alloc: Global, _table: &Table, bytes: &[u8]) -> Result<Script, Fault> {
-        match read_script(alloc, bytes) {
-            Ok(events) => Ok(Script { events }),
-            Err(fault) => Err(fault),
-        }
-    }
 
     fn unlabelled(&self, _table: &Table) -> Option<Asked> {
         None

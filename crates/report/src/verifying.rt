@@ -1,15 +1,12 @@
-ghost use Rattle.std.specs.{Prelude.{◌≡◌, List, false}, Thread.IsSync};
-ghost use Rattle.certificate.specs.{declared.line.Line.Line, Reading.read_certificate_of};
-ghost use Rattle.reptext.specs.declared.file.File.TheVariants as file;
+ghost use Rattle.std.specs.{Prelude.{◌≡◌, false}, Thread.IsSync};
 ghost use Rattle.report.specs.Answers as answers;
 ghost use Rattle.report.specs.Commands.{input, output};
 
 use crate::command::{Answer, Command, denied};
 use crate::engine::carry_out;
 use crate::load::Loaded;
-use crate::{Asked, End, File, Listener, Sink, Source};
+use crate::{Asked, End, Listener, Sink, Source};
 use base::Refusal;
-use captext::Fault;
 use certificate::{Certificate, NotAccepted};
 use reptext::accept_report;
 use std::alloc::Global;
@@ -64,27 +61,11 @@ struct Verifying<'a, R> {
 impl<R: Threads + Sync> Command for Verifying<'_, R> {
     type Third = Certificate;
 
-    ghost third_file = { file.Certificate };
-
-    ghost Held = { List Line };
-
-    ghost held = { λ lines. lines };
-
-    ghost read_of = { read_certificate_of };
-
     ghost lacks = { λ _. answers.no_label };
 
     ghost may_judge = { λ _. IsSync R.row };
 
     ghost judges = { λ verify. answers.Verifies };
-
-    fn third_file() -> File {
-        File::Certificate
-    }
-
-    fn read_third(alloc: Global, table: &Table, bytes: &[u8]) -> Result<Certificate, Fault> {
-        certificate::read(alloc, bytes, table)
-    }
 
     fn unlabelled(&self, _table: &Table) -> Option<Asked> {
         None

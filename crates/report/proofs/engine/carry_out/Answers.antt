@@ -6,14 +6,15 @@ use Rattle.report.proofs.engine.carry_out.Goals as goal
 pub returns : goal.returns
 returns g c =
     let command = g.C.Command in
+    let third = g.C.Third.ThirdFile in
     let judges = command.judges c.args.command.now in
-    let held = contents_of command.third_file command.read_of (g.T.Source.remaining c.args.table.now) (g.P.Source.remaining c.args.policy.now) (g.S.Source.remaining c.args.third.now) in
-    let right = at_contents command.held judges c.load-loaded.result c.answer-answer.result held c.load-loaded.ensures.loaded c.answer-answer.ensures.right in
+    let held = contents_of third.named third.read_of (g.T.Source.remaining c.args.table.now) (g.P.Source.remaining c.args.policy.now) (g.S.Source.remaining c.args.third.now) in
+    let right = at_contents judges c.load-loaded.result c.answer-answer.result held c.load-loaded.ensures.loaded c.answer-answer.ensures.right in
     record {
       answered = written c.write.result c.answer-answer.result (IsAnswer judges held) (Appends (g.O.Sink.contents c.args.out.now) (g.O.Sink.contents c.write.new.out)) right c.write.ensures.status;
       begun = began c.write.result c.answer-answer.result (IsAnswer judges held) (AppendsBeginning (g.O.Sink.contents c.args.out.now) (g.O.Sink.contents c.write.new.out)) right c.write.ensures.begun;
       unwritten = c.write.ensures.unwritten;
-      unlabelled = unlabelled command.held (command.lacks c.args.command.now) c.load-loaded.result c.write.result c.answer-answer.result held c.load-loaded.ensures.loaded c.answer-answer.ensures.unlabelled c.write.ensures.unlabelled;
+      unlabelled = unlabelled (command.lacks c.args.command.now) c.load-loaded.result c.write.result c.answer-answer.result held c.load-loaded.ensures.loaded c.answer-answer.ensures.unlabelled c.write.ensures.unlabelled;
       flushed = c.write.ensures.flushed;
       exit = c.write.ensures.exit c.answer-answer.ensures.exit;
       policy_waits = c.load-loaded.ensures.policy_waits;

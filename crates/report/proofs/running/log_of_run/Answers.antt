@@ -1,4 +1,5 @@
-use Rattle.std.{specs.List.zip, proofs.{Common.{◌++◌, ◌∙◌, ap}, lemmas.Result.IfOk-weaker}}
+use Rattle.std.{specs.List.zip, proofs.{Common.{◌++◌, ◌∙◌, ap, subst}, lemmas.Result.IfOk-weaker}}
+use Rattle.machine.specs.Run.{Run}
 use Rattle.evtext.specs.Log.{log_text}
 use Rattle.report.proofs.running.log_of_run.Goals as goal
 
@@ -6,6 +7,14 @@ pub returns-clause-log : goal.returns-clause-log
 returns-clause-log c =
     let ran = c.in_ok-run.ensures.ran in
     let all = c.deref.ensures.value ∙ ran.1 ∙ ap (λ xs. xs ++ ran.0) c.new-outcomes.ensures.items in
+    let script = c.as_slice-events.ensures.value ∙ c.script.view_is in
     IfOk-weaker c.write_run.result _ _
-    (λ text told. record { boot = _; last = _; outcomes = ran.0; booted = c.in_ok-state.ensures.booted; ran = ran.2; told = told ∙ ap (λ xs. log_text (zip c.args.events.now xs)) all })
+    (λ text told. record {
+      boot = c.in_ok-state.state;
+      last = c.run.new.state;
+      outcomes = ran.0;
+      booted = c.in_ok-state.ensures.booted;
+      ran = subst (λ events. Run c.in_ok-state.state events ran.0 c.run.new.state) script ran.2;
+      told = told ∙ ap (λ xs. log_text (zip c.as_slice-events.result.now xs)) all ∙ ap (λ events. log_text (zip events ran.0)) script;
+    })
     c.write_run.ensures.text

@@ -1,4 +1,4 @@
-use Rattle.report.proofs.checking.CheckingQuestion.judge.Goals as goal
+use Rattle.report.proofs.checking.CheckingCommand.judge.Goals as goal
 
 pub returns-clause-right : goal.returns-clause-right
 returns-clause-right g c = (c.requires.may.1 _ _ _ c.judge.ensures).0

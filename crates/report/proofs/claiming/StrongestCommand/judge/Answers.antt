@@ -2,7 +2,7 @@ use Rattle.std.proofs.Common.{refl, subst}
 use Rattle.verdict.specs.System.{System}
 use Rattle.report.specs.Answers as answers
 use Rattle.report.specs.Claimed as claimed
-use Rattle.report.proofs.claiming.StrongestQuestion.judge.Goals as goal
+use Rattle.report.proofs.claiming.StrongestCommand.judge.Goals as goal
 
 pub returns-in_ok-strongest_text-in-Ok-clause-right : goal.returns-in_ok-strongest_text-in-Ok-clause-right
 returns-in_ok-strongest_text-in-Ok-clause-right g c =

@@ -1,6 +1,0 @@
-use Rattle.std.{specs.Prelude.Some, proofs.Common.{ap, refl}}
-use Rattle.report.proofs.listing.list.Goals as goal
-
--- the source that is left is that of the engine
-pub returns : goal.returns
-returns g c = record { policy = _; bytes = ap Some c.no_policy.ensures; is_sound = refl; done = c.answer_question.ensures }

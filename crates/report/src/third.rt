@@ -1,0 +1,154 @@
+ghost use Rattle.std.specs.Prelude.{ℕ, ◌≡◌, List, Result};
+ghost use Rattle.machine.specs.Layout.{Layout};
+ghost use Rattle.words.specs.{declared.faults.Fault.Fault, Reading.Reads};
+ghost use Rattle.evtext.specs.{Log.read_log_of, Script.read_script_of};
+ghost use Rattle.certificate.specs.Reading.{read_certificate_of};
+ghost use Rattle.claims.specs.Reading.{read_claims_of};
+ghost use Rattle.reptext.specs.declared.file.File.{File, File as file};
+ghost use Rattle.report.specs.Answers.{read_nothing};
+
+use crate::File;
+use captext::Fault;
+use certificate::Certificate;
+use claims::Claims;
+use evtext::{read_log, read_script};
+use machine::{Event, Log, Outcome};
+use std::alloc::Global;
+use std::marker::Model;
+use table::Table;
+
+/// What a command's third file holds.
+pub(crate) trait ThirdFile: Drop {
+    // The file's name, and how its text is read.
+    ghost named: { File };
+
+    ghost read_of: { Layout → List ℕ → Result Self Fault };
+
+    /// The file's name.
+    fn name() -> File
+        ensures { result ≡ named };
+
+    /// Reads its text; a fault that is `Fault::MEMORY` says that memory was refused.
+    fn read(alloc: Global, table: &Table, bytes: &[u8]) -> Result<Self, Fault>
+        ensures { Reads (λ held. held) result (read_of table.now bytes.now) };
+
+    /// The entries of the log that it holds, if it holds one.
+    fn log(&self) -> Option<&[(Event, Outcome)]> {
+        None
+    }
+}
+
+/// No third file: it has a name that is never told, as no device can fail.
+impl ThirdFile for () {
+    ghost named = { file.Policy };
+
+    ghost read_of = { read_nothing };
+
+    fn name() -> File {
+        File::Policy
+    }
+
+    #[tactic(auto, unfolding(crate::specs::Answers::read_nothing))]
+    fn read(_alloc: Global, _table: &Table, _bytes: &[u8]) -> Result<(), Fault> {
+        Ok(())
+    }
+}
+
+impl ThirdFile for Certificate {
+    ghost named = { file.Certificate };
+
+    ghost read_of = { read_certificate_of };
+
+    fn name() -> File {
+        File::Certificate
+    }
+
+    fn read(alloc: Global, table: &Table, bytes: &[u8]) -> Result<Certificate, Fault> {
+        certificate::read(alloc, bytes, table)
+    }
+}
+
+/// The events of a script, which are few enough for a log.
+#[derive(Drop)]
+pub(crate) struct Script {
+    pub events: Vec<Event>,
+}
+
+impl Model for Script {
+    ghost use Rattle.std.specs.Prelude.{◌≤◌, List, length};
+    ghost use Rattle.base.specs.declared.limits.TheConstants.{MAX_EVENTS};
+    ghost use Rattle.machine.specs.declared.call.Event.{Event as EventOf};
+
+    ghost Value = { List EventOf };
+
+    ghost view = { λ script. script.events.items };
+
+    ghost invariant = { λ script. length script.events.items ≤ MAX_EVENTS };
+}
+
+impl ThirdFile for Script {
+    ghost named = { file.Script };
+
+    ghost read_of = { λ table. read_script_of };
+
+    fn name() -> File {
+        File::Script
+    }
+
+    fn read(alloc: Global, _table: &Table, bytes: &[u8]) -> Result<Script, Fault> {
+        match read_script(alloc, bytes) {
+            Ok(events) => Ok(Script { events }),
+            Err(fault) => Err(fault),
+        }
+    }
+}
+
+/// The entries of a log.
+#[derive(Drop)]
+pub(crate) struct Entries {
+    pub entries: Log,
+}
+
+impl Model for Entries {
+    ghost use Rattle.std.specs.Prelude.{List};
+    ghost use Rattle.kernel.specs.Legal.{Entry};
+
+    ghost Value = { List Entry };
+
+    ghost view = { λ log. log.entries.items };
+}
+
+impl ThirdFile for Entries {
+    ghost named = { file.Log };
+
+    ghost read_of = { λ table. read_log_of };
+
+    fn name() -> File {
+        File::Log
+    }
+
+    fn read(alloc: Global, _table: &Table, bytes: &[u8]) -> Result<Entries, Fault> {
+        match read_log(alloc, bytes) {
+            Ok(entries) => Ok(Entries { entries }),
+            Err(fault) => Err(fault),
+        }
+    }
+
+    fn log(&self) -> Option<&[(Event, Outcome)]> {
+        Some(self.entries.as_slice())
+    }
+}
+
+impl ThirdFile for Claims {
+    ghost named = { file.Claims };
+
+    ghost read_of = { read_claims_of };
+
+    fn name() -> File {
+        File::Claims
+    }
+
+    fn read(alloc: Global, table: &Table, bytes: &[u8]) -> Result<Claims, Fault> {
+        claims::read(alloc, bytes, table)
+    }
+}
