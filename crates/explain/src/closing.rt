@@ -24,21 +24,53 @@ pub fn explain_closing<R: Threads + Sync>(
     policy: &Policy,
 ) -> Result<String, Refusal> {
     let mut closed = Policy::new(alloc);
-    for edge in policy.edges(alloc)?.iter() {
-        closed.add(*edge)?;
-    }
+    let lines = lines_for(rt, alloc, table, policy, &mut closed);
+    drop(closed);
+    lines
+}
+
+/// The lines for the edges that an empty policy is given after those of another.
+fn lines_for<R: Threads + Sync>(
+    rt: &R,
+    alloc: Global,
+    table: &Table,
+    policy: &Policy,
+    closed: &mut Policy,
+) -> Result<String, Refusal> {
+    add_edges(alloc, closed, policy)?;
     let mut lines = String::new(alloc);
     for _ in 0..MOST_EDGES {
-        match first_line(rt, alloc, table, &closed)? {
-            Some((edge, line)) => {
-                closed.add(edge)?;
-                lines.push_str(&line)?;
-                lines.push('\n')?;
-            }
-            None => break,
+        if !push_line(rt, alloc, table, closed, &mut lines)? {
+            break;
         }
     }
     Ok(lines)
+}
+
+/// Adds the edges of another policy.
+fn add_edges(alloc: Global, closed: &mut Policy, policy: &Policy) -> Result<(), Refusal> {
+    for edge in policy.edges(alloc)?.iter() {
+        closed.add(*edge)?;
+    }
+    Ok(())
+}
+
+/// Adds the edge that the verdict asks for first, and the line for it, if the policy lacks one.
+fn push_line<R: Threads + Sync>(
+    rt: &R,
+    alloc: Global,
+    table: &Table,
+    closed: &mut Policy,
+    lines: &mut String,
+) -> Result<bool, Refusal> {
+    match first_line(rt, alloc, table, closed)? {
+        Some((edge, line)) => {
+            closed.add(edge)?;
+            writeln!(lines, "{line}")?;
+            Ok(true)
+        }
+        None => Ok(false),
+    }
 }
 
 /// The edge that the verdict asks for first, and the line for it, if the policy lacks one.

@@ -7,7 +7,7 @@ use crate::premises::premises;
 use crate::sentences::{EdgeLine, Reason};
 use base::{Edge, Kind, Refusal, SlotRef};
 use labels::{authority, filled_edges};
-use policy::{Policy, Why, first_broken};
+use policy::{Broken, Policy, Why, first_broken};
 use std::alloc::{AllocError, Global};
 use std::thread::Threads;
 use table::Table;
@@ -24,8 +24,8 @@ pub fn explain_why<R: Threads + Sync>(
     actor: &str,
     object: &str,
 ) -> Result<String, Refusal> {
-    let mut lines = String::new(alloc);
     let mut edges = reason(alloc, table, policy, actor, object)?;
+    let mut lines = String::new(alloc);
     for number in 0..MOST_EDGES {
         let asking = match edges.get(number) {
             Some(edge) => push_origin(rt, alloc, &mut lines, file, table, policy, edge)?,
@@ -184,14 +184,31 @@ fn asked_by<R: Threads + Sync>(
     policy: &Policy,
     edge: &Edge,
 ) -> Result<Option<Asked>, Refusal> {
-    let of_table = authority(alloc, table)?;
-    match rule_for(rt, alloc, table, &of_table, edge)? {
+    match asked_by_table(rt, alloc, table, edge)? {
         Some(asked) => Ok(Some(asked)),
-        None => {
-            let of_policy = policy.edges(alloc)?;
-            rule_for(rt, alloc, table, &of_policy, edge)
-        }
+        None => asked_by_policy(rt, alloc, table, policy, edge),
     }
+}
+
+fn asked_by_table<R: Threads + Sync>(
+    rt: &R,
+    alloc: Global,
+    table: &Table,
+    edge: &Edge,
+) -> Result<Option<Asked>, Refusal> {
+    let edges = authority(alloc, table)?;
+    rule_for(rt, alloc, table, &edges, edge)
+}
+
+fn asked_by_policy<R: Threads + Sync>(
+    rt: &R,
+    alloc: Global,
+    table: &Table,
+    policy: &Policy,
+    edge: &Edge,
+) -> Result<Option<Asked>, Refusal> {
+    let edges = policy.edges(alloc)?;
+    rule_for(rt, alloc, table, &edges, edge)
 }
 
 /// By which rule an edge is asked for, and the edges by which it is.
@@ -210,27 +227,44 @@ fn rule_for<R: Threads + Sync>(
     wanted: &Edge,
 ) -> Result<Option<Asked>, Refusal> {
     let mut policy = Policy::new(alloc);
+    let asked = rule_of(rt, alloc, table, edges, wanted, &mut policy);
+    drop(policy);
+    asked
+}
+
+/// The same, where an empty policy is given the edges.
+fn rule_of<R: Threads + Sync>(
+    rt: &R,
+    alloc: Global,
+    table: &Table,
+    edges: &[Edge],
+    wanted: &Edge,
+    policy: &mut Policy,
+) -> Result<Option<Asked>, Refusal> {
     for edge in edges {
         if edge != wanted {
             policy.add(*edge)?;
         }
     }
     for _ in 0..MOST_EDGES {
-        let Some(broken) = first_broken(rt, &policy) else {
+        let Some(broken) = first_broken(rt, policy) else {
             return Ok(None);
         };
-        match mending_edge(table, &policy, &Denial::Policy(broken)) {
-            Some(edge) if edge == *wanted => {
-                let mut by = Vec::new(alloc);
-                for premise in premises(&policy, broken) {
-                    by.extend(premise)?;
-                }
-                let rule = broken.rule();
-                return Ok(Some(Asked { rule, by }));
-            }
+        match mending_edge(table, policy, &Denial::Policy(broken)) {
+            Some(edge) if edge == *wanted => return Ok(Some(asked_of(alloc, policy, broken)?)),
             Some(edge) => policy.add(edge)?,
             None => return Ok(None),
         }
     }
     Ok(None)
+}
+
+/// The rule that is broken, and the edges of the policy by which it asks for another.
+fn asked_of(alloc: Global, policy: &Policy, broken: Broken) -> Result<Asked, AllocError> {
+    let mut by = Vec::new(alloc);
+    for premise in premises(policy, broken) {
+        by.extend(premise)?;
+    }
+    let rule = broken.rule();
+    Ok(Asked { rule, by })
 }
