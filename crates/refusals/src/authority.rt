@@ -1,11 +1,10 @@
 //! `labels::authority` and `labels::slot_edges`.
 use crate::bell::{self, SLOT, table_edges};
 use crate::memory::{NO_MEMORY, Stopped, are, tries};
-use crate::tables::with_table;
 use labels::{authority, slot_edges};
 use table::Table;
 
-fn lists_the_authority<R: AllocGlobal>(rt: &R, table: &Table) -> Result<(), Stopped> {
+pub fn lists_authority<R: AllocGlobal>(rt: &R, table: &Table) -> Result<(), Stopped> {
     let expected = table_edges()?;
     tries(
         NO_MEMORY,
@@ -14,19 +13,11 @@ fn lists_the_authority<R: AllocGlobal>(rt: &R, table: &Table) -> Result<(), Stop
     )
 }
 
-pub fn lists_authority<R: AllocGlobal>(rt: &R, count: u64) -> Result<(), Stopped> {
-    with_table(rt, count, |table| lists_the_authority(rt, table))
-}
-
-fn lists_the_edges_of_a_slot<R: AllocGlobal>(rt: &R, table: &Table) -> Result<(), Stopped> {
+pub fn lists_edges_of_a_slot<R: AllocGlobal>(rt: &R, table: &Table) -> Result<(), Stopped> {
     let expected = bell::slot_edges()?;
     tries(
         NO_MEMORY,
         || slot_edges(rt.alloc(), table, SLOT),
         |edges| are(edges, &expected),
     )
-}
-
-pub fn lists_edges_of_a_slot<R: AllocGlobal>(rt: &R, count: u64) -> Result<(), Stopped> {
-    with_table(rt, count, |table| lists_the_edges_of_a_slot(rt, table))
 }

@@ -1,8 +1,6 @@
 //! `certificate::make`, `certificate::read`, `certificate::write` and `certificate::verify`.
-use crate::bell::{CERTIFICATE, POLICY, certificate_lines};
+use crate::bell::{CERTIFICATE, certificate_lines};
 use crate::memory::{NO_MEMORY, Stopped, UNREAD, are, lend, prepared, tries};
-use crate::tables::with_table;
-use captext::read_policy;
 use certificate::{Certificate, NotAccepted, make, read, verify, write};
 use policy::Policy;
 use std::thread::Threads;
@@ -13,7 +11,7 @@ pub fn is_the_certificate(certificate: &Certificate) -> Result<(), Stopped> {
     are(certificate.lines(), &certificate_lines()?)
 }
 
-fn makes_the_certificate<R: AllocGlobal>(rt: &R, table: &Table) -> Result<(), Stopped> {
+pub fn makes_a_certificate<R: AllocGlobal>(rt: &R, table: &Table) -> Result<(), Stopped> {
     tries(
         NO_MEMORY,
         || make(rt.alloc(), table),
@@ -21,20 +19,12 @@ fn makes_the_certificate<R: AllocGlobal>(rt: &R, table: &Table) -> Result<(), St
     )
 }
 
-pub fn makes_a_certificate<R: AllocGlobal>(rt: &R, count: u64) -> Result<(), Stopped> {
-    with_table(rt, count, |table| makes_the_certificate(rt, table))
-}
-
-fn reads_the_certificate<R: AllocGlobal>(rt: &R, table: &Table) -> Result<(), Stopped> {
+pub fn reads_a_certificate<R: AllocGlobal>(rt: &R, table: &Table) -> Result<(), Stopped> {
     tries(
         UNREAD,
         || read(rt.alloc(), CERTIFICATE.as_bytes(), table),
         |certificate| is_the_certificate(certificate),
     )
-}
-
-pub fn reads_a_certificate<R: AllocGlobal>(rt: &R, count: u64) -> Result<(), Stopped> {
-    with_table(rt, count, |table| reads_the_certificate(rt, table))
 }
 
 /// The system's certificate, as it is read.
@@ -50,14 +40,10 @@ fn writes<R: AllocGlobal>(rt: &R, certificate: &Certificate, table: &Table) -> R
     )
 }
 
-fn writes_the_certificate<R: AllocGlobal>(rt: &R, table: &Table) -> Result<(), Stopped> {
+pub fn writes_a_certificate<R: AllocGlobal>(rt: &R, table: &Table) -> Result<(), Stopped> {
     lend(certificate_of(rt, table), |certificate| {
         writes(rt, certificate, table)
     })
-}
-
-pub fn writes_a_certificate<R: AllocGlobal>(rt: &R, count: u64) -> Result<(), Stopped> {
-    with_table(rt, count, |table| writes_the_certificate(rt, table))
 }
 
 fn verifies<R: AllocGlobal + Threads + Sync>(
@@ -73,7 +59,7 @@ fn verifies<R: AllocGlobal + Threads + Sync>(
     )
 }
 
-fn verifies_with<R: AllocGlobal + Threads + Sync>(
+pub fn verifies_a_certificate<R: AllocGlobal + Threads + Sync>(
     rt: &R,
     table: &Table,
     policy: &Policy,
@@ -81,19 +67,4 @@ fn verifies_with<R: AllocGlobal + Threads + Sync>(
     lend(certificate_of(rt, table), |certificate| {
         verifies(rt, table, policy, certificate)
     })
-}
-
-fn verifies_the_certificate<R: AllocGlobal + Threads + Sync>(
-    rt: &R,
-    table: &Table,
-) -> Result<(), Stopped> {
-    let policy = prepared(read_policy(rt.alloc(), POLICY.as_bytes(), table));
-    lend(policy, |policy| verifies_with(rt, table, policy))
-}
-
-pub fn verifies_a_certificate<R: AllocGlobal + Threads + Sync>(
-    rt: &R,
-    count: u64,
-) -> Result<(), Stopped> {
-    with_table(rt, count, |table| verifies_the_certificate(rt, table))
 }

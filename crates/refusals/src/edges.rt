@@ -1,7 +1,7 @@
-//! `policy::Policy::add` and `policy::Policy::edges`.
+//! `policy::Policy::add`, `policy::Policy::edges` and `policy::close`.
 use crate::bell::edges;
 use crate::memory::{
-    NO_MEMORY, Stopped, Wrong, again, are, holds, lend_mut, prepared, spend, tries,
+    NO_MEMORY, Stopped, Wrong, again, are, holds, lend, lend_mut, prepared, spend, tries,
 };
 use base::Edge;
 use policy::Policy;
@@ -34,8 +34,8 @@ fn adds_the_first(policy: &mut Policy, rising: &[Edge]) -> Result<(), Stopped> {
 fn adds_edges_to(policy: &mut Policy) -> Result<(), Stopped> {
     let edges = edges()?;
     let rising = edges.as_slice();
-    for here in [5usize, 4, 3, 2, 1, 0] {
-        adds_the_first(policy, &rising[here..])?;
+    for here in &[5usize, 4, 3, 2, 1, 0] {
+        adds_the_first(policy, &rising[*here..])?;
     }
     Ok(())
 }
@@ -66,4 +66,19 @@ pub fn lists_edges<R: AllocGlobal>(rt: &R, count: u64) -> Result<(), Stopped> {
     lend_mut(Policy::new(rt.alloc()), |policy| {
         fills_and_lists(rt, policy)
     })
+}
+
+/// Closes a policy without an edge, with all edges of the system.
+fn closes_the<R: AllocGlobal>(rt: &R, empty: &Policy) -> Result<(), Stopped> {
+    let edges = edges()?;
+    tries(
+        NO_MEMORY,
+        || policy::close(rt.alloc(), empty, &edges),
+        |closed| has_edges(closed, &edges),
+    )
+}
+
+pub fn closes<R: AllocGlobal>(rt: &R, count: u64) -> Result<(), Stopped> {
+    spend(rt.alloc(), count)?;
+    lend(Ok(Policy::new(rt.alloc())), |empty| closes_the(rt, empty))
 }

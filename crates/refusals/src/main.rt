@@ -11,25 +11,20 @@ mod authority;
 mod bell;
 mod calls;
 mod certificates;
-mod checks;
-mod claimings;
-mod closings;
-mod drawings;
 mod edges;
-mod engine;
+mod engines;
 mod logs;
 mod memory;
 mod openings;
 mod readers;
-mod replays;
 mod retypes;
-mod splits;
 mod states;
 mod tables;
 mod verdicts;
 mod writers;
 
 use calls::{NAMES, make};
+use engines::CALLS;
 use memory::Stopped;
 use std::sync::Wait;
 use std::thread::Threads;
@@ -47,6 +42,9 @@ fn main(rt: HostRuntime) -> io::Result<()> {
 fn make_each<R: Print + AllocGlobal + Threads + Wait + Sync>(rt: &R) -> io::Result<()> {
     for name in NAMES.split(' ') {
         println!(rt; "{name}: {}", told(make(rt, name, 0)))?;
+    }
+    for call in &CALLS {
+        println!(rt; "{}: {}", call.name, told(make(rt, call.name, 0)))?;
     }
     Ok(())
 }

@@ -1,8 +1,6 @@
 //! `cores::Opened::open`.
-use crate::bell::{POLICY, core};
+use crate::bell::core;
 use crate::memory::{NO_MEMORY, Stopped, Wrong, holds, lend, prepared, tries};
-use crate::tables::with_table;
-use captext::read_policy;
 use cores::Opened;
 use deal::Open;
 use policy::Policy;
@@ -20,7 +18,7 @@ fn opens_for<R: AllocGlobal>(rt: &R, accepted: &Accepted<'_>) -> Result<(), Stop
     )
 }
 
-fn opens_with<R: AllocGlobal + Threads + Sync>(
+pub fn opens<R: AllocGlobal + Threads + Sync>(
     rt: &R,
     table: &Table,
     policy: &Policy,
@@ -30,13 +28,4 @@ fn opens_with<R: AllocGlobal + Threads + Sync>(
         Ok(accepted) => opens_for(rt, accepted),
         Err(_) => Err(Stopped::Wrong(Wrong::Denied)),
     })
-}
-
-fn opens_the<R: AllocGlobal + Threads + Sync>(rt: &R, table: &Table) -> Result<(), Stopped> {
-    let policy = prepared(read_policy(rt.alloc(), POLICY.as_bytes(), table));
-    lend(policy, |policy| opens_with(rt, table, policy))
-}
-
-pub fn opens<R: AllocGlobal + Threads + Sync>(rt: &R, count: u64) -> Result<(), Stopped> {
-    with_table(rt, count, |table| opens_the(rt, table))
 }

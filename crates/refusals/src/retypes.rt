@@ -1,8 +1,7 @@
-//! `kernel::step`, `kernel::retype_refusal`, `kernel::run` and `kernel::replay` of events that make objects, and the engine of `run`.
+//! `kernel::step`, `kernel::retype_refusal`, `kernel::run` and `kernel::replay` of events that make objects.
 ghost use Rattle.machine.specs.WellFormed.{IsWellFormed};
 
 use crate::bell::core;
-use crate::engine::{Answer, answers, run_onto};
 use crate::memory::{NO_MEMORY, Stopped, Wrong, again, are, holds, lend, prepared, spend};
 use crate::states::booted;
 use base::{ObjId, Refusal, SlotRef};
@@ -10,7 +9,6 @@ use captext::read_table;
 use kernel::{replay, retype_refusal, run, step};
 use machine::{Call, Event, MemoryKind, Object, Outcome};
 use objects::State;
-use std::thread::Threads;
 use table::Table;
 
 /// A thread with untyped memory, and with a capability for its CNode in the CNode itself.
@@ -199,71 +197,6 @@ fn steps_twice(state: &mut State) -> Result<(), Stopped>
     holds(watermark(state) == Some(0x1800), Wrong::Watermark)
 }
 
-fn steps_after_boot<R: AllocGlobal>(rt: &R, table: &Table) -> Result<(), Stopped> {
-    match booted(rt, table) {
-        Ok(mut state) => {
-            let result = steps_twice(&mut state);
-            drop(state);
-            result
-        }
-        Err(fail) => Err(fail),
-    }
-}
-
-/// The table of a text, after so many allocations.
-fn table<R: AllocGlobal>(rt: &R, count: u64, text: &str) -> Result<Table, Stopped> {
-    spend(rt.alloc(), count)?;
-    prepared(read_table(rt.alloc(), text.as_bytes()))
-}
-
-pub fn steps_of_events<R: AllocGlobal>(rt: &R, count: u64) -> Result<(), Stopped> {
-    lend(table(rt, count, TABLE), |table| steps_after_boot(rt, table))
-}
-
-/// Makes objects in the boot state.
-fn makes_after_boot<R: AllocGlobal>(rt: &R, table: &Table, wanted: Wanted) -> Result<(), Stopped> {
-    match booted(rt, table) {
-        Ok(mut state) => {
-            let result = steps(&mut state, wanted);
-            drop(state);
-            result
-        }
-        Err(fail) => Err(fail),
-    }
-}
-
-/// Makes a CNode, which has slots.
-pub fn makes_a_cnode<R: AllocGlobal>(rt: &R, count: u64) -> Result<(), Stopped> {
-    let wanted = Wanted {
-        bits: 3,
-        ..one(MemoryKind::CNode, 2)
-    };
-    lend(table(rt, count, TABLE), |table| {
-        makes_after_boot(rt, table, wanted)
-    })
-}
-
-/// Makes a frame, which has words.
-pub fn makes_a_frame<R: AllocGlobal>(rt: &R, count: u64) -> Result<(), Stopped> {
-    let wanted = one(MemoryKind::Frame, 2);
-    lend(table(rt, count, TABLE), |table| {
-        makes_after_boot(rt, table, wanted)
-    })
-}
-
-/// Makes sixteen CNodes at once.
-pub fn makes_sixteen<R: AllocGlobal>(rt: &R, count: u64) -> Result<(), Stopped> {
-    let wanted = Wanted {
-        kind: MemoryKind::CNode,
-        bits: 1,
-        offset: 2,
-        count: 16,
-    };
-    lend(table(rt, count, WIDE_TABLE), |table| {
-        makes_after_boot(rt, table, wanted)
-    })
-}
-
 /// Runs an event that makes an object, twice. One that is refused memory is an outcome, the run goes on, and the second
 /// makes the object.
 fn runs_into(state: &mut State, outcomes: &mut Vec<Outcome>) -> Result<(), Stopped>
@@ -302,21 +235,6 @@ fn runs_on<R: AllocGlobal>(rt: &R, state: &mut State) -> Result<(), Stopped>
     result
 }
 
-fn runs_after_boot<R: AllocGlobal>(rt: &R, table: &Table) -> Result<(), Stopped> {
-    match booted(rt, table) {
-        Ok(mut state) => {
-            let result = runs_on(rt, &mut state);
-            drop(state);
-            result
-        }
-        Err(fail) => Err(fail),
-    }
-}
-
-pub fn runs_of_events<R: AllocGlobal>(rt: &R, count: u64) -> Result<(), Stopped> {
-    lend(table(rt, count, TABLE), |table| runs_after_boot(rt, table))
-}
-
 /// Replays a log in which an object is made. Where memory is refused, it is replayed the second time.
 fn replays_on(state: &mut State) -> Result<(), Stopped>
     requires { IsWellFormed state.old }
@@ -337,22 +255,85 @@ fn replays_on(state: &mut State) -> Result<(), Stopped>
     }
 }
 
-fn replays_after_boot<R: AllocGlobal>(rt: &R, table: &Table) -> Result<(), Stopped> {
-    match booted(rt, table) {
-        Ok(mut state) => {
-            let result = replays_on(&mut state);
-            drop(state);
-            result
-        }
-        Err(fail) => Err(fail),
+/// What is tried in a boot state.
+#[derive(Clone, Copy)]
+enum Trial {
+    /// An endpoint and a thread are made, one after the other.
+    Twice,
+    Makes(Wanted),
+    Runs,
+    Replays,
+}
+
+fn try_in<R: AllocGlobal>(rt: &R, state: &mut State, trial: Trial) -> Result<(), Stopped>
+    requires { IsWellFormed state.old }
+{
+    match trial {
+        Trial::Twice => steps_twice(state),
+        Trial::Makes(wanted) => steps(state, wanted),
+        Trial::Runs => runs_on(rt, state),
+        Trial::Replays => replays_on(state),
     }
 }
 
-pub fn replays_of_events<R: AllocGlobal>(rt: &R, count: u64) -> Result<(), Stopped> {
-    lend(table(rt, count, TABLE), |table| {
-        replays_after_boot(rt, table)
-    })
+fn try_after_boot<R: AllocGlobal>(rt: &R, table: &Table, trial: Trial) -> Result<(), Stopped> {
+    match booted(rt, table) {
+        Ok(mut state) => {
+            let result = try_in(rt, &mut state, trial);
+            drop(state);
+            result
+        }
+        Err(stopped) => Err(stopped),
+    }
 }
+
+/// Tries it in the boot state of a text's table, after so many allocations.
+fn tried<R: AllocGlobal>(rt: &R, count: u64, text: &str, trial: Trial) -> Result<(), Stopped> {
+    spend(rt.alloc(), count)?;
+    let table = prepared(read_table(rt.alloc(), text.as_bytes()));
+    lend(table, |table| try_after_boot(rt, table, trial))
+}
+
+pub fn steps_of_events<R: AllocGlobal>(rt: &R, count: u64) -> Result<(), Stopped> {
+    tried(rt, count, TABLE, Trial::Twice)
+}
+
+/// Makes a CNode, which has slots.
+pub fn makes_a_cnode<R: AllocGlobal>(rt: &R, count: u64) -> Result<(), Stopped> {
+    let wanted = Wanted {
+        bits: 3,
+        ..one(MemoryKind::CNode, 2)
+    };
+    tried(rt, count, TABLE, Trial::Makes(wanted))
+}
+
+/// Makes a frame, which has words.
+pub fn makes_a_frame<R: AllocGlobal>(rt: &R, count: u64) -> Result<(), Stopped> {
+    let wanted = one(MemoryKind::Frame, 2);
+    tried(rt, count, TABLE, Trial::Makes(wanted))
+}
+
+/// Makes sixteen CNodes at once.
+pub fn makes_sixteen<R: AllocGlobal>(rt: &R, count: u64) -> Result<(), Stopped> {
+    let wanted = Wanted {
+        kind: MemoryKind::CNode,
+        bits: 1,
+        offset: 2,
+        count: 16,
+    };
+    tried(rt, count, WIDE_TABLE, Trial::Makes(wanted))
+}
+
+pub fn runs_of_events<R: AllocGlobal>(rt: &R, count: u64) -> Result<(), Stopped> {
+    tried(rt, count, TABLE, Trial::Runs)
+}
+
+pub fn replays_of_events<R: AllocGlobal>(rt: &R, count: u64) -> Result<(), Stopped> {
+    tried(rt, count, TABLE, Trial::Replays)
+}
+
+/// The table, a policy and a script of an engine that makes an object.
+pub const SYSTEM: [&str; 3] = [TABLE, POLICY, SCRIPT];
 
 const POLICY: &str = "\
 confine-policy 1
@@ -382,7 +363,7 @@ confine-script 1
 end
 ";
 
-const LOG: &str = "\
+pub const LOG: &str = "\
 confine-log 1
 0 1 retype 0 endpoint 0 1 2 1 = done count 1
 0 1 retype 0 endpoint 0 1 2 1 = refused 8 0
@@ -390,19 +371,9 @@ end
 ";
 
 /// Where the first is refused memory, the run goes on.
-const LOG_WITHOUT_MEMORY: &str = "\
+pub const LOG_WITHOUT_MEMORY: &str = "\
 confine-log 1
 0 1 retype 0 endpoint 0 1 2 1 = refused 40 0
 0 1 retype 0 endpoint 0 1 2 1 = done count 1
 end
 ";
-
-pub fn logs<R: AllocGlobal + Threads + Sync>(rt: &R, count: u64) -> Result<(), Stopped> {
-    let answer = Answer {
-        without_memory: Some(LOG_WITHOUT_MEMORY),
-        ..Answer::new(0, LOG)
-    };
-    answers(rt, count, answer, |page| {
-        run_onto(rt, TABLE, POLICY, SCRIPT, page)
-    })
-}

@@ -4,22 +4,17 @@ ghost use Rattle.machine.specs.WellFormed.{IsWellFormed};
 
 use crate::bell::{DONE, WORD, events, is_booted};
 use crate::memory::{NO_MEMORY, Stopped, Wrong, again, are, holds, prepared, tries};
-use crate::tables::with_table;
 use kernel::{boot, run};
 use machine::Outcome;
 use objects::State;
 use table::Table;
 
-fn boots_the<R: AllocGlobal>(rt: &R, table: &Table) -> Result<(), Stopped> {
+pub fn boots<R: AllocGlobal>(rt: &R, table: &Table) -> Result<(), Stopped> {
     tries(
         NO_MEMORY,
         || boot(rt.alloc(), table),
         |state| is_booted(state),
     )
-}
-
-pub fn boots<R: AllocGlobal>(rt: &R, count: u64) -> Result<(), Stopped> {
-    with_table(rt, count, |table| boots_the(rt, table))
 }
 
 /// A run of the script's events on the boot state: one that is refused has made no step, and is made the second time.
@@ -56,7 +51,7 @@ pub fn booted<R: AllocGlobal>(rt: &R, table: &Table) -> Result<State, Stopped>
     prepared(boot(rt.alloc(), table))
 }
 
-fn runs_after_boot<R: AllocGlobal>(rt: &R, table: &Table) -> Result<(), Stopped> {
+pub fn runs<R: AllocGlobal>(rt: &R, table: &Table) -> Result<(), Stopped> {
     match booted(rt, table) {
         Ok(mut state) => {
             let result = runs_on(rt, &mut state);
@@ -65,8 +60,4 @@ fn runs_after_boot<R: AllocGlobal>(rt: &R, table: &Table) -> Result<(), Stopped>
         }
         Err(fail) => Err(fail),
     }
-}
-
-pub fn runs<R: AllocGlobal>(rt: &R, count: u64) -> Result<(), Stopped> {
-    with_table(rt, count, |table| runs_after_boot(rt, table))
 }

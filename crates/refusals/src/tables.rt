@@ -1,7 +1,7 @@
 //! `captext::read_table` and `captext::read_policy`.
 use crate::bell::{POLICY, TABLE, edges, is_the_system};
 use crate::edges::has_edges;
-use crate::memory::{Stopped, UNREAD, lend, prepared, spend, tries};
+use crate::memory::{Stopped, UNREAD, spend, tries};
 use captext::{read_policy, read_table};
 use table::Table;
 
@@ -14,27 +14,11 @@ pub fn reads_the_table<R: AllocGlobal>(rt: &R, count: u64) -> Result<(), Stopped
     )
 }
 
-fn reads_the_policy_for<R: AllocGlobal>(rt: &R, table: &Table) -> Result<(), Stopped> {
+pub fn reads_the_policy<R: AllocGlobal>(rt: &R, table: &Table) -> Result<(), Stopped> {
     let edges = edges()?;
     tries(
         UNREAD,
         || read_policy(rt.alloc(), POLICY.as_bytes(), table),
         |policy| has_edges(policy, &edges),
     )
-}
-
-/// Makes so many allocations, and lends the system's table to the rest of a test.
-pub fn with_table<R: AllocGlobal, F: Fn(&Table) -> Result<(), Stopped> + Drop>(
-    rt: &R,
-    count: u64,
-    test: F,
-) -> Result<(), Stopped>
-    requires { F.IsAlwaysCallable test }
-{
-    spend(rt.alloc(), count)?;
-    lend(prepared(read_table(rt.alloc(), TABLE.as_bytes())), test)
-}
-
-pub fn reads_the_policy<R: AllocGlobal>(rt: &R, count: u64) -> Result<(), Stopped> {
-    with_table(rt, count, |table| reads_the_policy_for(rt, table))
 }

@@ -1,13 +1,12 @@
 //! `captext::write_table`, `captext::write_policy` and `evtext::write_script`: what was read is written as it was.
 use crate::bell::{POLICY, SCRIPT, TABLE, events};
-use crate::memory::{NO_MEMORY, Stopped, are, lend, prepared, spend, tries};
-use crate::tables::with_table;
-use captext::{read_policy, write_policy, write_table};
+use crate::memory::{NO_MEMORY, Stopped, are, spend, tries};
+use captext::{write_policy, write_table};
 use evtext::write_script;
 use policy::Policy;
 use table::Table;
 
-fn writes_the_table<R: AllocGlobal>(rt: &R, table: &Table) -> Result<(), Stopped> {
+pub fn writes_a_table<R: AllocGlobal>(rt: &R, table: &Table) -> Result<(), Stopped> {
     tries(
         NO_MEMORY,
         || write_table(rt.alloc(), table),
@@ -15,11 +14,7 @@ fn writes_the_table<R: AllocGlobal>(rt: &R, table: &Table) -> Result<(), Stopped
     )
 }
 
-pub fn writes_a_table<R: AllocGlobal>(rt: &R, count: u64) -> Result<(), Stopped> {
-    with_table(rt, count, |table| writes_the_table(rt, table))
-}
-
-fn writes_the_policy<R: AllocGlobal>(
+pub fn writes_a_policy<R: AllocGlobal>(
     rt: &R,
     policy: &Policy,
     table: &Table,
@@ -29,15 +24,6 @@ fn writes_the_policy<R: AllocGlobal>(
         || write_policy(rt.alloc(), policy, table),
         |text| are(text, POLICY.as_bytes()),
     )
-}
-
-fn writes_the_policy_for<R: AllocGlobal>(rt: &R, table: &Table) -> Result<(), Stopped> {
-    let policy = prepared(read_policy(rt.alloc(), POLICY.as_bytes(), table));
-    lend(policy, |policy| writes_the_policy(rt, policy, table))
-}
-
-pub fn writes_a_policy<R: AllocGlobal>(rt: &R, count: u64) -> Result<(), Stopped> {
-    with_table(rt, count, |table| writes_the_policy_for(rt, table))
 }
 
 pub fn writes_a_script<R: AllocGlobal>(rt: &R, count: u64) -> Result<(), Stopped> {
