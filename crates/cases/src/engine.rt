@@ -1,7 +1,9 @@
 //! The commands of the program, over texts in memory.
+ghost use Rattle.std.specs.Prelude.{◌≡◌, false};
+
 use report::{
-    OnAccept, OnClose, Open, Silence, Watched, check, check_claims, close, draw, list, replay, run,
-    verify, why, write_claims,
+    End, OnAccept, OnClose, Open, Silence, Sink, Source, Watched, check, check_claims, close, draw,
+    list, replay, run, verify, why, write_claims,
 };
 use std::alloc::Global;
 use std::thread::Threads;
@@ -11,15 +13,11 @@ use std::thread::Threads;
 pub enum Command<'a> {
     Run,
     Replay,
-    Check,
-    /// A check that writes the certificate.
-    Cert,
+    /// A check that writes a report or the certificate.
+    Check(OnAccept),
     Verify,
-    Close,
-    /// A closing that tells what is missing.
-    Missing,
-    /// A closing that tells what is there without need.
-    Surplus,
+    /// A closing that writes the policy, or tells what is missing, or what is there without need.
+    Close(OnClose),
     List,
     Draw,
     /// Whether the claims hold.
@@ -40,12 +38,12 @@ impl<'a> Command<'a> {
         match words {
             "run" => Some(Command::Run),
             "replay" => Some(Command::Replay),
-            "check" => Some(Command::Check),
-            "cert" => Some(Command::Cert),
+            "check" => Some(Command::Check(OnAccept::Report)),
+            "cert" => Some(Command::Check(OnAccept::Certificate)),
             "verify" => Some(Command::Verify),
-            "close" => Some(Command::Close),
-            "missing" => Some(Command::Missing),
-            "surplus" => Some(Command::Surplus),
+            "close" => Some(Command::Close(OnClose::Policy)),
+            "missing" => Some(Command::Close(OnClose::Missing)),
+            "surplus" => Some(Command::Close(OnClose::Surplus)),
             "list" => Some(Command::List),
             "draw" => Some(Command::Draw),
             "claim" => Some(Command::Claim),
@@ -73,6 +71,64 @@ pub struct Answer {
     pub text: Vec<u8>,
 }
 
+/// The third file of a command; it is empty where the command doesn't read one.
+fn third_for<'a>(command: Command<'_>, given: Given<'a>) -> &'a [u8] {
+    match command {
+        Command::Run => given.script,
+        Command::Replay => given.log,
+        Command::Verify => given.certificate,
+        Command::Claim => given.claims,
+        _ => b"".as_slice(),
+    }
+}
+
+/// Carries out a command over these devices.
+fn carry_out<R, T, P, S, O>(
+    rt: &R,
+    alloc: Global,
+    command: Command<'_>,
+    table: &mut T,
+    policy: &mut P,
+    third: &mut S,
+    out: &mut O,
+) -> End
+where
+    R: Threads + Sync,
+    T: Source,
+    P: Source,
+    S: Source,
+    O: Sink,
+    requires table { T.failed table.old ≡ false }
+    requires policy { P.failed policy.old ≡ false }
+    requires third { S.failed third.old ≡ false }
+    requires out { O.failed out.old ≡ false }
+{
+    match command {
+        Command::Run => run(rt, alloc, table, policy, third, &mut Silence, out),
+        Command::Replay => replay(alloc, table, policy, third, &mut Silence, out),
+        Command::Check(on_accept) => {
+            check(
+                rt,
+                alloc,
+                table,
+                policy,
+                on_accept,
+                1,
+                &Open,
+                &mut Silence,
+                out,
+            )
+        }
+        Command::Verify => verify(rt, alloc, table, policy, third, &mut Silence, out),
+        Command::Close(on_close) => close(alloc, table, policy, on_close, &mut Silence, out),
+        Command::List => list(alloc, table, &mut Silence, out),
+        Command::Draw => draw(alloc, table, policy, &mut Silence, out),
+        Command::Claim => check_claims(rt, alloc, table, policy, third, &mut Silence, out),
+        Command::Strongest => write_claims(rt, alloc, table, policy, &mut Silence, out),
+        Command::Why(actor, object) => why(alloc, table, policy, actor, object, &mut Silence, out),
+    }
+}
+
 /// The answer of a command to these files.
 pub fn answer_to<R: Threads + Sync>(
     rt: &R,
@@ -82,118 +138,19 @@ pub fn answer_to<R: Threads + Sync>(
 ) -> Answer {
     let mut table = Watched::new(given.table);
     let mut policy = Watched::new(given.policy);
-    let mut script = Watched::new(given.script);
-    let mut certificate = Watched::new(given.certificate);
-    let mut log = Watched::new(given.log);
-    let mut claims = Watched::new(given.claims);
+    let mut third = Watched::new(third_for(command, given));
     let mut out = Watched::new(Vec::new(alloc));
-    let end = match command {
-        Command::Run => run(
-            rt,
-            alloc,
-            &mut table,
-            &mut policy,
-            &mut script,
-            &mut Silence,
-            &mut out,
-        ),
-        Command::Replay => {
-            replay(
-                alloc,
-                &mut table,
-                &mut policy,
-                &mut log,
-                &mut Silence,
-                &mut out,
-            )
-        }
-        Command::Verify => verify(
-            rt,
-            alloc,
-            &mut table,
-            &mut policy,
-            &mut certificate,
-            &mut Silence,
-            &mut out,
-        ),
-        Command::Close | Command::Missing | Command::Surplus => close(
-            alloc,
-            &mut table,
-            &mut policy,
-            wanted_of(command),
-            &mut Silence,
-            &mut out,
-        ),
-        Command::List => list(alloc, &mut table, &mut Silence, &mut out),
-        Command::Draw => draw(alloc, &mut table, &mut policy, &mut Silence, &mut out),
-        Command::Claim => check_claims(
-            rt,
-            alloc,
-            &mut table,
-            &mut policy,
-            &mut claims,
-            &mut Silence,
-            &mut out,
-        ),
-        Command::Strongest => write_claims(
-            rt,
-            alloc,
-            &mut table,
-            &mut policy,
-            &mut Silence,
-            &mut out,
-        ),
-        Command::Why(actor, object) => {
-            why(
-                alloc,
-                &mut table,
-                &mut policy,
-                actor,
-                object,
-                &mut Silence,
-                &mut out,
-            )
-        }
-        Command::Check => {
-            let wanted = OnAccept::Report;
-            check(
-                rt,
-                alloc,
-                &mut table,
-                &mut policy,
-                wanted,
-                1,
-                &Open,
-                &mut Silence,
-                &mut out,
-            )
-        }
-        Command::Cert => {
-            let wanted = OnAccept::Certificate;
-            check(
-                rt,
-                alloc,
-                &mut table,
-                &mut policy,
-                wanted,
-                1,
-                &Open,
-                &mut Silence,
-                &mut out,
-            )
-        }
-    };
+    let end = carry_out(
+        rt,
+        alloc,
+        command,
+        &mut table,
+        &mut policy,
+        &mut third,
+        &mut out,
+    );
     Answer {
         status: end.status(),
         text: out.into_inner(),
-    }
-}
-
-/// What a closing is to write.
-fn wanted_of(command: Command<'_>) -> OnClose {
-    match command {
-        Command::Missing => OnClose::Missing,
-        Command::Surplus => OnClose::Surplus,
-        _ => OnClose::Policy,
     }
 }

@@ -11,6 +11,8 @@ const NO_PLACE: Wrong = Wrong("a rule has a place");
 
 const NO_ARROW: Wrong = Wrong("an arrow is told as `A changes B by EDGE` or `A takes B by EDGE`");
 
+const WITHIN: &str = "\"state\":\"within\",\"verdict\":\"legal\"";
+
 /// The answer that these words say: `log`, `report`, `certificate`, `policy`, `each OUTCOME`, `accept`, ``writes
 /// `TEXT` ``, `claims`, `hold N`, `broken AUTHORITY K`, `full EDGES`, `take EDGES`, `none`, `lacks EDGES`,
 /// `draws LABELS, ARROWS`, `within N`, `outside N RULE PLACE`, `illegal K`, `deny RULE PLACE`, or a fault, which is in this file and line where they don't say another.
@@ -36,10 +38,7 @@ pub fn expected(
     if let Some(words) = words.strip_prefix("draws") {
         return drawn(alloc, words);
     }
-    if let Some(answer) = replayed(alloc, words)? {
-        return Ok(answer);
-    }
-    if let Some(answer) = claimed(alloc, words)? {
+    if let Some(answer) = reported(alloc, words)? {
         return Ok(answer);
     }
     if let Some(text) = words.strip_prefix("writes ") {
@@ -110,24 +109,18 @@ fn drawn(alloc: Global, words: &str) -> Result<Answer, Wrong> {
     })
 }
 
-/// What a replay tells: `within N` or `outside N RULE PLACE`, where N is the number of entries, or `illegal K`.
-fn replayed(alloc: Global, words: &str) -> Result<Option<Answer>, Wrong> {
+/// What is told of a log, `within N` or `outside N RULE PLACE`, where N is the number of entries, or `illegal K`; and of claims, `hold N`,
+/// where N is their number, or `broken AUTHORITY K`.
+fn reported(alloc: Global, words: &str) -> Result<Option<Answer>, Wrong> {
     let (word, words) = words.split_once(' ').unwrap_or((words, ""));
     let (text, status) = match word {
-        "within" => (within(alloc, words)?, 0),
+        "within" => (numbered(alloc, "entries", words, WITHIN)?, 0),
         "outside" => (outside(alloc, words)?, 1),
-        "illegal" => (illegal(alloc, words)?, 1),
-        _ => return Ok(None),
-    };
-    let text = text.into_bytes();
-    Ok(Some(Answer { status, text }))
-}
-
-/// What is told of claims: `hold N`, where N is their number, or `broken AUTHORITY K`.
-fn claimed(alloc: Global, words: &str) -> Result<Option<Answer>, Wrong> {
-    let (word, words) = words.split_once(' ').unwrap_or((words, ""));
-    let (text, status) = match word {
-        "hold" => (hold(alloc, words)?, 0),
+        "illegal" => (
+            numbered(alloc, "entry", words, "\"verdict\":\"illegal\"")?,
+            1,
+        ),
+        "hold" => (numbered(alloc, "claims", words, "\"verdict\":\"hold\"")?, 0),
         "broken" => (broken(alloc, words)?, 1),
         _ => return Ok(None),
     };
@@ -135,9 +128,10 @@ fn claimed(alloc: Global, words: &str) -> Result<Option<Answer>, Wrong> {
     Ok(Some(Answer { status, text }))
 }
 
-fn hold(alloc: Global, words: &str) -> Result<String, Wrong> {
-    let claims = number(words)?;
-    Ok(format!(in alloc; "{{\"claims\":{claims},\"verdict\":\"hold\"}}\n")?)
+/// A number by its name, and what is told beside it.
+fn numbered(alloc: Global, name: &str, words: &str, rest: &str) -> Result<String, Wrong> {
+    let number = number(words)?;
+    Ok(format!(in alloc; "{{\"{name}\":{number},{rest}}}\n")?)
 }
 
 fn broken(alloc: Global, words: &str) -> Result<String, Wrong> {
@@ -150,11 +144,6 @@ fn broken(alloc: Global, words: &str) -> Result<String, Wrong> {
     )?)
 }
 
-fn within(alloc: Global, words: &str) -> Result<String, Wrong> {
-    let entries = number(words)?;
-    Ok(format!(in alloc; "{{\"entries\":{entries},\"state\":\"within\",\"verdict\":\"legal\"}}\n")?)
-}
-
 fn outside(alloc: Global, words: &str) -> Result<String, Wrong> {
     let (entries, words) = words.split_once(' ').ok_or(NO_PLACE)?;
     let (rule, place) = words.split_once(' ').ok_or(NO_PLACE)?;
@@ -163,11 +152,6 @@ fn outside(alloc: Global, words: &str) -> Result<String, Wrong> {
     Ok(format!(in alloc;
         "{{\"entries\":{entries},\"place\":[{place}],\"rule\":\"{rule}\",\"state\":\"outside\",\"verdict\":\"legal\"}}\n"
     )?)
-}
-
-fn illegal(alloc: Global, words: &str) -> Result<String, Wrong> {
-    let entry = number(words)?;
-    Ok(format!(in alloc; "{{\"entry\":{entry},\"verdict\":\"illegal\"}}\n")?)
 }
 
 /// The log of a script of which each event has this outcome.

@@ -328,15 +328,9 @@ fn tell_cap(text: &mut String, table: &Table, cap: Cap) -> Result<(), AllocError
 
 fn tell_detail(text: &mut String, detail: Detail) -> Result<(), AllocError> {
     match detail {
-        Detail::CNode(guard) => {
-            let size = guard.size;
-            let value = guard.value;
-            write!(text, " guard {size} 0x{value:x}")
-        }
+        Detail::CNode(guard) => write!(text, " guard {} 0x{:x}", guard.size, guard.value),
         Detail::Endpoint(end) | Detail::Notification(end) => {
-            let rights = end.rights;
-            let badge = end.badge;
-            write!(text, " {rights} badge {badge}")
+            write!(text, " {} badge {}", end.rights, end.badge)
         }
         Detail::Frame(rights) => write!(text, " {rights}"),
         Detail::Untyped | Detail::Tcb | Detail::Reply | Detail::Context | Detail::Control => Ok(()),

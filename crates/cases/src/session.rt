@@ -13,6 +13,8 @@ use std::fs;
 use std::rt::Files;
 use std::thread::Threads;
 
+const NO_COMMAND: Wrong = Wrong("there is no such command");
+
 /// What the indented lines are that follow a line.
 #[derive(Clone, Copy)]
 enum Block<'a> {
@@ -115,7 +117,7 @@ impl<'a> Session<'a> {
             // What it says is asked of the whole file.
             ("all", "differ") => (),
             ("system", name) => self.read_system(rt, folder, name)?,
-            ("asks", name) => self.asked = asked(name)?,
+            ("asks", name) => self.asked = Command::named(name).ok_or(NO_COMMAND)?,
             ("beginnings", words) => self.try_beginnings(rt, words, case, tally)?,
             ("in", words) => return changes_in(words),
             ("each", "event") => return Ok(Block::EachEvent),
@@ -144,13 +146,13 @@ impl<'a> Session<'a> {
         folder: &str,
         name: &str,
     ) -> Result<(), Wrong> {
-        for file in [File::Table, File::Policy, File::Script] {
+        for file in &[File::Table, File::Policy, File::Script] {
             let path = format!(in self.alloc; "{folder}/systems/{name}/{}", file.name())?;
-            *self.texts.text_mut(file) = fs::read_to_string(rt, &path)?;
+            *self.texts.text_mut(*file) = fs::read_to_string(rt, &path)?;
         }
-        *self.texts.text_mut(File::Certificate) = self.told(rt, folder, name, "certificate")?;
-        *self.texts.text_mut(File::Log) = self.told(rt, folder, name, "log")?;
-        *self.texts.text_mut(File::Claims) = self.told(rt, folder, name, "claims")?;
+        for file in &[File::Certificate, File::Log, File::Claims] {
+            *self.texts.text_mut(*file) = self.told(rt, folder, name, file.name())?;
+        }
         self.texts.keep_log(self.alloc)?;
         self.texts.report = self.told(rt, folder, name, "report")?;
         self.asked = Command::Run;
@@ -314,11 +316,6 @@ impl<'a> Session<'a> {
     ) -> Result<(), Wrong> {
         self.events.compare_run(rt, self.texts.given(), case, tally)
     }
-}
-
-/// The command that these words name.
-fn asked(words: &str) -> Result<Command<'_>, Wrong> {
-    Command::named(words).ok_or(Wrong("there is no such command"))
 }
 
 /// The changes of a file at a place, `FILE PLACE`.
