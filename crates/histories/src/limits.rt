@@ -39,7 +39,7 @@ pub fn refuse_sizes_and_seats<R: Abort + AllocGlobal>(
     rt: &R,
     accepted: &Accepted<'_>,
 ) -> Result<(), Fail> {
-    for (size, seats, code) in [
+    for (size, seats, code) in &[
         (0, 1, 43),
         (1, 1, 0),
         (1_000_000, 1, 0),
@@ -51,8 +51,12 @@ pub fn refuse_sizes_and_seats<R: Abort + AllocGlobal>(
         (0, 0, 43),
         (0, 65, 43),
     ] {
-        let cores = CORES.get(..seats).ok_or("so many cores")?;
-        assert_eq!(rt; code_of(rt, accepted, size, cores)?, code, "{size} {seats}");
+        let cores = CORES.get(..*seats).ok_or("so many cores")?;
+        assert_eq!(rt;
+            code_of(rt, accepted, *size, cores)?,
+            *code,
+            "{size} {seats}"
+        );
     }
     Ok(())
 }

@@ -339,7 +339,7 @@ fn command_ends<R: Abort + AllocGlobal + Threads + Wait + Sync>(
 #[test]
 fn each_file_is_parsed_before_the_next_is_read(rt: HostRuntime) -> Result<(), Fail> {
     let files = files_for(Command::Run);
-    for (table, policy, third, message, written) in [
+    for (table, policy, third, message, written) in &[
         (missing(), files.policy, files.third, Some(NO_TABLE), ""),
         (missing(), faulty(), faulty(), Some(NO_TABLE), ""),
         (missing(), missing(), missing(), Some(NO_TABLE), ""),
@@ -353,12 +353,12 @@ fn each_file_is_parsed_before_the_next_is_read(rt: HostRuntime) -> Result<(), Fa
         (files.table, empty_policy(), missing(), Some(NO_SCRIPT), ""),
     ] {
         let files = Files {
-            table,
-            policy,
-            third,
+            table: *table,
+            policy: *policy,
+            third: *third,
             ..files
         };
-        command_ends(&rt, files, (message, 2, written))?;
+        command_ends(&rt, files, (*message, 2, *written))?;
     }
     Ok(())
 }
@@ -388,11 +388,12 @@ fn fails_after<R: Abort + AllocGlobal + Threads + Wait + Sync>(
 
 #[test]
 fn a_file_that_fails_at_any_byte_cannot_be_read(rt: HostRuntime) -> Result<(), Fail> {
-    for (command, file, message) in MESSAGES {
-        for most in [usize::MAX, 1] {
-            let given = files_for(command).file(file).at_most(most);
+    for row in &MESSAGES {
+        let (command, file, _) = *row;
+        for most in &[usize::MAX, 1] {
+            let given = files_for(command).file(file).at_most(*most);
             for after in 0..given.text.len() {
-                fails_after(&rt, (command, file, message), given, after)?;
+                fails_after(&rt, *row, given, after)?;
             }
         }
     }
@@ -401,18 +402,19 @@ fn a_file_that_fails_at_any_byte_cannot_be_read(rt: HostRuntime) -> Result<(), F
 
 #[test]
 fn a_read_that_fails_is_no_end_of_file(rt: HostRuntime) -> Result<(), Fail> {
-    for kind in [
+    for kind in &[
         ErrorKind::UnexpectedEof,
         ErrorKind::WouldBlock,
         ErrorKind::TimedOut,
         ErrorKind::InvalidData,
         ErrorKind::Other,
     ] {
-        for (command, file, message) in MESSAGES {
+        for (command, file, message) in &MESSAGES {
+            let files = files_for(*command);
             // Nor is it a fault of what was read.
-            for given in [files_for(command).file(file), faulty()] {
-                let files = files_for(command).with(file, given.at_end(kind));
-                command_ends(&rt, files, (Some(message), 2, ""))?;
+            for given in &[files.file(*file), faulty()] {
+                let files = files.with(*file, given.at_end(*kind));
+                command_ends(&rt, files, (Some(*message), 2, ""))?;
             }
         }
     }
@@ -423,10 +425,10 @@ fn a_read_that_fails_is_no_end_of_file(rt: HostRuntime) -> Result<(), Fail> {
 fn a_read_that_is_interrupted_is_asked_again(rt: HostRuntime) -> Result<(), Fail> {
     for after in 0..TABLE.len() {
         let mut files = files_for(Command::Run);
-        for file in [File::Table, File::Policy, File::Script] {
-            let given = files.file(file);
+        for file in &[File::Table, File::Policy, File::Script] {
+            let given = files.file(*file);
             let after = after.min(given.text.len());
-            files = files.with(file, given.failing(after, ErrorKind::Interrupted));
+            files = files.with(*file, given.failing(after, ErrorKind::Interrupted));
         }
         command_ends(&rt, files, (None, 0, LOG))?;
     }
@@ -436,8 +438,8 @@ fn a_read_that_is_interrupted_is_asked_again(rt: HostRuntime) -> Result<(), Fail
 #[test]
 fn a_read_without_memory_blames_no_file(rt: HostRuntime) -> Result<(), Fail> {
     let starved = Given::text("").failing(0, ErrorKind::OutOfMemory);
-    for (command, file, _) in MESSAGES {
-        let files = files_for(command).with(file, starved);
+    for (command, file, _) in &MESSAGES {
+        let files = files_for(*command).with(*file, starved);
         command_ends(&rt, files, (Some("confine: no memory"), 2, ""))?;
     }
     Ok(())
@@ -468,12 +470,12 @@ fn none_is_written<R: Abort + AllocGlobal + Threads + Wait + Sync>(
     answers: &[Answered],
 ) -> Result<(), Fail> {
     for (files, _, answer) in answers {
-        for (most, failure) in [(usize::MAX, Some(ErrorKind::StorageFull)), (1, None)] {
+        for (most, failure) in &[(usize::MAX, Some(ErrorKind::StorageFull)), (1, None)] {
             for room in 0..answer.len() {
                 let page = Page {
-                    most,
+                    most: *most,
                     room,
-                    failure,
+                    failure: *failure,
                     ..Page::new(rt.alloc())
                 };
                 overflows(rt, *files, page, answer)?;
@@ -526,15 +528,15 @@ fn all_are_given<R: Abort + AllocGlobal + Threads + Wait + Sync>(
     rt: &R,
     answers: &[Answered],
 ) -> Result<(), Fail> {
-    for (reads, writes) in AMOUNTS {
+    for (reads, writes) in &AMOUNTS {
         for (files, status, answer) in answers {
             // There is room for the answer and no more.
             let page = Page {
-                most: writes,
+                most: *writes,
                 room: answer.len(),
                 ..Page::new(rt.alloc())
             };
-            let ending = ending_of(rt, files.at_most(reads), page)?;
+            let ending = ending_of(rt, files.at_most(*reads), page)?;
             ends(rt, &ending, (None, *status, *answer), 0);
         }
     }

@@ -206,8 +206,8 @@ fn are_too_few_or_many<R: Abort + AllocGlobal + Threads + Sync>(
 fn refuses_for<R: Abort + AllocGlobal + Threads + Sync>(rt: &R, table: &Table) -> Result<(), Fail> {
     match read_policy(rt.alloc(), POLICY.as_bytes(), table) {
         Ok(policy) => {
-            for workers in [0, 17] {
-                are_too_few_or_many(rt, table, &policy, workers);
+            for workers in &[0, 17] {
+                are_too_few_or_many(rt, table, &policy, *workers);
             }
             drop(policy);
             Ok(())

@@ -163,16 +163,17 @@ pub fn ending_of<R: AllocGlobal + Threads + Wait + Sync>(
         &mut third,
         &mut out,
     );
+    let reads = [
+        table.into_inner().is_read,
+        policy.into_inner().is_read,
+        third.into_inner().is_read,
+    ];
     let written = String::from_utf8(out.into_inner().written)
         .ok()
         .ok_or("not UTF-8")?;
     Ok(Ending {
         end,
         written,
-        reads: [
-            table.into_inner().is_read,
-            policy.into_inner().is_read,
-            third.into_inner().is_read,
-        ],
+        reads,
     })
 }

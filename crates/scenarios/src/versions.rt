@@ -48,19 +48,26 @@ fn an_upgrade_changes_the_header_alone(rt: HostRuntime) -> Result<(), Fail> {
     }
 }
 
+/// Asserts what is told of a table that has too many labels.
+fn are_too_many<R: Abort + AllocGlobal>(
+    rt: &R,
+    header: &str,
+    labels: u64,
+    words: &str,
+) -> Result<(), Fail> {
+    let text = table_of(rt.alloc(), header, labels)?;
+    let told = told(rt.alloc(), &text)?;
+    assert_eq!(rt; told.as_str(), words);
+    Ok(())
+}
+
+const TOO_MANY: &str =
+    "t:66: `label l64`: there are more than 64 labels: a table that begins with `confine-table 2` has up to 256";
+
+const LATER_TOO_MANY: &str = "t:258: `label l256`: there are more than 256 labels";
+
 #[test]
 fn tells_how_many_labels_a_version_has(rt: HostRuntime) -> Result<(), Fail> {
-    let first = table_of(rt.alloc(), "confine-table 1", 65)?;
-    let words = told(rt.alloc(), &first)?;
-    assert_eq!(rt;
-        words.as_str(),
-        "t:66: `label l64`: there are more than 64 labels: a table that begins with `confine-table 2` has up to 256"
-    );
-    let second = table_of(rt.alloc(), "confine-table 2", 257)?;
-    let words = told(rt.alloc(), &second)?;
-    assert_eq!(rt;
-        words.as_str(),
-        "t:258: `label l256`: there are more than 256 labels"
-    );
-    Ok(())
+    are_too_many(&rt, "confine-table 1", 65, TOO_MANY)?;
+    are_too_many(&rt, "confine-table 2", 257, LATER_TOO_MANY)
 }
