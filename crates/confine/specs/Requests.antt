@@ -1,21 +1,26 @@
--- What a command line may ask for (confine's own).
-use Rattle.std.specs.Prelude.{◌≤◌}
-use Rattle.confine.specs.declared.request.{CommandLine.{CommandLine, TheVariants.{InTurn, Split}}, Request.{Request, TheVariants.Check}}
-use Rattle.confine.specs.declared.request.Request.TheVariants.{Claims, Close, Draw, List, Replay, Run, Verify, Why}
+-- What a command line may ask for, and of which files (confine's own).
+use Rattle.std.specs.{Borrow.Bor, Prelude.{ℕ, ◌≡◌, ◌≤◌, List}}
+use Rattle.confine.specs.declared.request.{CommandLine.{CommandLine, TheVariants.{InTurn, Split}}, OfSystem.{OfSystem, TheVariants.Check}}
+use Rattle.confine.specs.declared.request.Request.{Request, Request as request}
 
 -- a check has 1 to 16 workers
-abbrev pub IsWithinLimits : Request → Type 0
-IsWithinLimits (Check table policy workers on_accept) = (1 ≤ workers) × (workers ≤ 16)
-IsWithinLimits (Verify table policy certificate) = Unit {0}
-IsWithinLimits (Run table policy script) = Unit {0}
-IsWithinLimits (Replay table policy log) = Unit {0}
-IsWithinLimits (Close table policy on_close) = Unit {0}
-IsWithinLimits (Why table policy actor object) = Unit {0}
-IsWithinLimits (Draw table policy) = Unit {0}
-IsWithinLimits (Claims table policy claims) = Unit {0}
-IsWithinLimits (List table) = Unit {0}
+abbrev pub HasFewWorkers : OfSystem → Type 0
+HasFewWorkers (Check workers on_accept) = (1 ≤ workers) × (workers ≤ 16)
+HasFewWorkers _ = Unit {0}
+
+abbrev pub IsWithinLimits : {N : Type 0} → Request N → Type 0
+IsWithinLimits (request.OfTable asked table) = Unit {0}
+IsWithinLimits (request.OfSystem asked table policy) = HasFewWorkers asked
+IsWithinLimits (request.OfThree asked table policy third) = Unit {0}
+
+-- two requests ask the same, and this is so of each file of the one and that file of the other
+abbrev pub OnEach : {N M : Type 0} → (N → M → Type 0) → Request N → Request M → Type 0
+OnEach R (request.OfTable asked table) (request.OfTable also t) = (asked ≡ also) × R table t
+OnEach R (request.OfSystem asked table policy) (request.OfSystem also t p) = (asked ≡ also) × R table t × R policy p
+OnEach R (request.OfThree asked table policy third) (request.OfThree also t p x) = (asked ≡ also) × R table t × R policy p × R third x
+OnEach R _ _ = ⊥
 
 -- a fact for a request that is done in turn
-abbrev pub OnInTurn : CommandLine → (Request → Type 0) → Type 0
+abbrev pub OnInTurn : CommandLine → (Request (Bor (List ℕ)) → Type 0) → Type 0
 OnInTurn (InTurn invocation) P = P invocation.request
 OnInTurn (Split run) P = Unit {0}

@@ -1,5 +1,5 @@
-use crate::files::Files;
-use crate::request::{Invocation, Request};
+use crate::files::Opened;
+use crate::request::{Invocation, OfSystem, OfTable, OfThree, Request};
 use base::Refusal;
 use captext::{object_name, read_table, write_table};
 use causes::{Caller, explain_illegal, explain_refusal};
@@ -44,11 +44,15 @@ impl<'a, R: AllocGlobal + Eprint> Explainer<'a, R> {
     }
 
     /// Tells which file couldn't be read, if one couldn't, and why.
-    pub fn hear_end<F>(&self, end: End, files: &Files<F>) {
+    pub fn hear_end<F>(&self, end: End, files: &Request<'_, Opened<F>>) {
         if let (true, End::CannotRead(file)) = (self.invocation.explains, end) {
             let name = self.invocation.request.name_of(file);
             let alloc = self.rt.alloc();
-            self.tell(match files.why_unread(file) {
+            let why = match files.file(file) {
+                Some(file) => file.why_unread(),
+                None => None,
+            };
+            self.tell(match why {
                 Some(kind) => {
                     let why = Unread(kind);
                     format!(in alloc; "`{name}` is to be the {file}, and can't be read: {why}")
@@ -118,7 +122,7 @@ impl<R: AllocGlobal + Eprint> Listener for Explainer<'_, R> {
                     self.tell(Ok(sentence));
                 }
             }
-            (None, Request::Check { .. }) => {
+            (None, Request::OfSystem(OfSystem::Check { .. }, _, _)) => {
                 if let Ok(notes) = notes_told(alloc, table) {
                     let _ = self.rt.eprint(notes);
                 }
@@ -126,14 +130,17 @@ impl<R: AllocGlobal + Eprint> Listener for Explainer<'_, R> {
                     let _ = self.rt.eprint(lines);
                 }
             }
-            (None, Request::Run { script, .. }) => self.tell_refusals(table, script, heard.text),
+            (None, Request::OfThree(OfThree::Run, _, _, script)) => {
+                self.tell_refusals(table, script, heard.text);
+            }
             (
                 None,
-                Request::Close {
-                    on_close: OnClose::Policy | OnClose::Missing,
-                    ..
-                }
-                | Request::Why { .. },
+                Request::OfTable(OfTable::Start(OnClose::Policy | OnClose::Missing), _)
+                | Request::OfSystem(
+                    OfSystem::Close(OnClose::Policy | OnClose::Missing) | OfSystem::Why { .. },
+                    _,
+                    _,
+                ),
             ) => self.kept = copies(alloc, table, heard.policy),
             (None, _) => {}
         }
@@ -207,7 +214,7 @@ fn denial_told(
     alloc: Global,
     table: &Table,
     denial: &Denial,
-    request: Request<'_>,
+    request: Request<'_, &str>,
 ) -> Result<String, AllocError> {
     let mut sentence = explain_denial(alloc, table, denial)?;
     let (table, policy) = (request.name_of(File::Table), request.name_of(File::Policy));
@@ -237,18 +244,15 @@ fn fault_told(
 /// Tells whence each edge of a reason comes; or, of a closing, what asks for each edge that a policy lacks.
 pub fn tell_kept<R: AllocGlobal + Eprint + Threads + Sync>(
     rt: &R,
-    request: Request<'_>,
+    request: Request<'_, &str>,
     table: &Table,
     policy: &Policy,
 ) {
     let alloc = rt.alloc();
     let lines = match request {
-        Request::Why {
-            table: file,
-            actor,
-            object,
-            ..
-        } => explain_why(rt, alloc, file, table, policy, actor, object),
+        Request::OfSystem(OfSystem::Why { actor, object }, file, _) => {
+            explain_why(rt, alloc, file, table, policy, actor, object)
+        }
         _ => explain_closing(rt, alloc, table, policy),
     };
     if let Ok(lines) = lines {

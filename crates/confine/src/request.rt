@@ -1,5 +1,5 @@
 ghost use Rattle.std.specs.Prelude.{◌≤◌, IfOk, IfSome};
-ghost use Rattle.confine.specs.Requests.{IsWithinLimits, OnInTurn};
+ghost use Rattle.confine.specs.Requests.{HasFewWorkers, IsWithinLimits, OnInTurn};
 
 use crate::help;
 use clap::error::ErrorKind;
@@ -30,11 +30,7 @@ impl<'a> SplitRun<'a> {
     /// The same run, in turn.
     pub fn invocation(self) -> Invocation<'a> {
         Invocation {
-            request: Request::Run {
-                table: self.table,
-                policy: self.policy,
-                script: self.script,
-            },
+            request: Request::OfThree(OfThree::Run, self.table, self.policy, self.script),
             explains: self.explains,
             is_split: true,
         }
@@ -44,121 +40,94 @@ impl<'a> SplitRun<'a> {
 /// What is to be done, and how it is told.
 #[derive(Clone, Copy)]
 pub struct Invocation<'a> {
-    pub request: Request<'a>,
+    pub request: Request<'a, &'a str>,
     /// Whether a person is told on standard error what is found.
     pub explains: bool,
     /// Whether a script's calls are made by workers, so that the log needn't have them in the script's order.
     pub is_split: bool,
 }
 
-/// What a command is to do, with the names of the files.
-#[derive(Clone, Copy)]
-pub enum Request<'a> {
-    /// Checks a table against a policy, by 1 to 16 workers.
-    Check {
-        table: &'a str,
-        policy: &'a str,
-        workers: usize,
-        on_accept: OnAccept,
-    },
-    /// Checks a table against a policy, and a certificate against both.
-    Verify {
-        table: &'a str,
-        policy: &'a str,
-        certificate: &'a str,
-    },
-    /// Checks a table against a policy, and runs a script where it is accepted.
-    Run {
-        table: &'a str,
-        policy: &'a str,
-        script: &'a str,
-    },
-    /// Tells whether a log is a run from a table, and whether that ends within a policy.
-    Replay {
-        table: &'a str,
-        policy: &'a str,
-        log: &'a str,
-    },
-    /// Closes a policy over a table; where none is named, one without an edge.
-    Close {
-        table: &'a str,
-        policy: Option<&'a str>,
-        on_close: OnClose,
-    },
-    /// Tells which authority a label has on another by a policy, and why.
-    Why {
-        table: &'a str,
-        policy: &'a str,
-        actor: &'a str,
-        object: &'a str,
-    },
-    /// Draws who may change or take from whom by a policy.
-    Draw {
-        table: &'a str,
-        policy: &'a str,
-    },
-    /// Tells whether claims hold of a table and a policy; where none are named, writes the strongest that do.
-    Claims {
-        table: &'a str,
-        policy: &'a str,
-        claims: Option<&'a str>,
-    },
-    /// Lists the objects of a table.
-    List {
-        table: &'a str,
-    },
+/// What a command is to do, and of which files: by their names, or as opening them gave them.
+#[derive(Clone, Copy, Drop)]
+pub enum Request<'a, N> {
+    /// Of a table alone.
+    OfTable(OfTable, N),
+    /// Of a table and a policy.
+    OfSystem(OfSystem<'a>, N, N),
+    /// Of a table, a policy and a third file.
+    OfThree(OfThree, N, N, N),
 }
 
-impl<'a> Request<'a> {
-    /// The name of one of its files; none, which is an empty name, of a file that it doesn't have.
-    pub fn name_of(&self, file: File) -> &'a str {
-        match (file, *self) {
+/// What is asked of a table alone.
+#[derive(Clone, Copy)]
+pub enum OfTable {
+    /// Makes a policy for it, or tells of one.
+    Start(OnClose),
+    /// Lists its objects.
+    List,
+}
+
+/// What is asked of a table and a policy.
+#[derive(Clone, Copy)]
+pub enum OfSystem<'a> {
+    /// Checks the table against the policy, by 1 to 16 workers.
+    Check { workers: usize, on_accept: OnAccept },
+    /// Closes the policy over the table.
+    Close(OnClose),
+    /// Tells which authority a label has on another by the policy, and why.
+    Why { actor: &'a str, object: &'a str },
+    /// Draws who may change or take from whom by the policy.
+    Draw,
+    /// Writes the strongest claims that hold.
+    Strongest,
+}
+
+/// What is asked of a table, a policy and a third file.
+#[derive(Clone, Copy)]
+pub enum OfThree {
+    /// Checks the table against the policy, and a certificate against both.
+    Verify,
+    /// Checks the table against the policy, and runs a script where it is accepted.
+    Run,
+    /// Tells whether a log is a run from the table, and whether that ends within the policy.
+    Replay,
+    /// Tells whether claims hold.
+    Claims,
+}
+
+impl<'a, N> Request<'a, N> {
+    /// One of its files, if it has that; the third is of whatever name.
+    pub fn file(&self, file: File) -> Option<&N> {
+        match (self, file) {
             (
+                Request::OfTable(_, table)
+                | Request::OfSystem(_, table, _)
+                | Request::OfThree(_, table, _, _),
                 File::Table,
-                Request::Check { table, .. }
-                | Request::Verify { table, .. }
-                | Request::Run { table, .. }
-                | Request::Replay { table, .. }
-                | Request::Close { table, .. }
-                | Request::Why { table, .. }
-                | Request::Draw { table, .. }
-                | Request::Claims { table, .. }
-                | Request::List { table },
-            ) => table,
-            (
-                File::Policy,
-                Request::Check { policy, .. }
-                | Request::Verify { policy, .. }
-                | Request::Run { policy, .. }
-                | Request::Replay { policy, .. }
-                | Request::Close {
-                    policy: Some(policy),
-                    ..
-                }
-                | Request::Why { policy, .. }
-                | Request::Draw { policy, .. }
-                | Request::Claims { policy, .. },
-            ) => policy,
-            (File::Certificate, Request::Verify { certificate, .. }) => certificate,
-            (File::Script, Request::Run { script, .. }) => script,
-            (File::Log, Request::Replay { log, .. }) => log,
-            (
-                File::Claims,
-                Request::Claims {
-                    claims: Some(claims),
-                    ..
-                },
-            ) => claims,
-            _ => "",
+            ) => Some(table),
+            (Request::OfSystem(_, _, policy) | Request::OfThree(_, _, policy, _), File::Policy) =>
+                Some(policy),
+            (Request::OfThree(_, _, _, third), _) => Some(third),
+            _ => None,
         }
     }
 
     /// The word for a label that it asks about; none, which is an empty word, where it asks about none.
     pub fn word_of(&self, asked: Asked) -> &'a str {
-        match (asked, *self) {
-            (Asked::Actor, Request::Why { actor, .. }) => actor,
-            (Asked::Object, Request::Why { object, .. }) => object,
+        match (asked, self) {
+            (Asked::Actor, Request::OfSystem(OfSystem::Why { actor, .. }, _, _)) => actor,
+            (Asked::Object, Request::OfSystem(OfSystem::Why { object, .. }, _, _)) => object,
             _ => "",
+        }
+    }
+}
+
+impl<'a> Request<'a, &'a str> {
+    /// The name of one of its files; none, which is an empty name, of a file that it doesn't have.
+    pub fn name_of(&self, file: File) -> &'a str {
+        match self.file(file) {
+            Some(name) => name,
+            None => "",
         }
     }
 }
@@ -173,6 +142,13 @@ pub fn read_request<'a>(alloc: Global, words: &'a [String]) -> Result<CommandLin
     ensures { IfOk result (λ line. OnInTurn line IsWithinLimits) }
 {
     let mut command = command(alloc)?;
+    read_by(&mut command, words)
+}
+
+// Reads the command line by the program's command.
+fn read_by<'a>(command: &mut Command<'a>, words: &'a [String]) -> Result<CommandLine<'a>, Error>
+    ensures { IfOk result (λ line. OnInTurn line IsWithinLimits) }
+{
     let matches = command.try_get_matches_from_mut(words)?;
     match line_of(&matches) {
         Some(line) => Ok(line),
@@ -194,16 +170,14 @@ fn line_of<'a>(matches: &ArgMatches<'a>) -> Option<CommandLine<'a>>
     let request = request_of(name, found)?;
     let explains = found.get_flag("explain");
     match request {
-        Request::Run {
-            table,
-            policy,
-            script,
-        } if found.get_flag("split") => Some(CommandLine::Split(SplitRun {
-            table,
-            policy,
-            script,
-            explains,
-        })),
+        Request::OfThree(OfThree::Run, table, policy, script) if found.get_flag("split") => {
+            Some(CommandLine::Split(SplitRun {
+                table,
+                policy,
+                script,
+                explains,
+            }))
+        }
         request => Some(CommandLine::InTurn(Invocation {
             request,
             explains,
@@ -213,15 +187,38 @@ fn line_of<'a>(matches: &ArgMatches<'a>) -> Option<CommandLine<'a>>
 }
 
 // What the subcommand of this name asks for.
-fn request_of<'a>(name: &str, found: &ArgMatches<'a>) -> Option<Request<'a>>
+fn request_of<'a>(name: &str, found: &ArgMatches<'a>) -> Option<Request<'a, &'a str>>
     ensures { IfSome result IsWithinLimits }
 {
     let table = found.get_str("table")?;
-    let policy = found.get_str("policy");
+    match (name, found.get_str("policy")) {
+        ("list", _) => Some(Request::OfTable(OfTable::List, table)),
+        ("close", None) => Some(Request::OfTable(OfTable::Start(closing_of(found)), table)),
+        (_, None) => None,
+        (name, Some(policy)) => match third_of(name, found) {
+            Some((asked, third)) => Some(Request::OfThree(asked, table, policy, third)),
+            None => Some(Request::OfSystem(of_system(name, found)?, table, policy)),
+        },
+    }
+}
+
+// What the subcommand of this name asks of a table, a policy and a third file, and the name of that, if it names one.
+fn third_of<'a>(name: &str, found: &ArgMatches<'a>) -> Option<(OfThree, &'a str)> {
     match name {
-        "check" => Some(Request::Check {
-            table,
-            policy: policy?,
+        "verify" => Some((OfThree::Verify, found.get_str("certificate")?)),
+        "run" => Some((OfThree::Run, found.get_str("script")?)),
+        "replay" => Some((OfThree::Replay, found.get_str("log")?)),
+        "claims" => Some((OfThree::Claims, found.get_str("claims")?)),
+        _ => None,
+    }
+}
+
+// What the subcommand of this name asks of a table and a policy.
+fn of_system<'a>(name: &str, found: &ArgMatches<'a>) -> Option<OfSystem<'a>>
+    ensures { IfSome result HasFewWorkers }
+{
+    match name {
+        "check" => Some(OfSystem::Check {
             workers: workers_of(found)?,
             on_accept: if found.get_flag("cert") {
                 OnAccept::Certificate
@@ -229,49 +226,25 @@ fn request_of<'a>(name: &str, found: &ArgMatches<'a>) -> Option<Request<'a>>
                 OnAccept::Report
             },
         }),
-        "verify" => Some(Request::Verify {
-            table,
-            policy: policy?,
-            certificate: found.get_str("certificate")?,
-        }),
-        "run" => Some(Request::Run {
-            table,
-            policy: policy?,
-            script: found.get_str("script")?,
-        }),
-        "replay" => Some(Request::Replay {
-            table,
-            policy: policy?,
-            log: found.get_str("log")?,
-        }),
-        "close" => Some(Request::Close {
-            table,
-            policy,
-            on_close: if found.get_flag("missing") {
-                OnClose::Missing
-            } else if found.get_flag("surplus") {
-                OnClose::Surplus
-            } else {
-                OnClose::Policy
-            },
-        }),
-        "why" => Some(Request::Why {
-            table,
-            policy: policy?,
+        "close" => Some(OfSystem::Close(closing_of(found))),
+        "why" => Some(OfSystem::Why {
             actor: found.get_str("actor")?,
             object: found.get_str("object")?,
         }),
-        "draw" => Some(Request::Draw {
-            table,
-            policy: policy?,
-        }),
-        "claims" => Some(Request::Claims {
-            table,
-            policy: policy?,
-            claims: found.get_str("claims"),
-        }),
-        "list" => Some(Request::List { table }),
+        "draw" => Some(OfSystem::Draw),
+        "claims" => Some(OfSystem::Strongest),
         _ => None,
+    }
+}
+
+// What closing is to write.
+fn closing_of(found: &ArgMatches<'_>) -> OnClose {
+    if found.get_flag("missing") {
+        OnClose::Missing
+    } else if found.get_flag("surplus") {
+        OnClose::Surplus
+    } else {
+        OnClose::Policy
     }
 }
 
@@ -284,86 +257,87 @@ fn workers_of(found: &ArgMatches<'_>) -> Option<usize>
 }
 
 fn command<'a>(alloc: Global) -> Result<Command<'a>, AllocError> {
-    Command::new(alloc, "confine")
+    let command = Command::new(alloc, "confine")
         .bin_name("confine")?
         .version(help::VERSION)
         .about(help::ABOUT)
         .after_help(help::EXAMPLE)
-        .subcommand_required(true)
-        .subcommand(check_command(alloc)?)?
-        .subcommand(verify_command(alloc)?)?
-        .subcommand(run_command(alloc)?)?
-        .subcommand(replay_command(alloc)?)?
-        .subcommand(close_command(alloc)?)?
-        .subcommand(why_command(alloc)?)?
-        .subcommand(draw_command(alloc)?)?
-        .subcommand(claims_command(alloc)?)?
-        .subcommand(list_command(alloc)?)
+        .subcommand_required(true);
+    let command = with(command, check_command(alloc))?;
+    let command = with(command, verify_command(alloc))?;
+    let command = with(command, run_command(alloc))?;
+    let command = with(command, replay_command(alloc))?;
+    let command = with(command, close_command(alloc))?;
+    let command = with(command, why_command(alloc))?;
+    let command = with(command, draw_command(alloc))?;
+    let command = with(command, claims_command(alloc))?;
+    with(command, list_command(alloc))
+}
+
+// A command with one more subcommand, if there is memory for that.
+fn with<'a>(
+    command: Command<'a>,
+    more: Result<Command<'a>, AllocError>,
+) -> Result<Command<'a>, AllocError> {
+    match more {
+        Ok(more) => command.subcommand(more),
+        Err(error) => Err(error),
+    }
+}
+
+// A command with one more argument, if there is memory for that.
+fn taking<'a>(
+    command: Command<'a>,
+    argument: Result<Arg<'a>, AllocError>,
+) -> Result<Command<'a>, AllocError> {
+    match argument {
+        Ok(argument) => command.arg(argument),
+        Err(error) => Err(error),
+    }
 }
 
 fn check_command<'a>(alloc: Global) -> Result<Command<'a>, AllocError> {
-    let workers = Arg::new(alloc, "workers")
-        .long("workers")
-        .value_name("N")
-        .help(help::WORKERS)
-        .allow_negative_numbers(true)
-        .default_value("1");
-    let cert = Arg::new(alloc, "cert")
-        .long("cert")
-        .help(help::CERT)
-        .action(ArgAction::SetTrue);
     on_system(alloc, "check", help::ABOUT_CHECK, help::EXAMPLE_CHECK)?
-        .arg(workers)?
-        .arg(cert)
+        .arg(workers(alloc))?
+        .arg(flag(alloc, "cert", help::CERT))
 }
 
 fn verify_command<'a>(alloc: Global) -> Result<Command<'a>, AllocError> {
-    let certificate = word(alloc, "certificate", "CERT", help::CERTIFICATE);
-    on_system(alloc, "verify", help::ABOUT_VERIFY, help::EXAMPLE_VERIFY)?.arg(certificate)
+    on_system(alloc, "verify", help::ABOUT_VERIFY, help::EXAMPLE_VERIFY)?.arg(word(
+        alloc,
+        "certificate",
+        "CERT",
+        help::CERTIFICATE,
+    ))
 }
 
 fn run_command<'a>(alloc: Global) -> Result<Command<'a>, AllocError> {
-    let script = word(alloc, "script", "SCRIPT", help::SCRIPT);
-    let split = Arg::new(alloc, "split")
-        .long("split")
-        .help(help::SPLIT)
-        .action(ArgAction::SetTrue);
     on_system(alloc, "run", help::ABOUT_RUN, help::EXAMPLE_RUN)?
-        .arg(script)?
-        .arg(split)
+        .arg(word(alloc, "script", "SCRIPT", help::SCRIPT))?
+        .arg(flag(alloc, "split", help::SPLIT))
 }
 
 fn replay_command<'a>(alloc: Global) -> Result<Command<'a>, AllocError> {
-    let log = word(alloc, "log", "LOG", help::LOG);
-    on_system(alloc, "replay", help::ABOUT_REPLAY, help::EXAMPLE_REPLAY)?.arg(log)
+    on_system(alloc, "replay", help::ABOUT_REPLAY, help::EXAMPLE_REPLAY)?.arg(word(
+        alloc,
+        "log",
+        "LOG",
+        help::LOG,
+    ))
 }
 
 fn close_command<'a>(alloc: Global) -> Result<Command<'a>, AllocError> {
-    let missing = Arg::new(alloc, "missing")
-        .long("missing")
-        .help(help::MISSING)
-        .action(ArgAction::SetTrue);
-    let surplus = Arg::new(alloc, "surplus")
-        .long("surplus")
-        .help(help::SURPLUS)
-        .conflicts_with("missing")?
-        .action(ArgAction::SetTrue);
-    Command::new(alloc, "close")
-        .about(help::ABOUT_CLOSE)
-        .after_help(help::EXAMPLE_CLOSE)
-        .arg(explain(alloc))?
-        .arg(word(alloc, "table", "TABLE", help::TABLE))?
+    let command = on_table(alloc, "close", help::ABOUT_CLOSE, help::EXAMPLE_CLOSE)?
         .arg(word(alloc, "policy", "POLICY", help::POLICY_TO_CLOSE).required(false))?
-        .arg(missing)?
-        .arg(surplus)
+        .arg(flag(alloc, "missing", help::MISSING))?;
+    let surplus = flag(alloc, "surplus", help::SURPLUS);
+    taking(command, surplus.conflicts_with("missing"))
 }
 
 fn why_command<'a>(alloc: Global) -> Result<Command<'a>, AllocError> {
-    let actor = word(alloc, "actor", "A", help::ACTOR);
-    let object = word(alloc, "object", "B", help::OBJECT);
     on_system(alloc, "why", help::ABOUT_WHY, help::EXAMPLE_WHY)?
-        .arg(actor)?
-        .arg(object)
+        .arg(word(alloc, "actor", "A", help::ACTOR))?
+        .arg(word(alloc, "object", "B", help::OBJECT))
 }
 
 fn draw_command<'a>(alloc: Global) -> Result<Command<'a>, AllocError> {
@@ -371,25 +345,15 @@ fn draw_command<'a>(alloc: Global) -> Result<Command<'a>, AllocError> {
 }
 
 fn claims_command<'a>(alloc: Global) -> Result<Command<'a>, AllocError> {
-    let claims = word(alloc, "claims", "CLAIMS", help::CLAIMS)
-        .required(false)
-        .required_unless_present("all")?;
-    let all = Arg::new(alloc, "all")
-        .long("all")
-        .help(help::ALL)
-        .conflicts_with("claims")?
-        .action(ArgAction::SetTrue);
-    on_system(alloc, "claims", help::ABOUT_CLAIMS, help::EXAMPLE_CLAIMS)?
-        .arg(claims)?
-        .arg(all)
+    let command = on_system(alloc, "claims", help::ABOUT_CLAIMS, help::EXAMPLE_CLAIMS)?;
+    let claims = word(alloc, "claims", "CLAIMS", help::CLAIMS).required(false);
+    let command = taking(command, claims.required_unless_present("all"))?;
+    let all = flag(alloc, "all", help::ALL);
+    taking(command, all.conflicts_with("claims"))
 }
 
 fn list_command<'a>(alloc: Global) -> Result<Command<'a>, AllocError> {
-    Command::new(alloc, "list")
-        .about(help::ABOUT_LIST)
-        .after_help(help::EXAMPLE_LIST)
-        .arg(explain(alloc))?
-        .arg(word(alloc, "table", "TABLE", help::TABLE))
+    on_table(alloc, "list", help::ABOUT_LIST, help::EXAMPLE_LIST)
 }
 
 // A command whose first files are a table and a policy.
@@ -399,19 +363,38 @@ fn on_system<'a>(
     about: &'a str,
     example: &'a str,
 ) -> Result<Command<'a>, AllocError> {
+    on_table(alloc, name, about, example)?.arg(word(alloc, "policy", "POLICY", help::POLICY))
+}
+
+// A command whose first file is a table.
+fn on_table<'a>(
+    alloc: Global,
+    name: &'a str,
+    about: &'a str,
+    example: &'a str,
+) -> Result<Command<'a>, AllocError> {
     Command::new(alloc, name)
         .about(about)
         .after_help(example)
-        .arg(explain(alloc))?
-        .arg(word(alloc, "table", "TABLE", help::TABLE))?
-        .arg(word(alloc, "policy", "POLICY", help::POLICY))
+        .arg(flag(alloc, "explain", help::EXPLAIN))?
+        .arg(word(alloc, "table", "TABLE", help::TABLE))
 }
 
-// Whether a person is told more.
-fn explain<'a>(alloc: Global) -> Arg<'a> {
-    Arg::new(alloc, "explain")
-        .long("explain")
-        .help(help::EXPLAIN)
+// How many workers there are to be.
+fn workers<'a>(alloc: Global) -> Arg<'a> {
+    Arg::new(alloc, "workers")
+        .long("workers")
+        .value_name("N")
+        .help(help::WORKERS)
+        .allow_negative_numbers(true)
+        .default_value("1")
+}
+
+// An option that is given or not, by its name.
+fn flag<'a>(alloc: Global, id: &'a str, help: &'a str) -> Arg<'a> {
+    Arg::new(alloc, id)
+        .long(id)
+        .help(help)
         .action(ArgAction::SetTrue)
 }
 

@@ -1,0 +1,13 @@
+use Rattle.confine.proofs.serve_three.Goals as goal
+
+pub returns-in-Verify-clause-served : goal.returns-in-Verify-clause-served
+returns-in-Verify-clause-served g c = rw c.in-Verify.is c.verify.ensures
+
+pub returns-in-Run-clause-served : goal.returns-in-Run-clause-served
+returns-in-Run-clause-served g c = rw c.in-Run.is c.run.ensures
+
+pub returns-in-Replay-clause-served : goal.returns-in-Replay-clause-served
+returns-in-Replay-clause-served g c = rw c.in-Replay.is c.replay.ensures
+
+pub returns-in-Claims-clause-served : goal.returns-in-Claims-clause-served
+returns-in-Claims-clause-served g c = rw c.in-Claims.is c.check_claims.ensures
