@@ -15,17 +15,17 @@ MESSAGES = 150_000
 LENDINGS = 140_000
 SIGNALS = 1_000_000
 
-# Instructions of the whole program for each event of a script, or for each line of a full table: what an unproved build of the same
-# sources took, which leaves hints on inlining, and 3% more; for a line 1.05 times what it took when there were 64 labels at most.
+# Instructions of the whole program for each event of a script, or for each line of a full table: what the proved program took, and 3%
+# more. A build without proofs tests what is proved, and takes twice as many.
 LIMITS = {
-    "moves": 5_410,
-    "removals": 8_640,
-    "messages": 3_610,
-    "their replay": 3_340,
-    "messages that lend": 4_070,
-    "messages that don't": 3_640,
-    "signals and polls": 2_420,
-    "lines checked": 7_240,
+    "moves": 2_540,
+    "removals": 3_720,
+    "messages": 1_790,
+    "their replay": 1_880,
+    "messages that lend": 1_900,
+    "messages that don't": 1_740,
+    "signals and polls": 1_240,
+    "lines checked": 4_070,
 }
 
 # An event of a server that gets a context for each receive, and serves on those of its callers, may cost so many times what the same
