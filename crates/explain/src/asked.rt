@@ -3,11 +3,10 @@ ghost use Rattle.base.specs.declared.edge.Edge.{Edge as EdgeOf};
 ghost use Rattle.machine.specs.Layout.{Layout};
 ghost use Rattle.policy.specs.Domain.{EdgeTest};
 ghost use Rattle.verdict.specs.{declared.denial.Denial.Denial as DenialOf, Verdict.IsLeastBroken};
-ghost use Rattle.explain.specs.Asked.{edge_asked, edge_by_rule, joined};
+ghost use Rattle.explain.specs.Asked.{edge_asked, joined};
 
 use base::{Edge, Kind, Label};
 use labels::declared_label;
-use policy::Broken;
 use table::Table;
 use verdict::Denial;
 
@@ -18,7 +17,7 @@ pub fn asked_edge(table: &Table, denial: &Denial) -> Option<Edge>
     ensures { result ≡ edge_asked table.now denial.now }
 {
     match *denial {
-        Denial::Policy(broken) => edge_by_rule(broken),
+        Denial::Policy(broken) => broken.edge(),
         Denial::Capability { slot, kind, label } => {
             joined(declared_label(table, slot.holder), kind, Some(label))
         }
@@ -49,33 +48,6 @@ pub fn asked_edge(table: &Table, denial: &Denial) -> Option<Edge>
         } => joined(declared_label(table, thread), kind, Some(label)),
         Denial::Certificate { .. } => None,
     }
-}
-
-// The edge that a rule of closed policies asks for.
-fn edge_by_rule(broken: Broken) -> Option<Edge>
-    ensures { result ≡ edge_by_rule broken }
-{
-    let (from, kind, to) = match broken {
-        Broken::SubjectsDisagree { .. } => return None,
-        Broken::ControlLacks {
-            subject,
-            kind,
-            object,
-        } => (subject, kind, object),
-        Broken::GrantLacks {
-            taker,
-            kind,
-            target,
-            ..
-        } => (taker, kind, target),
-        Broken::DomainLacks { parent, child } | Broken::DeriveLacks { parent, child } => {
-            (parent, Kind::Derive, child)
-        }
-        Broken::ContextLacks { subject, context } => (subject, Kind::Runs, context),
-        Broken::ReplyLacks { reply, thread } => (reply, Kind::Holds, thread),
-        Broken::LentLacks { borrower, context } => (borrower, Kind::Runs, context),
-    };
-    Some(Edge { from, kind, to })
 }
 
 // The edge between two labels, where there are both.

@@ -3,7 +3,7 @@ use Rattle.std.proofs.Common.{ℕ, ◌+◌, ◌<◌, ◌==◌, ◌∙◌, ◌≡
 use Rattle.std.proofs.lemmas.Bool.{cases_order, eq-eqb, eqb-true, or_cases, or_left, or_right}
 use Rattle.base.specs.declared.kind.Kind.{Kind, Kind as kinds, TheVariants.{Context, Control, Derive, Grant, Receive, Runs}}
 use Rattle.base.specs.{declared.labels.Labels.Labels, Kinds.{is_structural, kind_number}, Labels.is_in}
-use Rattle.policy.specs.{Broken.{DeriveLacks, DomainLacks, LentLacks, ReplyLacks}, Closed.ControlGives, Domain.{EdgeTest, IsInDomain}}
+use Rattle.policy.specs.{declared.broken.Broken.Broken as broken, Broken.IsBrokenAt, Closed.ControlGives, Domain.{EdgeTest, IsInDomain}}
 use Rattle.policy.specs.Settling.{IsAskedFor, IsGiven, IsMissing, IsSettled, Shares, by_grant, comes, controlled, derives, gives, holds}
 use Rattle.policy.{specs.Settling.{lends, of_its_domain, of_their_domain, runs, shared}, proofs.KindNumbers.{all_kinds, number_stands}}
 use Rattle.policy.proofs.{KindNumbers.same_kind, RuleSets.{Holds, IsDifference, IsDomainOf, IsReached, IsReaching, IsUnion, back, out}}
@@ -76,8 +76,8 @@ not_given test from kind to structural other (controlled h) = elim h.given [
 
 -- P4 and P5
 pub derivations_missing :
-    (test : EdgeTest) (from : ℕ) (domain derived all : Labels) → Holds domain (λ child. DomainLacks test from child)
-    → Holds derived (λ child. DeriveLacks test from child) → IsUnion domain derived all → Holds all (IsMissing test from Derive)
+    (test : EdgeTest) (from : ℕ) (domain derived all : Labels) → Holds domain (λ child. IsBrokenAt test (broken.DomainLacks from child))
+    → Holds derived (λ child. IsBrokenAt test (broken.DeriveLacks from child)) → IsUnion domain derived all → Holds all (IsMissing test from Derive)
 derivations_missing test from domain derived all in_domain in_derived both to = (
   λ is. elim (or_cases (is_in domain to) (is_in derived to) (sym (both to) ∙ is)) [
     | inl one ↦ let h = (in_domain to).0 one in record { asked = derives refl h.asked; missing = h.missing }
@@ -98,7 +98,7 @@ derivations_missing test from domain derived all in_domain in_derived both to = 
 -- P6 and P8
 pub runs_missing :
     (test : EdgeTest) (from : ℕ) (contexts row unbound lent lacks : Labels) → IsRow test from Context contexts → IsRow test from Runs row
-    → IsDifference contexts row unbound → Holds lent (λ context. LentLacks test from context) → IsUnion unbound lent lacks
+    → IsDifference contexts row unbound → Holds lent (λ context. IsBrokenAt test (broken.LentLacks from context)) → IsUnion unbound lent lacks
     → Holds lacks (IsMissing test from Runs)
 runs_missing test from contexts row unbound lent lacks in_contexts in_row differ in_lent both to = (
   λ is. elim (or_cases (is_in unbound to) (is_in lent to) (sym (both to) ∙ is)) [
@@ -121,7 +121,7 @@ runs_missing test from contexts row unbound lent lacks in_contexts in_row differ
 
 -- P7
 pub replies_missing :
-    (test : EdgeTest) (from : ℕ) (lacks : Labels) → Holds lacks (λ thread. ReplyLacks test from thread) → Holds lacks (IsMissing test from kinds.Holds)
+    (test : EdgeTest) (from : ℕ) (lacks : Labels) → Holds lacks (λ thread. IsBrokenAt test (broken.ReplyLacks from thread)) → Holds lacks (IsMissing test from kinds.Holds)
 replies_missing test from lacks in_lacks to = (
   λ is. let h = (in_lacks to).0 is in record { asked = holds refl h.asked; missing = h.missing },
   λ h. found h.missing h.asked,

@@ -4,7 +4,7 @@ use Rattle.std.proofs.{Common.{sym, true}, lemmas.Bool.{and_parts, eq-eqb, eqb-t
 use Rattle.base.specs.declared.{kind.Kind.{Kind, TheVariants.{Call, Derive, Grant, Receive, Reply, Runs}}, labels.Labels.Labels}
 use Rattle.base.specs.declared.kind.Kind.TheVariants as kind
 use Rattle.base.specs.Labels.{is_in}
-use Rattle.policy.specs.{Broken.{DeriveLacks, DomainLacks, LentLacks, ReplyLacks}, Closed.{ComesToDerive, ComesToHold, MayBeGranted}}
+use Rattle.policy.specs.{declared.broken.Broken.Broken as broken, Broken.IsBrokenAt, Closed.{ComesToDerive, ComesToHold, MayBeGranted}}
 use Rattle.policy.specs.{Closed.{MayBeLent, caller, derived, granted, server}, Domain.{EdgeTest, IsInDomain}, Steps.{IsSource, IsTarget}}
 use Rattle.policy.proofs.Stepping.{IsRow, only_kind, source_by, target_by}
 use mathlib.Core.Bool.{false≢true}
@@ -50,7 +50,7 @@ module _ (test : EdgeTest) (from : ℕ) (kind : Kind) (comes row lacks : Labels)
 pub domain_told :
     (test : EdgeTest) (parent : ℕ) (subjects domain row lacks : Labels) → Holds subjects (λ a. IsInDomain test a parent)
     → IsDomainOf test subjects domain → IsRow test parent Derive row → IsDifference domain row lacks
-    → Holds lacks (λ child. DomainLacks test parent child)
+    → Holds lacks (λ child. IsBrokenAt test (broken.DomainLacks parent child))
 domain_told test parent subjects domain row lacks in_subjects in_domain in_row differ child = (
   λ e.
       let parts = out test parent Derive domain row lacks in_row differ child e in
@@ -69,7 +69,7 @@ pub derive_told :
     (test : EdgeTest) (parent : ℕ) (subjects endpoints takers domain row steps comes lacks : Labels)
     → Holds subjects (λ a. IsInDomain test a parent) → IsReached test subjects Grant endpoints → IsReaching test Receive endpoints takers
     → IsDomainOf test takers domain → IsRow test parent Derive row → IsReached test row Derive steps → IsUnion domain steps comes
-    → IsDifference comes row lacks → Holds lacks (λ child. DeriveLacks test parent child)
+    → IsDifference comes row lacks → Holds lacks (λ child. IsBrokenAt test (broken.DeriveLacks parent child))
 derive_told test parent subjects endpoints takers domain row steps comes lacks in_subjects in_endpoints in_takers in_domain in_row in_steps either differ child = (
   λ e.
       let parts = out test parent Derive comes row lacks in_row differ child e in
@@ -104,7 +104,7 @@ pub reply_told :
     (test : EdgeTest) (reply : ℕ) (only servers endpoints callers row comes lacks : Labels) → ((label : ℕ) → is_in only label ≡ (label == reply))
     → IsReaching test Reply only servers → IsReached test servers Receive endpoints → IsReaching test Call endpoints callers
     → IsUnion servers callers comes → IsRow test reply kind.Holds row → IsDifference comes row lacks
-    → Holds lacks (λ thread. ReplyLacks test reply thread)
+    → Holds lacks (λ thread. IsBrokenAt test (broken.ReplyLacks reply thread))
 reply_told test reply only servers endpoints callers row comes lacks in_only in_servers in_endpoints in_callers either in_row differ thread = (
   λ e.
       let parts = out test reply kind.Holds comes row lacks in_row differ thread e in
@@ -137,7 +137,7 @@ reply_told test reply only servers endpoints callers row comes lacks in_only in_
 pub loan_told :
     (test : EdgeTest) (borrower : ℕ) (endpoints lenders lent row lacks : Labels) → IsRow test borrower Receive endpoints
     → IsReaching test Call endpoints lenders → IsReached test lenders Runs lent → IsRow test borrower Runs row → IsDifference lent row lacks
-    → Holds lacks (λ context. LentLacks test borrower context)
+    → Holds lacks (λ context. IsBrokenAt test (broken.LentLacks borrower context))
 loan_told test borrower endpoints lenders lent row lacks in_endpoints in_lenders in_lent in_row differ context = (
   λ e. let parts = out test borrower Runs lent row lacks in_row differ context e in record { asked = told parts.0; missing = parts.1 },
   λ h. back test borrower Runs lent row lacks in_row differ context (untold h.asked) h.missing,

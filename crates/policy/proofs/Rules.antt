@@ -3,7 +3,7 @@ use Rattle.std.{specs.Option.option_map, proofs.Common.{[], ℕ, ◌↔◌, ◌�
 use Rattle.std.proofs.Common.{true}
 use Rattle.base.specs.{declared.{kind.Kind.{Kind, TheVariants.{Derive, Holds, Runs}}, labels.Labels.Labels}, Kinds.is_structural}
 use Rattle.base.specs.{Kinds.kind_number, Labels.is_in}
-use Rattle.policy.specs.{declared.broken.Broken.{Broken, Broken as broken}, Broken.{ControlLacks, IsBrokenAt, broken_place, p1, p2, p3, p5}}
+use Rattle.policy.specs.{declared.broken.Broken.{Broken, Broken as broken}, Broken.{IsBrokenAt, broken_place, p1, p2, p3, p5}}
 use Rattle.policy.specs.{Broken.{p7, p8}, Closed.MayBeGranted, Domain.{EdgeTest, IsInDomain}, Places.IsUnder, Search.FindsBroken}
 use Rattle.policy.{specs.Search.{FindsCell, IsLeastIn, IsNobody}, proofs.Cells.{AreTold, IsMadeOf, least_cell, least_target, of_cell}}
 use Rattle.policy.proofs.Cells.{of_target}
@@ -45,7 +45,7 @@ module _ (test : EdgeTest) where
     of _ h = absurd (omega (arith, h.0.0))
 
   pub control_found :
-      (subject : ℕ) → (gives : Kind → Labels → Type 0) → Tells gives (ControlLacks test subject)
+      (subject : ℕ) → (gives : Kind → Labels → Type 0) → Tells gives (λ kind object. IsBrokenAt test (broken.ControlLacks subject kind object))
       → (found known : Option (Kind × ℕ)) → FindsCell gives found → found ≡ known
       → FindsBroken test (p2 ∷ subject ∷ []) (option_map (λ cell. broken.ControlLacks subject cell.0 cell.1) known)
   control_found subject = least_cell test (p2 ∷ subject ∷ []) (λ cell. broken.ControlLacks subject cell.0 cell.1) (controls subject)

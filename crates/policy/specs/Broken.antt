@@ -1,8 +1,8 @@
 -- Where the rules of closed policies (`Closed`) are broken: a rule asks for an edge there, and it is missing. In which order these
 -- places come (compare 'seL4 Enforces Integrity', section 3, well-formed policies; the rules, their places and their order are
 -- confine's own).
-use Rattle.std.specs.Prelude.{[], ℕ, ◌∷◌, ◌≢◌, List, codes}
-use Rattle.base.specs.{declared.kind.Kind.{Kind, TheVariants.{Derive, Holds, Runs}}, Kinds.kind_number}
+use Rattle.std.specs.Prelude.{[], ℕ, ◌∷◌, ◌≢◌, Bool, List, None, Option, Some, codes, true}
+use Rattle.base.specs.{declared.{edge.Edge.Edge, kind.Kind.{Kind, TheVariants.{Derive, Holds, Runs}}}, Kinds.kind_number}
 use Rattle.policy.specs.{declared.broken.Broken.{Broken, Broken as broken}, Closed.{ComesToDerive, ComesToHold, ControlGives, GrantGives}}
 use Rattle.policy.specs.{Closed.{IsLacking, MayBeLent, MayBind, ShareDomain}, Domain.{EdgeTest, ShareUse}}
 
@@ -37,44 +37,41 @@ pub record SubjectsDisagree (test : EdgeTest) (subject other : ℕ) (kind : Kind
   pub share : ShareUse test subject other kind
   pub differ : test subject kind target ≢ test other kind target
 
--- P2: one label controls another, and lacks an edge to it that control gives
-abbrev pub ControlLacks : EdgeTest → ℕ → Kind → ℕ → Type 0
-ControlLacks test subject kind object = IsLacking (ControlGives test subject kind object) (test subject kind object)
+-- P2 to P8: what has to be so at a place for its rule to ask for an edge there
+abbrev pub Asks : EdgeTest → Broken → Type 0
+Asks test (broken.SubjectsDisagree _ _ _ _) = ⊥
+Asks test (broken.ControlLacks subject kind object) = ControlGives test subject kind object
+Asks test (broken.GrantLacks giver taker kind target) = GrantGives test giver taker kind target
+Asks test (broken.DomainLacks parent child) = ShareDomain test parent child
+Asks test (broken.DeriveLacks parent child) = ComesToDerive test parent child
+Asks test (broken.ContextLacks subject context) = MayBind test subject context
+Asks test (broken.ReplyLacks reply thread) = ComesToHold test reply thread
+Asks test (broken.LentLacks borrower context) = MayBeLent test borrower context
 
--- P3: one label may be granted another's capabilities, and lacks an edge that the other has
-abbrev pub GrantLacks : EdgeTest → ℕ → ℕ → Kind → ℕ → Type 0
-GrantLacks test giver taker kind target = IsLacking (GrantGives test giver taker kind target) (test taker kind target)
+-- the edge of a kind between two labels
+abbrev pub edge_of : ℕ → Kind → ℕ → Edge
+edge_of from kind to = record { from = from; kind = kind; to = to }
 
--- P4: two labels are in one domain, and the second's capabilities may not be derived from the first's
-abbrev pub DomainLacks : EdgeTest → ℕ → ℕ → Type 0
-DomainLacks test parent child = IsLacking (ShareDomain test parent child) (test parent Derive child)
+-- the edge that it asks for. P1 says that one of two labels has an edge and the other hasn't, but not which, so it asks for no one edge
+abbrev pub edge_asked_at : Broken → Option Edge
+edge_asked_at (broken.SubjectsDisagree _ _ _ _) = None
+edge_asked_at (broken.ControlLacks subject kind object) = Some (edge_of subject kind object)
+edge_asked_at (broken.GrantLacks giver taker kind target) = Some (edge_of taker kind target)
+edge_asked_at (broken.DomainLacks parent child) = Some (edge_of parent Derive child)
+edge_asked_at (broken.DeriveLacks parent child) = Some (edge_of parent Derive child)
+edge_asked_at (broken.ContextLacks subject context) = Some (edge_of subject Runs context)
+edge_asked_at (broken.ReplyLacks reply thread) = Some (edge_of reply Holds thread)
+edge_asked_at (broken.LentLacks borrower context) = Some (edge_of borrower Runs context)
 
--- P5: capabilities may come to be derived, and the edge for it is missing
-abbrev pub DeriveLacks : EdgeTest → ℕ → ℕ → Type 0
-DeriveLacks test parent child = IsLacking (ComesToDerive test parent child) (test parent Derive child)
+-- whether an edge is there; where there is none to look for, nothing is missing
+abbrev pub is_there : EdgeTest → Option Edge → Bool
+is_there test (Some edge) = test edge.from edge.kind edge.to
+is_there test None = true
 
--- P6: a label may bind a context, and may not run on it
-abbrev pub ContextLacks : EdgeTest → ℕ → ℕ → Type 0
-ContextLacks test subject context = IsLacking (MayBind test subject context) (test subject Runs context)
-
--- P7: a reply may come to hold a thread, and the edge for it is missing
-abbrev pub ReplyLacks : EdgeTest → ℕ → ℕ → Type 0
-ReplyLacks test reply thread = IsLacking (ComesToHold test reply thread) (test reply Holds thread)
-
--- P8: a label may be lent a context, and may not run on it
-abbrev pub LentLacks : EdgeTest → ℕ → ℕ → Type 0
-LentLacks test borrower context = IsLacking (MayBeLent test borrower context) (test borrower Runs context)
-
--- a policy breaks a rule at a place
+-- a policy breaks a rule at a place: two labels disagree by P1, or the edge that is asked for is missing
 abbrev pub IsBrokenAt : EdgeTest → Broken → Type 0
 IsBrokenAt test (broken.SubjectsDisagree subject other kind target) = SubjectsDisagree test subject other kind target
-IsBrokenAt test (broken.ControlLacks subject kind object) = ControlLacks test subject kind object
-IsBrokenAt test (broken.GrantLacks giver taker kind target) = GrantLacks test giver taker kind target
-IsBrokenAt test (broken.DomainLacks parent child) = DomainLacks test parent child
-IsBrokenAt test (broken.DeriveLacks parent child) = DeriveLacks test parent child
-IsBrokenAt test (broken.ContextLacks subject context) = ContextLacks test subject context
-IsBrokenAt test (broken.ReplyLacks reply thread) = ReplyLacks test reply thread
-IsBrokenAt test (broken.LentLacks borrower context) = LentLacks test borrower context
+IsBrokenAt test place = IsLacking (Asks test place) (is_there test (edge_asked_at place))
 
 -- a place as numbers: its rule, and then the labels and kinds that it names, from left to right
 abbrev pub broken_place : Broken → List ℕ

@@ -4,11 +4,11 @@ pub(crate) mod steps;
 
 ghost use Rattle.std.specs.Prelude.{[], ◌%◌, ◌*◌, ◌/◌, ◌<◌, ◌∷◌, ◌≡◌, ◌≤◌, IsTrue};
 ghost use Rattle.base.specs.declared.label.TheConstants.Label as Label;
-ghost use Rattle.policy.specs.{Broken.{IsBrokenAt, broken_place, broken_rule}, Places.FindsLeast, Policy.allows, Search.FindsBroken};
-ghost use Rattle.policy.specs.Sweep.{count_of, place_of, rule_number};
+ghost use Rattle.policy.specs.{Broken.{IsBrokenAt, broken_place, broken_rule, edge_asked_at}, Places.FindsLeast, Policy.allows};
+ghost use Rattle.policy.specs.{Search.FindsBroken, Sweep.{count_of, place_of, rule_number}};
 
 use crate::Policy;
-use base::{Kind, Label};
+use base::{Edge, Kind, Label};
 use rayon::prelude::*;
 use rules::{
     context_lacks, control_lacks, derive_lacks, domain_lacks, grant_lacks, lent_lacks, reply_lacks,
@@ -89,6 +89,35 @@ impl Broken {
             Broken::ReplyLacks { .. } => "P7",
             Broken::LentLacks { .. } => "P8",
         }
+    }
+
+    /// The edge that the rule asks for, and that the policy lacks.
+    ///
+    /// P1 doesn't tell which of two labels lacks it.
+    pub fn edge(&self) -> Option<Edge>
+        ensures { result ≡ edge_asked_at self.now }
+    {
+        let (from, kind, to) = match *self {
+            Broken::SubjectsDisagree { .. } => return None,
+            Broken::ControlLacks {
+                subject,
+                kind,
+                object,
+            } => (subject, kind, object),
+            Broken::GrantLacks {
+                taker,
+                kind,
+                target,
+                ..
+            } => (taker, kind, target),
+            Broken::DomainLacks { parent, child } | Broken::DeriveLacks { parent, child } => {
+                (parent, Kind::Derive, child)
+            }
+            Broken::ContextLacks { subject, context } => (subject, Kind::Runs, context),
+            Broken::ReplyLacks { reply, thread } => (reply, Kind::Holds, thread),
+            Broken::LentLacks { borrower, context } => (borrower, Kind::Runs, context),
+        };
+        Some(Edge { from, kind, to })
     }
 }
 

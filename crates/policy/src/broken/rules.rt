@@ -1,7 +1,7 @@
 ghost use Rattle.std.specs.Prelude.{[], ℕ, ◌↔◌, ◌∷◌, ◌≡◌, ◌≢◌, IsTrue, false, true};
 ghost use Rattle.base.specs.{Kinds.is_structural, Labels.is_in};
-ghost use Rattle.policy.specs.Broken.{ControlLacks, DeriveLacks, DomainLacks, GrantLacks, LentLacks, ReplyLacks, SubjectsDisagree, p1, p2};
-ghost use Rattle.policy.specs.{Broken.{p3, p4, p5, p6, p7, p8}, Closed.IsGivenByControl, Policy.allows, Search.FindsBroken};
+ghost use Rattle.policy.specs.{Broken.{IsBrokenAt, p1, p2, p3, p4, p5, p6, p7, p8}, Closed.IsGivenByControl, Policy.allows, Search.FindsBroken};
+ghost use Rattle.policy.specs.declared.broken.Broken.TheVariants as broken;
 
 use super::Broken;
 use super::cells::first_cell;
@@ -43,7 +43,7 @@ pub(crate) fn control_lacks(policy: &Policy, subject: Label) -> Option<Broken>
 {
     let (kind, object) = first_cell(
         |kind: Kind| -> Labels
-            ensures { (object : ℕ) → (is_in result object ≡ true) ↔ ControlLacks (allows policy.entry.now) subject kind object }
+            ensures { (object : ℕ) → (is_in result object ≡ true) ↔ IsBrokenAt (allows policy.entry.now) (broken.ControlLacks subject kind object) }
         {
             if is_given_by_control(kind) {
                 policy
@@ -108,7 +108,7 @@ pub(crate) fn domain_lacks(policy: &Policy, parent: Label) -> Option<Broken>
 
 /// The labels at which P4 is broken with this parent.
 pub(crate) fn not_derived_in_domain(policy: &Policy, parent: Label) -> Labels
-    ensures { (child : ℕ) → (is_in result child ≡ true) ↔ DomainLacks (allows policy.now) parent child }
+    ensures { (child : ℕ) → (is_in result child ≡ true) ↔ IsBrokenAt (allows policy.now) (broken.DomainLacks parent child) }
 {
     domain(policy, subjects(policy, parent)).difference(policy.row(parent, Kind::Derive))
 }
@@ -123,7 +123,7 @@ pub(crate) fn derive_lacks(policy: &Policy, parent: Label) -> Option<Broken>
 
 /// The labels at which P5 is broken with this parent.
 pub(crate) fn not_derived(policy: &Policy, parent: Label) -> Labels
-    ensures { (child : ℕ) → (is_in result child ≡ true) ↔ DeriveLacks (allows policy.now) parent child }
+    ensures { (child : ℕ) → (is_in result child ≡ true) ↔ IsBrokenAt (allows policy.now) (broken.DeriveLacks parent child) }
 {
     let endpoints = policy.targets(subjects(policy, parent), &[Kind::Grant]);
     let granted = domain(policy, policy.sources(endpoints, &[Kind::Receive]));
@@ -154,7 +154,7 @@ pub(crate) fn reply_lacks(policy: &Policy, reply: Label) -> Option<Broken>
 
 /// The labels at which P7 is broken with this reply.
 pub(crate) fn not_held(policy: &Policy, reply: Label) -> Labels
-    ensures { (thread : ℕ) → (is_in result thread ≡ true) ↔ ReplyLacks (allows policy.now) reply thread }
+    ensures { (thread : ℕ) → (is_in result thread ≡ true) ↔ IsBrokenAt (allows policy.now) (broken.ReplyLacks reply thread) }
 {
     let servers = policy.sources(Labels::only(reply), &[Kind::Reply]);
     let endpoints = policy.targets(servers, &[Kind::Receive]);
@@ -174,7 +174,7 @@ pub(crate) fn lent_lacks(policy: &Policy, borrower: Label) -> Option<Broken>
 
 /// The labels at which P8 is broken with this borrower.
 pub(crate) fn not_lent(policy: &Policy, borrower: Label) -> Labels
-    ensures { (context : ℕ) → (is_in result context ≡ true) ↔ LentLacks (allows policy.now) borrower context }
+    ensures { (context : ℕ) → (is_in result context ≡ true) ↔ IsBrokenAt (allows policy.now) (broken.LentLacks borrower context) }
 {
     let endpoints = policy.row(borrower, Kind::Receive);
     let lenders = policy.sources(endpoints, &[Kind::Call]);
