@@ -12,8 +12,8 @@ abbrev pub joined : Option ℕ → Kind → Option ℕ → Option Edge
 joined (Some from) kind (Some to) = Some (edge_of from kind to)
 joined _ kind _ = None
 
--- what a denial asks for: by P1 to P8 as at their places; by A1 to A4 the edge of what the table has at that place, and so by A5 and A6, which no
--- table breaks. No edge mends a certificate
+-- what a denial asks for: by P1 to P8 what is asked for at the place; by A1 to A4 the edge of what the table has at that place, and so
+-- by A5 and A6, which no table breaks. No edge mends a certificate
 abbrev pub edge_asked : Layout → Denial → Option Edge
 edge_asked t (denial.Policy broken) = edge_asked_at broken
 edge_asked t (denial.Capability slot kind label) = joined (declared_label t slot.holder) kind (Some label)

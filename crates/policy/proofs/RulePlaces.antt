@@ -20,13 +20,7 @@ of_rule r = rule_number r ∷ []
 
 pub rule_stands : (r : Rule) → slice_get all_rules (rule_number r - 1) ≡ Some r
 rule_stands rule.P1 = refl
-rule_stands rule.P2 = refl
-rule_stands rule.P3 = refl
-rule_stands rule.P4 = refl
-rule_stands rule.P5 = refl
-rule_stands rule.P6 = refl
-rule_stands rule.P7 = refl
-rule_stands rule.P8 = refl
+rule_stands _ = refl
 
 numbered : (k : ℕ) (r : Rule) → slice_get all_rules k ≡ Some r → rule_number r ≡ k + 1
 numbered zero r at = ap rule_number (sym (same_Some rule.P1 r at))
@@ -65,24 +59,12 @@ record IsNumbered (n : ℕ) (b : Broken) : Type 0 where
 first_of : (r : Rule) (rest : List ℕ) (b : Broken) → Begins (rule_number r ∷ rest) (broken_place b) → rule_number r ≡ rule_number (rule_of b)
 unfolding rule_of
 first_of r rest (broken.SubjectsDisagree _ _ _ _) h = h.0
-first_of r rest (broken.ControlLacks _ _ _) h = h.0
-first_of r rest (broken.GrantLacks _ _ _ _) h = h.0
-first_of r rest (broken.DomainLacks _ _) h = h.0
-first_of r rest (broken.DeriveLacks _ _) h = h.0
-first_of r rest (broken.ContextLacks _ _) h = h.0
-first_of r rest (broken.ReplyLacks _ _) h = h.0
-first_of r rest (broken.LentLacks _ _) h = h.0
+first_of r rest _ h = h.0
 
 rule_begins : (b : Broken) → Begins (rule_number (rule_of b) ∷ []) (broken_place b)
 unfolding rule_of
 rule_begins (broken.SubjectsDisagree _ _ _ _) = (refl, tt)
-rule_begins (broken.ControlLacks _ _ _) = (refl, tt)
-rule_begins (broken.GrantLacks _ _ _ _) = (refl, tt)
-rule_begins (broken.DomainLacks _ _) = (refl, tt)
-rule_begins (broken.DeriveLacks _ _) = (refl, tt)
-rule_begins (broken.ContextLacks _ _) = (refl, tt)
-rule_begins (broken.ReplyLacks _ _) = (refl, tt)
-rule_begins (broken.LentLacks _ _) = (refl, tt)
+rule_begins _ = (refl, tt)
 
 pairs_rise : (n a b : ℕ) → 0 < n → a < b → IsBelow (a / n ∷ a % n ∷ []) (b / n ∷ b % n ∷ [])
 pairs_rise n a b some lt = elim (split_rises n a b some lt) [
@@ -92,24 +74,14 @@ pairs_rise n a b some lt = elim (split_rises n a b some lt) [
 
 places_rise : (n : ℕ) (r : Rule) (a b : ℕ) → 0 < n → a < b → IsBelow (place_of n r a) (place_of n r b)
 places_rise n rule.P1 a b some lt = pairs_rise n a b some lt
-places_rise n rule.P2 a b some lt = inl lt
 places_rise n rule.P3 a b some lt = pairs_rise n a b some lt
-places_rise n rule.P4 a b some lt = inl lt
-places_rise n rule.P5 a b some lt = inl lt
-places_rise n rule.P6 a b some lt = inl lt
-places_rise n rule.P7 a b some lt = inl lt
-places_rise n rule.P8 a b some lt = inl lt
+places_rise n _ a b some lt = inl lt
 
 -- where there are places, there are labels
 none_of_none : (r : Rule) (k : ℕ) → k < count_of 0 r → ⊥
 none_of_none rule.P1 k below = omega (arith, below)
-none_of_none rule.P2 k below = omega (arith, below)
 none_of_none rule.P3 k below = omega (arith, below)
-none_of_none rule.P4 k below = omega (arith, below)
-none_of_none rule.P5 k below = omega (arith, below)
-none_of_none rule.P6 k below = omega (arith, below)
-none_of_none rule.P7 k below = omega (arith, below)
-none_of_none rule.P8 k below = omega (arith, below)
+none_of_none _ k below = omega (arith, below)
 
 some_labels : (n : ℕ) (r : Rule) (k : ℕ) → k < count_of n r → 0 < n
 some_labels zero r k below = absurd (none_of_none r k below)
