@@ -52,6 +52,9 @@ no_reply test lacks reply thread (caller b endpoint e calls receives) = absurd (
 no_call : (test : EdgeTest) → Lacks test Call → LentRuns test
 no_call test lacks borrower context h = absurd (not_both h.calls (lacks h.lender h.endpoint))
 
+ruleset by_lacking =
+    (no_domain_agrees, no_control, no_grant, no_domain_derives, all_derive, all_derive_by_grant, no_derive, no_context, no_reply, no_call)
+
 -- the policies
 
 -- one label may do what another of its domain may not
@@ -66,13 +69,7 @@ breaks_subjects =
     record { test = apart; others = others; broken = λ agree. false≢true (sym (agree 0 1 Reset (record { domain = inl refl; of_use = refl }) 0)) } where
       others : (other : Rule) → other ≢ subjects_agree → Obeys apart other
       others subjects_agree differ = absurd (differ refl)
-      others control_gives_all differ = no_control apart (λ a b. refl)
-      others grant_shares differ = no_grant apart (λ a b. refl)
-      others derive_in_domain differ = all_derive apart (λ a b. refl)
-      others derive_by_grant differ = all_derive_by_grant apart (λ a b. refl)
-      others context_runs differ = no_context apart (λ a b. refl)
-      others reply_holds differ = no_reply apart (λ a b. refl)
-      others lent_runs differ = no_call apart (λ a b. refl)
+      others _ differ = search by_lacking
 
 -- control gives space and nothing else
 abbrev weak_control : EdgeTest
@@ -95,14 +92,8 @@ breaks_control =
       broken = λ gives. false≢true (gives 0 Reset 0 (record { controls = refl; given = inr (refl, λ e. cc) }));
     } where
       others : (other : Rule) → other ≢ control_gives_all → Obeys weak_control other
-      others subjects_agree differ = weak_agrees
       others control_gives_all differ = absurd (differ refl)
-      others grant_shares differ = no_grant weak_control (λ a b. refl)
-      others derive_in_domain differ = all_derive weak_control (λ a b. refl)
-      others derive_by_grant differ = all_derive_by_grant weak_control (λ a b. refl)
-      others context_runs differ = no_context weak_control (λ a b. refl)
-      others reply_holds differ = no_reply weak_control (λ a b. refl)
-      others lent_runs differ = no_call weak_control (λ a b. refl)
+      others _ differ = search (weak_agrees, by_lacking)
 
 -- all grant to all, and one may do what the others may not
 abbrev unshared : EdgeTest
@@ -128,14 +119,8 @@ breaks_grant =
           }));
     } where
       others : (other : Rule) → other ≢ grant_shares → Obeys unshared other
-      others subjects_agree differ = no_domain_agrees unshared (λ a b. refl) (λ a b. refl)
-      others control_gives_all differ = no_control unshared (λ a b. refl)
       others grant_shares differ = absurd (differ refl)
-      others derive_in_domain differ = no_domain_derives unshared (λ a b. refl) (λ a b. refl)
-      others derive_by_grant differ = nothing_comes
-      others context_runs differ = no_context unshared (λ a b. refl)
-      others reply_holds differ = no_reply unshared (λ a b. refl)
-      others lent_runs differ = no_call unshared (λ a b. refl)
+      others _ differ = search (nothing_comes, by_lacking)
 
 -- all are in one domain, and nothing may be derived
 abbrev underived : EdgeTest
@@ -150,14 +135,8 @@ breaks_derive : BreaksOnly derive_in_domain
 breaks_derive =
     record { test = underived; others = others; broken = λ derives. false≢true (derives 0 0 (record { subject = 0; of_parent = inl refl; of_child = inl refl })) } where
       others : (other : Rule) → other ≢ derive_in_domain → Obeys underived other
-      others subjects_agree differ = underived_agrees
-      others control_gives_all differ = no_control underived (λ a b. refl)
-      others grant_shares differ = no_grant underived (λ a b. refl)
       others derive_in_domain differ = absurd (differ refl)
-      others derive_by_grant differ = no_derive underived (λ a b. refl) (λ a b. refl)
-      others context_runs differ = no_context underived (λ a b. refl)
-      others reply_holds differ = no_reply underived (λ a b. refl)
-      others lent_runs differ = no_call underived (λ a b. refl)
+      others _ differ = search (underived_agrees, by_lacking)
 
 -- two steps of derivation, and not both in one
 abbrev no_chain : EdgeTest
@@ -168,14 +147,8 @@ breaks_derive_by_grant : BreaksOnly derive_by_grant
 breaks_derive_by_grant =
     record { test = no_chain; others = others; broken = λ derives. false≢true (derives 0 2 (derived 1 refl refl)) } where
       others : (other : Rule) → other ≢ derive_by_grant → Obeys no_chain other
-      others subjects_agree differ = no_domain_agrees no_chain (λ a b. refl) (λ a b. refl)
-      others control_gives_all differ = no_control no_chain (λ a b. refl)
-      others grant_shares differ = no_grant no_chain (λ a b. refl)
-      others derive_in_domain differ = no_domain_derives no_chain (λ a b. refl) (λ a b. refl)
       others derive_by_grant differ = absurd (differ refl)
-      others context_runs differ = no_context no_chain (λ a b. refl)
-      others reply_holds differ = no_reply no_chain (λ a b. refl)
-      others lent_runs differ = no_call no_chain (λ a b. refl)
+      others _ differ = search by_lacking
 
 -- contexts that nobody may run on
 abbrev unrunnable : EdgeTest
@@ -185,14 +158,8 @@ unrunnable a _ to = false
 breaks_context : BreaksOnly context_runs
 breaks_context = record { test = unrunnable; others = others; broken = λ runs. false≢true (runs 0 0 refl) } where
   others : (other : Rule) → other ≢ context_runs → Obeys unrunnable other
-  others subjects_agree differ = no_domain_agrees unrunnable (λ a b. refl) (λ a b. refl)
-  others control_gives_all differ = no_control unrunnable (λ a b. refl)
-  others grant_shares differ = no_grant unrunnable (λ a b. refl)
-  others derive_in_domain differ = no_domain_derives unrunnable (λ a b. refl) (λ a b. refl)
-  others derive_by_grant differ = no_derive unrunnable (λ a b. refl) (λ a b. refl)
   others context_runs differ = absurd (differ refl)
-  others reply_holds differ = no_reply unrunnable (λ a b. refl)
-  others lent_runs differ = no_call unrunnable (λ a b. refl)
+  others _ differ = search by_lacking
 
 -- replies that hold nobody
 abbrev unheld : EdgeTest
@@ -202,14 +169,8 @@ unheld a _ to = false
 breaks_reply : BreaksOnly reply_holds
 breaks_reply = record { test = unheld; others = others; broken = λ holds. false≢true (holds 0 0 (server refl)) } where
   others : (other : Rule) → other ≢ reply_holds → Obeys unheld other
-  others subjects_agree differ = no_domain_agrees unheld (λ a b. refl) (λ a b. refl)
-  others control_gives_all differ = no_control unheld (λ a b. refl)
-  others grant_shares differ = no_grant unheld (λ a b. refl)
-  others derive_in_domain differ = no_domain_derives unheld (λ a b. refl) (λ a b. refl)
-  others derive_by_grant differ = no_derive unheld (λ a b. refl) (λ a b. refl)
-  others context_runs differ = no_context unheld (λ a b. refl)
   others reply_holds differ = absurd (differ refl)
-  others lent_runs differ = no_call unheld (λ a b. refl)
+  others _ differ = search by_lacking
 
 -- all call and receive, and one runs on what the others may not
 abbrev unlent : EdgeTest
@@ -226,14 +187,8 @@ breaks_lending =
       broken = λ runs. false≢true (runs 1 0 (record { lender = 0; endpoint = 0; calls = refl; receives = refl; runs = refl }));
     } where
       others : (other : Rule) → other ≢ lent_runs → Obeys unlent other
-      others subjects_agree differ = no_domain_agrees unlent (λ a b. refl) (λ a b. refl)
-      others control_gives_all differ = no_control unlent (λ a b. refl)
-      others grant_shares differ = no_grant unlent (λ a b. refl)
-      others derive_in_domain differ = no_domain_derives unlent (λ a b. refl) (λ a b. refl)
-      others derive_by_grant differ = no_derive unlent (λ a b. refl) (λ a b. refl)
-      others context_runs differ = no_context unlent (λ a b. refl)
-      others reply_holds differ = no_reply unlent (λ a b. refl)
       others lent_runs differ = absurd (differ refl)
+      others _ differ = search by_lacking
 
 pub needed : (rule : Rule) → BreaksOnly rule
 needed subjects_agree = breaks_subjects
