@@ -1,9 +1,11 @@
 -- What the rules ask for: every closed policy has it, and a policy that has all of it is closed.
-use Rattle.std.proofs.Common.{ℕ, ◌<◌, ◌∙◌, ◌≡◌, Bool, false, inl, inr, refl, sym, true}
-use Rattle.base.specs.declared.kind.Kind.{Kind, TheVariants.{Call, Context, Control, Derive, Grant, Holds, Receive, Reply, Runs, Space}}
-use Rattle.policy.specs.Closed.{ComesToDerive, ComesToHold, IsClosed, MayBeGranted, MayBeLent, caller, derived, granted, server}
-use Rattle.policy.specs.{Closing.IsWithin, Domain.{EdgeTest, IsInDomain}, Settling.{IsAskedFor, IsGiven, Shares, by_grant, comes}}
-use Rattle.policy.specs.Settling.{controlled, derives, gives, holds, lends, of_its_domain, of_their_domain, runs, shared}
+use Rattle.std.proofs.Common.{ℕ, ◌<◌, ◌∙◌, ◌≡◌, Bool, IfSome, false, inl, inr, refl, sym, true}
+use Rattle.base.specs.declared.kind.Kind.{Kind, Kind as kinds, TheVariants.{Call, Context, Control, Derive, Receive, Reply, Runs, Space, Grant}}
+use Rattle.base.specs.Kinds.{is_structural}
+use Rattle.policy.specs.{declared.broken.Broken.{Broken, Broken as broken}, Broken.{Asks, edge_asked_at, is_there}, Closing.IsWithin}
+use Rattle.policy.specs.{Closed.{IsClosed, MayBeGranted, caller, derived, granted, server}, Domain.{EdgeTest, IsInDomain}}
+use Rattle.policy.{specs.Settling.{IsAskedFor, IsGiven, Shares, by_grant, controlled, of_its_domain, of_their_domain, shared}, proofs.Unbroken.has_asked_at}
+use mathlib.Core.Bool.{false≢true}
 
 -- what is asked for by the edges of one policy, a closed policy has that has these edges
 module _ (one other : EdgeTest) (within : IsWithin one other) (closed : IsClosed other) where
@@ -18,90 +20,111 @@ module _ (one other : EdgeTest) (within : IsWithin one other) (closed : IsClosed
     receives = within b Receive h.endpoint h.receives;
   }
 
+  asks_more : (place : Broken) → Asks one place → Asks other place
+  asks_more (broken.SubjectsDisagree a b kind to) none = none
+  asks_more (broken.ControlLacks a kind b) h = record { controls = within a Control b h.controls; given = h.given }
+  asks_more (broken.GrantLacks a b kind to) h = record { granted = may a b h.granted; of_use = h.of_use; has = within a kind to h.has }
+  asks_more (broken.DomainLacks x y) h =
+      record { subject = h.subject; of_parent = in_domain h.subject x h.of_parent; of_child = in_domain h.subject y h.of_child }
+  asks_more (broken.DeriveLacks x y) (granted giver taker h of_parent of_child) =
+      granted giver taker (may giver taker h) (in_domain giver x of_parent) (in_domain taker y of_child)
+  asks_more (broken.DeriveLacks x y) (derived middle first second) = derived middle (within x Derive middle first) (within middle Derive y second)
+  asks_more (broken.ContextLacks a s) e = within a Context s e
+  asks_more (broken.ReplyLacks reply thread) (server e) = server (within thread Reply reply e)
+  asks_more (broken.ReplyLacks reply thread) (caller b endpoint e calls receives) =
+      caller b endpoint (within b Reply reply e) (within thread Call endpoint calls) (within b Receive endpoint receives)
+  asks_more (broken.LentLacks borrower context) h = record {
+    lender = h.lender;
+    endpoint = h.endpoint;
+    calls = within h.lender Call h.endpoint h.calls;
+    receives = within borrower Receive h.endpoint h.receives;
+    runs = within h.lender Runs context h.runs;
+  }
+
+  has : (place : Broken) → Asks one place → is_there other (edge_asked_at place) ≡ true
+  has place asks = has_asked_at other closed place (asks_more place asks)
+
   has_given : (from : ℕ) (kind : Kind) (to : ℕ) → IsGiven one from kind to → other from kind to ≡ true
-  has_given from kind to (shared giver (of_its_domain domain) of_use has) =
-      sym (closed.subjects_agree giver from kind (record { domain = in_domain giver from domain; of_use = of_use }) to) ∙ within giver kind to has
-  has_given from kind to (shared giver (of_their_domain domain) of_use has) =
-      closed.subjects_agree from giver kind (record { domain = in_domain from giver domain; of_use = of_use }) to ∙ within giver kind to has
-  has_given from kind to (shared giver (by_grant h) of_use has) =
-      closed.grant_shares giver from kind to (record { granted = may giver from h; of_use = of_use; has = within giver kind to has })
-  has_given from kind to (controlled h) =
-      closed.control_gives_all from kind to (record { controls = within from Control to h.controls; given = h.given })
-
-  has_derived : (from to : ℕ) → ComesToDerive one from to → other from Derive to ≡ true
-  has_derived from to (granted giver taker h of_parent of_child) =
-      closed.derive_by_grant from to (granted giver taker (may giver taker h) (in_domain giver from of_parent) (in_domain taker to of_child))
-  has_derived from to (derived middle first second) =
-      closed.derive_by_grant from to (derived middle (within from Derive middle first) (within middle Derive to second))
-
-  has_held : (reply thread : ℕ) → ComesToHold one reply thread → other reply Holds thread ≡ true
-  has_held reply thread (server e) = closed.reply_holds reply thread (server (within thread Reply reply e))
-  has_held reply thread (caller b endpoint e calls receives) =
-      closed.reply_holds reply thread
-      (caller b endpoint (within b Reply reply e) (within thread Call endpoint calls) (within b Receive endpoint receives))
-
-  has_lent : (borrower context : ℕ) → MayBeLent one borrower context → other borrower Runs context ≡ true
-  has_lent borrower context h =
-      closed.lent_runs borrower context (record {
-        lender = h.lender;
-        endpoint = h.endpoint;
-        calls = within h.lender Call h.endpoint h.calls;
-        receives = within borrower Receive h.endpoint h.receives;
-        runs = within h.lender Runs context h.runs;
-      })
+  has_given from kind to (shared giver (of_its_domain domain) of_use is) =
+      sym (closed.subjects_agree giver from kind (record { domain = in_domain giver from domain; of_use = of_use }) to) ∙ within giver kind to is
+  has_given from kind to (shared giver (of_their_domain domain) of_use is) =
+      closed.subjects_agree from giver kind (record { domain = in_domain from giver domain; of_use = of_use }) to ∙ within giver kind to is
+  has_given from kind to (shared giver (by_grant h) of_use is) =
+      has (broken.GrantLacks giver from kind to) (record { granted = h; of_use = of_use; has = is })
+  has_given from kind to (controlled h) = has (broken.ControlLacks from kind to) h
 
   pub has_asked : (from : ℕ) (kind : Kind) (to : ℕ) → IsAskedFor one from kind to → other from kind to ≡ true
-  has_asked from kind to (gives h) = has_given from kind to h
-  has_asked from kind to (derives is h) =
-      rw is
-      (closed.derive_in_domain from to (record {
-        subject = h.subject;
-        of_parent = in_domain h.subject from h.of_parent;
-        of_child = in_domain h.subject to h.of_child;
-      }))
-  has_asked from kind to (comes is h) = rw is (has_derived from to h)
-  has_asked from kind to (runs is e) = rw is (closed.context_runs from to (within from Context to e))
-  has_asked from kind to (holds is h) = rw is (has_held from to h)
-  has_asked from kind to (lends is h) = rw is (has_lent from to h)
+  has_asked from Derive to (inl h) = has (broken.DomainLacks from to) h
+  has_asked from Derive to (inr h) = has (broken.DeriveLacks from to) h
+  has_asked from Runs to (inl h) = has (broken.ContextLacks from to) h
+  has_asked from Runs to (inr h) = has (broken.LentLacks from to) h
+  has_asked from kinds.Holds to h = has (broken.ReplyLacks from to) h
+  has_asked from kind to h = has_given from kind to h
 
 alike : (a b : Bool) → (a ≡ true → b ≡ true) → (b ≡ true → a ≡ true) → a ≡ b
 alike true b forth back = sym (forth refl)
 alike false true forth back = back refl
 alike false false forth back = refl
 
+-- control and sharing give no edge that says what may be derived, run or held
+not_given : (test : EdgeTest) (from : ℕ) (kind : Kind) (to : ℕ) → is_structural kind ≡ true → (kind ≡ Space → ⊥) → IsGiven test from kind to → ⊥
+not_given test from kind to structural other (shared giver h is_use has) = false≢true (sym is_use ∙ structural)
+not_given test from kind to structural other (controlled h) = elim h.given [
+  | inl space ↦ other space
+  | inr of_use ↦ false≢true (sym of_use.0 ∙ structural)
+]
+
+asked_if_given : (test : EdgeTest) (from : ℕ) (kind : Kind) (to : ℕ) → IsGiven test from kind to → IsAskedFor test from kind to
+asked_if_given test from Derive to h = absurd (not_given test from Derive to refl (λ e. cc) h)
+asked_if_given test from Runs to h = absurd (not_given test from Runs to refl (λ e. cc) h)
+asked_if_given test from kinds.Holds to h = absurd (not_given test from kinds.Holds to refl (λ e. cc) h)
+asked_if_given test from kind to h = h
+
 -- a policy that has all that it asks for is closed
 pub closed_if_settled : (test : EdgeTest) → ((from : ℕ) (kind : Kind) (to : ℕ) → IsAskedFor test from kind to → test from kind to ≡ true) → IsClosed test
 closed_if_settled test settled = record {
   subjects_agree = λ a b kind share to.
-      alike (test a kind to) (test b kind to) (λ has. settled b kind to (gives (shared a (of_its_domain share.domain) share.of_use has)))
-      (λ has. settled a kind to (gives (shared b (of_their_domain share.domain) share.of_use has)));
-  control_gives_all = λ a kind b h. settled a kind b (gives (controlled h));
-  grant_shares = λ a b kind to h. settled b kind to (gives (shared a (by_grant h.granted) h.of_use h.has));
-  derive_in_domain = λ x y h. settled x Derive y (derives refl h);
-  derive_by_grant = λ x y h. settled x Derive y (comes refl h);
-  context_runs = λ a s e. settled a Runs s (runs refl e);
-  reply_holds = λ reply thread h. settled reply Holds thread (holds refl h);
-  lent_runs = λ borrower context h. settled borrower Runs context (lends refl h);
-}
+      alike (test a kind to) (test b kind to) (λ has. given b kind to (shared a (of_its_domain share.domain) share.of_use has))
+      (λ has. given a kind to (shared b (of_their_domain share.domain) share.of_use has));
+  control_gives_all = λ a kind b h. given a kind b (controlled h);
+  grant_shares = λ a b kind to h. given b kind to (shared a (by_grant h.granted) h.of_use h.has);
+  derive_in_domain = λ x y h. settled x Derive y (inl h);
+  derive_by_grant = λ x y h. settled x Derive y (inr h);
+  context_runs = λ a s e. settled a Runs s (inl e);
+  reply_holds = λ reply thread h. settled reply kinds.Holds thread h;
+  lent_runs = λ borrower context h. settled borrower Runs context (inr h);
+} where
+  given : (from : ℕ) (kind : Kind) (to : ℕ) → IsGiven test from kind to → test from kind to ≡ true
+  given from kind to h = settled from kind to (asked_if_given test from kind to h)
 
--- both ends of what is asked for are ends of edges
+-- what is asked for starts at a label of an edge
 module _ (test : EdgeTest) (n : ℕ) (joins : (from : ℕ) (kind : Kind) (to : ℕ) → test from kind to ≡ true → (from < n) × (to < n)) where
-  domain_joins : (a x : ℕ) → IsInDomain test a x → (a < n) × (x < n)
+  pub domain_joins : (a x : ℕ) → IsInDomain test a x → (a < n) × (x < n)
   domain_joins a x (inl e) = joins a Space x e
   domain_joins a x (inr e) = joins a Control x e
 
-  shared_joins : (giver taker : ℕ) → Shares test giver taker → taker < n
-  shared_joins giver taker (of_its_domain domain) = (domain_joins giver taker domain).1
-  shared_joins giver taker (of_their_domain domain) = (domain_joins taker giver domain).0
-  shared_joins giver taker (by_grant h) = (joins taker Receive h.endpoint h.receives).0
+  pub starts : (place : Broken) → Asks test place → IfSome (edge_asked_at place) (λ edge. edge.from < n)
+  starts (broken.SubjectsDisagree a b kind to) none = tt
+  starts (broken.ControlLacks a kind b) h = (joins a Control b h.controls).0
+  starts (broken.GrantLacks a b kind to) h = (joins b Receive h.granted.endpoint h.granted.receives).0
+  starts (broken.DomainLacks x y) h = (domain_joins h.subject x h.of_parent).1
+  starts (broken.DeriveLacks x y) (granted giver taker h parent child) = (domain_joins giver x parent).1
+  starts (broken.DeriveLacks x y) (derived middle first second) = (joins x Derive middle first).0
+  starts (broken.ContextLacks a s) e = (joins a Context s e).0
+  starts (broken.ReplyLacks reply thread) (server e) = (joins thread Reply reply e).1
+  starts (broken.ReplyLacks reply thread) (caller b endpoint e calls receives) = (joins b Reply reply e).1
+  starts (broken.LentLacks borrower context) h = (joins borrower Receive h.endpoint h.receives).0
+
+  given_starts : (from : ℕ) (kind : Kind) (to : ℕ) → IsGiven test from kind to → from < n
+  given_starts from kind to (shared giver (of_its_domain domain) of_use has) = (domain_joins giver from domain).1
+  given_starts from kind to (shared giver (of_their_domain domain) of_use has) = (domain_joins from giver domain).0
+  given_starts from kind to (shared giver (by_grant h) of_use has) = (joins from Receive h.endpoint h.receives).0
+  given_starts from kind to (controlled h) = (joins from Control to h.controls).0
 
   pub asked_starts : (from : ℕ) (kind : Kind) (to : ℕ) → IsAskedFor test from kind to → from < n
-  asked_starts from kind to (gives (shared giver h of_use has)) = shared_joins giver from h
-  asked_starts from kind to (gives (controlled h)) = (joins from Control to h.controls).0
-  asked_starts from kind to (derives is h) = (domain_joins h.subject from h.of_parent).1
-  asked_starts from kind to (comes is (granted giver taker h parent child)) = (domain_joins giver from parent).1
-  asked_starts from kind to (comes is (derived middle first second)) = (joins from Derive middle first).0
-  asked_starts from kind to (runs is e) = (joins from Context to e).0
-  asked_starts from kind to (holds is (server e)) = (joins to Reply from e).1
-  asked_starts from kind to (holds is (caller b endpoint e calls receives)) = (joins b Reply from e).1
-  asked_starts from kind to (lends is h) = (joins from Receive h.endpoint h.receives).0
+  asked_starts from Derive to (inl h) = starts (broken.DomainLacks from to) h
+  asked_starts from Derive to (inr h) = starts (broken.DeriveLacks from to) h
+  asked_starts from Runs to (inl h) = starts (broken.ContextLacks from to) h
+  asked_starts from Runs to (inr h) = starts (broken.LentLacks from to) h
+  asked_starts from kinds.Holds to h = starts (broken.ReplyLacks from to) h
+  asked_starts from kind to h = given_starts from kind to h

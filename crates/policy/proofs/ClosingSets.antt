@@ -1,12 +1,12 @@
 -- The sets of labels to which edges are missing, as closing puts them together.
-use Rattle.std.proofs.Common.{ℕ, ◌+◌, ◌<◌, ◌==◌, ◌∙◌, ◌≡◌, Bool, Some, arith, false, inl, inr, refl, slice_get, subst, sym, true}
+use Rattle.std.proofs.Common.{ℕ, ◌+◌, ◌<◌, ◌==◌, ◌∙◌, ◌≡◌, ◌⊎◌, ◌||◌, Bool, Some, arith, false, inl, inr, refl, slice_get, subst, sym, true}
 use Rattle.std.proofs.lemmas.Bool.{cases_order, eq-eqb, eqb-true, or_cases, or_left, or_right}
 use Rattle.base.specs.declared.kind.Kind.{Kind, Kind as kinds, TheVariants.{Context, Control, Derive, Grant, Receive, Runs}}
 use Rattle.base.specs.{declared.labels.Labels.Labels, Kinds.{is_structural, kind_number}, Labels.is_in}
-use Rattle.policy.specs.{declared.broken.Broken.Broken as broken, Broken.IsBrokenAt, Closed.ControlGives, Domain.{EdgeTest, IsInDomain}}
-use Rattle.policy.specs.Settling.{IsAskedFor, IsGiven, IsMissing, IsSettled, Shares, by_grant, comes, controlled, derives, gives, holds}
-use Rattle.policy.{specs.Settling.{lends, of_its_domain, of_their_domain, runs, shared}, proofs.KindNumbers.{all_kinds, number_stands}}
-use Rattle.policy.proofs.{KindNumbers.same_kind, RuleSets.{Holds, IsDifference, IsDomainOf, IsReached, IsReaching, IsUnion, back, out}}
+use Rattle.policy.specs.{declared.broken.Broken.Broken as broken, Broken.IsBrokenAt, Closed.{ControlGives, IsLacking, MayBind}}
+use Rattle.policy.specs.{Domain.{EdgeTest, IsInDomain}, Settling.{IsGiven, IsMissing, IsSettled, Shares, by_grant, controlled}}
+use Rattle.policy.{specs.Settling.{of_its_domain, of_their_domain, shared}, proofs.KindNumbers.{all_kinds, number_stands}}
+use Rattle.policy.proofs.{KindNumbers.same_kind, RuleSets.{Holds, IsDifference, IsDomainOf, IsReached, IsReaching, IsUnion, lacking_told}}
 use Rattle.policy.proofs.Stepping.{IsRow, only_kind, source_by, target_by}
 use mathlib.Core.Bool.{false≢true}
 
@@ -66,91 +66,37 @@ given_told test from kind controls givers shares all of_use in_controls in_giver
       both to ∙ or_right (is_in controls to) (is_in shares to)
       ((in_shares to).1 (target_by test kind givers giver to ((in_givers giver).1 h) has))
 
--- nothing gives an edge that says what may be derived, run or held
-not_given : (test : EdgeTest) (from : ℕ) (kind : Kind) (to : ℕ) → is_structural kind ≡ true → (kind ≡ kinds.Space → ⊥) → IsGiven test from kind to → ⊥
-not_given test from kind to structural other (shared giver h is_use has) = false≢true (sym is_use ∙ structural)
-not_given test from kind to structural other (controlled h) = elim h.given [
-  | inl space ↦ other space
-  | inr of_use ↦ false≢true (sym of_use.0 ∙ structural)
-]
-
--- P4 and P5
-pub derivations_missing :
-    (test : EdgeTest) (from : ℕ) (domain derived all : Labels) → Holds domain (λ child. IsBrokenAt test (broken.DomainLacks from child))
-    → Holds derived (λ child. IsBrokenAt test (broken.DeriveLacks from child)) → IsUnion domain derived all → Holds all (IsMissing test from Derive)
-derivations_missing test from domain derived all in_domain in_derived both to = (
-  λ is. elim (or_cases (is_in domain to) (is_in derived to) (sym (both to) ∙ is)) [
-    | inl one ↦ let h = (in_domain to).0 one in record { asked = derives refl h.asked; missing = h.missing }
-    | inr other ↦ let h = (in_derived to).0 other in record { asked = comes refl h.asked; missing = h.missing }
+-- what is missing for one of two reasons: P4 and P5, and P6 and P8
+pub either_missing :
+    (One Other : ℕ → Type 0) (there : ℕ → Bool) (first second all : Labels) → Holds first (λ to. IsLacking (One to) (there to))
+    → Holds second (λ to. IsLacking (Other to) (there to)) → IsUnion first second all → Holds all (λ to. IsLacking (One to ⊎ Other to) (there to))
+either_missing One Other there first second all in_first in_second both to = (
+  λ is. elim (or_cases (is_in first to) (is_in second to) (sym (both to) ∙ is)) [
+    | inl one ↦ let h = (in_first to).0 one in record { asked = inl h.asked; missing = h.missing }
+    | inr other ↦ let h = (in_second to).0 other in record { asked = inr h.asked; missing = h.missing }
   ],
-  λ h. found h.missing h.asked,
+  λ h. both to ∙ found h.missing h.asked,
 ) where
-  found : test from Derive to ≡ false → IsAskedFor test from Derive to → is_in all to ≡ true
-  found missing (gives h) = absurd (not_given test from Derive to refl (λ e. cc) h)
-  found missing (derives is h) =
-      both to ∙ or_left (is_in domain to) (is_in derived to) ((in_domain to).1 (record { asked = h; missing = missing }))
-  found missing (comes is h) =
-      both to ∙ or_right (is_in domain to) (is_in derived to) ((in_derived to).1 (record { asked = h; missing = missing }))
-  found missing (runs is e) = cc
-  found missing (holds is e) = cc
-  found missing (lends is h) = cc
+  found : there to ≡ false → One to ⊎ Other to → (is_in first to || is_in second to) ≡ true
+  found missing (inl asked) = or_left (is_in first to) (is_in second to) ((in_first to).1 (record { asked = asked; missing = missing }))
+  found missing (inr asked) = or_right (is_in first to) (is_in second to) ((in_second to).1 (record { asked = asked; missing = missing }))
 
--- P6 and P8
-pub runs_missing :
-    (test : EdgeTest) (from : ℕ) (contexts row unbound lent lacks : Labels) → IsRow test from Context contexts → IsRow test from Runs row
-    → IsDifference contexts row unbound → Holds lent (λ context. IsBrokenAt test (broken.LentLacks from context)) → IsUnion unbound lent lacks
-    → Holds lacks (IsMissing test from Runs)
-runs_missing test from contexts row unbound lent lacks in_contexts in_row differ in_lent both to = (
-  λ is. elim (or_cases (is_in unbound to) (is_in lent to) (sym (both to) ∙ is)) [
-    | inl one ↦
-        let parts = out test from Runs contexts row unbound in_row differ to one in
-        record { asked = runs refl (sym (in_contexts to) ∙ parts.0); missing = parts.1 }
-    | inr other ↦ let h = (in_lent to).0 other in record { asked = lends refl h.asked; missing = h.missing }
-  ],
-  λ h. found h.missing h.asked,
-) where
-  found : test from Runs to ≡ false → IsAskedFor test from Runs to → is_in lacks to ≡ true
-  found missing (gives h) = absurd (not_given test from Runs to refl (λ e. cc) h)
-  found missing (runs is e) =
-      both to ∙ or_left (is_in unbound to) (is_in lent to) (back test from Runs contexts row unbound in_row differ to (in_contexts to ∙ e) missing)
-  found missing (lends is h) =
-      both to ∙ or_right (is_in unbound to) (is_in lent to) ((in_lent to).1 (record { asked = h; missing = missing }))
-  found missing (derives is h) = cc
-  found missing (comes is h) = cc
-  found missing (holds is h) = cc
-
--- P7
-pub replies_missing :
-    (test : EdgeTest) (from : ℕ) (lacks : Labels) → Holds lacks (λ thread. IsBrokenAt test (broken.ReplyLacks from thread)) → Holds lacks (IsMissing test from kinds.Holds)
-replies_missing test from lacks in_lacks to = (
-  λ is. let h = (in_lacks to).0 is in record { asked = holds refl h.asked; missing = h.missing },
-  λ h. found h.missing h.asked,
-) where
-  found : test from kinds.Holds to ≡ false → IsAskedFor test from kinds.Holds to → is_in lacks to ≡ true
-  found missing (gives h) = absurd (not_given test from kinds.Holds to refl (λ e. cc) h)
-  found missing (holds is h) = (in_lacks to).1 (record { asked = h; missing = missing })
-  found missing (derives is h) = cc
-  found missing (comes is h) = cc
-  found missing (runs is e) = cc
-  found missing (lends is h) = cc
+-- P6
+pub contexts_missing :
+    (test : EdgeTest) (from : ℕ) (contexts row lacks : Labels) → IsRow test from Context contexts → IsRow test from Runs row
+    → IsDifference contexts row lacks → Holds lacks (λ context. IsBrokenAt test (broken.ContextLacks from context))
+contexts_missing test from contexts row lacks in_contexts in_row differ =
+    lacking_told test from Runs (MayBind test from) contexts row lacks in_row differ (λ to. (λ e. sym (in_contexts to) ∙ e, λ h. in_contexts to ∙ h))
 
 -- P1, P2 and P3
 pub given_missing :
     (test : EdgeTest) (from : ℕ) (kind : Kind) (given row lacks : Labels) → (kind ≡ Derive → ⊥) → (kind ≡ Runs → ⊥) → (kind ≡ kinds.Holds → ⊥)
     → Holds given (IsGiven test from kind) → IsRow test from kind row → IsDifference given row lacks → Holds lacks (IsMissing test from kind)
-given_missing test from kind given row lacks no_derive no_runs no_holds in_given in_row differ to = (
-  λ is.
-      let parts = out test from kind given row lacks in_row differ to is in
-      record { asked = gives ((in_given to).0 parts.0); missing = parts.1 },
-  λ h. found h.missing h.asked,
-) where
-  found : test from kind to ≡ false → IsAskedFor test from kind to → is_in lacks to ≡ true
-  found missing (gives h) = back test from kind given row lacks in_row differ to ((in_given to).1 h) missing
-  found missing (derives is h) = absurd (no_derive is)
-  found missing (comes is h) = absurd (no_derive is)
-  found missing (runs is e) = absurd (no_runs is)
-  found missing (holds is h) = absurd (no_holds is)
-  found missing (lends is h) = absurd (no_runs is)
+given_missing test from Derive given row lacks no_derive no_runs no_holds in_given in_row differ = absurd (no_derive refl)
+given_missing test from Runs given row lacks no_derive no_runs no_holds in_given in_row differ = absurd (no_runs refl)
+given_missing test from kinds.Holds given row lacks no_derive no_runs no_holds in_given in_row differ = absurd (no_holds refl)
+given_missing test from kind given row lacks no_derive no_runs no_holds in_given in_row differ =
+    lacking_told test from kind (IsGiven test from kind) given row lacks in_row differ in_given
 
 -- where nothing is missing, what is asked for is there
 pub settled_if_none :

@@ -93,7 +93,8 @@ breaks_control =
     } where
       others : (other : Rule) → other ≢ control_gives_all → Obeys weak_control other
       others control_gives_all differ = absurd (differ refl)
-      others _ differ = search (weak_agrees, by_lacking)
+      others subjects_agree differ = weak_agrees
+      others _ differ = search by_lacking
 
 -- all grant to all, and one may do what the others may not
 abbrev unshared : EdgeTest
@@ -120,7 +121,8 @@ breaks_grant =
     } where
       others : (other : Rule) → other ≢ grant_shares → Obeys unshared other
       others grant_shares differ = absurd (differ refl)
-      others _ differ = search (nothing_comes, by_lacking)
+      others derive_by_grant differ = nothing_comes
+      others _ differ = search by_lacking
 
 -- all are in one domain, and nothing may be derived
 abbrev underived : EdgeTest
@@ -136,7 +138,8 @@ breaks_derive =
     record { test = underived; others = others; broken = λ derives. false≢true (derives 0 0 (record { subject = 0; of_parent = inl refl; of_child = inl refl })) } where
       others : (other : Rule) → other ≢ derive_in_domain → Obeys underived other
       others derive_in_domain differ = absurd (differ refl)
-      others _ differ = search (underived_agrees, by_lacking)
+      others subjects_agree differ = underived_agrees
+      others _ differ = search by_lacking
 
 -- two steps of derivation, and not both in one
 abbrev no_chain : EdgeTest

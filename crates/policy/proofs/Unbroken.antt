@@ -1,22 +1,27 @@
 -- A policy is closed exactly if no rule is broken anywhere.
 use Rattle.std.proofs.Common.{◌≡◌, ◌≢◌, Bool, false, refl, sym, true}
-use Rattle.policy.specs.{declared.broken.Broken.{Broken, Broken as broken}, Broken.IsBrokenAt, Closed.{IsClosed, IsLacking}}
-use Rattle.policy.{specs.Domain.EdgeTest, proofs.Cells.not_both}
+use Rattle.policy.specs.{declared.broken.Broken.{Broken, Broken as broken}, Broken.{Asks, IsBrokenAt, edge_asked_at, is_there}}
+use Rattle.policy.{specs.{Closed.{IsClosed, IsLacking}, Domain.EdgeTest}, proofs.Cells.not_both}
 use mathlib.Core.Bool.{false≢true}
 
 abbrev IsUnbroken : EdgeTest → Type 0
 IsUnbroken test = (b : Broken) → ¬ IsBrokenAt test b
 
 module _ (test : EdgeTest) (closed : IsClosed test) where
+  -- what the rules ask for is there
+  pub has_asked_at : (place : Broken) → Asks test place → is_there test (edge_asked_at place) ≡ true
+  has_asked_at (broken.SubjectsDisagree a b kind to) = λ none. refl
+  has_asked_at (broken.ControlLacks a kind b) = closed.control_gives_all a kind b
+  has_asked_at (broken.GrantLacks a b kind to) = closed.grant_shares a b kind to
+  has_asked_at (broken.DomainLacks x y) = closed.derive_in_domain x y
+  has_asked_at (broken.DeriveLacks x y) = closed.derive_by_grant x y
+  has_asked_at (broken.ContextLacks a s) = closed.context_runs a s
+  has_asked_at (broken.ReplyLacks r c) = closed.reply_holds r c
+  has_asked_at (broken.LentLacks b s) = closed.lent_runs b s
+
   pub unbroken : IsUnbroken test
   unbroken (broken.SubjectsDisagree a b kind to) h = h.differ (closed.subjects_agree a b kind h.share to)
-  unbroken (broken.ControlLacks a kind b) h = not_both (closed.control_gives_all a kind b h.asked) h.missing
-  unbroken (broken.GrantLacks a b kind to) h = not_both (closed.grant_shares a b kind to h.asked) h.missing
-  unbroken (broken.DomainLacks x y) h = not_both (closed.derive_in_domain x y h.asked) h.missing
-  unbroken (broken.DeriveLacks x y) h = not_both (closed.derive_by_grant x y h.asked) h.missing
-  unbroken (broken.ContextLacks a s) h = not_both (closed.context_runs a s h.asked) h.missing
-  unbroken (broken.ReplyLacks r c) h = not_both (closed.reply_holds r c h.asked) h.missing
-  unbroken (broken.LentLacks b s) h = not_both (closed.lent_runs b s h.asked) h.missing
+  unbroken place h = not_both (has_asked_at place h.asked) h.missing
 
 -- what isn't missing is there, and what doesn't differ is the same
 

@@ -4,8 +4,8 @@ use Rattle.std.specs.Prelude.{ℕ, ◌<◌, ◌≡◌, ◌⊎◌, Bool, List, fa
 use Rattle.base.specs.declared.{edge.Edge.Edge, kind.Kind.{Kind, TheVariants.{Derive, Holds, Runs}}, labels.Labels.Labels}
 use Rattle.base.specs.declared.label.TheConstants.Label as Label
 use Rattle.base.specs.{Kinds.is_structural, Labels.is_in}
-use Rattle.policy.specs.Closed.{ComesToDerive, ComesToHold, ControlGives, IsClosed, IsLacking, MayBeGranted, MayBeLent, MayBind}
-use Rattle.policy.specs.{Closed.ShareDomain, Closing.IsWithin, Domain.{EdgeTest, IsInDomain}, Policy.allows}
+use Rattle.policy.specs.{declared.broken.Broken.Broken as broken, Broken.Asks, Closed.{ControlGives, IsClosed, IsLacking, MayBeGranted}}
+use Rattle.policy.specs.{Closing.IsWithin, Domain.{EdgeTest, IsInDomain}, Policy.allows}
 
 -- what the giver may do the taker may do too: they are of one domain, or the taker may be granted the giver's capabilities
 pub data Shares (test : EdgeTest) (giver taker : ℕ) : Type 0 where
@@ -19,13 +19,11 @@ pub data IsGiven (test : EdgeTest) (from : ℕ) (kind : Kind) (to : ℕ) : Type 
   controlled : ControlGives test from kind to → IsGiven test from kind to
 
 -- an edge that closed policies have if they have the edges of this one
-pub data IsAskedFor (test : EdgeTest) (from : ℕ) (kind : Kind) (to : ℕ) : Type 0 where
-  gives : IsGiven test from kind to → IsAskedFor test from kind to
-  derives : kind ≡ Derive → ShareDomain test from to → IsAskedFor test from kind to
-  comes : kind ≡ Derive → ComesToDerive test from to → IsAskedFor test from kind to
-  runs : kind ≡ Runs → MayBind test from to → IsAskedFor test from kind to
-  holds : kind ≡ Holds → ComesToHold test from to → IsAskedFor test from kind to
-  lends : kind ≡ Runs → MayBeLent test from to → IsAskedFor test from kind to
+abbrev pub IsAskedFor : EdgeTest → ℕ → Kind → ℕ → Type 0
+IsAskedFor test from Derive to = Asks test (broken.DomainLacks from to) ⊎ Asks test (broken.DeriveLacks from to)
+IsAskedFor test from Runs to = Asks test (broken.ContextLacks from to) ⊎ Asks test (broken.LentLacks from to)
+IsAskedFor test from Holds to = Asks test (broken.ReplyLacks from to)
+IsAskedFor test from kind to = IsGiven test from kind to
 
 -- an edge that is asked for and isn't there
 abbrev pub IsMissing : EdgeTest → ℕ → Kind → ℕ → Type 0
