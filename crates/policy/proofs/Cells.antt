@@ -29,9 +29,20 @@ module _ (test : EdgeTest) (beginning : List ℕ) where
   abbrev pub AreTold : (ℕ → Broken) → Labels → Type 0
   AreTold make labels = (label : ℕ) → (is_in labels label ≡ true) ↔ IsBrokenAt test (make label)
 
+  abbrev pub AreCellsTold : (Kind × ℕ → Broken) → (Kind → Labels → Type 0) → Type 0
+  AreCellsTold make gives = (kind : Kind) (labels : Labels) → gives kind labels → AreTold (λ label. make (kind, label)) labels
+
+  -- the first place of the rule is made of the first cell, or of the least label
+  abbrev pub FindsByCell : (Kind × ℕ → Broken) → (Kind → Labels → Type 0) → Type 0
+  FindsByCell make gives = (found known : Option (Kind × ℕ)) → FindsCell gives found → found ≡ known → FindsBroken test beginning (option_map make known)
+
+  abbrev pub FindsByTarget : (ℕ → Broken) → Type 0
+  FindsByTarget make =
+      (labels : Labels) → AreTold make labels → (found : Option ℕ) → IfSome found (IsLeastIn labels) → IfNone found (IsNobody labels)
+      → FindsBroken test beginning (option_map make found)
+
   least_of_cells :
-      (make : Kind × ℕ → Broken) → IsMadeOf test beginning make of_cell → (gives : Kind → Labels → Type 0)
-      → ((kind : Kind) (labels : Labels) → gives kind labels → AreTold (λ label. make (kind, label)) labels)
+      (make : Kind × ℕ → Broken) → IsMadeOf test beginning make of_cell → (gives : Kind → Labels → Type 0) → AreCellsTold make gives
       → (found : Option (Kind × ℕ)) → FindsCell gives found → FindsBroken test beginning (option_map make found)
   least_of_cells make made gives tells None nobody = none_made made (λ cell broken.
       let there = nobody cell.0 in
@@ -48,17 +59,12 @@ module _ (test : EdgeTest) (beginning : List ℕ) where
             not_both ((tells cell.0 here.0 here.1 other.1).1 (subst (λ (k : Kind). IsBrokenAt test (make (k, other.1))) kind broken)) (here.2.1 other.1 lower)
       ])
 
-  pub least_cell :
-      (make : Kind × ℕ → Broken) → IsMadeOf test beginning make of_cell → (gives : Kind → Labels → Type 0)
-      → ((kind : Kind) (labels : Labels) → gives kind labels → AreTold (λ label. make (kind, label)) labels)
-      → (found known : Option (Kind × ℕ)) → FindsCell gives found → found ≡ known → FindsBroken test beginning (option_map make known)
+  pub least_cell : (make : Kind × ℕ → Broken) → IsMadeOf test beginning make of_cell → (gives : Kind → Labels → Type 0)
+      → AreCellsTold make gives → FindsByCell make gives
   least_cell make made gives tells found known finds same =
       subst (λ (f : Option (Kind × ℕ)). FindsBroken test beginning (option_map make f)) same (least_of_cells make made gives tells found finds)
 
-  pub least_target :
-      (number : ℕ) (make : ℕ → Broken) → IsMadeOf test beginning make (of_target number) → (labels : Labels) → AreTold make labels
-      → (found : Option ℕ) → IfSome found (IsLeastIn labels) → IfNone found (IsNobody labels)
-      → FindsBroken test beginning (option_map make found)
+  pub least_target : (number : ℕ) (make : ℕ → Broken) → IsMadeOf test beginning make (of_target number) → FindsByTarget make
   least_target number make made labels tells None least nobody =
       none_made made (λ label broken. not_both ((tells label).1 broken) (nobody label))
   least_target number make made labels tells (Some label) least nobody =

@@ -2,13 +2,13 @@
 use Rattle.std.proofs.Common.{[], ℕ, ◌%◌, ◌*◌, ◌+◌, ◌-◌, ◌/◌, ◌<◌, ◌∙◌, ◌∷◌, ◌≡◌, List, None, Option, Some, ap, arith, inl, inr, refl}
 use Rattle.std.proofs.{Common.{slice_get, subst, suc, sym, true, zero}, lemmas.{List.FromFn.length-range_with_len, Nat.div-mul-add}}
 use Rattle.std.proofs.lemmas.{Nat.{mod-mul-add, mul-add-lt}, Option.{same_Some, slice_get_within}}
-use Rattle.base.specs.declared.kind.Kind.{Kind, TheVariants.{Control, Space}}
-use Rattle.policy.specs.{declared.broken.{Broken.Broken, Rule.Rule}, Broken.{IsBrokenAt, broken_place}, Closed.{ComesToDerive, ComesToHold}}
+use Rattle.base.specs.declared.{edge.Edge.Edge, kind.Kind.Kind}
+use Rattle.policy.specs.{declared.broken.{Broken.Broken, Rule.Rule}, Broken.{IsBrokenAt, broken_place, edge_asked_at}}
 use Rattle.policy.specs.declared.broken.Broken.TheVariants as broken
 use Rattle.policy.specs.declared.broken.Rule.TheVariants as rule
-use Rattle.policy.specs.{Closed.{caller, derived, granted, server}, Domain.{EdgeTest, IsInDomain}, Places.{Begins, FindsLeast, IsUnder}}
+use Rattle.policy.specs.{Domain.EdgeTest, Places.{Begins, FindsLeast, IsUnder}}
 use Rattle.policy.{specs.{Search.FindsBroken, Sweep.{count_of, place_of, rule_number}}, proofs.Places.{IsBelow, Searches}}
-use Rattle.policy.proofs.{RowEdges.split_rises, Sweep.{numbers, stands, stands_alone}}
+use Rattle.policy.proofs.{ClosingRules.{domain_joins, starts}, RowEdges.split_rises, Sweep.{numbers, stands, stands_alone}}
 
 -- the rules in order
 
@@ -50,6 +50,11 @@ rule_of (broken.LentLacks _ _) = rule.P8
 paired : (n a b : ℕ) → b < n → ((a * n + b) / n ≡ a) × ((a * n + b) % n ≡ b)
 paired n a b below = (div-mul-add a n b below, mod-mul-add a n b below)
 
+-- the label at which an edge starts
+abbrev start : Option Edge → ℕ
+start (Some edge) = edge.from
+start None = 0
+
 -- where a place between n labels is among those of its rule
 record IsNumbered (n : ℕ) (b : Broken) : Type 0 where
   number : ℕ
@@ -88,43 +93,24 @@ some_labels zero r k below = absurd (none_of_none r k below)
 some_labels (suc n) r k below = omega arith
 
 module _ (test : EdgeTest) (n : ℕ) (joins : (from : ℕ) (kind : Kind) (to : ℕ) → test from kind to ≡ true → (from < n) × (to < n)) where
-  in_domain : (a x : ℕ) → IsInDomain test a x → (a < n) × (x < n)
-  in_domain a x (inl e) = joins a Space x e
-  in_domain a x (inr e) = joins a Control x e
-
   of_pair : (a b : ℕ) → a < n → b < n → a * n + b < n * n
   of_pair a b one other = mul-add-lt a n b n one other
-
-  derives : (parent child : ℕ) → ComesToDerive test parent child → parent < n
-  derives parent child (granted giver taker may of_parent of_child) = (in_domain giver parent of_parent).1
-  derives parent child (derived middle one other) = (joins parent _ middle one).0
-
-  holds : (reply thread : ℕ) → ComesToHold test reply thread → reply < n
-  holds reply thread (server e) = (joins thread _ reply e).1
-  holds reply thread (caller b endpoint e calls receives) = (joins b _ reply e).1
 
   place_number : (b : Broken) → IsBrokenAt test b → IsNumbered n b
   unfolding rule_of
   place_number (broken.SubjectsDisagree a b kind to) h =
-      let both = in_domain a b h.share.domain in
+      let both = domain_joins test n joins a b h.share.domain in
       let pair = paired n a b both.1 in
       record { number = a * n + b; within = of_pair a b both.0 both.1; begins = (refl, (pair.0, (pair.1, tt))) }
-  place_number (broken.ControlLacks a kind to) h = record { number = a; within = (joins a _ to h.asked.controls).0; begins = (refl, (refl, tt)) }
   place_number (broken.GrantLacks a b kind to) h =
-      let below = (joins b _ h.asked.granted.endpoint h.asked.granted.receives).0 in
+      let below = starts test n joins (broken.GrantLacks a b kind to) h.asked in
       let pair = paired n a b below in
       record {
         number = a * n + b;
         within = of_pair a b (joins a _ h.asked.granted.endpoint h.asked.granted.grants).0 below;
         begins = (refl, (pair.0, (pair.1, tt)));
       }
-  place_number (broken.DomainLacks a to) h =
-      record { number = a; within = (in_domain h.asked.subject a h.asked.of_parent).1; begins = (refl, (refl, tt)) }
-  place_number (broken.DeriveLacks a to) h = record { number = a; within = derives a to h.asked; begins = (refl, (refl, tt)) }
-  place_number (broken.ContextLacks a to) h = record { number = a; within = (joins a _ to h.asked).0; begins = (refl, (refl, tt)) }
-  place_number (broken.ReplyLacks a to) h = record { number = a; within = holds a to h.asked; begins = (refl, (refl, tt)) }
-  place_number (broken.LentLacks a to) h =
-      record { number = a; within = (joins a _ h.asked.endpoint h.asked.receives).0; begins = (refl, (refl, tt)) }
+  place_number place h = record { number = start (edge_asked_at place); within = starts test n joins place h.asked; begins = (refl, (refl, tt)) }
 
   -- the places of a rule
   pub of_places : (r : Rule) → Searches broken_place (IsBrokenAt test) (of_rule r) (numbers (count_of n r)) (place_of n r)
