@@ -4,7 +4,7 @@ use Rattle.base.specs.declared.kind.Kind.{Kind, Kind as kinds, TheVariants.{Call
 use Rattle.base.specs.Kinds.{is_structural}
 use Rattle.policy.specs.{declared.broken.Broken.{Broken, Broken as broken}, Broken.{Asks, edge_asked_at, is_there}, Closing.IsWithin}
 use Rattle.policy.specs.{Closed.{IsClosed, MayBeGranted, caller, derived, granted, server}, Domain.{EdgeTest, IsInDomain}}
-use Rattle.policy.{specs.Settling.{IsAskedFor, IsGiven, Shares, by_grant, controlled, of_its_domain, of_their_domain, shared}, proofs.Unbroken.has_asked_at}
+use Rattle.policy.{specs.Settling.{IsAskedFor, IsGiven, by_grant, controlled, of_its_domain, of_their_domain, shared}, proofs.Unbroken.has_asked_at}
 use mathlib.Core.Bool.{false≢true}
 
 -- what is asked for by the edges of one policy, a closed policy has that has these edges

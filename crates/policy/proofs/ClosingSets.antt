@@ -1,7 +1,7 @@
 -- The sets of labels to which edges are missing, as closing puts them together.
 use Rattle.std.proofs.Common.{ℕ, ◌+◌, ◌<◌, ◌==◌, ◌∙◌, ◌≡◌, ◌⊎◌, ◌||◌, Bool, Some, arith, false, inl, inr, refl, slice_get, subst, sym, true}
 use Rattle.std.proofs.lemmas.Bool.{cases_order, eq-eqb, eqb-true, or_cases, or_left, or_right}
-use Rattle.base.specs.declared.kind.Kind.{Kind, Kind as kinds, TheVariants.{Context, Control, Derive, Grant, Receive, Runs}}
+use Rattle.base.specs.declared.kind.Kind.{Kind, Kind as kinds, TheVariants.{Context, Derive, Grant, Receive, Runs}}
 use Rattle.base.specs.{declared.labels.Labels.Labels, Kinds.{is_structural, kind_number}, Labels.is_in}
 use Rattle.policy.specs.{declared.broken.Broken.Broken as broken, Broken.IsBrokenAt, Closed.{ControlGives, IsLacking, MayBind}}
 use Rattle.policy.specs.{Domain.{EdgeTest, IsInDomain}, Settling.{IsGiven, IsMissing, IsSettled, Shares, by_grant, controlled}}

@@ -67,28 +67,28 @@ pub derive_told :
 derive_told test parent subjects endpoints takers domain row steps comes lacks in_subjects in_endpoints in_takers in_domain in_row in_steps either differ =
     lacking_told test parent Derive (ComesToDerive test parent) comes row lacks in_row differ
     (λ child. (λ e. told child (or_cases (is_in domain child) (is_in steps child) (sym (either child) ∙ e)), untold child)) where
-  told : (child : ℕ) → (is_in domain child ≡ true) ⊎ (is_in steps child ≡ true) → ComesToDerive test parent child
-  told child (inl e) =
-      let taker = (in_domain child).0 e in
-      let endpoint = (in_takers taker.0).0 taker.1 in
-      let giver = (in_endpoints endpoint.to).0 endpoint.among in
-      let may : MayBeGranted test giver.from taker.0 = record {
-        endpoint = endpoint.to;
-        grants = only_kind test Grant giver.from endpoint.to giver.joined;
-        receives = only_kind test Receive taker.0 endpoint.to endpoint.joined;
-      } in
-      granted giver.from taker.0 may ((in_subjects giver.from).0 giver.among) taker.2
-  told child (inr e) =
-      let middle = (in_steps child).0 e in
-      derived middle.from (sym (in_row middle.from) ∙ middle.among) (only_kind test Derive middle.from child middle.joined)
+      told : (child : ℕ) → (is_in domain child ≡ true) ⊎ (is_in steps child ≡ true) → ComesToDerive test parent child
+      told child (inl e) =
+          let taker = (in_domain child).0 e in
+          let endpoint = (in_takers taker.0).0 taker.1 in
+          let giver = (in_endpoints endpoint.to).0 endpoint.among in
+          let may : MayBeGranted test giver.from taker.0 = record {
+            endpoint = endpoint.to;
+            grants = only_kind test Grant giver.from endpoint.to giver.joined;
+            receives = only_kind test Receive taker.0 endpoint.to endpoint.joined;
+          } in
+          granted giver.from taker.0 may ((in_subjects giver.from).0 giver.among) taker.2
+      told child (inr e) =
+          let middle = (in_steps child).0 e in
+          derived middle.from (sym (in_row middle.from) ∙ middle.among) (only_kind test Derive middle.from child middle.joined)
 
-  untold : (child : ℕ) → ComesToDerive test parent child → is_in comes child ≡ true
-  untold child (granted giver taker may of_parent of_child) =
-      let endpoint = (in_endpoints may.endpoint).1 (target_by test Grant subjects giver may.endpoint ((in_subjects giver).1 of_parent) may.grants) in
-      let taken = (in_takers taker).1 (source_by test Receive endpoints may.endpoint taker endpoint may.receives) in
-      either child ∙ or_left (is_in domain child) (is_in steps child) ((in_domain child).1 (taker, taken, of_child))
-  untold child (derived middle one other) =
-      either child ∙ or_right (is_in domain child) (is_in steps child) ((in_steps child).1 (target_by test Derive row middle child (in_row middle ∙ one) other))
+      untold : (child : ℕ) → ComesToDerive test parent child → is_in comes child ≡ true
+      untold child (granted giver taker may of_parent of_child) =
+          let endpoint = (in_endpoints may.endpoint).1 (target_by test Grant subjects giver may.endpoint ((in_subjects giver).1 of_parent) may.grants) in
+          let taken = (in_takers taker).1 (source_by test Receive endpoints may.endpoint taker endpoint may.receives) in
+          either child ∙ or_left (is_in domain child) (is_in steps child) ((in_domain child).1 (taker, taken, of_child))
+      untold child (derived middle one other) =
+          either child ∙ or_right (is_in domain child) (is_in steps child) ((in_steps child).1 (target_by test Derive row middle child (in_row middle ∙ one) other))
 
 -- P7
 pub reply_told :
@@ -99,27 +99,27 @@ pub reply_told :
 reply_told test reply only servers endpoints callers row comes lacks in_only in_servers in_endpoints in_callers either in_row differ =
     lacking_told test reply kind.Holds (ComesToHold test reply) comes row lacks in_row differ
     (λ thread. (λ e. told thread (or_cases (is_in servers thread) (is_in callers thread) (sym (either thread) ∙ e)), untold thread)) where
-  serves : (label : ℕ) → is_in servers label ≡ true → test label Reply reply ≡ true
-  serves label e =
-      let to = (in_servers label).0 e in
-      subst (λ r. test label Reply r ≡ true) (eqb-true to.to reply (sym (in_only to.to) ∙ to.among)) (only_kind test Reply label to.to to.joined)
+      serves : (label : ℕ) → is_in servers label ≡ true → test label Reply reply ≡ true
+      serves label e =
+          let to = (in_servers label).0 e in
+          subst (λ r. test label Reply r ≡ true) (eqb-true to.to reply (sym (in_only to.to) ∙ to.among)) (only_kind test Reply label to.to to.joined)
 
-  is_server : (label : ℕ) → test label Reply reply ≡ true → is_in servers label ≡ true
-  is_server label e = (in_servers label).1 (source_by test Reply only reply label (in_only reply ∙ eq-eqb reply reply refl) e)
+      is_server : (label : ℕ) → test label Reply reply ≡ true → is_in servers label ≡ true
+      is_server label e = (in_servers label).1 (source_by test Reply only reply label (in_only reply ∙ eq-eqb reply reply refl) e)
 
-  told : (thread : ℕ) → (is_in servers thread ≡ true) ⊎ (is_in callers thread ≡ true) → ComesToHold test reply thread
-  told thread (inl e) = server (serves thread e)
-  told thread (inr e) =
-      let endpoint = (in_callers thread).0 e in
-      let from = (in_endpoints endpoint.to).0 endpoint.among in
-      caller from.from endpoint.to (serves from.from from.among) (only_kind test Call thread endpoint.to endpoint.joined)
-      (only_kind test Receive from.from endpoint.to from.joined)
+      told : (thread : ℕ) → (is_in servers thread ≡ true) ⊎ (is_in callers thread ≡ true) → ComesToHold test reply thread
+      told thread (inl e) = server (serves thread e)
+      told thread (inr e) =
+          let endpoint = (in_callers thread).0 e in
+          let from = (in_endpoints endpoint.to).0 endpoint.among in
+          caller from.from endpoint.to (serves from.from from.among) (only_kind test Call thread endpoint.to endpoint.joined)
+          (only_kind test Receive from.from endpoint.to from.joined)
 
-  untold : (thread : ℕ) → ComesToHold test reply thread → is_in comes thread ≡ true
-  untold thread (server e) = either thread ∙ or_left (is_in servers thread) (is_in callers thread) (is_server thread e)
-  untold thread (caller b endpoint replies calls receives) =
-      let received = (in_endpoints endpoint).1 (target_by test Receive servers b endpoint (is_server b replies) receives) in
-      either thread ∙ or_right (is_in servers thread) (is_in callers thread) ((in_callers thread).1 (source_by test Call endpoints endpoint thread received calls))
+      untold : (thread : ℕ) → ComesToHold test reply thread → is_in comes thread ≡ true
+      untold thread (server e) = either thread ∙ or_left (is_in servers thread) (is_in callers thread) (is_server thread e)
+      untold thread (caller b endpoint replies calls receives) =
+          let received = (in_endpoints endpoint).1 (target_by test Receive servers b endpoint (is_server b replies) receives) in
+          either thread ∙ or_right (is_in servers thread) (is_in callers thread) ((in_callers thread).1 (source_by test Call endpoints endpoint thread received calls))
 
 -- P8
 pub loan_told :

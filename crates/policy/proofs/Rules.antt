@@ -1,11 +1,11 @@
 -- What each rule's places are made of.
-use Rattle.std.{specs.Option.option_map, proofs.Common.{[], ℕ, ◌↔◌, ◌∷◌, ◌≡◌, ◌≢◌, IfNone, IfSome, List, Option, arith, false, refl, sym}}
+use Rattle.std.{proofs.Common.{[], ℕ, ◌↔◌, ◌∷◌, ◌≡◌, ◌≢◌, List, arith, false, refl, sym}}
 use Rattle.std.proofs.Common.{true}
-use Rattle.base.specs.{declared.{kind.Kind.{Kind, TheVariants.{Derive, Holds, Runs}}, labels.Labels.Labels}, Kinds.is_structural}
+use Rattle.base.specs.{declared.{kind.Kind.{Kind, TheVariants.{Derive, Holds}}, labels.Labels.Labels}, Kinds.is_structural}
 use Rattle.base.specs.{Kinds.kind_number, Labels.is_in}
 use Rattle.policy.specs.{declared.broken.Broken.{Broken, Broken as broken}, Broken.{IsBrokenAt, broken_place, p1, p2, p3, p5}}
-use Rattle.policy.specs.{Broken.{p7, p8}, Closed.MayBeGranted, Domain.{EdgeTest, IsInDomain}, Places.IsUnder, Search.FindsBroken}
-use Rattle.policy.{specs.Search.{FindsCell, IsLeastIn, IsNobody}, proofs.Cells.{FindsByCell, FindsByTarget, least_cell, least_target}}
+use Rattle.policy.specs.{Broken.{p7}, Closed.MayBeGranted, Domain.{EdgeTest, IsInDomain}, Places.IsUnder}
+use Rattle.policy.{proofs.Cells.{FindsByCell, FindsByTarget, least_cell, least_target}}
 
 -- the labels that are given for each kind are those with a property
 abbrev Tells : (Kind → Labels → Type 0) → (Kind → ℕ → Type 0) → Type 0
@@ -27,10 +27,10 @@ module _ (test : EdgeTest) where
         λ e. let h = told.0 e in record { share = record { domain = domain; of_use = h.0 }; differ = h.1 },
         λ h. told.1 (h.share.of_use, h.differ),
       )) where
-    of : (b : Broken) → IsUnderAll (p1 ∷ subject ∷ other ∷ []) b → (cell : Kind × ℕ) × (b ≡ broken.SubjectsDisagree subject other cell.0 cell.1)
-    of (broken.SubjectsDisagree s o kind target) h =
-        ((kind, target), λ i. broken.SubjectsDisagree (sym h.0.1.0 i) (sym h.0.1.1.0 i) kind target)
-    of _ h = absurd (omega (arith, h.0.0))
+        of : (b : Broken) → IsUnderAll (p1 ∷ subject ∷ other ∷ []) b → (cell : Kind × ℕ) × (b ≡ broken.SubjectsDisagree subject other cell.0 cell.1)
+        of (broken.SubjectsDisagree s o kind target) h =
+            ((kind, target), λ i. broken.SubjectsDisagree (sym h.0.1.0 i) (sym h.0.1.1.0 i) kind target)
+        of _ h = absurd (omega (arith, h.0.0))
 
   -- P2
   pub control_found :
@@ -38,9 +38,9 @@ module _ (test : EdgeTest) where
       → FindsByCell test (p2 ∷ subject ∷ []) (λ cell. broken.ControlLacks subject cell.0 cell.1) gives
   control_found subject =
       least_cell test (p2 ∷ subject ∷ []) (λ cell. broken.ControlLacks subject cell.0 cell.1) (record { of = of; placed = λ cell. refl }) where
-    of : (b : Broken) → IsUnderAll (p2 ∷ subject ∷ []) b → (cell : Kind × ℕ) × (b ≡ broken.ControlLacks subject cell.0 cell.1)
-    of (broken.ControlLacks s kind object) h = ((kind, object), λ i. broken.ControlLacks (sym h.0.1.0 i) kind object)
-    of _ h = absurd (omega (arith, h.0.0))
+        of : (b : Broken) → IsUnderAll (p2 ∷ subject ∷ []) b → (cell : Kind × ℕ) × (b ≡ broken.ControlLacks subject cell.0 cell.1)
+        of (broken.ControlLacks s kind object) h = ((kind, object), λ i. broken.ControlLacks (sym h.0.1.0 i) kind object)
+        of _ h = absurd (omega (arith, h.0.0))
 
   -- P3
   pub grant_found :
@@ -54,22 +54,22 @@ module _ (test : EdgeTest) where
         λ e. let h = told.0 e in record { asked = record { granted = may; of_use = h.0; has = h.1 }; missing = h.2 },
         λ h. told.1 (h.asked.of_use, h.asked.has, h.missing),
       )) where
-    of : (b : Broken) → IsUnderAll (p3 ∷ giver ∷ taker ∷ []) b → (cell : Kind × ℕ) × (b ≡ broken.GrantLacks giver taker cell.0 cell.1)
-    of (broken.GrantLacks g t kind target) h = ((kind, target), λ i. broken.GrantLacks (sym h.0.1.0 i) (sym h.0.1.1.0 i) kind target)
-    of _ h = absurd (omega (arith, h.0.0))
+        of : (b : Broken) → IsUnderAll (p3 ∷ giver ∷ taker ∷ []) b → (cell : Kind × ℕ) × (b ≡ broken.GrantLacks giver taker cell.0 cell.1)
+        of (broken.GrantLacks g t kind target) h = ((kind, target), λ i. broken.GrantLacks (sym h.0.1.0 i) (sym h.0.1.1.0 i) kind target)
+        of _ h = absurd (omega (arith, h.0.0))
 
   -- P5
   pub derive_found : (parent : ℕ) → FindsByTarget test (p5 ∷ parent ∷ []) (broken.DeriveLacks parent)
   derive_found parent =
       least_target test (p5 ∷ parent ∷ []) (kind_number Derive) (broken.DeriveLacks parent) (record { of = of; placed = λ child. refl }) where
-    of : (b : Broken) → IsUnderAll (p5 ∷ parent ∷ []) b → (child : ℕ) × (b ≡ broken.DeriveLacks parent child)
-    of (broken.DeriveLacks p child) h = (child, λ i. broken.DeriveLacks (sym h.0.1.0 i) child)
-    of _ h = absurd (omega (arith, h.0.0))
+        of : (b : Broken) → IsUnderAll (p5 ∷ parent ∷ []) b → (child : ℕ) × (b ≡ broken.DeriveLacks parent child)
+        of (broken.DeriveLacks p child) h = (child, λ i. broken.DeriveLacks (sym h.0.1.0 i) child)
+        of _ h = absurd (omega (arith, h.0.0))
 
   -- P7
   pub reply_found : (reply : ℕ) → FindsByTarget test (p7 ∷ reply ∷ []) (broken.ReplyLacks reply)
   reply_found reply =
       least_target test (p7 ∷ reply ∷ []) (kind_number Holds) (broken.ReplyLacks reply) (record { of = of; placed = λ thread. refl }) where
-    of : (b : Broken) → IsUnderAll (p7 ∷ reply ∷ []) b → (thread : ℕ) × (b ≡ broken.ReplyLacks reply thread)
-    of (broken.ReplyLacks r thread) h = (thread, λ i. broken.ReplyLacks (sym h.0.1.0 i) thread)
-    of _ h = absurd (omega (arith, h.0.0))
+        of : (b : Broken) → IsUnderAll (p7 ∷ reply ∷ []) b → (thread : ℕ) × (b ≡ broken.ReplyLacks reply thread)
+        of (broken.ReplyLacks r thread) h = (thread, λ i. broken.ReplyLacks (sym h.0.1.0 i) thread)
+        of _ h = absurd (omega (arith, h.0.0))
