@@ -1,23 +1,14 @@
-use Rattle.base.specs.declared.kind.Kind.{Kind as kinds}
-use Rattle.policy.{specs.{declared.broken.Broken.Broken as broken, Broken.Asks, Policy.allows}, proofs.ClosingSets.{contexts_missing, either_missing}}
-use Rattle.policy.proofs.ClosingSets.{given_missing}
+use Rattle.policy.{specs.Policy.allows, proofs.ClosingSets.{contexts_missing, either_missing, given_missing}}
 use Rattle.policy.proofs.closing.missing.Goals as goal
 
 pub returns-in-Derive : goal.returns-in-Derive
 returns-in-Derive c =
-    let test = allows c.args.policy.now in
-    let from = c.args.from in
-    rw c.in-Derive.is
-    (either_missing (λ to. Asks test (broken.DomainLacks from to)) (λ to. Asks test (broken.DeriveLacks from to)) (test from kinds.Derive) _ _ _
-    c.not_derived_in_domain.ensures c.not_derived.ensures c.union.ensures)
+    rw c.in-Derive.is (either_missing _ _ _ _ _ _ c.not_derived_in_domain.ensures c.not_derived.ensures c.union.ensures)
 
 pub returns-in-Runs : goal.returns-in-Runs
 returns-in-Runs c =
-    let test = allows c.args.policy.now in
-    let from = c.args.from in
-    rw c.in-Runs.is
-    (either_missing (λ to. Asks test (broken.ContextLacks from to)) (λ to. Asks test (broken.LentLacks from to)) (test from kinds.Runs) _ _ _
-    (contexts_missing test from _ _ _ c.row.ensures c.row-in-Runs.ensures c.difference.ensures) c.not_lent.ensures c.union-in-Runs.ensures)
+    let unbound = contexts_missing (allows c.args.policy.now) c.args.from _ _ _ c.row.ensures c.row-in-Runs.ensures c.difference.ensures in
+    rw c.in-Runs.is (either_missing _ _ _ _ _ _ unbound c.not_lent.ensures c.union-in-Runs.ensures)
 
 pub returns-in-Holds : goal.returns-in-Holds
 returns-in-Holds c = rw c.in-Holds.is c.not_held.ensures
