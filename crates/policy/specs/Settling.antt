@@ -18,7 +18,7 @@ pub data IsGiven (test : EdgeTest) (from : ℕ) (kind : Kind) (to : ℕ) : Type 
   shared : (giver : ℕ) → Shares test giver from → is_structural kind ≡ false → test giver kind to ≡ true → IsGiven test from kind to
   controlled : ControlGives test from kind to → IsGiven test from kind to
 
--- an edge that closed policies have if they have the edges of this one
+-- an edge that closed policies have if they have the edges of this one, by the rules that ask for edges of its kind
 abbrev pub IsAskedFor : EdgeTest → ℕ → Kind → ℕ → Type 0
 IsAskedFor test from Derive to = Asks test (broken.DomainLacks from to) ⊎ Asks test (broken.DeriveLacks from to)
 IsAskedFor test from Runs to = Asks test (broken.ContextLacks from to) ⊎ Asks test (broken.LentLacks from to)

@@ -91,9 +91,8 @@ impl Broken {
         }
     }
 
-    /// The edge that the rule asks for, and that the policy lacks.
-    ///
-    /// P1 doesn't tell which of two labels lacks it.
+    /// The edge that the rule asks for, and that the policy lacks; none by P1, which doesn't tell which of
+    /// two labels lacks it.
     pub fn edge(&self) -> Option<Edge>
         ensures { result ≡ edge_asked_at self.now }
     {
