@@ -3,7 +3,8 @@ use Rattle.std.{specs.Prelude.IfNone, proofs.Common.{ℕ, ◌≡◌, All, Bool, 
 use Rattle.std.proofs.lemmas.List.Elements.{All-weaker}
 use Rattle.machine.specs.Layout.{Layout}
 use Rattle.policy.specs.{Domain.EdgeTest, Full.IsFull, Take.MayTake}
-use Rattle.verdict.specs.{declared.extent.Extent.{Extent, Extent as extent}, Apart.{GoesTo, NeverChanges, OnlyTakes}}
+use Rattle.integrity.specs.Apart.{NeverChanges, OnlyTakes}
+use Rattle.verdict.specs.{declared.extent.Extent.{Extent, Extent as extent}, Extents.GoesTo}
 use Rattle.claims.specs.{declared.claim.{Claim.Claim, Most.{Most, Most as most}}, Holding.{HasAtMost, Holds, IsExact, IsKept, KeepsAtMost}}
 use Rattle.claims.specs.Holding.{extent_of, is_within, most_of}
 

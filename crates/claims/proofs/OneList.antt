@@ -8,7 +8,7 @@ use Rattle.std.proofs.lemmas.{List.Elements.{Contains-push, Contains-push_cases}
 use Rattle.std.proofs.lemmas.Option.{slice_get-get_or, slice_get_within}
 use Rattle.machine.specs.Layout.{Layout}
 use Rattle.policy.specs.Domain.{EdgeTest}
-use Rattle.verdict.specs.{declared.extent.Extent.Extent, Apart.GoesTo}
+use Rattle.verdict.specs.{declared.extent.Extent.Extent, Extents.GoesTo}
 use Rattle.verdict.specs.declared.extent.Extent.TheVariants as extent
 use Rattle.claims.specs.{declared.{claim.{Claim.Claim, Most.Most}, holding.BrokenClaim.BrokenClaim}, Claims.{IsClaimOf, IsRising}}
 use Rattle.claims.specs.declared.claim.Most.TheVariants as most

@@ -5,7 +5,8 @@ use Rattle.std.specs.Prelude.{ℕ, ◌+◌, ◌<◌, ◌↔◌, ◌≡◌, ◌�
 use Rattle.base.specs.Labels.{is_in}
 use Rattle.machine.specs.Layout.{Layout}
 use Rattle.policy.specs.{Domain.EdgeTest, Full.IsFull, Take.MayTake}
-use Rattle.verdict.specs.{declared.extent.Extent.{Extent, Extent as extent}, Apart.{GoesTo, NeverChanges, OnlyTakes}}
+use Rattle.integrity.specs.Apart.{NeverChanges, OnlyTakes}
+use Rattle.verdict.specs.{declared.extent.Extent.{Extent, Extent as extent}, Extents.GoesTo}
 use Rattle.claims.specs.declared.{claim.{Claim.Claim, Most.{Most, Most as most}}, extents.Extents.Extents, holding.BrokenClaim.BrokenClaim}
 use Rattle.claims.specs.Claims.{AreClaimsOf}
 

@@ -1,6 +1,6 @@
 ghost use Rattle.std.specs.Prelude.{◌≡◌, IfSome};
 ghost use Rattle.policy.specs.{Domain.EdgeTest, Policy.allows};
-ghost use Rattle.verdict.specs.Apart.{GoesTo};
+ghost use Rattle.verdict.specs.Extents.{GoesTo};
 ghost use Rattle.claims.specs.Holding.{AreExtents};
 
 use base::{Label, Labels};

@@ -4,14 +4,14 @@ use Rattle.std.proofs.{Common.{Bool, ap, false, refl, subst, sym, true}, lemmas.
 use Rattle.base.specs.declared.{ids.{ObjId.ObjId, SlotRef.SlotRef}, rights.Rights.Rights}
 use Rattle.machine.specs.declared.{call.{Answer.Answer as answer, CapData.CapData, Made.TheVariants.Done}, cap.{Cap.Cap, Detail.Detail}}
 use Rattle.machine.specs.{declared.{object.Object.Object, slot_address.{Ends.Ends, SlotAddress.SlotAddress}}, Capabilities.kind_of_detail}
-use Rattle.machine.specs.declared.object.Object.TheVariants as o
-use Rattle.machine.specs.declared.object.ObjectKind.TheVariants as kind
 use Rattle.machine.specs.{Machine.{Machine, cap_of, has_slot, object_of, parent_of, same_slot, with_cap}, Objects.kind_of_object}
 use Rattle.machine.specs.{Objects.slot_count, Step.{Copy.{copy_of, copyable, masked}, Mint.{mint_of, minted}, Move.move_of, Target.ends_of}}
 use Rattle.machine.specs.{Tree.{IsAlone, copied, parent_of_copy, with_copy, with_moved}, WellFormed.{IsWellFormed, kind_of}}
-use Rattle.machine.proofs.{Exchange.slot_itself, FillsFormed.{Takes, derives_formed, fills_formed}, LedSlots.{led_slot, node_slot}}
-use Rattle.machine.proofs.{LookUps.{cap_of-with_cap, parent_of-with_cap}, MovesFormed.move_formed, SlotRows.{copy_done, empty_alone}}
-use Rattle.machine.proofs.SlotRows.{ends_found, mint_done, move_done, with_copy_fills}
+use Rattle.machine.proofs.{Exchange.slot_itself, LookUps.{cap_of-with_cap, parent_of-with_cap}}
+use Rattle.machine.specs.declared.object.Object.TheVariants as o
+use Rattle.machine.specs.declared.object.ObjectKind.TheVariants as kind
+use Rattle.steps.proofs.{FillsFormed.{Takes, derives_formed, fills_formed}, LedSlots.{led_slot, node_slot}, MovesFormed.move_formed}
+use Rattle.steps.proofs.SlotRows.{copy_done, empty_alone, ends_found, mint_done, move_done, with_copy_fills}
 
 -- the slot that a call names as its target is there
 pub target_there :

@@ -3,7 +3,8 @@ use Rattle.std.{specs.Prelude.map, proofs.Common.{ℕ, List}}
 use Rattle.machine.specs.{Boot.IsBoot, Layout.Layout, Machine.Machine}
 use Rattle.policy.specs.Policy.{allows}
 use Rattle.kernel.specs.Legal.{Entry, Leads}
-use Rattle.verdict.specs.{Safe.IsReached, System.{IsAcceptedSystem, System}}
+use Rattle.integrity.specs.Safe.{IsReached}
+use Rattle.verdict.specs.System.{IsAcceptedSystem, System}
 use Rattle.cores.specs.{declared.view.Noted.Noted, History.{IsLegal, log_of}, Safety.IsSafeHistory}
 
 reached :

@@ -5,7 +5,7 @@ use Rattle.base.specs.declared.ids.ObjId.{ObjId}
 use Rattle.machine.specs.{declared.object.Object.Object, Authority.label_of, Layout.Layout, Machine.{Machine, object_of}, Step.Step}
 use Rattle.policy.specs.Domain.{EdgeTest}
 use Rattle.kernel.specs.Legal.{Leads}
-use Rattle.verdict.specs.{Allowed.IsAllowedStep, Bounded.IsBoundedStep, Budgets.KeepsBudgets, Confined.IsConfined}
+use Rattle.integrity.specs.{Allowed.IsAllowedStep, Bounded.IsBoundedStep, Budgets.KeepsBudgets, Confined.IsConfined}
 use Rattle.cores.specs.{declared.view.Noted.Noted, History.log_of}
 
 -- each state on it, after any of its beginnings, is confined, and its objects have labels; each step on it is allowed, takes away only

@@ -5,11 +5,12 @@ use Rattle.std.proofs.{Common.{refl, subst, sym, true}, lemmas.{Bool.false≢tru
 use Rattle.std.proofs.lemmas.Option.{none-some, same_Some}
 use Rattle.base.specs.declared.ids.ObjId.{ObjId}
 use Rattle.machine.specs.declared.{object.{Object.{Object, Object as o}, Reply.Reply, ReplyState.ReplyState}, thread.RunState.RunState}
-use Rattle.machine.specs.declared.object.ReplyState.TheVariants as reply
-use Rattle.machine.specs.declared.thread.RunState.TheVariants as state
 use Rattle.machine.specs.{declared.thread.Tcb.Tcb, Finalising.IsHolding, Machine.{Machine, object_of, queue_of}, Releasing.IsInItsQueue}
 use Rattle.machine.{specs.{Releasing.reply_by, WellFormed.{IsThread, LinksAgree, WaitsAt}}, proofs.{HeldThreads.links_of, Leaving.HasLinks}}
-use Rattle.machine.proofs.{Leaving.Names, RemovalLinks.{in_whole, into_part}, RoundLemmas.not_passes}
+use Rattle.machine.proofs.{Leaving.Names, RoundLemmas.not_passes}
+use Rattle.machine.specs.declared.object.ReplyState.TheVariants as reply
+use Rattle.machine.specs.declared.thread.RunState.TheVariants as state
+use Rattle.steps.proofs.RemovalLinks.{in_whole, into_part}
 use Rattle.finalising.specs.Reached.{IsReached, Reach, has_left, object_by, queue_by, state_by, tcb_by}
 
 module _ (old now : Machine) (reach : Reach) (reached : IsReached old reach now) where

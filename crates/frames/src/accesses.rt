@@ -4,8 +4,9 @@ ghost use Rattle.machine.specs.{Machine.words_of, Makes.Makes, Step.Words.{in_fr
 use base::{Cause, ObjId, Rights};
 use bitflags::Flags;
 use cspace::{find_frame, permit};
-use machine::{Answer, Made, calls_keep_machines_well_formed};
+use machine::{Answer, Made};
 use objects::State;
+use steps::calls_keep_machines_well_formed;
 
 /// Refuses an index past the 512 words of a frame.
 fn in_frame(index: u64) -> Result<(), Cause>

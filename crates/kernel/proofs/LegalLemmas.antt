@@ -7,8 +7,8 @@ use Rattle.std.proofs.lemmas.Option.{get_or_from_slice_get, same_Some, slice_get
 use Rattle.base.specs.{declared.refusal.{Cause.Cause, Refusal.Refusal}, Refusals.{out_of_memory, refusal_of}}
 use Rattle.base.proofs.CauseLemmas.{cause_no_memory}
 use Rattle.machine.specs.{declared.call.{Event.Event, Made.Made, Outcome.{Outcome, TheVariants.Refused}}, Machine.Machine}
-use Rattle.machine.{specs.{Outcomes.IsRefused, Run.Run, Step.{LacksMemory, Step, made_by, step_of, takes_memory, Step.{ends, lacks}}}, proofs.Steps.Ended}
-use Rattle.machine.proofs.Steps.{refused_changes_nothing, refused_steps, runs_end, steps_agree}
+use Rattle.machine.specs.{Outcomes.IsRefused, Run.Run, Step.{LacksMemory, Step, made_by, step_of, takes_memory, Step.{ends, lacks}}}
+use Rattle.steps.proofs.Steps.{Ended, refused_changes_nothing, refused_steps, runs_end, steps_agree}
 use Rattle.untyped.specs.Making.{refusal_in}
 use Rattle.kernel.specs.Legal.{Entry, Follows, IsLack, IsLeftAt, IsReachedIn, LacksMemoryIn, Leads, StopsAt, next_of}
 use Rattle.kernel.{specs.Refusals.lasting_refusal, proofs.RunLemmas.run_further}

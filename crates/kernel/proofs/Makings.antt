@@ -3,7 +3,7 @@ use Rattle.std.{specs.Prelude.IsOk, proofs.Common.{◌≡◌, Bool, Err, Ok, Res
 use Rattle.base.specs.{declared.refusal.Cause.Cause, Refusals.refusal_of}
 use Rattle.machine.specs.declared.call.{Event.Event, Made.Made, Outcome.TheVariants.Refused, Unmade.{Unmade, Unmade as unmade}}
 use Rattle.machine.specs.{Machine.Machine, Makes.MakesWithMemory, Outcomes.unmade_refusal, Step.{Step, made_by, takes_memory, Step.lacks}}
-use Rattle.machine.proofs.Steps.{refused_steps}
+use Rattle.steps.proofs.Steps.{refused_steps}
 
 pub refused_by_row :
     (m next : Machine) (event : Event) (cause : Cause) → (made_by m event ≡ Err cause) × (next ≡ m)

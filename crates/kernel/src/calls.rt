@@ -11,14 +11,12 @@ use crate::wait::wait;
 use base::{Cause, Refusal};
 use cnodeops::{copy, mint, move_cap};
 use frames::{read_word, write_word};
-use machine::{
-    Call, Event, Made, Outcome, Unmade, calls_are_refused_by_conditions,
-    steps_keep_machines_well_formed,
-};
+use machine::{Call, Event, Made, Outcome, Unmade};
 use objects::State;
 use removal::{delete, revoke};
 use replies::reply;
 use schedctl::{bind, configure, unbind};
+use steps::{calls_are_refused_by_conditions, steps_keep_machines_well_formed};
 use threads::{clear_space, resume, set_space, suspend};
 use transfer::{call, fetch, receive, send};
 use untyped::retype;

@@ -6,8 +6,9 @@ ghost use Rattle.kernel.specs.Legal.{Entry, Follows, IsLack, IsLeftAt, IsReached
 
 use crate::calls::{retype_refusal, step};
 use base::Refusal;
-use machine::{Event, Outcome, calls_are_refused_by_conditions};
+use machine::{Event, Outcome};
 use objects::State;
+use steps::calls_are_refused_by_conditions;
 
 /// Makes the steps of a log, entry after entry: none where each is the step that its entry tells, and
 /// else the index, from 0, of the first that isn't.

@@ -5,8 +5,9 @@ ghost use Rattle.machine.specs.{declared.call.Outcome.Outcome as Ended, Run.Run,
 
 use crate::calls::take_step;
 use base::Refusal;
-use machine::{Event, Outcome, calls_are_refused_by_conditions};
+use machine::{Event, Outcome};
 use objects::State;
+use steps::calls_are_refused_by_conditions;
 
 /// Runs a list of events, and appends the outcome of each.
 ///

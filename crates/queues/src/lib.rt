@@ -9,8 +9,9 @@ ghost use Rattle.machine.specs.WellFormed.{IsAlike, IsIdle, IsReceivingWith, IsT
 ghost use Rattle.objects.specs.Waiting.{WaitsNowhere, WaitsThere};
 
 use base::ObjId;
-use machine::{Object, RunState, Tcb, blocks_keep_machines_well_formed};
+use machine::{Object, RunState, Tcb};
 use objects::State;
+use steps::blocks_keep_machines_well_formed;
 
 /// Puts a thread behind those that wait at an object. Does nothing where there is no such object.
 pub fn push_last(state: &mut State, id: ObjId, thread: ObjId)

@@ -4,8 +4,9 @@ use Rattle.std.proofs.{Common.{◌<◌, ◌∙◌, ◌≡◌, ◌≢◌, Bool, L
 use Rattle.std.proofs.lemmas.Option.{none-some, same_Some}
 use Rattle.base.specs.declared.ids.SlotRef.{SlotRef}
 use Rattle.machine.specs.{Below.is_below, Changes.with_none_going, Gone.given, Machine.{Machine, cap_of, parent_of, same_slot}}
-use Rattle.machine.{specs.{Orphans.past, WellFormed.{Descends, child, further}}, proofs.BelowLemmas.below_decided}
-use Rattle.machine.proofs.{FiniteLemmas.ties_itself, LookUps.{one_slot, slot_apart, slot_total}, RemovalStays.further_on}
+use Rattle.machine.{specs.{Orphans.past, WellFormed.{Descends, child, further}}, proofs.{FiniteLemmas.ties_itself, LookUps.one_slot}}
+use Rattle.machine.proofs.{LookUps.{slot_apart, slot_total}, RemovalStays.further_on}
+use Rattle.steps.proofs.BelowLemmas.{below_decided}
 use Rattle.objects.proofs.{Passing.fewer_pass, Ways.among_keys}
 use Rattle.derivation.specs.Removing.{parent_without}
 use Rattle.removal.{specs.UnderWay.{AreGoing, IsUnderWay, emptied}, proofs.Beside.{descends_cleared, none_going, parent_of-with_none_going}}

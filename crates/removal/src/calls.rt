@@ -4,8 +4,9 @@ ghost use Rattle.machine.specs.{Makes.Makes, Step.{Delete.delete_of, Revoke.revo
 use crate::removing::{remove, remove_below};
 use base::{Cause, ObjId};
 use cnodeops::target;
-use machine::{Answer, Made, SlotAddress, removals_keep_machines_well_formed};
+use machine::{Answer, Made, SlotAddress};
 use objects::State;
+use steps::removals_keep_machines_well_formed;
 
 /// Removes the capability in the slot that the caller names, and all that can't stay without it (seL4
 /// manual, seL4_CNode_Delete): the slots of CNodes and threads that lose their last capability, and what

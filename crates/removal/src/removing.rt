@@ -4,8 +4,8 @@ ghost use Rattle.machine.specs.{Below.is_below, Machine.same_slot, Removal.remov
 use crate::choosing::{empty_all_below, empty_all_with};
 use crate::sweeping::sweep;
 use base::SlotRef;
-use machine::removals_keep_machines_well_formed;
 use objects::State;
+use steps::removals_keep_machines_well_formed;
 
 /// Empties a slot, and removes all that can't stay without it (seL4 manual, "Deletion, Revocation, and
 /// Recycling"). It takes time in what goes and what is linked to that.

@@ -5,12 +5,10 @@ ghost use Rattle.machine.specs.{Step.Reply.with_returned, WellFormed.IsWellForme
 use crate::release::give;
 use base::{Cause, ObjId};
 use cspace::find_reply;
-use machine::{
-    Answer, Lent, Made, Message, Object, Reply, ReplyState, RunState, Tcb,
-    calls_keep_machines_well_formed,
-};
+use machine::{Answer, Lent, Made, Message, Object, Reply, ReplyState, RunState, Tcb};
 use objects::State;
 use schedctl::{context_under, hand_over};
+use steps::calls_keep_machines_well_formed;
 
 /// The thread that has called through a reply and waits for its answer.
 fn caller_through(state: &State, id: ObjId) -> Option<ObjId>

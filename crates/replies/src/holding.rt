@@ -9,11 +9,10 @@ ghost use Rattle.objects.specs.Waiting.{WaitsNowhere};
 
 use crate::release::halt;
 use base::ObjId;
-use machine::{
-    Calling, Object, Receiving, Reply, ReplyState, RunState, Tcb, blocks_keep_machines_well_formed,
-};
+use machine::{Calling, Object, Receiving, Reply, ReplyState, RunState, Tcb};
 use objects::State;
 use queues::block;
+use steps::blocks_keep_machines_well_formed;
 
 /// Says whom the reply holds. No thread is changed.
 #[tactic(auto, unfolding(machine::specs::Releasing::with_holding))]

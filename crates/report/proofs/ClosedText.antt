@@ -6,7 +6,8 @@ use Rattle.machine.specs.{Authority.HasAuthority, Boot.IsBoot, Layout.Layout, Ma
 use Rattle.policy.specs.{Closed.IsClosed, Closing.{IsLeastClosed, IsWithin}, Policy.{IsRising, allows}}
 use Rattle.captext.specs.{Policies.read_policy_of, PolicyText.{IsEdgeOf, edge_lines, policy_text}}
 use Rattle.labels.proofs.EdgeLists.{allows-append, allows_after, allows_before}
-use Rattle.verdict.specs.{Confined.IsConfined, Verdict.IsAccepted}
+use Rattle.integrity.specs.Confined.{IsConfined}
+use Rattle.verdict.specs.Verdict.{IsAccepted}
 use Rattle.reptext.proofs.OneText.{same_answer}
 use Rattle.report.specs.{declared.{closing.OnClose.OnClose as on_close, command.Answer.Answer}, Closings.{Closes, IsAuthorityOf, IsClosing}}
 use Rattle.report.{specs.Closings.{IsInEachPolicyFor, missing_edges, missing_status}, proofs.ClosedLabels.{either_within, least_within}}

@@ -3,14 +3,16 @@ use Rattle.std.{specs.List.zip, proofs.Common.{[], ℕ, ◌+◌, ◌∙◌, ◌�
 use Rattle.std.proofs.lemmas.{List.Elements.{All-head, All-tail}, Option.{none-some, same_Some}}
 use Rattle.base.specs.declared.edge.Edge.{Edge}
 use Rattle.machine.specs.{declared.call.{Event.Event, Outcome.Outcome}, Boot.IsBoot, Layout.Layout, Machine.Machine, Run.Run}
-use Rattle.machine.{specs.{Step.LacksMemory, WellFormed.kind_of}, proofs.Steps.steps_agree}
+use Rattle.machine.specs.{Step.LacksMemory, WellFormed.kind_of}
+use Rattle.steps.proofs.Steps.{steps_agree}
 use Rattle.policy.specs.{Places.{ComesBefore, IsLeast}, Policy.allows}
 use Rattle.table.proofs.BootState.{boot_one}
 use Rattle.evtext.specs.Log.{log_text}
 use Rattle.kernel.{specs.Legal.{Entry, IsLack, Leads, StopsAt}, proofs.LegalLemmas.{no_run, one_next, one_stop}}
-use Rattle.verdict.specs.{declared.denial.Denial.Denial, Confined.IsConfined, Rules.{Exceeds, Excess, excess_place}, Sources.of_machine}
+use Rattle.integrity.specs.Confined.{IsConfined}
+use Rattle.verdict.specs.{declared.denial.Denial.Denial, Rules.{Exceeds, Excess, excess_place}, Sources.of_machine, Verdict.excess_of}
+use Rattle.verdict.{specs.Verdict.{place_of, rule_name}, proofs.{OneVerdict.{one_least, same_place}, Outsides.within_confined}}
 use Rattle.verdict.specs.declared.denial.Denial.TheVariants as denial
-use Rattle.verdict.{specs.Verdict.{excess_of, place_of, rule_name}, proofs.{OneVerdict.{one_least, same_place}, Outsides.within_confined}}
 use Rattle.reptext.specs.{Places.place_names_by, Reports.{illegal_data, line_of, outside_data}}
 use Rattle.report.specs.{OneAnswer.{IsLogInMemory, RunsInMemory}, Replays.{IsFirstOutside, IsReplayedTo, Replays, illegal, outside, within}}
 use Rattle.report.proofs.{OneAnswer.JudgesOne, OneReport.verdict_once}

@@ -5,7 +5,8 @@ use Rattle.machine.specs.{declared.call.Outcome.Outcome, Boot.IsBoot, Layout.Lay
 use Rattle.policy.specs.Policy.{allows}
 use Rattle.evtext.specs.Log.{read_log_of}
 use Rattle.kernel.specs.Legal.{Entry, Leads, StopsAt}
-use Rattle.verdict.specs.{declared.denial.Denial.Denial, Confined.IsConfined, Rules.Excess, Verdict.{IsOutside, excess_of, rule_name}}
+use Rattle.integrity.specs.Confined.{IsConfined}
+use Rattle.verdict.specs.{declared.denial.Denial.Denial, Rules.Excess, Verdict.{IsOutside, excess_of, rule_name}}
 use Rattle.reptext.specs.{declared.file.File.File as file, Places.place_names_by, Reports.{illegal_data, line_of, outside_data}}
 use Rattle.reptext.specs.Reports.{within_data}
 use Rattle.report.specs.{declared.end.End.End, Answers.no_label, Commands.{Input, IsCarriedOut, Output}}

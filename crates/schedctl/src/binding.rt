@@ -5,8 +5,9 @@ ghost use Rattle.machine.specs.WellFormed.{IsWellFormed};
 use crate::links::{bind_to, context_under, part};
 use base::{Cause, ObjId};
 use cspace::{find_context, find_tcb};
-use machine::{Answer, Made, Object, calls_keep_machines_well_formed};
+use machine::{Answer, Made, Object};
 use objects::State;
+use steps::calls_keep_machines_well_formed;
 
 /// The thread that runs on a scheduling context.
 fn thread_on(state: &State, id: ObjId) -> Option<ObjId>

@@ -4,8 +4,9 @@ ghost use Rattle.machine.specs.WellFormed.{IsWellFormed};
 
 use base::{Cause, CoreNo, MAX_PERIOD, ObjId};
 use cspace::{find_context, find_control};
-use machine::{Answer, Context, Made, Object, Share, calls_keep_machines_well_formed};
+use machine::{Answer, Context, Made, Object, Share};
 use objects::State;
+use steps::calls_keep_machines_well_formed;
 
 /// Refuses a budget below 1 or past its period, and a period past [`MAX_PERIOD`].
 fn in_limits(budget: u64, period: u64) -> Result<(), Cause>

@@ -4,9 +4,10 @@ ghost use Rattle.machine.specs.WellFormed.{IsWellFormed};
 
 use base::{Cause, ObjId};
 use cspace::find_tcb;
-use machine::{Answer, Made, Object, RunState, calls_keep_machines_well_formed};
+use machine::{Answer, Made, Object, RunState};
 use objects::State;
 use replies::abort;
+use steps::calls_keep_machines_well_formed;
 
 /// Has a thread that is inactive run, and aborts one that is blocked. One that is ready stays so.
 #[tactic(auto, unfolding(machine::specs::Step::Suspend::with_resumed))]

@@ -5,11 +5,10 @@ ghost use Rattle.machine.specs.{Step.Space.{clear_space_of, find_node, set_space
 use base::{Cause, ObjId, SlotRef};
 use cnodeops::derive;
 use cspace::{find_cap, find_tcb};
-use machine::{
-    Answer, Detail, Ends, Made, calls_keep_machines_well_formed, cleared_root_slots_can_be_filled,
-};
+use machine::{Answer, Detail, Ends, Made};
 use objects::State;
 use removal::remove;
+use steps::{calls_keep_machines_well_formed, cleared_root_slots_can_be_filled};
 
 /// The root slot of a thread.
 fn root_of(thread: ObjId) -> SlotRef

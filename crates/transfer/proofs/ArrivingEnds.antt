@@ -4,8 +4,9 @@ use Rattle.std.{specs.Prelude.{IsTrue, None, Ok, Option, Some}, proofs.Common.{â
 use Rattle.base.specs.declared.ids.ObjId.{ObjId}
 use Rattle.machine.specs.{declared.{slot_address.{Ends.Ends, SlotAddress.SlotAddress}, thread.Sending.Sending}, Machine.{Machine, cap_of}}
 use Rattle.machine.specs.{Machine.has_slot, Step.{Copy.copyable, Deliver.{arrival_of, named}, Find.{find_cap, permitted}, Target.target_of}}
-use Rattle.machine.{specs.Step.Target.vacant, proofs.{Conditions.{both_done, same_ok}, Finding.finds_cap, LedSlots.{led_slot, node_slot}}}
-use Rattle.machine.proofs.SlotRows.{is_vacant, target_leads}
+use Rattle.machine.specs.Step.Target.{vacant}
+use Rattle.steps.proofs.{Conditions.{both_done, same_ok}, Finding.finds_cap, LedSlots.{led_slot, node_slot}, SlotRows.is_vacant}
+use Rattle.steps.proofs.SlotRows.{target_leads}
 
 pub record CanDerive (m : Machine) (ends : Ends) : Type 0 where
   pub there : IsTrue (has_slot m ends.target)

@@ -5,9 +5,10 @@ use Rattle.base.specs.declared.ids.ObjId.{ObjId}
 use Rattle.machine.specs.declared.{object.ObjectKind.ObjectKind as kind, thread.{Lent.Lent, Receiving.Receiving, Sending.Sending, Tcb.Tcb}}
 use Rattle.machine.specs.{Machine.{Machine, object_of}, Objects.kind_of_object, Releasing.{with_called, with_halted}}
 use Rattle.machine.specs.Step.{Bind.context_under, Deliver.{answer_through, delivered, first_at, receiver_in}, Send.lent_by}
-use Rattle.machine.{specs.WellFormed.{IsCaller, IsFree, IsThread, IsWellFormed, kind_of}, proofs.EndpointRow.{IsReceiver, receiver_first}}
-use Rattle.machine.proofs.{FoundObjects.tcb_of_kind, Lending.lends, MessageRows.{answers_through, caller_apart, delivered_free}}
-use Rattle.machine.proofs.MessageRows.{delivered_other, delivered_there, lending_free, lending_receiver, lending_runs}
+use Rattle.machine.specs.WellFormed.{IsCaller, IsFree, IsThread, IsWellFormed, kind_of}
+use Rattle.steps.proofs.{EndpointRow.{IsReceiver, receiver_first}, FoundObjects.tcb_of_kind, Lending.lends, MessageRows.answers_through}
+use Rattle.steps.proofs.MessageRows.{caller_apart, delivered_free, delivered_other, delivered_there, lending_free, lending_receiver}
+use Rattle.steps.proofs.MessageRows.{lending_runs}
 
 module _ (m : Machine) (caller : ObjId) (sending : Sending) (receiver : ObjId) (receiving : Receiving) (formed : IsWellFormed m)
     (is : IsCaller m caller) (first : receiver_in (first_at m sending.endpoint) ≡ Some (receiver, receiving)) where

@@ -4,12 +4,10 @@ ghost use Rattle.machine.specs.{Step.Deliver.{arrival_of, delivered, message_of,
 use base::{Cause, ObjId};
 use cnodeops::{copyable, derive, target, vacant};
 use cspace::{find_cap, permit};
-use machine::{
-    Ends, Message, Receiving, Sending, SlotAddress, arrivals_keep_machines_well_formed,
-    releases_keep_machines_well_formed,
-};
+use machine::{Ends, Message, Receiving, Sending, SlotAddress};
 use objects::State;
 use replies::give;
+use steps::{arrivals_keep_machines_well_formed, releases_keep_machines_well_formed};
 
 /// The slots between which a message's capability travels, if one arrives; else why none does.
 #[tactic(auto, unfolding(machine::specs::Step::Deliver::arrival_of))]

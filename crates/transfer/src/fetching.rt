@@ -3,8 +3,9 @@ ghost use Rattle.machine.specs.{Machine.object_of, Makes.Makes, Step.Fetch.{empt
 ghost use Rattle.machine.specs.WellFormed.{IsWellFormed};
 
 use base::{Cause, ObjId};
-use machine::{Answer, Inbox, Made, Object, Tcb, calls_keep_machines_well_formed};
+use machine::{Answer, Inbox, Made, Object, Tcb};
 use objects::State;
+use steps::calls_keep_machines_well_formed;
 
 /// What an inbox answers.
 fn fetched(inbox: Inbox) -> Result<Answer, Cause>

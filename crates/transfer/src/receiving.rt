@@ -10,12 +10,10 @@ use crate::releases::release;
 use base::{Cause, ObjId, Rights};
 use bitflags::Flags;
 use cspace::{find_endpoint, find_reply, permit};
-use machine::{
-    Answer, Made, Receiving, SlotAddress, calls_keep_machines_well_formed,
-    releases_keep_machines_well_formed,
-};
+use machine::{Answer, Made, Receiving, SlotAddress};
 use objects::State;
 use replies::{await_message, unlink};
+use steps::{calls_keep_machines_well_formed, releases_keep_machines_well_formed};
 
 /// The reply at an address, if one is given.
 fn find_named_reply(

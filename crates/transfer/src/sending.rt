@@ -10,9 +10,10 @@ use crate::releases::answer_through;
 use base::{Cause, ObjId, Rights};
 use bitflags::Flags;
 use cspace::{find_endpoint, permit};
-use machine::{Answer, Badged, Made, RunState, Sending, calls_keep_machines_well_formed};
+use machine::{Answer, Badged, Made, RunState, Sending};
 use objects::State;
 use queues::block;
+use steps::calls_keep_machines_well_formed;
 
 /// What is recorded of a message that is sent by a capability to an endpoint.
 fn sending_by(

@@ -5,7 +5,8 @@ use Rattle.std.{specs.Prelude.{None, Some}, proofs.Common.{[], ◌∙◌, ◌∷
 use Rattle.std.proofs.lemmas.Bool.{false≢true}
 use Rattle.base.specs.declared.ids.SlotRef.{SlotRef}
 use Rattle.machine.specs.{Machine.{Machine, parent_of, same_slot, slot_cmp}, Memory.{Source, begun, has_child}}
-use Rattle.machine.proofs.{Exchange.slot_itself, FiniteLemmas.same_from_tie, LookUps.{slot_apart, slot_total}, RetypeFormed.childless}
+use Rattle.machine.proofs.{Exchange.slot_itself, FiniteLemmas.same_from_tie, LookUps.{slot_apart, slot_total}}
+use Rattle.steps.proofs.RetypeFormed.{childless}
 
 abbrev Pairs : Type 0
 Pairs = List (SlotRef × SlotRef)

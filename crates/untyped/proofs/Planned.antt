@@ -7,9 +7,9 @@ use Rattle.base.specs.declared.refusal.Cause.TheVariants.{TooMany}
 use Rattle.machine.specs.{declared.{cap.Cap.Cap, object.Object.{Object, Object as o}}, Counts.{objects_in, slots_in, threads_in}}
 use Rattle.machine.specs.{Lookup.Level, Machine.{Machine, cap_of, object_of}, Memory.{Source, begun, has_child, new_object}, Objects.end_of}
 use Rattle.machine.specs.{Objects.{slot_count, thread_count}, Step.Retype.{a_few, all_vacant, find_taker, find_untyped, in_node, sized}}
-use Rattle.machine.{specs.{Step.Retype.{window, within_limits}, Tree.IsAlone, WellFormed.IsWellFormed}, proofs.LedSlots.{IsNode, node_at}}
-use Rattle.machine.proofs.{LedSlots.node_slot, RetypeFormed.each_vacant, RetypeRow.{FindsUntyped, is_in_node, taker_found, untyped_found}}
-use Rattle.machine.proofs.SlotRows.{empty_alone}
+use Rattle.machine.specs.{Step.Retype.{window, within_limits}, Tree.IsAlone, WellFormed.IsWellFormed}
+use Rattle.steps.proofs.{LedSlots.{IsNode, node_at, node_slot}, RetypeFormed.each_vacant, RetypeRow.{FindsUntyped, is_in_node, taker_found}}
+use Rattle.steps.proofs.{RetypeRow.untyped_found, SlotRows.empty_alone}
 use Rattle.untyped.specs.{declared.making.Making.Making, Making.CanBeMade, Shown.source_shown}
 
 -- where the making begins in memory that was found: there, but for the watermark, and within an object's range

@@ -10,9 +10,10 @@ use crate::making::{Making, new_object};
 use crate::placing::place;
 use crate::room::{begun, new_size, roomy};
 use base::{Cause, MAX_MADE, ObjId, Refusal};
-use machine::{Answer, Made, MemoryKind, Unmade, retypes_keep_machines_well_formed};
+use machine::{Answer, Made, MemoryKind, Unmade};
 use objects::State;
 use std::alloc::AllocError;
+use steps::retypes_keep_machines_well_formed;
 
 /// What a retype is about to make, whose conditions are met in their order, or why it is refused.
 #[tactic(auto, unfolding(machine::specs::Step::Retype::retype_of))]

@@ -8,11 +8,12 @@ use Rattle.machine.specs.{Boot.bound, Layout.{Layout, bound_context, initial_of}
 use Rattle.policy.{specs.{Closed.IsClosed, Domain.EdgeTest}, proofs.Unbroken.{closed_if, unbroken}}
 use Rattle.table.{specs.Rules.{IsBindingOf, IsBlank, IsLawful, kind_at}, proofs.AtBoot.{boot_kind, boot_label, initial_lawful, rest_lends}}
 use Rattle.table.proofs.{AtBoot.rest_links, Lookups.bound_at}
-use Rattle.verdict.specs.{declared.denial.Denial.Denial, Confined.IsConfined, Rules.{Exceeds, Excess, binding, capability, excess_place}}
+use Rattle.integrity.specs.Confined.{IsConfined}
+use Rattle.verdict.specs.{declared.denial.Denial.Denial, Rules.{Exceeds, Excess, binding, capability, excess_place, holding, pair}}
+use Rattle.verdict.specs.{Rules.{recorded, root}, Sources.{Sources, context_in, holds_in, keeps_in, lends_in, of_machine, of_table}}
+use Rattle.verdict.{specs.Verdict.{Breaks, IsAccepted, IsLeastBroken, IsOutside, excess_of, place_of}, proofs.Outsides.confined_within}
+use Rattle.verdict.proofs.{Outsides.within_confined, RuleOrder.policy_first}
 use Rattle.verdict.specs.declared.denial.Denial.TheVariants as denial
-use Rattle.verdict.specs.{Rules.{holding, pair, recorded, root}, Sources.{Sources, context_in, holds_in, keeps_in, lends_in, of_machine}}
-use Rattle.verdict.specs.{Sources.of_table, Verdict.{Breaks, IsAccepted, IsLeastBroken, IsOutside, excess_of, place_of}}
-use Rattle.verdict.proofs.{Outsides.{confined_within, within_confined}, RuleOrder.policy_first}
 
 -- what a table binds is a thread
 bound_thread : (t : Layout) → IsLawful t → (thread context : ObjId) → bound_context t thread ≡ Some context → kind_at t thread ≡ Some kind.Tcb

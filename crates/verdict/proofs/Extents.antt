@@ -2,8 +2,8 @@
 use Rattle.std.proofs.Common.{ℕ}
 use Rattle.machine.specs.Layout.{Layout}
 use Rattle.policy.specs.Domain.{EdgeTest}
-use Rattle.verdict.specs.{declared.extent.Extent.{Extent, Extent as extent}, Apart.{GoesTo, KeepsTo}, Safe.KeepsBounds}
-use Rattle.verdict.proofs.Aparts.{never_changes, only_takes}
+use Rattle.integrity.{specs.Safe.KeepsBounds, proofs.Aparts.{never_changes, only_takes}}
+use Rattle.verdict.specs.{declared.extent.Extent.{Extent, Extent as extent}, Extents.{GoesTo, KeepsTo}}
 
 pub kept_to :
     (t : Layout) (allowed : EdgeTest) (a l : ℕ) (far : Extent) → KeepsBounds t allowed → GoesTo allowed a l far → KeepsTo t a l far

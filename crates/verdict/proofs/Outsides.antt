@@ -5,8 +5,9 @@ use Rattle.machine.specs.declared.{object.Object.{Object, Object as o}, thread.{
 use Rattle.machine.specs.Authority.{HasAuthority, label_of, links, state_links, HasAuthority.{by_cap, by_link, by_pair, by_root}}
 use Rattle.machine.{specs.{Layout.Layout, Machine.{Machine, object_of}}, proofs.RunsLinks.{runs_bound, runs_by, runs_lent}}
 use Rattle.policy.specs.Domain.{EdgeTest}
-use Rattle.verdict.specs.{Confined.IsConfined, Rules.{Exceeds, Excess, binding, capability, holding, pair, recorded, root}}
-use Rattle.verdict.specs.Sources.{context_in, holds_in, keeps_in, lends_in, of_machine}
+use Rattle.integrity.specs.Confined.{IsConfined}
+use Rattle.verdict.specs.{Rules.{Exceeds, Excess, binding, capability, holding, pair, recorded, root}, Sources.{context_in, holds_in}}
+use Rattle.verdict.specs.Sources.{keeps_in, lends_in, of_machine}
 use mathlib.Core.Bool.{false≢true}
 
 either : (b : Bool) → (b ≡ false → b ≡ true) → b ≡ true

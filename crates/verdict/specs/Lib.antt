@@ -2,16 +2,6 @@ pub mod Sources
 pub mod Rules
 pub mod Verdict
 pub mod System
-pub mod Confined
-pub mod Shrinks
-pub mod Allowed
-pub mod Bounded
-pub mod Budgets
-pub mod Safe
-pub mod Apart
-pub mod OfTable
-pub mod Invariant
-pub mod Counterexamples
 pub mod Slots
 pub mod Outside
-pub mod Removals
+pub mod Extents

@@ -3,7 +3,8 @@ use Rattle.std.specs.Prelude.{◌≡◌, Err, List, Ok, Result}
 use Rattle.base.specs.declared.edge.Edge.{Edge}
 use Rattle.machine.specs.Layout.{Layout}
 use Rattle.policy.specs.Policy.{allows}
-use Rattle.verdict.specs.{declared.denial.Denial.Denial, Safe.IsSafe, Verdict.{IsAccepted, IsLeastBroken}}
+use Rattle.integrity.specs.Safe.{IsSafe}
+use Rattle.verdict.specs.{declared.denial.Denial.Denial, Verdict.{IsAccepted, IsLeastBroken}}
 
 pub record System : Type 0 where
   pub table : Layout

@@ -1,6 +1,7 @@
 ghost use Rattle.std.specs.Prelude.{◌≡◌};
 ghost use Rattle.policy.specs.Policy.{allows};
-ghost use Rattle.verdict.specs.{Safe.IsSafe, System.IsAcceptedSystem, Verdict.IsAccepted};
+ghost use Rattle.integrity.specs.Safe.{IsSafe};
+ghost use Rattle.verdict.specs.{System.IsAcceptedSystem, Verdict.IsAccepted};
 
 use crate::safe::accepted_systems_are_safe;
 use policy::Policy;

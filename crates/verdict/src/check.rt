@@ -1,7 +1,8 @@
 ghost use Rattle.std.specs.Prelude.{◌≡◌, ◌≤◌, IfErr, IfOk};
 ghost use Rattle.base.specs.Refusals.{out_of_memory};
 ghost use Rattle.policy.specs.Policy.{allows};
-ghost use Rattle.verdict.specs.{Safe.{GuardsBudgets, KeepsBounds, KeepsIntegrity, LabelsObjects, StaysConfined}, System.IsVerdict};
+ghost use Rattle.integrity.specs.Safe.{GuardsBudgets, KeepsBounds, KeepsIntegrity, LabelsObjects, StaysConfined};
+ghost use Rattle.verdict.specs.System.{IsVerdict};
 
 use crate::bindings::first_binding;
 use crate::slots::first_at_slots;

@@ -1,8 +1,8 @@
 ghost use Rattle.std.specs.Prelude.{◌≡◌, IfNone, IfSome, Some};
 ghost use Rattle.machine.specs.Machine.{object_of};
 ghost use Rattle.policy.specs.{Places.FindsLeast, Policy.allows};
-ghost use Rattle.verdict.specs.{Confined.IsConfined, Outside.{LiesAt, LiesOutside, outside_rule}, Rules.Excess, Verdict.IsOutside};
-ghost use Rattle.verdict.specs.Verdict.{excess_of, place_of};
+ghost use Rattle.integrity.specs.Confined.{IsConfined};
+ghost use Rattle.verdict.specs.{Outside.{LiesAt, LiesOutside, outside_rule}, Rules.Excess, Verdict.{IsOutside, excess_of, place_of}};
 
 mod links;
 mod slots;

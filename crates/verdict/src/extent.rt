@@ -1,5 +1,5 @@
 ghost use Rattle.policy.specs.Policy.{allows};
-ghost use Rattle.verdict.specs.Apart.{GoesTo, KeepsTo};
+ghost use Rattle.verdict.specs.Extents.{GoesTo, KeepsTo};
 
 use crate::Accepted;
 use base::Label;

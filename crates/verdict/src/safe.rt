@@ -3,9 +3,10 @@ ghost use Rattle.base.specs.declared.edge.Edge.{Edge};
 ghost use Rattle.machine.specs.Layout.{Layout};
 ghost use Rattle.policy.specs.{Full.IsFull, Policy.allows, Take.MayTake};
 ghost use Rattle.table.specs.Rules.{IsLawful};
-ghost use Rattle.verdict.specs.{Apart.{NeverChanges, OnlyTakes}, Safe.IsSafe, Verdict.IsAccepted};
+ghost use Rattle.integrity.specs.{Apart.{NeverChanges, OnlyTakes}, Safe.IsSafe};
+ghost use Rattle.verdict.specs.Verdict.{IsAccepted};
 
-use table::boot_states_are_well_formed;
+use integrity::{bounded_systems_keep_labels_apart, confined_systems_are_safe};
 
 /// The headline as a law: where a capability table and a policy are accepted, then after every list
 /// of kernel calls by any threads in any interleaving every capability lies within the policy; no
@@ -18,7 +19,7 @@ pub fn accepted_systems_are_safe()
         → IsAccepted t (allows edges)
         → IsSafe t (allows edges) }
 {
-    boot_states_are_well_formed();
+    confined_systems_are_safe();
 }
 
 /// A law: where a capability table and a policy are accepted, then in every run from the boot state no
@@ -39,4 +40,5 @@ pub fn accepted_systems_keep_labels_apart()
         → OnlyTakes t a l }
 {
     accepted_systems_are_safe();
+    bounded_systems_keep_labels_apart();
 }

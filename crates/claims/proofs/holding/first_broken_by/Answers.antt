@@ -2,7 +2,7 @@
 use Rattle.std.proofs.{Common.{ℕ, ◌<◌, ◌∙◌, ◌≡◌, ap, arith, false, get_or, inl, inr, length, refl, subst, sym, true}, lemmas.Bool.cases_lt}
 use Rattle.std.proofs.lemmas.{List.get_or_default, Option.{get_or_from_slice_get, slice_get_read}}
 use Rattle.policy.specs.Policy.{allows}
-use Rattle.verdict.specs.Apart.{GoesTo}
+use Rattle.verdict.specs.Extents.{GoesTo}
 use Rattle.claims.{specs.Holding.{Holds, is_within}, proofs.HoldingLaws.{outside_breaks, within_holds}}
 use Rattle.claims.proofs.holding.first_broken_by.Goals as goal
 

@@ -2,7 +2,7 @@
 use Rattle.std.proofs.Common.{subst, sym}
 use Rattle.base.specs.declared.refusal.Refusal.{Refusal}
 use Rattle.machine.specs.{declared.call.{Made.TheVariants.{Blocked, Done}, Outcome.TheVariants.Refused}, Step.Step}
-use Rattle.machine.proofs.Steps.{made_steps}
+use Rattle.steps.proofs.Steps.{made_steps}
 use Rattle.kernel.proofs.Makings.{refused_by_row}
 use Rattle.kernel.proofs.calls.settle_call.Goals as goal
 

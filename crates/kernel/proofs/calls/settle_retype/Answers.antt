@@ -1,7 +1,8 @@
 -- A retype that was made is a step, and so is one that was refused.
 use Rattle.std.proofs.Common.{subst, sym}
 use Rattle.base.specs.declared.refusal.Refusal.{Refusal}
-use Rattle.machine.{specs.{declared.call.Outcome.{Outcome, TheVariants.Refused}, Step.Step}, proofs.Steps.made_steps}
+use Rattle.machine.specs.{declared.call.Outcome.{Outcome, TheVariants.Refused}, Step.Step}
+use Rattle.steps.proofs.Steps.{made_steps}
 use Rattle.kernel.proofs.Makings.{unmade_is}
 use Rattle.kernel.proofs.calls.settle_retype.Goals as goal
 

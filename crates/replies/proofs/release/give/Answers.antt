@@ -1,5 +1,6 @@
 use Rattle.std.proofs.Common.{subst, sym}
-use Rattle.machine.{specs.{Machine.Machine, WellFormed.IsWellFormed}, proofs.MessageFormed.given_formed}
+use Rattle.machine.specs.{Machine.Machine, WellFormed.IsWellFormed}
+use Rattle.steps.proofs.MessageFormed.{given_formed}
 use Rattle.replies.proofs.release.give.Goals as goal
 
 pub returns-clause-well_formed : goal.returns-clause-well_formed

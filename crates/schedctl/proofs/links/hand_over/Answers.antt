@@ -1,5 +1,6 @@
 use Rattle.std.proofs.Common.{subst, sym}
-use Rattle.machine.{specs.{Machine.Machine, WellFormed.IsWellFormed}, proofs.ContextsFormed.with_handed_formed}
+use Rattle.machine.specs.{Machine.Machine, WellFormed.IsWellFormed}
+use Rattle.steps.proofs.ContextsFormed.{with_handed_formed}
 use Rattle.schedctl.proofs.links.hand_over.Goals as goal
 
 pub returns-clause-well_formed : goal.returns-clause-well_formed

@@ -1,5 +1,6 @@
 use Rattle.std.proofs.Common.{subst, sym}
-use Rattle.machine.{specs.{Machine.Machine, WellFormed.IsWellFormed}, proofs.ContextsFormed.with_unbound_formed}
+use Rattle.machine.specs.{Machine.Machine, WellFormed.IsWellFormed}
+use Rattle.steps.proofs.ContextsFormed.{with_unbound_formed}
 use Rattle.schedctl.proofs.links.part.Goals as goal
 
 pub returns-clause-well_formed : goal.returns-clause-well_formed

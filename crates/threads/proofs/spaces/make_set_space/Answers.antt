@@ -1,6 +1,7 @@
 -- The thread was found before the removal; where the slot with its capability is still filled, its root slot is there.
 use Rattle.std.proofs.Common.{◌∙◌, IsTrue, ap, subst, sym}
-use Rattle.machine.{specs.{Lookup.root_of, Machine.{Machine, cap_of, has_slot}}, proofs.FoundObjects.finds_thread}
+use Rattle.machine.specs.{Lookup.root_of, Machine.{Machine, cap_of, has_slot}}
+use Rattle.steps.proofs.FoundObjects.{finds_thread}
 use Rattle.threads.proofs.spaces.make_set_space.Goals as goal
 
 pub fill_root-requires-clause-there : goal.fill_root-requires-clause-there

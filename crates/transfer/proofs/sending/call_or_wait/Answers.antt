@@ -1,6 +1,6 @@
 -- Once its message is delivered the caller and the receiver are two threads, and the reply is free; the caller waits nowhere.
 use Rattle.std.proofs.Common.{◌∙◌, sym}
-use Rattle.machine.proofs.Threads.{ready_caller_waits_nowhere}
+use Rattle.steps.proofs.Threads.{ready_caller_waits_nowhere}
 use Rattle.transfer.proofs.Delivered.{apart, caller_there, receiver_there, reply_free}
 use Rattle.transfer.proofs.sending.call_or_wait.Goals as goal
 

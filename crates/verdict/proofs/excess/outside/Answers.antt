@@ -2,8 +2,9 @@
 use Rattle.std.proofs.Common.{◌≡◌, IfNone, IfSome, None, Option, Some}
 use Rattle.machine.specs.{Layout.Layout, Machine.Machine}
 use Rattle.policy.specs.{Domain.EdgeTest, Places.FindsLeast, Policy.allows}
-use Rattle.verdict.specs.{declared.denial.Denial.Denial, Confined.IsConfined, Outside.LiesOutside, Rules.Excess, Verdict.IsOutside}
-use Rattle.verdict.{specs.Verdict.{excess_of, place_of}, proofs.{OutsideObjects.{first_place, nothing_outside}, Outsides.confined_within}}
+use Rattle.integrity.specs.Confined.{IsConfined}
+use Rattle.verdict.specs.{declared.denial.Denial.Denial, Outside.LiesOutside, Rules.Excess, Verdict.{IsOutside, excess_of, place_of}}
+use Rattle.verdict.proofs.{OutsideObjects.{first_place, nothing_outside}, Outsides.confined_within}
 use Rattle.verdict.proofs.excess.outside.Goals as goal
 
 module _ (t : Layout) (allowed : EdgeTest) (m : Machine) where

@@ -1,7 +1,7 @@
 -- By the bounds that an accepted system keeps.
 use Rattle.std.proofs.Common.{subst}
 use Rattle.policy.specs.Policy.{allows}
-use Rattle.verdict.{specs.Apart.GoesTo, proofs.Extents.kept_to}
+use Rattle.verdict.{specs.Extents.GoesTo, proofs.Extents.kept_to}
 use Rattle.verdict.proofs.accepted.Accepted.extent.Goals as goal
 
 pub returns-clause-extent : goal.returns-clause-extent

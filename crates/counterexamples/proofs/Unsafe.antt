@@ -1,0 +1,51 @@
+-- A system that isn't safe since labels of one domain may do different things: the thread's label has the CNode's label as its
+-- space, and no edge of that label.
+use Rattle.std.proofs.{Common.{[], ℕ, ◌&&◌, ◌==◌, ◌≡◌, false, lit≤, refl, sym}, lemmas.Bool.false≢true}
+use Rattle.base.specs.{declared.kind.Kind.{Kind, TheVariants.{Derive, Holds, Notify, Reset, Runs, Space}}, Kinds.is_structural}
+use Rattle.machine.specs.{Boot.IsBoot, Machine.Machine}
+use Rattle.policy.specs.{Domain.EdgeTest, Needed.subjects_agree}
+use Rattle.table.proofs.BootState.{boot_state, boot_state_is}
+use Rattle.integrity.specs.{Confined.IsConfined, Safe.{IsReached, IsSafe}}
+use Rattle.counterexamples.{specs.Counterexamples.UnsafeWithout, proofs.{FewLabels.among, SmallSystem.signalling, Unallowed.after_signal}}
+use Rattle.counterexamples.proofs.{Unallowed.{signal, signal_unallowed, signals}, UnsafeBy.{Needs, needs_by_tests, tests, unsafe_without}}
+
+abbrev joins : EdgeTest
+joins a Space b = a == 0 && b == 1
+joins a Runs b = a == 0 && b == 0
+joins a Reset b = a == 1 && b == 2
+joins a Notify b = a == 1 && b == 2
+joins a Derive b = a == 1 && b == 1
+joins a k b = false
+
+abbrev pub parted : EdgeTest
+parted = among 3 joins
+
+-- what label 0 has is structural
+structural : (k : Kind) (to : ℕ) → is_structural k ≡ false → parted 0 k to ≡ false
+unfolding among
+structural Space to e = absurd (false≢true (sym e))
+structural Derive to e = absurd (false≢true (sym e))
+structural Runs to e = absurd (false≢true (sym e))
+structural Holds to e = absurd (false≢true (sym e))
+structural _ to e = refl
+
+runs_on_its_own : parted 0 Runs 2 ≡ false
+unfolding among
+runs_on_its_own = refl
+
+not_safe : ¬ IsSafe signalling parted
+not_safe safe =
+    let m = boot_state signalling in
+    let boot = boot_state_is signalling in
+    let reached : IsReached signalling m = record { boot = m; booted = boot; events = []; outcomes = []; run = refl } in
+    signal_unallowed m boot parted structural runs_on_its_own (safe.integrity m (after_signal m boot) signal _ reached (signals m boot))
+
+needs : Needs subjects_agree signalling parted
+unfolding signalling tests
+needs = needs_by_tests subjects_agree signalling 3 joins (lit≤ tt) refl refl not_safe
+
+pub confined : (m : Machine) → IsBoot signalling m → IsConfined signalling parted m
+confined = needs.confined
+
+pub unsafe_without_agreeing_subjects : UnsafeWithout subjects_agree
+unsafe_without_agreeing_subjects = unsafe_without subjects_agree signalling parted needs

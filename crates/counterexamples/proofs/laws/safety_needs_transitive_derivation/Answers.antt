@@ -1,0 +1,6 @@
+-- The system whose policy lacks one derive edge.
+use Rattle.counterexamples.proofs.GapUnsafe.{unsafe_without_derivation}
+use Rattle.counterexamples.proofs.laws.safety_needs_transitive_derivation.Goals as goal
+
+pub returns : goal.returns
+returns c = unsafe_without_derivation

@@ -1,0 +1,53 @@
+-- Systems on which the properties of the headline fail, which show that it asks for something (confine's own).
+use Rattle.std.specs.Prelude.{ℕ, ◌≡◌, ◌≢◌, List, Ok, Some, false}
+use Rattle.base.specs.declared.{edge.Edge.Edge, ids.ObjId.ObjId, kind.Kind.Kind as authority}
+use Rattle.machine.specs.declared.call.{Answer.TheVariants.Nothing, Call.TheVariants.Signal, Event.Event, Outcome.TheVariants.Done}
+use Rattle.machine.specs.{declared.{cap.Badged.Badged, object.Object.Object}, Authority.label_of, Boot.IsBoot, Layout.Layout}
+use Rattle.machine.specs.{Machine.{Machine, with_object}, Step.{Step, Find.find_notification}}
+use Rattle.policy.specs.{Domain.EdgeTest, Needed.{Obeys, Rule}, Policy.{IsPolicy, allows}}
+use Rattle.table.specs.Rules.{IsLawful}
+use Rattle.integrity.specs.{Allowed.IsAllowedStep, Confined.IsConfined, Safe.IsSafe}
+
+-- from the boot state of a lawful table a thread signals a notification, and the signal is done; a policy lacks the edge of
+-- kind notify from the thread's label to the notification's, and doesn't allow the step
+pub record UnallowedSignal : Type 0 where
+  pub t : Layout
+  pub allowed : EdgeTest
+  pub m : Machine
+  pub next : Machine
+  pub event : Event
+  pub address : ℕ
+  pub notification : ObjId
+  pub end : Badged
+  pub caller : ℕ
+  pub label : ℕ
+  pub lawful : IsLawful t
+  pub booted : IsBoot t m
+  pub signals : event.call ≡ Signal address
+  pub found : find_notification m event.thread address ≡ Ok (notification, end)
+  pub done : Step m event (Done Nothing) next
+  pub calls : label_of t m event.thread ≡ Some caller
+  pub labelled : label_of t m notification ≡ Some label
+  pub missing : allowed caller authority.Notify label ≡ false
+  pub not_allowed : ¬ IsAllowedStep t allowed m event next
+
+-- a lawful table and a policy that obeys every rule of closed policies but one; the table's boot state is confined, and the
+-- system isn't safe
+pub record UnsafeWithout (rule : Rule) : Type 0 where
+  pub t : Layout
+  pub edges : List Edge
+  pub lawful : IsLawful t
+  pub policy : IsPolicy edges
+  pub others : (other : Rule) → other ≢ rule → Obeys (allows edges) other
+  pub confined : (boot : Machine) → IsBoot t boot → IsConfined t (allows edges) boot
+  pub unsafe : ¬ IsSafe t (allows edges)
+
+-- in some system a state lies in a policy where an object has the lesser content, and doesn't where it has the greater, and nothing
+-- else differs
+pub record TakesOut (lesser greater : Object) : Type 0 where
+  pub t : Layout
+  pub allowed : EdgeTest
+  pub m : Machine
+  pub id : ObjId
+  pub within : IsConfined t allowed (with_object m id lesser)
+  pub out : ¬ (IsConfined t allowed (with_object m id greater))

@@ -1,0 +1,12 @@
+//! Systems that show what safety needs: each rule of closed policies, each reason of authority, and the authority to signal.
+#![tactic(auto)]
+
+mod laws;
+
+pub use laws::{
+    a_signal_needs_authority, each_reason_of_authority_counts, safety_needs_agreeing_subjects,
+    safety_needs_contexts_to_run, safety_needs_control_to_give_all,
+    safety_needs_derivation_over_grants, safety_needs_grants_to_share,
+    safety_needs_lenders_to_share, safety_needs_replies_to_hold,
+    safety_needs_transitive_derivation,
+};

@@ -1,0 +1,85 @@
+-- A message's capability arrives within the authority of who sends it and of who receives it: over an endpoint by which the one
+-- may grant to the other, either may make it arrive.
+use Rattle.std.proofs.{Common.{ℕ, ◌∙◌, ◌≡◌, ◌⊎◌, Err, Ok, Option, Result, Some, ap, inl, inr, refl, sym, true}, lemmas.Option.same_Some}
+use Rattle.base.specs.declared.{ids.ObjId.ObjId, kind.Kind.{Kind, Kind as authority}, refusal.Cause.Cause}
+use Rattle.machine.specs.declared.{call.Event.Event, slot_address.{Ends.Ends, SlotAddress.SlotAddress}, thread.Sending.Sending}
+use Rattle.machine.specs.{Authority.label_of, Capabilities.gives, Layout.Layout, Machine.Machine, Step.Deliver.{arrival_of, with_arrival}}
+use Rattle.machine.specs.{Tree.{copied, parent_of_copy}, WellFormed.IsWellFormed}
+use Rattle.steps.proofs.Arrival.{Arrives, arrival_fills, arrival_formed, arrives}
+use Rattle.policy.specs.{Closed.{IsClosed, MayBeGranted, granted}, Domain.EdgeTest, Full.{IsFull, IsFull.{grants, modifies}}}
+use Rattle.integrity.{specs.Invariant.{IsHeld, IsSound}, proofs.FillKeeps.{MayFill, copy_derives, fill_fits, given_of_use, in_node}}
+use Rattle.integrity.proofs.{Held.{bare_of, held_of}, Keeps.{Keeps, unchanged}, Reach.{IsControlled, IsInReach, IsWithin, found_in_reach}}
+use Rattle.integrity.proofs.{Reach.{found_within, led_controlled}, SlotKeeps.slots_keep}
+
+module _
+    (t : Layout) (allowed : EdgeTest) (began : Machine) (event : Event) (a : ℕ) (m : Machine) (sound : IsSound t allowed m)
+    (closed : IsClosed allowed) (sender : ObjId) (sending : Sending) (receiver : ObjId) (slot : Option SlotAddress)
+    (s b e : ℕ) (sends : label_of t m sender ≡ Some s) (gets : label_of t m receiver ≡ Some b)
+    (may_grant : sending.grant ≡ true → allowed s authority.Grant e ≡ true) (receives : allowed b authority.Receive e ≡ true)
+    (acts : (a ≡ s) ⊎ (a ≡ b)) where
+  held : IsHeld t allowed m
+  held = held_of t allowed m sound
+
+  module _ (ends : Ends) (done : Arrives m sender sending receiver slot ends) where
+    may : MayBeGranted allowed s b
+    may = record { endpoint = e; grants = may_grant done.granted; receives = receives }
+
+    -- the capability is held in the sender's domain, and comes into a CNode that the receiver controls
+    source : IsWithin t allowed m s ends.source.holder
+    source =
+        found_within t allowed m held closed.subjects_agree s sender done.from ends.source done.finds.left sends done.finds.ends
+
+    reach : IsInReach t allowed m held closed.subjects_agree s ends.held
+    reach =
+        found_in_reach t allowed m held closed.subjects_agree s sender done.from ends.source done.finds.left ends.held sends
+        done.finds.ends done.finds.holds
+
+    target : IsControlled t allowed m b ends.target.holder
+    target = led_controlled t allowed m held closed.subjects_agree b receiver done.to ends.target gets done.leads_to
+
+    -- what the capability gives the sender has, so the receiver has it, and so has the CNode
+    edges :
+        (k : Kind) (to : ℕ) → gives ends.held.detail k ≡ true → label_of t m ends.held.object ≡ Some to
+        → allowed target.label k to ≡ true
+    edges k to given labelled =
+        let uses = given_of_use ends.held.detail k given in
+        let to_is : to ≡ reach.label = same_Some to reach.label (sym labelled ∙ reach.labelled) in
+        sym (closed.subjects_agree b target.label k (record { domain = inr target.controls; of_use = uses }) to)
+        ∙ closed.grant_shares s b k to
+        (record { granted = may; of_use = uses; has = ap (allowed s k) to_is ∙ reach.edge k given uses })
+
+    may_change : (a ≡ s) ⊎ (a ≡ b) → IsFull allowed a target.label
+    may_change (inl same) =
+        grants e b (ap (λ l. allowed l authority.Grant e) same ∙ may_grant done.granted) receives target.controls
+    may_change (inr same) =
+        modifies authority.Control refl (ap (λ l. allowed l authority.Control target.label) same ∙ target.controls)
+
+    may_fill : MayFill t allowed a m ends.target (copied ends.held ends.held.detail) (parent_of_copy m ends.source ends.held)
+    may_fill = record {
+      label = target.label;
+      labelled = target.labelled;
+      has = may_change acts;
+      edges =
+          in_node t allowed m ends.target (copied ends.held ends.held.detail) target.label target.is_node target.labelled edges;
+      derives =
+          copy_derives t allowed m held closed.derive_by_grant ends.source ends.held source.label target.label source.labelled
+          (closed.derive_by_grant source.label target.label (granted s b may source.domain (inr target.controls)));
+    }
+
+    arrived_keeps : IsWellFormed (with_arrival m (Ok ends)) → Keeps t allowed began event a m (with_arrival m (Ok ends))
+    arrived_keeps formed =
+        slots_keep t allowed began event a m (with_arrival m (Ok ends)) held
+        (fill_fits t allowed a m (with_arrival m (Ok ends)) held ends.target (copied ends.held ends.held.detail)
+        (parent_of_copy m ends.source ends.held) may_fill
+        (arrival_fills m sender sending receiver slot ends sound.well_formed done) formed.slots.object
+        (bare_of (with_arrival m (Ok ends)) formed))
+
+  pub arrival_keeps : Keeps t allowed began event a m (with_arrival m (arrival_of m sender sending receiver slot))
+  arrival_keeps =
+      by_result (arrival_of m sender sending receiver slot) refl (arrival_formed m sender sending receiver slot sound.well_formed)
+    where
+      by_result :
+          (r : Result Ends Cause) → arrival_of m sender sending receiver slot ≡ r → IsWellFormed (with_arrival m r)
+          → Keeps t allowed began event a m (with_arrival m r)
+      by_result (Ok ends) is formed = arrived_keeps ends (arrives m sender sending receiver slot ends is) formed
+      by_result (Err cause) is formed = unchanged t allowed began event a m held

@@ -1,0 +1,98 @@
+-- The boot state of a table belongs to it: in particular the label of untyped memory is found by any address in it.
+use Rattle.std.proofs.Common.{ℕ, ◌&&◌, ◌<◌, ◌∙◌, ◌≡◌, ◌≤◌, Bool, Some, ap, arith, false, nat_le, nat_lt, option_map, refl, slice_get, subst}
+use Rattle.std.proofs.{Common.{sym, true}, lemmas.{Bool.{and_from, and_parts, le-leb, leb-true, Decides.Decides-ltb}, Option.none-some}}
+use Rattle.std.proofs.lemmas.Option.{same_Some}
+use Rattle.base.specs.declared.ids.ObjId.{ObjId}
+use Rattle.machine.specs.declared.{layout.Initial.Initial, object.{Object.{Object, Object as o}, Untyped.Untyped}, thread.Tcb.Tcb}
+use Rattle.machine.specs.{Authority.{has_memory_at, label_at, lent_of}, Boot.{IsBoot, bound}, Layout.{Layout, bound_context, initial_of}}
+use Rattle.machine.{specs.{Machine.Machine, Objects.{address_of, end_of, kind_of_object}}, proofs.Bound.{address-bound, kind-bound}}
+use Rattle.table.{specs.{Placement.{IsApart, Lies}, Rules.{IsBlank, IsLawful}}, proofs.AtBoot.{boot_label, declared_at, initial_lawful}}
+use Rattle.table.proofs.{AtBoot.{label_declared, rest_lends}, Lookups.{found_first, pair_at}}
+use Rattle.integrity.{specs.OfTable.IsOfTable, proofs.Shrinking.same_tcb}
+use mathlib.Core.Bool.{false≢true}
+
+-- untyped memory that has an address
+memory_at :
+    (address : ℕ) (initial : Initial) (memory : Untyped) → initial.object ≡ o.Untyped memory → memory.base ≤ address
+    → address < end_of (o.Untyped memory) → has_memory_at address initial ≡ true
+memory_at address initial memory is above below =
+    let first : nat_le memory.base address ≡ true = le-leb memory.base address above in
+    let second : nat_lt address (end_of (o.Untyped memory)) ≡ true = (Decides-ltb address (end_of (o.Untyped memory))).1 below in
+    rw is (and_from _ _ first second)
+
+lies_by :
+    (address : ℕ) (initial : Initial) (object : Object) → initial.object ≡ object → has_memory_at address initial ≡ true
+    → Lies initial.object address
+lies_by address initial (o.Untyped memory) is e =
+    let seen : has_memory_at address initial ≡ (nat_le memory.base address && nat_lt address (end_of (o.Untyped memory))) =
+    rw is refl in
+    let parts = and_parts (nat_le memory.base address) (nat_lt address (end_of (o.Untyped memory))) (sym seen ∙ e) in
+    subst (λ (x : Object). Lies x address) (sym is)
+    (leb-true memory.base address parts.0, (Decides-ltb address (end_of (o.Untyped memory))).0 parts.1)
+lies_by address initial _ is e =
+    let seen : has_memory_at address initial ≡ false = rw is refl in absurd (false≢true (sym seen ∙ e))
+
+-- the label of untyped memory is that of the initial untyped whose range has the address, and there is no other
+pub boot_ranged :
+    (t : Layout) → IsLawful t → (id : ObjId) (initial : Initial) (memory : Untyped) (address : ℕ)
+    → initial_of t id ≡ Some initial → initial.object ≡ o.Untyped memory → memory.base ≤ address
+    → address < end_of (o.Untyped memory)
+    → label_at t address ≡ Some initial.label
+unfolding label_at initial_of
+boot_ranged t lawful id initial memory address declares is above below =
+    ap (option_map (λ (i : Initial). i.label))
+    (found_first (has_memory_at address) t.objects id.0 initial declares (memory_at address initial memory is above below) (λ i other lt at. no_other i other lt at (has_memory_at address other) refl))
+  where
+    lies : Lies initial.object address
+    lies = subst (λ (x : Object). Lies x address) (sym is) (above, below)
+
+    no_other :
+        (i : ℕ) (other : Initial) → i < id.0 → slice_get t.objects i ≡ Some other → (has : Bool)
+        → has_memory_at address other ≡ has → has_memory_at address other ≡ false
+    no_other i other lt at false e = e
+    no_other i other lt at true e =
+        absurd
+        (pair_at (λ (one two : Initial). IsApart one.object two.object) t.objects i id.0 other initial lawful.draft.objects.apart lt at declares address (lies_by address other other.object refl e) lies)
+
+bound_memory :
+    (t : Layout) (id : ObjId) (object : Object) (memory : Untyped) → o.Untyped memory ≡ bound t id object
+    → object ≡ o.Untyped memory
+bound_memory t id (o.Untyped _) memory e = sym e
+bound_memory t id _ memory e = cc
+
+-- a thread lends nothing at boot
+bound_lends :
+    (t : Layout) (id : ObjId) (object : Object) (thread : Tcb) (context : ObjId) → IsBlank object
+    → o.Tcb thread ≡ bound t id object → lent_of thread.state ≡ Some context → ⊥
+bound_lends t id (o.Tcb tcb) thread context blank e lends =
+    let same : thread.state ≡ tcb.state = ap (λ (x : Tcb). x.state) (same_tcb thread (record tcb { context = bound_context t id }) e) in
+    none-some context (sym (ap lent_of same ∙ rest_lends tcb.state blank.0) ∙ lends)
+bound_lends t id _ thread context blank e lends = cc
+
+pub boot_of_table : (t : Layout) (m : Machine) → IsLawful t → IsBoot t m → IsOfTable t m
+boot_of_table t m lawful boot =
+    record {
+      labelled = λ id object at. let declared = declared_at t m boot id object at in (declared.initial.label, boot_label t m boot id ∙ label_declared t id declared.initial declared.declares);
+      initial = λ id object initial at is.
+          let declared = declared_at t m boot id object at in
+          let same : declared.initial ≡ initial = same_Some declared.initial initial (sym declared.declares ∙ is) in (
+            ap kind_of_object declared.object_is ∙ kind-bound t id declared.initial.object
+                ∙ ap (λ (i : Initial). kind_of_object i.object) same,
+            ap address_of declared.object_is ∙ address-bound t id declared.initial.object
+                ∙ ap (λ (i : Initial). address_of i.object) same,
+          );
+      ranged = λ id memory label address at is above below.
+          let declared = declared_at t m boot id (o.Untyped memory) at in
+          let same : declared.initial.label ≡ label =
+          same_Some declared.initial.label label
+          (sym (boot_label t m boot id ∙ label_declared t id declared.initial declared.declares) ∙ is) in
+          boot_ranged t lawful id declared.initial memory address declared.declares
+          (bound_memory t id declared.initial.object memory declared.object_is) above below
+          ∙ ap Some same;
+      lent = λ id context thread at lends.
+          let declared = declared_at t m boot id (o.Tcb thread) at in
+          absurd
+          (bound_lends t id declared.initial.object thread context (initial_lawful t lawful id declared.initial declared.declares).blank
+          declared.object_is lends);
+      counted = let e = boot.next in omega (arith, e);
+    }

@@ -1,0 +1,145 @@
+-- Suspend and Resume within a caller's authority: its label controls the thread, and what the thread waits at, and the reply that
+-- holds it, only lose it.
+use Rattle.std.proofs.Common.{ℕ, ◌∙◌, ◌≡◌, ◌⊎◌, Some, ap, inl, inr, refl, subst, sym, true}
+use Rattle.base.specs.declared.{ids.ObjId.ObjId, kind.Kind.Kind as authority}
+use Rattle.machine.specs.declared.{call.Event.Event, cap.Detail.Detail as d, object.{Object.Object as o, Reply.Reply}}
+use Rattle.machine.specs.{declared.thread.{RunState.RunState, Tcb.Tcb}, Authority.{holds_thread, label_of, state_links}, Finalising.aborted}
+use Rattle.machine.specs.{Layout.Layout, Machine.{Machine, object_of, same_id}, Releasing.{ready, suspended, with_aborted, with_ready}}
+use Rattle.machine.specs.{Releasing.with_released, Step.Suspend.with_resumed, WellFormed.{IsCallingThrough, IsIdle, IsReceivingWith}}
+use Rattle.machine.{specs.WellFormed.{IsThread, WaitsAt}, proofs.{Ids.itself, Leaving.Names}}
+use Rattle.machine.specs.declared.object.ReplyState.TheVariants as reply
+use Rattle.machine.specs.declared.thread.RunState.TheVariants as state
+use Rattle.steps.proofs.{Finding.{FindsObject, found_kind}, FoundObjects.tcb_of_kind, ThreadRow.{ResumeDone, SuspendDone}}
+use Rattle.policy.specs.{Closed.IsClosed, Cut.{IsNear, IsNear.{against, along, stays}}, Domain.EdgeTest, Full.{IsFull, IsFull.modifies}}
+use Rattle.policy.specs.Take.{MayTake, MayTake.removes}
+use Rattle.integrity.{specs.Invariant.IsSound, proofs.{Held.held_of, Keeps.{Keeps, unchanged}, MessageParts.{IsReached, holds_edge}}}
+use Rattle.integrity.proofs.{MessageParts.{reached, thread_edge}, MessageTouches.{MayLessen, released_keeps}}
+
+-- a thread that goes on is as it was, or can run, or is aborted
+data Resumes (m : Machine) (thread : ObjId) (next : Machine) : Type 0 where
+  goes_on : next ≡ m → Resumes m thread next
+  can_run : next ≡ with_ready m thread → Resumes m thread next
+  is_aborted : next ≡ with_aborted m thread → Resumes m thread next
+
+resumes : (m : Machine) (thread : ObjId) (tcb : Tcb) → IsThread m thread tcb → Resumes m thread (with_resumed m thread)
+unfolding with_resumed
+resumes m thread tcb there = by_state tcb.state refl where
+  by_state : (run : RunState) → tcb.state ≡ run → Resumes m thread (with_resumed m thread)
+  by_state state.Ready is = goes_on (rw there (rw is refl))
+  by_state state.Inactive is = can_run (rw there (rw is refl))
+  by_state (state.Sending sending) is = is_aborted (rw there (rw is refl))
+  by_state (state.Receiving receiving) is = is_aborted (rw there (rw is refl))
+  by_state (state.Waiting notification) is = is_aborted (rw there (rw is refl))
+  by_state (state.Called calling) is = is_aborted (rw there (rw is refl))
+
+module _
+    (t : Layout) (allowed : EdgeTest) (event : Event) (a : ℕ) (m : Machine) (sound : IsSound t allowed m)
+    (closed : IsClosed allowed) (caller : ObjId) (mine : label_of t m caller ≡ Some a) (next : Machine) (address : ℕ) where
+  module _ (thread : ObjId) (finds : FindsObject m caller address thread d.Tcb) where
+    pub to_thread : IsReached t allowed m event a m sound thread d.Tcb
+    to_thread = reached t allowed m event a m sound closed.subjects_agree caller address thread d.Tcb mine finds
+
+    pub may_control : allowed a authority.Control to_thread.label ≡ true
+    may_control = to_thread.edge authority.Control refl refl
+
+    -- what is linked with the thread may lose it
+    near_thread : (to : ℕ) → IsNear allowed to_thread.label to → MayTake allowed a to
+    near_thread to near = removes (record {
+      base = to_thread.label;
+      based = record { controlled = to_thread.label; control = may_control; derive = inl refl };
+      reached = to_thread.label;
+      edge = inl refl;
+      near = to;
+      one = near;
+      two = stays refl;
+    })
+
+    module _ (tcb : Tcb) (there : IsThread m thread tcb) where
+      -- the reply that holds it
+      holder_loses :
+          (id : ObjId) (to : ℕ) (answers : Reply) → object_of m id ≡ Some (o.Reply answers)
+          → holds_thread answers.state thread ≡ true → label_of t m id ≡ Some to → MayLessen allowed a m id to
+      holder_loses id to answers at holds target =
+          let queue = sound.well_formed.parts.queue id (o.Reply answers) at in
+          inr (
+            near_thread to
+                (against authority.Holds refl
+                (holds_edge t allowed m event a m sound id thread answers to to_thread.label at holds target to_thread.labelled)),
+            queue.0,
+            queue.1,
+          )
+
+      names_loses : (id : ObjId) (to : ℕ) → Names tcb.state id → label_of t m id ≡ Some to → MayLessen allowed a m id to
+      names_loses id to names target = by_run tcb.state refl names where
+        by_run : (run : RunState) → tcb.state ≡ run → Names run id → MayLessen allowed a m id to
+        by_run (state.Receiving receiving) is named =
+            let w =
+            sound.well_formed.links.receiver_reply thread id tcb there
+            (subst (λ run. IsReceivingWith run id) (sym is) named) in
+            holder_loses id to (record { address = w.0; state = reply.Waiting thread }) w.1 (itself thread) target
+        by_run (state.Called calling) is named =
+            let w =
+            sound.well_formed.links.called_reply thread id tcb there
+            (subst (λ run. IsCallingThrough run id) (sym is) named) in
+            holder_loses id to (record { address = w.0; state = reply.Called thread }) w.1 (itself thread) target
+        by_run _ is named = absurd named
+
+      -- the object at which it waits
+      waits_loses :
+          (id : ObjId) (to : ℕ) → WaitsAt tcb.state id → label_of t m id ≡ Some to → IsFull allowed a to ⊎ MayTake allowed a to
+      waits_loses id to waits target = by_run tcb.state refl waits where
+        by_run : (run : RunState) → tcb.state ≡ run → WaitsAt run id → IsFull allowed a to ⊎ MayTake allowed a to
+        by_run (state.Sending sending) is at =
+            inr
+            (near_thread to
+            (along authority.Send refl
+            (thread_edge t allowed m event a m sound thread id tcb authority.Send to_thread.label to there
+            (ap (λ run. state_links run authority.Send id) is ∙ ap (λ (i : ObjId). same_id i id) at ∙ itself id)
+            to_thread.labelled target)))
+        by_run (state.Receiving receiving) is at =
+            inr
+            (near_thread to
+            (along authority.Receive refl
+            (thread_edge t allowed m event a m sound thread id tcb authority.Receive to_thread.label to there
+            (ap (λ run. state_links run authority.Receive id) is ∙ ap (λ (i : ObjId). same_id i id) at ∙ itself id)
+            to_thread.labelled target)))
+        by_run (state.Waiting notification) is at =
+            inr
+            (near_thread to
+            (along authority.Await refl
+            (thread_edge t allowed m event a m sound thread id tcb authority.Await to_thread.label to there
+            (ap (λ run. state_links run authority.Await id) is ∙ ap (λ (i : ObjId). same_id i id) at ∙ itself id)
+            to_thread.labelled target)))
+        by_run _ is at = absurd at
+
+      release_keeps :
+          (change : Tcb → Tcb) → (change tcb).address ≡ tcb.address → (change tcb).context ≡ tcb.context
+          → IsIdle (change tcb).state → Keeps t allowed m event a m (with_released m thread change)
+      release_keeps change address context idle =
+          released_keeps t allowed m event a m (held_of t allowed m sound) thread tcb change there address context idle
+          to_thread.label to_thread.labelled (modifies authority.Control refl may_control) names_loses waits_loses
+
+  pub suspend_keeps : SuspendDone m caller address next → Keeps t allowed m event a m next
+  suspend_keeps done =
+      let tcb = tcb_of_kind (object_of m done.thread) (found_kind sound.well_formed done.finds) in
+      subst (λ (n : Machine). Keeps t allowed m event a m n) (sym done.changes)
+      (release_keeps done.thread done.finds tcb.0 tcb.1 suspended refl refl tt)
+
+  pub resume_keeps : ResumeDone m caller address next → Keeps t allowed m event a m next
+  resume_keeps done =
+      subst (λ (n : Machine). Keeps t allowed m event a m n) (sym done.changes)
+      (by_resumed (with_resumed m done.thread) (resumes m done.thread tcb.0 tcb.1))
+    where
+      tcb : (tcb : Tcb) × IsThread m done.thread tcb
+      tcb = tcb_of_kind (object_of m done.thread) (found_kind sound.well_formed done.finds)
+
+      by_resumed : (after : Machine) → Resumes m done.thread after → Keeps t allowed m event a m after
+      by_resumed after (goes_on same) =
+          subst (λ (n : Machine). Keeps t allowed m event a m n) (sym same)
+          (unchanged t allowed m event a m (held_of t allowed m sound))
+      by_resumed after (can_run same) =
+          subst (λ (n : Machine). Keeps t allowed m event a m n) (sym same)
+          (release_keeps done.thread done.finds tcb.0 tcb.1 ready refl refl tt)
+      by_resumed after (is_aborted same) =
+          subst (λ (n : Machine). Keeps t allowed m event a m n) (sym same)
+          (release_keeps done.thread done.finds tcb.0 tcb.1 aborted refl refl tt)

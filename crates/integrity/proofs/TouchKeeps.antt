@@ -1,0 +1,209 @@
+-- A change of one object's content, words or queue keeps what a part of a call keeps: the object stays of its kind and where it is,
+-- and its new links, its budget and the change are allowed.
+use Rattle.std.proofs.Common.{ℕ, ◌<◌, ◌∙◌, ◌≡◌, ◌≢◌, ◌≤◌, ◌⊎◌, None, Some, ap, arith, inl, inr, option_map, refl, subst, sym, true}
+use Rattle.std.proofs.lemmas.Option.{none-some, same_Some}
+use Rattle.base.specs.declared.{ids.{ObjId.ObjId, SlotRef.SlotRef}, kind.Kind.Kind}
+use Rattle.machine.specs.declared.{call.Event.Event, object.{Context.Context, Object.{Object, Object as o}, Untyped.Untyped}}
+use Rattle.machine.specs.declared.object.ObjectKind.TheVariants as kind
+use Rattle.machine.specs.{declared.thread.Tcb.Tcb, Authority.{label_at, label_of, lent_of, links, HasAuthority.by_link}, Layout.Layout}
+use Rattle.machine.specs.{Machine.{Machine, cap_of, object_of, parent_of, queue_of, words_of}, Objects.{address_of, end_of, kind_of_object}}
+use Rattle.machine.proofs.Ids.{one_or_two}
+use Rattle.policy.specs.Domain.{EdgeTest}
+use Rattle.integrity.{specs.{Bounded.MayAffect, Budgets.MayConfigure, Invariant.{IsBare, IsHeld}, OfTable.IsOfTable}, proofs.Keeps.Acts}
+use Rattle.integrity.proofs.{Keeps.Keeps, ObjectLabels.{kind_stays, label_stays, same_label}, Shrinking.same_context, Steady.IsSteady}
+use Rattle.integrity.proofs.Steady.{LinksAllowed, steady_confined}
+
+-- all but one object's content, queue and words is as it was
+pub record Touches (m : Machine) (id : ObjId) (next : Machine) : Type 0 where
+  pub contents : (q : ObjId) → q ≢ id → object_of next q ≡ object_of m q
+  pub queues : (q : ObjId) → q ≢ id → queue_of next q ≡ queue_of m q
+  pub words : (q : ObjId) → q ≢ id → words_of next q ≡ words_of m q
+  pub caps : (slot : SlotRef) → cap_of next slot ≡ cap_of m slot
+  pub parents : (slot : SlotRef) → parent_of next slot ≡ parent_of m slot
+  pub number : next.next ≡ m.next
+
+-- a content that an object may get in a step of a label's thread
+pub record Fits (t : Layout) (allowed : EdgeTest) (began : Machine) (event : Event) (m : Machine) (id : ObjId) (old new : Object) : Type 0 where
+  pub was : object_of m id ≡ Some old
+  pub kind : kind_of_object new ≡ kind_of_object old
+  pub address : address_of new ≡ address_of old
+  pub end : end_of new ≡ end_of old
+  -- each link was there, or is in the policy
+  pub links :
+      (end : ObjId) (k : Kind) → links new k end ≡ true
+      → (links old k end ≡ true)
+      ⊎ ((from to : ℕ) → label_of t m id ≡ Some from → label_of t m end ≡ Some to → allowed from k to ≡ true)
+  -- the number of a context that a thread lent was given out
+  pub lent : (context : ObjId) (thread : Tcb) → new ≡ o.Tcb thread → lent_of thread.state ≡ Some context → context.0 < m.next
+  pub share :
+      (before after : Context) → old ≡ o.Context before → new ≡ o.Context after
+      → (after.share ≡ before.share) ⊎ MayConfigure t allowed began event id
+
+-- it may keep the content that it has
+pub same_fits :
+    (t : Layout) (allowed : EdgeTest) (began : Machine) (event : Event) (m : Machine) (id : ObjId) → IsHeld t allowed m
+    → (object : Object) → object_of m id ≡ Some object → Fits t allowed began event m id object object
+same_fits t allowed began event m id held object there = record {
+  was = there;
+  kind = refl;
+  address = refl;
+  end = refl;
+  links = λ end k had. inl had;
+  lent = λ context thread is lends. held.of_table.lent id context thread (there ∙ ap Some is) lends;
+  share = λ before after was is. inl (ap (λ (c : Context). c.share) (same_context after before (sym is ∙ was)));
+}
+
+memory_by_kind : (object : Object) → kind_of_object object ≡ kind.Untyped → (memory : Untyped) × (object ≡ o.Untyped memory)
+memory_by_kind (o.Untyped memory) is = (memory, refl)
+memory_by_kind _ is = cc
+
+module _
+    (t : Layout) (allowed : EdgeTest) (began : Machine) (event : Event) (a : ℕ) (m : Machine) (id : ObjId) (old new : Object)
+    (next : Machine) (held : IsHeld t allowed m) (fits : Fits t allowed began event m id old new) (touches : Touches m id next)
+    (here : object_of next id ≡ Some new) (may : MayAffect t allowed a m next id) where
+  -- an object is as it was, or it is the one
+  Seen : ObjId → Type 0
+  Seen q = (object_of next q ≡ object_of m q) ⊎ (q ≡ id)
+
+  seen : (q : ObjId) → Seen q
+  unfolding Seen
+  seen q = elim (one_or_two q id) [ inl same ↦ inr same | inr apart ↦ inl (touches.contents q apart) ]
+
+  was_at : (q : ObjId) → q ≡ id → object_of m q ≡ Some old
+  was_at q same = ap (object_of m) same ∙ fits.was
+
+  is_at : (q : ObjId) → q ≡ id → object_of next q ≡ Some new
+  is_at q same = ap (object_of next) same ∙ here
+
+  new_at : (q : ObjId) (object : Object) → q ≡ id → object_of next q ≡ Some object → object ≡ new
+  new_at q object same at = same_Some object new (sym at ∙ is_at q same)
+
+  steady : IsSteady t m next
+  unfolding Seen
+  steady = record {
+    labels = λ q. elim (seen q) [ inl same ↦ same_label t m next q same | inr same ↦ label_stays t m next q old new (was_at q same) (is_at q same) fits.address ];
+    kinds = λ q. elim (seen q) [ inl same ↦ ap (option_map kind_of_object) same | inr same ↦ kind_stays t m next q old new (was_at q same) (is_at q same) fits.kind ];
+    caps = touches.caps;
+    parents = touches.parents;
+  }
+
+  linked : LinksAllowed t allowed m next
+  unfolding Seen
+  linked q end object k from to at has source target = elim (seen q) [
+    | inl same ↦ held.confined from k to (by_link q end object (sym same ∙ at) has source target)
+    | inr same ↦ elim (fits.links end k (ap (λ x. links x k end) (sym (new_at q object same at)) ∙ has)) [
+      | inl had ↦ held.confined from k to (by_link q end old (was_at q same) had source target)
+      | inr within ↦ within from to (ap (label_of t m) (sym same) ∙ source) target
+    ]
+  ]
+
+  ranged :
+      (q : ObjId) (memory : Untyped) (label address : ℕ) → object_of next q ≡ Some (o.Untyped memory)
+      → label_of t next q ≡ Some label → memory.base ≤ address → address < end_of (o.Untyped memory)
+      → label_at t address ≡ Some label
+  unfolding Seen
+  ranged q memory label address at labelled above below = elim (seen q) [
+    | inl same ↦ held.of_table.ranged q memory label address (sym same ∙ at) (sym (steady.labels q) ∙ labelled) above below
+    | inr same ↦
+        let is = new_at q (o.Untyped memory) same at in
+        let before = memory_by_kind old (sym fits.kind ∙ ap kind_of_object (sym is)) in
+        let base : before.0.base ≡ memory.base = ap address_of (sym before.1) ∙ sym fits.address ∙ ap address_of (sym is) in
+        let end : end_of (o.Untyped before.0) ≡ end_of (o.Untyped memory) = ap end_of (sym before.1) ∙ sym fits.end ∙ ap end_of (sym is) in
+        held.of_table.ranged q before.0 label address (was_at q same ∙ ap Some before.1) (sym (steady.labels q) ∙ labelled)
+        (subst (λ n. n ≤ address) (sym base) above) (subst (λ n. address < n) (sym end) below)
+  ]
+
+  of_table : IsOfTable t next
+  unfolding Seen
+  of_table = record {
+    labelled = λ q object at. elim (seen q) [
+      | inl same ↦ let label = held.of_table.labelled q object (sym same ∙ at) in (label.0, steady.labels q ∙ label.1)
+      | inr same ↦ let label = held.of_table.labelled q old (was_at q same) in (label.0, steady.labels q ∙ label.1)
+    ];
+    initial = λ q object declared at is. elim (seen q) [
+      | inl same ↦ held.of_table.initial q object declared (sym same ∙ at) is
+      | inr same ↦
+          let kept = held.of_table.initial q old declared (was_at q same) is in
+          let object_is = new_at q object same at in
+          (ap kind_of_object object_is ∙ fits.kind ∙ kept.0, ap address_of object_is ∙ fits.address ∙ kept.1)
+    ];
+    ranged = ranged;
+    lent = λ q context thread at lends.
+        let number = touches.number in
+        elim (seen q) [
+          | inl same ↦ let below = held.of_table.lent q context thread (sym same ∙ at) lends in omega (arith, below, number)
+          | inr same ↦ let below = fits.lent context thread (sym (new_at q (o.Tcb thread) same at)) lends in omega (arith, below, number)
+        ];
+    counted = let number = touches.number in let before = held.of_table.counted in omega (arith, number, before);
+  }
+
+  bare : (q : ObjId) → object_of next q ≡ None → IsBare next q
+  bare q absent = elim (one_or_two q id) [
+    | inl same ↦ absurd (none-some new (sym absent ∙ is_at q same))
+    | inr apart ↦
+        let none = held.bare q (sym (touches.contents q apart) ∙ absent) in
+        record {
+          queue = touches.queues q apart ∙ none.queue;
+          words = touches.words q apart ∙ none.words;
+          slots = λ index. touches.caps (record { holder = q; index = index }) ∙ none.slots index;
+        }
+  ]
+
+  acts : (q : ObjId) → Acts t allowed a m next q
+  acts q = elim (one_or_two q id) [
+    | inl same ↦ inr (subst (λ (x : ObjId). MayAffect t allowed a m next x) (sym same) may)
+    | inr apart ↦ inl (record {
+      content = touches.contents q apart;
+      queue = touches.queues q apart;
+      words = touches.words q apart;
+      slots = λ index. touches.caps (record { holder = q; index = index });
+    })
+  ]
+
+  -- what is there before and after
+  stays :
+      (q : ObjId) (before after : Object) → object_of m q ≡ Some before → object_of next q ≡ Some after
+      → (after ≡ before) ⊎ ((q ≡ id) × (before ≡ old) × (after ≡ new))
+  unfolding Seen
+  stays q before after was is = elim (seen q) [
+    | inl same ↦ inl (same_Some after before (sym is ∙ same ∙ was))
+    | inr same ↦ inr (same, same_Some before old (sym was ∙ was_at q same), new_at q after same is)
+  ]
+
+  budgets :
+      (q : ObjId) (before after : Context) → object_of m q ≡ Some (o.Context before) → object_of next q ≡ Some (o.Context after)
+      → (after.share ≡ before.share) ⊎ MayConfigure t allowed began event q
+  budgets q before after was is = elim (stays q (o.Context before) (o.Context after) was is) [
+    | inl same ↦ inl (ap (λ (c : Context). c.share) (same_context after before same))
+    | inr one ↦ elim (fits.share before after (sym one.1) (sym one.2)) [
+      | inl kept ↦ inl kept
+      | inr allows ↦ inr (subst (λ (x : ObjId). MayConfigure t allowed began event x) (sym one.0) allows)
+    ]
+  ]
+
+  before_there : (q : ObjId) (object : Object) → object_of next q ≡ Some object → (before : Object) × (object_of m q ≡ Some before)
+  unfolding Seen
+  before_there q object at = elim (seen q) [ inl same ↦ (object, sym same ∙ at) | inr same ↦ (old, was_at q same) ]
+
+  pub touch_keeps : Keeps t allowed began event a m next
+  touch_keeps = record {
+    held = record {
+      of_table = of_table;
+      confined = steady_confined t allowed m next steady linked held.confined;
+      kinds = λ slot cap at. steady.kinds cap.object ∙ held.kinds slot cap (sym (steady.caps slot) ∙ at);
+      numbered = λ q object at.
+          let before = before_there q object at in
+          let below = held.numbered q before.0 before.1 in
+          let number = touches.number in
+          omega (arith, below, number);
+      bare = bare;
+    };
+    acts = acts;
+    stays = λ q before after was is. elim (stays q before after was is) [
+      | inl same ↦ (ap kind_of_object same, ap address_of same)
+      | inr one ↦ (ap kind_of_object one.2 ∙ fits.kind ∙ ap kind_of_object (sym one.1), ap address_of one.2 ∙ fits.address ∙ ap address_of (sym one.1))
+    ];
+    born = λ q object absent is. let before = before_there q object is in absurd (none-some before.0 (sym absent ∙ before.1));
+    grows = let number = touches.number in omega (arith, number);
+    budgets = budgets;
+  }

@@ -1,0 +1,9 @@
+-- Step by step of a run.
+use Rattle.integrity.proofs.Aparts.{never_changes, only_takes}
+use Rattle.integrity.proofs.safe.bounded_systems_keep_labels_apart.Goals as goal
+
+pub returns-clause-apart : goal.returns-clause-apart
+returns-clause-apart c = λ t allowed a l bounds. never_changes t allowed a l bounds
+
+pub returns-clause-takes : goal.returns-clause-takes
+returns-clause-takes c = λ t allowed a l bounds. only_takes t allowed a l bounds

@@ -1,0 +1,10 @@
+pub mod Confined
+pub mod Shrinks
+pub mod Allowed
+pub mod Bounded
+pub mod Budgets
+pub mod Safe
+pub mod Apart
+pub mod OfTable
+pub mod Invariant
+pub mod Removals

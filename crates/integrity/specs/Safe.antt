@@ -1,0 +1,52 @@
+-- The headline: confinement and integrity of every run from a table's boot state ('seL4 Enforces Integrity', sections 4 and 5,
+-- authority confinement and integrity).
+use Rattle.std.specs.Prelude.{ℕ, ◌≡◌, List, Some}
+use Rattle.base.specs.declared.ids.ObjId.{ObjId}
+use Rattle.machine.specs.{declared.{call.{Event.Event, Outcome.Outcome}, object.Object.Object}, Authority.label_of, Boot.IsBoot}
+use Rattle.machine.specs.{Layout.Layout, Machine.{Machine, object_of}, Run.Run, Step.Step}
+use Rattle.policy.specs.Domain.{EdgeTest}
+use Rattle.integrity.specs.{Allowed.IsAllowedStep, Bounded.IsBoundedStep, Budgets.KeepsBudgets, Confined.IsConfined}
+
+-- some list of events, by any threads on any cores, leads from the table's boot state to the machine
+pub record IsReached (t : Layout) (m : Machine) : Type 0 where
+  pub boot : Machine
+  pub booted : IsBoot t boot
+  pub events : List Event
+  pub outcomes : List Outcome
+  pub run : Run boot events outcomes m
+
+-- after every list of kernel calls every capability lies within the policy
+abbrev pub StaysConfined : Layout → EdgeTest → Type 0
+StaysConfined t allowed = (m : Machine) → IsReached t m → IsConfined t allowed m
+
+-- no step changes an object of a label on which its caller's label has no modifying authority
+abbrev pub KeepsIntegrity : Layout → EdgeTest → Type 0
+KeepsIntegrity t allowed =
+    (m next : Machine) (event : Event) (outcome : Outcome) → IsReached t m → Step m event outcome next
+    → IsAllowedStep t allowed m event next
+
+-- no step changes an object of a label on which its caller's label has no full authority, but for one that only shrinks, of a label
+-- from which the caller's may take
+abbrev pub KeepsBounds : Layout → EdgeTest → Type 0
+KeepsBounds t allowed =
+    (m next : Machine) (event : Event) (outcome : Outcome) → IsReached t m → Step m event outcome next
+    → IsBoundedStep t allowed m event next
+
+-- a context's configured budget or period changes only by a caller whose label has the policy's SchedControl edge
+abbrev pub GuardsBudgets : Layout → EdgeTest → Type 0
+GuardsBudgets t allowed =
+    (m next : Machine) (event : Event) (outcome : Outcome) → IsReached t m → Step m event outcome next
+    → KeepsBudgets t allowed m event next
+
+-- after every list of kernel calls each object that is there has a label, so that no authority goes unseen
+abbrev pub LabelsObjects : Layout → Type 0
+LabelsObjects t =
+    (m : Machine) → IsReached t m → (id : ObjId) (object : Object) → object_of m id ≡ Some object
+    → (label : ℕ) × (label_of t m id ≡ Some label)
+
+pub record IsSafe (t : Layout) (allowed : EdgeTest) : Type 0 where
+  pub labelled : LabelsObjects t
+  pub confined : StaysConfined t allowed
+  pub integrity : KeepsIntegrity t allowed
+  pub bounds : KeepsBounds t allowed
+  pub budgets : GuardsBudgets t allowed

@@ -1,0 +1,18 @@
+//! Confinement and integrity: a closed policy that has all authority of a table's boot state has that of every state of every
+//! run, and no step changes more than it allows.
+#![tactic(auto)]
+
+mod laws;
+mod making;
+mod removing;
+mod safe;
+
+pub use laws::{
+    a_budget_needs_authority, cuts_follow_paths, gains_are_no_shrinking, losses_are_shrinking,
+};
+pub use making::what_is_made_stays_within_authority;
+pub use removing::{
+    a_removal_changes_what_may_be_taken, deletes_and_revokes_stay_within_authority,
+    removals_stay_confined, removals_stay_within_authority, what_a_removal_changes_shrinks,
+};
+pub use safe::{bounded_systems_keep_labels_apart, confined_systems_are_safe};

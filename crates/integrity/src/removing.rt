@@ -1,0 +1,77 @@
+ghost use Rattle.std.specs.Prelude.{ℕ, ◌≡◌, ◌⊎◌, Bool, None, Ok, Some};
+ghost use Rattle.base.specs.declared.ids.{ObjId.ObjId as Id, SlotRef.SlotRef as Slot};
+ghost use Rattle.machine.specs.declared.{call.Made.Made, object.Context.Context as Bound, slot_address.SlotAddress.SlotAddress as Place};
+ghost use Rattle.machine.specs.declared.object.Object.TheVariants as o;
+ghost use Rattle.machine.specs.{Authority.label_of, Layout.Layout, Machine.{Machine, object_of}, Removal.removed, Step.Delete.delete_of};
+ghost use Rattle.machine.specs.{Step.Revoke.revoke_of, WellFormed.IsWellFormed};
+ghost use Rattle.policy.specs.{Closed.IsClosed, Domain.EdgeTest, Take.MayRemoveNear};
+ghost use Rattle.integrity.specs.{Bounded.MayAffect, Confined.IsConfined, Invariant.IsSound, OfTable.IsOfTable, Removals.MayRemove};
+ghost use Rattle.integrity.specs.Shrinks.{IsSame, Shrinks};
+
+/// A law: whichever slots are removed, the machine stays within a closed policy and keeps to its table.
+pub fn removals_stay_confined()
+    ensures confined { (t : Layout) (allowed : EdgeTest) (m : Machine) (chosen : Slot → Bool)
+        → IsSound t allowed m
+        → IsClosed allowed
+        → IsConfined t allowed (removed m chosen) }
+    ensures labelled { (t : Layout) (allowed : EdgeTest) (m : Machine) (chosen : Slot → Bool)
+        → IsSound t allowed m
+        → IsOfTable t (removed m chosen) }
+{}
+
+/// A law: whichever slots are removed, each object is as it was, or shrinks.
+pub fn what_a_removal_changes_shrinks()
+    ensures { (m : Machine) (chosen : Slot → Bool)
+        → IsWellFormed m
+        → (id : Id) → IsSame m (removed m chosen) id ⊎ Shrinks m (removed m chosen) id }
+{}
+
+/// A law: where a label may remove the chosen slots' capabilities, each object is as it was, or is of a
+/// label from which the label may take by a removal.
+pub fn a_removal_changes_what_may_be_taken()
+    ensures { (t : Layout) (allowed : EdgeTest) (a : ℕ) (m : Machine) (chosen : Slot → Bool)
+        → IsSound t allowed m
+        → IsClosed allowed
+        → MayRemove t allowed a m chosen
+        → (id : Id)
+        → IsSame m (removed m chosen) id ⊎ ((label : ℕ) × (label_of t m id ≡ Some label) × MayRemoveNear allowed a label) }
+{}
+
+/// A law: where a label may remove the chosen slots' capabilities, the machine stays sound, and no
+/// object changes but within the bounds of the label. Nothing comes to be, and contexts keep their
+/// cores, budgets and periods.
+pub fn removals_stay_within_authority()
+    ensures sound { (t : Layout) (allowed : EdgeTest) (m : Machine) (chosen : Slot → Bool)
+        → IsSound t allowed m
+        → IsClosed allowed
+        → IsSound t allowed (removed m chosen) }
+    ensures changes { (t : Layout) (allowed : EdgeTest) (a : ℕ) (m : Machine) (chosen : Slot → Bool)
+        → IsSound t allowed m
+        → IsClosed allowed
+        → MayRemove t allowed a m chosen
+        → (id : Id) → IsSame m (removed m chosen) id ⊎ MayAffect t allowed a m (removed m chosen) id }
+    ensures absent { (m : Machine) (chosen : Slot → Bool) (id : Id)
+        → object_of m id ≡ None
+        → object_of (removed m chosen) id ≡ None }
+    ensures budgets { (m : Machine) (chosen : Slot → Bool) (id : Id) (old new : Bound)
+        → object_of m id ≡ Some (o.Context old)
+        → object_of (removed m chosen) id ≡ Some (o.Context new)
+        → new.share ≡ old.share }
+{}
+
+/// A law: a delete and a revoke that are made keep the machine sound, and change no object but within the
+/// bounds of the caller's label.
+pub fn deletes_and_revokes_stay_within_authority()
+    ensures delete { (t : Layout) (allowed : EdgeTest) (a : ℕ) (m next : Machine) (caller : Id) (address : Place) (made : Made)
+        → IsSound t allowed m
+        → IsClosed allowed
+        → label_of t m caller ≡ Some a
+        → delete_of m caller address ≡ Ok (made, next)
+        → IsSound t allowed next × ((id : Id) → IsSame m next id ⊎ MayAffect t allowed a m next id) }
+    ensures revoke { (t : Layout) (allowed : EdgeTest) (a : ℕ) (m next : Machine) (caller : Id) (address : Place) (made : Made)
+        → IsSound t allowed m
+        → IsClosed allowed
+        → label_of t m caller ≡ Some a
+        → revoke_of m caller address ≡ Ok (made, next)
+        → IsSound t allowed next × ((id : Id) → IsSame m next id ⊎ MayAffect t allowed a m next id) }
+{}

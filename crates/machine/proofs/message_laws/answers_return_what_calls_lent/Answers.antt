@@ -1,5 +1,0 @@
-use Rattle.machine.proofs.LoansReturn.{loans_return}
-use Rattle.machine.proofs.message_laws.answers_return_what_calls_lent.Goals as goal
-
-pub returns : goal.returns
-returns c = loans_return

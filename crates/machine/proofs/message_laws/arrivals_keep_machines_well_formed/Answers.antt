@@ -1,5 +1,0 @@
-use Rattle.machine.proofs.Arrival.{arrival_formed}
-use Rattle.machine.proofs.message_laws.arrivals_keep_machines_well_formed.Goals as goal
-
-pub returns : goal.returns
-returns c = arrival_formed

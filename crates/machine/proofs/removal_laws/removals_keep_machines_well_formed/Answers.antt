@@ -1,5 +1,0 @@
-use Rattle.machine.proofs.RemovalLinks.{removed_formed}
-use Rattle.machine.proofs.removal_laws.removals_keep_machines_well_formed.Goals as goal
-
-pub returns : goal.returns
-returns c = removed_formed

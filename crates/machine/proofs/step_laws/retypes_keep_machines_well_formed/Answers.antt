@@ -1,5 +1,0 @@
-use Rattle.machine.proofs.RetypeFormed.{made_retype_formed}
-use Rattle.machine.proofs.step_laws.retypes_keep_machines_well_formed.Goals as goal
-
-pub returns : goal.returns
-returns c = made_retype_formed

@@ -1,6 +1,0 @@
--- The system whose thread has the capability space of another label.
-use Rattle.verdict.proofs.Unsafe.{unsafe_without_agreeing_subjects}
-use Rattle.verdict.proofs.laws.safety_needs_agreeing_subjects.Goals as goal
-
-pub returns : goal.returns
-returns c = unsafe_without_agreeing_subjects

@@ -1,6 +1,0 @@
--- The system whose policy lacks that who may bind a context may run on it.
-use Rattle.verdict.proofs.ContextUnsafe.{unsafe_without_running}
-use Rattle.verdict.proofs.laws.safety_needs_contexts_to_run.Goals as goal
-
-pub returns : goal.returns
-returns c = unsafe_without_running

@@ -1,6 +1,0 @@
--- The system of a giver and a taker, whose policy lacks that the one derives on the other.
-use Rattle.verdict.proofs.GrantUnsafe.{unsafe_without_granted_derivation}
-use Rattle.verdict.proofs.laws.safety_needs_derivation_over_grants.Goals as goal
-
-pub returns : goal.returns
-returns c = unsafe_without_granted_derivation

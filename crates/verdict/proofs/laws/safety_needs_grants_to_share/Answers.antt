@@ -1,6 +1,0 @@
--- The system of a giver and a taker, whose policy lacks what the taker is granted.
-use Rattle.verdict.proofs.GrantUnsafe.{unsafe_without_sharing}
-use Rattle.verdict.proofs.laws.safety_needs_grants_to_share.Goals as goal
-
-pub returns : goal.returns
-returns c = unsafe_without_sharing

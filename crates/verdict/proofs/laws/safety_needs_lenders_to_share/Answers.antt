@@ -1,6 +1,0 @@
--- The system whose policy lacks that who may be lent a context may run on it.
-use Rattle.verdict.proofs.LendingUnsafe.{unsafe_without_lending}
-use Rattle.verdict.proofs.laws.safety_needs_lenders_to_share.Goals as goal
-
-pub returns : goal.returns
-returns c = unsafe_without_lending

@@ -1,6 +1,0 @@
--- The system whose policy lacks that replies hold threads.
-use Rattle.verdict.proofs.ReplyUnsafe.{unsafe_without_holding}
-use Rattle.verdict.proofs.laws.safety_needs_replies_to_hold.Goals as goal
-
-pub returns : goal.returns
-returns c = unsafe_without_holding

@@ -1,6 +1,0 @@
--- The system whose policy lacks one derive edge.
-use Rattle.verdict.proofs.GapUnsafe.{unsafe_without_derivation}
-use Rattle.verdict.proofs.laws.safety_needs_transitive_derivation.Goals as goal
-
-pub returns : goal.returns
-returns c = unsafe_without_derivation
