@@ -1,5 +1,5 @@
--- The text of a policy for the labels of a table: a header, a line `edge FROM KIND TO` for each edge, and `end` (confine's own;
--- the edges are those of 'seL4 Enforces Integrity', section 3).
+-- The text of a policy for a table's labels: a header, a line `edge FROM KIND TO` for each edge, and `end` (confine's own; the
+-- edges are those of 'seL4 Enforces Integrity', section 3).
 use Rattle.std.specs.{List.AllByRecursion, Prelude.{[], ℕ, ◌<◌, ◌∷◌, List, codes, length, map, slice_index_or}}
 use Rattle.base.specs.{declared.edge.Edge.Edge, Kinds.kind_name}
 use Rattle.machine.specs.Layout.{Layout}

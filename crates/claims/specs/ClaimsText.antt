@@ -1,4 +1,4 @@
--- The text of claims for the labels of a table: a header, a line `none A B` or `take A B` for each claim, and `end` (confine's own).
+-- The text of claims for a table's labels: a header, a line `none A B` or `take A B` for each claim, and `end` (confine's own).
 use Rattle.std.specs.Prelude.{[], ℕ, ◌∷◌, List, codes}
 use Rattle.machine.specs.Layout.{Layout}
 use Rattle.words.specs.{Reading.list_text, Text.words_of}

@@ -1,5 +1,5 @@
-//! Guarded lookup: from an address to a slot of a thread's capability space, by shifts and masks; and
-//! what a call finds there.
+//! Guarded lookup: from an address to a slot of a capability space, by shifts and masks; and what a
+//! call finds there.
 #![tactic(auto)]
 
 mod chain;

@@ -1,5 +1,5 @@
-//! Texts that show a system to a person: the list of a table's objects, and the drawing of who may
-//! change or take from whom.
+//! Texts that show a system: the list of a table's objects, and the drawing of who may change or take
+//! from whom.
 #![tactic(auto)]
 
 mod drawing;
