@@ -223,14 +223,20 @@ fn tell_sending(text: &mut String, table: &Table, sending: &Sending) -> Result<(
         text,
         "sends {first} {second} {third} {fourth} to {endpoint}, badge {badge}"
     )?;
-    let grant = if sending.grant { ", grant" } else { "" };
-    let call = if sending.is_call { ", call" } else { "" };
-    let reply = if sending.can_reply { ", can reply" } else { "" };
-    write!(text, "{grant}{call}{reply}")?;
+    tell_if(text, sending.grant, ", grant")?;
+    tell_if(text, sending.is_call, ", call")?;
+    tell_if(text, sending.can_reply, ", can reply")?;
     match sending.capability {
         Some(address) => write!(text, ", capability {address}"),
         None => Ok(()),
     }
+}
+
+fn tell_if(text: &mut String, is_so: bool, words: &str) -> Result<(), AllocError> {
+    if is_so {
+        text.push_str(words)?;
+    }
+    Ok(())
 }
 
 fn tell_receiving(

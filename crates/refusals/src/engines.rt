@@ -45,8 +45,11 @@ pub struct EngineCall {
     text: &'static str,
 }
 
-/// The calls of engines.
-pub const CALLS: [EngineCall; 23] = [
+/// How many calls of engines there are.
+pub const COUNT: usize = 23;
+
+// They are read at one place, since a table of rows is dear to a proof.
+const CALLS: [EngineCall; COUNT] = [
     EngineCall {
         name: "engine_log",
         engine: Engine::Run,
@@ -385,11 +388,17 @@ pub fn answers<R: AllocGlobal + Threads + Wait + Sync>(
     Ok(())
 }
 
+/// The call of this number, from 0.
+pub fn call_at(number: usize) -> Option<EngineCall> {
+    CALLS.get(number).copied()
+}
+
 /// The call of this name.
 pub fn call_named(name: &str) -> Option<EngineCall> {
-    for call in &CALLS {
-        if call.name == name {
-            return Some(*call);
+    for number in 0..COUNT {
+        match call_at(number) {
+            Some(call) if call.name == name => return Some(call),
+            _ => (),
         }
     }
     None
