@@ -90,7 +90,7 @@ impl Play<(), View> for See {
     ghost then = { λ _ before found after. Sees before found after };
 }
 
-/// Which entry a step adds. Each call of [`crate::steps::record`] picks it.
+/// Which entry a step adds. Each call of [`crate::word::record`] picks it.
 pub(crate) trait Saying {
     ghost use Rattle.cores.specs.declared.view.Noted.{Noted};
 

@@ -8,8 +8,8 @@ ghost use Rattle.cores.specs.{History.{OnCores, log_of}, Seats.{Calls, IsAtTicke
 use crate::board::{Board, Token};
 use crate::naming::Naming;
 use crate::seat::Seat;
-use crate::steps::{leave, record, see, visit};
 use crate::view::Noted;
+use crate::word::{leave, record, see, visit};
 use base::{Misuse, ObjId, Refusal};
 use kernel::step;
 use machine::{Call, Event, Log, Outcome};

@@ -9,8 +9,8 @@ mod opened;
 mod running;
 mod safety;
 mod seat;
-mod steps;
 mod view;
+mod word;
 
 pub use naming::Naming;
 pub use opened::{MAX_SEATS, Opened};

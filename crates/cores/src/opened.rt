@@ -9,7 +9,7 @@ use crate::desk::Desk;
 use crate::naming::Naming;
 use crate::running::Kernel;
 use crate::seat::Seat;
-use crate::steps::new_board;
+use crate::word::new_board;
 use base::{CoreNo, MAX_EVENTS, Misuse, Refusal};
 use kernel::boot;
 use machine::Log;

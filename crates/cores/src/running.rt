@@ -8,7 +8,7 @@ use crate::board::Board;
 use crate::desk::Desk;
 use crate::naming::Naming;
 use crate::seat::Seat;
-use crate::steps::{leave, see, visit};
+use crate::word::{leave, see, visit};
 use base::{Misuse, ObjId, Refusal};
 use machine::{Call, Log, Outcome};
 use objects::State;

@@ -3,7 +3,7 @@ ghost use Rattle.std.specs.Prelude.{[], ◌≡◌, Some, slice_get};
 ghost use Rattle.cores.specs.{Moves.after_deal, Seats.{CanSeat, about_in}, Tokens.{IsAt, IsSame}};
 
 use crate::board::{Board, Token};
-use crate::steps::deal;
+use crate::word::deal;
 use base::CoreNo;
 use std::marker::Model;
 

@@ -1,4 +1,4 @@
-use Rattle.cores.proofs.steps.record.Given as goal
+use Rattle.cores.proofs.word.record.Given as goal
 
 -- the entry that the step adds
 abbrev pub ghosts-record_this : goal.ghosts-record_this

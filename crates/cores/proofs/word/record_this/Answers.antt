@@ -1,6 +1,6 @@
 use Rattle.std.proofs.Common.{[], ◌∙◌, ◌≡◌, ap, rules, subst, sym}
 use Rattle.cores.{specs.{declared.view.{Noted.Noted, View.View}, Moves.after_record, Tokens.CanRecord}, proofs.Keeps.records}
-use Rattle.cores.proofs.steps.record_this.Goals as goal
+use Rattle.cores.proofs.word.record_this.Goals as goal
 
 pub fetch_add-requires : goal.fetch_add-requires
 fetch_add-requires g c =

@@ -1,6 +1,6 @@
 use Rattle.std.proofs.Common.{rules}
 use Rattle.cores.proofs.Keeps.{leaves, returns}
-use Rattle.cores.proofs.steps.leave.Goals as goal
+use Rattle.cores.proofs.word.leave.Goals as goal
 
 pub split_seat-hand-requires : goal.split_seat-hand-requires
 split_seat-hand-requires c = (search rules, search rules, leaves _ _ _ _)

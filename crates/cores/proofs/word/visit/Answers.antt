@@ -1,6 +1,6 @@
 use Rattle.std.proofs.Common.{rules}
 use Rattle.cores.proofs.Keeps.{hosts, visits}
-use Rattle.cores.proofs.steps.visit.Goals as goal
+use Rattle.cores.proofs.word.visit.Goals as goal
 
 pub split_seat-guest-requires : goal.split_seat-guest-requires
 split_seat-guest-requires c = (search rules, search rules, visits _ _ _ _)

@@ -1,6 +1,6 @@
 use Rattle.std.proofs.Common.{rules}
 use Rattle.cores.proofs.Keeps.{sees}
-use Rattle.cores.proofs.steps.see.Goals as goal
+use Rattle.cores.proofs.word.see.Goals as goal
 
 pub load-requires : goal.load-requires
 load-requires c = (search rules, search rules, sees _ _ _ _ _)

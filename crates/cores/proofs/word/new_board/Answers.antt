@@ -1,5 +1,5 @@
 use Rattle.cores.proofs.Keeps.{opens}
-use Rattle.cores.proofs.steps.new_board.Goals as goal
+use Rattle.cores.proofs.word.new_board.Goals as goal
 
 pub of_words-requires : goal.of_words-requires
 of_words-requires c = opens _ _
