@@ -2,8 +2,7 @@ ghost use Rattle.std.specs.Prelude.{◌≡◌, Some, false};
 ghost use Rattle.base.specs.declared.edge.Edge.{Edge as EdgeOf};
 ghost use Rattle.machine.specs.Layout.{Layout};
 ghost use Rattle.policy.specs.Domain.{EdgeTest};
-ghost use Rattle.verdict.specs.{declared.denial.Denial.Denial as DenialOf, Verdict.IsLeastBroken};
-ghost use Rattle.explain.specs.Asked.{edge_asked, joined};
+ghost use Rattle.verdict.specs.{declared.denial.Denial.Denial as DenialOf, Rules.joined, Verdict.{IsLeastBroken, edge_asked}};
 
 use base::{Edge, Kind, Label};
 use labels::declared_label;

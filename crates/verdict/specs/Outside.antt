@@ -1,15 +1,15 @@
 -- What lies outside a policy in a machine, as denials say it, and by which rules (confine's own).
-use Rattle.std.specs.Prelude.{ℕ, ◌≡◌, List, MatchOption, Option, Some, get_or}
+use Rattle.std.specs.Prelude.{ℕ, ◌≡◌, List, Option, Some, get_or}
 use Rattle.base.specs.declared.ids.ObjId.{ObjId}
 use Rattle.machine.specs.{Layout.Layout, Machine.Machine}
 use Rattle.policy.specs.{Domain.EdgeTest, Places.IsUnder}
-use Rattle.verdict.specs.{declared.denial.Denial.Denial, Rules.{Exceeds, a1, a2, a3, a4, a5, a6, c1}, Sources.of_machine, Verdict.excess_of}
+use Rattle.verdict.specs.{declared.denial.Denial.Denial, Rules.{a1, a2, a3, a4, a5, a6, c1}, Sources.of_machine, Verdict.IsExceeded}
 use Rattle.verdict.specs.declared.denial.Denial.TheVariants as denial
 use Rattle.verdict.specs.Verdict.{place_of}
 
 -- a machine's authority lies outside the policy where a denial says
 abbrev pub LiesOutside : Layout → EdgeTest → Machine → Denial → Type 0
-LiesOutside t allowed m d = MatchOption (excess_of d) ⊥ (Exceeds (of_machine t m) allowed)
+LiesOutside t allowed m = IsExceeded (of_machine t m) allowed
 
 -- at a place that begins with these numbers
 abbrev pub LiesUnder : Layout → EdgeTest → Machine → List ℕ → Denial → Type 0

@@ -1,12 +1,12 @@
 -- The rules by which a policy allows what a table or a machine holds, in the order in which they are tested, and the places where
 -- they are broken (compare 'seL4 Enforces Integrity', section 3: well-formed policies, and states whose authority lies within
 -- them; the rules and their order are confine's own).
-use Rattle.std.specs.Prelude.{[], ℕ, ◌∷◌, ◌≡◌, ◌⊎◌, List, Some, false, true}
-use Rattle.base.specs.{declared.{ids.{ObjId.ObjId, SlotRef.SlotRef}, kind.Kind.Kind}, Kinds.kind_number}
+use Rattle.std.specs.Prelude.{[], ℕ, ◌∷◌, ◌≡◌, ◌⊎◌, List, None, Option, Some, false, true}
+use Rattle.base.specs.{declared.{edge.Edge.Edge, ids.{ObjId.ObjId, SlotRef.SlotRef}, kind.Kind.Kind}, Kinds.kind_number}
 use Rattle.base.specs.declared.kind.Kind.TheVariants as authority
 use Rattle.machine.specs.{declared.cap.Cap.Cap, Capabilities.gives}
 use Rattle.machine.specs.declared.object.ObjectKind.TheVariants as object
-use Rattle.policy.specs.Domain.{EdgeTest}
+use Rattle.policy.specs.{Broken.edge_of, Domain.EdgeTest}
 use Rattle.verdict.specs.Sources.{Sources}
 
 -- the numbers of the rules: P1 to P8, which are the policy's own, are 1 to 8; A1 to A6 follow, and then C1
@@ -112,6 +112,20 @@ Exceeds s allowed (pair child parent) = PairExceeds s allowed child parent
 Exceeds s allowed (binding thread context) = BindingExceeds s allowed thread context
 Exceeds s allowed (holding reply thread) = HoldingExceeds s allowed reply thread
 Exceeds s allowed (recorded thread kind label) = RecordExceeds s allowed thread kind label
+
+-- the edge of a kind between two labels, where there are both
+abbrev pub joined : Option ℕ → Kind → Option ℕ → Option Edge
+joined (Some from) kind (Some to) = Some (edge_of from kind to)
+joined _ kind _ = None
+
+-- the edge that a policy has to have for what is at a place
+abbrev pub edge_needed_at : Sources → Excess → Option Edge
+edge_needed_at s (capability slot kind label) = joined (s.label slot.holder) kind (Some label)
+edge_needed_at s (root slot label) = joined (s.label slot.holder) authority.Space (Some label)
+edge_needed_at s (pair child parent) = joined (s.label parent.holder) authority.Derive (s.label child.holder)
+edge_needed_at s (binding thread context) = joined (s.label thread) authority.Runs (s.label context)
+edge_needed_at s (holding reply thread) = joined (s.label reply) authority.Holds (s.label thread)
+edge_needed_at s (recorded thread kind label) = joined (s.label thread) kind (Some label)
 
 -- a place as numbers: its rule, then the objects, slots, kinds and labels that it names, from left to right
 abbrev pub excess_place : Excess → List ℕ
