@@ -1,6 +1,8 @@
 -- Each way between a kind and its name, and between a kind and its number.
-use Rattle.std.{specs.{Bool.Decides, Prelude.{IfSome, bytes_eq, slice_get}}, proofs.Common.{ℕ, ◌<◌, ◌==◌, ◌^◌, ◌↔◌, ◌∙◌, ◌≡◌, Bool, List}}
-use Rattle.std.proofs.{Common.{Option, Some, ap, cond, false, lit<, refl, subst, sym, true}, lemmas.Slice.Eq.bytes_eq-Decides}
+use Rattle.std.{specs.{Bool.Decides, Prelude.{IfSome, bytes_eq, slice_get}}, proofs.Common.{ℕ, ◌+◌, ◌<◌, ◌==◌, ◌^◌, ◌↔◌, ◌∙◌, ◌≡◌, ◌≤◌, ◌⊎◌, Bool, List}}
+use Rattle.std.proofs.Common.{None, Option, Some, ap, arith, cond, false, inl, inr, lit<, refl, slice_index_or, subst, sym, true}
+use Rattle.std.proofs.lemmas.{Bool.cases_lt, Option.get_or_from_slice_get, Slice.Eq.bytes_eq-Decides}
+use mathlib.Core.Bool.{false≢true}
 use Rattle.base.specs.declared.kind.Kind.{Kind, TheVariants.{Await, Call, Context, Control, Derive, Grant, Holds, Notify, Read, Receive}}
 use Rattle.base.specs.declared.kind.{Kind.TheVariants.{Reply, Reset, Runs, SchedControl, Send, Space, Write}, TheConstants.Kind.ALL}
 use Rattle.base.specs.Kinds.{kind_bit, kind_name, kind_named, kind_number}
@@ -168,3 +170,28 @@ in_order Space = refl
 in_order Derive = refl
 in_order Runs = refl
 in_order Holds = refl
+
+pub at_number : (kind : Kind) → slice_index_or ALL (kind_number kind) Control ≡ kind
+at_number kind = get_or_from_slice_get ALL (kind_number kind) kind Control (in_order kind)
+
+-- a kind whose name is a word is the one that the word names
+pub named_by : (word : List ℕ) (kind : Kind) → bytes_eq (kind_name kind) word ≡ true → kind_named word ≡ Some kind
+named_by word kind is = ap (λ w. kind_named w) (sym ((bytes_eq-Decides (kind_name kind) word).0 is)) ∙ kind_again kind
+
+-- a word that isn't the name of any names none
+pub named_by_none : (word : List ℕ) → ((kind : Kind) → bytes_eq (kind_name kind) word ≡ false) → kind_named word ≡ None
+named_by_none word none = by_found (kind_named word) (named_name word) where
+  by_found : (found : Option Kind) → IfSome found (λ kind. word ≡ kind_name kind) → found ≡ None
+  by_found None is = refl
+  by_found (Some kind) is = absurd (false≢true (sym (none kind) ∙ (bytes_eq-Decides (kind_name kind) word).1 (sym is)))
+
+-- nor is it that of the next kind, which leaves one kind less that it may be of
+pub not_named : (word : List ℕ) (k : ℕ) → bytes_eq (kind_name (slice_index_or ALL k Control)) word ≡ false
+    → ((kind : Kind) → kind_number kind < k → bytes_eq (kind_name kind) word ≡ false)
+    → (kind : Kind) → kind_number kind < k + 1 → bytes_eq (kind_name kind) word ≡ false
+not_named word k at_k before kind below = by (cases_lt (kind_number kind) k) where
+  by : (kind_number kind < k) ⊎ (k ≤ kind_number kind) → bytes_eq (kind_name kind) word ≡ false
+  by (inl earlier) = before kind earlier
+  by (inr later) =
+      let at : k ≡ kind_number kind = omega (arith, below, later) in
+      ap (λ other. bytes_eq (kind_name other) word) (sym (ap (λ n. slice_index_or ALL n Control) at ∙ at_number kind)) ∙ at_k

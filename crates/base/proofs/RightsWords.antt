@@ -2,6 +2,7 @@
 use Rattle.std.{specs.{Bool.Decides, List.{AllByRecursion, find}, Prelude.{IfSome, bytes_eq}}, proofs.Common.{[], ℕ, ◌<◌, ◌↔◌, ◌∙◌, ◌∷◌}}
 use Rattle.std.proofs.Common.{◌≡◌, Bool, List, None, Option, Some, ap, arith, cond, false, lit<, refl, subst, suc, sym, true, zero}
 use Rattle.std.proofs.lemmas.Slice.Eq.{bytes_eq-Decides}
+use mathlib.Core.Bool.{false≢true}
 use Rattle.base.specs.{declared.rights.Rights.Rights, Rights.{IsRights, all_rights, rights_of_word, rights_with, rights_word}}
 
 abbrev Names : List ℕ → Rights → Type 0
@@ -70,3 +71,17 @@ named_iff word rights = (rights_named word rights, λ h. ap (λ w. rights_of_wor
 pub rights_once : (one other : Rights) → IsRights one → IsRights other → rights_word one ≡ rights_word other → one ≡ other
 rights_once one other is_one is_other same =
     let both : Some one ≡ Some other = sym (rights_again one is_one) ∙ ap (λ w. rights_of_word w) same ∙ rights_again other is_other in cc
+
+-- a set whose word it is is the one that the word names
+pub named_by : (word : List ℕ) (n : ℕ) → n < 16 → bytes_eq (rights_word (rights_with n)) word ≡ true
+    → rights_of_word word ≡ Some (rights_with n)
+named_by word n below is =
+    ap (λ w. rights_of_word w) (sym ((bytes_eq-Decides (rights_word (rights_with n)) word).0 is)) ∙ rights_of_word-rights_word n below
+
+-- what is the word of no set names none
+pub named_by_none : (word : List ℕ) → ((n : ℕ) → n < 16 → bytes_eq (rights_word (rights_with n)) word ≡ false) → rights_of_word word ≡ None
+named_by_none word none = by_found (rights_of_word word) (named_word word) where
+  by_found : (found : Option Rights) → IfSome found (Names word) → found ≡ None
+  by_found None names = refl
+  by_found (Some rights) names =
+      absurd (false≢true (sym (none rights.0 names.1) ∙ (bytes_eq-Decides (rights_word rights) word).1 (sym names.0)))

@@ -110,47 +110,15 @@ impl Kind {
     }
 
     /// The kind of this name.
-    #[tactic(auto, unfolding(crate::specs::Kinds::kind_named))]
     pub fn from_name(name: &[u8]) -> Option<Kind>
         ensures { result ≡ kind_named name.now }
     {
-        if name == b"control".as_slice() {
-            Some(Kind::Control)
-        } else if name == b"reset".as_slice() {
-            Some(Kind::Reset)
-        } else if name == b"send".as_slice() {
-            Some(Kind::Send)
-        } else if name == b"receive".as_slice() {
-            Some(Kind::Receive)
-        } else if name == b"grant".as_slice() {
-            Some(Kind::Grant)
-        } else if name == b"call".as_slice() {
-            Some(Kind::Call)
-        } else if name == b"notify".as_slice() {
-            Some(Kind::Notify)
-        } else if name == b"await".as_slice() {
-            Some(Kind::Await)
-        } else if name == b"read".as_slice() {
-            Some(Kind::Read)
-        } else if name == b"write".as_slice() {
-            Some(Kind::Write)
-        } else if name == b"reply".as_slice() {
-            Some(Kind::Reply)
-        } else if name == b"context".as_slice() {
-            Some(Kind::Context)
-        } else if name == b"schedcontrol".as_slice() {
-            Some(Kind::SchedControl)
-        } else if name == b"space".as_slice() {
-            Some(Kind::Space)
-        } else if name == b"derive".as_slice() {
-            Some(Kind::Derive)
-        } else if name == b"runs".as_slice() {
-            Some(Kind::Runs)
-        } else if name == b"holds".as_slice() {
-            Some(Kind::Holds)
-        } else {
-            None
+        for kind in &Kind::ALL {
+            if kind.name().as_bytes() == name {
+                return Some(*kind);
+            }
         }
+        None
     }
 }
 

@@ -43,53 +43,39 @@ impl Flags for Rights {
 impl Rights {
     /// The rights that a word names: `-` for none, or the letters of those that are in the set, in
     /// the order `r`, `w`, `g`, `y`.
-    #[tactic(auto, unfolding(crate::specs::Rights::rights_of_word))]
     pub fn from_word(word: &[u8]) -> Option<Rights>
         ensures { result ≡ rights_of_word word.now }
     {
-        if word == b"-".as_slice() {
-            Some(Rights::empty())
-        } else if word == b"r".as_slice() {
-            Some(Rights::READ)
-        } else if word == b"w".as_slice() {
-            Some(Rights::WRITE)
-        } else if word == b"rw".as_slice() {
-            Some(Rights::READ.union(Rights::WRITE))
-        } else if word == b"g".as_slice() {
-            Some(Rights::GRANT)
-        } else if word == b"rg".as_slice() {
-            Some(Rights::READ.union(Rights::GRANT))
-        } else if word == b"wg".as_slice() {
-            Some(Rights::WRITE.union(Rights::GRANT))
-        } else if word == b"rwg".as_slice() {
-            Some(Rights::READ.union(Rights::WRITE).union(Rights::GRANT))
-        } else if word == b"y".as_slice() {
-            Some(Rights::GRANT_REPLY)
-        } else if word == b"ry".as_slice() {
-            Some(Rights::READ.union(Rights::GRANT_REPLY))
-        } else if word == b"wy".as_slice() {
-            Some(Rights::WRITE.union(Rights::GRANT_REPLY))
-        } else if word == b"rwy".as_slice() {
-            Some(Rights::READ.union(Rights::WRITE).union(Rights::GRANT_REPLY))
-        } else if word == b"gy".as_slice() {
-            Some(Rights::GRANT.union(Rights::GRANT_REPLY))
-        } else if word == b"rgy".as_slice() {
-            Some(Rights::READ.union(Rights::GRANT).union(Rights::GRANT_REPLY))
-        } else if word == b"wgy".as_slice() {
-            Some(
-                Rights::WRITE
-                    .union(Rights::GRANT)
-                    .union(Rights::GRANT_REPLY),
-            )
-        } else if word == b"rwgy".as_slice() {
-            Some(
-                Rights::READ
-                    .union(Rights::WRITE)
-                    .union(Rights::GRANT)
-                    .union(Rights::GRANT_REPLY),
-            )
-        } else {
-            None
+        for bits in 0..=Rights::SPELLED {
+            if Rights::word_of(bits).as_bytes() == word {
+                return Some(Rights(bits));
+            }
+        }
+        None
+    }
+
+    // The word of the set with these bits.
+    fn word_of(bits: u8) -> &'static str
+        requires { bits < 16 }
+        ensures { result.now ≡ rights_word (rights_with bits) }
+    {
+        match bits {
+            0 => "-",
+            1 => "r",
+            2 => "w",
+            3 => "rw",
+            4 => "g",
+            5 => "rg",
+            6 => "wg",
+            7 => "rwg",
+            8 => "y",
+            9 => "ry",
+            10 => "wy",
+            11 => "rwy",
+            12 => "gy",
+            13 => "rgy",
+            14 => "wgy",
+            _ => "rwgy",
         }
     }
 
