@@ -3,5 +3,6 @@ pub mod KindWords
 pub mod LineLaws
 pub mod Certificates
 pub mod RightLines
+pub mod MoreLines
 pub mod Differences
 mod Upgraded

@@ -1,0 +1,21 @@
+use Rattle.std.proofs.Common.{[], ◌++◌, ◌∙◌, ◌∷◌, ap, sym}
+use Rattle.table.specs.Rules.{kind_at}
+use Rattle.machine.specs.declared.layout.Filled.{Filled}
+use Rattle.certificate.{specs.Right.{cap_line, is_cnode}, proofs.MoreLines.{none_more, one_more_kept}}
+use Rattle.certificate.proofs.making.add_caps.Goals.{then-is_of_cnode+in_ok-push, else-is_of_cnode}
+use Rattle.certificate.proofs.making.add_caps.Goals as goal
+
+pub loop-filled-preserved : goal.loop-filled-preserved
+loop-filled-preserved c =
+    let t = c.args.table.now in
+    let keep = λ (filled : Filled). is_cnode (kind_at t filled.slot.holder) in
+    let old = c.loop-filled.lines.items in
+    elim c.if-is_of_cnode.branch [
+      | then-is_of_cnode+in_ok-push w ↦
+          one_more_kept (cap_line t) keep c.args.caps.now c.loop-filled.filled-index _ c.args.lines.now.items old c.loop-filled-test.true
+          c.loop-filled.invariant _ (sym c.is_of_cnode.ensures ∙ w.if-is_of_cnode.true)
+          (ap (λ lines. lines.items) w.lines-is ∙ w.in_ok-push.ensures.items ∙ ap (λ line. old ++ line ∷ []) w.cap_line.ensures)
+      | else-is_of_cnode w ↦
+          none_more (cap_line t) keep c.args.caps.now c.loop-filled.filled-index _ c.args.lines.now.items old c.loop-filled-test.true
+          c.loop-filled.invariant _ (sym c.is_of_cnode.ensures ∙ w.if-is_of_cnode.false) (ap (λ lines. lines.items) w.lines-is)
+    ]
