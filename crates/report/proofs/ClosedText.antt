@@ -1,6 +1,6 @@
 -- The text of the least closed policy over a table.
-use Rattle.std.{specs.{List.AllByRecursion, Prelude.{Err, IfOk, Ok, Result}}, proofs.Common.{[], ℕ, ◌++◌, ◌<◌, ◌↔◌, ◌∙◌, ◌∷◌, ◌≡◌, Bool}}
-use Rattle.std.proofs.{Common.{List, ap, false, inl, inr, length, refl, subst, sym, true}, lemmas.Bool.or_cases}
+use Rattle.std.{specs.{List.AllByRecursion, Prelude.{Err, IfOk, Ok, Result}}, proofs.Common.{[], ℕ, ◌++◌, ◌<◌, ◌↔◌, ◌∙◌, ◌∷◌, ◌≡◌}}
+use Rattle.std.proofs.{Common.{List, ap, inl, inr, length, refl, subst, sym}, lemmas.Bool.or_cases}
 use Rattle.base.specs.declared.{edge.Edge.Edge, kind.Kind.Kind}
 use Rattle.machine.specs.{Authority.HasAuthority, Boot.IsBoot, Layout.Layout, Machine.Machine}
 use Rattle.policy.specs.{Closed.IsClosed, Closing.{IsLeastClosed, IsWithin}, Policy.{IsRising, allows}}

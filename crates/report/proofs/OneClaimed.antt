@@ -1,10 +1,8 @@
 -- Claims on a table and a policy have one answer, and the strongest that hold one text.
-use Rattle.std.proofs.Common.{ℕ, ◌∙◌, ◌≡◌, List, ap, sym}
-use Rattle.base.specs.declared.edge.Edge.{Edge}
-use Rattle.machine.specs.Layout.{Layout}
+use Rattle.std.proofs.Common.{◌∙◌, ap, sym}
 use Rattle.policy.specs.Policy.{allows}
 use Rattle.verdict.specs.{declared.denial.Denial.Denial, Verdict.rule_name}
-use Rattle.claims.{specs.{declared.claim.Claim.Claim, ClaimsText.claims_text}, proofs.OneList.{broken_once, none_broken, strongest_once}}
+use Rattle.claims.{specs.{ClaimsText.claims_text}, proofs.OneList.{broken_once, none_broken, strongest_once}}
 use Rattle.reptext.specs.{Places.place_names, Reports.{broken_data, denial_report, line_of}}
 use Rattle.report.{specs.Claimed.{JudgesClaims, TellsStrongest, WritesStrongest, broken, denied, hold}, proofs.OneAnswer.JudgesOne}
 use Rattle.report.proofs.OneReport.{one_denial, verdict_once}

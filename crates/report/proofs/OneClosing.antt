@@ -1,18 +1,18 @@
 -- A policy has one closing over a table, and a label has one reason for its authority on another.
-use Rattle.std.{specs.Prelude.codes, proofs.Common.{[], ℕ, ◌++◌, ◌||◌, ◌∙◌, ◌∷◌, ◌≡◌, Bool, List, ap, get_or, length, refl, subst, sym}}
-use Rattle.std.proofs.{Common.true, lemmas.Option.same_Some}
+use Rattle.std.{specs.Prelude.codes, proofs.Common.{[], ℕ, ◌++◌, ◌||◌, ◌∙◌, ◌∷◌, ◌≡◌, List, ap, refl, subst, sym}}
+use Rattle.std.proofs.{lemmas.Option.same_Some}
 use Rattle.base.specs.{declared.{edge.Edge.Edge, kind.Kind.Kind}, Kinds.kind_number}
 use Rattle.machine.specs.Layout.{Layout}
 use Rattle.policy.specs.{declared.why.Why.{Why, Why as why}, Closing.IsLeastClosed, Domain.EdgeTest, Policy.allows, Reasons.IsFullBy}
 use Rattle.policy.{specs.Reasons.{IsTakeBy, IsWhy, edge_numbers, reason_place}, proofs.{ClosingGrowth.least_of_same, KindNumbers.same_kind}}
 use Rattle.policy.proofs.Members.{same_rising}
 use Rattle.table.proofs.BootState.{boot_state, boot_state_is}
-use Rattle.captext.specs.PolicyText.{edge_lines, policy_text}
+use Rattle.captext.specs.PolicyText.{edge_lines}
 use Rattle.labels.proofs.EdgeLists.{allows-append}
 use Rattle.verdict.proofs.OneVerdict.{one_least}
 use Rattle.reptext.proofs.OneText.{same_answer}
 use Rattle.report.specs.{declared.closing.OnClose.{OnClose, OnClose as on_close}, Closings.{Closes, IsClosing, TellsClosing, kept_edges}}
-use Rattle.report.{specs.{Closings.{missing_edges, missing_status}, Questions.{Tells, why_status, why_text}}, proofs.OneAnswer.JudgesOne}
+use Rattle.report.{specs.{Questions.{Tells, why_status, why_text}}, proofs.OneAnswer.JudgesOne}
 
 -- the closing of a policy
 

@@ -1,5 +1,5 @@
 -- What the commands answer to a table, a policy and a third file (confine's own).
-use Rattle.std.specs.{List.zip, Prelude.{[], ℕ, ◌≡◌, Bool, Err, List, None, Ok, Option, Result, Some, false}}
+use Rattle.std.specs.{List.zip, Prelude.{[], ℕ, ◌≡◌, Err, List, None, Ok, Option, Result, Some, false}}
 use Rattle.base.specs.declared.edge.Edge.{Edge}
 use Rattle.machine.specs.{declared.call.{Event.Event, Outcome.Outcome}, Boot.IsBoot, Layout.Layout, Machine.Machine, Run.Run}
 use Rattle.words.specs.declared.faults.Fault.{Fault}

@@ -1,6 +1,6 @@
 -- What closing a policy over a table answers: the least policy with the policy's edges to which the table keeps (confine's own; the
 -- policies that are closed are the well-formed ones of 'seL4 Enforces Integrity', section 3).
-use Rattle.std.specs.Prelude.{[], ℕ, ◌++◌, ◌↔◌, ◌∷◌, ◌≡◌, List, Ok, Some, codes, false, filter, not, true}
+use Rattle.std.specs.Prelude.{[], ℕ, ◌++◌, ◌↔◌, ◌∷◌, ◌≡◌, List, Ok, filter, not, true}
 use Rattle.base.specs.declared.{edge.Edge.Edge, kind.Kind.Kind}
 use Rattle.machine.specs.{Authority.HasAuthority, Boot.IsBoot, Layout.Layout, Machine.Machine}
 use Rattle.policy.specs.{Closing.{IsLeastClosed, IsWithin}, Policy.{IsRising, allows}}

@@ -48,7 +48,9 @@ where
     let loaded = load::<C::Third, T, P, S, L>(alloc, table, policy, third, listener);
     let answer = answer(command, alloc, &loaded);
     announce::<C, L>(listener, &loaded, &answer);
-    write(out, answer)
+    let end = write(out, answer);
+    drop(loaded);
+    end
 }
 
 /// Has the listener hear of an answer to what was loaded, if there is one, or which label it lacks.

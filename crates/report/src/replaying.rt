@@ -79,7 +79,9 @@ fn replayed(alloc: Global, table: &Table, policy: &Policy, log: &Entries) -> Res
     ensures memory { IfErr result (λ refusal. refusal ≡ out_of_memory) }
 {
     let mut state = boot(alloc, table)?;
-    replayed_from(alloc, table, policy, log.entries.as_slice(), &mut state)
+    let answer = replayed_from(alloc, table, policy, log.entries.as_slice(), &mut state);
+    drop(state);
+    answer
 }
 
 /// The answer to a log that is replayed from the table's boot state, which it brings to where it stops.

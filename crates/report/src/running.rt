@@ -87,6 +87,8 @@ fn log_of_run(alloc: Global, table: &Table, script: &Script) -> Result<Vec<u8>, 
     let mut state = boot(alloc, table)?;
     let mut outcomes = Vec::new(alloc);
     let events = script.events.as_slice();
-    kernel::run(&mut state, events, &mut outcomes)?;
+    let ran = kernel::run(&mut state, events, &mut outcomes);
+    drop(state);
+    ran?;
     write_run(alloc, events, &outcomes)
 }

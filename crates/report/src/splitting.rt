@@ -99,11 +99,15 @@ fn judged<R: Threads + Wait + Sync, G: Gate + Sync>(
     ensures memory { IfErr result (λ refusal. refusal ≡ out_of_memory) }
 {
     match judge(rt, alloc, &loaded.table, &loaded.policy, 1, &Open)? {
-        Ok(accepted) => Ok(Answer {
-            text: log_of_split(rt, alloc, &accepted, &loaded.third, gate)?,
-            status: 0,
-            finding: None,
-        }),
+        Ok(accepted) => {
+            let log = log_of_split(rt, alloc, &accepted, &loaded.third, gate);
+            drop(accepted);
+            Ok(Answer {
+                text: log?,
+                status: 0,
+                finding: None,
+            })
+        }
         Err(denial) => Ok(denied(alloc, &loaded.table, denial)?),
     }
 }

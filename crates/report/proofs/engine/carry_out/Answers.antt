@@ -11,14 +11,14 @@ returns g c =
     let held = contents_of third.named third.read_of (g.T.Source.remaining c.args.table.now) (g.P.Source.remaining c.args.policy.now) (g.S.Source.remaining c.args.third.now) in
     let right = at_contents judges c.load-loaded.result c.answer-answer.result held c.load-loaded.ensures.loaded c.answer-answer.ensures.right in
     record {
-      answered = written c.write.result c.answer-answer.result (IsAnswer judges held) (Appends (g.O.Sink.contents c.args.out.now) (g.O.Sink.contents c.write.new.out)) right c.write.ensures.status;
-      begun = began c.write.result c.answer-answer.result (IsAnswer judges held) (AppendsBeginning (g.O.Sink.contents c.args.out.now) (g.O.Sink.contents c.write.new.out)) right c.write.ensures.begun;
-      unwritten = c.write.ensures.unwritten;
-      unlabelled = unlabelled (command.lacks c.args.command.now) c.load-loaded.result c.write.result c.answer-answer.result held c.load-loaded.ensures.loaded c.answer-answer.ensures.unlabelled c.write.ensures.unlabelled;
-      flushed = c.write.ensures.flushed;
-      exit = c.write.ensures.exit c.answer-answer.ensures.exit;
+      answered = written c.write-end.result c.answer-answer.result (IsAnswer judges held) (Appends (g.O.Sink.contents c.args.out.now) (g.O.Sink.contents c.write-end.new.out)) right c.write-end.ensures.status;
+      begun = began c.write-end.result c.answer-answer.result (IsAnswer judges held) (AppendsBeginning (g.O.Sink.contents c.args.out.now) (g.O.Sink.contents c.write-end.new.out)) right c.write-end.ensures.begun;
+      unwritten = c.write-end.ensures.unwritten;
+      unlabelled = unlabelled (command.lacks c.args.command.now) c.load-loaded.result c.write-end.result c.answer-answer.result held c.load-loaded.ensures.loaded c.answer-answer.ensures.unlabelled c.write-end.ensures.unlabelled;
+      flushed = c.write-end.ensures.flushed;
+      exit = c.write-end.ensures.exit c.answer-answer.ensures.exit;
       policy_waits = c.load-loaded.ensures.policy_waits;
       third_waits = c.load-loaded.ensures.third_waits;
-      unread = c.write.ensures.unread ∙ c.answer-answer.ensures.unread ∙ c.load-loaded.ensures.unread;
-      unwritable = c.write.ensures.unwritable;
+      unread = c.write-end.ensures.unread ∙ c.answer-answer.ensures.unread ∙ c.load-loaded.ensures.unread;
+      unwritable = c.write-end.ensures.unwritable;
     }

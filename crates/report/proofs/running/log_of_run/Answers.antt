@@ -5,16 +5,16 @@ use Rattle.report.proofs.running.log_of_run.Goals as goal
 
 pub returns-clause-log : goal.returns-clause-log
 returns-clause-log c =
-    let ran = c.in_ok-run.ensures.ran in
+    let ran = c.in_ok-ran.ensures.ran in
     let all = c.deref.ensures.value ∙ ran.1 ∙ ap (λ xs. xs ++ ran.0) c.new-outcomes.ensures.items in
     let script = c.as_slice-events.ensures.value ∙ c.script.view_is in
     IfOk-weaker c.write_run.result _ _
     (λ text told. record {
       boot = c.in_ok-state.state;
-      last = c.run.new.state;
+      last = c.run-ran.new.state;
       outcomes = ran.0;
       booted = c.in_ok-state.ensures.booted;
-      ran = subst (λ events. Run c.in_ok-state.state events ran.0 c.run.new.state) script ran.2;
+      ran = subst (λ events. Run c.in_ok-state.state events ran.0 c.run-ran.new.state) script ran.2;
       told = told ∙ ap (λ xs. log_text (zip c.as_slice-events.result.now xs)) all ∙ ap (λ events. log_text (zip events ran.0)) script;
     })
     c.write_run.ensures.text
