@@ -8,6 +8,3 @@ mod workers;
 pub use gate::{Gate, Open};
 pub use work::Work;
 pub use workers::shares;
-
-#[cfg(test)]
-mod tests;

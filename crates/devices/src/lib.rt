@@ -12,6 +12,3 @@ pub use opened::{Unopened, open_result};
 pub use sink::{Sink, WriteError};
 pub use source::{ReadError, Source};
 pub use watched::Watched;
-
-#[cfg(test)]
-mod tests;

@@ -59,13 +59,14 @@ end
 
 /// Holds workers 0 and 1 until both have arrived, for a while.
 #[derive(Drop)]
-struct Meeting {
+pub struct Meeting {
     arrived: AtomicU64,
     gave_up: AtomicU64,
 }
 
 impl Meeting {
-    fn wait(&self) {
+    /// Waits for the other one, for a while.
+    pub fn wait(&self) {
         self.arrived.fetch_add(1, Ordering::SeqCst);
         for _ in 0..1_000_000u32 {
             if self.arrived.load(Ordering::SeqCst) >= 2 {
@@ -86,7 +87,7 @@ impl Gate for Meeting {
 }
 
 impl Meeting {
-    fn new() -> Meeting {
+    pub fn new() -> Meeting {
         Meeting {
             arrived: AtomicU64::new(0),
             gave_up: AtomicU64::new(0),
@@ -94,7 +95,7 @@ impl Meeting {
     }
 
     /// Both workers arrived, and neither gave up.
-    fn took_place(&self, rt: &impl Abort) {
+    pub fn took_place(&self, rt: &impl Abort) {
         assert_eq!(rt; self.arrived.load(Ordering::SeqCst), 2);
         assert_eq!(rt; self.gave_up.load(Ordering::SeqCst), 0);
     }

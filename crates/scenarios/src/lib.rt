@@ -1,5 +1,5 @@
-//! Commands whose devices fail, and checks by several workers: what no text can say, so that it isn't among
-//! the `cases`; and words to a person. Tests alone.
+//! Devices that fail or move few bytes at a time, commands over such devices, and workers that share work: what no text can say, so
+//! that it isn't among the `cases`. Tests alone.
 #![tactic(auto)]
 
 #[cfg(test)]
@@ -9,8 +9,8 @@ mod failing;
 #[cfg(test)]
 mod gate;
 #[cfg(test)]
-mod sentences;
+mod reading;
 #[cfg(test)]
 mod session;
 #[cfg(test)]
-mod versions;
+mod sharing;

@@ -1,4 +1,4 @@
-use super::table;
+use crate::system::table;
 use base::{Kind, Label, ObjId, SlotRef};
 use explain::{explain_denial, explain_outside};
 use policy::Broken;

@@ -1,5 +1,5 @@
 //! The versions of a table's text: what an upgrade changes, and how many labels each has.
-use crate::ends::TABLE;
+use crate::system::TABLE;
 use captext::{read_table, write_table};
 use slips::{Text, explain_fault};
 use std::alloc::{AllocError, Global};

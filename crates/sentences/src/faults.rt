@@ -1,4 +1,4 @@
-use super::{TABLE, table};
+use crate::system::{TABLE, table};
 use captext::{Fault, read_policy, read_table};
 use slips::{Text, explain_fault};
 use std::alloc::Global;

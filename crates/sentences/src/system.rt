@@ -1,14 +1,11 @@
-//! The sentences of `explain`, as a reader of the documents wants them.
-mod authority;
-mod denials;
-mod faults;
-
+//! The table that sentences are said of.
 use captext::read_table;
 use std::alloc::Global;
 use std::test::Fail;
 use table::Table;
 
-const TABLE: &str = "\
+/// Its text.
+pub const TABLE: &str = "\
 confine-table 1
 label app
 label bell
@@ -25,6 +22,7 @@ bind main share
 end
 ";
 
-fn table(alloc: Global) -> Result<Table, Fail> {
+/// Reads it.
+pub fn table(alloc: Global) -> Result<Table, Fail> {
     read_table(alloc, TABLE.as_bytes()).map_err(|_| Fail::new("a table"))
 }

@@ -1,8 +1,9 @@
+//! Work that is dealt to several workers: the plain map, memory that is refused, and workers that are at work at the same time.
 ghost use Rattle.std.specs.Prelude.{◌*◌};
 
-use crate::{Gate, Open, Work, shares};
+use crate::gate::Meeting;
 use base::Refusal;
-use std::sync::atomic::{AtomicU64, Ordering};
+use deal::{Open, Work, shares};
 use std::test::Fail;
 
 // Twice the item.
@@ -35,39 +36,6 @@ impl Work<u32> for RefusedAt {
     }
 }
 
-// Two that wait for each other, and how many gave up.
-#[derive(Drop)]
-struct Meeting {
-    there: AtomicU64,
-    gave_up: AtomicU64,
-}
-
-impl Meeting {
-    fn new() -> Meeting {
-        Meeting {
-            there: AtomicU64::new(0),
-            gave_up: AtomicU64::new(0),
-        }
-    }
-
-    // Comes, and waits for the other one.
-    fn meet(&self) {
-        self.there.fetch_add(1, Ordering::SeqCst);
-        for _ in 0..1_000_000u32 {
-            if self.there.load(Ordering::SeqCst) >= 2 {
-                return;
-            }
-            std::thread::yield_now();
-        }
-        self.gave_up.fetch_add(1, Ordering::SeqCst);
-    }
-
-    // Whether two met.
-    fn was_held(&self) -> bool {
-        self.there.load(Ordering::SeqCst) == 2 && self.gave_up.load(Ordering::SeqCst) == 0
-    }
-}
-
 // A work that holds each item until the other one is begun too.
 impl Work<u32> for Meeting {
     type Out = u64;
@@ -75,17 +43,8 @@ impl Work<u32> for Meeting {
     ghost answer = { λ work item. 2 * item };
 
     fn of(&self, item: &u32) -> Result<u64, Refusal> {
-        self.meet();
+        self.wait();
         Ok(2 * u64::from(*item))
-    }
-}
-
-// A gate that holds the workers 0 and 1 until both are there.
-impl Gate for Meeting {
-    fn arrive(&self, worker: usize) {
-        if worker < 2 {
-            self.meet();
-        }
     }
 }
 
@@ -128,7 +87,7 @@ fn gate_work(rt: HostRuntime) {
     let work = Meeting::new();
     let outs = shares(&rt, rt.alloc(), &[3, 4], 2, &Open, &work);
     assert!(rt; outs.is_ok());
-    assert!(rt; work.was_held());
+    work.took_place(&rt);
 }
 
 #[test]
@@ -136,5 +95,5 @@ fn workers_pass_the_gate(rt: HostRuntime) {
     let gate = Meeting::new();
     let outs = shares(&rt, rt.alloc(), &[3, 4, 5], 3, &gate, &Twice);
     assert!(rt; outs.is_ok());
-    assert!(rt; gate.was_held());
+    gate.took_place(&rt);
 }
