@@ -4,9 +4,9 @@ use Rattle.std.proofs.Common.{refl, subst, sym, true}
 use Rattle.base.specs.declared.{edge.Edge.Edge, kind.Kind.{Kind, TheVariants.{Await, Control, Grant, Holds, Notify, Receive, Reply, Send}}}
 use Rattle.policy.specs.{declared.{full.TheConstants.MODIFYING, walks.Step.Step}, Domain.EdgeTest, Full.{IsFull, is_modifying}}
 use Rattle.policy.specs.{Full.IsFull.{grants, links, modifies, notifies, own, receives, replies, sends}, Reasons.{IsFullBy, edge}}
-use Rattle.policy.specs.{Reasons.full_edges, Walks.{FindsWalk, GoesAgainst, GoesAlong, IsWalk, is_of, lesser_of, Passes.along}}
+use Rattle.policy.specs.{Reasons.full_edges, Walks.{FindsLesser, FindsWalk, GoesAgainst, GoesAlong, IsWalk, is_of, Passes.along}}
 use Rattle.policy.proofs.{KindNumbers.each_kind, StepWalks.{ends, front_along, last_against, last_along, more_against, more_along}}
-use Rattle.policy.proofs.{StepWalks.{one_against, one_along}, Stepping.of_kind, WalkOrder.least_either}
+use Rattle.policy.proofs.{StepWalks.{one_against, one_along}, Stepping.of_kind, WalkOrder.{finds_same, least_either}}
 
 modifying_from : (kind : Kind) → is_of MODIFYING kind ≡ true → is_modifying kind ≡ true
 modifying_from kind is = of_kind (is_of MODIFYING kind) _ is (each_kind (λ k. not (is_of MODIFYING k) || is_modifying k) refl kind)
@@ -110,56 +110,65 @@ module _ (test : EdgeTest) (a l : ℕ) (modify send sender receive receiver noti
   -- all of the cases, in the order in which the code joins them
 
   abbrev Near : List Edge → Type 0
-  Near x = (Own x ⊎ Modifies x) ⊎ (Sends x ⊎ Receives x)
+  Near x = ((Own x ⊎ Modifies x) ⊎ Sends x) ⊎ Receives x
 
-  abbrev Far : List Edge → Type 0
-  Far x = (Notifies x ⊎ Links x) ⊎ (Grants x ⊎ Replies x)
+  abbrev All : List Edge → Type 0
+  All x = (((Near x ⊎ Notifies x) ⊎ Links x) ⊎ Grants x) ⊎ Replies x
 
-  near_by : (x : List Edge) → Near x → IsFullBy test a l x
-  near_by x (inl (inl walk)) = own_by x walk
-  near_by x (inl (inr walk)) = modifies_by x walk
-  near_by x (inr (inl walk)) = sends_by x walk
-  near_by x (inr (inr walk)) = receives_by x walk
+  all_by : (x : List Edge) → All x → IsFullBy test a l x
+  all_by x (inl (inl (inl (inl (inl (inl (inl walk))))))) = own_by x walk
+  all_by x (inl (inl (inl (inl (inl (inl (inr walk))))))) = modifies_by x walk
+  all_by x (inl (inl (inl (inl (inl (inr walk)))))) = sends_by x walk
+  all_by x (inl (inl (inl (inl (inr walk))))) = receives_by x walk
+  all_by x (inl (inl (inl (inr walk)))) = notifies_by x walk
+  all_by x (inl (inl (inr walk))) = links_by x walk
+  all_by x (inl (inr walk)) = grants_by x walk
+  all_by x (inr walk) = replies_by x walk
 
-  far_by : (x : List Edge) → Far x → IsFullBy test a l x
-  far_by x (inl (inl walk)) = notifies_by x walk
-  far_by x (inl (inr walk)) = links_by x walk
-  far_by x (inr (inl walk)) = grants_by x walk
-  far_by x (inr (inr walk)) = replies_by x walk
-
-  case_of : (reason : IsFull test a l) → Near (full_edges reason) ⊎ Far (full_edges reason)
-  case_of (own same) = inl (inl (inl (sym same)))
+  case_of : (reason : IsFull test a l) → All (full_edges reason)
+  case_of (own same) = inl (inl (inl (inl (inl (inl (inl (sym same)))))))
   case_of (modifies kind is there) =
-      inl (inl (inr (l, there, along (ap (λ ks. is_of ks kind) steps.modify_is.0 ∙ modifying_to kind is) refl refl, refl)))
+      inl (inl (inl (inl (inl (inl (inr (l, there, along (ap (λ ks. is_of ks kind) steps.modify_is.0 ∙ modifying_to kind is) refl refl, refl)))))))
   case_of (sends endpoint sent received) =
-      inl (inr (inl (more_along test send Send (receiver ∷ []) a endpoint l (edge l Receive endpoint ∷ []) steps.send_is sent
-      (more_against test receiver Receive [] endpoint l l [] steps.receiver_is received refl))))
+      inl (inl (inl (inl (inl (inr (more_along test send Send (receiver ∷ []) a endpoint l (edge l Receive endpoint ∷ []) steps.send_is sent
+      (more_against test receiver Receive [] endpoint l l [] steps.receiver_is received refl)))))))
   case_of (receives endpoint received sent) =
-      inl (inr (inr (more_along test receive Receive (sender ∷ []) a endpoint l (edge l Send endpoint ∷ []) steps.receive_is received
-      (more_against test sender Send [] endpoint l l [] steps.sender_is sent refl))))
+      inl (inl (inl (inl (inr (more_along test receive Receive (sender ∷ []) a endpoint l (edge l Send endpoint ∷ []) steps.receive_is received
+      (more_against test sender Send [] endpoint l l [] steps.sender_is sent refl))))))
   case_of (notifies notification notified awaited) =
-      inr (inl (inl (more_along test notify Notify (awaiter ∷ []) a notification l (edge l Await notification ∷ []) steps.notify_is notified
-      (more_against test awaiter Await [] notification l l [] steps.awaiter_is awaited refl))))
+      inl (inl (inl (inr (more_along test notify Notify (awaiter ∷ []) a notification l (edge l Await notification ∷ []) steps.notify_is notified
+      (more_against test awaiter Await [] notification l l [] steps.awaiter_is awaited refl)))))
   case_of (links endpoint receiving sent received replied) =
-      inr (inl (inr (more_along test send Send (receiver ∷ reply ∷ []) a endpoint l (edge receiving Receive endpoint ∷ edge receiving Reply l ∷ []) steps.send_is sent
+      inl (inl (inr (more_along test send Send (receiver ∷ reply ∷ []) a endpoint l (edge receiving Receive endpoint ∷ edge receiving Reply l ∷ []) steps.send_is sent
       (more_against test receiver Receive (reply ∷ []) endpoint receiving l (edge receiving Reply l ∷ []) steps.receiver_is received
       (more_along test reply Reply [] receiving l l [] steps.reply_is replied refl)))))
   case_of (grants endpoint receiving granted received controlled) =
-      inr (inr (inl (more_along test grant Grant (receiver ∷ control ∷ []) a endpoint l (edge receiving Receive endpoint ∷ edge receiving Control l ∷ []) steps.grant_is granted
+      inl (inr (more_along test grant Grant (receiver ∷ control ∷ []) a endpoint l (edge receiving Receive endpoint ∷ edge receiving Control l ∷ []) steps.grant_is granted
       (more_against test receiver Receive (control ∷ []) endpoint receiving l (edge receiving Control l ∷ []) steps.receiver_is received
-      (more_along test control Control [] receiving l l [] steps.control_is controlled refl)))))
+      (more_along test control Control [] receiving l l [] steps.control_is controlled refl))))
   case_of (replies replying replied holding) =
-      inr (inr (inr (more_along test reply Reply (held ∷ []) a replying l (edge replying Holds l ∷ []) steps.reply_is replied
-      (more_along test held Holds [] replying l l [] steps.held_is holding refl))))
+      inr (more_along test reply Reply (held ∷ []) a replying l (edge replying Holds l ∷ []) steps.reply_is replied
+      (more_along test held Holds [] replying l l [] steps.held_is holding refl))
 
-  either : (P Q : List Edge → Type 0) (one other : Option (Vec Edge Global)) → FindsWalk P one → FindsWalk Q other → FindsWalk (λ x. P x ⊎ Q x) (lesser_of one other)
-  either P Q one other p q = least_either one other p q (λ x h. inl h) (λ x h. inr h) (λ x h. h)
+  -- a walk of a chain of steps or one of others
+  or_walk : (P : List Edge → Type 0) (chain : List Step) (found lesser : Option (Vec Edge Global)) → FindsWalk P found
+      → FindsLesser test chain a l found lesser → FindsWalk (λ x. P x ⊎ IsWalk test chain a l x) lesser
+  or_walk P chain found lesser finds (walk, least, is) =
+      subst (FindsWalk (λ x. P x ⊎ IsWalk test chain a l x)) (sym is)
+      (least_either found walk finds least (λ x h. inl h) (λ x h. inr h) (λ x h. h))
 
-  pub full_least : (w1 w2 w3 w4 w5 w6 w7 w8 : Option (Vec Edge Global)) → FindsWalk Own w1 → FindsWalk Modifies w2 → FindsWalk Sends w3 → FindsWalk Receives w4
-      → FindsWalk Notifies w5 → FindsWalk Links w6 → FindsWalk Grants w7 → FindsWalk Replies w8
-      → FindsWalk (IsFullBy test a l) (lesser_of (lesser_of (lesser_of w1 w2) (lesser_of w3 w4)) (lesser_of (lesser_of w5 w6) (lesser_of w7 w8)))
+  pub full_least : (w1 w2 w3 w4 w5 w6 w7 w8 : Option (Vec Edge Global)) → FindsWalk Own w1 → FindsLesser test (modify ∷ []) a l w1 w2
+      → FindsLesser test (send ∷ receiver ∷ []) a l w2 w3 → FindsLesser test (receive ∷ sender ∷ []) a l w3 w4
+      → FindsLesser test (notify ∷ awaiter ∷ []) a l w4 w5 → FindsLesser test (send ∷ receiver ∷ reply ∷ []) a l w5 w6
+      → FindsLesser test (grant ∷ receiver ∷ control ∷ []) a l w6 w7 → FindsLesser test (reply ∷ held ∷ []) a l w7 w8
+      → FindsWalk (IsFullBy test a l) w8
   full_least w1 w2 w3 w4 w5 w6 w7 w8 f1 f2 f3 f4 f5 f6 f7 f8 =
-      least_either (lesser_of (lesser_of w1 w2) (lesser_of w3 w4)) (lesser_of (lesser_of w5 w6) (lesser_of w7 w8))
-      (either (λ x. Own x ⊎ Modifies x) (λ x. Sends x ⊎ Receives x) (lesser_of w1 w2) (lesser_of w3 w4) (either Own Modifies w1 w2 f1 f2) (either Sends Receives w3 w4 f3 f4))
-      (either (λ x. Notifies x ⊎ Links x) (λ x. Grants x ⊎ Replies x) (lesser_of w5 w6) (lesser_of w7 w8) (either Notifies Links w5 w6 f5 f6) (either Grants Replies w7 w8 f7 f8)) near_by far_by
-      (λ x by. subst (λ es. Near es ⊎ Far es) by.1 (case_of by.0))
+      let sends : FindsWalk (λ x. (Own x ⊎ Modifies x) ⊎ Sends x) w3 =
+      or_walk (λ x. Own x ⊎ Modifies x) (send ∷ receiver ∷ []) w2 w3 (or_walk Own (modify ∷ []) w1 w2 f1 f2) f3 in
+      let near : FindsWalk Near w4 = or_walk (λ x. (Own x ⊎ Modifies x) ⊎ Sends x) (receive ∷ sender ∷ []) w3 w4 sends f4 in
+      let links : FindsWalk (λ x. (Near x ⊎ Notifies x) ⊎ Links x) w6 =
+      or_walk (λ x. Near x ⊎ Notifies x) (send ∷ receiver ∷ reply ∷ []) w5 w6 (or_walk Near (notify ∷ awaiter ∷ []) w4 w5 near f5) f6 in
+      let grants : FindsWalk (λ x. ((Near x ⊎ Notifies x) ⊎ Links x) ⊎ Grants x) w7 =
+      or_walk (λ x. (Near x ⊎ Notifies x) ⊎ Links x) (grant ∷ receiver ∷ control ∷ []) w6 w7 links f7 in
+      finds_same w8 all_by (λ x by. subst All by.1 (case_of by.0))
+      (or_walk (λ x. ((Near x ⊎ Notifies x) ⊎ Links x) ⊎ Grants x) (reply ∷ held ∷ []) w7 w8 grants f8)

@@ -37,12 +37,15 @@ pub kind_stands : (kind : Kind) → slice_get all_kinds (kind_number kind) ≡ S
 kind_stands kind =
     slice_get-get_or all_kinds (kind_number kind) kind (kind_number_below kind) ∙ ap Some (at_number kind kind)
 
+pub number_at : (k : ℕ) (d : Kind) → k < 17 → kind_number (get_or all_kinds k d) ≡ k
+number_at k d lt =
+    sym (get_or-map kind_number all_kinds k d (kind_number d) lt) ∙ get_or-range_with_len 0 17 k (kind_number d) lt ∙ zero-add k
+
 -- and no other does
 pub number_stands : (k : ℕ) (kind : Kind) → slice_get all_kinds k ≡ Some kind → kind_number kind ≡ k
 number_stands k kind at =
     let lt : k < 17 = slice_get_within all_kinds k kind at in
-    ap kind_number (sym (get_or_from_slice_get all_kinds k kind kind at)) ∙ sym (get_or-map kind_number all_kinds k kind (kind_number kind) lt)
-    ∙ get_or-range_with_len 0 17 k (kind_number kind) lt ∙ zero-add k
+    ap kind_number (sym (get_or_from_slice_get all_kinds k kind kind at)) ∙ number_at k kind lt
 
 pub same_kind : (a b : Kind) → kind_number a ≡ kind_number b → a ≡ b
 same_kind a b same = sym (at_number a a) ∙ ap (λ n. get_or all_kinds n a) same ∙ at_number b a

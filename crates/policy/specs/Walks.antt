@@ -64,3 +64,8 @@ lesser_of None other = other
 lesser_of (Some one) None = Some one
 lesser_of (Some one) (Some other) =
     if is_lt (slice_cmp nat_cmp (reason_place other.items) (reason_place one.items)) then Some other else Some one
+
+-- the lesser of a walk and the least that takes these steps, if there are any
+abbrev pub FindsLesser : EdgeTest → List Step → ℕ → ℕ → Option (Vec Edge Global) → Option (Vec Edge Global) → Type 0
+FindsLesser test steps from to found lesser =
+    (walk : Option (Vec Edge Global)) × FindsWalk (IsWalk test steps from to) walk × (lesser ≡ lesser_of found walk)

@@ -2,7 +2,7 @@ ghost use Rattle.std.specs.{Cmp.Lexicographic.slice_cmp, Ordering.{is_lt, nat_cm
 ghost use Rattle.std.specs.Prelude.{IsTrue, List, OnOk, true};
 ghost use Rattle.base.specs.{declared.edge.Edge.Edge, Labels.is_in, Refusals.out_of_memory};
 ghost use Rattle.policy.specs.{declared.walks.Step.Step as StepOf, Policy.allows, Reasons.{edge, reason_place}, Walks.FindsFirst};
-ghost use Rattle.policy.specs.Walks.{FindsWalk, GoesAgainst, GoesAlong, GoesEitherWay, IsPartOf, IsWalk, Leads, LeadsOf, is_of, lesser_of};
+ghost use Rattle.policy.specs.Walks.{FindsLesser, FindsWalk, GoesAgainst, GoesAlong, GoesEitherWay, IsPartOf, IsWalk, Leads, LeadsOf, is_of, lesser_of};
 ghost use Rattle.policy.specs.Walks.{other_end};
 
 use crate::Policy;
@@ -100,6 +100,22 @@ impl Policy {
         };
         edges.insert(0, edge)?;
         Ok(Some(edges))
+    }
+
+    /// The lesser of a walk, if one was found, and the least of those that take each of the steps.
+    pub(crate) fn lesser_walk(
+        &self,
+        alloc: Global,
+        found: Option<Vec<Edge>>,
+        steps: &[Step],
+        from: Label,
+        to: Label,
+    ) -> Result<Option<Vec<Edge>>, Refusal>
+        ensures lesser { IfOk result (FindsLesser (allows self.now) steps.now from to found) }
+        ensures memory { IfErr result (λ refusal. refusal ≡ out_of_memory) }
+    {
+        let walk = self.walk(alloc, steps, from, to)?;
+        Ok(lesser(found, walk))
     }
 
     // The labels from which walks of these steps lead to a label.

@@ -62,16 +62,13 @@ impl Policy {
         let control = Step::along(&[Kind::Control]);
         let held = Step::along(&[Kind::Holds]);
         let own = self.walk(alloc, &[], actor, object)?;
-        let modifies = self.walk(alloc, &[modify], actor, object)?;
-        let sends = self.walk(alloc, &[send, receiver], actor, object)?;
-        let receives = self.walk(alloc, &[receive, sender], actor, object)?;
-        let notifies = self.walk(alloc, &[notify, awaiter], actor, object)?;
-        let links = self.walk(alloc, &[send, receiver, reply], actor, object)?;
-        let grants = self.walk(alloc, &[grant, receiver, control], actor, object)?;
-        let replies = self.walk(alloc, &[reply, held], actor, object)?;
-        let one = lesser(lesser(own, modifies), lesser(sends, receives));
-        let other = lesser(lesser(notifies, links), lesser(grants, replies));
-        Ok(lesser(one, other))
+        let modifies = self.lesser_walk(alloc, own, &[modify], actor, object)?;
+        let sends = self.lesser_walk(alloc, modifies, &[send, receiver], actor, object)?;
+        let receives = self.lesser_walk(alloc, sends, &[receive, sender], actor, object)?;
+        let notifies = self.lesser_walk(alloc, receives, &[notify, awaiter], actor, object)?;
+        let links = self.lesser_walk(alloc, notifies, &[send, receiver, reply], actor, object)?;
+        let grants = self.lesser_walk(alloc, links, &[grant, receiver, control], actor, object)?;
+        self.lesser_walk(alloc, grants, &[reply, held], actor, object)
     }
 
     // The least of the ways to take from another: two walks, and the ways to remove.

@@ -1,14 +1,13 @@
-use Rattle.std.proofs.Common.{◌∙◌, subst, sym}
-use Rattle.policy.{specs.{Policy.allows, Reasons.IsFullBy, Walks.{FindsWalk, lesser_of}}, proofs.FullWalks.full_least}
+use Rattle.std.proofs.{Common.{[], ◌∷◌}, lemmas.Result.IfOk-weaker}
+use Rattle.policy.{specs.{Policy.allows, Reasons.IsFullBy, Walks.{FindsLesser, FindsWalk}}, proofs.FullWalks.full_least}
 use Rattle.policy.proofs.policy.Policy.full_reason.Goals as goal
 
 pub returns-clause-least : goal.returns-clause-least
 returns-clause-least c =
-    let joined = c.lesser-5.ensures
-    ∙ (λ i. lesser_of ((c.lesser-one.ensures ∙ (λ j. lesser_of (c.lesser.ensures j) (c.lesser-2.ensures j))) i)
-    ((c.lesser-other.ensures ∙ (λ j. lesser_of (c.lesser-3.ensures j) (c.lesser-4.ensures j))) i)) in
-    subst (FindsWalk (IsFullBy (allows c.args.self.now) c.args.actor c.args.object)) (sym joined)
-    (full_least (allows c.args.self.now) c.args.actor c.args.object _ _ _ _ _ _ _ _ _ _ _ (record {
+    IfOk-weaker c.lesser_walk-7.result (FindsLesser (allows c.args.self.now) (c.along-reply.result ∷ c.along-held.result ∷ []) c.args.actor c.args.object c.in_ok-grants.grants)
+    (FindsWalk (IsFullBy (allows c.args.self.now) c.args.actor c.args.object))
+    (λ last finds.
+    full_least (allows c.args.self.now) c.args.actor c.args.object _ _ _ _ _ _ _ _ _ _ _ (record {
       modify_is = c.along-modify.ensures;
       send_is = c.along-send.ensures;
       sender_is = c.against-sender.ensures;
@@ -20,5 +19,7 @@ returns-clause-least c =
       grant_is = c.along-grant.ensures;
       control_is = c.along-control.ensures;
       held_is = c.along-held.ensures;
-    }) _ _ _ _ _ _ _ _ c.in_ok-own.ensures.least c.in_ok-modifies.ensures.least c.in_ok-sends.ensures.least c.in_ok-receives.ensures.least
-    c.in_ok-notifies.ensures.least c.in_ok-links.ensures.least c.in_ok-grants.ensures.least c.in_ok-replies.ensures.least)
+    }) c.in_ok-own.own c.in_ok-modifies.modifies c.in_ok-sends.sends c.in_ok-receives.receives c.in_ok-notifies.notifies c.in_ok-links.links
+    c.in_ok-grants.grants last c.in_ok-own.ensures.least c.in_ok-modifies.ensures.lesser c.in_ok-sends.ensures.lesser c.in_ok-receives.ensures.lesser
+    c.in_ok-notifies.ensures.lesser c.in_ok-links.ensures.lesser c.in_ok-grants.ensures.lesser finds)
+    c.lesser_walk-7.ensures.lesser
