@@ -1,11 +1,17 @@
 -- How a text grows line by line, and what is written where a name is missing.
-use Rattle.std.{specs.List.zip, proofs.Common.{[], ℕ, ◌++◌, ◌+◌, ◌<◌, ◌∙◌, ◌≡◌, ◌≤◌, List, None, ap, append_assoc, arith, get_or, length}}
+use Rattle.std.{specs.List.zip, proofs.Common.{[], ℕ, ◌++◌, ◌+◌, ◌<◌, ◌∙◌, ◌∷◌, ◌≡◌, ◌≤◌, List, None, ap, append_assoc, arith, get_or, length}}
 use Rattle.std.proofs.{Common.{map, slice_get, sym, take, unwrap_or}, lemmas.{Grind.flat_map-append, List.{flat_map_more, map_more}}}
 use Rattle.std.proofs.lemmas.{List.take_all, Option.unwrap_or-slice_get, Slice.Zip.{get_or-zip, length-zip}}
 use Rattle.words.specs.Text.{line_text, text_of}
 
 pub nameless : (names : List (List ℕ)) (number : ℕ) → slice_get names number ≡ None → get_or names number [] ≡ []
 nameless names number none = sym (unwrap_or-slice_get names number []) ∙ ap (λ name. unwrap_or name []) none
+
+-- a line goes on after its first three words as one whose first word is empty
+pub line_begun : (a b c : List ℕ) (words : List (List ℕ))
+    → line_text (a ∷ b ∷ c ∷ words) ≡ (a ++ 32 ∷ (b ++ 32 ∷ c)) ++ line_text ([] ∷ words)
+line_begun a b c [] = simp append_assoc
+line_begun a b c (next ∷ words) = simp append_assoc
 
 -- one line more, for the next of some values
 pub line_more : {X : Type 0} (f : X → List (List ℕ)) (xs : List X) (i : ℕ) (d : X) (before text longer : List ℕ) → i < length xs

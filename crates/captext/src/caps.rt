@@ -5,7 +5,7 @@ ghost use Rattle.captext.specs.Spelling.{AreTerms};
 ghost use Rattle.captext.specs.Tables as text;
 
 use crate::objects::{takes_caps, takes_pairs};
-use crate::shapes::{Place, Term, slot, terms};
+use crate::shapes::{Place, Term, names, slot, terms};
 use base::{ObjId, Rights, SlotRef};
 use bitflags::Flags;
 use machine::{Badged, Binding, Cap, Detail, Filled, Guard, Object, ObjectKind, Pair, Radix};
@@ -189,8 +189,30 @@ fn named(draft: &Draft, name: &str) -> Result<ObjId, Wrong>
     draft.object_named(name).ok_or(Wrong::UnknownName)
 }
 
+/// Adds a capability to the object of one name in a slot of the object of another.
+#[tactic(auto, unfolding(crate::specs::Tables::capped, words::specs::Reading::bind))]
+fn fill_named(
+    draft: &mut Draft,
+    holder: &str,
+    place: Place,
+    target: &str,
+    terms: (Option<Term>, Option<Term>),
+) -> Result<(), LineError>
+    requires { AreTerms terms }
+    ensures exact { GivesOrStops (λ _. draft.new) result
+        (text.capped draft.old ((holder.now, place), (target.now, terms))) }
+    ensures err { OnErr result (draft.new ≡ draft.old) }
+{
+    if !(takes_caps(draft) && cap_rises(draft, draft.object_named(holder), place)) {
+        return Err(LineError::Text(Wrong::Syntax));
+    }
+    let holder = named(draft, holder)?;
+    let target = named(draft, target)?;
+    fill(draft, holder, place, target, terms)
+}
+
 /// Reads `SLOT NAME` and what the capability says, after the word `cap`.
-#[tactic(auto, unfolding(crate::specs::Tables::cap_line, crate::specs::Tables::cap_at, crate::specs::Tables::capped, words::specs::Parts::in_turn, words::specs::Reading::bind))]
+#[tactic(auto, unfolding(crate::specs::Tables::cap_line, crate::specs::Tables::cap_at, words::specs::Parts::in_turn, words::specs::Reading::bind))]
 pub fn cap_line(draft: &mut Draft, words: &mut Words<'_>) -> Result<(), LineError>
     ensures exact { GivesOrStops (λ _. draft.new) result (text.cap_line draft.old words.old) }
     ensures err { OnErr result (draft.new ≡ draft.old) }
@@ -199,12 +221,7 @@ pub fn cap_line(draft: &mut Draft, words: &mut Words<'_>) -> Result<(), LineErro
     let target = words.name()?;
     let terms = terms(words)?;
     words.end()?;
-    if !(takes_caps(draft) && cap_rises(draft, draft.object_named(holder), place)) {
-        return Err(LineError::Text(Wrong::Syntax));
-    }
-    let holder = named(draft, holder)?;
-    let target = named(draft, target)?;
-    fill(draft, holder, place, target, terms)
+    fill_named(draft, holder, place, target, terms)
 }
 
 /// Whether the slot rises above those that are children. That of an unknown holder isn't compared.
@@ -274,15 +291,12 @@ pub fn is_thread_and_context(thread: Option<ObjectKind>, context: Option<ObjectK
     )
 }
 
-/// Reads `NAME NAME`, after the word `bind`.
-#[tactic(auto, unfolding(crate::specs::Shapes::names_at, crate::specs::Tables::bind_line, crate::specs::Tables::bound, words::specs::Parts::in_turn, words::specs::Reading::bind))]
-pub fn bind_line(draft: &mut Draft, words: &mut Words<'_>) -> Result<(), LineError>
-    ensures exact { GivesOrStops (λ _. draft.new) result (text.bind_line draft.old words.old) }
+/// Binds the thread of one name to the context of another.
+#[tactic(auto, unfolding(crate::specs::Tables::bound, words::specs::Reading::bind))]
+fn bind(draft: &mut Draft, thread: &str, context: &str) -> Result<(), LineError>
+    ensures exact { GivesOrStops (λ _. draft.new) result (text.bound draft.old (thread.now, context.now)) }
     ensures err { OnErr result (draft.new ≡ draft.old) }
 {
-    let thread = words.name()?;
-    let context = words.name()?;
-    words.end()?;
     if !thread_rises(draft, draft.object_named(thread)) {
         return Err(LineError::Text(Wrong::Syntax));
     }
@@ -296,4 +310,15 @@ pub fn bind_line(draft: &mut Draft, words: &mut Words<'_>) -> Result<(), LineErr
     }
     draft.add_binding(Binding { thread, context })?;
     Ok(())
+}
+
+/// Reads `NAME NAME`, after the word `bind`.
+#[tactic(auto, unfolding(crate::specs::Tables::bind_line, words::specs::Reading::bind))]
+pub fn bind_line(draft: &mut Draft, words: &mut Words<'_>) -> Result<(), LineError>
+    ensures exact { GivesOrStops (λ _. draft.new) result (text.bind_line draft.old words.old) }
+    ensures err { OnErr result (draft.new ≡ draft.old) }
+{
+    let (thread, context) = names(words)?;
+    words.end()?;
+    bind(draft, thread, context)
 }

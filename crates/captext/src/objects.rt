@@ -3,6 +3,7 @@ ghost use Rattle.words.specs.{Name.is_name, Parts.read_as, Reading.{Gives, Gives
 ghost use Rattle.table.specs.{Building.repeats_control, Names.object_named, Rules.IsBlank};
 ghost use Rattle.captext.specs.Tables as text;
 
+use crate::shapes::names;
 use base::{CoreNo, Label, MAX_PERIOD};
 use machine::{
     CNode, Context, Control, Endpoint, Frame, Inbox, Initial, Notification, Object, ObjectKind,
@@ -116,7 +117,7 @@ fn repeats_control(draft: &Draft, object: &Object) -> bool
 }
 
 /// Reads an object's `NAME LABEL` and its kind's own words, after the kind's word.
-#[tactic(auto, unfolding(crate::specs::Shapes::names_at, crate::specs::Tables::object_line, words::specs::Parts::in_turn, words::specs::Reading::bind))]
+#[tactic(auto, unfolding(crate::specs::Tables::object_line, words::specs::Reading::bind))]
 pub fn object_line(
     draft: &mut Draft,
     kind: ObjectKind,
@@ -125,8 +126,7 @@ pub fn object_line(
     ensures exact { GivesOrStops (λ _. draft.new) result (text.object_line kind draft.old words.old) }
     ensures err { OnErr result (draft.new ≡ draft.old) }
 {
-    let name = words.name()?;
-    let label = words.name()?;
+    let (name, label) = names(words)?;
     let object = match object(kind, words) {
         Ok(object) => object,
         Err(wrong) => return Err(LineError::Text(wrong)),

@@ -1,5 +1,5 @@
-ghost use Rattle.std.specs.Prelude.{◌==◌, ◌≡◌, option_map, position};
-ghost use Rattle.words.specs.Reading.{Gives};
+ghost use Rattle.std.specs.Prelude.{◌==◌, ◌≡◌, IfOk, option_map, position, true};
+ghost use Rattle.words.specs.{Name.is_name, Reading.Gives};
 ghost use Rattle.captext.specs.Shapes as shape;
 
 use base::Rights;
@@ -15,7 +15,7 @@ pub enum Place {
 }
 
 /// A word after the object in a line for a capability.
-#[derive(Clone, Copy, PartialEq, Eq, Debug)]
+#[derive(Clone, Copy)]
 pub enum Term {
     Rights(Rights),
     Decimal(u64),
@@ -50,6 +50,17 @@ fn slot_of(word: &[u8]) -> Option<(&str, Place)>
     let name = name_of(&word[..dot])?;
     let place = place_of(&word[dot + 1..])?;
     Some((name, place))
+}
+
+/// The next two words as names.
+#[tactic(auto, unfolding(crate::specs::Shapes::names_at, words::specs::Parts::in_turn, words::specs::Reading::bind))]
+pub fn names<'a>(words: &mut Words<'a>) -> Result<(&'a str, &'a str), Wrong>
+    ensures exact { Gives (λ names. ((names.0.now, names.1.now), words.new)) result (shape.names_at words.old) }
+    ensures spelled { IfOk result (λ names. is_name names.0.now ≡ true) }
+{
+    let first = words.name()?;
+    let second = words.name()?;
+    Ok((first, second))
 }
 
 /// The next word as a slot.

@@ -1,11 +1,11 @@
-ghost use Rattle.std.specs.{List.AllByRecursion, Prelude.{ℕ, ◌++◌, ◌≡◌, IfErr, IfOk, List, Ok, OnOk, Some, map, string_bytes}};
+ghost use Rattle.std.specs.{Fmt.decimal, List.AllByRecursion, Prelude.{[], ℕ, ◌++◌, ◌∷◌, ◌≡◌, IfErr, IfOk, List, Ok, OnOk, Some, map, string_bytes}};
 ghost use Rattle.base.specs.Refusals.{out_of_memory};
 ghost use Rattle.machine.specs.{KindWords.object_kind_word, Layout.Layout};
 ghost use Rattle.words.specs.Text.{line_text, text_of};
 ghost use Rattle.table.specs.Rules.{kind_at};
 ghost use Rattle.captext.specs.{Policies.read_policy_of, PolicyText.{IsEdgeOf, edge_lines, edge_words, label_name, policy_text}};
-ghost use Rattle.captext.specs.{Spelling.place_word, TableText.{binding_words, cap_words, label_lines, object_lines, object_name}};
-ghost use Rattle.captext.specs.{TableText.{object_words, pair_words, place_in, table_lines, table_text}, Tables.read_table_of};
+ghost use Rattle.captext.specs.{Spelling.place_word, TableText.{binding_words, cap_words, content_words, detail_words}};
+ghost use Rattle.captext.specs.{TableText.{label_lines, object_lines, object_name, object_words, pair_words, place_in, share_words, table_lines, table_text}, Tables.read_table_of};
 
 use crate::shapes::Place;
 use crate::tables::{table_header, tables_are_read_back};
@@ -205,6 +205,7 @@ fn kind_name(kind: ObjectKind) -> &'static str
     }
 }
 
+#[tactic(auto, using(crate::proofs::Written::line_begun))]
 fn write_object(
     text: &mut String,
     table: &Table,
@@ -218,54 +219,77 @@ fn write_object(
     let name = object_name(table, id);
     let label = label_name(table, initial.label);
     write!(text, "{kind} {name} {label}")?;
-    match initial.object {
-        Object::Untyped(Untyped { base, bits, .. }) => writeln!(text, " 0x{base:x} {bits}"),
-        Object::CNode(CNode { address, radix }) => {
-            let radix = radix.bits();
-            writeln!(text, " 0x{address:x} {radix}")
-        }
-        Object::Tcb(Tcb { address, state, .. }) => {
-            let start = match state {
-                RunState::Ready => "ready",
-                _ => "inactive",
-            };
-            writeln!(text, " 0x{address:x} {start}")
-        }
-        Object::Endpoint(Endpoint { address })
-        | Object::Notification(Notification { address, .. })
-        | Object::Reply(Reply { address, .. })
-        | Object::Frame(Frame { address }) => writeln!(text, " 0x{address:x}"),
-        Object::Context(Context { address, share, .. }) => match share {
-            None => writeln!(text, " 0x{address:x} -"),
-            Some(
-                Share {
-                    core,
-                    budget,
-                    period,
-                },
-            ) => writeln!(text, " 0x{address:x} {core} {budget} {period}"),
-        },
-        Object::Control(Control { core }) => writeln!(text, " {core}"),
+    write_content(text, &initial.object)
+}
+
+/// Writes where an object lies and what else its kind needs, each word after a space, and ends the line.
+fn write_content(text: &mut String, object: &Object) -> Result<(), AllocError>
+    ensures { OnOk result (string_bytes text.new ≡ string_bytes text.old ++ line_text ([] ∷ content_words object.now)) }
+{
+    if let Object::Control(Control { core }) = object {
+        return write_last(text, core.number());
     }
+    let address = object.address();
+    write!(text, " 0x{address:x}")?;
+    match object {
+        Object::Untyped(Untyped { bits, .. }) => write_last(text, *bits),
+        Object::CNode(CNode { radix, .. }) => write_last(text, radix.bits()),
+        Object::Tcb(Tcb { state: RunState::Ready, .. }) => text.push_str(" ready\n"),
+        Object::Tcb(_) => text.push_str(" inactive\n"),
+        Object::Context(Context { share, .. }) => write_share(text, *share),
+        _ => text.push_str("\n"),
+    }
+}
+
+/// Writes a number after a space, and ends the line.
+fn write_last(text: &mut String, number: u8) -> Result<(), AllocError>
+    ensures { OnOk result (string_bytes text.new ≡ string_bytes text.old ++ line_text ([] ∷ decimal number ∷ [])) }
+{
+    writeln!(text, " {number}")
+}
+
+/// Writes the share of a context after a space, and ends the line.
+fn write_share(text: &mut String, share: Option<Share>) -> Result<(), AllocError>
+    ensures { OnOk result (string_bytes text.new ≡ string_bytes text.old ++ line_text ([] ∷ share_words share)) }
+{
+    let Some(
+        Share {
+            core,
+            budget,
+            period,
+        },
+    ) = share
+    else {
+        return text.push_str(" -\n");
+    };
+    writeln!(text, " {core} {budget} {period}")
 }
 
 impl Line for Filled {
     ghost words = { cap_words };
 
+    #[tactic(auto, using(crate::proofs::Written::line_begun))]
     fn write(&self, text: &mut String, table: &Table) -> Result<(), AllocError> {
         let holder = object_name(table, self.slot.holder);
         let place = place_in(table, self.slot);
         let object = object_name(table, self.cap.object);
         write!(text, "cap {holder}.{place} {object}")?;
-        match self.cap.detail {
-            Detail::CNode(guard) => writeln!(text, " {} 0x{:x}", guard.size, guard.value),
-            Detail::Endpoint(end) | Detail::Notification(end) => {
-                writeln!(text, " {} {}", end.rights, end.badge)
-            }
-            Detail::Frame(rights) => writeln!(text, " {rights}"),
-            Detail::Untyped | Detail::Tcb | Detail::Reply | Detail::Context | Detail::Control => {
-                writeln!(text)
-            }
+        write_detail(text, &self.cap.detail)
+    }
+}
+
+/// Writes what a capability says beside its object, each word after a space, and ends the line.
+fn write_detail(text: &mut String, detail: &Detail) -> Result<(), AllocError>
+    ensures { OnOk result (string_bytes text.new ≡ string_bytes text.old ++ line_text ([] ∷ detail_words detail.now)) }
+{
+    match detail {
+        Detail::CNode(guard) => writeln!(text, " {} 0x{:x}", guard.size, guard.value),
+        Detail::Endpoint(end) | Detail::Notification(end) => {
+            writeln!(text, " {} {}", end.rights, end.badge)
+        }
+        Detail::Frame(rights) => writeln!(text, " {rights}"),
+        Detail::Untyped | Detail::Tcb | Detail::Reply | Detail::Context | Detail::Control => {
+            text.push_str("\n")
         }
     }
 }
