@@ -254,21 +254,35 @@ fn pair(draft: &mut Draft, parent: (ObjId, Place), child: (ObjId, Place)) -> Res
     Ok(())
 }
 
+/// Makes the capability in the slot of one name the parent of that in the slot of another.
+#[tactic(auto, unfolding(crate::specs::Tables::derived, words::specs::Reading::bind))]
+fn pair_named(
+    draft: &mut Draft,
+    parent: (&str, Place),
+    child: (&str, Place),
+) -> Result<(), LineError>
+    ensures exact { GivesOrStops (λ _. draft.new) result
+        (text.derived draft.old ((parent.entry.0.now, parent.entry.1), (child.entry.0.now, child.entry.1))) }
+    ensures err { OnErr result (draft.new ≡ draft.old) }
+{
+    if !(takes_pairs(draft) && child_rises(draft, draft.object_named(child.0), child.1)) {
+        return Err(LineError::Text(Wrong::Syntax));
+    }
+    let above = named(draft, parent.0)?;
+    let below = named(draft, child.0)?;
+    pair(draft, (above, parent.1), (below, child.1))
+}
+
 /// Reads `SLOT SLOT`, of a parent and its child, after the word `child`.
-#[tactic(auto, unfolding(crate::specs::Tables::child_line, crate::specs::Tables::pair_at, crate::specs::Tables::derived, words::specs::Parts::in_turn, words::specs::Reading::bind))]
+#[tactic(auto, unfolding(crate::specs::Tables::child_line, crate::specs::Tables::pair_at, words::specs::Parts::in_turn, words::specs::Reading::bind))]
 pub fn child_line(draft: &mut Draft, words: &mut Words<'_>) -> Result<(), LineError>
     ensures exact { GivesOrStops (λ _. draft.new) result (text.child_line draft.old words.old) }
     ensures err { OnErr result (draft.new ≡ draft.old) }
 {
-    let (above, parent) = slot(words)?;
-    let (below, child) = slot(words)?;
+    let parent = slot(words)?;
+    let child = slot(words)?;
     words.end()?;
-    if !(takes_pairs(draft) && child_rises(draft, draft.object_named(below), child)) {
-        return Err(LineError::Text(Wrong::Syntax));
-    }
-    let above = named(draft, above)?;
-    let below = named(draft, below)?;
-    pair(draft, (above, parent), (below, child))
+    pair_named(draft, parent, child)
 }
 
 /// Whether the thread rises above those that are bound. An unknown name isn't compared.
