@@ -1,5 +1,5 @@
 -- The lines of scripts: an event is its core, its thread, and a call, which is a name with operands (confine's own).
-use Rattle.std.specs.{Fmt.decimal, Prelude.{[], ℕ, ◌&&◌, ◌<◌, ◌^◌, ◌∷◌, Err, List, Ok, Result, codes, if◌then◌else◌, nat_lt}}
+use Rattle.std.specs.{Fmt.decimal, Prelude.{[], ℕ, ◌&&◌, ◌<◌, ◌^◌, ◌∷◌, Err, List, Ok, Result, codes, drop, if◌then◌else◌, nat_lt}}
 use Rattle.base.specs.declared.core_number.TheConstants.CoreNo as CoreNo
 use Rattle.base.specs.declared.limits.TheConstants.{MAX_EVENTS}
 use Rattle.machine.specs.declared.call.Call.{Call, TheVariants.{Bind, ClearSpace, Configure, Copy, Delete, Fetch, Mint, Move, Poll, Read}}
@@ -134,6 +134,10 @@ calls =
     ∷ reader_of revoke_form
     ∷ reader_of retype_form
     ∷ thread_calls
+
+-- calls from `copy` on
+abbrev pub slot_calls : List (List ℕ × PartReader Call)
+slot_calls = drop 8 calls
 
 -- the next words as a call: its name, then its operands
 unfoldable pub call_at : PartReader Call

@@ -1,12 +1,11 @@
 //! The calls, each as its name and its operands: how one is read off the words of a line, and how it is written.
-ghost use Rattle.std.specs.Prelude.{◌++◌, ◌∷◌, ◌≡◌, Bool, OnOk};
-ghost use Rattle.machine.specs.declared.call.Call.TheVariants as calls;
+ghost use Rattle.std.specs.Prelude.{[], ◌≡◌, Bool, OnOk, drop, get_or};
 ghost use Rattle.machine.specs.Step.{takes_memory};
 ghost use Rattle.words.specs.{Parts.by_word, Reading.Gives};
 ghost use Rattle.evtext.specs.Event.{bind_form, call_at, call_by, call_form, call_words, clear_space_form, configure_form, copy_form};
 ghost use Rattle.evtext.specs.Event.{delete_form, fetch_form, mint_form, move_form, poll_form, read_form, receive_form, reply_form};
-ghost use Rattle.evtext.specs.Event.{resume_form, retype_form, revoke_form, send_form, set_space_form, signal_form, suspend_form};
-ghost use Rattle.evtext.specs.{Event.{thread_calls, unbind_form, wait_form, write_form}, Operands.slot_address_words, Written.written};
+ghost use Rattle.evtext.specs.Event.{resume_form, retype_form, revoke_form, send_form, set_space_form, signal_form, slot_calls, suspend_form};
+ghost use Rattle.evtext.specs.{Event.{thread_calls, unbind_form, wait_form, write_form}, Written.written};
 
 use crate::line::is;
 use crate::operands::{
@@ -14,8 +13,8 @@ use crate::operands::{
     next_rights, next_slot_address, next_two,
 };
 use crate::writing::{
-    write_data, write_four, write_numbers, write_optional, write_optional_slot, write_rights,
-    write_sent, write_slot, write_word,
+    write_data, write_each, write_four, write_number, write_numbers, write_optional,
+    write_optional_slot, write_rights, write_slot, write_word,
 };
 use base::Rights;
 use machine::{Call, CapData, SlotAddress};
@@ -51,6 +50,14 @@ pub(crate) fn next_call(words: &mut Words<'_>) -> Result<Call, Wrong>
     if is(name, b"fetch") {
         return next_fetch(words);
     }
+    next_slot_call(name, words)
+}
+
+/// The next words as the operands of a call on slots, or of one after these.
+#[tactic(auto, unfolding(words::specs::Parts::by_word))]
+fn next_slot_call(name: &[u8], words: &mut Words<'_>) -> Result<Call, Wrong>
+    ensures { Gives (λ call. (call, words.new)) result (by_word slot_calls name.now words.old) }
+{
     if is(name, b"copy") {
         return next_copy(words);
     }
@@ -368,45 +375,78 @@ fn next_configure(words: &mut Words<'_>) -> Result<Call, Wrong>
     })
 }
 
+// The name of a call.
+fn name_of(call: &Call) -> &'static str
+    ensures { result.now ≡ get_or (call_words call.now) 0 [] }
+{
+    match call {
+        Call::Signal { .. } => "signal",
+        Call::Poll { .. } => "poll",
+        Call::Wait { .. } => "wait",
+        Call::Send { .. } => "send",
+        Call::Call { .. } => "call",
+        Call::Receive { .. } => "recv",
+        Call::Reply { .. } => "reply",
+        Call::Fetch => "fetch",
+        Call::Copy { .. } => "copy",
+        Call::Mint { .. } => "mint",
+        Call::Move { .. } => "move",
+        Call::Delete { .. } => "delete",
+        Call::Revoke { .. } => "revoke",
+        Call::Retype { .. } => "retype",
+        Call::Read { .. } => "read",
+        Call::Write { .. } => "write",
+        Call::SetSpace { .. } => "setspace",
+        Call::ClearSpace { .. } => "clearspace",
+        Call::Suspend { .. } => "suspend",
+        Call::Resume { .. } => "resume",
+        Call::Configure { .. } => "configure",
+        Call::Bind { .. } => "bind",
+        Call::Unbind { .. } => "unbind",
+    }
+}
+
+fn write_sent(
+    text: &mut Vec<u8>,
+    address: u64,
+    words: &[u64; 4],
+    capability: Option<u64>,
+) -> Result<(), AllocError>
+    ensures { OnOk result (text.new.items ≡ written text.old.items (send_form.shape.spell (address, (words.now, capability)))) }
+{
+    write_number(text, address)?;
+    write_four(text, words)?;
+    write_optional(text, capability)
+}
+
 fn write_receive(
     text: &mut Vec<u8>,
     address: u64,
     reply: Option<u64>,
     slot: &Option<SlotAddress>,
 ) -> Result<(), AllocError>
-    ensures { OnOk result (text.new.items ≡ written text.old.items (call_words (calls.Receive address reply slot.now))) }
+    ensures { OnOk result (text.new.items ≡ written text.old.items (receive_form.shape.spell (address, (reply, slot.now)))) }
 {
-    write_numbers(text, "recv", &[address])?;
+    write_number(text, address)?;
     write_optional(text, reply)?;
     write_optional_slot(text, slot)
 }
 
 fn write_reply(text: &mut Vec<u8>, address: u64, words: &[u64; 4]) -> Result<(), AllocError>
-    ensures { OnOk result (text.new.items ≡ written text.old.items (call_words (calls.Reply address words.now))) }
+    ensures { OnOk result (text.new.items ≡ written text.old.items (reply_form.shape.spell (address, words.now))) }
 {
-    write_numbers(text, "reply", &[address])?;
+    write_number(text, address)?;
     write_four(text, words)
 }
 
-// Writes a name and a slot after it.
-fn write_of_slot(text: &mut Vec<u8>, name: &str, slot: &SlotAddress) -> Result<(), AllocError>
-    ensures { OnOk result (text.new.items ≡ written text.old.items (name.now ∷ slot_address_words slot.now)) }
-{
-    write_word(text, name)?;
-    write_slot(text, slot)
-}
-
-// Writes a name and two slots after it.
-fn write_of_slots(
+fn write_slots(
     text: &mut Vec<u8>,
-    name: &str,
     to: &SlotAddress,
     from: &SlotAddress,
 ) -> Result<(), AllocError>
-    ensures { OnOk result (text.new.items ≡ written text.old.items
-        (name.now ∷ (slot_address_words to.now ++ slot_address_words from.now))) }
+    ensures { OnOk result (text.new.items ≡ written text.old.items (move_form.shape.spell (to.now, from.now))) }
 {
-    write_of_slot(text, name, to)?;
+    write_slot(text, to)?;
     write_slot(text, from)
 }
 
@@ -416,9 +456,9 @@ fn write_copy(
     from: &SlotAddress,
     rights: Rights,
 ) -> Result<(), AllocError>
-    ensures { OnOk result (text.new.items ≡ written text.old.items (call_words (calls.Copy to.now from.now rights))) }
+    ensures { OnOk result (text.new.items ≡ written text.old.items (copy_form.shape.spell (to.now, (from.now, rights)))) }
 {
-    write_of_slots(text, "copy", to, from)?;
+    write_slots(text, to, from)?;
     write_rights(text, rights)
 }
 
@@ -430,17 +470,16 @@ fn write_mint(
     given: &CapData,
 ) -> Result<(), AllocError>
     ensures { OnOk result (text.new.items
-        ≡ written text.old.items (call_words (calls.Mint to.now from.now rights given.now))) }
+        ≡ written text.old.items (mint_form.shape.spell (to.now, (from.now, (rights, given.now))))) }
 {
-    write_of_slots(text, "mint", to, from)?;
-    write_rights(text, rights)?;
+    write_copy(text, to, from, rights)?;
     write_data(text, given)
 }
 
-// Writes the words of a retype, the one call that takes memory.
+// Writes the operands of a retype, the one call that takes memory.
 fn write_retype(text: &mut Vec<u8>, call: &Call) -> Result<(), AllocError>
     requires { takes_memory call.now ≡ Bool.true }
-    ensures { OnOk result (text.new.items ≡ written text.old.items (call_words call.now)) }
+    ensures { OnOk result (text.new.items ≡ written text.old.items (drop 1 (call_words call.now))) }
 {
     let Call::Retype {
         untyped,
@@ -453,34 +492,62 @@ fn write_retype(text: &mut Vec<u8>, call: &Call) -> Result<(), AllocError>
     else {
         unreachable!()
     };
-    write_numbers(text, "retype", &[*untyped])?;
+    write_number(text, *untyped)?;
     write_numbers(text, kind.name(), &[*bits, *to, *offset, *count])
 }
 
 pub(crate) fn write_call(text: &mut Vec<u8>, call: &Call) -> Result<(), AllocError>
     ensures { OnOk result (text.new.items ≡ written text.old.items (call_words call.now)) }
 {
+    write_word(text, name_of(call))?;
     match call {
-        Call::Signal { address } => write_numbers(text, "signal", &[*address]),
-        Call::Poll { address } => write_numbers(text, "poll", &[*address]),
-        Call::Wait { address } => write_numbers(text, "wait", &[*address]),
+        Call::Signal { address: number }
+        | Call::Poll { address: number }
+        | Call::Wait { address: number }
+        | Call::ClearSpace { thread: number }
+        | Call::Suspend { thread: number }
+        | Call::Resume { thread: number }
+        | Call::Unbind { context: number } => write_number(text, *number),
+        Call::Read {
+            address: one,
+            index: other,
+        }
+        | Call::SetSpace {
+            thread: one,
+            space: other,
+        }
+        | Call::Bind {
+            context: one,
+            thread: other,
+        } => write_each(text, &[*one, *other]),
+        Call::Write {
+            address,
+            index,
+            word,
+        } => write_each(text, &[*address, *index, *word]),
+        Call::Configure {
+            control,
+            context,
+            budget,
+            period,
+        } => write_each(text, &[*control, *context, *budget, *period]),
         Call::Send {
             address,
             words,
             capability,
-        } => write_sent(text, "send", *address, words, *capability),
-        Call::Call {
+        }
+        | Call::Call {
             address,
             words,
             capability,
-        } => write_sent(text, "call", *address, words, *capability),
+        } => write_sent(text, *address, words, *capability),
         Call::Receive {
             address,
             reply,
             slot,
         } => write_receive(text, *address, *reply, slot),
         Call::Reply { address, words } => write_reply(text, *address, words),
-        Call::Fetch => write_word(text, "fetch"),
+        Call::Fetch => Ok(()),
         Call::Copy { to, from, rights } => write_copy(text, to, from, *rights),
         Call::Mint {
             to,
@@ -488,27 +555,8 @@ pub(crate) fn write_call(text: &mut Vec<u8>, call: &Call) -> Result<(), AllocErr
             rights,
             given,
         } => write_mint(text, to, from, *rights, given),
-        Call::Move { to, from } => write_of_slots(text, "move", to, from),
-        Call::Delete { slot } => write_of_slot(text, "delete", slot),
-        Call::Revoke { slot } => write_of_slot(text, "revoke", slot),
+        Call::Move { to, from } => write_slots(text, to, from),
+        Call::Delete { slot } | Call::Revoke { slot } => write_slot(text, slot),
         Call::Retype { .. } => write_retype(text, call),
-        Call::Read { address, index } => write_numbers(text, "read", &[*address, *index]),
-        Call::Write {
-            address,
-            index,
-            word,
-        } => write_numbers(text, "write", &[*address, *index, *word]),
-        Call::SetSpace { thread, space } => write_numbers(text, "setspace", &[*thread, *space]),
-        Call::ClearSpace { thread } => write_numbers(text, "clearspace", &[*thread]),
-        Call::Suspend { thread } => write_numbers(text, "suspend", &[*thread]),
-        Call::Resume { thread } => write_numbers(text, "resume", &[*thread]),
-        Call::Configure {
-            control,
-            context,
-            budget,
-            period,
-        } => write_numbers(text, "configure", &[*control, *context, *budget, *period]),
-        Call::Bind { context, thread } => write_numbers(text, "bind", &[*context, *thread]),
-        Call::Unbind { context } => write_numbers(text, "unbind", &[*context]),
     }
 }

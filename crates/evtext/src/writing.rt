@@ -107,6 +107,15 @@ pub(crate) fn write_word(text: &mut Vec<u8>, word: &str) -> Result<(), AllocErro
     Ok(())
 }
 
+pub(crate) fn write_each(text: &mut Vec<u8>, numbers: &[u64]) -> Result<(), AllocError>
+    ensures { OnOk result (text.new.items ≡ written text.old.items (map decimal numbers.now)) }
+{
+    for number in numbers {
+        write_number(text, *number)?;
+    }
+    Ok(())
+}
+
 // Writes a name and numbers after it.
 pub(crate) fn write_numbers(
     text: &mut Vec<u8>,
@@ -116,10 +125,7 @@ pub(crate) fn write_numbers(
     ensures { OnOk result (text.new.items ≡ written text.old.items (name.now ∷ map decimal numbers.now)) }
 {
     write_word(text, name)?;
-    for number in numbers {
-        write_number(text, *number)?;
-    }
-    Ok(())
+    write_each(text, numbers)
 }
 
 pub(crate) fn write_optional(text: &mut Vec<u8>, number: Option<u64>) -> Result<(), AllocError>
@@ -201,22 +207,6 @@ pub(crate) fn write_data(text: &mut Vec<u8>, given: &CapData) -> Result<(), Allo
         CapData::Badge(badge) => write_numbers(text, "badge", &[*badge]),
         CapData::Guard { size, value } => write_numbers(text, "guard", &[*size, *value]),
     }
-}
-
-// Writes a name and what is sent: to whom, which words, and which capability.
-pub(crate) fn write_sent(
-    text: &mut Vec<u8>,
-    name: &str,
-    address: u64,
-    words: &[u64; 4],
-    capability: Option<u64>,
-) -> Result<(), AllocError>
-    ensures { OnOk result (text.new.items ≡ written text.old.items
-        (name.now ∷ decimal address ∷ (four_words words.now ++ optional_word capability ∷ []))) }
-{
-    write_numbers(text, name, &[address])?;
-    write_four(text, words)?;
-    write_optional(text, capability)
 }
 
 /// Writes the words of the event, and no space before them.
