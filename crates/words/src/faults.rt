@@ -6,7 +6,7 @@ use thiserror::Error;
 
 /// What a line of a text can be refused for. Within a line they are told in the order `Syntax`,
 /// `UnknownName`, `Double`, `WrongKind`, `Limit`, `Misplaced`; `Tree` is found once the text ended.
-#[derive(Clone, Copy, Debug, PartialEq, Eq, Hash, Error)]
+#[derive(Clone, Copy, Debug, PartialEq, Eq, Error)]
 pub enum Wrong {
     #[error("the line doesn't have its form, or is out of order")]
     Syntax,
@@ -42,7 +42,7 @@ impl Wrong {
 }
 
 /// Why the reading of a line stopped: memory was refused, or the text is wrong.
-#[derive(Clone, Copy, Debug, PartialEq, Eq, Hash, Error)]
+#[derive(Clone, Copy, Debug, PartialEq, Eq, Error)]
 pub enum LineError {
     #[error("no memory")]
     Memory,
@@ -76,7 +76,7 @@ impl<T: Drop> From<AllocFailed<T>> for LineError {
 
 /// Why a text wasn't read: the number of the fault, 50 to 56, and the line that has it, from 1; or
 /// 40 and line 0 where memory was refused.
-#[derive(Clone, Copy, Debug, PartialEq, Eq, Hash, Error)]
+#[derive(Clone, Copy, Debug, PartialEq, Eq, Error)]
 #[error("line {line}: fault {number}")]
 pub struct Fault {
     pub number: u64,
