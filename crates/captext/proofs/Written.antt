@@ -1,6 +1,6 @@
 -- How a text grows line by line, and what is written where a name is missing.
-use Rattle.std.{specs.List.zip, proofs.Common.{[], ℕ, ◌++◌, ◌+◌, ◌<◌, ◌∙◌, ◌∷◌, ◌≡◌, ◌≤◌, List, None, ap, append_assoc, arith, get_or, length}}
-use Rattle.std.proofs.{Common.{map, slice_get, sym, take, unwrap_or}, lemmas.{Grind.flat_map-append, List.{flat_map_more, map_more}}}
+use Rattle.std.{specs.List.zip, proofs.Common.{[], ℕ, ◌++◌, ◌+◌, ◌<◌, ◌∙◌, ◌∷◌, ◌≡◌, ◌≤◌, List, None, ap, append_assoc, arith}}
+use Rattle.std.proofs.{Common.{get_or, length, map, slice_get, sym, take, unwrap_or}, lemmas.{Grind.flat_map-append, List.{flat_map_more, map_more}}}
 use Rattle.std.proofs.lemmas.{List.take_all, Option.unwrap_or-slice_get, Slice.Zip.{get_or-zip, length-zip}}
 use Rattle.words.specs.Text.{line_text, text_of}
 

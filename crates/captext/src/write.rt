@@ -1,11 +1,13 @@
-ghost use Rattle.std.specs.{Fmt.decimal, List.AllByRecursion, Prelude.{[], ℕ, ◌++◌, ◌∷◌, ◌≡◌, IfErr, IfOk, List, Ok, OnOk, Some, map, string_bytes}};
+ghost use Rattle.std.specs.{Fmt.decimal, List.AllByRecursion, Prelude.{[], ℕ, ◌++◌, ◌∷◌, ◌≡◌, IfErr, IfOk, List, Ok, OnOk, Some}};
+ghost use Rattle.std.specs.Prelude.{map, string_bytes};
 ghost use Rattle.base.specs.Refusals.{out_of_memory};
 ghost use Rattle.machine.specs.{KindWords.object_kind_word, Layout.Layout};
 ghost use Rattle.words.specs.Text.{line_text, text_of};
 ghost use Rattle.table.specs.Rules.{kind_at};
 ghost use Rattle.captext.specs.{Policies.read_policy_of, PolicyText.{IsEdgeOf, edge_lines, edge_words, label_name, policy_text}};
 ghost use Rattle.captext.specs.{Spelling.place_word, TableText.{binding_words, cap_words, content_words, detail_words}};
-ghost use Rattle.captext.specs.{TableText.{label_lines, object_lines, object_name, object_words, pair_words, place_in, share_words, table_lines, table_text}, Tables.read_table_of};
+ghost use Rattle.captext.specs.TableText.{label_lines, object_lines, object_name, object_words, pair_words, place_in, share_words};
+ghost use Rattle.captext.specs.{TableText.{table_lines, table_text}, Tables.read_table_of};
 
 use crate::shapes::Place;
 use crate::tables::{table_header, tables_are_read_back};
@@ -222,7 +224,8 @@ fn write_object(
     write_content(text, &initial.object)
 }
 
-/// Writes where an object lies and what else its kind needs, each word after a space, and ends the line.
+/// Writes where an object lies and what else its kind needs, each word after a space, and ends
+/// the line.
 fn write_content(text: &mut String, object: &Object) -> Result<(), AllocError>
     ensures { OnOk result (string_bytes text.new ≡ string_bytes text.old ++ line_text ([] ∷ content_words object.now)) }
 {
@@ -234,7 +237,12 @@ fn write_content(text: &mut String, object: &Object) -> Result<(), AllocError>
     match object {
         Object::Untyped(Untyped { bits, .. }) => write_last(text, *bits),
         Object::CNode(CNode { radix, .. }) => write_last(text, radix.bits()),
-        Object::Tcb(Tcb { state: RunState::Ready, .. }) => text.push_str(" ready\n"),
+        Object::Tcb(
+            Tcb {
+                state: RunState::Ready,
+                ..
+            },
+        ) => text.push_str(" ready\n"),
         Object::Tcb(_) => text.push_str(" inactive\n"),
         Object::Context(Context { share, .. }) => write_share(text, *share),
         _ => text.push_str("\n"),

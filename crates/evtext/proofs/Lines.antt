@@ -1,6 +1,6 @@
 -- A line is written at the end of a text word by word.
-use Rattle.std.proofs.Common.{[], ℕ, ◌++◌, ◌+◌, ◌<◌, ◌∙◌, ◌∷◌, ◌≡◌, ◌≤◌, List, ap, append_assoc, codes, get_or, length, map, refl, sym, take}
-use Rattle.std.proofs.lemmas.List.{flat_map_more, map_more, take_all, Sums.fold-append}
+use Rattle.std.proofs.Common.{[], ℕ, ◌++◌, ◌+◌, ◌<◌, ◌∙◌, ◌∷◌, ◌≡◌, ◌≤◌, List, ap, append_assoc, codes, get_or, length, map}
+use Rattle.std.proofs.{Common.{refl, sym, take}, lemmas.List.{flat_map_more, map_more, take_all, Sums.fold-append}}
 use Rattle.words.specs.{Reading.{last_line, list_text}, Text.{line_text, text_of}}
 use Rattle.evtext.specs.Written.{spelled, written}
 

@@ -4,8 +4,8 @@ ghost use Rattle.machine.specs.Step.{takes_memory};
 ghost use Rattle.words.specs.{Parts.by_word, Reading.Gives};
 ghost use Rattle.evtext.specs.Event.{bind_form, call_at, call_by, call_form, call_words, clear_space_form, configure_form, copy_form};
 ghost use Rattle.evtext.specs.Event.{delete_form, fetch_form, mint_form, move_form, poll_form, read_form, receive_form, reply_form};
-ghost use Rattle.evtext.specs.Event.{resume_form, retype_form, revoke_form, send_form, set_space_form, signal_form, slot_calls, suspend_form};
-ghost use Rattle.evtext.specs.{Event.{thread_calls, unbind_form, wait_form, write_form}, Written.written};
+ghost use Rattle.evtext.specs.Event.{resume_form, retype_form, revoke_form, send_form, set_space_form, signal_form, slot_calls};
+ghost use Rattle.evtext.specs.{Event.{suspend_form, thread_calls, unbind_form, wait_form, write_form}, Written.written};
 
 use crate::line::is;
 use crate::operands::{
@@ -406,6 +406,7 @@ fn name_of(call: &Call) -> &'static str
     }
 }
 
+// Writes what is sent: to whom, which words, and which capability.
 fn write_sent(
     text: &mut Vec<u8>,
     address: u64,
@@ -439,11 +440,7 @@ fn write_reply(text: &mut Vec<u8>, address: u64, words: &[u64; 4]) -> Result<(),
     write_four(text, words)
 }
 
-fn write_slots(
-    text: &mut Vec<u8>,
-    to: &SlotAddress,
-    from: &SlotAddress,
-) -> Result<(), AllocError>
+fn write_slots(text: &mut Vec<u8>, to: &SlotAddress, from: &SlotAddress) -> Result<(), AllocError>
     ensures { OnOk result (text.new.items ≡ written text.old.items (move_form.shape.spell (to.now, from.now))) }
 {
     write_slot(text, to)?;

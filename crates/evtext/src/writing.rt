@@ -107,6 +107,7 @@ pub(crate) fn write_word(text: &mut Vec<u8>, word: &str) -> Result<(), AllocErro
     Ok(())
 }
 
+// Writes the numbers in decimal, each after a space.
 pub(crate) fn write_each(text: &mut Vec<u8>, numbers: &[u64]) -> Result<(), AllocError>
     ensures { OnOk result (text.new.items ≡ written text.old.items (map decimal numbers.now)) }
 {

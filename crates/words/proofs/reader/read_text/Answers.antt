@@ -10,10 +10,10 @@ loop-words-preserved g c =
     let taken = c.in-Some.ensures in (
       c.in_default-take_line.ensures.same ∙ c.loop-words.invariant.0,
       goes_on (g.R.Reader.step c.args.reader.now) (judged as_read) c.loop-words.lines c.next_line.new.self
-      (g.R.Reader.seen c.loop-words.reader) (g.R.Reader.seen c.take_line.new.self) c.in-Some.words _
-      c.loop-words.invariant.1 taken.0 taken.1 (sym c.is.ensures ∙ c.if-is.false)
-      (sym (ap (λ step. step (g.R.Reader.seen c.loop-words.reader) c.in-Some.words) c.loop-words.invariant.0)
-      ∙ c.in_default-take_line.ensures.exact),
+          (g.R.Reader.seen c.loop-words.reader) (g.R.Reader.seen c.take_line.new.self) c.in-Some.words _
+          c.loop-words.invariant.1 taken.0 taken.1 (sym c.is.ensures ∙ c.if-is.false)
+          (sym (ap (λ step. step (g.R.Reader.seen c.loop-words.reader) c.in-Some.words) c.loop-words.invariant.0)
+          ∙ c.in_default-take_line.ensures.exact),
     )
 
 pub returns-in-Err : goal.returns-in-Err
