@@ -47,16 +47,16 @@ pub fn bytes_flaw<'a>(line: Line<'a>, before: &str) -> Option<LayoutFlaw<'a>> {
     if before == "end" {
         return Some(LayoutFlaw::AfterEnd);
     }
-    let bytes = line.bytes;
-    if bytes.is_empty() {
-        return Some(LayoutFlaw::Blank);
+    match line.bytes {
+        [] => Some(LayoutFlaw::Blank),
+        [b'#' | b';', ..] | [b'/', b'/', ..] => Some(LayoutFlaw::Comment),
+        [.., b'\r'] => Some(LayoutFlaw::CarriageReturn),
+        bytes => characters_flaw(bytes),
     }
-    if bytes.first() == Some(&b'#') || bytes.first() == Some(&b';') || bytes.starts_with(b"//") {
-        return Some(LayoutFlaw::Comment);
-    }
-    if bytes.last() == Some(&b'\r') {
-        return Some(LayoutFlaw::CarriageReturn);
-    }
+}
+
+// What is wrong with the characters of a line, if anything is.
+fn characters_flaw<'a>(bytes: &[u8]) -> Option<LayoutFlaw<'a>> {
     if bytes.contains(&b'\t') {
         return Some(LayoutFlaw::Tab);
     }

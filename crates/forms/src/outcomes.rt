@@ -15,17 +15,32 @@ pub enum OutcomeFlaw<'a> {
 
 /// What is wrong with an outcome, if anything is.
 pub fn outcome_flaw(outcome: &str) -> Option<OutcomeFlaw<'_>> {
-    let pattern = match (word(outcome, 0), word(outcome, 1)) {
-        (Some("blocked"), _) => "blocked",
-        (Some("refused"), _) => "refused DEC DEC",
-        (Some("done"), None) => "done",
-        (Some("done"), Some("aborted")) => "done aborted",
-        (Some("done"), Some("word")) => "done word DEC",
-        (Some("done"), Some("count")) => "done count DEC",
-        (Some("done"), Some("msg")) => "done msg DEC DEC DEC DEC DEC CAME",
-        (Some("done"), Some(other)) => return Some(OutcomeFlaw::NoAnswer(other)),
-        (Some(other), _) => return Some(OutcomeFlaw::Unknown(other)),
-        (None, _) => return Some(OutcomeFlaw::Unknown("")),
+    match pattern_of(outcome) {
+        Ok(pattern) => Some(OutcomeFlaw::Words(pattern_flaw(pattern, outcome)?)),
+        Err(flaw) => Some(flaw),
+    }
+}
+
+// The words that an outcome is to have, by the first of them.
+fn pattern_of(outcome: &str) -> Result<&'static str, OutcomeFlaw<'_>> {
+    match word(outcome, 0).unwrap_or_default() {
+        "blocked" => Ok("blocked"),
+        "refused" => Ok("refused DEC DEC"),
+        "done" => pattern_of_answer(word(outcome, 1)),
+        other => Err(OutcomeFlaw::Unknown(other)),
+    }
+}
+
+// The words that an outcome with this word after `done` is to have.
+fn pattern_of_answer(answer: Option<&str>) -> Result<&'static str, OutcomeFlaw<'_>> {
+    let Some(answer) = answer else {
+        return Ok("done");
     };
-    Some(OutcomeFlaw::Words(pattern_flaw(pattern, outcome)?))
+    match answer {
+        "aborted" => Ok("done aborted"),
+        "word" => Ok("done word DEC"),
+        "count" => Ok("done count DEC"),
+        "msg" => Ok("done msg DEC DEC DEC DEC DEC CAME"),
+        other => Err(OutcomeFlaw::NoAnswer(other)),
+    }
 }

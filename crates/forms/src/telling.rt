@@ -2,53 +2,73 @@
 use crate::form::{Form, Text};
 use crate::layout::{LayoutFlaw, OfLayout};
 use crate::outcomes::OutcomeFlaw;
-use std::fmt;
+use std::fmt::{self, Display};
 
 impl fmt::Display for OfLayout<'_> {
     fn fmt<W: fmt::Write>(&self, f: &mut fmt::Formatter<W>) -> fmt::Result {
         match self.flaw {
-            LayoutFlaw::HeaderOf(other) => {
-                let (name, wanted) = (other.name(), self.kind.name());
-                write!(
-                    f,
-                    "this is the header of a {name}, in place of a {wanted}'s"
-                )
-            }
-            LayoutFlaw::NoHeader => {
-                let (name, header) = (self.kind.name(), self.kind.header());
-                write!(f, "a {name} begins with `{header}`")?;
-                match self.kind.later_header() {
-                    Some(later) => write!(f, " or `{later}`"),
-                    None => Ok(()),
-                }
-            }
+            LayoutFlaw::HeaderOf(other) => tell_header(f, other, self.kind),
+            LayoutFlaw::NoHeader => tell_headers(f, self.kind),
             LayoutFlaw::Capitals(word) => write!(f, "`{word}` is to be in small letters"),
             LayoutFlaw::NoCall => f.write_str("core, thread and call are missing"),
             LayoutFlaw::NoOutcome => f.write_str("` = ` and an outcome are missing"),
-            LayoutFlaw::UnknownCall(word) => {
-                write!(f, "`{word}` is no call: calls are ")?;
-                words_of(f, Text::Script, 0, ", ")
-            }
-            LayoutFlaw::Unknown(word, before) => {
-                let name = self.kind.name();
-                write!(
-                    f,
-                    "no line of a {name} begins with `{word}`: here stands one of `"
-                )?;
-                let section = match before {
-                    Some(form) => form.section(),
-                    None => 0,
-                };
-                words_of(f, self.kind, section, "`, `")?;
-                f.write_str("`, or `end`")
-            }
-            LayoutFlaw::Below(form, above) => {
-                let (word, above) = (form.word(), above.word());
-                write!(f, "no `{word}` line stands below a `{above}` line")
-            }
+            LayoutFlaw::UnknownCall(word) => tell_calls(f, word),
+            LayoutFlaw::Unknown(word, before) => tell_lines(f, self.kind, word, before),
+            LayoutFlaw::Below(form, above) => tell_order(f, form, above),
             flaw => f.write_str(plain(flaw)),
         }
     }
+}
+
+// That a line is the header of another text.
+fn tell_header<W: fmt::Write>(f: &mut fmt::Formatter<W>, is: Text, wanted: Text) -> fmt::Result {
+    let (name, wanted) = (is.name(), wanted.name());
+    write!(
+        f,
+        "this is the header of a {name}, in place of a {wanted}'s"
+    )
+}
+
+// Which headers a text may have.
+fn tell_headers<W: fmt::Write>(f: &mut fmt::Formatter<W>, kind: Text) -> fmt::Result {
+    let (name, header) = (kind.name(), kind.header());
+    write!(f, "a {name} begins with `{header}`")?;
+    match kind.later_header() {
+        Some(later) => write!(f, " or `{later}`"),
+        None => Ok(()),
+    }
+}
+
+// Which calls there are, in place of a word.
+fn tell_calls<W: fmt::Write>(f: &mut fmt::Formatter<W>, word: &str) -> fmt::Result {
+    write!(f, "`{word}` is no call: calls are ")?;
+    words_of(f, Text::Script, 0, ", ")
+}
+
+// Which lines may stand there, in place of one that begins with a word.
+fn tell_lines<W: fmt::Write>(
+    f: &mut fmt::Formatter<W>,
+    kind: Text,
+    word: &str,
+    before: Option<Form>,
+) -> fmt::Result {
+    let name = kind.name();
+    write!(
+        f,
+        "no line of a {name} begins with `{word}`: here stands one of `"
+    )?;
+    let section = match before {
+        Some(form) => form.section(),
+        None => 0,
+    };
+    words_of(f, kind, section, "`, `")?;
+    f.write_str("`, or `end`")
+}
+
+// That lines of a form don't stand below those of another.
+fn tell_order<W: fmt::Write>(f: &mut fmt::Formatter<W>, form: Form, above: Form) -> fmt::Result {
+    let (word, above) = (form.word(), above.word());
+    write!(f, "no `{word}` line stands below a `{above}` line")
 }
 
 // What is wrong with a line, where nothing of it is named.
@@ -97,7 +117,7 @@ impl fmt::Display for OutcomeFlaw<'_> {
                 f,
                 "`{word}` doesn't follow `done`: that is nothing, `aborted`, `word`, `count` or `msg`"
             ),
-            OutcomeFlaw::Words(flaw) => write!(f, "{flaw}"),
+            OutcomeFlaw::Words(flaw) => flaw.fmt(f),
         }
     }
 }

@@ -412,150 +412,115 @@ fn kinds_flaw(word: &str) -> Option<WordFlaw<'_>> {
 
 impl fmt::Display for WordFlaw<'_> {
     fn fmt<W: fmt::Write>(&self, f: &mut fmt::Formatter<W>) -> fmt::Result {
-        if let Some((word, words)) = said_of_word(*self) {
-            return write!(f, "`{word}` {words}");
-        }
         match *self {
             WordFlaw::Missing(wanted) => {
-                let name = wanted.name();
-                write!(f, "{name} is missing")
+                f.write_str(wanted.name())?;
+                f.write_str(" is missing")
             }
-            WordFlaw::Name(word, flaw) => write!(f, "{}", NoName { word, flaw }),
-            WordFlaw::Number(word, flaw) => write!(f, "{}", NoNumber { word, flaw }),
-            WordFlaw::NoRight(word, letter) => write!(
-                f,
-                "`{letter}` in `{word}` is no right: rights are some of `rwgy`, or `-`"
-            ),
-            WordFlaw::RightTwice(letter) => write!(f, "the right `{letter}` stands twice"),
+            WordFlaw::Name(word, flaw) => tell_name(f, word, flaw),
+            WordFlaw::Number(word, flaw) => tell_number(f, word, flaw),
+            WordFlaw::NoKind("") => f.write_str("a comma stands between two kinds alone"),
+            WordFlaw::NoKind(word) => tell_kinds(f, word, "authority", &KINDS),
+            WordFlaw::NoMaterial(word) => tell_kinds(f, word, "object that is made", &MATERIALS),
             WordFlaw::RightsFall => f.write_str("rights stand in the order rwgy"),
-            flaw => write!(f, "{}", NoChoice { flaw }),
+            WordFlaw::NoRight(..)
+            | WordFlaw::RightTwice(_)
+            | WordFlaw::KindTwice(_)
+            | WordFlaw::KindsFall(..) => tell_part(f, *self),
+            flaw => tell_word(f, flaw),
         }
     }
 }
 
-// What is said of a word, after it, where nothing else is named.
-fn said_of_word(flaw: WordFlaw<'_>) -> Option<(&str, &'static str)> {
+// What is wrong with a right or a kind among others.
+fn tell_part<W: fmt::Write>(f: &mut fmt::Formatter<W>, flaw: WordFlaw<'_>) -> fmt::Result {
     match flaw {
-        WordFlaw::TooMany(word) => Some((word, "is a word too many")),
-        WordFlaw::NoDot(word) => Some((
+        WordFlaw::NoRight(word, letter) => write!(
+            f,
+            "`{letter}` in `{word}` is no right: rights are some of `rwgy`, or `-`"
+        ),
+        WordFlaw::RightTwice(letter) => write!(f, "the right `{letter}` stands twice"),
+        WordFlaw::KindTwice(word) => write!(f, "the kind `{word}` stands twice"),
+        WordFlaw::KindsFall(word, before) => write!(
+            f,
+            "kinds rise by their number, and `{word}` comes before `{before}`"
+        ),
+        _ => Ok(()),
+    }
+}
+
+// What is wrong with a word by itself.
+fn tell_word<W: fmt::Write>(f: &mut fmt::Formatter<W>, flaw: WordFlaw<'_>) -> fmt::Result {
+    let (word, words) = match flaw {
+        WordFlaw::TooMany(word) => (word, "is a word too many"),
+        WordFlaw::NoDot(word) => (
             word,
             "is no slot: a dot and an index, or `.root`, follow the name",
-        )),
-        WordFlaw::NoIndex(word) => Some((
+        ),
+        WordFlaw::NoIndex(word) => (
             word,
             "is no slot: after the dot stands an index in decimal, or `root`",
-        )),
-        WordFlaw::NoCame(word) => Some((
-            word,
-            "is neither 1, where a capability came along, nor 0",
-        )),
-        WordFlaw::NoStart(word) => Some((word, "is neither `ready` nor `inactive`")),
-        WordFlaw::NoMinting(word) => Some((word, "is neither `badge` nor `guard`")),
-        _ => None,
-    }
+        ),
+        WordFlaw::NoCame(word) => (word, "is neither 1, where a capability came along, nor 0"),
+        WordFlaw::NoStart(word) => (word, "is neither `ready` nor `inactive`"),
+        WordFlaw::NoMinting(word) => (word, "is neither `badge` nor `guard`"),
+        _ => return Ok(()),
+    };
+    write!(f, "`{word}` {words}")
 }
 
-/// A word that is no kind, or not in its place among kinds.
-#[derive(Clone, Copy)]
-struct NoChoice<'a> {
-    flaw: WordFlaw<'a>,
-}
-
-impl fmt::Display for NoChoice<'_> {
-    fn fmt<W: fmt::Write>(&self, f: &mut fmt::Formatter<W>) -> fmt::Result {
-        match self.flaw {
-            WordFlaw::NoKind("") => f.write_str("a comma stands between two kinds alone"),
-            WordFlaw::NoKind(word) => {
-                write!(f, "`{word}` is no kind of authority: the kinds are ")?;
-                one_of(f, &KINDS)
-            }
-            WordFlaw::KindTwice(word) => write!(f, "the kind `{word}` stands twice"),
-            WordFlaw::KindsFall(word, before) => {
-                write!(
-                    f,
-                    "kinds rise by their number, and `{word}` comes before `{before}`"
-                )
-            }
-            WordFlaw::NoMaterial(word) => {
-                write!(
-                    f,
-                    "`{word}` is no kind of object that is made: the kinds are "
-                )?;
-                one_of(f, &MATERIALS)
-            }
-            _ => Ok(()),
-        }
-    }
-}
-
-// Words with commas between them.
-fn one_of<W: fmt::Write>(f: &mut fmt::Formatter<W>, words: &[&str]) -> fmt::Result {
+// Which kinds there are, in place of a word.
+fn tell_kinds<W: fmt::Write>(
+    f: &mut fmt::Formatter<W>,
+    word: &str,
+    what: &str,
+    kinds: &[&str],
+) -> fmt::Result {
+    write!(f, "`{word}` is no kind of {what}: the kinds are ")?;
     let mut separator = "";
-    for word in words {
+    for kind in kinds {
         f.write_str(separator)?;
-        f.write_str(word)?;
+        f.write_str(kind)?;
         separator = ", ";
     }
     Ok(())
 }
 
-/// A word that is no name.
-#[derive(Clone, Copy)]
-struct NoName<'a> {
-    word: &'a str,
-    flaw: NameFlaw,
-}
-
-impl fmt::Display for NoName<'_> {
-    fn fmt<W: fmt::Write>(&self, f: &mut fmt::Formatter<W>) -> fmt::Result {
-        let word = self.word;
-        match self.flaw {
-            NameFlaw::Slot => write!(f, "`{word}` is a slot, and a name stands here"),
-            NameFlaw::Capital => f.write_str("names are written in small letters"),
-            NameFlaw::First => f.write_str("a name begins with a small letter"),
-            NameFlaw::Long => {
-                let length = word.len();
-                write!(f, "the name has {length} characters, more than 31")
-            }
-            NameFlaw::Character => write!(
-                f,
-                "`{word}` is no name: a name has small letters, digits and `_` alone"
-            ),
+// Why a word is no name.
+fn tell_name<W: fmt::Write>(f: &mut fmt::Formatter<W>, word: &str, flaw: NameFlaw) -> fmt::Result {
+    let words = match flaw {
+        NameFlaw::Slot => "is a slot, and a name stands here",
+        NameFlaw::Character => "is no name: a name has small letters, digits and `_` alone",
+        NameFlaw::Capital => return f.write_str("names are written in small letters"),
+        NameFlaw::First => return f.write_str("a name begins with a small letter"),
+        NameFlaw::Long => {
+            let length = word.len();
+            return write!(f, "the name has {length} characters, more than 31");
         }
-    }
+    };
+    write!(f, "`{word}` {words}")
 }
 
-/// A word that is no number.
-#[derive(Clone, Copy)]
-struct NoNumber<'a> {
-    word: &'a str,
+// Why a word is no number.
+fn tell_number<W: fmt::Write>(
+    f: &mut fmt::Formatter<W>,
+    word: &str,
     flaw: NumberFlaw,
-}
-
-impl fmt::Display for NoNumber<'_> {
-    fn fmt<W: fmt::Write>(&self, f: &mut fmt::Formatter<W>) -> fmt::Result {
-        match self.flaw {
-            NumberFlaw::CapitalInAddress => f.write_str("addresses are written in small letters"),
-            NumberFlaw::CapitalInNumber => {
-                f.write_str("hexadecimal numbers are written in small letters")
-            }
-            flaw => {
-                let (word, words) = (self.word, said_of_number(flaw));
-                write!(f, "`{word}` {words}")
-            }
+) -> fmt::Result {
+    let words = match flaw {
+        NumberFlaw::CapitalInAddress => {
+            return f.write_str("addresses are written in small letters");
         }
-    }
-}
-
-// What is said of a number, after it.
-fn said_of_number(flaw: NumberFlaw) -> &'static str {
-    match flaw {
+        NumberFlaw::CapitalInNumber => {
+            return f.write_str("hexadecimal numbers are written in small letters");
+        }
         NumberFlaw::Hexadecimal => "is to be a decimal number",
         NumberFlaw::Sign => "has a sign, and numbers have none",
         NumberFlaw::Zeros => "has a leading zero, and numbers have none",
         NumberFlaw::Large => "isn't below 2^64",
         NumberFlaw::NoDecimal => "is no decimal number",
         NumberFlaw::NoPrefix => "is no address: addresses begin with `0x`",
-        _ => "is no hexadecimal number",
-    }
+        NumberFlaw::NoHexadecimal => "is no hexadecimal number",
+    };
+    write!(f, "`{word}` {words}")
 }
