@@ -69,7 +69,7 @@ fn push_part(
 }
 
 /// All labels of a table.
-fn labels_of(table: &Table) -> Labels {
+pub(crate) fn labels_of(table: &Table) -> Labels {
     let mut labels = Labels::none();
     for number in 0..Label::COUNT {
         if let Some(label) = label_numbered(table, number) {
@@ -80,7 +80,7 @@ fn labels_of(table: &Table) -> Labels {
 }
 
 /// The names of those of the table's labels that are in a set, with commas between them.
-fn names_of(alloc: Global, table: &Table, labels: Labels) -> Result<String, AllocError> {
+pub(crate) fn names_of(alloc: Global, table: &Table, labels: Labels) -> Result<String, AllocError> {
     let mut names = String::new(alloc);
     for number in 0..Label::COUNT {
         if let Some(label) = label_numbered(table, number) {
