@@ -24,7 +24,7 @@ pub fn make<R: AllocGlobal + Threads + Wait + Sync>(
     count: u64,
 ) -> Result<(), Stopped> {
     match engines::call_named(call) {
-        Some(engine) => engines::answers(rt, count, &engine),
+        Some(engine) => engines::answers(rt, count, engine),
         None => make_alone(rt, call, count),
     }
 }

@@ -1,6 +1,6 @@
 //! `certificate::make`, `certificate::read`, `certificate::write` and `certificate::verify`.
 use crate::bell::{CERTIFICATE, certificate_lines};
-use crate::memory::{NO_MEMORY, Stopped, UNREAD, are, lend, prepared, tries};
+use crate::memory::{NO_MEMORY, Stopped, UNREAD, are, lend, prepared, tries, tries_for};
 use certificate::{Certificate, NotAccepted, make, read, verify, write};
 use policy::Policy;
 use std::thread::Threads;
@@ -12,18 +12,14 @@ pub fn is_the_certificate(certificate: &Certificate) -> Result<(), Stopped> {
 }
 
 pub fn makes_a_certificate<R: AllocGlobal>(rt: &R, table: &Table) -> Result<(), Stopped> {
-    tries(
-        NO_MEMORY,
-        || make(rt.alloc(), table),
-        |certificate| is_the_certificate(certificate),
-    )
+    tries(NO_MEMORY, || make(rt.alloc(), table), is_the_certificate)
 }
 
 pub fn reads_a_certificate<R: AllocGlobal>(rt: &R, table: &Table) -> Result<(), Stopped> {
     tries(
         UNREAD,
         || read(rt.alloc(), CERTIFICATE.as_bytes(), table),
-        |certificate| is_the_certificate(certificate),
+        is_the_certificate,
     )
 }
 
@@ -33,10 +29,10 @@ fn certificate_of<R: AllocGlobal>(rt: &R, table: &Table) -> Result<Certificate, 
 }
 
 fn writes<R: AllocGlobal>(rt: &R, certificate: &Certificate, table: &Table) -> Result<(), Stopped> {
-    tries(
+    tries_for(
         NO_MEMORY,
         || write(rt.alloc(), certificate, table),
-        |text| are(text, CERTIFICATE.as_bytes()),
+        CERTIFICATE.as_bytes(),
     )
 }
 

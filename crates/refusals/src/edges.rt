@@ -1,7 +1,7 @@
 //! `policy::Policy::add`, `policy::Policy::edges` and `policy::close`.
 use crate::bell::edges;
 use crate::memory::{
-    NO_MEMORY, Stopped, Wrong, again, are, holds, lend, lend_mut, prepared, spend, tries,
+    NO_MEMORY, Stopped, Wrong, again, holds, lend, lend_mut, prepared, spend, tries, tries_for,
 };
 use base::Edge;
 use policy::Policy;
@@ -42,16 +42,12 @@ fn adds_edges_to(policy: &mut Policy) -> Result<(), Stopped> {
 
 pub fn adds_edges<R: AllocGlobal>(rt: &R, count: u64) -> Result<(), Stopped> {
     spend(rt.alloc(), count)?;
-    lend_mut(Policy::new(rt.alloc()), |policy| adds_edges_to(policy))
+    lend_mut(Policy::new(rt.alloc()), adds_edges_to)
 }
 
 fn lists_the_edges<R: AllocGlobal>(rt: &R, policy: &Policy) -> Result<(), Stopped> {
     let expected = edges()?;
-    tries(
-        NO_MEMORY,
-        || policy.edges(rt.alloc()),
-        |listed| are(listed, &expected),
-    )
+    tries_for(NO_MEMORY, || policy.edges(rt.alloc()), &expected)
 }
 
 fn fills_and_lists<R: AllocGlobal>(rt: &R, policy: &mut Policy) -> Result<(), Stopped> {

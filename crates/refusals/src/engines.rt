@@ -35,183 +35,196 @@ pub enum Engine {
 
 /// A call of an engine.
 #[derive(Clone, Copy)]
-pub struct EngineCall {
-    pub name: &'static str,
-    engine: Engine,
-    /// The table, the policy, and the script, log, certificate or claims. Those are empty that aren't read.
-    files: [&'static str; 3],
-    status: u8,
-    /// What is written.
-    text: &'static str,
+pub enum EngineCall {
+    Log,
+    LogRetype,
+    Split,
+    CheckReport,
+    CheckCertificate,
+    Verify,
+    Replay,
+    Close,
+    Missing,
+    Why,
+    Claims,
+    Strongest,
+    Draw,
+    List,
+    Denial,
+    CheckDenial,
+    VerifyDenial,
+    ReplayOutside,
+    Fault,
+    FaultPolicy,
+    FaultScript,
+    FaultCertificate,
+    FaultLog,
 }
 
-/// How many calls of engines there are.
-pub const COUNT: usize = 23;
-
-// They are read at one place, since a table of rows is dear to a proof.
-const CALLS: [EngineCall; COUNT] = [
-    EngineCall {
-        name: "engine_log",
-        engine: Engine::Run,
-        files: [TABLE, POLICY, SCRIPT],
-        status: 0,
-        text: LOG,
-    },
-    EngineCall {
-        name: "engine_log_retype",
-        engine: Engine::Run,
-        files: retypes::SYSTEM,
-        status: 0,
-        text: retypes::LOG,
-    },
-    EngineCall {
-        name: "engine_split",
-        engine: Engine::Split,
-        files: [TABLE, POLICY, SCRIPT],
-        status: 0,
-        text: LOG,
-    },
-    EngineCall {
-        name: "engine_check_report",
-        engine: Engine::Check(OnAccept::Report),
-        files: [TABLE, POLICY, ""],
-        status: 0,
-        text: REPORT,
-    },
-    EngineCall {
-        name: "engine_check_certificate",
-        engine: Engine::Check(OnAccept::Certificate),
-        files: [TABLE, POLICY, ""],
-        status: 0,
-        text: CERTIFICATE,
-    },
-    EngineCall {
-        name: "engine_verify",
-        engine: Engine::Verify,
-        files: [TABLE, POLICY, CERTIFICATE],
-        status: 0,
-        text: VERIFIED,
-    },
-    EngineCall {
-        name: "engine_replay",
-        engine: Engine::Replay,
-        files: [TABLE, POLICY, LOG],
-        status: 0,
-        text: LEGAL,
-    },
-    EngineCall {
-        name: "engine_close",
-        engine: Engine::Start,
-        files: [TABLE, "", ""],
-        status: 0,
-        text: POLICY,
-    },
-    EngineCall {
-        name: "engine_missing",
-        engine: Engine::Missing,
-        files: [TABLE, EMPTY_POLICY, ""],
-        status: 1,
-        text: LINES,
-    },
-    EngineCall {
-        name: "engine_why",
-        engine: Engine::Why,
-        files: [TABLE, POLICY, ""],
-        status: 0,
-        text: "full\n",
-    },
-    EngineCall {
-        name: "engine_claims",
-        engine: Engine::Claims,
-        files: [TWO_LABELS, EMPTY_POLICY, CLAIMS],
-        status: 0,
-        text: HOLD,
-    },
-    EngineCall {
-        name: "engine_strongest",
-        engine: Engine::Strongest,
-        files: [TWO_LABELS, EMPTY_POLICY, ""],
-        status: 0,
-        text: CLAIMS,
-    },
-    EngineCall {
-        name: "engine_draw",
-        engine: Engine::Draw,
-        files: [ONE_OBJECT, ONE_EDGE, ""],
-        status: 0,
-        text: DRAWING,
-    },
-    EngineCall {
-        name: "engine_list",
-        engine: Engine::List,
-        files: [ONE_OBJECT, "", ""],
-        status: 0,
-        text: "0 notification n b\n",
-    },
-    EngineCall {
-        name: "engine_denial",
-        engine: Engine::Run,
-        files: [TABLE, EMPTY_POLICY, SCRIPT],
-        status: 1,
-        text: DENIAL,
-    },
-    EngineCall {
-        name: "engine_check_denial",
-        engine: Engine::Check(OnAccept::Report),
-        files: [TABLE, EMPTY_POLICY, ""],
-        status: 1,
-        text: DENIAL,
-    },
-    EngineCall {
-        name: "engine_verify_denial",
-        engine: Engine::Verify,
-        files: [TABLE, POLICY, NO_LINES],
-        status: 1,
-        text: PARTED,
-    },
-    EngineCall {
-        name: "engine_replay_outside",
-        engine: Engine::Replay,
-        files: [TABLE, EMPTY_POLICY, LOG],
-        status: 1,
-        text: OUTSIDE,
-    },
-    EngineCall {
-        name: "engine_fault",
-        engine: Engine::Run,
-        files: [FAULTY_TABLE, POLICY, SCRIPT],
-        status: 2,
-        text: FAULT,
-    },
-    EngineCall {
-        name: "engine_fault_policy",
-        engine: Engine::Check(OnAccept::Report),
-        files: [TABLE, FAULTY, ""],
-        status: 2,
-        text: FAULTY_POLICY,
-    },
-    EngineCall {
-        name: "engine_fault_script",
-        engine: Engine::Run,
-        files: [TABLE, POLICY, FAULTY],
-        status: 2,
-        text: FAULTY_SCRIPT,
-    },
-    EngineCall {
-        name: "engine_fault_certificate",
-        engine: Engine::Verify,
-        files: [TABLE, POLICY, FAULTY],
-        status: 2,
-        text: FAULTY_CERTIFICATE,
-    },
-    EngineCall {
-        name: "engine_fault_log",
-        engine: Engine::Replay,
-        files: [TABLE, POLICY, FAULTY],
-        status: 2,
-        text: FAULTY_LOG,
-    },
+/// The calls of engines.
+pub const CALLS: [EngineCall; 23] = [
+    EngineCall::Log,
+    EngineCall::LogRetype,
+    EngineCall::Split,
+    EngineCall::CheckReport,
+    EngineCall::CheckCertificate,
+    EngineCall::Verify,
+    EngineCall::Replay,
+    EngineCall::Close,
+    EngineCall::Missing,
+    EngineCall::Why,
+    EngineCall::Claims,
+    EngineCall::Strongest,
+    EngineCall::Draw,
+    EngineCall::List,
+    EngineCall::Denial,
+    EngineCall::CheckDenial,
+    EngineCall::VerifyDenial,
+    EngineCall::ReplayOutside,
+    EngineCall::Fault,
+    EngineCall::FaultPolicy,
+    EngineCall::FaultScript,
+    EngineCall::FaultCertificate,
+    EngineCall::FaultLog,
 ];
+
+impl EngineCall {
+    pub fn name(self) -> &'static str {
+        match self {
+            Self::Log => "engine_log",
+            Self::LogRetype => "engine_log_retype",
+            Self::Split => "engine_split",
+            Self::CheckReport => "engine_check_report",
+            Self::CheckCertificate => "engine_check_certificate",
+            Self::Verify => "engine_verify",
+            Self::Replay => "engine_replay",
+            Self::Close => "engine_close",
+            Self::Missing => "engine_missing",
+            Self::Why => "engine_why",
+            Self::Claims => "engine_claims",
+            Self::Strongest => "engine_strongest",
+            Self::Draw => "engine_draw",
+            Self::List => "engine_list",
+            Self::Denial => "engine_denial",
+            Self::CheckDenial => "engine_check_denial",
+            Self::VerifyDenial => "engine_verify_denial",
+            Self::ReplayOutside => "engine_replay_outside",
+            Self::Fault => "engine_fault",
+            Self::FaultPolicy => "engine_fault_policy",
+            Self::FaultScript => "engine_fault_script",
+            Self::FaultCertificate => "engine_fault_certificate",
+            Self::FaultLog => "engine_fault_log",
+        }
+    }
+
+    /// What is asked of the files.
+    fn engine(self) -> Engine {
+        match self {
+            Self::Log | Self::LogRetype | Self::Denial | Self::Fault | Self::FaultScript =>
+                Engine::Run,
+            Self::Split => Engine::Split,
+            Self::CheckReport | Self::CheckDenial | Self::FaultPolicy => Engine::Check(
+                OnAccept::Report,
+            ),
+            Self::CheckCertificate => Engine::Check(OnAccept::Certificate),
+            Self::Verify | Self::VerifyDenial | Self::FaultCertificate => Engine::Verify,
+            Self::Replay | Self::ReplayOutside | Self::FaultLog => Engine::Replay,
+            Self::Close => Engine::Start,
+            Self::Missing => Engine::Missing,
+            Self::Why => Engine::Why,
+            Self::Claims => Engine::Claims,
+            Self::Strongest => Engine::Strongest,
+            Self::Draw => Engine::Draw,
+            Self::List => Engine::List,
+        }
+    }
+
+    /// The text of the table.
+    fn table(self) -> &'static str {
+        match self {
+            Self::LogRetype => retypes::TABLE,
+            Self::Claims | Self::Strongest => TWO_LABELS,
+            Self::Draw | Self::List => ONE_OBJECT,
+            Self::Fault => FAULTY_TABLE,
+            _ => TABLE,
+        }
+    }
+
+    /// The text of the policy, empty where none is read.
+    fn policy(self) -> &'static str {
+        match self {
+            Self::LogRetype => retypes::POLICY,
+            Self::Close | Self::List => "",
+            Self::Missing
+            | Self::Claims
+            | Self::Strongest
+            | Self::Denial
+            | Self::CheckDenial
+            | Self::ReplayOutside => EMPTY_POLICY,
+            Self::Draw => ONE_EDGE,
+            Self::FaultPolicy => FAULTY,
+            _ => POLICY,
+        }
+    }
+
+    /// The text of the script, log, certificate or claims, empty where none is read.
+    fn third(self) -> &'static str {
+        match self {
+            Self::Log | Self::Split | Self::Denial | Self::Fault => SCRIPT,
+            Self::LogRetype => retypes::SCRIPT,
+            Self::Verify => CERTIFICATE,
+            Self::Replay | Self::ReplayOutside => LOG,
+            Self::Claims => CLAIMS,
+            Self::VerifyDenial => NO_LINES,
+            Self::FaultScript | Self::FaultCertificate | Self::FaultLog => FAULTY,
+            _ => "",
+        }
+    }
+
+    /// The status that it ends with.
+    fn status(self) -> u8 {
+        match self {
+            Self::Missing
+            | Self::Denial
+            | Self::CheckDenial
+            | Self::VerifyDenial
+            | Self::ReplayOutside => 1,
+            Self::Fault
+            | Self::FaultPolicy
+            | Self::FaultScript
+            | Self::FaultCertificate
+            | Self::FaultLog => 2,
+            _ => 0,
+        }
+    }
+
+    /// What is written.
+    fn text(self) -> &'static str {
+        match self {
+            Self::Log | Self::Split => LOG,
+            Self::LogRetype => retypes::LOG,
+            Self::CheckReport => REPORT,
+            Self::CheckCertificate => CERTIFICATE,
+            Self::Verify => VERIFIED,
+            Self::Replay => LEGAL,
+            Self::Close => POLICY,
+            Self::Missing => LINES,
+            Self::Why => "full\n",
+            Self::Claims => HOLD,
+            Self::Strongest => CLAIMS,
+            Self::Draw => DRAWING,
+            Self::List => "0 notification n b\n",
+            Self::Denial | Self::CheckDenial => DENIAL,
+            Self::VerifyDenial => PARTED,
+            Self::ReplayOutside => OUTSIDE,
+            Self::Fault => FAULT,
+            Self::FaultPolicy => FAULTY_POLICY,
+            Self::FaultScript => FAULTY_SCRIPT,
+            Self::FaultCertificate => FAULTY_CERTIFICATE,
+            Self::FaultLog => FAULTY_LOG,
+        }
+    }
+}
 
 const REPORT: &str =
     "{\"caps\":2,\"cut\":{\"a\":[\"a\"]},\"full\":{\"a\":[\"a\"]},\"verdict\":\"accept\"}\n";
@@ -296,76 +309,76 @@ where
     requires out { O.failed out.old ≡ false }
 {
     let alloc = rt.alloc();
+    let silence = &mut Silence;
     match engine {
-        Engine::Run => run(rt, alloc, table, policy, third, &mut Silence, out),
-        Engine::Split => run_split(rt, alloc, table, policy, third, &Open, &mut Silence, out),
+        Engine::Run => run(rt, alloc, table, policy, third, silence, out),
+        Engine::Split => run_split(rt, alloc, table, policy, third, &Open, silence, out),
         Engine::Check(on_accept) => {
-            check(
-                rt,
-                alloc,
-                table,
-                policy,
-                on_accept,
-                1,
-                &Open,
-                &mut Silence,
-                out,
-            )
+            check(rt, alloc, table, policy, on_accept, 1, &Open, silence, out)
         }
-        Engine::Verify => verify(rt, alloc, table, policy, third, &mut Silence, out),
-        Engine::Replay => replay(alloc, table, policy, third, &mut Silence, out),
-        Engine::Start => start(alloc, table, OnClose::Policy, &mut Silence, out),
-        Engine::Missing => close(alloc, table, policy, OnClose::Missing, &mut Silence, out),
-        Engine::Why => why(alloc, table, policy, "a", "a", &mut Silence, out),
-        Engine::Claims => check_claims(rt, alloc, table, policy, third, &mut Silence, out),
-        Engine::Strongest => write_claims(rt, alloc, table, policy, &mut Silence, out),
-        Engine::Draw => draw(alloc, table, policy, &mut Silence, out),
-        Engine::List => list(alloc, table, &mut Silence, out),
+        Engine::Verify => verify(rt, alloc, table, policy, third, silence, out),
+        Engine::Replay => replay(alloc, table, policy, third, silence, out),
+        Engine::Start => start(alloc, table, OnClose::Policy, silence, out),
+        Engine::Missing => close(alloc, table, policy, OnClose::Missing, silence, out),
+        Engine::Why => why(alloc, table, policy, "a", "a", silence, out),
+        Engine::Claims => check_claims(rt, alloc, table, policy, third, silence, out),
+        Engine::Strongest => write_claims(rt, alloc, table, policy, silence, out),
+        Engine::Draw => draw(alloc, table, policy, silence, out),
+        Engine::List => list(alloc, table, silence, out),
     }
 }
 
-/// Carries out an engine over these texts, onto a page.
+/// Carries out an engine over the texts of a call, onto a page.
 fn carry_out_onto<R: AllocGlobal + Threads + Wait + Sync>(
     rt: &R,
-    engine: Engine,
-    [table, policy, third]: [&str; 3],
+    call: EngineCall,
     page: Vec<u8>,
 ) -> (End, Vec<u8>) {
-    let mut table = Watched::new(table.as_bytes());
-    let mut policy = Watched::new(policy.as_bytes());
-    let mut third = Watched::new(third.as_bytes());
+    let mut table = Watched::new(call.table().as_bytes());
+    let mut policy = Watched::new(call.policy().as_bytes());
+    let mut third = Watched::new(call.third().as_bytes());
     let mut out = Watched::new(page);
-    let end = carry_out(rt, engine, &mut table, &mut policy, &mut third, &mut out);
+    let end = carry_out(
+        rt,
+        call.engine(),
+        &mut table,
+        &mut policy,
+        &mut third,
+        &mut out,
+    );
     (end, out.into_inner())
 }
 
 /// Whether this is written where the first of the events is refused memory, and the run goes on.
-fn goes_on(name: &str, written: &[u8]) -> bool {
-    name == "engine_log_retype" && written == LOG_WITHOUT_MEMORY.as_bytes()
+fn goes_on(call: EngineCall, written: &[u8]) -> bool {
+    match call {
+        EngineCall::LogRetype => written == LOG_WITHOUT_MEMORY.as_bytes(),
+        _ => false,
+    }
 }
 
 /// Whether an engine was refused memory: then it has written nothing, or what it may write without. Else it has answered.
-fn was_refused(end: End, written: &[u8], call: &EngineCall) -> Result<bool, Stopped> {
+fn was_refused(end: End, written: &[u8], call: EngineCall) -> Result<bool, Stopped> {
     if end == End::NoMemory {
         holds(written.len() == 0, Wrong::Written)?;
         return Ok(true);
     }
-    holds(end == End::Status(call.status), Wrong::End)?;
-    if goes_on(call.name, written) {
+    holds(end == End::Status(call.status()), Wrong::End)?;
+    if goes_on(call, written) {
         return Ok(true);
     }
-    are(written, call.text.as_bytes())?;
+    are(written, call.text().as_bytes())?;
     Ok(false)
 }
 
 /// Carries out an engine onto a page with room for its answer.
 fn is_refused<R: AllocGlobal + Threads + Wait + Sync>(
     rt: &R,
-    call: &EngineCall,
+    call: EngineCall,
 ) -> Result<bool, Stopped> {
-    match prepared(Vec::with_capacity(rt.alloc(), call.text.len())) {
+    match prepared(Vec::with_capacity(rt.alloc(), call.text().len())) {
         Ok(page) => {
-            let (end, written) = carry_out_onto(rt, call.engine, call.files, page);
+            let (end, written) = carry_out_onto(rt, call, page);
             let result = was_refused(end, &written, call);
             drop(written);
             result
@@ -378,7 +391,7 @@ fn is_refused<R: AllocGlobal + Threads + Wait + Sync>(
 pub fn answers<R: AllocGlobal + Threads + Wait + Sync>(
     rt: &R,
     count: u64,
-    call: &EngineCall,
+    call: EngineCall,
 ) -> Result<(), Stopped> {
     spend(rt.alloc(), count)?;
     if is_refused(rt, call)? {
@@ -388,17 +401,11 @@ pub fn answers<R: AllocGlobal + Threads + Wait + Sync>(
     Ok(())
 }
 
-/// The call of this number, from 0.
-pub fn call_at(number: usize) -> Option<EngineCall> {
-    CALLS.get(number).copied()
-}
-
 /// The call of this name.
 pub fn call_named(name: &str) -> Option<EngineCall> {
-    for number in 0..COUNT {
-        match call_at(number) {
-            Some(call) if call.name == name => return Some(call),
-            _ => (),
+    for call in &CALLS {
+        if call.name() == name {
+            return Some(*call);
         }
     }
     None

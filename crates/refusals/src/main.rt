@@ -24,7 +24,7 @@ mod verdicts;
 mod writers;
 
 use calls::{NAMES, make};
-use engines::{COUNT, call_at};
+use engines::CALLS;
 use memory::Stopped;
 use std::sync::Wait;
 use std::thread::Threads;
@@ -43,10 +43,9 @@ fn make_each<R: Print + AllocGlobal + Threads + Wait + Sync>(rt: &R) -> io::Resu
     for name in NAMES.split(' ') {
         println!(rt; "{name}: {}", told(make(rt, name, 0)))?;
     }
-    for number in 0..COUNT {
-        if let Some(call) = call_at(number) {
-            println!(rt; "{}: {}", call.name, told(make(rt, call.name, 0)))?;
-        }
+    for call in &CALLS {
+        let name = call.name();
+        println!(rt; "{name}: {}", told(make(rt, name, 0)))?;
     }
     Ok(())
 }

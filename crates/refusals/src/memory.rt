@@ -146,6 +146,17 @@ where
     }
 }
 
+/// Makes a call as [`tries`], whose value has to be these items.
+pub fn tries_for<T, E, C>(no_memory: E, call: C, expected: &[T]) -> Result<(), Stopped>
+where
+    T: PartialEq + Drop,
+    E: PartialEq + Drop,
+    C: Fn() -> Result<Vec<T>, E> + Drop,
+    requires { C.IsAlwaysCallable call }
+{
+    tries(no_memory, call, |items: &Vec<T>| are(items, expected))
+}
+
 /// What a call answered that was made again.
 pub fn again<T, E: Drop>(answer: Result<T, E>) -> Result<T, Stopped> {
     match answer {

@@ -12,7 +12,7 @@ use objects::State;
 use table::Table;
 
 /// A thread with untyped memory, and with a capability for its CNode in the CNode itself.
-const TABLE: &str = "\
+pub const TABLE: &str = "\
 confine-table 1
 label a
 cnode c a 0x2000 3
@@ -114,8 +114,11 @@ fn watermark(state: &State) -> Option<u64> {
     }
 }
 
+/// The next number, the watermark, and whether the first and the last slot are filled.
+type Standing = (u64, Option<u64>, bool, bool);
+
 /// What a call that is refused memory may not change.
-fn standing(state: &State, wanted: Wanted) -> (u64, Option<u64>, bool, bool) {
+fn standing(state: &State, wanted: Wanted) -> Standing {
     (
         state.next_id(),
         watermark(state),
@@ -124,8 +127,10 @@ fn standing(state: &State, wanted: Wanted) -> (u64, Option<u64>, bool, bool) {
     )
 }
 
-/// What is wrong where a call that is refused memory leaves something else than it found.
-const CHANGED: Wrong = Wrong::Changed;
+/// Asserts that a call that is refused memory has left what it found.
+fn is_left(state: &State, wanted: Wanted, before: Standing) -> Result<(), Stopped> {
+    holds(standing(state, wanted) == before, Wrong::Changed)
+}
 
 /// Asserts that an object lies at an address.
 fn is_at(state: &State, id: ObjId, address: u64) -> Result<(), Stopped> {
@@ -164,6 +169,17 @@ fn making(state: &mut State, wanted: Wanted) -> Result<Outcome, Stopped>
     Ok(step(state, event))
 }
 
+/// Makes objects that were refused memory.
+fn steps_again(state: &mut State, wanted: Wanted, first: u64) -> Result<(), Stopped>
+    requires { IsWellFormed state.old }
+    ensures { IsWellFormed state.new }
+{
+    let outcome = making(state, wanted)?;
+    holds(outcome == wanted.done(), Wrong::RefusedAgain)?;
+    are_made(state, wanted, first)?;
+    Err(Stopped::Refused)
+}
+
 /// Makes objects. Where memory is refused, nothing changes, and the same event is done when it comes again.
 fn steps(state: &mut State, wanted: Wanted) -> Result<(), Stopped>
     requires { IsWellFormed state.old }
@@ -172,56 +188,76 @@ fn steps(state: &mut State, wanted: Wanted) -> Result<(), Stopped>
     let before = standing(state, wanted);
     let outcome = making(state, wanted)?;
     if outcome == wanted.done() {
-        are_made(state, wanted, before.0)?;
-        return Ok(());
+        return are_made(state, wanted, before.0);
     }
     holds(outcome == Outcome::Refused(NO_MEMORY), Wrong::Error)?;
-    holds(standing(state, wanted) == before, CHANGED)?;
-    let outcome = making(state, wanted)?;
-    holds(outcome == wanted.done(), Wrong::RefusedAgain)?;
-    are_made(state, wanted, before.0)?;
-    Err(Stopped::Refused)
+    is_left(state, wanted, before)?;
+    steps_again(state, wanted, before.0)
+}
+
+/// Makes an endpoint, at the first address.
+fn makes_an_endpoint(state: &mut State) -> Result<(), Stopped>
+    requires { IsWellFormed state.old }
+    ensures { IsWellFormed state.new }
+{
+    holds(watermark(state) == Some(0x1000), Wrong::Watermark)?;
+    steps(state, one(MemoryKind::Endpoint, 2))?;
+    is_at(state, ObjId(4), 0x1000)?;
+    refuses(state, one(MemoryKind::Endpoint, 2), 8)
 }
 
 /// Makes an endpoint, then a thread, at the first addresses where they fit.
 fn steps_twice(state: &mut State) -> Result<(), Stopped>
     requires { IsWellFormed state.old }
 {
-    holds(watermark(state) == Some(0x1000), Wrong::Watermark)?;
-    steps(state, one(MemoryKind::Endpoint, 2))?;
-    is_at(state, ObjId(4), 0x1000)?;
-    refuses(state, one(MemoryKind::Endpoint, 2), 8)?;
+    makes_an_endpoint(state)?;
     refuses(state, one(MemoryKind::Frame, 3), 10)?;
     steps(state, one(MemoryKind::Tcb, 3))?;
     is_at(state, ObjId(5), 0x1400)?;
     holds(watermark(state) == Some(0x1800), Wrong::Watermark)
 }
 
-/// Runs an event that makes an object, twice. One that is refused memory is an outcome, the run goes on, and the second
-/// makes the object.
+/// What an object is refused with whose slot is filled.
+const FILLED: Outcome = Outcome::Refused(Refusal { code: 8, detail: 0 });
+
+/// Asserts what a run came to. An event that is refused memory is an outcome, and the second makes the object.
+fn has_run(state: &State, outcomes: &[Outcome], wanted: Wanted, first: u64) -> Result<(), Stopped> {
+    are_made(state, wanted, first)?;
+    if outcomes.first() == Some(&Outcome::Refused(NO_MEMORY)) {
+        are(outcomes, &[Outcome::Refused(NO_MEMORY), wanted.done()])?;
+        return Err(Stopped::Refused);
+    }
+    are(outcomes, &[wanted.done(), FILLED])
+}
+
+/// Runs events that a run was refused memory for.
+fn runs_again(
+    state: &mut State,
+    events: &[Event],
+    outcomes: &mut Vec<Outcome>,
+    wanted: Wanted,
+) -> Result<(), Stopped>
+    requires { IsWellFormed state.old }
+{
+    again(run(state, events, outcomes))?;
+    are(outcomes, &[wanted.done(), FILLED])?;
+    Err(Stopped::Refused)
+}
+
+/// Runs an event that makes an object, twice. A run that is refused memory leaves no outcome, and comes to its end the second time.
 fn runs_into(state: &mut State, outcomes: &mut Vec<Outcome>) -> Result<(), Stopped>
     requires { IsWellFormed state.old }
 {
-    const FILLED: Outcome = Outcome::Refused(Refusal { code: 8, detail: 0 });
     let wanted = one(MemoryKind::Endpoint, 2);
     let events = [wanted.event()?, wanted.event()?];
     let before = standing(state, wanted);
     match run(state, &events, outcomes) {
-        Ok(()) => {
-            are_made(state, wanted, before.0)?;
-            if outcomes.first() == Some(&Outcome::Refused(NO_MEMORY)) {
-                are(outcomes, &[Outcome::Refused(NO_MEMORY), wanted.done()])?;
-                return Err(Stopped::Refused);
-            }
-            are(outcomes, &[wanted.done(), FILLED])
-        }
+        Ok(()) => has_run(state, outcomes, wanted, before.0),
         Err(error) => {
             holds(error == NO_MEMORY, Wrong::Error)?;
             holds(outcomes.len() == 0, Wrong::OutcomeLeft)?;
-            holds(standing(state, wanted) == before, CHANGED)?;
-            again(run(state, &events, outcomes))?;
-            are(outcomes, &[wanted.done(), FILLED])?;
-            Err(Stopped::Refused)
+            is_left(state, wanted, before)?;
+            runs_again(state, &events, outcomes, wanted)
         }
     }
 }
@@ -235,6 +271,11 @@ fn runs_on<R: AllocGlobal>(rt: &R, state: &mut State) -> Result<(), Stopped>
     result
 }
 
+/// Asserts that a replay came to its end.
+fn is_replayed(stop: Option<usize>) -> Result<(), Stopped> {
+    holds(stop == None, Wrong::ReplayStops)
+}
+
 /// Replays a log in which an object is made. Where memory is refused, it is replayed the second time.
 fn replays_on(state: &mut State) -> Result<(), Stopped>
     requires { IsWellFormed state.old }
@@ -242,14 +283,10 @@ fn replays_on(state: &mut State) -> Result<(), Stopped>
     let wanted = one(MemoryKind::Endpoint, 2);
     let entries = [(wanted.event()?, wanted.done())];
     match replay(state, &entries) {
-        Ok(stop) => {
-            holds(stop == None, Wrong::ReplayStops)?;
-            Ok(())
-        }
+        Ok(stop) => is_replayed(stop),
         Err(error) => {
             holds(error == NO_MEMORY, Wrong::Error)?;
-            let stop = again(replay(state, &entries))?;
-            holds(stop == None, Wrong::ReplayStops)?;
+            is_replayed(again(replay(state, &entries))?)?;
             Err(Stopped::Refused)
         }
     }
@@ -332,10 +369,8 @@ pub fn replays_of_events<R: AllocGlobal>(rt: &R, count: u64) -> Result<(), Stopp
     tried(rt, count, TABLE, Trial::Replays)
 }
 
-/// The table, a policy and a script of an engine that makes an object.
-pub const SYSTEM: [&str; 3] = [TABLE, POLICY, SCRIPT];
-
-const POLICY: &str = "\
+/// A policy of an engine that makes an object.
+pub const POLICY: &str = "\
 confine-policy 1
 edge a control a
 edge a reset a
@@ -356,7 +391,7 @@ edge a holds a
 end
 ";
 
-const SCRIPT: &str = "\
+pub const SCRIPT: &str = "\
 confine-script 1
 0 1 retype 0 endpoint 0 1 2 1
 0 1 retype 0 endpoint 0 1 2 1

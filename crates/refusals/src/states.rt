@@ -10,11 +10,7 @@ use objects::State;
 use table::Table;
 
 pub fn boots<R: AllocGlobal>(rt: &R, table: &Table) -> Result<(), Stopped> {
-    tries(
-        NO_MEMORY,
-        || boot(rt.alloc(), table),
-        |state| is_booted(state),
-    )
+    tries(NO_MEMORY, || boot(rt.alloc(), table), is_booted)
 }
 
 /// A run of the script's events on the boot state: one that is refused has made no step, and is made the second time.

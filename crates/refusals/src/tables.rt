@@ -10,7 +10,7 @@ pub fn reads_the_table<R: AllocGlobal>(rt: &R, count: u64) -> Result<(), Stopped
     tries(
         UNREAD,
         || read_table(rt.alloc(), TABLE.as_bytes()),
-        |table| is_the_system(table),
+        is_the_system,
     )
 }
 

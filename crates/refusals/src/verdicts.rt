@@ -35,6 +35,6 @@ pub fn checks<R: AllocGlobal + Threads + Sync>(
     tries(
         CheckError::NoMemory,
         || check(rt, rt.alloc(), table, policy, 1, &Open),
-        |verdict| is_accepted(verdict),
+        is_accepted,
     )
 }

@@ -1,16 +1,16 @@
 //! `captext::write_table`, `captext::write_policy` and `evtext::write_script`: what was read is written as it was.
 use crate::bell::{POLICY, SCRIPT, TABLE, events};
-use crate::memory::{NO_MEMORY, Stopped, are, spend, tries};
+use crate::memory::{NO_MEMORY, Stopped, spend, tries_for};
 use captext::{write_policy, write_table};
 use evtext::write_script;
 use policy::Policy;
 use table::Table;
 
 pub fn writes_a_table<R: AllocGlobal>(rt: &R, table: &Table) -> Result<(), Stopped> {
-    tries(
+    tries_for(
         NO_MEMORY,
         || write_table(rt.alloc(), table),
-        |text| are(text, TABLE.as_bytes()),
+        TABLE.as_bytes(),
     )
 }
 
@@ -19,19 +19,19 @@ pub fn writes_a_policy<R: AllocGlobal>(
     policy: &Policy,
     table: &Table,
 ) -> Result<(), Stopped> {
-    tries(
+    tries_for(
         NO_MEMORY,
         || write_policy(rt.alloc(), policy, table),
-        |text| are(text, POLICY.as_bytes()),
+        POLICY.as_bytes(),
     )
 }
 
 pub fn writes_a_script<R: AllocGlobal>(rt: &R, count: u64) -> Result<(), Stopped> {
     spend(rt.alloc(), count)?;
     let events = events()?;
-    tries(
+    tries_for(
         NO_MEMORY,
         || write_script(rt.alloc(), &events),
-        |text| are(text, SCRIPT.as_bytes()),
+        SCRIPT.as_bytes(),
     )
 }
