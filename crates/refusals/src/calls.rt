@@ -1,6 +1,6 @@
 //! The calls by their names.
 use crate::bell::{POLICY, TABLE};
-use crate::memory::{Stopped, Wrong, lend, prepared, spend};
+use crate::memory::{Stopped, Wrong, prepared, spend};
 use crate::{
     authority, certificates, edges, engines, logs, openings, readers, retypes, states, tables,
     verdicts, writers,
@@ -54,14 +54,9 @@ fn make_objects<R: AllocGlobal + Threads + Sync>(
     call: &str,
     count: u64,
 ) -> Result<(), Stopped> {
-    match call {
-        "step" => retypes::steps_of_events(rt, count),
-        "step_cnode" => retypes::makes_a_cnode(rt, count),
-        "step_frame" => retypes::makes_a_frame(rt, count),
-        "step_sixteen" => retypes::makes_sixteen(rt, count),
-        "run_retype" => retypes::runs_of_events(rt, count),
-        "replay" => retypes::replays_of_events(rt, count),
-        _ => make_for_the_system(rt, call, count),
+    match retypes::trial_of(call) {
+        Some(trial) => retypes::tried(rt, count, trial),
+        None => make_for_the_system(rt, call, count),
     }
 }
 
@@ -72,8 +67,14 @@ fn make_for_the_system<R: AllocGlobal + Threads + Sync>(
     count: u64,
 ) -> Result<(), Stopped> {
     spend(rt.alloc(), count)?;
-    let table = prepared(read_table(rt.alloc(), TABLE.as_bytes()));
-    lend(table, |table| make_with_table(rt, call, table))
+    match prepared(read_table(rt.alloc(), TABLE.as_bytes())) {
+        Ok(table) => {
+            let result = make_with_table(rt, call, &table);
+            drop(table);
+            result
+        }
+        Err(stopped) => Err(stopped),
+    }
 }
 
 fn make_with_table<R: AllocGlobal + Threads + Sync>(
@@ -91,14 +92,26 @@ fn make_with_table<R: AllocGlobal + Threads + Sync>(
         "write_certificate" => certificates::writes_a_certificate(rt, table),
         "boot" => states::boots(rt, table),
         "run" => states::runs(rt, table),
-        _ => {
-            let policy = prepared(read_policy(rt.alloc(), POLICY.as_bytes(), table));
-            lend(policy, |policy| make_with_policy(rt, call, table, policy))
-        }
+        _ => make_for_the_policy(rt, call, table),
     }
 }
 
 /// Those that are given its policy too.
+fn make_for_the_policy<R: AllocGlobal + Threads + Sync>(
+    rt: &R,
+    call: &str,
+    table: &Table,
+) -> Result<(), Stopped> {
+    match prepared(read_policy(rt.alloc(), POLICY.as_bytes(), table)) {
+        Ok(policy) => {
+            let result = make_with_policy(rt, call, table, &policy);
+            drop(policy);
+            result
+        }
+        Err(stopped) => Err(stopped),
+    }
+}
+
 fn make_with_policy<R: AllocGlobal + Threads + Sync>(
     rt: &R,
     call: &str,

@@ -1,6 +1,9 @@
 //! `certificate::make`, `certificate::read`, `certificate::write` and `certificate::verify`.
 use crate::bell::{CERTIFICATE, certificate_lines};
-use crate::memory::{NO_MEMORY, Stopped, UNREAD, are, lend, prepared, tries, tries_for};
+use crate::memory::{
+    NO_MEMORY, Stopped, UNREAD, again, are, are_made, are_made_again, met, passes, passes_again,
+    prepared,
+};
 use certificate::{Certificate, NotAccepted, make, read, verify, write};
 use policy::Policy;
 use std::thread::Threads;
@@ -12,15 +15,20 @@ pub fn is_the_certificate(certificate: &Certificate) -> Result<(), Stopped> {
 }
 
 pub fn makes_a_certificate<R: AllocGlobal>(rt: &R, table: &Table) -> Result<(), Stopped> {
-    tries(NO_MEMORY, || make(rt.alloc(), table), is_the_certificate)
+    match met(NO_MEMORY, make(rt.alloc(), table))? {
+        Some(made) => passes(made, is_the_certificate),
+        None => passes_again(make(rt.alloc(), table), is_the_certificate),
+    }
 }
 
 pub fn reads_a_certificate<R: AllocGlobal>(rt: &R, table: &Table) -> Result<(), Stopped> {
-    tries(
-        UNREAD,
-        || read(rt.alloc(), CERTIFICATE.as_bytes(), table),
-        is_the_certificate,
-    )
+    match met(UNREAD, read(rt.alloc(), CERTIFICATE.as_bytes(), table))? {
+        Some(made) => passes(made, is_the_certificate),
+        None => passes_again(
+            read(rt.alloc(), CERTIFICATE.as_bytes(), table),
+            is_the_certificate,
+        ),
+    }
 }
 
 /// The system's certificate, as it is read.
@@ -29,17 +37,24 @@ fn certificate_of<R: AllocGlobal>(rt: &R, table: &Table) -> Result<Certificate, 
 }
 
 fn writes<R: AllocGlobal>(rt: &R, certificate: &Certificate, table: &Table) -> Result<(), Stopped> {
-    tries_for(
-        NO_MEMORY,
-        || write(rt.alloc(), certificate, table),
-        CERTIFICATE.as_bytes(),
-    )
+    match met(NO_MEMORY, write(rt.alloc(), certificate, table))? {
+        Some(made) => are_made(made, CERTIFICATE.as_bytes()),
+        None => are_made_again(
+            write(rt.alloc(), certificate, table),
+            CERTIFICATE.as_bytes(),
+        ),
+    }
 }
 
 pub fn writes_a_certificate<R: AllocGlobal>(rt: &R, table: &Table) -> Result<(), Stopped> {
-    lend(certificate_of(rt, table), |certificate| {
-        writes(rt, certificate, table)
-    })
+    match certificate_of(rt, table) {
+        Ok(certificate) => {
+            let result = writes(rt, &certificate, table);
+            drop(certificate);
+            result
+        }
+        Err(stopped) => Err(stopped),
+    }
 }
 
 fn verifies<R: AllocGlobal + Threads + Sync>(
@@ -48,11 +63,16 @@ fn verifies<R: AllocGlobal + Threads + Sync>(
     policy: &Policy,
     certificate: &Certificate,
 ) -> Result<(), Stopped> {
-    tries(
+    match met(
         NotAccepted::NoMemory,
-        || verify(rt, rt.alloc(), table, policy, certificate),
-        |_| Ok(()),
-    )
+        verify(rt, rt.alloc(), table, policy, certificate),
+    )? {
+        Some(_) => Ok(()),
+        None => {
+            again(verify(rt, rt.alloc(), table, policy, certificate))?;
+            Err(Stopped::Refused)
+        }
+    }
 }
 
 pub fn verifies_a_certificate<R: AllocGlobal + Threads + Sync>(
@@ -60,7 +80,12 @@ pub fn verifies_a_certificate<R: AllocGlobal + Threads + Sync>(
     table: &Table,
     policy: &Policy,
 ) -> Result<(), Stopped> {
-    lend(certificate_of(rt, table), |certificate| {
-        verifies(rt, table, policy, certificate)
-    })
+    match certificate_of(rt, table) {
+        Ok(certificate) => {
+            let result = verifies(rt, table, policy, &certificate);
+            drop(certificate);
+            result
+        }
+        Err(stopped) => Err(stopped),
+    }
 }

@@ -1,7 +1,8 @@
 //! `policy::Policy::add`, `policy::Policy::edges` and `policy::close`.
 use crate::bell::edges;
 use crate::memory::{
-    NO_MEMORY, Stopped, Wrong, again, holds, lend, lend_mut, prepared, spend, tries, tries_for,
+    NO_MEMORY, Stopped, Wrong, again, are_made, are_made_again, holds, met, passes, passes_again,
+    prepared, spend,
 };
 use base::Edge;
 use policy::Policy;
@@ -13,6 +14,11 @@ pub fn has_edges(policy: &Policy, rising: &[Edge]) -> Result<(), Stopped> {
     }
     holds(policy.last() == rising.last().copied(), Wrong::LastEdge)?;
     Ok(())
+}
+
+/// Asserts that a policy has the system's edges.
+pub fn has_all_edges(policy: &Policy) -> Result<(), Stopped> {
+    has_edges(policy, &edges()?)
 }
 
 /// Adds the first of these edges to a policy of the others: an edge that is refused isn't in it, and comes in the second time.
@@ -42,12 +48,18 @@ fn adds_edges_to(policy: &mut Policy) -> Result<(), Stopped> {
 
 pub fn adds_edges<R: AllocGlobal>(rt: &R, count: u64) -> Result<(), Stopped> {
     spend(rt.alloc(), count)?;
-    lend_mut(Policy::new(rt.alloc()), adds_edges_to)
+    let mut policy = Policy::new(rt.alloc());
+    let result = adds_edges_to(&mut policy);
+    drop(policy);
+    result
 }
 
 fn lists_the_edges<R: AllocGlobal>(rt: &R, policy: &Policy) -> Result<(), Stopped> {
     let expected = edges()?;
-    tries_for(NO_MEMORY, || policy.edges(rt.alloc()), &expected)
+    match met(NO_MEMORY, policy.edges(rt.alloc()))? {
+        Some(made) => are_made(made, &expected),
+        None => are_made_again(policy.edges(rt.alloc()), &expected),
+    }
 }
 
 fn fills_and_lists<R: AllocGlobal>(rt: &R, policy: &mut Policy) -> Result<(), Stopped> {
@@ -59,22 +71,25 @@ fn fills_and_lists<R: AllocGlobal>(rt: &R, policy: &mut Policy) -> Result<(), St
 
 pub fn lists_edges<R: AllocGlobal>(rt: &R, count: u64) -> Result<(), Stopped> {
     spend(rt.alloc(), count)?;
-    lend_mut(Policy::new(rt.alloc()), |policy| {
-        fills_and_lists(rt, policy)
-    })
+    let mut policy = Policy::new(rt.alloc());
+    let result = fills_and_lists(rt, &mut policy);
+    drop(policy);
+    result
 }
 
 /// Closes a policy without an edge, with all edges of the system.
 fn closes_the<R: AllocGlobal>(rt: &R, empty: &Policy) -> Result<(), Stopped> {
     let edges = edges()?;
-    tries(
-        NO_MEMORY,
-        || policy::close(rt.alloc(), empty, &edges),
-        |closed| has_edges(closed, &edges),
-    )
+    match met(NO_MEMORY, policy::close(rt.alloc(), empty, &edges))? {
+        Some(made) => passes(made, has_all_edges),
+        None => passes_again(policy::close(rt.alloc(), empty, &edges), has_all_edges),
+    }
 }
 
 pub fn closes<R: AllocGlobal>(rt: &R, count: u64) -> Result<(), Stopped> {
     spend(rt.alloc(), count)?;
-    lend(Ok(Policy::new(rt.alloc())), |empty| closes_the(rt, empty))
+    let empty = Policy::new(rt.alloc());
+    let result = closes_the(rt, &empty);
+    drop(empty);
+    result
 }

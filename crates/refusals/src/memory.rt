@@ -124,37 +124,18 @@ pub fn prepared<T, E: Drop>(made: Result<T, E>) -> Result<T, Stopped>
     }
 }
 
-/// Makes a call, whose value has to pass a test. One that is refused memory has to say so by this error; it is made again
-/// then, and has to have its value. What it gave is let go here, as a value of any type: a function that lets go of a
-/// `Table` by name has a step for each of its fields, at each way out.
-pub fn tries<T, E, C, F>(no_memory: E, call: C, test: F) -> Result<(), Stopped>
-where
-    T: Drop,
-    E: PartialEq + Drop,
-    C: Fn() -> Result<T, E> + Drop,
-    F: Fn(&T) -> Result<(), Stopped> + Drop,
-    requires call { C.IsAlwaysCallable call }
-    requires test { F.IsAlwaysCallable test }
-{
-    match call() {
-        Ok(value) => test(&value),
+/// What a call has made, or nothing where it was refused memory. Then it has to say so by this error, and is to be made again.
+pub fn met<T, E: PartialEq + Drop>(
+    no_memory: E,
+    answer: Result<T, E>,
+) -> Result<Option<T>, Stopped> {
+    match answer {
+        Ok(value) => Ok(Some(value)),
         Err(error) => {
             holds(error == no_memory, Wrong::Error)?;
-            lend(again(call()), test)?;
-            Err(Stopped::Refused)
+            Ok(None)
         }
     }
-}
-
-/// Makes a call as [`tries`], whose value has to be these items.
-pub fn tries_for<T, E, C>(no_memory: E, call: C, expected: &[T]) -> Result<(), Stopped>
-where
-    T: PartialEq + Drop,
-    E: PartialEq + Drop,
-    C: Fn() -> Result<Vec<T>, E> + Drop,
-    requires { C.IsAlwaysCallable call }
-{
-    tries(no_memory, call, |items: &Vec<T>| are(items, expected))
 }
 
 /// What a call answered that was made again.
@@ -165,30 +146,43 @@ pub fn again<T, E: Drop>(answer: Result<T, E>) -> Result<T, Stopped> {
     }
 }
 
-/// Lends what was made to the rest of a test. It is let go here, as in [`tries`].
-pub fn lend<T: Drop, F: Fn(&T) -> Result<(), Stopped> + Drop>(
-    made: Result<T, Stopped>,
+/// Asserts that what a call has made passes a test. It is let go here, as a value of any type: a function that lets go of a
+/// `Table` by name has a step for each of its fields, at each way out.
+pub fn passes<T: Drop, F: Fn(&T) -> Result<(), Stopped> + Drop>(
+    made: T,
     test: F,
 ) -> Result<(), Stopped>
     requires { F.IsAlwaysCallable test }
 {
-    match made {
-        Ok(value) => test(&value),
-        Err(stopped) => Err(stopped),
-    }
+    test(&made)
 }
 
-/// Lends a value to a test that changes it, as [`lend`].
-pub fn lend_mut<T: Drop, F: Fn(&mut T) -> Result<(), Stopped> + Drop>(
-    mut value: T,
+/// Ends a call that was refused memory, and is made again: now it has to have made what passes the test.
+pub fn passes_again<T: Drop, E: Drop, F: Fn(&T) -> Result<(), Stopped> + Drop>(
+    answer: Result<T, E>,
     test: F,
 ) -> Result<(), Stopped>
     requires { F.IsAlwaysCallable test }
 {
-    test(&mut value)
+    passes(again(answer)?, test)?;
+    Err(Stopped::Refused)
 }
 
 /// Asserts that these items are the expected ones.
 pub fn are<T: PartialEq>(items: &[T], expected: &[T]) -> Result<(), Stopped> {
     holds(items == expected, Wrong::Items)
+}
+
+/// Asserts that a call has made the expected items.
+pub fn are_made<T: PartialEq + Drop>(made: Vec<T>, expected: &[T]) -> Result<(), Stopped> {
+    are(&made, expected)
+}
+
+/// Ends a call that was refused memory, and is made again: now it has to make the expected items.
+pub fn are_made_again<T: PartialEq + Drop, E: Drop>(
+    answer: Result<Vec<T>, E>,
+    expected: &[T],
+) -> Result<(), Stopped> {
+    are_made(again(answer)?, expected)?;
+    Err(Stopped::Refused)
 }

@@ -1,21 +1,24 @@
 //! `cores::Opened::open`.
 use crate::bell::core;
-use crate::memory::{NO_MEMORY, Stopped, Wrong, holds, lend, prepared, tries};
-use cores::Opened;
+use crate::memory::{NO_MEMORY, Stopped, Wrong, holds, met, passes, passes_again, prepared};
+use cores::{Opened, Seat};
 use deal::Open;
 use policy::Policy;
 use std::thread::Threads;
 use table::Table;
 use verdict::{Accepted, judge};
 
+fn has_a_seat((_, seats): &(Opened, Vec<Seat>)) -> Result<(), Stopped> {
+    holds(seats.len() == 1, Wrong::SeatCount)
+}
+
 /// Opens a kernel with a seat.
 fn opens_for<R: AllocGlobal>(rt: &R, accepted: &Accepted<'_>) -> Result<(), Stopped> {
     let cores = [core()?];
-    tries(
-        NO_MEMORY,
-        || Opened::open(rt.alloc(), accepted, 2, &cores, 1),
-        |(_, seats)| { holds(seats.len() == 1, Wrong::SeatCount) },
-    )
+    match met(NO_MEMORY, Opened::open(rt.alloc(), accepted, 2, &cores, 1))? {
+        Some(made) => passes(made, has_a_seat),
+        None => passes_again(Opened::open(rt.alloc(), accepted, 2, &cores, 1), has_a_seat),
+    }
 }
 
 pub fn opens<R: AllocGlobal + Threads + Sync>(
@@ -23,9 +26,8 @@ pub fn opens<R: AllocGlobal + Threads + Sync>(
     table: &Table,
     policy: &Policy,
 ) -> Result<(), Stopped> {
-    let verdict = prepared(judge(rt, rt.alloc(), table, policy, 1, &Open));
-    lend(verdict, |verdict| match verdict {
-        Ok(accepted) => opens_for(rt, accepted),
+    match prepared(judge(rt, rt.alloc(), table, policy, 1, &Open))? {
+        Ok(accepted) => opens_for(rt, &accepted),
         Err(_) => Err(Stopped::Wrong(Wrong::Denied)),
-    })
+    }
 }

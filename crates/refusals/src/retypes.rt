@@ -2,7 +2,7 @@
 ghost use Rattle.machine.specs.WellFormed.{IsWellFormed};
 
 use crate::bell::core;
-use crate::memory::{NO_MEMORY, Stopped, Wrong, again, are, holds, lend, prepared, spend};
+use crate::memory::{NO_MEMORY, Stopped, Wrong, again, are, holds, prepared, spend};
 use crate::states::booted;
 use base::{ObjId, Refusal, SlotRef};
 use captext::read_table;
@@ -68,6 +68,16 @@ fn one(kind: MemoryKind, offset: u64) -> Wanted {
         bits: 0,
         offset,
         count: 1,
+    }
+}
+
+/// So many CNodes of this size.
+fn cnodes(count: u64, bits: u64) -> Wanted {
+    Wanted {
+        kind: MemoryKind::CNode,
+        bits,
+        offset: 2,
+        count,
     }
 }
 
@@ -294,12 +304,30 @@ fn replays_on(state: &mut State) -> Result<(), Stopped>
 
 /// What is tried in a boot state.
 #[derive(Clone, Copy)]
-enum Trial {
+pub enum Trial {
     /// An endpoint and a thread are made, one after the other.
     Twice,
-    Makes(Wanted),
+    /// A CNode is made, which has slots.
+    CNode,
+    /// A frame is made, which has words.
+    Frame,
+    /// Sixteen CNodes are made at once, in a CNode that has room for them.
+    Sixteen,
     Runs,
     Replays,
+}
+
+/// What the call of this name tries.
+pub fn trial_of(call: &str) -> Option<Trial> {
+    match call {
+        "step" => Some(Trial::Twice),
+        "step_cnode" => Some(Trial::CNode),
+        "step_frame" => Some(Trial::Frame),
+        "step_sixteen" => Some(Trial::Sixteen),
+        "run_retype" => Some(Trial::Runs),
+        "replay" => Some(Trial::Replays),
+        _ => None,
+    }
 }
 
 fn try_in<R: AllocGlobal>(rt: &R, state: &mut State, trial: Trial) -> Result<(), Stopped>
@@ -307,7 +335,9 @@ fn try_in<R: AllocGlobal>(rt: &R, state: &mut State, trial: Trial) -> Result<(),
 {
     match trial {
         Trial::Twice => steps_twice(state),
-        Trial::Makes(wanted) => steps(state, wanted),
+        Trial::CNode => steps(state, cnodes(1, 3)),
+        Trial::Frame => steps(state, one(MemoryKind::Frame, 2)),
+        Trial::Sixteen => steps(state, cnodes(16, 1)),
         Trial::Runs => runs_on(rt, state),
         Trial::Replays => replays_on(state),
     }
@@ -324,49 +354,21 @@ fn try_after_boot<R: AllocGlobal>(rt: &R, table: &Table, trial: Trial) -> Result
     }
 }
 
-/// Tries it in the boot state of a text's table, after so many allocations.
-fn tried<R: AllocGlobal>(rt: &R, count: u64, text: &str, trial: Trial) -> Result<(), Stopped> {
+/// Tries it in the boot state of a table, after so many allocations.
+pub fn tried<R: AllocGlobal>(rt: &R, count: u64, trial: Trial) -> Result<(), Stopped> {
     spend(rt.alloc(), count)?;
-    let table = prepared(read_table(rt.alloc(), text.as_bytes()));
-    lend(table, |table| try_after_boot(rt, table, trial))
-}
-
-pub fn steps_of_events<R: AllocGlobal>(rt: &R, count: u64) -> Result<(), Stopped> {
-    tried(rt, count, TABLE, Trial::Twice)
-}
-
-/// Makes a CNode, which has slots.
-pub fn makes_a_cnode<R: AllocGlobal>(rt: &R, count: u64) -> Result<(), Stopped> {
-    let wanted = Wanted {
-        bits: 3,
-        ..one(MemoryKind::CNode, 2)
+    let text = match trial {
+        Trial::Sixteen => WIDE_TABLE,
+        _ => TABLE,
     };
-    tried(rt, count, TABLE, Trial::Makes(wanted))
-}
-
-/// Makes a frame, which has words.
-pub fn makes_a_frame<R: AllocGlobal>(rt: &R, count: u64) -> Result<(), Stopped> {
-    let wanted = one(MemoryKind::Frame, 2);
-    tried(rt, count, TABLE, Trial::Makes(wanted))
-}
-
-/// Makes sixteen CNodes at once.
-pub fn makes_sixteen<R: AllocGlobal>(rt: &R, count: u64) -> Result<(), Stopped> {
-    let wanted = Wanted {
-        kind: MemoryKind::CNode,
-        bits: 1,
-        offset: 2,
-        count: 16,
-    };
-    tried(rt, count, WIDE_TABLE, Trial::Makes(wanted))
-}
-
-pub fn runs_of_events<R: AllocGlobal>(rt: &R, count: u64) -> Result<(), Stopped> {
-    tried(rt, count, TABLE, Trial::Runs)
-}
-
-pub fn replays_of_events<R: AllocGlobal>(rt: &R, count: u64) -> Result<(), Stopped> {
-    tried(rt, count, TABLE, Trial::Replays)
+    match prepared(read_table(rt.alloc(), text.as_bytes())) {
+        Ok(table) => {
+            let result = try_after_boot(rt, &table, trial);
+            drop(table);
+            result
+        }
+        Err(stopped) => Err(stopped),
+    }
 }
 
 /// A policy of an engine that makes an object.

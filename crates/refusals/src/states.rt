@@ -3,14 +3,19 @@ ghost use Rattle.std.specs.Prelude.{IfOk};
 ghost use Rattle.machine.specs.WellFormed.{IsWellFormed};
 
 use crate::bell::{DONE, WORD, events, is_booted};
-use crate::memory::{NO_MEMORY, Stopped, Wrong, again, are, holds, prepared, tries};
+use crate::memory::{
+    NO_MEMORY, Stopped, Wrong, again, are, holds, met, passes, passes_again, prepared,
+};
 use kernel::{boot, run};
 use machine::Outcome;
 use objects::State;
 use table::Table;
 
 pub fn boots<R: AllocGlobal>(rt: &R, table: &Table) -> Result<(), Stopped> {
-    tries(NO_MEMORY, || boot(rt.alloc(), table), is_booted)
+    match met(NO_MEMORY, boot(rt.alloc(), table))? {
+        Some(made) => passes(made, is_booted),
+        None => passes_again(boot(rt.alloc(), table), is_booted),
+    }
 }
 
 /// A run of the script's events on the boot state: one that is refused has made no step, and is made the second time.

@@ -1,24 +1,24 @@
 //! `captext::read_table` and `captext::read_policy`.
-use crate::bell::{POLICY, TABLE, edges, is_the_system};
-use crate::edges::has_edges;
-use crate::memory::{Stopped, UNREAD, spend, tries};
+use crate::bell::{POLICY, TABLE, is_the_system};
+use crate::edges::has_all_edges;
+use crate::memory::{Stopped, UNREAD, met, passes, passes_again, spend};
 use captext::{read_policy, read_table};
 use table::Table;
 
 pub fn reads_the_table<R: AllocGlobal>(rt: &R, count: u64) -> Result<(), Stopped> {
     spend(rt.alloc(), count)?;
-    tries(
-        UNREAD,
-        || read_table(rt.alloc(), TABLE.as_bytes()),
-        is_the_system,
-    )
+    match met(UNREAD, read_table(rt.alloc(), TABLE.as_bytes()))? {
+        Some(made) => passes(made, is_the_system),
+        None => passes_again(read_table(rt.alloc(), TABLE.as_bytes()), is_the_system),
+    }
 }
 
 pub fn reads_the_policy<R: AllocGlobal>(rt: &R, table: &Table) -> Result<(), Stopped> {
-    let edges = edges()?;
-    tries(
-        UNREAD,
-        || read_policy(rt.alloc(), POLICY.as_bytes(), table),
-        |policy| has_edges(policy, &edges),
-    )
+    match met(UNREAD, read_policy(rt.alloc(), POLICY.as_bytes(), table))? {
+        Some(made) => passes(made, has_all_edges),
+        None => passes_again(
+            read_policy(rt.alloc(), POLICY.as_bytes(), table),
+            has_all_edges,
+        ),
+    }
 }

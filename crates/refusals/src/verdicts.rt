@@ -1,23 +1,26 @@
 //! `verdict::judge` and `checker::check`.
 use crate::certificates::is_the_certificate;
-use crate::memory::{NO_MEMORY, Stopped, Wrong, holds, tries};
+use crate::memory::{NO_MEMORY, Stopped, Wrong, holds, met, passes, passes_again};
 use checker::{CheckError, Verdict, check};
 use deal::Open;
 use policy::Policy;
 use std::thread::Threads;
 use table::Table;
-use verdict::judge;
+use verdict::{Accepted, Denial, judge};
+
+fn is_granted(verdict: &Result<Accepted<'_>, Denial>) -> Result<(), Stopped> {
+    holds(verdict.is_ok(), Wrong::Denied)
+}
 
 pub fn accepts<R: AllocGlobal + Threads + Sync>(
     rt: &R,
     table: &Table,
     policy: &Policy,
 ) -> Result<(), Stopped> {
-    tries(
-        NO_MEMORY,
-        || judge(rt, rt.alloc(), table, policy, 1, &Open),
-        |verdict| { holds(verdict.is_ok(), Wrong::Denied) },
-    )
+    match met(NO_MEMORY, judge(rt, rt.alloc(), table, policy, 1, &Open))? {
+        Some(made) => passes(made, is_granted),
+        None => passes_again(judge(rt, rt.alloc(), table, policy, 1, &Open), is_granted),
+    }
 }
 
 fn is_accepted(verdict: &Verdict<'_>) -> Result<(), Stopped> {
@@ -32,9 +35,11 @@ pub fn checks<R: AllocGlobal + Threads + Sync>(
     table: &Table,
     policy: &Policy,
 ) -> Result<(), Stopped> {
-    tries(
+    match met(
         CheckError::NoMemory,
-        || check(rt, rt.alloc(), table, policy, 1, &Open),
-        is_accepted,
-    )
+        check(rt, rt.alloc(), table, policy, 1, &Open),
+    )? {
+        Some(made) => passes(made, is_accepted),
+        None => passes_again(check(rt, rt.alloc(), table, policy, 1, &Open), is_accepted),
+    }
 }

@@ -1,17 +1,16 @@
 //! `captext::write_table`, `captext::write_policy` and `evtext::write_script`: what was read is written as it was.
 use crate::bell::{POLICY, SCRIPT, TABLE, events};
-use crate::memory::{NO_MEMORY, Stopped, spend, tries_for};
+use crate::memory::{NO_MEMORY, Stopped, are_made, are_made_again, met, spend};
 use captext::{write_policy, write_table};
 use evtext::write_script;
 use policy::Policy;
 use table::Table;
 
 pub fn writes_a_table<R: AllocGlobal>(rt: &R, table: &Table) -> Result<(), Stopped> {
-    tries_for(
-        NO_MEMORY,
-        || write_table(rt.alloc(), table),
-        TABLE.as_bytes(),
-    )
+    match met(NO_MEMORY, write_table(rt.alloc(), table))? {
+        Some(made) => are_made(made, TABLE.as_bytes()),
+        None => are_made_again(write_table(rt.alloc(), table), TABLE.as_bytes()),
+    }
 }
 
 pub fn writes_a_policy<R: AllocGlobal>(
@@ -19,19 +18,17 @@ pub fn writes_a_policy<R: AllocGlobal>(
     policy: &Policy,
     table: &Table,
 ) -> Result<(), Stopped> {
-    tries_for(
-        NO_MEMORY,
-        || write_policy(rt.alloc(), policy, table),
-        POLICY.as_bytes(),
-    )
+    match met(NO_MEMORY, write_policy(rt.alloc(), policy, table))? {
+        Some(made) => are_made(made, POLICY.as_bytes()),
+        None => are_made_again(write_policy(rt.alloc(), policy, table), POLICY.as_bytes()),
+    }
 }
 
 pub fn writes_a_script<R: AllocGlobal>(rt: &R, count: u64) -> Result<(), Stopped> {
     spend(rt.alloc(), count)?;
     let events = events()?;
-    tries_for(
-        NO_MEMORY,
-        || write_script(rt.alloc(), &events),
-        SCRIPT.as_bytes(),
-    )
+    match met(NO_MEMORY, write_script(rt.alloc(), &events))? {
+        Some(made) => are_made(made, SCRIPT.as_bytes()),
+        None => are_made_again(write_script(rt.alloc(), &events), SCRIPT.as_bytes()),
+    }
 }
