@@ -42,11 +42,11 @@ pub fn place_of(words: &str) -> Result<Place<'_>, Wrong> {
 
 /// What stands between backquotes.
 pub fn quoted(words: &str) -> Result<&str, Wrong> {
-    let text = words
-        .strip_prefix('`')
-        .ok_or(Wrong("a backquote is missing"))?;
-    text.strip_suffix('`')
-        .ok_or(Wrong("a backquote is missing"))
+    let text = match words.strip_prefix('`') {
+        Some(text) => text.strip_suffix('`'),
+        None => None,
+    };
+    text.ok_or(Wrong("a backquote is missing"))
 }
 
 /// The number of a line.
@@ -67,37 +67,37 @@ pub fn change_text(
     match place {
         Place::Piece(piece) => {
             let (before, after) = around(alloc, text, piece)?;
-            with_piece(alloc, before, quoted(change)?, after)
+            with_piece(alloc, before, change, after)
         }
-        Place::Whole => with_piece(alloc, "", quoted(change)?, ""),
+        Place::Whole => with_piece(alloc, "", change, ""),
         Place::Before(number) => {
             let (before, after) = before_line(text, number)?;
-            with_line(alloc, before, quoted(change)?, after)
+            with_line(alloc, before, change, after)
         }
         Place::BeforeEnd => {
             let before = text.strip_suffix("end\n").ok_or(NO_LINE)?;
-            with_line(alloc, before, quoted(change)?, "end\n")
+            with_line(alloc, before, change, "end\n")
         }
         Place::Lines => with_lines(alloc, text, change),
     }
 }
 
 /// What stands before and after a piece of the text.
-fn around<'a>(alloc: Global, text: &'a str, piece: &str) -> Result<(&'a str, &'a str), Wrong> {
+pub fn around<'a>(alloc: Global, text: &'a str, piece: &str) -> Result<(&'a str, &'a str), Wrong> {
     let piece = text_of(alloc, piece)?;
     text.split_once(piece.as_str())
         .ok_or(Wrong("the text has no such piece"))
 }
 
-/// The two parts with a piece between them.
+/// The two parts with a piece between them, which stands between backquotes.
 fn with_piece(alloc: Global, before: &str, piece: &str, after: &str) -> Result<Changed, Wrong> {
-    let piece = bytes_of(alloc, piece)?;
+    let piece = bytes_of(alloc, quoted(piece)?)?;
     joined(alloc, before, &[&piece, after.as_bytes()])
 }
 
-/// The two parts with a line between them.
+/// The two parts with a line between them, alike.
 fn with_line(alloc: Global, before: &str, line: &str, after: &str) -> Result<Changed, Wrong> {
-    let mut line = bytes_of(alloc, line)?;
+    let mut line = bytes_of(alloc, quoted(line)?)?;
     line.push(b'\n')?;
     joined(alloc, before, &[&line, after.as_bytes()])
 }
@@ -115,8 +115,7 @@ fn joined(alloc: Global, before: &str, parts: &[&[u8]]) -> Result<Changed, Wrong
 
 /// The number of the line that a text ends in.
 pub fn last_line(text: &str) -> usize {
-    let ended = text.bytes().filter(|byte| *byte == b'\n').count();
-    ended.saturating_add(1)
+    text.split('\n').count()
 }
 
 /// What stands before the line of this number, and the rest.
@@ -153,7 +152,11 @@ fn lines_in<'a>(text: &'a str, range: &str) -> Result<&'a str, Wrong> {
     if last.is_empty() {
         return Ok(rest);
     }
-    let count = line_number(last)?.saturating_sub(first).saturating_add(1);
-    let (lines, _) = before_line(rest, count.saturating_add(1))?;
+    first_lines(rest, line_number(last)?.saturating_sub(first))
+}
+
+/// The first line of the text, and so many more.
+fn first_lines(text: &str, more: usize) -> Result<&str, Wrong> {
+    let (lines, _) = before_line(text, more.saturating_add(2))?;
     Ok(lines)
 }

@@ -31,11 +31,18 @@ pub enum Command<'a> {
 impl<'a> Command<'a> {
     /// The command that these words name.
     pub fn named(words: &'a str) -> Option<Command<'a>> {
-        if let Some(labels) = words.strip_prefix("why ") {
-            let (actor, object) = labels.split_once(' ')?;
-            return Some(Command::Why(actor, object));
+        match words.strip_prefix("why ") {
+            Some(labels) => {
+                let (actor, object) = labels.split_once(' ')?;
+                Some(Command::Why(actor, object))
+            }
+            None => Command::of_word(words),
         }
-        match words {
+    }
+
+    /// The command of this word.
+    fn of_word(word: &str) -> Option<Command<'a>> {
+        match word {
             "run" => Some(Command::Run),
             "replay" => Some(Command::Replay),
             "check" => Some(Command::Check(OnAccept::Report)),
@@ -103,29 +110,20 @@ where
     requires third { S.failed third.old ≡ false }
     requires out { O.failed out.old ≡ false }
 {
+    let listener = &mut Silence;
     match command {
-        Command::Run => run(rt, alloc, table, policy, third, &mut Silence, out),
-        Command::Replay => replay(alloc, table, policy, third, &mut Silence, out),
-        Command::Check(on_accept) => {
-            check(
-                rt,
-                alloc,
-                table,
-                policy,
-                on_accept,
-                1,
-                &Open,
-                &mut Silence,
-                out,
-            )
-        }
-        Command::Verify => verify(rt, alloc, table, policy, third, &mut Silence, out),
-        Command::Close(on_close) => close(alloc, table, policy, on_close, &mut Silence, out),
-        Command::List => list(alloc, table, &mut Silence, out),
-        Command::Draw => draw(alloc, table, policy, &mut Silence, out),
-        Command::Claim => check_claims(rt, alloc, table, policy, third, &mut Silence, out),
-        Command::Strongest => write_claims(rt, alloc, table, policy, &mut Silence, out),
-        Command::Why(actor, object) => why(alloc, table, policy, actor, object, &mut Silence, out),
+        Command::Run => run(rt, alloc, table, policy, third, listener, out),
+        Command::Replay => replay(alloc, table, policy, third, listener, out),
+        Command::Check(on_accept) => check(
+            rt, alloc, table, policy, on_accept, 1, &Open, listener, out,
+        ),
+        Command::Verify => verify(rt, alloc, table, policy, third, listener, out),
+        Command::Close(on_close) => close(alloc, table, policy, on_close, listener, out),
+        Command::List => list(alloc, table, listener, out),
+        Command::Draw => draw(alloc, table, policy, listener, out),
+        Command::Claim => check_claims(rt, alloc, table, policy, third, listener, out),
+        Command::Strongest => write_claims(rt, alloc, table, policy, listener, out),
+        Command::Why(actor, object) => why(alloc, table, policy, actor, object, listener, out),
     }
 }
 

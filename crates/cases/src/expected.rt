@@ -11,8 +11,6 @@ const NO_PLACE: Wrong = Wrong("a rule has a place");
 
 const NO_ARROW: Wrong = Wrong("an arrow is told as `A changes B by EDGE` or `A takes B by EDGE`");
 
-const WITHIN: &str = "\"state\":\"within\",\"verdict\":\"legal\"";
-
 /// The answer that these words say: `log`, `report`, `certificate`, `policy`, `each OUTCOME`, `accept`, ``writes
 /// `TEXT` ``, `claims`, `hold N`, `broken AUTHORITY K`, `full EDGES`, `take EDGES`, `none`, `lacks EDGES`,
 /// `draws LABELS, ARROWS`, `within N`, `outside N RULE PLACE`, `illegal K`, `deny RULE PLACE`, or a fault, which is in this file and line where they don't say another.
@@ -23,135 +21,199 @@ pub fn expected(
     script: &[u8],
     place: (File, usize),
 ) -> Result<Answer, Wrong> {
-    match words {
-        "log" => return told(alloc, texts.text(File::Log)),
-        "report" => return told(alloc, &texts.report),
-        "certificate" => return told(alloc, texts.text(File::Certificate)),
-        "policy" => return told(alloc, texts.text(File::Policy)),
-        "claims" => return told(alloc, texts.text(File::Claims)),
-        "accept" => return told(alloc, "{\"verdict\":\"accept\"}\n"),
-        _ => (),
-    }
-    if let Some(answer) = listed(alloc, words)? {
-        return Ok(answer);
-    }
-    if let Some(words) = words.strip_prefix("draws") {
-        return drawn(alloc, words);
-    }
-    if let Some(answer) = reported(alloc, words)? {
-        return Ok(answer);
-    }
-    if let Some(text) = words.strip_prefix("writes ") {
-        let text = text_of(alloc, quoted(text)?)?;
-        return told(alloc, &format!(in alloc; "{text}\n")?);
-    }
     if let Some(outcome) = words.strip_prefix("each ") {
         let text = log_of(alloc, script, outcome)?;
         return Ok(Answer { status: 0, text });
     }
-    match words.strip_prefix("deny ") {
-        Some(words) => denial(alloc, words),
-        None => fault(alloc, words, place),
+    let mut text = String::new(alloc);
+    match tell(alloc, &mut text, words, texts, place) {
+        Ok(status) => Ok(Answer {
+            status,
+            text: text.into_bytes(),
+        }),
+        Err(wrong) => {
+            drop(text);
+            Err(wrong)
+        }
     }
 }
 
-/// The answer that is this text, with status 0.
-fn told(alloc: Global, text: &str) -> Result<Answer, Wrong> {
-    let text = Vec::from_slice(alloc, text.as_bytes())?;
-    Ok(Answer { status: 0, text })
-}
-
-/// What is told by a list of edges, each as `FROM KIND TO`, with commas between them.
-fn listed(alloc: Global, words: &str) -> Result<Option<Answer>, Wrong> {
-    let (word, edges) = words.split_once(' ').unwrap_or((words, ""));
-    let (heading, status) = match word {
-        "full" => ("full\n", 0),
-        "take" => ("take\n", 1),
-        "none" => ("none\n", 1),
-        "lacks" => ("", if edges.is_empty() { 0 } else { 1 }),
-        _ => return Ok(None),
-    };
-    let mut text = String::from_str(alloc, heading)?;
-    for edge in edges.split(", ").filter(|edge| !edge.is_empty()) {
-        writeln!(text, "edge {edge}")?;
+/// Tells the text of the answer that these words say, and gives its status.
+fn tell(
+    alloc: Global,
+    text: &mut String,
+    words: &str,
+    texts: &Texts,
+    place: (File, usize),
+) -> Result<u8, Wrong> {
+    if let Some(known) = known(words, texts) {
+        text.push_str(known)?;
+        return Ok(0);
     }
-    let text = text.into_bytes();
-    Ok(Some(Answer { status, text }))
+    let (word, rest) = words.split_once(' ').unwrap_or((words, ""));
+    match word {
+        "full" | "take" | "none" | "lacks" => tell_list(text, word, rest),
+        "draws" => tell_drawing(text, rest),
+        "writes" => tell_literal(alloc, text, rest),
+        "outside" => tell_outside(text, rest),
+        "broken" => tell_broken(text, rest),
+        "deny" => {
+            text.push('{')?;
+            tell_denial(text, rest, "\"verdict\":\"deny\"")
+        }
+        _ => match numbered(word) {
+            Some((name, told, status)) => {
+                let number = number(rest)?;
+                writeln!(text, "{{\"{name}\":{number},{told}}}")?;
+                Ok(status)
+            }
+            None => tell_fault(text, words, place),
+        },
+    }
 }
 
-/// What is drawn: the labels, with spaces between them, and each arrow, as `A changes B by EDGE` or `A takes B by EDGE`, with commas before
-/// them.
-fn drawn(alloc: Global, words: &str) -> Result<Answer, Wrong> {
+/// The text that is told with status 0, if these words name one.
+fn known<'a>(words: &str, texts: &'a Texts) -> Option<&'a str> {
+    match words {
+        "log" => Some(texts.text(File::Log)),
+        "report" => Some(&texts.report),
+        "certificate" => Some(texts.text(File::Certificate)),
+        "policy" => Some(texts.text(File::Policy)),
+        "claims" => Some(texts.text(File::Claims)),
+        "accept" => Some("{\"verdict\":\"accept\"}\n"),
+        _ => None,
+    }
+}
+
+/// How a number is named that stands after this word, what is told beside it, and with which status: of a log `within N`, where N is the
+/// number of entries, or `illegal K`; and of claims `hold N`, where N is their number.
+fn numbered(word: &str) -> Option<(&'static str, &'static str, u8)> {
+    match word {
+        "within" => Some(("entries", "\"state\":\"within\",\"verdict\":\"legal\"", 0)),
+        "illegal" => Some(("entry", "\"verdict\":\"illegal\"", 1)),
+        "hold" => Some(("claims", "\"verdict\":\"hold\"", 0)),
+        _ => None,
+    }
+}
+
+/// Tells a list of edges after this word.
+fn tell_list(text: &mut String, word: &str, edges: &str) -> Result<u8, Wrong> {
+    if word != "lacks" {
+        writeln!(text, "{word}")?;
+    }
+    tell_edges(text, edges)?;
+    let is_well = word == "full" || word == "lacks" && edges.is_empty();
+    Ok(if is_well { 0 } else { 1 })
+}
+
+/// Tells edges, each as `FROM KIND TO`, with commas between them.
+fn tell_edges(text: &mut String, edges: &str) -> Result<(), AllocError> {
+    for edge in edges.split(", ") {
+        if !edge.is_empty() {
+            writeln!(text, "edge {edge}")?;
+        }
+    }
+    Ok(())
+}
+
+/// Tells what is drawn: the labels, with spaces between them, and each arrow, with commas before them.
+fn tell_drawing(text: &mut String, words: &str) -> Result<u8, Wrong> {
     let (labels, arrows) = words.split_once(", ").unwrap_or((words, ""));
-    let mut text = String::from_str(alloc, "digraph authority {\n")?;
-    for label in labels.split(' ').filter(|label| !label.is_empty()) {
-        writeln!(text, "  \"{label}\"")?;
+    text.push_str("digraph authority {\n")?;
+    for label in labels.split(' ') {
+        if !label.is_empty() {
+            writeln!(text, "  \"{label}\"")?;
+        }
     }
-    for arrow in arrows.split(", ").filter(|arrow| !arrow.is_empty()) {
-        let (ends, edge) = arrow.split_once(" by ").ok_or(NO_ARROW)?;
-        let (actor, object, style) = match (
-            ends.split_once(" changes "),
-            ends.split_once(" takes "),
-        ) {
-            (Some((actor, object)), _) => (actor, object, ""),
-            (None, Some((actor, object))) => (actor, object, "style=dashed, "),
-            (None, None) => return Err(NO_ARROW),
-        };
-        writeln!(
-            text,
-            "  \"{actor}\" -> \"{object}\" [{style}label=\"{edge}\"]"
-        )?;
+    for arrow in arrows.split(", ") {
+        if !arrow.is_empty() {
+            tell_arrow(text, arrow)?;
+        }
     }
     text.push_str("}\n")?;
-    Ok(Answer {
-        status: 0,
-        text: text.into_bytes(),
-    })
+    Ok(0)
 }
 
-/// What is told of a log, `within N` or `outside N RULE PLACE`, where N is the number of entries, or `illegal K`; and of claims, `hold N`,
-/// where N is their number, or `broken AUTHORITY K`.
-fn reported(alloc: Global, words: &str) -> Result<Option<Answer>, Wrong> {
-    let (word, words) = words.split_once(' ').unwrap_or((words, ""));
-    let (text, status) = match word {
-        "within" => (numbered(alloc, "entries", words, WITHIN)?, 0),
-        "outside" => (outside(alloc, words)?, 1),
-        "illegal" => (
-            numbered(alloc, "entry", words, "\"verdict\":\"illegal\"")?,
-            1,
+/// Tells an arrow, `A changes B by EDGE` or `A takes B by EDGE`.
+fn tell_arrow(text: &mut String, arrow: &str) -> Result<(), Wrong> {
+    let (ends, edge) = arrow.split_once(" by ").ok_or(NO_ARROW)?;
+    let ((actor, object), style) = match ends.split_once(" changes ") {
+        Some(ends) => (ends, ""),
+        None => (
+            ends.split_once(" takes ").ok_or(NO_ARROW)?,
+            "style=dashed, ",
         ),
-        "hold" => (numbered(alloc, "claims", words, "\"verdict\":\"hold\"")?, 0),
-        "broken" => (broken(alloc, words)?, 1),
-        _ => return Ok(None),
     };
-    let text = text.into_bytes();
-    Ok(Some(Answer { status, text }))
+    write!(text, "  \"{actor}\" -> \"{object}\"")?;
+    writeln!(text, " [{style}label=\"{edge}\"]")?;
+    Ok(())
 }
 
-/// A number by its name, and what is told beside it.
-fn numbered(alloc: Global, name: &str, words: &str, rest: &str) -> Result<String, Wrong> {
-    let number = number(words)?;
-    Ok(format!(in alloc; "{{\"{name}\":{number},{rest}}}\n")?)
+/// Tells a text that stands between backquotes, as a line.
+fn tell_literal(alloc: Global, text: &mut String, words: &str) -> Result<u8, Wrong> {
+    let told = text_of(alloc, quoted(words)?)?;
+    writeln!(text, "{told}")?;
+    Ok(0)
 }
 
-fn broken(alloc: Global, words: &str) -> Result<String, Wrong> {
+/// Tells of claims that one is broken, `AUTHORITY K`.
+fn tell_broken(text: &mut String, words: &str) -> Result<u8, Wrong> {
     let (authority, claim) = words
         .split_once(' ')
         .ok_or(Wrong("a broken claim has a number"))?;
     let claim = number(claim)?;
-    Ok(format!(in alloc;
-        "{{\"authority\":\"{authority}\",\"claim\":{claim},\"verdict\":\"broken\"}}\n"
-    )?)
+    writeln!(
+        text,
+        "{{\"authority\":\"{authority}\",\"claim\":{claim},\"verdict\":\"broken\"}}"
+    )?;
+    Ok(1)
 }
 
-fn outside(alloc: Global, words: &str) -> Result<String, Wrong> {
+/// Tells of a log that it ends outside the policy, `N RULE PLACE`, where N is the number of entries.
+fn tell_outside(text: &mut String, words: &str) -> Result<u8, Wrong> {
     let (entries, words) = words.split_once(' ').ok_or(NO_PLACE)?;
-    let (rule, place) = words.split_once(' ').ok_or(NO_PLACE)?;
     let entries = number(entries)?;
-    let place = names(alloc, place)?;
-    Ok(format!(in alloc;
-        "{{\"entries\":{entries},\"place\":[{place}],\"rule\":\"{rule}\",\"state\":\"outside\",\"verdict\":\"legal\"}}\n"
-    )?)
+    write!(text, "{{\"entries\":{entries},")?;
+    tell_denial(text, words, "\"state\":\"outside\",\"verdict\":\"legal\"")
+}
+
+/// Tells a denial, by its rule and the names of its place, `RULE PLACE`, and what is told beside it.
+fn tell_denial(text: &mut String, words: &str, beside: &str) -> Result<u8, Wrong> {
+    let (rule, place) = words.split_once(' ').ok_or(NO_PLACE)?;
+    text.push_str("\"place\":[")?;
+    tell_names(text, place)?;
+    writeln!(text, "],\"rule\":\"{rule}\",{beside}}}")?;
+    Ok(1)
+}
+
+/// Tells names in quotes, with commas between them.
+fn tell_names(text: &mut String, place: &str) -> Result<(), AllocError> {
+    for (index, name) in place.split(' ').enumerate() {
+        if index > 0 {
+            text.push(',')?;
+        }
+        write!(text, "\"{name}\"")?;
+    }
+    Ok(())
+}
+
+/// Tells a fault, `[FILE] NUMBER [line LINE]`.
+fn tell_fault(text: &mut String, words: &str, (file, line): (File, usize)) -> Result<u8, Wrong> {
+    let (words, line) = match words.split_once(" line ") {
+        Some((words, line)) => (words, line_number(line)?),
+        None => (words, line),
+    };
+    let (file, fault) = match words.split_once(' ') {
+        Some((file, fault)) => (File::named(file)?, fault),
+        None => (file, words),
+    };
+    let fault = number(fault)?;
+    let file = file.name();
+    writeln!(
+        text,
+        "{{\"fault\":{fault},\"file\":\"{file}\",\"line\":{line}}}"
+    )?;
+    Ok(2)
 }
 
 /// The log of a script of which each event has this outcome.
@@ -170,48 +232,4 @@ fn log_of(alloc: Global, script: &[u8], outcome: &str) -> Result<Vec<u8>, Wrong>
     }
     log.extend_from_slice(b"end\n")?;
     Ok(log)
-}
-
-/// The report of a denial, by its rule and the names of its place.
-fn denial(alloc: Global, words: &str) -> Result<Answer, Wrong> {
-    let (rule, place) = words.split_once(' ').ok_or(NO_PLACE)?;
-    let place = names(alloc, place)?;
-    let text = format!(in alloc;
-        "{{\"place\":[{place}],\"rule\":\"{rule}\",\"verdict\":\"deny\"}}\n"
-    )?;
-    Ok(Answer {
-        status: 1,
-        text: text.into_bytes(),
-    })
-}
-
-/// Names in quotes, with commas between them.
-fn names(alloc: Global, place: &str) -> Result<String, AllocError> {
-    let mut names = String::new(alloc);
-    for name in place.split(' ') {
-        if !names.is_empty() {
-            names.push(',')?;
-        }
-        write!(names, "\"{name}\"")?;
-    }
-    Ok(names)
-}
-
-/// The report of a fault, `[FILE] NUMBER [line LINE]`.
-fn fault(alloc: Global, words: &str, (file, line): (File, usize)) -> Result<Answer, Wrong> {
-    let (words, line) = match words.split_once(" line ") {
-        Some((words, line)) => (words, line_number(line)?),
-        None => (words, line),
-    };
-    let (file, fault) = match words.split_once(' ') {
-        Some((file, fault)) => (File::named(file)?, fault),
-        None => (file, words),
-    };
-    let fault = number(fault)?;
-    let file = file.name();
-    let text = format!(in alloc; "{{\"fault\":{fault},\"file\":\"{file}\",\"line\":{line}}}\n")?;
-    Ok(Answer {
-        status: 2,
-        text: text.into_bytes(),
-    })
 }

@@ -2,50 +2,34 @@
 //! for each of its slots.
 use base::{ObjId, SlotRef};
 use machine::{
-    CNode, Calling, Cap, Context, Control, Detail, Endpoint, Frame, Inbox, Message, Notification,
+    CNode, Calling, Context, Control, Detail, Endpoint, Frame, Inbox, Message, Notification,
     Object, Receiving, Reply, ReplyState, RunState, Sending, Share, Tcb, Untyped,
 };
 use objects::State;
 use std::alloc::AllocError;
-use std::fmt;
 use table::Table;
 
-/// An object by its name in the table. One that was made later is `#` and its number.
-#[derive(Clone, Copy)]
-struct Name<'a> {
-    table: &'a Table,
-    id: ObjId,
-}
-
-impl fmt::Display for Name<'_> {
-    fn fmt<W: fmt::Write>(&self, f: &mut fmt::Formatter<W>) -> fmt::Result {
-        let number = self.id.0;
-        match self.table.object_name(self.id) {
-            Some(name) => write!(f, "{name}"),
-            None => write!(f, "#{number}"),
-        }
+/// Tells these words, and then an object by its name in the table. One that was made later is `#` and its number.
+fn tell_name(text: &mut String, words: &str, table: &Table, id: ObjId) -> Result<(), AllocError> {
+    text.push_str(words)?;
+    match table.object_name(id) {
+        Some(name) => text.push_str(name),
+        None => write!(text, "#{}", id.0),
     }
 }
 
-/// A slot as tables spell it.
-#[derive(Clone, Copy)]
-struct Place<'a> {
-    table: &'a Table,
-    state: &'a State,
+/// Tells these words, and then a slot as tables spell it.
+fn tell_place(
+    text: &mut String,
+    words: &str,
+    table: &Table,
+    state: &State,
     slot: SlotRef,
-}
-
-impl fmt::Display for Place<'_> {
-    fn fmt<W: fmt::Write>(&self, f: &mut fmt::Formatter<W>) -> fmt::Result {
-        let index = self.slot.index;
-        let holder = Name {
-            table: self.table,
-            id: self.slot.holder,
-        };
-        match self.state.object(self.slot.holder) {
-            Some(Object::Tcb(_)) => write!(f, "{holder}.root"),
-            _ => write!(f, "{holder}.{index}"),
-        }
+) -> Result<(), AllocError> {
+    tell_name(text, words, table, slot.holder)?;
+    match state.object(slot.holder) {
+        Some(Object::Tcb(_)) => text.push_str(".root"),
+        _ => write!(text, ".{}", slot.index),
     }
 }
 
@@ -67,11 +51,11 @@ fn tell_object(
     state: &mut State,
     id: ObjId,
 ) -> Result<(), AllocError> {
-    let name = Name { table, id };
+    tell_name(text, "object ", table, id)?;
     let Some(&object) = state.object(id) else {
-        return writeln!(text, "object {name}: none");
+        return text.push_str(": none\n");
     };
-    write!(text, "object {name}: ")?;
+    text.push_str(": ")?;
     tell_content(text, table, &object)?;
     if let Object::Endpoint(_) | Object::Notification(_) = object {
         tell_queue(text, table, state, id)?;
@@ -123,16 +107,11 @@ fn tell_notification(text: &mut String, notification: &Notification) -> Result<(
 
 fn tell_reply(text: &mut String, table: &Table, reply: &Reply) -> Result<(), AllocError> {
     let address = reply.address;
+    write!(text, "reply 0x{address:x}, ")?;
     match reply.state {
-        ReplyState::Free => write!(text, "reply 0x{address:x}, free"),
-        ReplyState::Waiting(id) => {
-            let thread = Name { table, id };
-            write!(text, "reply 0x{address:x}, named by {thread}")
-        }
-        ReplyState::Called(id) => {
-            let thread = Name { table, id };
-            write!(text, "reply 0x{address:x}, called by {thread}")
-        }
+        ReplyState::Free => text.push_str("free"),
+        ReplyState::Waiting(id) => tell_name(text, "named by ", table, id),
+        ReplyState::Called(id) => tell_name(text, "called by ", table, id),
     }
 }
 
@@ -141,11 +120,8 @@ fn tell_context(text: &mut String, table: &Table, context: &Context) -> Result<(
     write!(text, "context 0x{address:x}, ")?;
     tell_share(text, context.share)?;
     match context.thread {
-        Some(id) => {
-            let thread = Name { table, id };
-            write!(text, ", runs {thread}")
-        }
-        None => write!(text, ", runs nobody"),
+        Some(id) => tell_name(text, ", runs ", table, id),
+        None => text.push_str(", runs nobody"),
     }
 }
 
@@ -158,7 +134,7 @@ fn tell_share(text: &mut String, share: Option<Share>) -> Result<(), AllocError>
                 period,
             },
         ) => write!(text, "core {core}, budget {budget}, period {period}"),
-        None => write!(text, "not configured"),
+        None => text.push_str("not configured"),
     }
 }
 
@@ -168,61 +144,38 @@ fn tell_thread(text: &mut String, table: &Table, thread: &Tcb) -> Result<(), All
     tell_run_state(text, table, &thread.state)?;
     tell_inbox(text, &thread.inbox)?;
     match thread.context {
-        Some(id) => {
-            let context = Name { table, id };
-            write!(text, ", runs on {context}")
-        }
-        None => write!(text, ", runs on nothing"),
+        Some(id) => tell_name(text, ", runs on ", table, id),
+        None => text.push_str(", runs on nothing"),
     }
 }
 
 fn tell_run_state(text: &mut String, table: &Table, state: &RunState) -> Result<(), AllocError> {
     match state {
-        RunState::Inactive => write!(text, "inactive"),
-        RunState::Ready => write!(text, "ready"),
+        RunState::Inactive => text.push_str("inactive"),
+        RunState::Ready => text.push_str("ready"),
         RunState::Sending(sending) => tell_sending(text, table, sending),
         RunState::Receiving(receiving) => tell_receiving(text, table, receiving),
-        RunState::Waiting(id) => {
-            let notification = Name { table, id: *id };
-            write!(text, "waits at {notification}")
-        }
+        RunState::Waiting(id) => tell_name(text, "waits at ", table, *id),
         RunState::Called(calling) => tell_calling(text, table, calling),
     }
 }
 
 fn tell_calling(text: &mut String, table: &Table, calling: &Calling) -> Result<(), AllocError> {
-    let reply = Name {
-        table,
-        id: calling.reply,
-    };
-    write!(text, "called through {reply}")?;
+    tell_name(text, "called through ", table, calling.reply)?;
     match calling.lent {
         Some(lent) => {
-            let context = Name {
-                table,
-                id: lent.context,
-            };
-            let borrower = Name {
-                table,
-                id: lent.borrower,
-            };
-            write!(text, ", lent {context} to {borrower}")
+            tell_name(text, ", lent ", table, lent.context)?;
+            tell_name(text, " to ", table, lent.borrower)
         }
         None => Ok(()),
     }
 }
 
 fn tell_sending(text: &mut String, table: &Table, sending: &Sending) -> Result<(), AllocError> {
-    let endpoint = Name {
-        table,
-        id: sending.endpoint,
-    };
-    let [first, second, third, fourth] = sending.words;
-    let badge = sending.badge;
-    write!(
-        text,
-        "sends {first} {second} {third} {fourth} to {endpoint}, badge {badge}"
-    )?;
+    text.push_str("sends")?;
+    tell_words(text, &sending.words)?;
+    tell_name(text, " to ", table, sending.endpoint)?;
+    write!(text, ", badge {}", sending.badge)?;
     tell_if(text, sending.grant, ", grant")?;
     tell_if(text, sending.is_call, ", call")?;
     tell_if(text, sending.can_reply, ", can reply")?;
@@ -230,6 +183,14 @@ fn tell_sending(text: &mut String, table: &Table, sending: &Sending) -> Result<(
         Some(address) => write!(text, ", capability {address}"),
         None => Ok(()),
     }
+}
+
+/// Tells the words of a message, with a space before each.
+fn tell_words(text: &mut String, words: &[u64; 4]) -> Result<(), AllocError> {
+    for word in words {
+        write!(text, " {word}")?;
+    }
+    Ok(())
 }
 
 fn tell_if(text: &mut String, is_so: bool, words: &str) -> Result<(), AllocError> {
@@ -244,14 +205,9 @@ fn tell_receiving(
     table: &Table,
     receiving: &Receiving,
 ) -> Result<(), AllocError> {
-    let endpoint = Name {
-        table,
-        id: receiving.endpoint,
-    };
-    write!(text, "receives from {endpoint}")?;
+    tell_name(text, "receives from ", table, receiving.endpoint)?;
     if let Some(id) = receiving.reply {
-        let reply = Name { table, id };
-        write!(text, ", reply {reply}")?;
+        tell_name(text, ", reply ", table, id)?;
     }
     match receiving.slot {
         Some(slot) => write!(text, ", slot {slot}"),
@@ -261,21 +217,17 @@ fn tell_receiving(
 
 fn tell_inbox(text: &mut String, inbox: &Inbox) -> Result<(), AllocError> {
     match inbox {
-        Inbox::Empty => write!(text, ", inbox empty"),
+        Inbox::Empty => text.push_str(", inbox empty"),
         Inbox::Message(message) => tell_message(text, message),
         Inbox::Word(word) => write!(text, ", inbox word {word}"),
-        Inbox::Aborted => write!(text, ", inbox aborted"),
+        Inbox::Aborted => text.push_str(", inbox aborted"),
     }
 }
 
 fn tell_message(text: &mut String, message: &Message) -> Result<(), AllocError> {
-    let [first, second, third, fourth] = message.words;
-    let badge = message.badge;
-    let came = u8::from(message.capability);
-    write!(
-        text,
-        ", inbox message {badge} {first} {second} {third} {fourth} {came}"
-    )
+    write!(text, ", inbox message {}", message.badge)?;
+    tell_words(text, &message.words)?;
+    write!(text, " {}", u8::from(message.capability))
 }
 
 /// Tells who waits at an object, first in first out, and takes them from its queue.
@@ -286,15 +238,14 @@ fn tell_queue(
     id: ObjId,
 ) -> Result<(), AllocError> {
     if state.first_waiting(id).is_none() {
-        return write!(text, ", queue empty");
+        return text.push_str(", queue empty");
     }
-    write!(text, ", queue")?;
+    text.push_str(", queue")?;
     for _ in 0..state.next_id() {
         let Some(id) = state.pop_waiting(id) else {
             return Ok(());
         };
-        let thread = Name { table, id };
-        write!(text, " {thread}")?;
+        tell_name(text, " ", table, id)?;
     }
     Ok(())
 }
@@ -306,30 +257,22 @@ fn tell_slot(
     state: &State,
     slot: SlotRef,
 ) -> Result<(), AllocError> {
-    let place = Place { table, state, slot };
+    tell_place(text, "slot ", table, state, slot)?;
     let Some(cap) = state.cap(slot) else {
-        return writeln!(text, "slot {place}: empty");
+        return text.push_str(": empty\n");
     };
-    write!(text, "slot {place}: ")?;
-    tell_cap(text, table, cap)?;
-    match state.parent(slot) {
-        Some(slot) => {
-            let parent = Place { table, state, slot };
-            writeln!(text, ", child of {parent}")
-        }
-        None => writeln!(text, ", no parent"),
-    }
-}
-
-fn tell_cap(text: &mut String, table: &Table, cap: Cap) -> Result<(), AllocError> {
-    let object = Name {
-        table,
-        id: cap.object,
-    };
-    write!(text, "{object}")?;
+    tell_name(text, ": ", table, cap.object)?;
     tell_detail(text, cap.detail)?;
-    let derived = if cap.original { "original" } else { "derived" };
-    write!(text, ", {derived}")
+    text.push_str(if cap.original {
+        ", original"
+    } else {
+        ", derived"
+    })?;
+    match state.parent(slot) {
+        Some(parent) => tell_place(text, ", child of ", table, state, parent)?,
+        None => text.push_str(", no parent")?,
+    }
+    text.push('\n')
 }
 
 fn tell_detail(text: &mut String, detail: Detail) -> Result<(), AllocError> {

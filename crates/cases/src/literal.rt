@@ -10,7 +10,7 @@ pub fn bytes_of(alloc: Global, written: &str) -> Result<Vec<u8>, Wrong> {
     let mut parts = written.split('\\');
     bytes.extend_from_slice(parts.next().unwrap_or("").as_bytes())?;
     for part in parts {
-        let (byte, rest) = escape(part)?;
+        let (byte, rest) = escape(part).ok_or(NO_ESCAPE)?;
         bytes.push(byte)?;
         bytes.extend_from_slice(rest.as_bytes())?;
     }
@@ -26,19 +26,22 @@ pub fn text_of(alloc: Global, written: &str) -> Result<String, Wrong> {
 }
 
 /// The byte that the beginning of a text stands for after a backslash, and the rest.
-fn escape(text: &str) -> Result<(u8, &str), Wrong> {
+fn escape(text: &str) -> Option<(u8, &str)> {
     if let Some(text) = text.strip_prefix('x') {
-        let (digits, rest) = text.split_at_checked(2).ok_or(NO_ESCAPE)?;
-        let byte = u8::from_str_radix(digits, 16).ok().ok_or(NO_ESCAPE)?;
-        return Ok((byte, rest));
+        let (digits, rest) = text.split_at_checked(2)?;
+        return Some((u8::from_str_radix(digits, 16).ok()?, rest));
     }
-    let (letter, rest) = text.split_at_checked(1).ok_or(NO_ESCAPE)?;
-    let byte = match letter {
-        "n" => b'\n',
-        "r" => b'\r',
-        "t" => b'\t',
-        "0" => b'\0',
-        _ => return Err(NO_ESCAPE),
-    };
-    Ok((byte, rest))
+    let (letter, rest) = text.split_at_checked(1)?;
+    Some((escaped(letter)?, rest))
+}
+
+/// The byte that a letter stands for.
+fn escaped(letter: &str) -> Option<u8> {
+    match letter {
+        "n" => Some(b'\n'),
+        "r" => Some(b'\r'),
+        "t" => Some(b'\t'),
+        "0" => Some(b'\0'),
+        _ => None,
+    }
 }

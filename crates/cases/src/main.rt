@@ -21,7 +21,7 @@ use std::rt::Files;
 use std::thread::Threads;
 use std::{env, fs, io};
 use tally::{Case, Tally};
-use wrong::Wrong;
+use texts::read;
 
 fn main(rt: HostRuntime) -> io::Result<ExitCode> {
     let Some(folder) = env::args(&rt)?.nth(1) else {
@@ -64,8 +64,15 @@ where
     Ok(names)
 }
 
-/// The line that says of a file that its answers are wrong.
-const ALL_DIFFER: &str = "all differ";
+/// Whether a line of a file says that its answers are wrong.
+fn all_differ(content: &str) -> bool {
+    for line in content.lines() {
+        if line == "all differ" {
+            return true;
+        }
+    }
+    false
+}
 
 /// Runs the cases of a file. Those of one whose answers are wrong have to differ.
 fn run_file<R: Files + AllocGlobal + Threads + Sync>(rt: &R, folder: &str, file: &str) -> Tally {
@@ -73,7 +80,7 @@ fn run_file<R: Files + AllocGlobal + Threads + Sync>(rt: &R, folder: &str, file:
     match read(rt, folder, file) {
         Ok(content) => {
             run_lines(rt, folder, file, &content, &mut tally);
-            if content.lines().any(|line| line == ALL_DIFFER) {
+            if all_differ(&content) {
                 tally.turn_round();
             }
         }
@@ -89,12 +96,6 @@ fn first_case(file: &str) -> Case<'_> {
         number: 1,
         line: "",
     }
-}
-
-/// What a file of the folder holds.
-fn read<R: Files + AllocGlobal>(rt: &R, folder: &str, file: &str) -> Result<String, Wrong> {
-    let path = format!(in rt.alloc(); "{folder}/{file}")?;
-    Ok(fs::read_to_string(rt, &path)?)
 }
 
 /// Runs the cases that these lines tell.
@@ -116,4 +117,5 @@ fn run_lines<R: Files + AllocGlobal + Threads + Sync>(
     if let Err(wrong) = session.end(rt, tally) {
         tally.tell_wrong(session.begun(), wrong);
     }
+    drop(session);
 }

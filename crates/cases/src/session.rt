@@ -1,15 +1,14 @@
 //! The lines of a file of cases, one after another.
-use crate::changes::{Place, change_text, last_line, place_of, quoted};
+use crate::changes::{Place, around, change_text, last_line, place_of, quoted};
 use crate::engine::{Command, Given, answer_to};
 use crate::events::Events;
 use crate::expected::expected;
 use crate::literal::text_of;
 use crate::repeats::{line_for, repeat_of};
 use crate::tally::{Case, Tally};
-use crate::texts::{File, Texts, with};
+use crate::texts::{File, Texts, read, with};
 use crate::wrong::Wrong;
 use std::alloc::Global;
-use std::fs;
 use std::rt::Files;
 use std::thread::Threads;
 
@@ -113,30 +112,42 @@ impl<'a> Session<'a> {
             self.try_as_it_is(rt, command, words, case, tally)?;
             return Ok(Block::None);
         }
-        match (word, words) {
-            // What it says is asked of the whole file.
-            ("all", "differ") => (),
-            ("system", name) => self.read_system(rt, folder, name)?,
-            ("asks", name) => self.asked = Command::named(name).ok_or(NO_COMMAND)?,
-            ("beginnings", words) => self.try_beginnings(rt, words, case, tally)?,
-            ("in", words) => return changes_in(words),
-            ("each", "event") => return Ok(Block::EachEvent),
-            ("events", "") => {
-                self.events.begin()?;
-                return Ok(Block::Events);
-            }
-            ("then", "") => {
-                self.events.go_on()?;
-                return Ok(Block::Events);
-            }
-            ("leaves", "") => {
-                let table = self.texts.text(File::Table).as_bytes();
-                self.events.tell_left(table)?;
-                return Ok(Block::Leaves);
-            }
-            (file, words) => return self.begin_text(File::named(file)?, words),
+        match word {
+            "system" => self.read_system(rt, folder, words)?,
+            "asks" => self.asked = Command::named(words).ok_or(NO_COMMAND)?,
+            "beginnings" => self.try_beginnings(rt, words, case, tally)?,
+            _ => return self.begin_block(case.line, word, words),
         }
         Ok(Block::None)
+    }
+
+    /// Does what a line says that has a block or changes a text, and gives the block.
+    fn begin_block(
+        &mut self,
+        line: &str,
+        word: &'a str,
+        words: &'a str,
+    ) -> Result<Block<'a>, Wrong> {
+        match line {
+            // What it says is asked of the whole file.
+            "all differ" => Ok(Block::None),
+            "each event" => Ok(Block::EachEvent),
+            "events" => {
+                self.events.begin()?;
+                Ok(Block::Events)
+            }
+            "then" => {
+                self.events.go_on()?;
+                Ok(Block::Events)
+            }
+            "leaves" => {
+                let table = self.texts.text(File::Table).as_bytes();
+                self.events.tell_left(table)?;
+                Ok(Block::Leaves)
+            }
+            _ if word == "in" => changes_in(words),
+            _ => self.begin_text(File::named(word)?, words),
+        }
     }
 
     /// Reads the texts of a system.
@@ -146,29 +157,22 @@ impl<'a> Session<'a> {
         folder: &str,
         name: &str,
     ) -> Result<(), Wrong> {
-        for file in &[File::Table, File::Policy, File::Script] {
-            let path = format!(in self.alloc; "{folder}/systems/{name}/{}", file.name())?;
-            *self.texts.text_mut(*file) = fs::read_to_string(rt, &path)?;
-        }
-        for file in &[File::Certificate, File::Log, File::Claims] {
-            *self.texts.text_mut(*file) = self.told(rt, folder, name, file.name())?;
-        }
-        self.texts.keep_log(self.alloc)?;
-        self.texts.report = self.told(rt, folder, name, "report")?;
-        self.asked = Command::Run;
-        Ok(())
+        let system = format!(in self.alloc; "{folder}/systems/{name}")?;
+        self.read_texts(rt, &system)
     }
 
-    /// What the program says of a system, as far as it is told.
-    fn told<R: Files + AllocGlobal>(
-        &self,
-        rt: &R,
-        folder: &str,
-        name: &str,
-        file: &str,
-    ) -> Result<String, Wrong> {
-        let path = format!(in self.alloc; "{folder}/systems/{name}/{file}")?;
-        Ok(fs::read_to_string(rt, &path).unwrap_or(String::new(self.alloc)))
+    /// Reads the texts of a folder. It may lack what the program says of the system.
+    fn read_texts<R: Files + AllocGlobal>(&mut self, rt: &R, folder: &str) -> Result<(), Wrong> {
+        for file in &[File::Table, File::Policy, File::Script] {
+            *self.texts.text_mut(*file) = read(rt, folder, file.name())?;
+        }
+        for file in &[File::Certificate, File::Log, File::Claims] {
+            *self.texts.text_mut(*file) = read_if_told(rt, folder, file.name());
+        }
+        self.texts.keep_log(self.alloc)?;
+        self.texts.report = read_if_told(rt, folder, "report");
+        self.asked = Command::Run;
+        Ok(())
     }
 
     /// Gives a file another text, or another piece: `FILE is`, or ``FILE `OLD` becomes `NEW` ``.
@@ -324,12 +328,17 @@ fn changes_in(words: &str) -> Result<Block<'_>, Wrong> {
     Ok(Block::Changes(File::named(file)?, place_of(place)?))
 }
 
+/// What a file holds that a folder may lack.
+fn read_if_told<R: Files + AllocGlobal>(rt: &R, folder: &str, file: &str) -> String {
+    match read(rt, folder, file) {
+        Ok(text) => text,
+        Err(_) => String::new(rt.alloc()),
+    }
+}
+
 /// The text with another piece in the place of one.
 fn replaced(alloc: Global, text: &str, old: &str, new: &str) -> Result<String, Wrong> {
-    let old = text_of(alloc, old)?;
+    let (before, after) = around(alloc, text, old)?;
     let new = text_of(alloc, new)?;
-    let (before, after) = text
-        .split_once(old.as_str())
-        .ok_or(Wrong("the text has no such piece"))?;
     Ok(format!(in alloc; "{before}{new}{after}")?)
 }

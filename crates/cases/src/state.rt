@@ -112,9 +112,10 @@ pub fn state_named(line: &str) -> Result<Option<Until>, Wrong> {
 
 /// The number in `after K events`.
 fn events_in(words: &str) -> Result<usize, Wrong> {
-    let count = words
-        .strip_prefix("after ")
-        .and_then(|words| words.strip_suffix(" events"));
+    let count = match words.strip_prefix("after ") {
+        Some(words) => words.strip_suffix(" events"),
+        None => None,
+    };
     match count {
         Some(count) => Ok(number(count)? as usize),
         None => Err(Wrong("a state is as before, or as after a number of events")),

@@ -82,26 +82,31 @@ impl Tally {
     pub fn tell_wrong(&mut self, case: Case<'_>, wrong: Wrong) {
         self.run = self.run.saturating_add(1);
         self.differing = self.differing.saturating_add(1);
-        let Case { file, number, line } = case;
+        let _ = self.tell_why(case, wrong);
+    }
+
+    fn tell_why(&mut self, case: Case<'_>, wrong: Wrong) -> Result<(), AllocError> {
+        self.tell_case(case)?;
         let Wrong(why) = wrong;
-        let _ = writeln!(self.told, "{file}:{number}: {line}: {why}");
+        writeln!(self.told, ": {why}")
     }
 
     fn tell(&mut self, case: Case<'_>, expected: &Answer, came: &Answer) -> Result<(), AllocError> {
         self.tell_case(case)?;
+        self.told.push('\n')?;
         self.tell_answer("expected", expected)?;
         self.tell_answer("came", came)
     }
 
     fn tell_facts(&mut self, case: Case<'_>, expected: &str, came: &str) -> Result<(), AllocError> {
         self.tell_case(case)?;
-        writeln!(self.told, "  expected: {expected}")?;
+        writeln!(self.told, "\n  expected: {expected}")?;
         writeln!(self.told, "  came: {came}")
     }
 
     fn tell_case(&mut self, case: Case<'_>) -> Result<(), AllocError> {
         let Case { file, number, line } = case;
-        writeln!(self.told, "{file}:{number}: {line}")
+        write!(self.told, "{file}:{number}: {line}")
     }
 
     fn tell_answer(&mut self, what: &str, answer: &Answer) -> Result<(), AllocError> {

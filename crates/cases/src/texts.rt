@@ -2,7 +2,10 @@
 use crate::engine::Given;
 use crate::wrong::Wrong;
 use evtext::{read_log, write_log};
+use machine::{Event, Outcome};
 use std::alloc::Global;
+use std::fs;
+use std::rt::Files;
 
 /// One of the files of a command.
 #[derive(Clone, Copy)]
@@ -98,16 +101,9 @@ impl Texts {
             return Ok(());
         }
         let told = self.log.as_bytes();
-        let log = read_log(alloc, told)
-            .ok()
-            .ok_or(Wrong("the system's log isn't read"))?;
-        let written = write_log(alloc, &log)
-            .ok()
-            .ok_or(Wrong("the system's log isn't written"))?;
-        if written.as_slice() == told {
-            Ok(())
-        } else {
-            Err(Wrong("the system's log isn't written as it is read"))
+        match read_log(alloc, told) {
+            Ok(log) => keep_entries(alloc, &log, told),
+            Err(_) => Err(Wrong("the system's log isn't read")),
         }
     }
 
@@ -122,6 +118,21 @@ impl Texts {
             claims: self.claims.as_bytes(),
         }
     }
+}
+
+/// Wrong where these entries of a log aren't written as they are told.
+fn keep_entries(alloc: Global, log: &Vec<(Event, Outcome)>, told: &[u8]) -> Result<(), Wrong> {
+    match write_log(alloc, log) {
+        Ok(written) if written.as_slice() == told => Ok(()),
+        Ok(_) => Err(Wrong("the system's log isn't written as it is read")),
+        Err(_) => Err(Wrong("the system's log isn't written")),
+    }
+}
+
+/// What a file of a folder holds.
+pub fn read<R: Files + AllocGlobal>(rt: &R, folder: &str, file: &str) -> Result<String, Wrong> {
+    let path = format!(in rt.alloc(); "{folder}/{file}")?;
+    Ok(fs::read_to_string(rt, &path)?)
 }
 
 /// The same files with other bytes in one of them.
