@@ -90,6 +90,55 @@ impl<'a, R: AllocGlobal + Eprint> Explainer<'a, R> {
             }
         }
     }
+
+    /// Tells what is found wrong.
+    fn tell_finding(&self, heard: &Heard<'_>, finding: &Finding) {
+        let alloc = self.rt.alloc();
+        let (table, request) = (heard.table, self.invocation.request);
+        match finding {
+            Finding::Denied(denial) => self.tell(denial_told(alloc, table, denial, request)),
+            Finding::Outside(denial) => self.tell(explain_outside(alloc, table, denial)),
+            Finding::Illegal(entry) => {
+                self.tell(illegal_told(alloc, heard, request.name_of(File::Log), *entry));
+            }
+            Finding::Broken(broken) => {
+                if let Ok(sentence) = explain_broken(alloc, table, heard.policy, broken) {
+                    self.tell(Ok(sentence));
+                }
+            }
+        }
+    }
+
+    /// Tells more of what isn't wrong, or keeps what that takes.
+    fn tell_more(&mut self, heard: &Heard<'_>) {
+        let table = heard.table;
+        match self.invocation.request {
+            Request::OfSystem(OfSystem::Check { .. }, _, _) => {
+                self.tell_accepted(table, heard.policy);
+            }
+            Request::OfThree(OfThree::Run, _, _, script) => {
+                self.tell_refusals(table, script, heard.text);
+            }
+            Request::OfTable(OfTable::Start(OnClose::Policy | OnClose::Missing), _)
+            | Request::OfSystem(
+                OfSystem::Close(OnClose::Policy | OnClose::Missing) | OfSystem::Why { .. },
+                _,
+                _,
+            ) => self.kept = copies(self.rt.alloc(), table, heard.policy),
+            _ => {}
+        }
+    }
+
+    /// Tells the notes on a table that is accepted, and who reaches whom.
+    fn tell_accepted(&self, table: &Table, policy: &Policy) {
+        let alloc = self.rt.alloc();
+        if let Ok(notes) = notes_told(alloc, table) {
+            let _ = self.rt.eprint(notes);
+        }
+        if let Ok(lines) = explain_reach(alloc, table, policy) {
+            let _ = self.rt.eprint(lines);
+        }
+    }
 }
 
 impl<R: AllocGlobal + Eprint> Listener for Explainer<'_, R> {
@@ -104,45 +153,11 @@ impl<R: AllocGlobal + Eprint> Listener for Explainer<'_, R> {
     }
 
     fn hear_answer(&mut self, heard: &Heard<'_>) {
-        if !self.invocation.explains {
-            return;
-        }
-        let alloc = self.rt.alloc();
-        let (table, request) = (heard.table, self.invocation.request);
-        match (heard.finding, request) {
-            (Some(Finding::Denied(denial)), _) => {
-                self.tell(denial_told(alloc, table, denial, request));
+        if self.invocation.explains {
+            match heard.finding {
+                Some(finding) => self.tell_finding(heard, finding),
+                None => self.tell_more(heard),
             }
-            (Some(Finding::Outside(denial)), _) => self.tell(explain_outside(alloc, table, denial)),
-            (Some(Finding::Illegal(entry)), _) => {
-                self.tell(illegal_told(alloc, heard, request.name_of(File::Log), *entry));
-            }
-            (Some(Finding::Broken(broken)), _) => {
-                if let Ok(sentence) = explain_broken(alloc, table, heard.policy, broken) {
-                    self.tell(Ok(sentence));
-                }
-            }
-            (None, Request::OfSystem(OfSystem::Check { .. }, _, _)) => {
-                if let Ok(notes) = notes_told(alloc, table) {
-                    let _ = self.rt.eprint(notes);
-                }
-                if let Ok(lines) = explain_reach(alloc, table, heard.policy) {
-                    let _ = self.rt.eprint(lines);
-                }
-            }
-            (None, Request::OfThree(OfThree::Run, _, _, script)) => {
-                self.tell_refusals(table, script, heard.text);
-            }
-            (
-                None,
-                Request::OfTable(OfTable::Start(OnClose::Policy | OnClose::Missing), _)
-                | Request::OfSystem(
-                    OfSystem::Close(OnClose::Policy | OnClose::Missing) | OfSystem::Why { .. },
-                    _,
-                    _,
-                ),
-            ) => self.kept = copies(alloc, table, heard.policy),
-            (None, _) => {}
         }
     }
 
@@ -160,15 +175,16 @@ struct Unread(ErrorKind);
 
 impl fmt::Display for Unread {
     fn fmt<W: fmt::Write>(&self, f: &mut fmt::Formatter<W>) -> fmt::Result {
-        match self.0 {
-            ErrorKind::NotFound => f.write_str("there is no such file"),
-            ErrorKind::PermissionDenied => f.write_str("permission is denied"),
-            ErrorKind::IsADirectory => f.write_str("it is a folder"),
-            ErrorKind::NotADirectory => f.write_str("what stands before a `/` is no folder"),
-            ErrorKind::FileTooLarge => f.write_str("it has more than 1 GiB"),
-            ErrorKind::InvalidFilename => f.write_str("a file can't have so long a name"),
-            kind => write!(f, "{kind}"),
-        }
+        let words = match self.0 {
+            ErrorKind::NotFound => "there is no such file",
+            ErrorKind::PermissionDenied => "permission is denied",
+            ErrorKind::IsADirectory => "it is a folder",
+            ErrorKind::NotADirectory => "what stands before a `/` is no folder",
+            ErrorKind::FileTooLarge => "it has more than 1 GiB",
+            ErrorKind::InvalidFilename => "a file can't have so long a name",
+            kind => return write!(f, "{kind}"),
+        };
+        f.write_str(words)
     }
 }
 
@@ -232,13 +248,11 @@ fn fault_told(
     table: Option<&Table>,
     fault: Fault,
 ) -> Result<String, Refusal> {
-    match table {
-        Some(table) => {
-            let declared = write_table(alloc, table)?;
-            Ok(explain_fault(alloc, kind, name, text, &declared, fault)?)
-        }
-        None => Ok(explain_fault(alloc, kind, name, text, b"", fault)?),
-    }
+    let declared = match table {
+        Some(table) => write_table(alloc, table)?,
+        None => Vec::new(alloc),
+    };
+    Ok(explain_fault(alloc, kind, name, text, &declared, fault)?)
 }
 
 /// Tells whence each edge of a reason comes; or, of a closing, what asks for each edge that a policy lacks.
@@ -263,14 +277,22 @@ pub fn tell_kept<R: AllocGlobal + Eprint + Threads + Sync>(
 /// Copies of a table and a policy, if memory isn't refused.
 fn copies(alloc: Global, table: &Table, policy: &Policy) -> Option<(Table, Policy)> {
     let mut copy = Policy::new(alloc);
+    match copy_of(alloc, table, policy, &mut copy) {
+        Some(table) => Some((table, copy)),
+        None => {
+            drop(copy);
+            None
+        }
+    }
+}
+
+/// A copy of a table, once the edges of a policy are copied to another.
+fn copy_of(alloc: Global, table: &Table, policy: &Policy, copy: &mut Policy) -> Option<Table> {
     for edge in policy.edges(alloc).ok()?.iter() {
         copy.add(*edge).ok()?;
     }
     let text = write_table(alloc, table).ok()?;
-    match read_table(alloc, &text) {
-        Ok(table) => Some((table, copy)),
-        Err(_) => None,
-    }
+    read_table(alloc, &text).ok()
 }
 
 /// The kind of text that a file holds.

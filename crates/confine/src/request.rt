@@ -150,12 +150,16 @@ fn read_by<'a>(command: &mut Command<'a>, words: &'a [String]) -> Result<Command
     ensures { IfOk result (λ line. OnInTurn line IsWithinLimits) }
 {
     let matches = command.try_get_matches_from_mut(words)?;
-    match line_of(&matches) {
+    let line = line_of(&matches);
+    let is_named = matches.subcommand().is_some();
+    drop(matches);
+    match line {
         Some(line) => Ok(line),
         None => {
-            let (kind, message) = match matches.subcommand() {
-                Some(_) => (ErrorKind::InvalidValue, help::WRONG_WORKERS),
-                None => (ErrorKind::MissingSubcommand, "a command is missing"),
+            let (kind, message) = if is_named {
+                (ErrorKind::InvalidValue, help::WRONG_WORKERS)
+            } else {
+                (ErrorKind::MissingSubcommand, "a command is missing")
             };
             Err(command.error(kind, message)?)
         }
@@ -281,7 +285,10 @@ fn with<'a>(
 ) -> Result<Command<'a>, AllocError> {
     match more {
         Ok(more) => command.subcommand(more),
-        Err(error) => Err(error),
+        Err(error) => {
+            drop(command);
+            Err(error)
+        }
     }
 }
 
@@ -292,7 +299,10 @@ fn taking<'a>(
 ) -> Result<Command<'a>, AllocError> {
     match argument {
         Ok(argument) => command.arg(argument),
-        Err(error) => Err(error),
+        Err(error) => {
+            drop(command);
+            Err(error)
+        }
     }
 }
 
