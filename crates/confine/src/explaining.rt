@@ -124,9 +124,14 @@ impl<'a, R: AllocGlobal + Eprint> Explainer<'a, R> {
                 OfSystem::Close(OnClose::Policy | OnClose::Missing) | OfSystem::Why { .. },
                 _,
                 _,
-            ) => self.kept = copies(self.rt.alloc(), table, heard.policy),
+            ) => self.keep(heard),
             _ => {}
         }
+    }
+
+    /// Keeps copies of the table and the policy.
+    fn keep(&mut self, heard: &Heard<'_>) {
+        self.kept = copies(self.rt.alloc(), heard.table, heard.policy);
     }
 
     /// Tells the notes on a table that is accepted, and who reaches whom.

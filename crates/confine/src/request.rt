@@ -267,24 +267,24 @@ fn command<'a>(alloc: Global) -> Result<Command<'a>, AllocError> {
         .about(help::ABOUT)
         .after_help(help::EXAMPLE)
         .subcommand_required(true);
-    let command = with(command, check_command(alloc))?;
-    let command = with(command, verify_command(alloc))?;
-    let command = with(command, run_command(alloc))?;
-    let command = with(command, replay_command(alloc))?;
-    let command = with(command, close_command(alloc))?;
-    let command = with(command, why_command(alloc))?;
-    let command = with(command, draw_command(alloc))?;
-    let command = with(command, claims_command(alloc))?;
+    let command = with(Ok(command), check_command(alloc));
+    let command = with(command, verify_command(alloc));
+    let command = with(command, run_command(alloc));
+    let command = with(command, replay_command(alloc));
+    let command = with(command, close_command(alloc));
+    let command = with(command, why_command(alloc));
+    let command = with(command, draw_command(alloc));
+    let command = with(command, claims_command(alloc));
     with(command, list_command(alloc))
 }
 
-// A command with one more subcommand, if there is memory for that.
+// A command with one more subcommand, if there is memory for both.
 fn with<'a>(
-    command: Command<'a>,
+    command: Result<Command<'a>, AllocError>,
     more: Result<Command<'a>, AllocError>,
 ) -> Result<Command<'a>, AllocError> {
     match more {
-        Ok(more) => command.subcommand(more),
+        Ok(more) => command?.subcommand(more),
         Err(error) => {
             drop(command);
             Err(error)
@@ -292,13 +292,13 @@ fn with<'a>(
     }
 }
 
-// A command with one more argument, if there is memory for that.
+// A command with one more argument, if there is memory for both.
 fn taking<'a>(
-    command: Command<'a>,
+    command: Result<Command<'a>, AllocError>,
     argument: Result<Arg<'a>, AllocError>,
 ) -> Result<Command<'a>, AllocError> {
     match argument {
-        Ok(argument) => command.arg(argument),
+        Ok(argument) => command?.arg(argument),
         Err(error) => {
             drop(command);
             Err(error)
@@ -307,9 +307,9 @@ fn taking<'a>(
 }
 
 fn check_command<'a>(alloc: Global) -> Result<Command<'a>, AllocError> {
-    on_system(alloc, "check", help::ABOUT_CHECK, help::EXAMPLE_CHECK)?
-        .arg(workers(alloc))?
-        .arg(flag(alloc, "cert", help::CERT))
+    let command = on_system(alloc, "check", help::ABOUT_CHECK, help::EXAMPLE_CHECK);
+    let command = taking(command, Ok(workers(alloc)));
+    taking(command, Ok(flag(alloc, "cert", help::CERT)))
 }
 
 fn verify_command<'a>(alloc: Global) -> Result<Command<'a>, AllocError> {
@@ -322,9 +322,9 @@ fn verify_command<'a>(alloc: Global) -> Result<Command<'a>, AllocError> {
 }
 
 fn run_command<'a>(alloc: Global) -> Result<Command<'a>, AllocError> {
-    on_system(alloc, "run", help::ABOUT_RUN, help::EXAMPLE_RUN)?
-        .arg(word(alloc, "script", "SCRIPT", help::SCRIPT))?
-        .arg(flag(alloc, "split", help::SPLIT))
+    let command = on_system(alloc, "run", help::ABOUT_RUN, help::EXAMPLE_RUN);
+    let command = taking(command, Ok(word(alloc, "script", "SCRIPT", help::SCRIPT)));
+    taking(command, Ok(flag(alloc, "split", help::SPLIT)))
 }
 
 fn replay_command<'a>(alloc: Global) -> Result<Command<'a>, AllocError> {
@@ -337,17 +337,18 @@ fn replay_command<'a>(alloc: Global) -> Result<Command<'a>, AllocError> {
 }
 
 fn close_command<'a>(alloc: Global) -> Result<Command<'a>, AllocError> {
-    let command = on_table(alloc, "close", help::ABOUT_CLOSE, help::EXAMPLE_CLOSE)?
-        .arg(word(alloc, "policy", "POLICY", help::POLICY_TO_CLOSE).required(false))?
-        .arg(flag(alloc, "missing", help::MISSING))?;
+    let command = on_table(alloc, "close", help::ABOUT_CLOSE, help::EXAMPLE_CLOSE);
+    let policy = word(alloc, "policy", "POLICY", help::POLICY_TO_CLOSE).required(false);
+    let command = taking(command, Ok(policy));
+    let command = taking(command, Ok(flag(alloc, "missing", help::MISSING)));
     let surplus = flag(alloc, "surplus", help::SURPLUS);
     taking(command, surplus.conflicts_with("missing"))
 }
 
 fn why_command<'a>(alloc: Global) -> Result<Command<'a>, AllocError> {
-    on_system(alloc, "why", help::ABOUT_WHY, help::EXAMPLE_WHY)?
-        .arg(word(alloc, "actor", "A", help::ACTOR))?
-        .arg(word(alloc, "object", "B", help::OBJECT))
+    let command = on_system(alloc, "why", help::ABOUT_WHY, help::EXAMPLE_WHY);
+    let command = taking(command, Ok(word(alloc, "actor", "A", help::ACTOR)));
+    taking(command, Ok(word(alloc, "object", "B", help::OBJECT)))
 }
 
 fn draw_command<'a>(alloc: Global) -> Result<Command<'a>, AllocError> {
@@ -355,9 +356,9 @@ fn draw_command<'a>(alloc: Global) -> Result<Command<'a>, AllocError> {
 }
 
 fn claims_command<'a>(alloc: Global) -> Result<Command<'a>, AllocError> {
-    let command = on_system(alloc, "claims", help::ABOUT_CLAIMS, help::EXAMPLE_CLAIMS)?;
+    let command = on_system(alloc, "claims", help::ABOUT_CLAIMS, help::EXAMPLE_CLAIMS);
     let claims = word(alloc, "claims", "CLAIMS", help::CLAIMS).required(false);
-    let command = taking(command, claims.required_unless_present("all"))?;
+    let command = taking(command, claims.required_unless_present("all"));
     let all = flag(alloc, "all", help::ALL);
     taking(command, all.conflicts_with("claims"))
 }
