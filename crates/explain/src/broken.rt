@@ -14,28 +14,73 @@ pub fn explain_broken(
     policy: &Policy,
     broken: &BrokenClaim,
 ) -> Result<String, Refusal> {
+    let mut sentence = String::new(alloc);
+    push_broken(alloc, &mut sentence, table, policy, broken)?;
+    Ok(sentence)
+}
+
+/// Adds which claim is broken, and why.
+fn push_broken(
+    alloc: Global,
+    sentence: &mut String,
+    table: &Table,
+    policy: &Policy,
+    broken: &BrokenClaim,
+) -> Result<(), Refusal> {
+    push_claim(sentence, table, broken)?;
+    let why = policy.why(alloc, broken.claim.actor, broken.claim.object)?;
+    push_why(sentence, table, broken, &why)?;
+    Ok(())
+}
+
+/// Adds which claim is broken.
+fn push_claim(
+    sentence: &mut String,
+    table: &Table,
+    broken: &BrokenClaim,
+) -> Result<(), AllocError> {
     let number = broken.number;
     let word = broken.claim.most.word();
     let actor = label_name(table, broken.claim.actor);
     let object = label_name(table, broken.claim.object);
-    let mut sentence = format!(in alloc;
-        "claim {number}, `{word} {actor} {object}`, is broken: `{actor}` "
-    )?;
-    match policy.why(alloc, broken.claim.actor, broken.claim.object)? {
+    write!(sentence, "claim {number}, `{word} {actor} {object}`, ")?;
+    write!(sentence, "is broken: `{actor}` ")
+}
+
+/// Adds the authority that the claim denies, and what may be done.
+fn push_why(
+    sentence: &mut String,
+    table: &Table,
+    broken: &BrokenClaim,
+    why: &Why,
+) -> Result<(), AllocError> {
+    let object = label_name(table, broken.claim.object);
+    match why {
         Why::Full(edges) => {
-            write!(sentence, "has full authority on `{object}`, by ")?;
-            push_edges(&mut sentence, table, &edges)?;
-            sentence.push_str(": leave the claim out, or ")?;
+            push_authority(sentence, table, "has full authority on", object, edges)?;
+            sentence.push_str("leave the claim out, or ")?;
         }
         Why::Take(edges) => {
-            write!(sentence, "may take from `{object}`, by ")?;
-            push_edges(&mut sentence, table, &edges)?;
-            write!(sentence, ": claim `take {actor} {object}`, or ")?;
+            push_authority(sentence, table, "may take from", object, edges)?;
+            let actor = label_name(table, broken.claim.actor);
+            write!(sentence, "claim `take {actor} {object}`, or ")?;
         }
         Why::Nothing => write!(sentence, "has no authority on `{object}`: ")?,
     }
-    sentence.push_str("take an edge out of the policy, and what asks for it out of the table")?;
-    Ok(sentence)
+    sentence.push_str("take an edge out of the policy, and what asks for it out of the table")
+}
+
+/// Adds an authority, and the edges by which it is there.
+fn push_authority(
+    sentence: &mut String,
+    table: &Table,
+    authority: &str,
+    object: &str,
+    edges: &[Edge],
+) -> Result<(), AllocError> {
+    write!(sentence, "{authority} `{object}`, by ")?;
+    push_edges(sentence, table, edges)?;
+    sentence.push_str(": ")
 }
 
 /// Adds edges to a sentence, one after another.

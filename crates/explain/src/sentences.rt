@@ -3,7 +3,7 @@ use base::{Edge, Kind, Label, ObjId, SlotRef};
 use captext::{label_name, object_name, place_in};
 use labels::declared_label;
 use policy::Broken;
-use std::fmt;
+use std::fmt::{self, Display};
 use table::Table;
 use verdict::Denial;
 
@@ -96,73 +96,31 @@ impl fmt::Display for Reason<'_> {
     fn fmt<W: fmt::Write>(&self, f: &mut fmt::Formatter<W>) -> fmt::Result {
         let table = self.table;
         match *self.denial {
-            Denial::Policy(broken) => write!(f, "{}", RuleReason { table, broken }),
+            Denial::Policy(broken) => tell_rule(f, table, &broken),
             Denial::Capability { slot, kind, label } => {
-                let index = slot.index;
-                let holder = object_name(table, slot.holder);
-                let from = name_of_label(table, slot.holder);
-                let verb = verb(kind);
-                let to = label_name(table, label);
-                write!(
-                    f,
-                    "slot {index} of `{holder}` lets `{from}` {verb} what is labelled `{to}`"
-                )
+                tell_capability(f, table, slot, kind, label)
             }
-            Denial::Root { slot, label } => {
-                let name = SlotName { table, slot };
-                let from = name_of_label(table, slot.holder);
-                let to = label_name(table, label);
-                write!(
-                    f,
-                    "by `{name}` a thread of `{from}` finds its capabilities in what is labelled `{to}`"
-                )
-            }
+            Denial::Root { slot, label } => tell_root(f, table, slot, label),
             Denial::Pair { child, parent } => {
-                let from = name_of_label(table, parent.holder);
-                let to = name_of_label(table, child.holder);
-                let child = SlotName { table, slot: child };
-                let parent = SlotName {
-                    table,
-                    slot: parent,
-                };
-                write!(
-                    f,
-                    "the capability in `{child}` of `{to}` is derived from that in `{parent}` of `{from}`"
-                )
+                tell_slot(f, table, "the capability in", child)?;
+                tell_slot(f, table, " is derived from that in", parent)
             }
             Denial::Binding { thread, context } => {
-                let from = name_of_label(table, thread);
-                let to = name_of_label(table, context);
-                let thread = object_name(table, thread);
-                let context = object_name(table, context);
-                write!(
-                    f,
-                    "the thread `{thread}` of `{from}` runs on the context `{context}` of `{to}`"
-                )
+                tell_object(f, table, "the thread", thread)?;
+                tell_object(f, table, " runs on the context", context)
             }
             Denial::Holding { reply, thread } => {
-                let from = name_of_label(table, reply);
-                let to = name_of_label(table, thread);
-                let reply = object_name(table, reply);
-                let thread = object_name(table, thread);
-                write!(
-                    f,
-                    "the reply `{reply}` of `{from}` holds the thread `{thread}` of `{to}`"
-                )
+                tell_object(f, table, "the reply", reply)?;
+                tell_object(f, table, " holds the thread", thread)
             }
             Denial::Recorded {
                 thread,
                 kind,
                 label,
             } => {
-                let from = name_of_label(table, thread);
-                let verb = verb(kind);
-                let to = label_name(table, label);
-                let thread = object_name(table, thread);
-                write!(
-                    f,
-                    "the thread `{thread}` of `{from}` waits, and keeps the right to {verb} what is labelled `{to}`"
-                )
+                tell_object(f, table, "the thread", thread)?;
+                f.write_str(" waits, and keeps the right to ")?;
+                tell_deed(f, table, kind, label)
             }
             Denial::Certificate { line } => write!(
                 f,
@@ -172,67 +130,160 @@ impl fmt::Display for Reason<'_> {
     }
 }
 
-/// Why a rule of closed policies is broken.
-#[derive(Clone, Copy)]
-struct RuleReason<'a> {
-    table: &'a Table,
-    broken: Broken,
+/// What the capability in a slot lets the label of its holder do.
+fn tell_capability<W: fmt::Write>(
+    f: &mut fmt::Formatter<W>,
+    table: &Table,
+    slot: SlotRef,
+    kind: Kind,
+    label: Label,
+) -> fmt::Result {
+    let index = slot.index;
+    let holder = object_name(table, slot.holder);
+    let from = name_of_label(table, slot.holder);
+    write!(f, "slot {index} of `{holder}` lets `{from}` ")?;
+    tell_deed(f, table, kind, label)
 }
 
-impl fmt::Display for RuleReason<'_> {
-    fn fmt<W: fmt::Write>(&self, f: &mut fmt::Formatter<W>) -> fmt::Result {
-        let (one, two) = ends(&self.broken);
-        let one = label_name(self.table, one);
-        let two = label_name(self.table, two);
-        match self.broken {
-            Broken::SubjectsDisagree { kind, target, .. } => {
-                let verb = verb(kind);
-                let target = label_name(self.table, target);
-                write!(
-                    f,
-                    "`{two}` is in the domain of `{one}`, and only one of the two may {verb} what is labelled `{target}`"
-                )
-            }
-            Broken::ControlLacks { kind, .. } => {
-                let verb = verb(kind);
-                write!(
-                    f,
-                    "`{one}` controls `{two}`, and so may come to {verb} what is labelled `{two}`"
-                )
-            }
-            Broken::GrantLacks { kind, target, .. } => {
-                let verb = verb(kind);
-                let target = label_name(self.table, target);
-                write!(
-                    f,
-                    "`{one}` may grant its capabilities to `{two}`, also one to {verb} what is labelled `{target}`"
-                )
-            }
-            Broken::DomainLacks { parent, child } if parent == child => write!(
-                f,
-                "`{one}` is in the domain of a label, which may copy its capabilities within it"
-            ),
-            Broken::DomainLacks { .. } => write!(
-                f,
-                "`{one}` and `{two}` are in the domain of one label, which may copy capabilities from the one to the other"
-            ),
-            Broken::DeriveLacks { .. } => write!(
-                f,
-                "capabilities of `{two}` may come to be derived from those of `{one}`, by a grant or in two steps"
-            ),
-            Broken::ContextLacks { .. } => write!(
-                f,
-                "`{one}` may bind a context labelled `{two}`, and then runs on it"
-            ),
-            Broken::ReplyLacks { .. } => write!(
-                f,
-                "a reply object labelled `{one}` may come to hold a thread of `{two}`, which receives with it or calls who does"
-            ),
-            Broken::LentLacks { .. } => write!(
-                f,
-                "`{one}` may be lent a context labelled `{two}`, by who runs on it and calls where `{one}` receives"
-            ),
+/// Where a thread finds its capabilities.
+fn tell_root<W: fmt::Write>(
+    f: &mut fmt::Formatter<W>,
+    table: &Table,
+    slot: SlotRef,
+    label: Label,
+) -> fmt::Result {
+    let from = name_of_label(table, slot.holder);
+    let to = label_name(table, label);
+    let slot = SlotName { table, slot };
+    write!(
+        f,
+        "by `{slot}` a thread of `{from}` finds its capabilities in what is labelled `{to}`"
+    )
+}
+
+/// A slot after some words, and its holder's label.
+fn tell_slot<W: fmt::Write>(
+    f: &mut fmt::Formatter<W>,
+    table: &Table,
+    words: &str,
+    slot: SlotRef,
+) -> fmt::Result {
+    let label = name_of_label(table, slot.holder);
+    let slot = SlotName { table, slot };
+    write!(f, "{words} `{slot}` of `{label}`")
+}
+
+/// An object after some words, and its label.
+fn tell_object<W: fmt::Write>(
+    f: &mut fmt::Formatter<W>,
+    table: &Table,
+    words: &str,
+    id: ObjId,
+) -> fmt::Result {
+    let name = object_name(table, id);
+    let label = name_of_label(table, id);
+    write!(f, "{words} `{name}` of `{label}`")
+}
+
+/// What an edge of the kind lets a label do to another.
+fn tell_deed<W: fmt::Write>(
+    f: &mut fmt::Formatter<W>,
+    table: &Table,
+    kind: Kind,
+    label: Label,
+) -> fmt::Result {
+    let verb = verb(kind);
+    let name = label_name(table, label);
+    write!(f, "{verb} what is labelled `{name}`")
+}
+
+/// Why a rule of closed policies is broken.
+fn tell_rule<W: fmt::Write>(
+    f: &mut fmt::Formatter<W>,
+    table: &Table,
+    broken: &Broken,
+) -> fmt::Result {
+    let (one, two) = names_of_ends(table, broken);
+    let (before, first, between, second, after) = match *broken {
+        Broken::SubjectsDisagree { .. } => (
+            "",
+            two,
+            " is in the domain of ",
+            one,
+            ", and only one of the two may ",
+        ),
+        Broken::ControlLacks { .. } => ("", one, " controls ", two, ", and so may come to "),
+        Broken::GrantLacks { .. } => (
+            "",
+            one,
+            " may grant its capabilities to ",
+            two,
+            ", also one to ",
+        ),
+        Broken::DomainLacks { parent, child } if parent == child => return tell_itself(f, one),
+        Broken::DomainLacks { .. } => (
+            "",
+            one,
+            " and ",
+            two,
+            " are in the domain of one label, which may copy capabilities from the one to the other",
+        ),
+        Broken::DeriveLacks { .. } => (
+            "capabilities of ",
+            two,
+            " may come to be derived from those of ",
+            one,
+            ", by a grant or in two steps",
+        ),
+        Broken::ContextLacks { .. } => (
+            "",
+            one,
+            " may bind a context labelled ",
+            two,
+            ", and then runs on it",
+        ),
+        Broken::ReplyLacks { .. } => (
+            "a reply object labelled ",
+            one,
+            " may come to hold a thread of ",
+            two,
+            ", which receives with it or calls who does",
+        ),
+        Broken::LentLacks { .. } => return tell_lent(f, one, two),
+    };
+    write!(f, "{before}`{first}`{between}")?;
+    write!(f, "`{second}`{after}")?;
+    tell_rule_deed(f, table, broken)
+}
+
+/// That a label is in a domain, which copies its capabilities.
+fn tell_itself<W: fmt::Write>(f: &mut fmt::Formatter<W>, one: &str) -> fmt::Result {
+    write!(
+        f,
+        "`{one}` is in the domain of a label, which may copy its capabilities within it"
+    )
+}
+
+/// That a label may be lent a context.
+fn tell_lent<W: fmt::Write>(f: &mut fmt::Formatter<W>, one: &str, two: &str) -> fmt::Result {
+    write!(
+        f,
+        "`{one}` may be lent a context labelled `{two}`, by who runs on it and calls where `{one}` receives"
+    )
+}
+
+/// What the rule lets a label do to another, if it is on one kind.
+fn tell_rule_deed<W: fmt::Write>(
+    f: &mut fmt::Formatter<W>,
+    table: &Table,
+    broken: &Broken,
+) -> fmt::Result {
+    match *broken {
+        Broken::SubjectsDisagree { kind, target, .. } | Broken::GrantLacks { kind, target, .. } => {
+            tell_deed(f, table, kind, target)
         }
+        Broken::ControlLacks { object, kind, .. } => tell_deed(f, table, kind, object),
+        _ => Ok(()),
     }
 }
 
@@ -246,41 +297,44 @@ pub(crate) struct PlaceNames<'a> {
 impl fmt::Display for PlaceNames<'_> {
     fn fmt<W: fmt::Write>(&self, f: &mut fmt::Formatter<W>) -> fmt::Result {
         let table = self.table;
-        match *self.denial {
-            Denial::Policy(broken) => {
-                let (one, two) = ends(&broken);
-                let one = label_name(table, one);
-                let two = label_name(table, two);
-                write!(f, "{one} {two}")
-            }
+        let (one, two) = match *self.denial {
+            Denial::Policy(broken) => names_of_ends(table, &broken),
             Denial::Capability { slot, .. } | Denial::Root { slot, .. } => {
-                write!(f, "{}", SlotName { table, slot })
+                return SlotName { table, slot }.fmt(f);
             }
-            Denial::Pair { child, parent } => {
-                let child = SlotName { table, slot: child };
-                let parent = SlotName {
-                    table,
-                    slot: parent,
-                };
-                write!(f, "{parent} {child}")
-            }
+            Denial::Pair { child, parent } => return tell_pair(f, table, child, parent),
             Denial::Binding { thread, context } => {
-                let thread = object_name(table, thread);
-                let context = object_name(table, context);
-                write!(f, "{thread} {context}")
+                (object_name(table, thread), object_name(table, context))
             }
             Denial::Holding { reply, thread } => {
-                let reply = object_name(table, reply);
-                let thread = object_name(table, thread);
-                write!(f, "{reply} {thread}")
+                (object_name(table, reply), object_name(table, thread))
             }
-            Denial::Recorded { thread, .. } => {
-                let thread = object_name(table, thread);
-                write!(f, "{thread}")
-            }
-            Denial::Certificate { line } => write!(f, "{line}"),
-        }
+            Denial::Recorded { thread, .. } => return f.write_str(object_name(table, thread)),
+            Denial::Certificate { line } => return write!(f, "{line}"),
+        };
+        write!(f, "{one} {two}")
     }
+}
+
+/// The slots of a parent and a child.
+fn tell_pair<W: fmt::Write>(
+    f: &mut fmt::Formatter<W>,
+    table: &Table,
+    child: SlotRef,
+    parent: SlotRef,
+) -> fmt::Result {
+    let child = SlotName { table, slot: child };
+    let parent = SlotName {
+        table,
+        slot: parent,
+    };
+    write!(f, "{parent} {child}")
+}
+
+/// The names of the two labels between which a rule of closed policies is broken.
+fn names_of_ends<'a>(table: &'a Table, broken: &Broken) -> (&'a str, &'a str) {
+    let (one, two) = ends(broken);
+    (label_name(table, one), label_name(table, two))
 }
 
 /// The two labels between which a rule of closed policies is broken.
@@ -313,18 +367,15 @@ impl fmt::Display for OtherWay<'_> {
     fn fmt<W: fmt::Write>(&self, f: &mut fmt::Formatter<W>) -> fmt::Result {
         let table = self.table;
         match *self.denial {
-            Denial::Policy(broken) => write!(f, "{}", OtherRuleWay { table, broken }),
+            Denial::Policy(broken) => tell_rule_way(f, table, &broken),
             Denial::Capability { kind, .. } => f.write_str(other_way(kind)),
             Denial::Root { .. } => f.write_str(
                 "let the root be a CNode to whose label there is such an edge",
             ),
             Denial::Pair { child, parent } => {
-                let child = SlotName { table, slot: child };
-                let parent = SlotName {
-                    table,
-                    slot: parent,
-                };
-                write!(f, "take `child {parent} {child}` out of the table")
+                f.write_str("take `child ")?;
+                tell_pair(f, table, child, parent)?;
+                f.write_str("` out of the table")
             }
             Denial::Binding { .. } => f.write_str(
                 "bind the thread to a context to whose label there is such an edge",
@@ -341,43 +392,52 @@ impl fmt::Display for OtherWay<'_> {
 }
 
 /// What mends a broken rule of closed policies in place of the edge.
-#[derive(Clone, Copy)]
-struct OtherRuleWay<'a> {
-    table: &'a Table,
-    broken: Broken,
+fn tell_rule_way<W: fmt::Write>(
+    f: &mut fmt::Formatter<W>,
+    table: &Table,
+    broken: &Broken,
+) -> fmt::Result {
+    let (one, two) = names_of_ends(table, broken);
+    let kind = match *broken {
+        Broken::SubjectsDisagree { .. } => return tell_other_domain(f, one, two),
+        Broken::GrantLacks { .. } => return tell_no_grant(f, one, two),
+        Broken::ControlLacks { .. } => "control",
+        Broken::ContextLacks { .. } => "context",
+        _ => return f.write_str(plain_way(broken)),
+    };
+    write!(f, "take `edge {one} {kind} {two}` away")
 }
 
-impl fmt::Display for OtherRuleWay<'_> {
-    fn fmt<W: fmt::Write>(&self, f: &mut fmt::Formatter<W>) -> fmt::Result {
-        let (one, two) = ends(&self.broken);
-        let one = label_name(self.table, one);
-        let two = label_name(self.table, two);
-        match self.broken {
-            Broken::SubjectsDisagree { .. } => write!(
-                f,
-                "take the other one away, or what puts `{two}` into that domain: `edge {one} space {two}` or `edge {one} control {two}`"
-            ),
-            Broken::ControlLacks { .. } => write!(f, "take `edge {one} control {two}` away"),
-            Broken::GrantLacks { .. } => write!(
-                f,
-                "let `{one}` have no `grant` over what `{two}` has `receive` from"
-            ),
-            Broken::DomainLacks { parent, child } if parent == child => {
-                f.write_str("take it out of that domain")
-            }
-            Broken::DomainLacks { .. } => f.write_str("take one of the two out of that domain"),
-            Broken::DeriveLacks { .. } => f.write_str("take the grant or one of the steps away"),
-            Broken::ContextLacks { .. } => write!(f, "take `edge {one} context {two}` away"),
-            Broken::ReplyLacks { .. } => {
-                f.write_str(
-                    "take the edge of kind `reply`, `call` or `receive` away by which it does",
-                )
-            }
-            Broken::LentLacks { .. } => {
-                f.write_str(
-                    "take the edge of kind `call`, `receive` or `runs` away by which it may",
-                )
-            }
+/// What mends it where two labels of a domain disagree.
+fn tell_other_domain<W: fmt::Write>(
+    f: &mut fmt::Formatter<W>,
+    one: &str,
+    two: &str,
+) -> fmt::Result {
+    write!(
+        f,
+        "take the other one away, or what puts `{two}` into that domain: "
+    )?;
+    write!(f, "`edge {one} space {two}` or `edge {one} control {two}`")
+}
+
+/// What mends it where one label may grant to another.
+fn tell_no_grant<W: fmt::Write>(f: &mut fmt::Formatter<W>, one: &str, two: &str) -> fmt::Result {
+    write!(
+        f,
+        "let `{one}` have no `grant` over what `{two}` has `receive` from"
+    )
+}
+
+/// What mends it where no label is named.
+fn plain_way(broken: &Broken) -> &'static str {
+    match *broken {
+        Broken::DomainLacks { parent, child } if parent == child => "take it out of that domain",
+        Broken::DomainLacks { .. } => "take one of the two out of that domain",
+        Broken::DeriveLacks { .. } => "take the grant or one of the steps away",
+        Broken::ReplyLacks { .. } => {
+            "take the edge of kind `reply`, `call` or `receive` away by which it does"
         }
+        _ => "take the edge of kind `call`, `receive` or `runs` away by which it may",
     }
 }
