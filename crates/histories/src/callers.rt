@@ -9,6 +9,7 @@ use machine::{Call, Log, Outcome};
 use objects::State;
 use std::alloc::{AllocError, Global};
 use std::marker::{Model, PhantomData};
+use std::process::Abort;
 use std::sync::Wait;
 use std::test::Fail;
 use std::thread;
@@ -88,6 +89,18 @@ impl<J: Naming> Caller<J> {
         }
         self.entered = self.entered.saturating_add(1);
         outcome
+    }
+
+    /// Makes a call, and asserts that it has this outcome.
+    pub fn is_answered<R: Abort + Wait>(
+        &mut self,
+        rt: &R,
+        kernel: &Kernel<J>,
+        thread: ObjId,
+        call: Call,
+        outcome: Outcome,
+    ) {
+        assert_eq!(rt; self.call(rt, kernel, thread, call), outcome);
     }
 
     /// Meets another of the same kernel.

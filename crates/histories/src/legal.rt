@@ -2,11 +2,11 @@
 ghost use Rattle.std.specs.Prelude.{IfOk};
 ghost use Rattle.machine.specs.WellFormed.{IsWellFormed};
 
-use crate::callers::{Ended, Running, closed};
+use crate::callers::{Ended, Running, closed, closed_alone};
 use crate::memory::{lend, made};
 use crate::same::are_same;
 use crate::systems::System;
-use cores::Naming;
+use cores::{Kernel, Naming};
 use evtext::{read_log, write_log};
 use kernel::{boot, run};
 use machine::{Event, Outcome};
@@ -26,8 +26,8 @@ pub fn entries_on(log: &[Entry], core: u8) -> usize {
         .count()
 }
 
-// The engine writes this report of the log.
-fn is_replayed_as<R: Abort + AllocGlobal>(rt: &R, system: &System, log: &[u8], report: &str) {
+// What the engine comes to with the log, and what it writes.
+fn replayed<R: AllocGlobal>(rt: &R, system: &System, log: &[u8]) -> (End, Vec<u8>) {
     let mut table = Watched::new(system.table.as_bytes());
     let mut policy = Watched::new(system.policy.as_bytes());
     let mut log = Watched::new(log);
@@ -40,7 +40,12 @@ fn is_replayed_as<R: Abort + AllocGlobal>(rt: &R, system: &System, log: &[u8], r
         &mut Silence,
         &mut out,
     );
-    let written = out.into_inner();
+    (end, out.into_inner())
+}
+
+// The engine writes this report of the log.
+fn is_replayed_as<R: Abort + AllocGlobal>(rt: &R, system: &System, log: &[u8], report: &str) {
+    let (end, written) = replayed(rt, system, log);
     assert_eq!(rt; end, End::Status(0));
     assert_eq!(rt; written.as_slice(), report.as_bytes());
 }
@@ -115,6 +120,18 @@ pub fn is_legal<R: Abort + AllocGlobal>(
     is_run(rt, table, ended)
 }
 
+fn leaves<R: Abort + AllocGlobal>(
+    rt: &R,
+    system: &System,
+    table: &Table,
+    ended: Result<Ended, Fail>,
+    report: &str,
+) -> Result<(), Fail> {
+    lend(ended, |ended: &Ended| {
+        is_legal(rt, system, table, ended, report)
+    })
+}
+
 /// Closes the kernel with its callers, and asserts all that of what is left.
 pub fn ends_in<J: Naming + Send + Sync, R: Abort + AllocGlobal + Threads + Sync>(
     rt: &R,
@@ -123,7 +140,17 @@ pub fn ends_in<J: Naming + Send + Sync, R: Abort + AllocGlobal + Threads + Sync>
     running: Running<J>,
     report: &str,
 ) -> Result<(), Fail> {
-    lend(closed(rt, running), |ended: &Ended| {
-        is_legal(rt, system, table, ended, report)
-    })
+    leaves(rt, system, table, closed(rt, running), report)
+}
+
+/// Closes the kernel with no seat, and asserts all that of what is left.
+pub fn ends_alone_in<J: Naming, R: Abort + AllocGlobal>(
+    rt: &R,
+    system: &System,
+    table: &Table,
+    kernel: Kernel<J>,
+    report: &str,
+) -> Result<(), Fail> {
+    let ended = closed_alone(rt.alloc(), kernel);
+    leaves(rt, system, table, ended, report)
 }

@@ -1,7 +1,7 @@
 //! Sizes of a log and numbers of seats at their limits, and seats that are odd.
-use crate::callers::{Caller, Ended, Running, closed_alone};
-use crate::legal::{ends_in, is_legal};
-use crate::memory::{lend, made};
+use crate::callers::{Caller, Running};
+use crate::legal::{ends_alone_in, ends_in};
+use crate::memory::made;
 use crate::scenes::{Plan, Scene, carry_out, cores_of};
 use crate::systems::{ONE_HAS_THE_OTHER, TWO_CORES};
 use crate::two_cores::{DONE, POLL, SIGNAL, SIGNALLER, full};
@@ -34,6 +34,19 @@ fn code_of<R: AllocGlobal>(
     }
 }
 
+fn has_code<R: Abort + AllocGlobal>(
+    rt: &R,
+    accepted: &Accepted<'_>,
+    size: usize,
+    seats: usize,
+    code: u64,
+) -> Result<(), Fail> {
+    let cores = CORES.get(..seats).ok_or("so many cores")?;
+    let found = code_of(rt, accepted, size, cores)?;
+    assert_eq!(rt; found, code, "{size} {seats}");
+    Ok(())
+}
+
 /// What is refused, and what isn't.
 pub fn refuse_sizes_and_seats<R: Abort + AllocGlobal>(
     rt: &R,
@@ -51,12 +64,7 @@ pub fn refuse_sizes_and_seats<R: Abort + AllocGlobal>(
         (0, 0, 43),
         (0, 65, 43),
     ] {
-        let cores = CORES.get(..*seats).ok_or("so many cores")?;
-        assert_eq!(rt;
-            code_of(rt, accepted, *size, cores)?,
-            *code,
-            "{size} {seats}"
-        );
+        has_code(rt, accepted, *size, *seats, *code)?;
     }
     Ok(())
 }
@@ -71,7 +79,7 @@ fn all_signal<J: Naming, R: Abort + Wait>(rt: &R, kernel: &Kernel<J>, callers: &
         assert_eq!(rt; caller.number(), number as u64);
         assert_eq!(rt; caller.core().number(), 1);
         let outcome = if number < 63 { DONE } else { full() };
-        assert_eq!(rt; caller.call(rt, kernel, SIGNALLER, SIGNAL), outcome);
+        caller.is_answered(rt, kernel, SIGNALLER, SIGNAL, outcome);
     }
 }
 
@@ -108,14 +116,8 @@ fn refused(cause: Cause) -> Outcome {
 
 fn is_refused<J: Naming, R: Abort + Wait>(rt: &R, kernel: &Kernel<J>, callers: &mut [Caller<J>]) {
     for caller in callers {
-        assert_eq!(rt;
-            caller.call(rt, kernel, SIGNALLER, SIGNAL),
-            refused(Cause::WrongCore)
-        );
-        assert_eq!(rt;
-            caller.call(rt, kernel, ObjId(7), SIGNAL),
-            refused(Cause::NoSuchThread)
-        );
+        caller.is_answered(rt, kernel, SIGNALLER, SIGNAL, refused(Cause::WrongCore));
+        caller.is_answered(rt, kernel, ObjId(7), SIGNAL, refused(Cause::NoSuchThread));
     }
 }
 
@@ -132,15 +134,13 @@ pub fn play_no_thread<J: Naming + Send + Sync, R: Abort + AllocGlobal + Threads 
     assert_eq!(rt; callers.len(), 1);
     is_refused(rt, &kernel, callers.as_mut_slice());
     drop(callers);
-    lend(closed_alone(rt.alloc(), kernel), |ended: &Ended| {
-        is_legal(
-            rt,
-            &TWO_CORES,
-            table,
-            ended,
-            "{\"entries\":2,\"state\":\"within\",\"verdict\":\"legal\"}\n",
-        )
-    })
+    ends_alone_in(
+        rt,
+        &TWO_CORES,
+        table,
+        kernel,
+        "{\"entries\":2,\"state\":\"within\",\"verdict\":\"legal\"}\n",
+    )
 }
 
 #[test]
@@ -168,15 +168,9 @@ fn removes_the_other<J: Naming, R: Abort + Wait>(
         index: 1,
         depth: 64,
     };
-    assert_eq!(rt;
-        second.call(rt, kernel, OTHER, POLL),
-        refused(Cause::InvalidCapability)
-    );
-    assert_eq!(rt; first.call(rt, kernel, ONE, Call::Delete { slot }), DONE);
-    assert_eq!(rt;
-        second.call(rt, kernel, OTHER, POLL),
-        refused(Cause::NoSuchThread)
-    );
+    second.is_answered(rt, kernel, OTHER, POLL, refused(Cause::InvalidCapability));
+    first.is_answered(rt, kernel, ONE, Call::Delete { slot }, DONE);
+    second.is_answered(rt, kernel, OTHER, POLL, refused(Cause::NoSuchThread));
 }
 
 fn one_removes_the_other<J: Naming, R: Abort + Wait>(

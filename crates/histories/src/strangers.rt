@@ -2,9 +2,9 @@
 ghost use Rattle.std.specs.Prelude.{◌≡◌, ◌≢◌, All};
 ghost use Rattle.cores.specs.Seats.{IsOf};
 
-use crate::callers::{Caller, Ended, Running, closed_alone, kept_with, with_callers};
-use crate::legal::{ends_in, is_legal};
-use crate::memory::{lend, made};
+use crate::callers::{Caller, Running, kept_with, with_callers};
+use crate::legal::{ends_alone_in, ends_in};
+use crate::memory::made;
 use crate::scenes::{Plan, carry_out, cores_of};
 use crate::systems::TWO_CORES;
 use crate::two_cores::{DONE, SIGNAL, SIGNALLER};
@@ -65,16 +65,14 @@ fn is_kept<J: Naming + Send + Sync, K: Naming, R: Abort + AllocGlobal + Threads 
     match kept_with(rt, running, stranger) {
         Some((kernel, refusal)) => {
             assert_eq!(rt; refusal, foreign());
-            lend(closed_alone(rt.alloc(), kernel), |ended: &Ended| {
-                is_legal(rt, &TWO_CORES, table, ended, ONE_ENTRY)
-            })
+            ends_alone_in(rt, &TWO_CORES, table, kernel, ONE_ENTRY)
         }
         None => Err(Fail::new("it isn't handed back")),
     }
 }
 
 fn signals<J: Naming, R: Abort + Wait>(rt: &R, kernel: &Kernel<J>, caller: &mut Caller<J>) {
-    assert_eq!(rt; caller.call(rt, kernel, SIGNALLER, SIGNAL), DONE);
+    caller.is_answered(rt, kernel, SIGNALLER, SIGNAL, DONE);
 }
 
 fn all_signal<J: Naming, R: Abort + Wait>(rt: &R, kernel: &Kernel<J>, callers: &mut [Caller<J>]) {

@@ -41,9 +41,9 @@ fn call_and_meet<J: Naming, R: Abort + Wait>(
     first: &mut Caller<J>,
     second: &mut Caller<J>,
 ) {
-    assert_eq!(rt; first.call(rt, kernel, SIGNALLER, SIGNAL), DONE);
+    first.is_answered(rt, kernel, SIGNALLER, SIGNAL, DONE);
     assert_eq!(rt; first.meet(kernel, second), Ok(()));
-    assert_eq!(rt; second.call(rt, kernel, POLLER, POLL), word(4));
+    second.is_answered(rt, kernel, POLLER, POLL, word(4));
 }
 
 /// The log has room for both polls: then each call finds it full.
@@ -54,9 +54,9 @@ fn both_polls<J: Naming, R: Abort + Wait>(
     second: &mut Caller<J>,
 ) {
     call_and_meet(rt, kernel, first, second);
-    assert_eq!(rt; second.call(rt, kernel, POLLER, POLL), word(0));
-    assert_eq!(rt; second.call(rt, kernel, POLLER, POLL), full());
-    assert_eq!(rt; first.call(rt, kernel, SIGNALLER, SIGNAL), full());
+    second.is_answered(rt, kernel, POLLER, POLL, word(0));
+    second.is_answered(rt, kernel, POLLER, POLL, full());
+    first.is_answered(rt, kernel, SIGNALLER, SIGNAL, full());
     assert_eq!(rt; second.meet(kernel, first), Ok(()));
 }
 
@@ -68,7 +68,7 @@ fn one_poll<J: Naming, R: Abort + Wait>(
     second: &mut Caller<J>,
 ) {
     call_and_meet(rt, kernel, first, second);
-    assert_eq!(rt; second.call(rt, kernel, POLLER, POLL), full());
+    second.is_answered(rt, kernel, POLLER, POLL, full());
 }
 
 fn make_calls<J: Naming, R: Abort + Wait>(
