@@ -3,7 +3,7 @@ use crate::engine::{Answer, Command, Given, answer_to};
 use crate::state::{Until, fact_in, fact_of, first_difference, state_after, state_named};
 use crate::tally::{Case, Tally};
 use crate::texts::{File, with};
-use crate::wrong::Wrong;
+use pieces::Wrong;
 use std::alloc::{AllocError, Global};
 use std::thread::Threads;
 

@@ -1,10 +1,7 @@
 //! The answers that cases expect.
-use crate::changes::{line_number, quoted};
 use crate::engine::Answer;
-use crate::literal::text_of;
-use crate::repeats::number;
 use crate::texts::{File, Texts};
-use crate::wrong::Wrong;
+use pieces::{Wrong, line_number, number, quoted, text_of};
 use std::alloc::{AllocError, Global};
 
 const NO_PLACE: Wrong = Wrong("a rule has a place");

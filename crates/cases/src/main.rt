@@ -2,18 +2,14 @@
 //! expected. Its README says how a case is written.
 #![tactic(auto)]
 
-mod changes;
 mod engine;
 mod events;
 mod expected;
 mod facts;
-mod literal;
-mod repeats;
 mod session;
 mod state;
 mod tally;
 mod texts;
-mod wrong;
 
 use session::Session;
 use std::process::ExitCode;

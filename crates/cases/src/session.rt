@@ -1,13 +1,12 @@
 //! The lines of a file of cases, one after another.
-use crate::changes::{Place, around, change_text, last_line, place_of, quoted};
 use crate::engine::{Command, Given, answer_to};
 use crate::events::Events;
 use crate::expected::expected;
-use crate::literal::text_of;
-use crate::repeats::{line_for, repeat_of};
 use crate::tally::{Case, Tally};
 use crate::texts::{File, Texts, read, with};
-use crate::wrong::Wrong;
+use pieces::{
+    Place, Wrong, around, change_text, last_line, line_for, place_of, quoted, repeat_of, text_of,
+};
 use std::alloc::Global;
 use std::rt::Files;
 use std::thread::Threads;

@@ -2,13 +2,12 @@
 ghost use Rattle.machine.specs.WellFormed.{IsWellFormed};
 
 use crate::facts::tell_state;
-use crate::repeats::number;
-use crate::wrong::Wrong;
 use captext::read_table;
 use evtext::read_script;
 use kernel::{boot, run};
 use machine::Event;
 use objects::State;
+use pieces::{Wrong, number};
 use std::alloc::{AllocError, Global};
 use table::Table;
 

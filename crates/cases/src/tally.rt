@@ -1,6 +1,6 @@
 //! How many cases were run, and what differed.
 use crate::engine::Answer;
-use crate::wrong::Wrong;
+use pieces::Wrong;
 use std::alloc::{AllocError, Global};
 use std::fmt;
 

@@ -1,8 +1,8 @@
 //! The texts of a system, and which of them a line speaks of.
 use crate::engine::Given;
-use crate::wrong::Wrong;
 use evtext::{read_log, write_log};
 use machine::{Event, Outcome};
+use pieces::Wrong;
 use std::alloc::Global;
 use std::fs;
 use std::rt::Files;
