@@ -1,9 +1,9 @@
 -- Each way between a set of rights and its word.
-use Rattle.std.{specs.{Bool.Decides, List.{AllByRecursion, find}, Prelude.{IfSome, bytes_eq}}, proofs.Common.{[], ℕ, ◌<◌, ◌↔◌, ◌∙◌, ◌∷◌}}
+use Rattle.std.{specs.{Bool.Decides, List.{AllByRecursion, find, list_any}, Prelude.{IfSome, bytes_eq}}, proofs.Common.{[], ℕ, ◌+◌, ◌<◌, ◌==◌, ◌≤◌, ◌↔◌, ◌∙◌, ◌∷◌}}
 use Rattle.std.proofs.Common.{◌≡◌, Bool, List, None, Option, Some, ap, arith, cond, false, lit<, refl, subst, suc, sym, true, zero}
 use Rattle.std.proofs.lemmas.Slice.Eq.{bytes_eq-Decides}
 use mathlib.Core.Bool.{false≢true}
-use Rattle.base.specs.{declared.rights.Rights.Rights, Rights.{IsRights, all_rights, rights_of_word, rights_with, rights_word}}
+use Rattle.base.specs.{declared.rights.Rights.Rights, Rights.{IsRights, all_rights, bit_in, rights_of_word, rights_with, rights_word}}
 
 abbrev Names : List ℕ → Rights → Type 0
 Names word rights = (word ≡ rights_word rights) × IsRights rights
@@ -78,10 +78,44 @@ pub named_by : (word : List ℕ) (n : ℕ) → n < 16 → bytes_eq (rights_word 
 named_by word n below is =
     ap (λ w. rights_of_word w) (sym ((bytes_eq-Decides (rights_word (rights_with n)) word).0 is)) ∙ rights_of_word-rights_word n below
 
--- what is the word of no set names none
-pub named_by_none : (word : List ℕ) → ((n : ℕ) → n < 16 → bytes_eq (rights_word (rights_with n)) word ≡ false) → rights_of_word word ≡ None
-named_by_none word none = by_found (rights_of_word word) (named_word word) where
+-- the rights whose letters are in a word
+abbrev pub letters_of : List ℕ → ℕ
+letters_of word = bit_in word 114 1 + bit_in word 119 2 + bit_in word 103 4 + bit_in word 121 8
+
+bit_below : (word : List ℕ) (letter right : ℕ) → bit_in word letter right ≤ right
+bit_below word letter right = by (list_any (λ x. x == letter) word) where
+  by : (has : Bool) → cond has right 0 ≤ right
+  by true = omega arith
+  by false = omega arith
+
+pub letters_below : (word : List ℕ) → letters_of word < 16
+letters_below word = omega (arith, bit_below word 114 1, bit_below word 119 2, bit_below word 103 4, bit_below word 121 8)
+
+letters_again : (n : ℕ) → n < 16 → letters_of (rights_word (rights_with n)) ≡ n
+letters_again zero below = refl
+letters_again (suc zero) below = refl
+letters_again (suc (suc zero)) below = refl
+letters_again (suc (suc (suc zero))) below = refl
+letters_again (suc (suc (suc (suc zero)))) below = refl
+letters_again (suc (suc (suc (suc (suc zero))))) below = refl
+letters_again (suc (suc (suc (suc (suc (suc zero)))))) below = refl
+letters_again (suc (suc (suc (suc (suc (suc (suc zero))))))) below = refl
+letters_again (suc (suc (suc (suc (suc (suc (suc (suc zero)))))))) below = refl
+letters_again (suc (suc (suc (suc (suc (suc (suc (suc (suc zero))))))))) below = refl
+letters_again (suc (suc (suc (suc (suc (suc (suc (suc (suc (suc zero)))))))))) below = refl
+letters_again (suc (suc (suc (suc (suc (suc (suc (suc (suc (suc (suc zero))))))))))) below = refl
+letters_again (suc (suc (suc (suc (suc (suc (suc (suc (suc (suc (suc (suc zero)))))))))))) below = refl
+letters_again (suc (suc (suc (suc (suc (suc (suc (suc (suc (suc (suc (suc (suc zero))))))))))))) below = refl
+letters_again (suc (suc (suc (suc (suc (suc (suc (suc (suc (suc (suc (suc (suc (suc zero)))))))))))))) below = refl
+letters_again (suc (suc (suc (suc (suc (suc (suc (suc (suc (suc (suc (suc (suc (suc (suc zero))))))))))))))) below = refl
+letters_again (suc (suc (suc (suc (suc (suc (suc (suc (suc (suc (suc (suc (suc (suc (suc (suc n)))))))))))))))) below = absurd (omega arith)
+
+-- what isn't the word of the set of its letters names none
+pub named_by_none : (word : List ℕ) → bytes_eq (rights_word (rights_with (letters_of word))) word ≡ false → rights_of_word word ≡ None
+named_by_none word other = by_found (rights_of_word word) (named_word word) where
   by_found : (found : Option Rights) → IfSome found (Names word) → found ≡ None
   by_found None names = refl
   by_found (Some rights) names =
-      absurd (false≢true (sym (none rights.0 names.1) ∙ (bytes_eq-Decides (rights_word rights) word).1 (sym names.0)))
+      let letters : letters_of word ≡ rights.0 = ap (λ w. letters_of w) names.0 ∙ letters_again rights.0 names.1 in
+      let is : rights_word (rights_with (letters_of word)) ≡ word = ap (λ n. rights_word (rights_with n)) letters ∙ sym names.0 in
+      absurd (false≢true (sym other ∙ (bytes_eq-Decides (rights_word (rights_with (letters_of word))) word).1 is))

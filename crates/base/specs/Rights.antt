@@ -1,6 +1,6 @@
 -- The word of a set of rights, and the set that a word names: the letters of read, write, grant and grant-reply in this order,
 -- or - for none (seL4 manual, "Capability Rights").
-use Rattle.std.specs.{Int.RustNames.bit_and, List.find, Prelude.{[], ℕ, ◌++◌, ◌<◌, ◌==◌, ◌∷◌, List, Option, bytes_eq, codes, if◌then◌else◌}}
+use Rattle.std.specs.{Int.RustNames.bit_and, List.{find, list_any}, Prelude.{[], ℕ, ◌++◌, ◌<◌, ◌==◌, ◌∷◌, List, Option, bytes_eq, codes, if◌then◌else◌}}
 use Rattle.std.specs.Prelude.{map}
 use Rattle.base.specs.declared.rights.Rights.{Rights}
 
@@ -20,6 +20,10 @@ abbrev pub rights_word : Rights → List ℕ
 rights_word rights =
     if bit_and rights.0 15 == 0 then codes "-" else
     (letter_of rights 1 (codes "r") ++ letter_of rights 2 (codes "w") ++ letter_of rights 4 (codes "g") ++ letter_of rights 8 (codes "y"))
+
+-- the bit of a right, if its letter is in a word
+abbrev pub bit_in : List ℕ → ℕ → ℕ → ℕ
+bit_in word letter right = if list_any (λ x. x == letter) word then right else 0
 
 -- every set of the four rights
 abbrev pub all_rights : List Rights

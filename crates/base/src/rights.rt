@@ -1,5 +1,5 @@
 ghost use Rattle.std.specs.{Int.RustNames.bit_and, Prelude.{[], ℕ, ⊤, ◌<◌, ◌==◌, ◌↔◌, ◌∷◌, ◌≡◌, IfSome, List, None, Some, codes}};
-ghost use Rattle.base.specs.{declared.rights.Rights.Rights as Set, Rights.{IsRights, letter_of, rights_of_word, rights_with, rights_word}};
+ghost use Rattle.base.specs.{declared.rights.Rights.Rights as Set, Rights.{IsRights, bit_in, letter_of, rights_of_word, rights_with, rights_word}};
 
 use bitflags::{Flag, Flags, bitflag_items};
 use std::fmt;
@@ -46,12 +46,24 @@ impl Rights {
     pub fn from_word(word: &[u8]) -> Option<Rights>
         ensures { result ≡ rights_of_word word.now }
     {
-        for bits in 0..=Rights::SPELLED {
-            if Rights::word_of(bits).as_bytes() == word {
-                return Some(Rights(bits));
-            }
+        // No other set has the letters that are in the word.
+        let read = Rights::bit_if(word, b'r', Rights::READ);
+        let write = Rights::bit_if(word, b'w', Rights::WRITE);
+        let grant = Rights::bit_if(word, b'g', Rights::GRANT);
+        let grant_reply = Rights::bit_if(word, b'y', Rights::GRANT_REPLY);
+        let bits = read + write + grant + grant_reply;
+        if Rights::word_of(bits).as_bytes() == word {
+            Some(Rights(bits))
+        } else {
+            None
         }
-        None
+    }
+
+    // The bit of the right, if its letter is in the word.
+    fn bit_if(word: &[u8], letter: u8, right: Rights) -> u8
+        ensures { result ≡ bit_in word.now letter right.0 }
+    {
+        if word.contains(&letter) { right.0 } else { 0 }
     }
 
     // The word of the set with these bits.

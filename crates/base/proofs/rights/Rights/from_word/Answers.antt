@@ -1,21 +1,21 @@
-use Rattle.std.proofs.Common.{◌∙◌, ap, arith, sym}
+use Rattle.std.proofs.Common.{◌+◌, ◌<◌, ◌≡◌, ◌∙◌, ap, subst, sym}
 use Rattle.std.specs.Prelude.{bytes_eq}
-use Rattle.base.proofs.RightsWords.{named_by, named_by_none}
+use Rattle.base.specs.Rights.{rights_with, rights_word}
+use Rattle.base.proofs.RightsWords.{letters_below, letters_of, named_by, named_by_none}
 use Rattle.base.proofs.rights.Rights.from_word.Goals as goal
-
-pub loop-bits-init : goal.loop-bits-init
-loop-bits-init c n below = absurd (omega (arith, below))
 
 pub returns-then-eq : goal.returns-then-eq
 returns-then-eq c =
+    let bits : letters_of c.args.word.now
+    ≡ c.bit_if-read.result + c.bit_if-write.result + c.bit_if-grant.result + c.bit_if-grant_reply.result = cc in
     let spelled = sym (c.as_bytes.ensures.value ∙ c.word_of.ensures) in
-    sym (named_by c.args.word.now _ (omega arith) (ap (λ word. bytes_eq word c.args.word.now) spelled ∙ sym c.eq.ensures ∙ c.if-eq.true))
+    sym (named_by c.args.word.now _ (subst (λ n. n < 16) bits (letters_below c.args.word.now))
+    (ap (λ word. bytes_eq word c.args.word.now) spelled ∙ sym c.eq.ensures ∙ c.if-eq.true))
 
-pub loop-bits-preserved : goal.loop-bits-preserved
-loop-bits-preserved c n below =
-    let spelled = sym (c.as_bytes.ensures.value ∙ c.word_of.ensures) in
-    let at_bits = ap (λ word. bytes_eq word c.args.word.now) spelled ∙ sym c.eq.ensures ∙ c.if-eq.false in
-    grind (arith, at_bits, c.loop-bits.invariant n, below)
-
-pub returns : goal.returns
-returns c = sym (named_by_none c.args.word.now (λ n below. c.loop-bits.invariant n (omega (arith, below))))
+pub returns-else-eq : goal.returns-else-eq
+returns-else-eq c =
+    let bits : letters_of c.args.word.now
+    ≡ c.bit_if-read.result + c.bit_if-write.result + c.bit_if-grant.result + c.bit_if-grant_reply.result = cc in
+    let spelled = ap (λ n. rights_word (rights_with n)) bits ∙ sym (c.as_bytes.ensures.value ∙ c.word_of.ensures) in
+    sym (named_by_none c.args.word.now
+    (ap (λ word. bytes_eq word c.args.word.now) spelled ∙ sym c.eq.ensures ∙ c.if-eq.false))
