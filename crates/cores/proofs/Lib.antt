@@ -5,3 +5,6 @@ pub mod Visiting
 pub mod Adding
 pub mod Closing
 pub mod Safe
+pub mod OneCore
+pub mod Counting
+pub mod AllCores

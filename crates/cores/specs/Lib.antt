@@ -4,3 +4,5 @@ pub mod Moves
 pub mod Tokens
 pub mod Seats
 pub mod Safety
+pub mod SplitRun
+pub mod Workers

@@ -1,5 +1,5 @@
 //! One kernel for several threads, each of which calls it by a seat of its own. All calls stand in one history, and each seat
-//! sees a beginning of it.
+//! sees a beginning of it. A script is split so: a worker for each core makes its events, side by side.
 #![tactic(auto)]
 
 mod board;
@@ -9,12 +9,15 @@ mod opened;
 mod running;
 mod safety;
 mod seat;
+mod splitting;
 mod view;
 mod word;
+mod workers;
 
 pub use naming::Naming;
 pub use opened::{MAX_SEATS, Opened};
 pub use running::Kernel;
 pub use safety::seen_histories_are_safe;
 pub use seat::Seat;
+pub use splitting::split;
 pub use view::Noted;

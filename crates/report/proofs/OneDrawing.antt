@@ -3,8 +3,8 @@ use Rattle.std.{specs.List.flat_map, proofs.Common.{[], ℕ, ◌++◌, ◌∙◌
 use Rattle.base.specs.declared.edge.Edge.{Edge}
 use Rattle.machine.specs.Layout.{Layout}
 use Rattle.policy.specs.{Domain.EdgeTest, Places.IsLeast, Policy.allows, Reasons.{IsFullBy, IsTakeBy, reason_place}}
-use Rattle.views.specs.Drawing.{IsArrow, arrow_line, label_line, pairs_of, IsArrow.{dashed, itself, nothing, solid}}
-use Rattle.views.specs.Drawing as drawing
+use Rattle.reptext.specs.Drawing.{IsArrow, arrow_line, label_line, pairs_of, IsArrow.{dashed, itself, nothing, solid}}
+use Rattle.reptext.specs.Drawing as drawing
 use Rattle.verdict.proofs.OneVerdict.{one_least}
 use Rattle.report.{specs.{Alone.Lists, Questions.Draws}, proofs.{OneAnswer.JudgesOne, OneClosing.place_once}}
 

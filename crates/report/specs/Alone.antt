@@ -1,8 +1,7 @@
 -- What a command does that has a table alone, and what it lists of the table (confine's own).
 use Rattle.std.specs.Prelude.{ℕ, ◌≡◌, List, Some, codes, false}
 use Rattle.machine.specs.Layout.{Layout}
-use Rattle.views.specs.Objects.{objects_text}
-use Rattle.reptext.specs.declared.file.File.{File as file}
+use Rattle.reptext.specs.{Objects.objects_text, declared.file.File.File as file}
 use Rattle.report.specs.{declared.{end.End.End, known.Known.Known}, Answers.{no_file, no_label, read_nothing}, Commands.Input}
 use Rattle.report.specs.Commands.{IsCarriedOut, Output}
 

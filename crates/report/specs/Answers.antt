@@ -7,7 +7,7 @@ use Rattle.policy.specs.Policy.{allows}
 use Rattle.evtext.specs.{Log.log_text, Script.read_script_of}
 use Rattle.kernel.specs.Legal.{Entry}
 use Rattle.verdict.specs.{declared.denial.Denial.Denial, Verdict.{IsAccepted, IsLeastBroken, rule_name}}
-use Rattle.split.specs.SplitRun.{IsSplitRun}
+use Rattle.cores.specs.SplitRun.{IsSplitRun}
 use Rattle.certificate.specs.{declared.{line.Line.Line, verifying.NotAccepted.NotAccepted as not_accepted}, Certificate.certificate_text}
 use Rattle.certificate.specs.{Reading.read_certificate_of, Right.right_certificate, Verified.IsVerified}
 use Rattle.reptext.specs.declared.file.File.TheVariants as file

@@ -15,9 +15,9 @@ use crate::{Asked, End, Listener, OnClose, Sink, Source};
 use base::{Edge, Refusal};
 use captext::write_edges;
 use policy::{Policy, Why};
+use reptext::{write_drawing, write_objects};
 use std::alloc::Global;
 use table::Table;
-use views::{write_drawing, write_objects};
 
 /// Which authority a label has on another by a policy, and why.
 ///

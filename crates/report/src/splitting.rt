@@ -11,7 +11,7 @@ use crate::{Asked, End, Listener, Sink, Source};
 use base::Refusal;
 use deal::{Gate, Open};
 use evtext::write_log;
-use split::split;
+use cores::split;
 use std::alloc::Global;
 use std::sync::Wait;
 use std::thread::Threads;

@@ -2,3 +2,5 @@ mod LabelLists
 mod Names
 pub mod OneText
 mod Upgraded
+mod Numbered
+mod Arrows

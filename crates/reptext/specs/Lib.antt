@@ -1,3 +1,5 @@
 pub mod Places
 pub mod Relations
 pub mod Reports
+pub mod Objects
+pub mod Drawing

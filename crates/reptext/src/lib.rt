@@ -1,14 +1,19 @@
-//! The texts of reports: one JSON object on a line, and the names at the place that it tells.
+//! The texts that the program writes besides tables, policies, certificates and logs: reports, each one JSON object on a line, and the
+//! names at the place that it tells; the list of a table's objects; and the drawing of who may change or take from whom.
 #![tactic(auto)]
 
+mod drawing;
 mod file;
 mod laws;
+mod objects;
 mod places;
 mod relations;
 mod reports;
 
+pub use drawing::write_drawing;
 pub use file::File;
 pub use laws::upgraded_tables_are_reported_alike;
+pub use objects::write_objects;
 pub use places::{KindsOfObjects, place_names};
 pub use reports::{
     accept_report, broken_report, check_report, denial_text, extent_word, fault_report,

@@ -1,5 +1,5 @@
 use Rattle.std.proofs.{Common.{◌∙◌, subst}, lemmas.Result.IfOk-weaker}
-use Rattle.split.specs.SplitRun.{IsSplitRun}
+use Rattle.cores.specs.SplitRun.{IsSplitRun}
 use Rattle.report.proofs.splitting.log_of_split.Goals as goal
 
 pub returns-clause-log : goal.returns-clause-log

@@ -1,0 +1,28 @@
+-- What the workers are given, one for each core, and what each leaves, which makes the script's events on its core by a seat of its
+-- own (confine's own).
+use Rattle.std.specs.Prelude.{[], ℕ, ◌<◌, ◌≡◌, ◌⊎◌, List, Some, length, map, slice_get}
+use Rattle.base.specs.declared.core_number.TheConstants.CoreNo as CoreNo
+use Rattle.machine.specs.declared.call.Event.{Event}
+use Rattle.cores.specs.{declared.view.Noted.Noted, Seats.{IsOf, Known, Ticket}, SplitRun.on_core}
+
+-- all cores that there can be, each at the place of its number
+pub record AreAllCores (cores : List ℕ) : Type 0 where
+  pub count : length cores ≡ CoreNo.COUNT
+  pub each : (number core : ℕ) → slice_get cores number ≡ Some core → core ≡ number
+
+-- the kernel's seat has made no entry
+pub record IsFresh (t : Ticket) (seat : Known) : Type 0 where
+  pub of : IsOf t seat
+  pub new : seat.mine ≡ []
+
+abbrev pub events_of : List Noted → List Event
+events_of = map (λ noted. noted.event)
+
+-- the seat has made the script's events on its core, in their order; or it has made fewer than these, and saw the log full
+pub record Worked (t : Ticket) (events : List Event) (before after : Known) : Type 0 where
+  pub of : IsOf t after
+  pub number : after.number ≡ before.number
+  pub core : after.core ≡ before.core
+  pub made :
+      (events_of after.mine ≡ on_core after.core events)
+      ⊎ ((length after.mine < length (on_core after.core events)) × (length after.seen ≡ t.size))

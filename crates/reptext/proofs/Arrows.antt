@@ -1,0 +1,147 @@
+-- A drawing grows label by label, and pair by pair; and where a label has authority on another there is an edge that gives it.
+use Rattle.std.{specs.{List.{flat_map, range_with_len}, Prelude.{IfSome, IsSome, codes}}, proofs.Common.{[], ℕ, ◌++◌, ◌+◌, ◌<◌, ◌==◌, ◌∙◌}}
+use Rattle.std.proofs.Common.{◌∷◌, ◌≡◌, ◌≢◌, List, None, Option, Some, ap, append_assoc, arith, false, get_or, length, refl, subst, sym}
+use Rattle.std.proofs.{Common.{take, true}, lemmas.{Bool.Decides.nat_tests, List.{append-nil, flat_map_more, map-id, take_more}}}
+use Rattle.std.proofs.lemmas.List.FromFn.{map-range_with_len_more}
+use Rattle.base.specs.declared.edge.Edge.{Edge}
+use Rattle.machine.specs.Layout.{Layout}
+use Rattle.policy.specs.{Domain.EdgeTest, Full.{IsFull, IsFull.{grants, links, modifies, notifies, own, receives, replies, sends}}}
+use Rattle.policy.specs.{Places.IsLeast, Reasons.{IsFullBy, IsTakeBy, reason_place}, Take.{MayTake, MayTake.{ends, removes, unbinds}}}
+use Rattle.reptext.specs.Drawing.{AddsArrows, Draws, IsArrow, arrow_line, pairs_with, IsArrow.{dashed, itself, nothing, solid}}
+use mathlib.Core.Bool.{false≢true}
+
+-- one text more, for the next of some values
+pub piece_more : {X : Type 0} (f : X → List ℕ) (xs : List X) (i : ℕ) (d : X) (before text longer : List ℕ) → i < length xs
+    → text ≡ before ++ flat_map f (take i xs) → longer ≡ text ++ f (get_or xs i d) → longer ≡ before ++ flat_map f (take (i + 1) xs)
+piece_more f xs i d before text longer within so_far grown =
+    grown
+    ∙ ap (λ bytes. bytes ++ f (get_or xs i d)) so_far
+    ∙ flat_map_more f before (take i xs) (get_or xs i d)
+    ∙ ap (λ front. before ++ flat_map f front) (sym (take_more xs i d within))
+
+-- the pairs grow
+
+range_more : (n : ℕ) → range_with_len 0 (n + 1) ≡ range_with_len 0 n ++ n ∷ []
+range_more n =
+    sym (map-id (range_with_len 0 (n + 1)))
+    ∙ map-range_with_len_more (λ (k : ℕ). k) 0 n n (omega arith)
+    ∙ ap (λ front. front ++ n ∷ []) (map-id (range_with_len 0 n))
+
+with_more : (a n : ℕ) → pairs_with (n + 1) a ≡ pairs_with n a ++ (a, n) ∷ []
+with_more a n = map-range_with_len_more (λ (l : ℕ). (a, l)) 0 n n (omega arith)
+
+pairs_more : (count n : ℕ)
+    → flat_map (pairs_with count) (range_with_len 0 (n + 1)) ≡ flat_map (pairs_with count) (range_with_len 0 n) ++ pairs_with count n
+pairs_more count n =
+    ap (flat_map (pairs_with count)) (range_more n) ∙ sym (flat_map_more (pairs_with count) [] (range_with_len 0 n) n)
+
+-- an authority has a reason with a first edge
+
+is_there : (edge : Edge) (more edges : List Edge) → edge ∷ more ≡ edges → 0 < length edges
+is_there edge more edges is = let P : List Edge → Type 0 = λ xs. 0 < length xs in subst P is (omega arith)
+
+pub full_reason_there : (test : EdgeTest) (a l : ℕ) (edges : List Edge) → a ≢ l → IsFullBy test a l edges → 0 < length edges
+full_reason_there test a l edges apart (own one, is) = absurd (apart (sym one))
+full_reason_there test a l edges apart (modifies kind is_modifying there, is) = is_there _ _ edges is
+full_reason_there test a l edges apart (sends endpoint sent received, is) = is_there _ _ edges is
+full_reason_there test a l edges apart (receives endpoint received sent, is) = is_there _ _ edges is
+full_reason_there test a l edges apart (notifies notification notified awaited, is) = is_there _ _ edges is
+full_reason_there test a l edges apart (links endpoint receiver sent received replied, is) = is_there _ _ edges is
+full_reason_there test a l edges apart (grants endpoint receiver granted received controlled, is) = is_there _ _ edges is
+full_reason_there test a l edges apart (replies reply replied held, is) = is_there _ _ edges is
+
+pub take_reason_there : (test : EdgeTest) (a l : ℕ) (edges : List Edge) → IsTakeBy test a l edges → 0 < length edges
+take_reason_there test a l edges (unbinds context used ran, is) = is_there _ _ edges is
+take_reason_there test a l edges (ends reply receiver used answered received, is) = is_there _ _ edges is
+take_reason_there test a l edges (removes path, is) = is_there _ _ edges is
+
+headed : (edges : List Edge) → 0 < length edges → (edge : Edge) × (more : List Edge) × (edges ≡ edge ∷ more)
+headed [] there = absurd (omega arith)
+headed (edge ∷ more) there = (edge, more, refl)
+
+-- labels by their numbers
+
+pub differ : (a b : ℕ) → (a == b) ≡ false → a ≢ b
+differ a b h = grind (arith, nat_tests)
+
+pub same : (a b : ℕ) → (a == b) ≡ true → a ≡ b
+same a b h = grind (arith, nat_tests)
+
+pub label_is : (found : Option ℕ) (label n : ℕ) → found ≡ Some label → IfSome found (λ l. l ≡ n) → label ≡ n
+label_is (Some l) label n is here = let at : l ≡ label = cc in sym at ∙ here
+label_is None label n is here = cc
+
+pub label_there : (found : Option ℕ) → found ≡ None → IsSome found → ⊥
+label_there (Some label) is there = cc
+label_there None is there = false≢true there
+
+-- what is drawn for one list of pairs after another is drawn for both
+
+module _ (test : EdgeTest) (t : Layout) where
+  draws_both : (one other : List (ℕ × ℕ)) (first second : List ℕ) → Draws test t one first → Draws test t other second
+      → Draws test t (one ++ other) (first ++ second)
+  draws_both [] other first second empty drawn = subst (λ text. Draws test t other (text ++ second)) (sym empty) drawn
+  draws_both (pair ∷ pairs) other first second (arrow, rest, is, drawn, parts) also = (
+    arrow,
+    rest ++ second,
+    is,
+    draws_both pairs other rest second drawn also,
+    ap (λ text. text ++ second) parts ∙ append_assoc arrow rest second,
+  )
+
+  adds_both : (one other : List (ℕ × ℕ)) (old mid new : List ℕ) → AddsArrows test t one old mid → AddsArrows test t other mid new
+      → AddsArrows test t (one ++ other) old new
+  adds_both one other old mid new (first, drawn, is) (second, also, more) = (
+    first ++ second,
+    draws_both one other first second drawn also,
+    more ∙ ap (λ text. text ++ second) is ∙ append_assoc old first second,
+  )
+
+  adds_one : (a l : ℕ) (old new arrow : List ℕ) → IsArrow test t a l arrow → new ≡ old ++ arrow
+      → AddsArrows test t ((a, l) ∷ []) old new
+  adds_one a l old new arrow is grown = (arrow, (arrow, [], is, refl, sym (append-nil arrow)), grown)
+
+  -- no arrow from a label to itself, nor where it has no authority
+
+  pub adds_itself : (a l : ℕ) (old : List ℕ) → (a == l) ≡ true → AddsArrows test t ((a, l) ∷ []) old old
+  adds_itself a l old is = adds_one a l old old [] (itself (same a l is) refl) (sym (append-nil old))
+
+  pub adds_nothing : (a l : ℕ) (old : List ℕ) → (a == l) ≡ false → ¬ IsFull test a l → ¬ MayTake test a l → AddsArrows test t ((a, l) ∷ []) old old
+  adds_nothing a l old is lacks takes = adds_one a l old old [] (nothing (differ a l is) lacks takes refl) (sym (append-nil old))
+
+  -- an arrow with the first edge of the reason
+
+  pub adds_solid : (a l : ℕ) (edges : List Edge) (old new : List ℕ) → (a == l) ≡ false → IsLeast reason_place (IsFullBy test a l) edges
+      → ((edge : Edge) (more : List Edge) → edges ≡ edge ∷ more → new ≡ old ++ arrow_line t a l [] edge)
+      → AddsArrows test t ((a, l) ∷ []) old new
+  adds_solid a l edges old new is least grown =
+      let head = headed edges (full_reason_there test a l edges (differ a l is) least.has) in
+      let edge : Edge = head.0 in
+      let more : List Edge = head.1 in
+      adds_one a l old new (arrow_line t a l [] edge)
+      (solid (differ a l is) edge more (subst (IsLeast reason_place (IsFullBy test a l)) head.2 least) refl) (grown edge more head.2)
+
+  pub adds_dashed : (a l : ℕ) (edges : List Edge) (old new : List ℕ) → (a == l) ≡ false → ¬ IsFull test a l
+      → IsLeast reason_place (IsTakeBy test a l) edges
+      → ((edge : Edge) (more : List Edge) → edges ≡ edge ∷ more → new ≡ old ++ arrow_line t a l (codes "style=dashed, ") edge)
+      → AddsArrows test t ((a, l) ∷ []) old new
+  adds_dashed a l edges old new is lacks least grown =
+      let head = headed edges (take_reason_there test a l edges least.has) in
+      let edge : Edge = head.0 in
+      let more : List Edge = head.1 in
+      adds_one a l old new (arrow_line t a l (codes "style=dashed, ") edge)
+      (dashed (differ a l is) lacks edge more (subst (IsLeast reason_place (IsTakeBy test a l)) head.2 least) refl) (grown edge more head.2)
+
+  -- the next pair of a label
+  pub adds_pair : (a n : ℕ) (old mid new : List ℕ) → AddsArrows test t (pairs_with n a) old mid → AddsArrows test t ((a, n) ∷ []) mid new
+      → AddsArrows test t (pairs_with (n + 1) a) old new
+  adds_pair a n old mid new so_far one =
+      subst (λ pairs. AddsArrows test t pairs old new) (sym (with_more a n)) (adds_both (pairs_with n a) ((a, n) ∷ []) old mid new so_far one)
+
+  -- the pairs of the next label
+  pub adds_label : (count n : ℕ) (old mid new : List ℕ) → AddsArrows test t (flat_map (pairs_with count) (range_with_len 0 n)) old mid
+      → AddsArrows test t (pairs_with count n) mid new
+      → AddsArrows test t (flat_map (pairs_with count) (range_with_len 0 (n + 1))) old new
+  adds_label count n old mid new so_far of_label =
+      subst (λ pairs. AddsArrows test t pairs old new) (sym (pairs_more count n))
+      (adds_both (flat_map (pairs_with count) (range_with_len 0 n)) (pairs_with count n) old mid new so_far of_label)

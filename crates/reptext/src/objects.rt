@@ -1,0 +1,69 @@
+ghost use Rattle.std.specs.Prelude.{◌++◌, ◌≡◌, IfErr, IfOk, OnOk, string_bytes};
+ghost use Rattle.base.specs.Refusals.{out_of_memory};
+ghost use Rattle.machine.specs.KindWords.{object_kind_word};
+ghost use Rattle.words.specs.Text.{line_text};
+ghost use Rattle.captext.specs.TableText.{object_name};
+ghost use Rattle.reptext.specs.Objects.{entry_words, objects_text};
+
+use base::{ObjId, Refusal};
+use captext::{label_name, object_name};
+use machine::{Initial, ObjectKind};
+use std::alloc::{AllocError, Global};
+use table::Table;
+
+/// The list of a table's objects: the number of each, which a script names, its kind, its name and its
+/// label, in a line of its own.
+///
+/// # Errors
+///
+/// 40 where memory is refused.
+pub fn write_objects(alloc: Global, table: &Table) -> Result<Vec<u8>, Refusal>
+    ensures text { IfOk result (λ text. text.items ≡ objects_text table.now) }
+    ensures memory { IfErr result (λ refusal. refusal ≡ out_of_memory) }
+{
+    let mut text = String::new(alloc);
+    write_entries(&mut text, table)?;
+    Ok(text.into_bytes())
+}
+
+fn write_entries(text: &mut String, table: &Table) -> Result<(), AllocError>
+    ensures { OnOk result (string_bytes text.new ≡ string_bytes text.old ++ objects_text table.now) }
+{
+    for (number, initial) in table.objects().iter().enumerate() {
+        write_entry(text, table, ObjId(number as u64), initial)?;
+    }
+    Ok(())
+}
+
+/// The word for objects of a kind, as tables have it.
+fn kind_word(kind: ObjectKind) -> &'static str
+    ensures { result.now ≡ object_kind_word kind }
+{
+    match kind {
+        ObjectKind::Untyped => "untyped",
+        ObjectKind::CNode => "cnode",
+        ObjectKind::Tcb => "tcb",
+        ObjectKind::Endpoint => "endpoint",
+        ObjectKind::Notification => "notification",
+        ObjectKind::Reply => "reply",
+        ObjectKind::Context => "context",
+        ObjectKind::Frame => "frame",
+        ObjectKind::Control => "control",
+    }
+}
+
+fn write_entry(
+    text: &mut String,
+    table: &Table,
+    id: ObjId,
+    initial: &Initial,
+) -> Result<(), AllocError>
+    ensures { OnOk result (string_bytes text.new
+        ≡ string_bytes text.old ++ line_text (entry_words table.now id.0 (object_name table.now id) initial.now)) }
+{
+    let number = id.0;
+    let kind = kind_word(initial.object.kind());
+    let name = object_name(table, id);
+    let label = label_name(table, initial.label);
+    writeln!(text, "{number} {kind} {name} {label}")
+}

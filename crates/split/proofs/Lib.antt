@@ -1,3 +1,0 @@
-pub mod OneCore
-pub mod Counting
-pub mod AllCores

@@ -1,2 +1,0 @@
-pub mod SplitRun
-pub mod Workers
