@@ -33,198 +33,230 @@ pub enum Engine {
     List,
 }
 
-/// A call of an engine.
+/// A call of an engine: what is asked, and of which texts, which are empty where none is read; and how it answers.
 #[derive(Clone, Copy)]
-pub enum EngineCall {
-    Log,
-    LogRetype,
-    Split,
-    CheckReport,
-    CheckCertificate,
-    Verify,
-    Replay,
-    Close,
-    Missing,
-    Why,
-    Claims,
-    Strongest,
-    Draw,
-    List,
-    Denial,
-    CheckDenial,
-    VerifyDenial,
-    ReplayOutside,
-    Fault,
-    FaultPolicy,
-    FaultScript,
-    FaultCertificate,
-    FaultLog,
+pub struct EngineCall {
+    pub name: &'static str,
+    engine: Engine,
+    table: &'static str,
+    policy: &'static str,
+    /// The script, log, certificate or claims.
+    third: &'static str,
+    status: u8,
+    /// What is written.
+    text: &'static str,
 }
 
 /// The calls of engines.
 pub const CALLS: [EngineCall; 23] = [
-    EngineCall::Log,
-    EngineCall::LogRetype,
-    EngineCall::Split,
-    EngineCall::CheckReport,
-    EngineCall::CheckCertificate,
-    EngineCall::Verify,
-    EngineCall::Replay,
-    EngineCall::Close,
-    EngineCall::Missing,
-    EngineCall::Why,
-    EngineCall::Claims,
-    EngineCall::Strongest,
-    EngineCall::Draw,
-    EngineCall::List,
-    EngineCall::Denial,
-    EngineCall::CheckDenial,
-    EngineCall::VerifyDenial,
-    EngineCall::ReplayOutside,
-    EngineCall::Fault,
-    EngineCall::FaultPolicy,
-    EngineCall::FaultScript,
-    EngineCall::FaultCertificate,
-    EngineCall::FaultLog,
+    EngineCall {
+        name: "engine_log",
+        engine: Engine::Run,
+        table: TABLE,
+        policy: POLICY,
+        third: SCRIPT,
+        status: 0,
+        text: LOG,
+    },
+    EngineCall {
+        name: "engine_log_retype",
+        engine: Engine::Run,
+        table: retypes::TABLE,
+        policy: retypes::POLICY,
+        third: retypes::SCRIPT,
+        status: 0,
+        text: retypes::LOG,
+    },
+    EngineCall {
+        name: "engine_split",
+        engine: Engine::Split,
+        table: TABLE,
+        policy: POLICY,
+        third: SCRIPT,
+        status: 0,
+        text: LOG,
+    },
+    EngineCall {
+        name: "engine_check_report",
+        engine: Engine::Check(OnAccept::Report),
+        table: TABLE,
+        policy: POLICY,
+        third: "",
+        status: 0,
+        text: REPORT,
+    },
+    EngineCall {
+        name: "engine_check_certificate",
+        engine: Engine::Check(OnAccept::Certificate),
+        table: TABLE,
+        policy: POLICY,
+        third: "",
+        status: 0,
+        text: CERTIFICATE,
+    },
+    EngineCall {
+        name: "engine_verify",
+        engine: Engine::Verify,
+        table: TABLE,
+        policy: POLICY,
+        third: CERTIFICATE,
+        status: 0,
+        text: VERIFIED,
+    },
+    EngineCall {
+        name: "engine_replay",
+        engine: Engine::Replay,
+        table: TABLE,
+        policy: POLICY,
+        third: LOG,
+        status: 0,
+        text: LEGAL,
+    },
+    EngineCall {
+        name: "engine_close",
+        engine: Engine::Start,
+        table: TABLE,
+        policy: "",
+        third: "",
+        status: 0,
+        text: POLICY,
+    },
+    EngineCall {
+        name: "engine_missing",
+        engine: Engine::Missing,
+        table: TABLE,
+        policy: EMPTY_POLICY,
+        third: "",
+        status: 1,
+        text: LINES,
+    },
+    EngineCall {
+        name: "engine_why",
+        engine: Engine::Why,
+        table: TABLE,
+        policy: POLICY,
+        third: "",
+        status: 0,
+        text: "full\n",
+    },
+    EngineCall {
+        name: "engine_claims",
+        engine: Engine::Claims,
+        table: TWO_LABELS,
+        policy: EMPTY_POLICY,
+        third: CLAIMS,
+        status: 0,
+        text: HOLD,
+    },
+    EngineCall {
+        name: "engine_strongest",
+        engine: Engine::Strongest,
+        table: TWO_LABELS,
+        policy: EMPTY_POLICY,
+        third: "",
+        status: 0,
+        text: CLAIMS,
+    },
+    EngineCall {
+        name: "engine_draw",
+        engine: Engine::Draw,
+        table: ONE_OBJECT,
+        policy: ONE_EDGE,
+        third: "",
+        status: 0,
+        text: DRAWING,
+    },
+    EngineCall {
+        name: "engine_list",
+        engine: Engine::List,
+        table: ONE_OBJECT,
+        policy: "",
+        third: "",
+        status: 0,
+        text: "0 notification n b\n",
+    },
+    EngineCall {
+        name: "engine_denial",
+        engine: Engine::Run,
+        table: TABLE,
+        policy: EMPTY_POLICY,
+        third: SCRIPT,
+        status: 1,
+        text: DENIAL,
+    },
+    EngineCall {
+        name: "engine_check_denial",
+        engine: Engine::Check(OnAccept::Report),
+        table: TABLE,
+        policy: EMPTY_POLICY,
+        third: "",
+        status: 1,
+        text: DENIAL,
+    },
+    EngineCall {
+        name: "engine_verify_denial",
+        engine: Engine::Verify,
+        table: TABLE,
+        policy: POLICY,
+        third: NO_LINES,
+        status: 1,
+        text: PARTED,
+    },
+    EngineCall {
+        name: "engine_replay_outside",
+        engine: Engine::Replay,
+        table: TABLE,
+        policy: EMPTY_POLICY,
+        third: LOG,
+        status: 1,
+        text: OUTSIDE,
+    },
+    EngineCall {
+        name: "engine_fault",
+        engine: Engine::Run,
+        table: FAULTY_TABLE,
+        policy: POLICY,
+        third: SCRIPT,
+        status: 2,
+        text: FAULT,
+    },
+    EngineCall {
+        name: "engine_fault_policy",
+        engine: Engine::Check(OnAccept::Report),
+        table: TABLE,
+        policy: FAULTY,
+        third: "",
+        status: 2,
+        text: FAULTY_POLICY,
+    },
+    EngineCall {
+        name: "engine_fault_script",
+        engine: Engine::Run,
+        table: TABLE,
+        policy: POLICY,
+        third: FAULTY,
+        status: 2,
+        text: FAULTY_SCRIPT,
+    },
+    EngineCall {
+        name: "engine_fault_certificate",
+        engine: Engine::Verify,
+        table: TABLE,
+        policy: POLICY,
+        third: FAULTY,
+        status: 2,
+        text: FAULTY_CERTIFICATE,
+    },
+    EngineCall {
+        name: "engine_fault_log",
+        engine: Engine::Replay,
+        table: TABLE,
+        policy: POLICY,
+        third: FAULTY,
+        status: 2,
+        text: FAULTY_LOG,
+    },
 ];
-
-impl EngineCall {
-    pub fn name(self) -> &'static str {
-        match self {
-            Self::Log => "engine_log",
-            Self::LogRetype => "engine_log_retype",
-            Self::Split => "engine_split",
-            Self::CheckReport => "engine_check_report",
-            Self::CheckCertificate => "engine_check_certificate",
-            Self::Verify => "engine_verify",
-            Self::Replay => "engine_replay",
-            Self::Close => "engine_close",
-            Self::Missing => "engine_missing",
-            Self::Why => "engine_why",
-            Self::Claims => "engine_claims",
-            Self::Strongest => "engine_strongest",
-            Self::Draw => "engine_draw",
-            Self::List => "engine_list",
-            Self::Denial => "engine_denial",
-            Self::CheckDenial => "engine_check_denial",
-            Self::VerifyDenial => "engine_verify_denial",
-            Self::ReplayOutside => "engine_replay_outside",
-            Self::Fault => "engine_fault",
-            Self::FaultPolicy => "engine_fault_policy",
-            Self::FaultScript => "engine_fault_script",
-            Self::FaultCertificate => "engine_fault_certificate",
-            Self::FaultLog => "engine_fault_log",
-        }
-    }
-
-    /// What is asked of the files.
-    fn engine(self) -> Engine {
-        match self {
-            Self::Log | Self::LogRetype | Self::Denial | Self::Fault | Self::FaultScript =>
-                Engine::Run,
-            Self::Split => Engine::Split,
-            Self::CheckReport | Self::CheckDenial | Self::FaultPolicy => Engine::Check(
-                OnAccept::Report,
-            ),
-            Self::CheckCertificate => Engine::Check(OnAccept::Certificate),
-            Self::Verify | Self::VerifyDenial | Self::FaultCertificate => Engine::Verify,
-            Self::Replay | Self::ReplayOutside | Self::FaultLog => Engine::Replay,
-            Self::Close => Engine::Start,
-            Self::Missing => Engine::Missing,
-            Self::Why => Engine::Why,
-            Self::Claims => Engine::Claims,
-            Self::Strongest => Engine::Strongest,
-            Self::Draw => Engine::Draw,
-            Self::List => Engine::List,
-        }
-    }
-
-    /// The text of the table.
-    fn table(self) -> &'static str {
-        match self {
-            Self::LogRetype => retypes::TABLE,
-            Self::Claims | Self::Strongest => TWO_LABELS,
-            Self::Draw | Self::List => ONE_OBJECT,
-            Self::Fault => FAULTY_TABLE,
-            _ => TABLE,
-        }
-    }
-
-    /// The text of the policy, empty where none is read.
-    fn policy(self) -> &'static str {
-        match self {
-            Self::LogRetype => retypes::POLICY,
-            Self::Close | Self::List => "",
-            Self::Missing
-            | Self::Claims
-            | Self::Strongest
-            | Self::Denial
-            | Self::CheckDenial
-            | Self::ReplayOutside => EMPTY_POLICY,
-            Self::Draw => ONE_EDGE,
-            Self::FaultPolicy => FAULTY,
-            _ => POLICY,
-        }
-    }
-
-    /// The text of the script, log, certificate or claims, empty where none is read.
-    fn third(self) -> &'static str {
-        match self {
-            Self::Log | Self::Split | Self::Denial | Self::Fault => SCRIPT,
-            Self::LogRetype => retypes::SCRIPT,
-            Self::Verify => CERTIFICATE,
-            Self::Replay | Self::ReplayOutside => LOG,
-            Self::Claims => CLAIMS,
-            Self::VerifyDenial => NO_LINES,
-            Self::FaultScript | Self::FaultCertificate | Self::FaultLog => FAULTY,
-            _ => "",
-        }
-    }
-
-    /// The status that it ends with.
-    fn status(self) -> u8 {
-        match self {
-            Self::Missing
-            | Self::Denial
-            | Self::CheckDenial
-            | Self::VerifyDenial
-            | Self::ReplayOutside => 1,
-            Self::Fault
-            | Self::FaultPolicy
-            | Self::FaultScript
-            | Self::FaultCertificate
-            | Self::FaultLog => 2,
-            _ => 0,
-        }
-    }
-
-    /// What is written.
-    fn text(self) -> &'static str {
-        match self {
-            Self::Log | Self::Split => LOG,
-            Self::LogRetype => retypes::LOG,
-            Self::CheckReport => REPORT,
-            Self::CheckCertificate => CERTIFICATE,
-            Self::Verify => VERIFIED,
-            Self::Replay => LEGAL,
-            Self::Close => POLICY,
-            Self::Missing => LINES,
-            Self::Why => "full\n",
-            Self::Claims => HOLD,
-            Self::Strongest => CLAIMS,
-            Self::Draw => DRAWING,
-            Self::List => "0 notification n b\n",
-            Self::Denial | Self::CheckDenial => DENIAL,
-            Self::VerifyDenial => PARTED,
-            Self::ReplayOutside => OUTSIDE,
-            Self::Fault => FAULT,
-            Self::FaultPolicy => FAULTY_POLICY,
-            Self::FaultScript => FAULTY_SCRIPT,
-            Self::FaultCertificate => FAULTY_CERTIFICATE,
-            Self::FaultLog => FAULTY_LOG,
-        }
-    }
-}
 
 const REPORT: &str =
     "{\"caps\":2,\"cut\":{\"a\":[\"a\"]},\"full\":{\"a\":[\"a\"]},\"verdict\":\"accept\"}\n";
@@ -334,13 +366,13 @@ fn carry_out_onto<R: AllocGlobal + Threads + Wait + Sync>(
     call: EngineCall,
     page: Vec<u8>,
 ) -> (End, Vec<u8>) {
-    let mut table = Watched::new(call.table().as_bytes());
-    let mut policy = Watched::new(call.policy().as_bytes());
-    let mut third = Watched::new(call.third().as_bytes());
+    let mut table = Watched::new(call.table.as_bytes());
+    let mut policy = Watched::new(call.policy.as_bytes());
+    let mut third = Watched::new(call.third.as_bytes());
     let mut out = Watched::new(page);
     let end = carry_out(
         rt,
-        call.engine(),
+        call.engine,
         &mut table,
         &mut policy,
         &mut third,
@@ -351,10 +383,7 @@ fn carry_out_onto<R: AllocGlobal + Threads + Wait + Sync>(
 
 /// Whether this is written where the first of the events is refused memory, and the run goes on.
 fn goes_on(call: EngineCall, written: &[u8]) -> bool {
-    match call {
-        EngineCall::LogRetype => written == LOG_WITHOUT_MEMORY.as_bytes(),
-        _ => false,
-    }
+    call.text == retypes::LOG && written == LOG_WITHOUT_MEMORY.as_bytes()
 }
 
 /// Whether an engine was refused memory: then it has written nothing, or what it may write without. Else it has answered.
@@ -363,11 +392,11 @@ fn was_refused(end: End, written: &[u8], call: EngineCall) -> Result<bool, Stopp
         holds(written.len() == 0, Wrong::Written)?;
         return Ok(true);
     }
-    holds(end == End::Status(call.status()), Wrong::End)?;
+    holds(end == End::Status(call.status), Wrong::End)?;
     if goes_on(call, written) {
         return Ok(true);
     }
-    are(written, call.text().as_bytes())?;
+    are(written, call.text.as_bytes())?;
     Ok(false)
 }
 
@@ -376,7 +405,7 @@ fn is_refused<R: AllocGlobal + Threads + Wait + Sync>(
     rt: &R,
     call: EngineCall,
 ) -> Result<bool, Stopped> {
-    match prepared(Vec::with_capacity(rt.alloc(), call.text().len())) {
+    match prepared(Vec::with_capacity(rt.alloc(), call.text.len())) {
         Ok(page) => {
             let (end, written) = carry_out_onto(rt, call, page);
             let result = was_refused(end, &written, call);
@@ -404,7 +433,7 @@ pub fn answers<R: AllocGlobal + Threads + Wait + Sync>(
 /// The call of this name.
 pub fn call_named(name: &str) -> Option<EngineCall> {
     for call in &CALLS {
-        if call.name() == name {
+        if call.name == name {
             return Some(*call);
         }
     }

@@ -44,7 +44,7 @@ fn make_each<R: Print + AllocGlobal + Threads + Wait + Sync>(rt: &R) -> io::Resu
         println!(rt; "{name}: {}", told(make(rt, name, 0)))?;
     }
     for call in &CALLS {
-        let name = call.name();
+        let name = call.name;
         println!(rt; "{name}: {}", told(make(rt, name, 0)))?;
     }
     Ok(())

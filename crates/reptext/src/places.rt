@@ -1,5 +1,5 @@
-ghost use Rattle.std.specs.Prelude.{◌≡◌, IfOk, Option, map, string_bytes};
-ghost use Rattle.base.specs.declared.ids.ObjId.{ObjId as Id};
+ghost use Rattle.std.specs.Prelude.{[], ◌∷◌, ◌≡◌, IfOk, Option, map, string_bytes};
+ghost use Rattle.base.specs.{Kinds.kind_name, declared.ids.ObjId.ObjId as Id};
 ghost use Rattle.machine.specs.{declared.object.ObjectKind.ObjectKind as KindOfObject, WellFormed.kind_of};
 ghost use Rattle.table.specs.Rules.{kind_at};
 ghost use Rattle.captext.specs.PolicyText as policy_text;
@@ -52,42 +52,103 @@ pub fn place_names<K: KindsOfObjects>(
     ensures { IfOk result (λ names.
         map string_bytes names.items ≡ places.place_names_by (K.kinds kinds.now) table.now denial.now) }
 {
-    let names = match denial {
-        Denial::Policy(broken) => broken_names(alloc, table, broken)?,
-        Denial::Capability { slot, kind, label } => vec![in alloc;
-            slot_name(alloc, table, kinds.object_kind(slot.holder), *slot)?,
-            String::from_str(alloc, kind.name())?,
-            label_name(alloc, table, *label)?,
-        ]?,
-        Denial::Root { slot, label } => vec![in alloc;
-            slot_name(alloc, table, kinds.object_kind(slot.holder), *slot)?,
-            String::from_str(alloc, "space")?,
-            label_name(alloc, table, *label)?,
-        ]?,
-        Denial::Pair { child, parent } => vec![in alloc;
-            slot_name(alloc, table, kinds.object_kind(parent.holder), *parent)?,
-            slot_name(alloc, table, kinds.object_kind(child.holder), *child)?,
-        ]?,
-        Denial::Binding { thread, context } => vec![in alloc;
-            object_name(alloc, table, *thread)?,
-            object_name(alloc, table, *context)?,
-        ]?,
-        Denial::Holding { reply, thread } => vec![in alloc;
-            object_name(alloc, table, *reply)?,
-            object_name(alloc, table, *thread)?,
-        ]?,
+    match denial {
+        Denial::Policy(broken) => broken_names(alloc, table, broken),
+        Denial::Capability { slot, kind, label } => {
+            let holder = kinds.object_kind(slot.holder);
+            slot_names(alloc, table, holder, *slot, *kind, *label)
+        }
+        Denial::Root { slot, label } => {
+            let holder = kinds.object_kind(slot.holder);
+            slot_names(alloc, table, holder, *slot, Kind::Space, *label)
+        }
+        Denial::Pair { child, parent } => {
+            let holder = kinds.object_kind(parent.holder);
+            let holder_of_child = kinds.object_kind(child.holder);
+            pair_names(alloc, table, holder, *parent, holder_of_child, *child)
+        }
+        Denial::Binding {
+            thread: first,
+            context: second,
+        }
+        | Denial::Holding {
+            reply: first,
+            thread: second,
+        } => object_names(alloc, table, *first, *second),
         Denial::Recorded {
             thread,
             kind,
             label,
-        } => vec![in alloc;
-            object_name(alloc, table, *thread)?,
-            String::from_str(alloc, kind.name())?,
-            label_name(alloc, table, *label)?,
-        ]?,
-        Denial::Certificate { line } => vec![in alloc; format!(in alloc; "{line}")?]?,
-    };
-    Ok(names)
+        } => thread_names(alloc, table, *thread, *kind, *label),
+        Denial::Certificate { line } => vec![in alloc; format!(in alloc; "{line}")?],
+    }
+}
+
+fn slot_names(
+    alloc: Global,
+    table: &Table,
+    holder: Option<ObjectKind>,
+    slot: SlotRef,
+    kind: Kind,
+    label: Label,
+) -> Result<Vec<String>, AllocError>
+    ensures { IfOk result (λ names. map string_bytes names.items
+        ≡ places.slot_name table.now holder slot ∷ kind_name kind ∷ policy_text.label_name table.now label ∷ []) }
+{
+    vec![in alloc;
+        slot_name(alloc, table, holder, slot)?,
+        String::from_str(alloc, kind.name())?,
+        label_name(alloc, table, label)?,
+    ]
+}
+
+fn pair_names(
+    alloc: Global,
+    table: &Table,
+    holder: Option<ObjectKind>,
+    parent: SlotRef,
+    holder_of_child: Option<ObjectKind>,
+    child: SlotRef,
+) -> Result<Vec<String>, AllocError>
+    ensures { IfOk result (λ names. map string_bytes names.items
+        ≡ places.slot_name table.now holder parent ∷ places.slot_name table.now holder_of_child child ∷ []) }
+{
+    vec![in alloc;
+        slot_name(alloc, table, holder, parent)?,
+        slot_name(alloc, table, holder_of_child, child)?,
+    ]
+}
+
+fn object_names(
+    alloc: Global,
+    table: &Table,
+    first: ObjId,
+    second: ObjId,
+) -> Result<Vec<String>, AllocError>
+    ensures { IfOk result (λ names. map string_bytes names.items
+        ≡ places.object_name table.now first ∷ places.object_name table.now second ∷ []) }
+{
+    vec![in alloc;
+        object_name(alloc, table, first)?,
+        object_name(alloc, table, second)?,
+    ]
+}
+
+fn thread_names(
+    alloc: Global,
+    table: &Table,
+    thread: ObjId,
+    kind: Kind,
+    label: Label,
+) -> Result<Vec<String>, AllocError>
+    ensures { IfOk result (λ names. map string_bytes names.items
+        ≡ places.object_name table.now thread ∷ kind_name kind ∷ policy_text.label_name table.now label ∷ []) }
+{
+    vec![in alloc;
+        object_name(alloc, table, thread)?,
+        String::from_str(alloc, kind.name())?,
+        label_name(alloc, table, label)?,
+    ]
 }
 
 fn broken_names(alloc: Global, table: &Table, broken: &Broken) -> Result<Vec<String>, AllocError>
