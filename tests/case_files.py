@@ -1,0 +1,477 @@
+"""The cases of tests/worked, in the form that tests/worked/README.md tells: what each line asks for, and the answer that is expected.
+
+A `Session` goes over the lines of a file, or of a part of one that begins with a system, and gives each case with what is expected and
+what came. Whom it asks is an `Asker`: the program, or the second reading of the documents (tests/cases).
+"""
+import dataclasses
+import functools
+import json
+import pathlib
+import re
+
+WORKED = pathlib.Path(__file__).resolve().parent / "worked"
+TEXTS = ["table", "policy", "script", "certificate", "log", "claims"]
+
+# The command that a word asks for.
+ASKED = {word: [word] for word in ["run", "replay", "check", "verify", "close", "list", "draw"]}
+ASKED |= {"cert": ["check", "--cert"], "missing": ["close", "--missing"], "surplus": ["close", "--surplus"]}
+ASKED |= {"claim": ["claims"], "strongest": ["claims", "--all"]}
+
+ESCAPED = {"n": b"\n", "r": b"\r", "t": b"\t", "0": b"\0"}
+
+
+class Wrong(Exception):
+    """What is wrong with a line that tells no case."""
+
+
+@dataclasses.dataclass
+class Case:
+    """A line that was judged: what was expected, and what came; where it tells no case, what is wrong with it."""
+
+    line: int
+    what: str
+    expected: object = None
+    came: object = None
+    wrong: str = ""
+
+    def is_met(self):
+        return not self.wrong and self.expected == self.came
+
+
+class Asker:
+    """Who answers the cases."""
+
+    def answer(self, words, files):
+        """Status and standard output of a command, whose options or labels are `words[1:]`. `files` are the texts that it may read."""
+        raise NotImplementedError
+
+    def state(self, table, script, count=None):
+        """The lines that tell the state after so many events of a script, or after all."""
+        raise NotImplementedError
+
+
+# Texts, as they are written in a line.
+
+
+@functools.lru_cache(1024)
+def plain(written):
+    """The bytes that stand for a text between backquotes."""
+    first, *parts = written.split("\\")
+    told = [first.encode("latin-1")]
+    for part in parts:
+        if escape := re.match(r"x([0-9a-fA-F]{2})", part):
+            told.append(bytes([int(escape[1], 16)]) + part[3:].encode("latin-1"))
+        elif part and part[0] in ESCAPED:
+            told.append(ESCAPED[part[0]] + part[1:].encode("latin-1"))
+        else:
+            raise Wrong("after a backslash stands n, r, t, 0, or x and two digits")
+    return b"".join(told)
+
+
+def quoted(words):
+    """What stands between backquotes."""
+    if len(words) < 2 or words[0] != "`" or words[-1] != "`":
+        raise Wrong("a backquote is missing")
+    return words[1:-1]
+
+
+def number_in(word):
+    if not re.fullmatch("[0-9]+", word):
+        raise Wrong("a number is missing")
+    return int(word)
+
+
+def filled(line, number):
+    """The line for a number."""
+    first, *parts = line.split("{")
+    told = [first]
+    for part in parts:
+        what, brace, after = part.partition("}")
+        size = re.fullmatch("0x([0-9a-f]+)", what)
+        if not brace or what not in ("", "byte") and not size:
+            raise Wrong("no such word in braces")
+        told += [hex(int(size[1], 16) * number) if size else f"\\x{number:02x}" if what else str(number), after]
+    return "".join(told)
+
+
+def spread(line):
+    """A line, or as many as its `for` says."""
+    if not line.startswith("for "):
+        yield line
+        return
+    loop = re.fullmatch(r"for (\d+) to (\d+): (.*)", line)
+    if not loop or int(loop[1]) > int(loop[2]):
+        raise Wrong("a repeated line is `for FIRST to LAST: LINE`")
+    for number in range(int(loop[1]), int(loop[2]) + 1):
+        yield filled(loop[3], number)
+
+
+# Changes of a text.
+
+
+def around(text, written):
+    """What stands before and after a piece of the text."""
+    piece = plain(written)
+    at = text.find(piece)
+    if at < 0:
+        raise Wrong("the text has no such piece")
+    return text[:at], text[at + len(piece) :]
+
+
+def before_line(text, number):
+    """What stands before the line of this number, and the rest."""
+    at = 0
+    for _ in range(1, number):
+        at = text.find(b"\n", at) + 1
+        if not at:
+            raise Wrong("there is no such line in the text")
+    return text[:at], text[at:]
+
+
+def lines_in(text, words):
+    """The lines of the text that a word names: `5`, `1-3`, or `6-`."""
+    first, dash, last = words.partition("-")
+    rest = before_line(text, number_in(first))[1]
+    if dash and not last:
+        return rest
+    return before_line(rest, number_in(last or first) - number_in(first) + 2)[0]
+
+
+def changed(text, place, change):
+    """The text with a change at a place, and the line that the change begins in."""
+    if place == "lines":
+        parts = [lines_in(text, words) for words in change.split(" ")]
+        return b"".join(parts), parts[0].count(b"\n") + 1
+    new = plain(quoted(change))
+    if place == "whole":
+        return new, 1
+    if place == "before end":
+        if not text.endswith(b"end\n"):
+            raise Wrong("there is no such line in the text")
+        before, after = text[:-4], text[-4:]
+    elif place.startswith("before line "):
+        before, after = before_line(text, number_in(place.removeprefix("before line ")))
+    else:
+        before, after = around(text, quoted(place))
+    line = b"\n" if place.startswith("before ") else b""
+    return b"".join([before, new, line, after]), before.count(b"\n") + 1
+
+
+# Answers.
+
+
+def report(**keys):
+    return (json.dumps(keys, separators=(",", ":"), sort_keys=True) + "\n").encode()
+
+
+def edges_in(words):
+    return "".join(f"edge {edge}\n" for edge in words.split(", ") if edge).encode()
+
+
+def place_in(words):
+    """A rule, and the names of its place."""
+    rule, *place = words.split(" ")
+    if not place:
+        raise Wrong("a rule has a place")
+    return {"rule": rule, "place": place}
+
+
+def drawing(words):
+    labels, *arrows = words.split(", ")
+    lines = [f'"{label}"' for label in labels.split(" ") if label]
+    for arrow in arrows:
+        told = re.fullmatch(r"(\S+) (changes|takes) (\S+) by (.*)", arrow)
+        if not told:
+            raise Wrong("an arrow is told as `A changes B by EDGE` or `A takes B by EDGE`")
+        style = "style=dashed, " if told[2] == "takes" else ""
+        lines.append(f'"{told[1]}" -> "{told[3]}" [{style}label="{told[4]}"]')
+    return "".join(["digraph authority {\n", *(f"  {line}\n" for line in lines), "}\n"]).encode()
+
+
+def each(script, outcome):
+    """The log of a script of which each event has this outcome."""
+    head, end = b"confine-script 1\n", b"end\n"
+    if not script.startswith(head) or not script.endswith(end):
+        raise Wrong("the script has no header, or no end")
+    events = script[len(head) : -len(end)]
+    return b"confine-log 1\n" + events.replace(b"\n", f" = {outcome}\n".encode()) + end
+
+
+def fault(words, file, line):
+    told = re.fullmatch(r"(?:(\w+) )?([0-9]+)(?: line ([0-9]+))?", words)
+    if not told or (told[1] or file) not in TEXTS:
+        raise Wrong("there is no such answer")
+    return report(fault=int(told[2]), file=told[1] or file, line=int(told[3] or line))
+
+
+def expected(words, system, script, file, line):
+    """Status and standard output that an answer says, of a system's files, with this script, and one of them changed in a line."""
+    word, _, rest = words.partition(" ")
+    if words in ("log", "report", "certificate", "policy", "claims"):
+        return 0, system.get(words, b"")
+    if words == "accept":
+        return 0, report(verdict="accept")
+    if word == "writes":
+        return 0, plain(quoted(rest)) + b"\n"
+    if word in ("full", "take", "none"):
+        return int(word != "full"), word.encode() + b"\n" + edges_in(rest)
+    if word == "lacks":
+        return int(bool(rest)), edges_in(rest)
+    if word == "draws":
+        return 0, drawing(rest)
+    if word == "each":
+        return 0, each(script, rest)
+    if word == "hold":
+        return 0, report(claims=number_in(rest), verdict="hold")
+    if word == "broken":
+        authority, _, claim = rest.partition(" ")
+        return 1, report(authority=authority, claim=number_in(claim), verdict="broken")
+    if word == "within":
+        return 0, report(entries=number_in(rest), state="within", verdict="legal")
+    if word == "outside":
+        entries, _, rest = rest.partition(" ")
+        return 1, report(entries=number_in(entries), state="outside", verdict="legal", **place_in(rest))
+    if word == "illegal":
+        return 1, report(entry=number_in(rest), verdict="illegal")
+    if word == "deny":
+        return 1, report(verdict="deny", **place_in(rest))
+    return 2, fault(words, file, line)
+
+
+# The lines of a file.
+
+
+@functools.cache
+def system_of(name):
+    """The texts of a system. It may lack what the program says of it."""
+    folder = WORKED / "systems" / name
+    if not all((folder / file).is_file() for file in TEXTS[:3]):
+        raise Wrong("a file can't be read")
+    return {file: (folder / file).read_bytes() if (folder / file).is_file() else b"" for file in [*TEXTS, "report"]}
+
+
+@functools.cache
+def keep_log(asker, name):
+    """Wrong where the system has a log, and that isn't read as a legal one, or its events don't have it written again as it is."""
+    files = system_of(name)
+    if not files["log"]:
+        return
+    log = files["log"].decode("latin-1").split("\n")[1:-2]
+    closed = asker.answer(["close"], {"table": files["table"]})[1]
+    accepted = files | {"policy": closed, "script": script_of(log)}
+    if b'"verdict":"legal"' not in asker.answer(["replay"], accepted)[1]:
+        raise Wrong("`replay` doesn't answer that the system's log is legal")
+    if asker.answer(["run"], accepted) != (0, files["log"]):
+        raise Wrong("`run` doesn't write the system's log")
+
+
+def entry(line):
+    """A line of a log."""
+    if " = " not in line:
+        raise Wrong("an event has an outcome")
+    return line
+
+
+def log_of(log):
+    return "".join(["confine-log 1\n", *(f"{line}\n" for line in log), "end\n"]).encode("latin-1")
+
+
+def script_of(log):
+    return "".join(["confine-script 1\n", *(f"{line.partition(' = ')[0]}\n" for line in log), "end\n"]).encode("latin-1")
+
+
+class Session:
+    """A system, and how it is being tried."""
+
+    def __init__(self, asker):
+        self.asker = asker
+        self.files = dict.fromkeys([*TEXTS, "report"], b"")
+        self.asked = ["run"]
+        # What the indented lines are that follow, what they are so far, and the line that they follow.
+        self.block, self.lines, self.begun = None, [], None
+        # The lines of the log that is told, and the state that it leaves.
+        self.log, self.left = None, []
+
+    def judged(self, lines):
+        """Each case that these lines tell, which have their numbers."""
+        for number, line in lines:
+            if not line or line.lstrip().startswith("#"):
+                continue
+            if not line.startswith("  "):
+                yield from self.end()
+                self.begun = number, line
+            judging = self.indented(number, line[2:]) if line.startswith("  ") else self.begin(number, line)
+            try:
+                yield from judging
+            except Wrong as wrong:
+                yield Case(number, line.strip(), wrong=str(wrong))
+        yield from self.end()
+
+    def text(self, file):
+        if file not in TEXTS:
+            raise Wrong("there is no such line, or no such file")
+        return self.files[file]
+
+    def begin(self, number, line):
+        """Does what a line says that isn't indented."""
+        word, _, rest = line.partition(" ")
+        if word in ASKED:
+            yield self.asked_of(number, line, ASKED[word], self.files, rest, "table", 1)
+        elif word == "system":
+            self.files, self.asked = system_of(rest), ["run"]
+            keep_log(self.asker, rest)
+        elif word == "asks":
+            self.asked = command_of(rest)
+        elif word == "beginnings":
+            yield from self.beginnings(number, line, rest.removeprefix("of "))
+        elif line in ("events", "each event", "then", "leaves"):
+            if line in ("then", "leaves") and self.log is None:
+                raise Wrong("this goes on after events, and none stand before")
+            self.lines = self.log[:] if line == "then" else []
+            if line == "leaves":
+                self.left = self.asker.state(self.text("table"), script_of(self.log))
+            self.block = (line,)
+        elif word == "in":
+            file, _, place = rest.partition(" ")
+            self.text(file)
+            if place not in ("lines", "whole", "before end") and not re.fullmatch("before line [0-9]+", place):
+                quoted(place)
+            self.block = "in", file, place
+        elif rest == "is":
+            self.text(word)
+            self.block, self.lines = ("is", word), []
+        elif line != "all differ":  # which is asked of the whole file
+            self.become(word, rest)
+
+    def end(self):
+        """Ends the indented lines."""
+        (block, *of), self.block = self.block or ("none",), None
+        if block in ("events", "then"):
+            self.log = self.lines
+            yield self.run_of(*self.begun, self.log)
+        elif block != "leaves":
+            self.log = None
+        if block == "is":
+            self.files = self.files | {of[0]: "".join(f"{line}\n" for line in self.lines).encode("latin-1")}
+
+    def indented(self, number, line):
+        """Does what an indented line says, which may be told for many numbers."""
+        block, *of = self.block or ("none",)
+        for line in spread(line):
+            if block == "is":
+                self.lines.append(line)
+            elif block in ("events", "then"):
+                self.lines.append(entry(line))
+            elif block == "each event":
+                yield self.run_of(number, line, [entry(line)])
+            elif block == "leaves":
+                yield self.left_of(number, line)
+            elif block == "in":
+                yield self.change_of(number, line, *of)
+            else:
+                raise Wrong("nothing takes an indented line here")
+
+    def become(self, file, words):
+        """Gives a file another piece."""
+        text = self.text(file)
+        old, becomes, new = quoted(words).partition("` becomes `")
+        if not becomes:
+            raise Wrong("a text is, or a piece of it becomes another")
+        before, after = around(text, old)
+        self.files = self.files | {file: before + plain(new) + after}
+
+    def asked_of(self, number, line, asked, files, answer, file, at):
+        """The case that files of which one was changed, from this line on, have this answer."""
+        wanted = expected(answer, self.files, files["script"], file, at)
+        return Case(number, line, wanted, self.asker.answer(asked, files))
+
+    def run_of(self, number, line, log):
+        """The case that a script has this log."""
+        return Case(number, line, (0, log_of(log)), self.asker.answer(["run"], self.files | {"script": script_of(log)}))
+
+    def change_of(self, number, line, file, place):
+        """The case that a change has its answer."""
+        answer, colon, change = line.partition(": ")
+        if not colon:
+            raise Wrong("a case is an answer and a change")
+        text, at = changed(self.files[file], place, change)
+        return self.asked_of(number, line, self.asked, self.files | {file: text}, answer, file, at)
+
+    def beginnings(self, number, line, file):
+        """The cases that each beginning of a text but the whole has fault 50 at the line that it ends in."""
+        text = self.text(file)
+        for end in range(len(text)):
+            begun = text[:end]
+            yield self.asked_of(number, f"{line}, {end} bytes", self.asked, self.files | {file: begun}, "50", file, begun.count(b"\n") + 1)
+
+    def left_of(self, number, line):
+        """The case that a line is so of the state that is left."""
+        if line.startswith("state as "):
+            count = self.events_of(line.removeprefix("state as "))
+            other = self.asker.state(self.text("table"), script_of(self.log), count)
+            came, wanted = first_difference(self.left, other)
+        else:
+            what, colon, wanted = line.partition(": ")
+            if not colon:
+                raise Wrong("a fact stands after a slot or an object and a colon")
+            came = fact(self.left, what)
+        return Case(number, line, wanted, came)
+
+    def events_of(self, words):
+        """How many events `before` or `after K events` means."""
+        told = re.fullmatch("after (?:(1) event|([0-9]+) events)", words)
+        if not told and words != "before":
+            raise Wrong("a state is as before, or as after a number of events")
+        count = int(told[1] or told[2]) if told else len(self.log) - 1
+        if not 0 <= count < len(self.log):
+            raise Wrong("the script has no event after these")
+        return count
+
+
+def command_of(words):
+    """The command that words ask for."""
+    if words in ASKED:
+        return ASKED[words]
+    if re.fullmatch(r"why \S+ \S.*", words):
+        return words.split(" ", 2)
+    raise Wrong("there is no such command")
+
+
+def fact(state, what):
+    """What a state says of a slot or an object. An object that wasn't made yet is none."""
+    told = dict(line.partition(": ")[::2] for line in state)
+    if what in told:
+        return told[what]
+    if (made := re.fullmatch("object #([0-9]+)", what)) and int(made[1]) >= int(told["next number"]):
+        return "none"
+    raise Wrong("the state has no such slot or object")
+
+
+def first_difference(one, other):
+    """The first lines in which two states differ. They are empty where none does."""
+    for at in range(max(len(one), len(other))):
+        if one[at : at + 1] != other[at : at + 1]:
+            return "".join(one[at : at + 1]), "".join(other[at : at + 1])
+    return "", ""
+
+
+# Files.
+
+
+def lines_of(path):
+    return path.read_text("latin-1").split("\n") if path.is_file() else []
+
+
+def parts_of(path):
+    """The lines of a file with their numbers, as parts that have nothing to do with each other: each begins with a system."""
+    parts = [[]]
+    for number, line in enumerate(lines_of(path), 1):
+        if line.startswith("system "):
+            parts.append([])
+        parts[-1].append((number, line))
+    return parts
+
+
+def all_differ(path):
+    """Whether the answers of a file are wrong."""
+    return "all differ" in lines_of(path)
