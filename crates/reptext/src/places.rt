@@ -80,7 +80,7 @@ pub fn place_names<K: KindsOfObjects>(
             kind,
             label,
         } => thread_names(alloc, table, *thread, *kind, *label),
-        Denial::Certificate { line } => vec![in alloc; format!(in alloc; "{line}")?],
+        Denial::Certificate { line } => Ok(vec![in alloc; format!(in alloc; "{line}")?]?),
     }
 }
 
@@ -95,11 +95,12 @@ fn slot_names(
     ensures { IfOk result (λ names. map string_bytes names.items
         ≡ places.slot_name table.now holder slot ∷ kind_name kind ∷ policy_text.label_name table.now label ∷ []) }
 {
-    vec![in alloc;
+    let names = vec![in alloc;
         slot_name(alloc, table, holder, slot)?,
         String::from_str(alloc, kind.name())?,
         label_name(alloc, table, label)?,
-    ]
+    ]?;
+    Ok(names)
 }
 
 fn pair_names(
@@ -113,10 +114,11 @@ fn pair_names(
     ensures { IfOk result (λ names. map string_bytes names.items
         ≡ places.slot_name table.now holder parent ∷ places.slot_name table.now holder_of_child child ∷ []) }
 {
-    vec![in alloc;
+    let names = vec![in alloc;
         slot_name(alloc, table, holder, parent)?,
         slot_name(alloc, table, holder_of_child, child)?,
-    ]
+    ]?;
+    Ok(names)
 }
 
 fn object_names(
@@ -128,10 +130,11 @@ fn object_names(
     ensures { IfOk result (λ names. map string_bytes names.items
         ≡ places.object_name table.now first ∷ places.object_name table.now second ∷ []) }
 {
-    vec![in alloc;
+    let names = vec![in alloc;
         object_name(alloc, table, first)?,
         object_name(alloc, table, second)?,
-    ]
+    ]?;
+    Ok(names)
 }
 
 fn thread_names(
@@ -144,11 +147,12 @@ fn thread_names(
     ensures { IfOk result (λ names. map string_bytes names.items
         ≡ places.object_name table.now thread ∷ kind_name kind ∷ policy_text.label_name table.now label ∷ []) }
 {
-    vec![in alloc;
+    let names = vec![in alloc;
         object_name(alloc, table, thread)?,
         String::from_str(alloc, kind.name())?,
         label_name(alloc, table, label)?,
-    ]
+    ]?;
+    Ok(names)
 }
 
 fn broken_names(alloc: Global, table: &Table, broken: &Broken) -> Result<Vec<String>, AllocError>
