@@ -5,7 +5,8 @@
 mod drawing;
 mod file;
 mod laws;
-mod objects;
+mod listing;
+
 mod places;
 mod relations;
 mod reports;
@@ -13,7 +14,7 @@ mod reports;
 pub use drawing::write_drawing;
 pub use file::File;
 pub use laws::upgraded_tables_are_reported_alike;
-pub use objects::write_objects;
+pub use listing::write_objects;
 pub use places::{KindsOfObjects, place_names};
 pub use reports::{
     accept_report, broken_report, check_report, denial_text, extent_word, fault_report,

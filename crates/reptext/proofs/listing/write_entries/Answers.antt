@@ -1,6 +1,6 @@
 use Rattle.std.proofs.Common.{[], ◌∙◌, ap, arith, get_or, length}
 use Rattle.reptext.{specs.Objects.entry_words, proofs.Numbered.{all, more}}
-use Rattle.reptext.proofs.objects.write_entries.Goals as goal
+use Rattle.reptext.proofs.listing.write_entries.Goals as goal
 
 -- the next object is written with its number and its name
 pub loop-number-preserved : goal.loop-number-preserved
