@@ -6,7 +6,6 @@ mod drawing;
 mod file;
 mod laws;
 mod listing;
-
 mod places;
 mod relations;
 mod reports;
