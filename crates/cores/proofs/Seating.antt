@@ -1,11 +1,13 @@
 -- What the token of a seat knows.
-use Rattle.std.{specs.Prelude.{All, slice_get}, proofs.Common.{[], ℕ, ◌++◌, ◌+◌, ◌<◌, ◌∙◌, ◌∷◌, ◌≡◌, ◌⊎◌, List, Some, ap, arith, inl, inr}}
+use Rattle.std.{specs.Prelude.{All, slice_get}, proofs.Common.{[], ℕ, ◌++◌, ◌+◌, ◌<◌, ◌∙◌, ◌∷◌, ◌≡◌, ◌≤◌, ◌⊎◌, List, Some, ap, arith, inl, inr}}
 use Rattle.std.proofs.{Common.{length, refl, slice_index_or, subst, sym}, Math.{ListN.get_or-append, Seq.get_or-append_seam}}
 use Rattle.std.proofs.lemmas.{Bool.cases_order, List.{length_push, Elements.All-nil}, Option.{get_or_from_slice_get, same_Some}}
 use Rattle.std.proofs.lemmas.Option.{slice_get-get_or, slice_get_read}
-use Rattle.machine.specs.Machine.{Machine}
-use Rattle.cores.specs.{declared.view.{About.About, Noted.Noted, View.View}, History.IsLegal, Moves.newcomer, Rule.{about, keeper_view}}
-use Rattle.cores.specs.{Seats.{AreNew, IsOf, IsSeated, Known, Ticket, new_seat}, Tokens.Token}
+use Rattle.machine.specs.{Machine.Machine, WellFormed.IsWellFormed}
+use Rattle.kernel.specs.Legal.{Entry, Leads}
+use Rattle.cores.specs.{declared.view.{About.About, Noted.Noted, View.View}, History.{IsLegal, log_of}, Moves.newcomer, Rule.{about, keeper_view}}
+use Rattle.cores.specs.Seats.{AreNew, CanDeal, InOrder, IsOf, IsSeated, Known, Ticket, about_in, history_of, keeping_in, new_seat}
+use Rattle.cores.specs.Tokens.{IsAt, Token}
 
 -- no entry is a run of no event
 pub none_legal : (boot : Machine) (cores : List ℕ) → IsLegal boot cores []
@@ -60,3 +62,24 @@ new_are_of t seats new k d below =
     let is : slice_index_or seats k d ≡ new_seat t.table (about t.boot t.cores) t.name k core =
     get_or_from_slice_get seats k (new_seat t.table (about t.boot t.cores) t.name k core) d (new.each k core at) in
     subst (IsOf t) (sym is) (record { table = refl; start = refl; name = refl })
+
+-- what lies under the lock before any entry, once all seats are dealt
+pub in_order_first :
+    (t : Ticket) (keeper : Token) (log : List Entry) (capacity next : ℕ) → IsAt t.table keeper → CanDeal keeper.me.0 t.cores next
+    → about_in keeper.me.0 ≡ about t.boot t.cores → IsWellFormed t.boot → log ≡ [] → t.size ≤ capacity → InOrder t keeper log capacity t.boot
+in_order_first t keeper log capacity next at deals start formed empty room =
+    let none : history_of keeper ≡ [] = ap (λ (v : View). (keeping_in v).history) deals.view in
+    let is : deals.start ≡ about t.boot t.cores = sym (ap about_in deals.view) ∙ start in
+    let given : List Noted → View = λ h. keeper_view (about t.boot t.cores) (record { history = h; next = next }) in
+    let legal : IsLegal t.boot t.cores (history_of keeper) = subst (IsLegal t.boot t.cores) (sym none) (none_legal t.boot t.cores) in
+    record {
+      at = at;
+      next = next;
+      view = deals.view ∙ ap (λ (a : About). keeper_view a (record { history = []; next = next })) is ∙ ap given (sym none);
+      run = subst (λ (h : List Noted). Leads t.boot (log_of h) t.boot) (sym none) refl;
+      formed = formed;
+      on_cores = legal.on_cores;
+      logged = empty ∙ ap log_of (sym none);
+      room = room;
+      within = subst (λ (l : List Entry). length l ≤ t.size) (sym empty) (omega arith);
+    }

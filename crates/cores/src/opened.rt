@@ -2,7 +2,7 @@
 ghost use Rattle.std.specs.Prelude.{[], ◌<◌, ◌^◌, ◌≡◌, ◌≤◌, ◌⊎◌, All, IfErr, IfOk, IsErrOf, length};
 ghost use Rattle.base.specs.Refusals.{plain};
 ghost use Rattle.machine.specs.{Boot.IsBoot, WellFormed.IsWellFormed};
-ghost use Rattle.cores.specs.{Seats.{AreFresh, AreNew, CanDeal, IsOf, about_in}, Tokens.{IsAt, IsSame}};
+ghost use Rattle.cores.specs.{Rule.about, Seats.{AreFresh, AreNew, CanDeal, IsOf, about_in}, Tokens.{IsAt, IsSame}};
 
 use crate::board::{Board, Key, Token};
 use crate::desk::Desk;
@@ -73,6 +73,40 @@ fn all_seats(
     Ok(seats)
 }
 
+// A word without an entry, its keeper, and a seat for each core, in their order.
+#[derive(Drop)]
+struct Dealt {
+    board: Board,
+    keeper: Token,
+    seats: Vec<Seat>,
+}
+
+// What a kernel in this state needs besides its log.
+fn deal_all(
+    alloc: Global,
+    state: &State,
+    cores: &[CoreNo],
+    name: u64,
+) -> Result<Dealt, AllocError>
+    ensures at { IfOk result (λ d. IsAt d.board.shared.table_id d.keeper) }
+    ensures key { IfOk result (λ d. (d.board.shared.key.boot.value ≡ state.now) × (d.board.shared.key.cores.value.items ≡ cores.now)) }
+    ensures keeper { IfOk result (λ d. CanDeal d.keeper.me.0 cores.now (length cores.now) × (about_in d.keeper.me.0 ≡ about state.now cores.now)) }
+    ensures seats { IfOk result (λ d. AreFresh d.board.shared.table_id (about state.now cores.now) name d.seats.items) }
+{
+    let list = cores.to_vec(alloc)?;
+    let key = Key {
+        boot: Snapshot::of(state),
+        cores: Snapshot::of(&list),
+    };
+    let (board, mut keeper) = new_board(alloc, &key)?;
+    let seats = all_seats(alloc, &board, &mut keeper, name, cores)?;
+    Ok(Dealt {
+        board,
+        keeper,
+        seats,
+    })
+}
+
 // The kernel in this state, with its seats.
 fn begun(
     alloc: Global,
@@ -87,13 +121,11 @@ fn begun(
     ensures seats { IfOk result (λ r. AreNew r.0 r.1.items) }
 {
     let log = Vec::with_capacity(alloc, size)?;
-    let list = cores.to_vec(alloc)?;
-    let key = Key {
-        boot: Snapshot::of(&state),
-        cores: Snapshot::of(&list),
-    };
-    let (board, mut keeper) = new_board(alloc, &key)?;
-    let seats = all_seats(alloc, &board, &mut keeper, name, cores)?;
+    let Dealt {
+        board,
+        keeper,
+        seats,
+    } = deal_all(alloc, &state, cores, name)?;
     let opened = Opened {
         board,
         keeper,

@@ -1,13 +1,21 @@
--- The keeper of a new word may deal all seats.
-use Rattle.std.proofs.Common.{◌∙◌, ◌≡◌, ap, rules}
-use Rattle.cores.proofs.Visiting.{Knowing}
+use Rattle.std.proofs.Common.{ℕ, List, arith, subst, sym}
+use Rattle.std.specs.Vec.{vec_capacity}
+use Rattle.machine.specs.Machine.{Machine}
+use Rattle.cores.specs.{Rule.about, Seats.{IsOpened, ticket_of}}
+use Rattle.cores.proofs.Seating.{in_order_first}
 use Rattle.cores.proofs.opened.begun.Goals as goal
 
-pub all_seats-requires-clause-first : goal.all_seats-requires-clause-first
-all_seats-requires-clause-first c =
-    let same : c.in_ok-list.list.items ≡ c.args.cores.now = search rules in
-    record {
-      start = _;
-      of = ap (λ list. list.items) c.of-2.ensures ∙ same;
-      view = ap (λ (m : Knowing). m.0) c.in_ok-board.ensures.view;
-    }
+pub invariant_of-opened : goal.invariant_of-opened
+invariant_of-opened c =
+    let dealt = c.in_ok-board.ensures in
+    let opened : Machine → List ℕ → Type 0 = λ boot cores.
+        IsOpened (ticket_of c.in_ok-board.field-0.board.shared.table_id boot cores c.args.size c.args.name) c.in_ok-board.field-0.keeper c.in_ok-log.log.items (vec_capacity c.in_ok-log.log) c.args.state in
+    let t = ticket_of c.in_ok-board.field-0.board.shared.table_id c.args.state c.args.cores.now c.args.size c.args.name in
+    subst (λ boot. opened boot c.in_ok-board.field-0.board.shared.key.cores.value.items) (sym dealt.key.0)
+    (subst (λ cores. opened c.args.state cores) (sym dealt.key.1)
+    (record {
+      order = in_order_first t c.in_ok-board.field-0.keeper c.in_ok-log.log.items (vec_capacity c.in_ok-log.log) _ dealt.at dealt.keeper.0
+          dealt.keeper.1 c.requires.formed c.in_ok-log.ensures.items (search c.in_ok-log.ensures);
+      words = dealt.at.0;
+      small = omega (arith, c.requires.size);
+    }))
