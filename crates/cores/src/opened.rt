@@ -82,12 +82,7 @@ struct Dealt {
 }
 
 // What a kernel in this state needs besides its log.
-fn deal_all(
-    alloc: Global,
-    state: &State,
-    cores: &[CoreNo],
-    name: u64,
-) -> Result<Dealt, AllocError>
+fn deal_all(alloc: Global, state: &State, cores: &[CoreNo], name: u64) -> Result<Dealt, AllocError>
     ensures at { IfOk result (λ d. IsAt d.board.shared.table_id d.keeper) }
     ensures key { IfOk result (λ d. (d.board.shared.key.boot.value ≡ state.now) × (d.board.shared.key.cores.value.items ≡ cores.now)) }
     ensures keeper { IfOk result (λ d. CanDeal d.keeper.me.0 cores.now (length cores.now) × (about_in d.keeper.me.0 ≡ about state.now cores.now)) }
