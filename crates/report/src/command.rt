@@ -6,7 +6,7 @@ ghost use Rattle.reptext.specs.{Places.place_names, Reports.denial_report};
 ghost use Rattle.report.specs.declared.end.Asked.{Asked};
 
 use crate::load::Loaded;
-use crate::third::ThirdFile;
+use crate::third::LaterFile;
 use crate::{Asked, Finding};
 use base::Refusal;
 use reptext::denial_text;
@@ -24,7 +24,7 @@ pub(crate) struct Answer {
 
 /// A command: what its third file holds, and what it answers to what the files hold.
 pub(crate) trait Command {
-    type Third: ThirdFile;
+    type Third: LaterFile;
 
     // Which of the labels that it asks about a table lacks first, if it asks about any.
     ghost lacks: { Self → Layout → Option Asked };

@@ -6,7 +6,7 @@ ghost use Rattle.report.specs.Files.{unread_of};
 
 use crate::command::{Answer, Command};
 use crate::load::{Loaded, Stop, load};
-use crate::third::ThirdFile;
+use crate::third::LaterFile;
 use crate::{Asked, End, File, Heard, Listener, Sink, Source};
 use reptext::fault_report;
 use std::alloc::Global;

@@ -1,12 +1,12 @@
 ghost use Rattle.std.specs.Prelude.{◌≡◌, ◌≢◌, ◌⊎◌, Err, IfErr, IfOk, IfSome, Ok, false};
 ghost use Rattle.words.specs.Fault.{no_memory};
-ghost use Rattle.captext.specs.{Policies.read_policy_of, Tables.read_table_of};
+ghost use Rattle.captext.specs.Tables.{read_table_of};
 ghost use Rattle.report.specs.{Commands.{HasPolicy, HasTable, first_failed, input}, Files.{Gives, IsDeviceStop, IsStopOf, LoadsAs}};
 ghost use Rattle.report.specs.Files.{contents_of, is_unread, unread_of};
 
-use crate::third::ThirdFile;
+use crate::third::LaterFile;
 use crate::{File, Listener, ReadError, Source};
-use captext::{Fault, read_policy, read_table};
+use captext::{Fault, read_table};
 use policy::Policy;
 use std::alloc::Global;
 use table::Table;
@@ -95,28 +95,8 @@ fn load_table<S: Source, L: Listener>(
     }
 }
 
-/// The policy, with the labels of the table; the bytes are let go.
-fn load_policy<S: Source, L: Listener>(
-    alloc: Global,
-    table: &Table,
-    source: &mut S,
-    listener: &mut L,
-) -> Result<Policy, Stop>
-    requires { S.failed source.old ≡ false }
-    ensures loaded { IfSome (S.remaining source.old) (λ bytes.
-        LoadsAs result (read_policy_of table.now bytes)) }
-    ensures stops { IfErr result (λ stop. IsStopOf File.Policy stop) }
-    ensures device { S.failed source.new ≡ is_unread result }
-{
-    let bytes = read_file(alloc, File::Policy, source)?;
-    match read_policy(alloc, &bytes, table) {
-        Ok(policy) => Ok(policy),
-        Err(fault) => Err(stopped(File::Policy, &bytes, Some(table), fault, listener)),
-    }
-}
-
-/// What the third file holds; its bytes are let go.
-fn load_third<X: ThirdFile, S: Source, L: Listener>(
+/// What a later file holds; its bytes are let go.
+fn load_later<X: LaterFile, S: Source, L: Listener>(
     alloc: Global,
     table: &Table,
     source: &mut S,
@@ -130,13 +110,13 @@ fn load_third<X: ThirdFile, S: Source, L: Listener>(
 {
     let bytes = read_file(alloc, X::name(), source)?;
     match X::read(alloc, table, &bytes) {
-        Ok(third) => Ok(third),
+        Ok(held) => Ok(held),
         Err(fault) => Err(stopped(X::name(), &bytes, Some(table), fault, listener)),
     }
 }
 
 /// Loads the files one after another, up to the first that stops it.
-pub(crate) fn load<X: ThirdFile, T: Source, P: Source, S: Source, L: Listener>(
+pub(crate) fn load<X: LaterFile, T: Source, P: Source, S: Source, L: Listener>(
     alloc: Global,
     table: &mut T,
     policy: &mut P,
@@ -153,14 +133,14 @@ pub(crate) fn load<X: ThirdFile, T: Source, P: Source, S: Source, L: Listener>(
     ensures unread { unread_of result ≡ first_failed X.named (T.failed table.new) (P.failed policy.new) (S.failed third.new) }
 {
     let table = load_table(alloc, table, listener)?;
-    let policy = match load_policy(alloc, &table, policy, listener) {
+    let policy = match load_later::<Policy, P, L>(alloc, &table, policy, listener) {
         Ok(policy) => policy,
         Err(stop) => {
             drop(table);
             return Err(stop);
         }
     };
-    let third = match load_third::<X, S, L>(alloc, &table, third, listener) {
+    let third = match load_later::<X, S, L>(alloc, &table, third, listener) {
         Ok(third) => third,
         Err(stop) => {
             drop(policy);

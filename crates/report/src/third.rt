@@ -1,6 +1,7 @@
 ghost use Rattle.std.specs.Prelude.{ℕ, ◌≡◌, List, Result};
 ghost use Rattle.machine.specs.Layout.{Layout};
 ghost use Rattle.words.specs.{declared.faults.Fault.Fault, Reading.Reads};
+ghost use Rattle.captext.specs.Policies.{read_policy_of};
 ghost use Rattle.evtext.specs.{Log.read_log_of, Script.read_script_of};
 ghost use Rattle.certificate.specs.Reading.{read_certificate_of};
 ghost use Rattle.claims.specs.Reading.{read_claims_of};
@@ -13,12 +14,13 @@ use certificate::Certificate;
 use claims::Claims;
 use evtext::{read_log, read_script};
 use machine::{Event, Log, Outcome};
+use policy::Policy;
 use std::alloc::Global;
 use std::marker::Model;
 use table::Table;
 
-/// What a command's third file holds.
-pub(crate) trait ThirdFile: Drop {
+/// What a file holds that is read after the table.
+pub(crate) trait LaterFile: Drop {
     // The file's name, and how its text is read.
     ghost named: { File };
 
@@ -39,7 +41,7 @@ pub(crate) trait ThirdFile: Drop {
 }
 
 /// No third file: it has a name that is never told, as no device can fail.
-impl ThirdFile for () {
+impl LaterFile for () {
     ghost named = { file.Policy };
 
     ghost read_of = { read_nothing };
@@ -54,7 +56,21 @@ impl ThirdFile for () {
     }
 }
 
-impl ThirdFile for Certificate {
+impl LaterFile for Policy {
+    ghost named = { file.Policy };
+
+    ghost read_of = { read_policy_of };
+
+    fn name() -> File {
+        File::Policy
+    }
+
+    fn read(alloc: Global, table: &Table, bytes: &[u8]) -> Result<Policy, Fault> {
+        captext::read_policy(alloc, bytes, table)
+    }
+}
+
+impl LaterFile for Certificate {
     ghost named = { file.Certificate };
 
     ghost read_of = { read_certificate_of };
@@ -86,7 +102,7 @@ impl Model for Script {
     ghost invariant = { λ script. length script.events.items ≤ MAX_EVENTS };
 }
 
-impl ThirdFile for Script {
+impl LaterFile for Script {
     ghost named = { file.Script };
 
     ghost read_of = { λ table. read_script_of };
@@ -118,7 +134,7 @@ impl Model for Entries {
     ghost view = { λ log. log.entries.items };
 }
 
-impl ThirdFile for Entries {
+impl LaterFile for Entries {
     ghost named = { file.Log };
 
     ghost read_of = { λ table. read_log_of };
@@ -139,7 +155,7 @@ impl ThirdFile for Entries {
     }
 }
 
-impl ThirdFile for Claims {
+impl LaterFile for Claims {
     ghost named = { file.Claims };
 
     ghost read_of = { read_claims_of };

@@ -6,7 +6,7 @@ use Rattle.report.proofs.engine.carry_out.Goals as goal
 pub returns : goal.returns
 returns g c =
     let command = g.C.Command in
-    let third = g.C.Third.ThirdFile in
+    let third = g.C.Third.LaterFile in
     let judges = command.judges c.args.command.now in
     let held = contents_of third.named third.read_of (g.T.Source.remaining c.args.table.now) (g.P.Source.remaining c.args.policy.now) (g.S.Source.remaining c.args.third.now) in
     let right = at_contents judges c.load-loaded.result c.answer-answer.result held c.load-loaded.ensures.loaded c.answer-answer.ensures.right in
