@@ -1,15 +1,20 @@
 """Policies that have each edge of a pattern but one, over 4, 64 and 256 labels, of which tests/differential asks `check`.
 
 Over four labels each edge of each of three patterns is left out in turn, and the second reading scans the whole policy. Over more it would
-take minutes. There a policy has all edges, or all but those of some kinds, and what is wanted is what the second reading answers to a few
-of the labels: 0, 1 and 2, those of the edge that is missing, and those of the table's objects. The others are like the first three, and
-come behind them, so no place that is told first has one of them.
+take minutes. Over 64 a policy has all edges but one, or all, and is scanned as a whole too, but by rows: what a label has of a kind is one
+number. On policies over fewer labels this scan has to find what the reading finds. Over 256 a policy has all edges, or all but those of
+some kinds, and what is wanted is what the second reading answers to a few of the labels: 0, 1 and 2, those of the edge that is missing, and
+those of the table's objects. The others are like the first three, and come behind them, so no place that is told first has one of them.
 """
 import json
+import random
 import re
 
 import commands
+import kernel
+import policies
 import texts
+from policies import CALL, CONTEXT, CONTROL, DERIVE, GRANT, HOLDS, PLAIN, RECEIVE, REPLY, RUNS, SCHEDCONTROL, SPACE
 
 # Over four labels and over 64.
 
@@ -104,6 +109,85 @@ def whole_of(labels, kinds):
     return texts.text_of("confine-policy 1", [row + f"\n{row}".join(names) for row in rows]).encode()
 
 
+# The scan by rows: in `row[kind][a]` the bit b is set if the policy has the edge `a kind b`.
+
+def rows_of(edges, count):
+    """The rows of a policy, as policies.py has it."""
+    row = [[0] * count for _ in texts.KINDS]
+    for a, kind, b in edges:
+        row[kind][a] |= 1 << b
+    return row
+
+
+def in_row(bits):
+    """The labels of a row, from the least."""
+    while bits:
+        yield (bits & -bits).bit_length() - 1
+        bits &= bits - 1
+
+
+def union(rows):
+    bits = 0
+    for more in rows:
+        bits |= more
+    return bits
+
+
+def turned(rows):
+    """For each label the row of those that have it in theirs."""
+    return [sum(1 << a for a, bits in enumerate(rows) if bits >> b & 1) for b in range(len(rows))]
+
+
+def lacks(row):
+    """What P1 to P8 look at, by rule and place, as (rule, place without its last label, row of the labels that are lacking there)."""
+    labels = range(len(row[CONTROL]))
+    domain = [row[SPACE][a] | row[CONTROL][a] for a in labels]
+    of_domain, repliers, receivers = turned(domain), turned(row[REPLY]), turned(row[RECEIVE])
+    granted = [union(receivers[e] for e in in_row(row[GRANT][a])) for a in labels]
+    callers = [sum(1 << c for c in labels if row[CALL][c] & row[RECEIVE][b]) for b in labels]
+    for a in labels:
+        for b in in_row(domain[a]):
+            for k in PLAIN:
+                yield "P1", (a, b, k), row[k][a] ^ row[k][b]
+    for a in labels:
+        for k in [*PLAIN, SPACE]:
+            if k != SCHEDCONTROL:
+                yield "P2", (a, k), row[CONTROL][a] & ~row[k][a]
+    for a in labels:
+        for b in in_row(granted[a]):
+            for k in PLAIN:
+                yield "P3", (a, b, k), row[k][a] & ~row[k][b]
+    for x in labels:
+        yield "P4", (x, DERIVE), union(domain[a] for a in in_row(of_domain[x])) & ~row[DERIVE][x]
+    given = [union(domain[b] for b in in_row(granted[a])) for a in labels]
+    for x in labels:
+        joined = union(row[DERIVE][y] for y in in_row(row[DERIVE][x]))
+        yield "P5", (x, DERIVE), (union(given[a] for a in in_row(of_domain[x])) | joined) & ~row[DERIVE][x]
+    for a in labels:
+        yield "P6", (a, RUNS), row[CONTEXT][a] & ~row[RUNS][a]
+    for r in labels:
+        yield "P7", (r, HOLDS), union(1 << b | callers[b] for b in in_row(repliers[r])) & ~row[HOLDS][r]
+    for b in labels:
+        yield "P8", (b, RUNS), union(row[RUNS][c] for c in in_row(callers[b])) & ~row[RUNS][b]
+
+
+def first_lacking(row):
+    """What policies.first_broken answers."""
+    return next(((rule, (*place, next(in_row(bits)))) for rule, place, bits in lacks(row) if bits), None)
+
+
+def denial(table, row):
+    """What commands.denial answers. A1 to A4 ask for no edges but those that the table gives."""
+    if broken := first_lacking(row):
+        return broken[0], policies.rule_names(*broken, table)
+    state = kernel.boot(table)
+    edges = {(a, k, b) for *_, (a, k, b) in commands.authority(table, state) if row[k][a] >> b & 1}
+    outside = commands.outside(table, edges, state)
+    return outside and (outside[0], outside[2])
+
+
+# The comparisons.
+
 def compare_each(comparison):
     """Compares the verdicts on the policies over four labels. What they are to be by their patterns is counted too."""
     table, first = table_of(SMALL, range(4)), set()
@@ -119,6 +203,39 @@ def compare_each(comparison):
             first.add(json.loads(commands.answer("check", [*files.values()])[1]).get("rule"))
     unbroken = sorted(RULES - first)
     comparison.hold(f"no policy over four labels that lacks one edge breaks {unbroken} first", not unbroken)
+
+
+def hold_scan(comparison):
+    """Holds the scan by rows against the second reading: on the policies over four labels, and on some made at random, closed ones too."""
+    table, otherwise, r = texts.read_table(table_of(SMALL, range(4))), [], random.Random(1)
+    for _, has, _ in PATTERNS:
+        edges = {(a, k, b) for a in range(4) for k, kind in enumerate(texts.KINDS) for b in range(4) if has(a, kind, b)}
+        for policy in [edges, *(edges - {edge} for edge in edges)]:
+            otherwise += [policy] * (denial(table, rows_of(policy, 4)) != commands.denial(table, policy))
+    for _ in range(400):
+        count, kinds = r.randint(3, 6), r.choice([range(17), [GRANT, RECEIVE, SPACE], [CALL, RECEIVE, REPLY, RUNS, CONTEXT]])
+        some = {(r.randrange(count), r.choice(kinds), r.randrange(count)) for _ in range(r.randint(1, 9))}
+        closed = policies.close(some, count)
+        for policy in [some, closed, closed - {r.choice(sorted(closed))}]:
+            otherwise += [policy] * (first_lacking(rows_of(policy, count)) != policies.first_broken(policy, count))
+    comparison.hold(f"the scan by rows finds otherwise than the second reading in {otherwise[:1]}", not otherwise)
+
+
+def compare_scanned(comparison, count):
+    """Compares the reports on policies over so many labels that have all edges, or all but one. With all each label reaches each."""
+    labels = [f"l{label}" for label in range(count)]
+    given, whole = table_of(SMALL, range(count)), whole_of(range(count), texts.KINDS)
+    table, each = texts.read_table(given), {label: labels for label in labels}
+    for edge in [None, *SPREAD]:
+        row, line = [[(1 << count) - 1] * count for _ in texts.KINDS], f"{line_of(*edge)}\n" if edge else ""
+        if edge:
+            row[texts.KINDS.index(edge[1])][edge[0]] ^= 1 << edge[2]
+        broken = denial(table, row)
+        deny = broken and commands.report(rule=broken[0], place=broken[1], verdict="deny")
+        wanted = (1, deny) if broken else (0, commands.report(caps=len(table.caps), full=each, cut=each, verdict="accept"))
+        status, out, _ = comparison.of_program(["check"], {"table": given, "policy": whole.replace(line.encode(), b"")})
+        said = f"the program, with status {status}:\n{out.decode()}the scan, with status {wanted[0]}:\n{wanted[1]}"
+        comparison.hold(f"check with {count} labels, and all edges but `{line.strip()}`\n{said}", (status, out.decode()) == wanted)
 
 
 def told(out, few):
@@ -148,6 +265,7 @@ def compare_many(comparison, system, count, without, lacking):
 
 def compare_lacking(comparison):
     compare_each(comparison)
-    compare_many(comparison, SMALL, 64, [], [None, *SPREAD])
+    hold_scan(comparison)
+    compare_scanned(comparison, 64)
     for without, lacking in LACKING:
         compare_many(comparison, WIDE, 256, without, lacking)
