@@ -37,11 +37,6 @@ AreOpenedBy opens = OnEach (λ name file. IsOpenedBy opens name.now file)
 abbrev pub AreSound : {F : Type 0} → Request (Opened F) → Type 0
 AreSound files = OnEach (λ file also. failed_of file ≡ false) files files
 
--- the files are a table, a policy and a third file
-abbrev pub AreThree : {N : Type 0} → Request N → Type 0
-AreThree (request.OfThree asked table policy third) = Unit {0}
-AreThree _ = ⊥
-
 -- what is asked of a table was done
 abbrev pub ServesTable : {T O : Type 0} → OfTable → Input T → Output O → End → Type 0
 ServesTable (of_table.Start on_close) = IsStarted on_close

@@ -25,7 +25,7 @@ use verdict::Denial;
 pub struct Explainer<'a, R> {
     rt: &'a R,
     invocation: Invocation<'a>,
-    /// Copies of a table and a policy, of which [`Explainer::tell_rest`] tells more when all is done.
+    /// Copies of a table and a policy of which more is told when all is done.
     kept: Option<(Table, Policy)>,
 }
 
@@ -36,6 +36,11 @@ impl<'a, R: AllocGlobal + Eprint> Explainer<'a, R> {
             invocation,
             kept: None,
         }
+    }
+
+    /// A table and a policy of which [`tell_kept`] is to tell more.
+    pub fn kept(&self) -> Option<&(Table, Policy)> {
+        self.kept.as_ref()
     }
 
     /// Tells which file couldn't be read, if one couldn't, and why.
@@ -137,24 +142,6 @@ impl<'a, R: AllocGlobal + Eprint> Explainer<'a, R> {
         }
         if let Ok(lines) = explain_reach(alloc, table, policy) {
             let _ = self.rt.eprint(lines);
-        }
-    }
-}
-
-impl<R: AllocGlobal + Eprint + Threads + Sync> Explainer<'_, R> {
-    /// Tells whence each edge of a reason comes; or, of a closing, what asks for each edge that a policy lacks.
-    pub fn tell_rest(&self) {
-        if let Some((table, policy)) = &self.kept {
-            let alloc = self.rt.alloc();
-            let lines = match self.invocation.request {
-                Request::OfSystem(OfSystem::Why { actor, object }, file, _) => {
-                    explain_why(self.rt, alloc, file, table, policy, actor, object)
-                }
-                _ => explain_closing(self.rt, alloc, table, policy),
-            };
-            if let Ok(lines) = lines {
-                let _ = self.rt.eprint(lines);
-            }
         }
     }
 }
@@ -271,6 +258,25 @@ fn fault_told(
         None => Vec::new(alloc),
     };
     Ok(explain_fault(alloc, kind, name, text, &declared, fault)?)
+}
+
+/// Tells whence each edge of a reason comes; or, of a closing, what asks for each edge that a policy lacks.
+pub fn tell_kept<R: AllocGlobal + Eprint + Threads + Sync>(
+    rt: &R,
+    request: Request<'_, &str>,
+    table: &Table,
+    policy: &Policy,
+) {
+    let alloc = rt.alloc();
+    let lines = match request {
+        Request::OfSystem(OfSystem::Why { actor, object }, file, _) => {
+            explain_why(rt, alloc, file, table, policy, actor, object)
+        }
+        _ => explain_closing(rt, alloc, table, policy),
+    };
+    if let Ok(lines) = lines {
+        let _ = rt.eprint(lines);
+    }
 }
 
 /// Copies of a table and a policy, if memory isn't refused.

@@ -27,7 +27,7 @@ pub fn open<R: Files>(rt: &R, path: &str) -> io::Result<Bounded<R::File>>
 pub type Opened<F> = Watched<Either<F, Unopened>>;
 
 /// The file of this name.
-fn open_by<F, O: Fn(&str) -> io::Result<F>>(opener: &O, name: &str) -> Opened<F>
+pub(crate) fn open_by<F, O: Fn(&str) -> io::Result<F>>(opener: &O, name: &str) -> Opened<F>
     requires { O.IsAlwaysCallable opener.now }
     ensures opened { IsOpenedBy (FnReturnsAt O.Fn opener.now) name.now result }
     ensures sound { failed_of result ≡ false }

@@ -4,7 +4,7 @@
 ghost use Rattle.std.specs.{Fn.FnReturnsAt, Prelude.{◌≡◌, ◌≤◌, IfOk, IsErr, OnErr, false}};
 ghost use Rattle.devices.specs.Watched.{failed_of};
 ghost use Rattle.report.specs.{Commands.{input, output}, Ends.status_of};
-ghost use Rattle.confine.specs.Opening.{AreSound, AreThree, IsServed, RunsSplit, names_of, Serves, ServesSystem, ServesTable, ServesThree, written};
+ghost use Rattle.confine.specs.Opening.{AreSound, IsServed, RunsSplit, names_of, Serves, ServesSystem, ServesTable, ServesThree, written};
 ghost use Rattle.confine.specs.Requests.{HasFewWorkers, IsWithinLimits, OnInTurn};
 
 mod explaining;
@@ -13,8 +13,8 @@ mod help;
 mod request;
 
 use clap::error::ErrorKind;
-use explaining::Explainer;
-use files::{Opened, open_all};
+use explaining::{Explainer, tell_kept};
+use files::{Opened, open_all, open_by};
 use report::{
     End, Listener, Open, Sink, Source, Watched, check, check_claims, close, draw, list, replay,
     run, run_split, start, verify, why, write_claims,
@@ -92,12 +92,14 @@ where
     ensures served { IsServed (FnReturnsAt O.Fn opener.now) (Serves F.remaining (written W.contents out.old out.new)) invocation.entry.request result.1 result.0 }
     ensures exit { result.0 ≤ 2 }
 {
-    let mut files = open_all(opener, invocation.request);
+    let files = open_all(opener, invocation.request);
     let mut explainer = Explainer::new(rt, invocation);
-    let end = serve(rt, &mut files, &mut explainer, out);
+    let (end, files) = serve(rt, files, &mut explainer, out);
     let status = tell(rt, end);
     explainer.hear_end(end, &files);
-    explainer.tell_rest();
+    if let Some((table, policy)) = explainer.kept() {
+        tell_kept(rt, invocation.request, table, policy);
+    }
     (status, files)
 }
 
@@ -119,67 +121,64 @@ where
     ensures served { IsServed (FnReturnsAt O.Fn opener.now) (RunsSplit F.remaining (written W.contents out.old out.new)) (names_of run.entry) result.1 result.0 }
     ensures exit { result.0 ≤ 2 }
 {
-    let invocation = run.invocation();
-    let mut files = open_all(opener, invocation.request);
-    let mut explainer = Explainer::new(rt, invocation);
-    let end = serve_split(rt, &mut files, &mut explainer, out);
+    let mut table = open_by(opener, run.table);
+    let mut policy = open_by(opener, run.policy);
+    let mut script = open_by(opener, run.script);
+    let mut explainer = Explainer::new(rt, run.invocation());
+    let end = run_split(
+        rt,
+        rt.alloc(),
+        &mut table,
+        &mut policy,
+        &mut script,
+        &Open,
+        &mut explainer,
+        out,
+    );
     let status = tell(rt, end);
+    let files = Request::OfThree(OfThree::Run, table, policy, script);
     explainer.hear_end(end, &files);
     (status, files)
 }
 
-/// Runs the script of these files by a worker for each core.
-fn serve_split<R, F, L, W>(
+/// Does what was asked for, on these files; gives them back.
+fn serve<'a, R, F, L, W>(
     rt: &R,
-    files: &mut Request<'_, Opened<F>>,
+    files: Request<'a, Opened<F>>,
     listener: &mut L,
     out: &mut Watched<W>,
-) -> End
-where
-    R: AllocGlobal + Threads + Wait + Sync,
-    F: Read + Drop,
-    L: Listener,
-    W: Write,
-    requires three { AreThree files.old }
-    requires files { AreSound files.old }
-    requires out { failed_of out.old ≡ false }
-    ensures served { RunsSplit F.remaining (written W.contents out.old out.new) files.old files.new result }
-    ensures exit { status_of result ≤ 2 }
-{
-    match files {
-        Request::OfThree(_, table, policy, script) => {
-            let alloc = rt.alloc();
-            run_split(rt, alloc, table, policy, script, &Open, listener, out)
-        }
-        _ => unreachable!(),
-    }
-}
-
-/// Does what was asked for, on these files.
-fn serve<R, F, L, W>(
-    rt: &R,
-    files: &mut Request<'_, Opened<F>>,
-    listener: &mut L,
-    out: &mut Watched<W>,
-) -> End
+) -> (End, Request<'a, Opened<F>>)
 where
     R: AllocGlobal + Threads + Sync,
     F: Read + Drop,
     L: Listener,
     W: Write,
-    requires files { AreSound files.old }
-    requires limits { IsWithinLimits files.old }
+    requires files { AreSound files }
+    requires limits { IsWithinLimits files }
     requires out { failed_of out.old ≡ false }
-    ensures served { Serves F.remaining (written W.contents out.old out.new) files.old files.new result }
-    ensures exit { status_of result ≤ 2 }
+    ensures served { Serves F.remaining (written W.contents out.old out.new) files.entry result.1 result.0 }
+    ensures exit { status_of result.0 ≤ 2 }
 {
     match files {
-        Request::OfTable(asked, table) => serve_table(rt.alloc(), *asked, table, listener, out),
-        Request::OfSystem(asked, table, policy) => {
-            serve_system(rt, *asked, table, policy, listener, out)
+        Request::OfTable(asked, mut table) => {
+            let end = serve_table(rt.alloc(), asked, &mut table, listener, out);
+            (end, Request::OfTable(asked, table))
         }
-        Request::OfThree(asked, table, policy, third) => {
-            serve_three(rt, *asked, table, policy, third, listener, out)
+        Request::OfSystem(asked, mut table, mut policy) => {
+            let end = serve_system(rt, asked, &mut table, &mut policy, listener, out);
+            (end, Request::OfSystem(asked, table, policy))
+        }
+        Request::OfThree(asked, mut table, mut policy, mut third) => {
+            let end = serve_three(
+                rt,
+                asked,
+                &mut table,
+                &mut policy,
+                &mut third,
+                listener,
+                out,
+            );
+            (end, Request::OfThree(asked, table, policy, third))
         }
     }
 }

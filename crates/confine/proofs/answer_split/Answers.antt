@@ -1,0 +1,12 @@
+use Rattle.std.proofs.Common.{refl, sym}
+use Rattle.confine.specs.declared.request.{OfThree.TheVariants.Run, Request.TheVariants.OfThree}
+use Rattle.confine.proofs.answer_split.Goals as goal
+
+pub returns-clause-served : goal.returns-clause-served
+returns-clause-served g c = record {
+  files = OfThree Run c.open_by-table.result c.open_by-policy.result c.open_by-script.result;
+  end = c.run_split-end.result;
+  opened = (refl, c.open_by-table.ensures.opened, c.open_by-policy.ensures.opened, c.open_by-script.ensures.opened);
+  done = c.run_split-end.ensures;
+  exit = sym c.tell-status.ensures;
+}
