@@ -15,4 +15,4 @@ pub use shapes::{Place, slot};
 pub use spelling::{slots_are_read_back, terms_are_read_back};
 pub use tables::{lines_are_read_back, read_table, tables_are_read_back};
 pub use words::{Fault, Lines};
-pub use write::{label_name, object_name, place_in, write_edges, write_policy, write_table};
+pub use write::{SlotName, label_name, object_name, write_edges, write_policy, write_table};

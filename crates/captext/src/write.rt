@@ -6,7 +6,7 @@ ghost use Rattle.words.specs.Text.{line_text, text_of};
 ghost use Rattle.table.specs.Rules.{kind_at};
 ghost use Rattle.captext.specs.{Policies.read_policy_of, PolicyText.{IsEdgeOf, edge_lines, edge_words, label_name, policy_text}};
 ghost use Rattle.captext.specs.{Spelling.place_word, TableText.{binding_words, cap_words, content_words, detail_words}};
-ghost use Rattle.captext.specs.TableText.{label_lines, object_lines, object_name, object_words, pair_words, place_in, share_words};
+ghost use Rattle.captext.specs.TableText.{label_lines, object_lines, object_name, object_words, pair_words, place_in, share_words, slot_name};
 ghost use Rattle.captext.specs.{TableText.{table_lines, table_text}, Tables.read_table_of};
 
 use crate::shapes::Place;
@@ -170,7 +170,7 @@ pub fn object_name(table: &Table, id: ObjId) -> &str
 }
 
 /// A slot's place in its holder.
-pub fn place_in(table: &Table, slot: SlotRef) -> Place
+fn place_in(table: &Table, slot: SlotRef) -> Place
     ensures { result ≡ place_in (kind_at table.now slot.holder) slot.index }
 {
     match table.kind(slot.holder) {
@@ -187,6 +187,23 @@ impl fmt::Display for Place {
             Place::Index(index) => write!(f, "{index}"),
             Place::Root => write!(f, "root"),
         }
+    }
+}
+
+/// A slot by the name that a table gives it: `space.0`, or of a thread `main.root`.
+#[derive(Clone, Copy)]
+pub struct SlotName<'a> {
+    pub table: &'a Table,
+    pub slot: SlotRef,
+}
+
+impl fmt::Display for SlotName<'_> {
+    ghost output = { λ name. Some (slot_name name.table.now name.slot) };
+
+    fn fmt<W: fmt::Write>(&self, f: &mut fmt::Formatter<W>) -> fmt::Result {
+        let holder = object_name(self.table, self.slot.holder);
+        let place = place_in(self.table, self.slot);
+        write!(f, "{holder}.{place}")
     }
 }
 
@@ -278,10 +295,12 @@ impl Line for Filled {
 
     #[tactic(auto, using(crate::proofs::Written::line_begun))]
     fn write(&self, text: &mut String, table: &Table) -> Result<(), AllocError> {
-        let holder = object_name(table, self.slot.holder);
-        let place = place_in(table, self.slot);
+        let slot = SlotName {
+            table,
+            slot: self.slot,
+        };
         let object = object_name(table, self.cap.object);
-        write!(text, "cap {holder}.{place} {object}")?;
+        write!(text, "cap {slot} {object}")?;
         write_detail(text, &self.cap.detail)
     }
 }
@@ -306,11 +325,15 @@ impl Line for Pair {
     ghost words = { pair_words };
 
     fn write(&self, text: &mut String, table: &Table) -> Result<(), AllocError> {
-        let parent = object_name(table, self.parent.holder);
-        let parent_place = place_in(table, self.parent);
-        let child = object_name(table, self.child.holder);
-        let child_place = place_in(table, self.child);
-        writeln!(text, "child {parent}.{parent_place} {child}.{child_place}")
+        let parent = SlotName {
+            table,
+            slot: self.parent,
+        };
+        let child = SlotName {
+            table,
+            slot: self.child,
+        };
+        writeln!(text, "child {parent} {child}")
     }
 }
 

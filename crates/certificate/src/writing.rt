@@ -6,7 +6,7 @@ ghost use Rattle.certificate.specs.{Certificate.{IsCertificateOf, certificate_te
 use crate::kinds::kinds_string;
 use crate::line::{Certificate, Line};
 use base::Refusal;
-use captext::{label_name, object_name, place_in};
+use captext::{SlotName, label_name, object_name};
 use std::alloc::{AllocError, Global};
 use table::Table;
 
@@ -55,19 +55,17 @@ fn write_line(
             kinds,
             to,
         } => {
-            let holder = object_name(table, slot.holder);
-            let place = place_in(table, slot);
+            let slot = SlotName { table, slot };
             let from = label_name(table, from);
             let to = label_name(table, to);
             let kinds = kinds_string(alloc, kinds)?;
-            writeln!(text, "cap {holder}.{place} {from} {kinds} {to}")
+            writeln!(text, "cap {slot} {from} {kinds} {to}")
         }
         Line::Space { slot, from, to } => {
-            let holder = object_name(table, slot.holder);
-            let place = place_in(table, slot);
+            let slot = SlotName { table, slot };
             let from = label_name(table, from);
             let to = label_name(table, to);
-            writeln!(text, "space {holder}.{place} {from} {to}")
+            writeln!(text, "space {slot} {from} {to}")
         }
         Line::Derive {
             parent,
@@ -75,13 +73,14 @@ fn write_line(
             from,
             to,
         } => {
-            let above = object_name(table, parent.holder);
-            let parent = place_in(table, parent);
-            let below = object_name(table, child.holder);
-            let child = place_in(table, child);
+            let parent = SlotName {
+                table,
+                slot: parent,
+            };
+            let child = SlotName { table, slot: child };
             let from = label_name(table, from);
             let to = label_name(table, to);
-            writeln!(text, "derive {above}.{parent} {below}.{child} {from} {to}")
+            writeln!(text, "derive {parent} {child} {from} {to}")
         }
         Line::Runs {
             thread,

@@ -1,26 +1,11 @@
 //! The sentences on denials: why a rule is broken, and what mends it beside the edge.
 use base::{Edge, Kind, Label, ObjId, SlotRef};
-use captext::{label_name, object_name, place_in};
+use captext::{SlotName, label_name, object_name};
 use labels::declared_label;
 use policy::Broken;
 use std::fmt::{self, Display};
 use table::Table;
 use verdict::Denial;
-
-/// A slot as a table spells it: `space.0`, or of a thread `main.root`.
-#[derive(Clone, Copy)]
-pub(crate) struct SlotName<'a> {
-    pub table: &'a Table,
-    pub slot: SlotRef,
-}
-
-impl fmt::Display for SlotName<'_> {
-    fn fmt<W: fmt::Write>(&self, f: &mut fmt::Formatter<W>) -> fmt::Result {
-        let holder = object_name(self.table, self.slot.holder);
-        let place = place_in(self.table, self.slot);
-        write!(f, "{holder}.{place}")
-    }
-}
 
 /// An edge as a line of a policy has it.
 #[derive(Clone, Copy)]

@@ -123,13 +123,14 @@ fn syntax_flaw<'a>(
     if let Some(flaw) = shape_flaw(form, event) {
         return Some(Flaw::Word(form, flaw));
     }
-    match kind {
-        Text::Log => Some(Flaw::Outcome(outcome_flaw(row.text.split_once(" = ")?.1)?)),
-        Text::Policy => Some(Flaw::Edge(edge_flaw(declared, row, above(row, before))?)),
-        Text::Claims => Some(Flaw::Claim(claim_flaw(declared, row, above(row, before))?)),
-        Text::Table => Some(Flaw::Order(order_flaw(declared, form, row)?)),
-        _ => None,
-    }
+    let flaw = match kind {
+        Text::Log => Flaw::Outcome(outcome_flaw(row.text.split_once(" = ")?.1)?),
+        Text::Policy => Flaw::Edge(edge_flaw(declared, row, above(row, before))?),
+        Text::Claims => Flaw::Claim(claim_flaw(declared, row, above(row, before))?),
+        Text::Table => Flaw::Order(order_flaw(declared, form, row)?),
+        _ => return None,
+    };
+    Some(flaw)
 }
 
 // The line before.
@@ -149,21 +150,20 @@ fn meaning_flaw<'a>(
     row: Row<'a>,
 ) -> Option<Flaw<'a>> {
     let is_numbers = number == 54 && !has_slots(form);
-    if is_numbers {
-        return Some(Flaw::Limit(limit_flaw(declared, kind, form, row)?));
-    }
-    if declared.text.is_empty() {
+    if declared.text.is_empty() && !is_numbers {
         return None;
     }
-    match number {
-        51 => Some(Flaw::Known(known_flaw(declared, kind, form, row)?)),
-        52 => Some(Flaw::Twice(twice_flaw(declared, form, row)?)),
-        53 => Some(Flaw::Placed(placed_flaw(declared, form, row)?)),
-        54 => Some(Flaw::Slot(slot_flaw(declared, form, row)?)),
-        55 => Some(Flaw::Kind(kind_flaw(declared, form, row)?)),
-        56 => Some(Flaw::Tree(tree_flaw(declared, row)?)),
-        _ => None,
-    }
+    let flaw = match number {
+        51 => Flaw::Known(known_flaw(declared, kind, form, row)?),
+        52 => Flaw::Twice(twice_flaw(declared, form, row)?),
+        53 => Flaw::Placed(placed_flaw(declared, form, row)?),
+        54 if is_numbers => Flaw::Limit(limit_flaw(declared, kind, form, row)?),
+        54 => Flaw::Slot(slot_flaw(declared, form, row)?),
+        55 => Flaw::Kind(kind_flaw(declared, form, row)?),
+        56 => Flaw::Tree(tree_flaw(declared, row)?),
+        _ => return None,
+    };
+    Some(flaw)
 }
 
 fn has_slots(form: Form) -> bool {

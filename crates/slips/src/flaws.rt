@@ -8,7 +8,7 @@ use crate::names::{KnownFlaw, TwiceFlaw};
 use crate::order::{OrderFlaw, Ranked};
 use crate::tree::TreeFlaw;
 use forms::{Form, LayoutFlaw, OfLayout, OutcomeFlaw, Text, WordFlaw};
-use std::fmt;
+use std::fmt::{self, Display};
 
 /// The condition that a line doesn't meet.
 #[derive(Clone, Copy)]
@@ -37,28 +37,28 @@ impl fmt::Display for Flaw<'_> {
         match *self {
             Flaw::NoLine(kind, 1) => {
                 let flaw = LayoutFlaw::NoHeader;
-                write!(f, "{}", OfLayout { kind, flaw })
+                OfLayout { kind, flaw }.fmt(f)
             }
             Flaw::NoLine(_, _) => f.write_str("the text ends without the line `end`"),
-            Flaw::Layout(kind, flaw) => write!(f, "{}", OfLayout { kind, flaw }),
+            Flaw::Layout(kind, flaw) => OfLayout { kind, flaw }.fmt(f),
             Flaw::Word(form, flaw) => match flaw {
                 WordFlaw::Missing(_) | WordFlaw::TooMany(_) => {
                     let words = form.words();
                     write!(f, "{flaw}: expected {words}")
                 }
-                _ => write!(f, "{flaw}"),
+                _ => flaw.fmt(f),
             },
-            Flaw::Outcome(flaw) => write!(f, "{flaw}"),
-            Flaw::Order(flaw) => write!(f, "{flaw}"),
-            Flaw::Edge(flaw) => write!(f, "{flaw}"),
-            Flaw::Claim(flaw) => write!(f, "{flaw}"),
-            Flaw::Known(flaw) => write!(f, "{flaw}"),
-            Flaw::Twice(flaw) => write!(f, "{flaw}"),
-            Flaw::Placed(flaw) => write!(f, "{flaw}"),
-            Flaw::Limit(flaw) => write!(f, "{flaw}"),
-            Flaw::Slot(flaw) => write!(f, "{flaw}"),
-            Flaw::Kind(flaw) => write!(f, "{flaw}"),
-            Flaw::Tree(flaw) => write!(f, "{flaw}"),
+            Flaw::Outcome(flaw) => flaw.fmt(f),
+            Flaw::Order(flaw) => flaw.fmt(f),
+            Flaw::Edge(flaw) => flaw.fmt(f),
+            Flaw::Claim(flaw) => flaw.fmt(f),
+            Flaw::Known(flaw) => flaw.fmt(f),
+            Flaw::Twice(flaw) => flaw.fmt(f),
+            Flaw::Placed(flaw) => flaw.fmt(f),
+            Flaw::Limit(flaw) => flaw.fmt(f),
+            Flaw::Slot(flaw) => flaw.fmt(f),
+            Flaw::Kind(flaw) => flaw.fmt(f),
+            Flaw::Tree(flaw) => flaw.fmt(f),
             Flaw::Other(form) => {
                 let words = form.words();
                 write!(f, "expected {words}")
