@@ -4,5 +4,3 @@ pub mod LineLaws
 pub mod Certificates
 pub mod RightLines
 pub mod MoreLines
-pub mod Differences
-mod Upgraded

@@ -3,4 +3,3 @@ pub mod Line
 pub mod Reading
 pub mod Certificate
 pub mod Right
-pub mod Verified

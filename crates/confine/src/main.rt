@@ -3,7 +3,7 @@
 
 ghost use Rattle.std.specs.{Fn.FnReturnsAt, Prelude.{◌≡◌, ◌≤◌, IfOk, IsErr, OnErr, false}};
 ghost use Rattle.devices.specs.Watched.{failed_of};
-ghost use Rattle.report.specs.{Commands.{input, output}, Ends.status_of};
+ghost use Rattle.commands.specs.{Commands.{input, output}, Ends.status_of};
 ghost use Rattle.confine.specs.Opening.{AreSound, IsServed, RunsSplit, names_of, Serves, ServesSystem, ServesTable, ServesThree, written};
 ghost use Rattle.confine.specs.Requests.{HasFewWorkers, IsWithinLimits, OnInTurn};
 

@@ -1,10 +1,11 @@
-//! `certificate::make`, `certificate::read`, `certificate::write` and `certificate::verify`.
+//! `certificate::make`, `certificate::read`, `certificate::write` and `checker::verify`.
 use crate::bell::{CERTIFICATE, certificate_lines};
 use crate::memory::{
     NO_MEMORY, Stopped, UNREAD, again, are, are_made, are_made_again, met, passes, passes_again,
     prepared,
 };
-use certificate::{Certificate, NotAccepted, make, read, verify, write};
+use certificate::{Certificate, make, read, write};
+use checker::{NotAccepted, verify};
 use policy::Policy;
 use std::thread::Threads;
 use table::Table;

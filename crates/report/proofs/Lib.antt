@@ -1,4 +1,3 @@
-mod Answered
 mod ClosedLabels
 mod Missing
 mod ClosedText

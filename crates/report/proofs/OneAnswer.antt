@@ -5,7 +5,8 @@ use Rattle.machine.specs.Layout.{Layout}
 use Rattle.words.specs.declared.faults.Fault.{Fault}
 use Rattle.captext.specs.{Policies.read_policy_of, Tables.read_table_of}
 use Rattle.reptext.specs.declared.file.File.{File, TheVariants.{Policy, Table}}
-use Rattle.report.specs.{Commands.IsAnswer, Files.{Contents, and_then, read_then, whole}, OneAnswer.HaveOneAnswer}
+use Rattle.commands.specs.{Commands.IsAnswer, Files.{Contents, and_then, read_then, whole}}
+use Rattle.report.specs.OneAnswer.{HaveOneAnswer}
 
 -- two answers to a table, a policy and what a third file holds are one
 abbrev pub JudgesOne : {X : Type 0} → (Layout → List Edge → X → List ℕ → ℕ → Type 0) → Type 0

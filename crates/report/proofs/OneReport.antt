@@ -6,8 +6,8 @@ use Rattle.machine.specs.Layout.{Layout}
 use Rattle.policy.specs.Policy.{allows}
 use Rattle.verdict.specs.{declared.denial.Denial.{Denial, Denial as denial}, System.System, Verdict.{IsAccepted, IsLeastBroken, rule_name}}
 use Rattle.verdict.proofs.OneVerdict.{one_verdict}
-use Rattle.certificate.specs.{declared.{line.Line.Line, verifying.NotAccepted.NotAccepted as not_accepted}, Right.right_certificate}
-use Rattle.certificate.specs.Verified.{DiffersFirst, IsDenied, IsVerified}
+use Rattle.certificate.specs.{declared.line.Line.Line, Right.right_certificate}
+use Rattle.checker.specs.{declared.verifying.NotAccepted.{NotAccepted as not_accepted}, Verified.{DiffersFirst, IsDenied, IsVerified}}
 use Rattle.reptext.{specs.{Places.place_names, Reports.{accept_data, denial_report, line_of}}, proofs.OneText.report_once}
 use Rattle.report.specs.{declared.checking.OnAccept.{OnAccept, OnAccept as on_accept}, Answers.{Answers, AnswersVerdict, Checks}}
 use Rattle.report.{specs.Answers.{TellsCheck, Verifies, accepted, denied}, proofs.OneAnswer.JudgesOne}

@@ -1,9 +1,9 @@
 -- What a command does that has a table alone, and what it lists of the table (confine's own).
 use Rattle.std.specs.Prelude.{ℕ, ◌≡◌, List, Some, codes, false}
 use Rattle.machine.specs.Layout.{Layout}
-use Rattle.reptext.specs.{Objects.objects_text, declared.file.File.File as file}
-use Rattle.report.specs.{declared.{end.End.End, known.Known.Known}, Answers.{no_file, no_label, read_nothing}, Commands.Input}
-use Rattle.report.specs.Commands.{IsCarriedOut, Output}
+use Rattle.reptext.specs.{declared.file.File.File as file, Objects.objects_text}
+use Rattle.commands.specs.{declared.end.End.End, Commands.{Input, IsCarriedOut, Output, no_file, no_label}, Files.read_nothing}
+use Rattle.report.specs.declared.known.Known.{Known}
 
 -- it did this with a policy without an edge, whose source can't fail
 pub record IsAlone (does : Input Known → Type 0) : Type 0 where

@@ -1,19 +1,18 @@
 -- What the commands answer to a table, a policy and a third file (confine's own).
-use Rattle.std.specs.{List.zip, Prelude.{[], ℕ, ◌≡◌, Err, List, None, Ok, Option, Result, Some, false}}
+use Rattle.std.specs.{List.zip, Prelude.{ℕ, ◌≡◌, Err, List, Ok}}
 use Rattle.base.specs.declared.edge.Edge.{Edge}
 use Rattle.machine.specs.{declared.call.{Event.Event, Outcome.Outcome}, Boot.IsBoot, Layout.Layout, Machine.Machine, Run.Run}
-use Rattle.words.specs.declared.faults.Fault.{Fault}
 use Rattle.policy.specs.Policy.{allows}
 use Rattle.evtext.specs.{Log.log_text, Script.read_script_of}
 use Rattle.kernel.specs.Legal.{Entry}
 use Rattle.verdict.specs.{declared.denial.Denial.Denial, Verdict.{IsAccepted, IsLeastBroken, rule_name}}
 use Rattle.cores.specs.SplitRun.{IsSplitRun}
-use Rattle.certificate.specs.{declared.{line.Line.Line, verifying.NotAccepted.NotAccepted as not_accepted}, Certificate.certificate_text}
-use Rattle.certificate.specs.{Reading.read_certificate_of, Right.right_certificate, Verified.IsVerified}
-use Rattle.reptext.specs.declared.file.File.TheVariants as file
+use Rattle.certificate.specs.{declared.line.Line.Line, Certificate.certificate_text, Reading.read_certificate_of, Right.right_certificate}
+use Rattle.checker.specs.{declared.verifying.NotAccepted.{NotAccepted as not_accepted}, Verified.IsVerified}
 use Rattle.reptext.specs.{Places.place_names, Reports.{IsCheckReport, accept_data, denial_report, line_of}}
-use Rattle.report.specs.declared.{checking.OnAccept.{OnAccept, OnAccept as on_accept}, end.{Asked.Asked, End.End}, load.NoFile.NoFile}
-use Rattle.report.specs.Commands.{Input, IsCarriedOut, Output}
+use Rattle.reptext.specs.declared.file.File.TheVariants as file
+use Rattle.commands.specs.{declared.end.End.End, Commands.{Input, IsCarriedOut, Output, no_file, no_label}, Files.read_nothing}
+use Rattle.report.specs.declared.checking.OnAccept.{OnAccept, OnAccept as on_accept}
 
 -- a table and a policy are accepted and the text tells it, with status 0; or they are denied and it tells why, with status 1
 pub data Answers
@@ -67,17 +66,6 @@ Runs t edges events = AnswersVerdict t edges (IsLogOfRun t events)
 -- the answer to a script that is split among the cores
 abbrev pub RunsSplit : Layout → List Edge → List Event → List ℕ → ℕ → Type 0
 RunsSplit t edges events = AnswersVerdict t edges (IsLogOfSplit t events)
-
--- the third file of a command that has none: it is empty and can't fail, so that its name is never told
-abbrev pub no_file : Input NoFile
-no_file = record { old = record {}; new = record {}; bytes = Some []; failed = false }
-
-unfoldable pub read_nothing : Layout → List ℕ → Result (Unit {0}) Fault
-read_nothing t bytes = Ok tt
-
--- a command that asks about no label lacks none
-abbrev pub no_label : Layout → Option Asked
-no_label t = None
 
 -- a table was checked against a policy
 abbrev pub IsChecked : {T P O : Type 0} → OnAccept → Input T → Input P → Output O → End → Type 0

@@ -2,8 +2,9 @@
 use Rattle.std.specs.Prelude.{ℕ, List, Option}
 use Rattle.base.specs.declared.edge.Edge.{Edge}
 use Rattle.machine.specs.Layout.{Layout}
-use Rattle.report.specs.{declared.{asking.Asking.{Asking, TheVariants.{Close, Draw, Why}}, end.Asked.Asked}, Alone.Lists, Answers.no_label}
-use Rattle.report.specs.{declared.asking.Asking.Asking as asking, Closings.Closes, Questions.{Draws, Tells, unlabelled}}
+use Rattle.commands.specs.{declared.end.Asked.Asked, Commands.no_label}
+use Rattle.report.specs.{declared.asking.Asking.{Asking, Asking as asking, TheVariants.{Close, Draw, Why}}, Alone.Lists, Closings.Closes}
+use Rattle.report.specs.Questions.{Draws, Tells, unlabelled}
 
 -- which of the labels that are asked about a table lacks first
 abbrev pub lacks : Asking → Layout → Option Asked

@@ -8,8 +8,8 @@ use Rattle.verdict.specs.{declared.denial.Denial.Denial, Verdict.{IsAccepted, Is
 use Rattle.claims.specs.{declared.{claim.Claim.Claim, holding.BrokenClaim.BrokenClaim}, ClaimsText.claims_text, Holding.AreStrongest}
 use Rattle.claims.specs.{Holding.{Holds, IsFirstBroken, IsKept}, Reading.read_claims_of}
 use Rattle.reptext.specs.{declared.file.File.File as file, Places.place_names, Reports.{broken_data, denial_report, hold_data, line_of}}
-use Rattle.report.specs.{declared.end.End.End, Answers.{AnswersVerdict, no_file, no_label, read_nothing}, Commands.{Input, IsCarriedOut}}
-use Rattle.report.specs.Commands.{Output}
+use Rattle.commands.specs.{declared.end.End.End, Commands.{Input, IsCarriedOut, Output, no_file, no_label}, Files.read_nothing}
+use Rattle.report.specs.Answers.{AnswersVerdict}
 
 -- the answer to claims on a table and a policy: these are denied; or they are accepted, and all claims hold, so that what they claim is
 -- kept in every run from the table's boot state; or they are accepted, and this claim is the first that doesn't hold

@@ -7,8 +7,8 @@ use Rattle.policy.specs.{Closing.{IsLeastClosed, IsWithin}, Policy.{IsRising, al
 use Rattle.captext.specs.{Policies.read_policy_of, PolicyText.{IsPolicyOf, edge_lines, policy_text}}
 use Rattle.verdict.specs.Verdict.{IsAccepted}
 use Rattle.reptext.specs.declared.file.File.{File as file}
-use Rattle.report.specs.{declared.{closing.OnClose.{OnClose, OnClose as on_close}, end.End.End}, Alone.IsAlone, Answers.{no_file, no_label}}
-use Rattle.report.specs.{Answers.read_nothing, Commands.{Input, IsCarriedOut, Output}}
+use Rattle.commands.specs.{declared.end.End.End, Commands.{Input, IsCarriedOut, Output, no_file, no_label}, Files.read_nothing}
+use Rattle.report.specs.{declared.closing.OnClose.{OnClose, OnClose as on_close}, Alone.IsAlone}
 
 -- these edges are the authority of the table's boot state
 abbrev pub IsAuthorityOf : Layout → List Edge → Type 0

@@ -1,6 +1,3 @@
-pub mod Ends
-pub mod Files
-pub mod Commands
 pub mod Answers
 pub mod Replays
 pub mod Alone

@@ -5,7 +5,8 @@ use Rattle.machine.specs.{declared.call.Event.Event, Layout.Layout}
 use Rattle.words.specs.declared.faults.Fault.{Fault}
 use Rattle.kernel.specs.Legal.{IsLack}
 use Rattle.reptext.specs.declared.file.File.{File}
-use Rattle.report.specs.{Answers.{AnswersVerdict, IsLogOfRun}, Commands.IsAnswer, Files.contents_of}
+use Rattle.commands.specs.{Commands.IsAnswer, Files.contents_of}
+use Rattle.report.specs.Answers.{AnswersVerdict, IsLogOfRun}
 
 -- whatever bytes the three files hold, two answers to them have the same text and the same status
 abbrev pub HaveOneAnswer : {X : Type 0} → File → (Layout → List ℕ → Result X Fault) → (Layout → List Edge → X → List ℕ → ℕ → Type 0) → Type 0

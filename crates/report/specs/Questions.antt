@@ -6,9 +6,9 @@ use Rattle.machine.specs.Layout.{Layout}
 use Rattle.policy.specs.{declared.why.Why.{Why, Why as why}, Policy.allows, Reasons.IsWhy}
 use Rattle.table.specs.Names.{label_named}
 use Rattle.captext.specs.PolicyText.{edge_lines}
-use Rattle.reptext.specs.{Drawing.IsDrawing, declared.file.File.File as file}
-use Rattle.report.specs.{declared.end.{Asked.{Asked, Asked as asked}, End.End}, Answers.{no_file, no_label, read_nothing}, Commands.Input}
-use Rattle.report.specs.Commands.{IsCarriedOut, Output}
+use Rattle.reptext.specs.{declared.file.File.File as file, Drawing.IsDrawing}
+use Rattle.commands.specs.{declared.end.{Asked.{Asked, Asked as asked}, End.End}, Commands.{Input, IsCarriedOut, Output, no_file, no_label}}
+use Rattle.commands.specs.Files.{read_nothing}
 
 -- of two labels that may be there, the first that isn't
 abbrev pub first_absent : Option ℕ → Option ℕ → Option Asked

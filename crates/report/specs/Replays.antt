@@ -9,7 +9,7 @@ use Rattle.integrity.specs.Confined.{IsConfined}
 use Rattle.verdict.specs.{declared.denial.Denial.Denial, Rules.Excess, Verdict.{IsOutside, excess_of, rule_name}}
 use Rattle.reptext.specs.{declared.file.File.File as file, Places.place_names_by, Reports.{illegal_data, line_of, outside_data}}
 use Rattle.reptext.specs.Reports.{within_data}
-use Rattle.report.specs.{declared.end.End.End, Answers.no_label, Commands.{Input, IsCarriedOut, Output}}
+use Rattle.commands.specs.{declared.end.End.End, Commands.{Input, IsCarriedOut, Output, no_label}}
 
 -- the log's last state: its entries are a run from the boot state of the table to there
 abbrev pub IsReplayedTo : Layout → List Entry → Machine → Type 0

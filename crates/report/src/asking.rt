@@ -1,19 +1,17 @@
 ghost use Rattle.std.specs.Prelude.{[], ◌++◌, ◌≡◌, ◌≤◌, IfErr, IfOk, None, false};
 ghost use Rattle.base.specs.Refusals.{out_of_memory};
 ghost use Rattle.captext.specs.PolicyText.{edge_lines};
+ghost use Rattle.commands.specs.Commands.{input, output};
 ghost use Rattle.report.specs.Alone as alone;
 ghost use Rattle.report.specs.Askings as askings;
-ghost use Rattle.report.specs.Commands.{input, output};
 ghost use Rattle.report.specs.Questions as questions;
 
 use crate::closing::closed;
-use crate::command::{Answer, Command};
-use crate::engine::carry_out;
 use crate::known::no_policy;
-use crate::load::{Loaded, NoFile};
 use crate::{Asked, End, Listener, OnClose, Sink, Source};
 use base::{Edge, Refusal};
 use captext::write_edges;
+use commands::{Answer, Command, Loaded, NoFile, carry_out};
 use policy::{Policy, Why};
 use reptext::{write_drawing, write_objects};
 use std::alloc::Global;

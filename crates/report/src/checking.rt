@@ -2,15 +2,13 @@ ghost use Rattle.std.specs.Prelude.{◌≡◌, ◌≤◌, IfErr, IfOk, false};
 ghost use Rattle.base.specs.Refusals.{out_of_memory};
 ghost use Rattle.certificate.specs.Right.{right_certificate};
 ghost use Rattle.checker.specs.Check.{IsCheck};
+ghost use Rattle.commands.specs.Commands.{input, no_label, output};
 ghost use Rattle.report.specs.Answers as answers;
-ghost use Rattle.report.specs.Commands.{input, output};
 
-use crate::command::{Answer, Command, denied};
-use crate::engine::carry_out;
-use crate::load::{Loaded, NoFile};
 use crate::{Asked, End, Listener, Sink, Source};
 use base::Refusal;
 use checker::{Certificate, CheckError, Gate, Verdict};
+use commands::{Answer, Command, Loaded, NoFile, carry_out, denied};
 use policy::Policy;
 use reptext::check_report;
 use std::alloc::Global;
@@ -78,7 +76,7 @@ struct Checking<'a, J> {
 impl<J: Fn(&Table, &Policy) -> Result<Answer, Refusal>> Command for Checking<'_, J> {
     type Third = ();
 
-    ghost lacks = { λ _. answers.no_label };
+    ghost lacks = { λ _. no_label };
 
     ghost may_judge = { λ check. J.IsAlwaysCallable check.judge.now
         × ((table policy : _) (answer : _) → J.post check.judge.now table policy answer

@@ -1,16 +1,14 @@
 ghost use Rattle.std.specs.{Prelude.{◌≡◌, ◌≤◌, All, IfErr, IfNone, IfOk, IfSome, false, length}, Thread.IsSync};
 ghost use Rattle.base.specs.Refusals.{out_of_memory};
 ghost use Rattle.claims.specs.Holding.{Holds, IsFirstBroken, IsKept};
+ghost use Rattle.commands.specs.Commands.{input, no_label, output};
 ghost use Rattle.report.specs.Answers as answers;
 ghost use Rattle.report.specs.Claimed as claimed;
-ghost use Rattle.report.specs.Commands.{input, output};
 
-use crate::command::{Answer, Command, denied};
-use crate::engine::carry_out;
-use crate::load::{Loaded, NoFile};
 use crate::{Asked, End, Finding, Listener, Sink, Source};
 use base::Refusal;
 use claims::{Claims, first_broken, strongest};
+use commands::{Answer, Command, Loaded, NoFile, carry_out, denied};
 use deal::Open;
 use reptext::{broken_report, hold_report};
 use std::alloc::Global;
@@ -68,7 +66,7 @@ struct Claiming<'a, R> {
 impl<R: Threads + Sync> Command for Claiming<'_, R> {
     type Third = Claims;
 
-    ghost lacks = { λ _. answers.no_label };
+    ghost lacks = { λ _. no_label };
 
     ghost may_judge = { λ _. IsSync R.row };
 
@@ -146,7 +144,7 @@ struct Strongest<'a, R> {
 impl<R: Threads + Sync> Command for Strongest<'_, R> {
     type Third = ();
 
-    ghost lacks = { λ _. answers.no_label };
+    ghost lacks = { λ _. no_label };
 
     ghost may_judge = { λ _. IsSync R.row };
 

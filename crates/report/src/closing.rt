@@ -1,17 +1,15 @@
 ghost use Rattle.std.specs.Prelude.{◌≡◌, ◌≤◌, IfErr, IfOk, false};
 ghost use Rattle.base.specs.Refusals.{out_of_memory};
 ghost use Rattle.captext.specs.PolicyText.{edge_lines};
+ghost use Rattle.commands.specs.Commands.{input, output};
 ghost use Rattle.report.specs.Closings as closings;
-ghost use Rattle.report.specs.Commands.{input, output};
 
 use crate::asking::Asking;
-use crate::command::Answer;
-use crate::engine::carry_out;
 use crate::known::no_policy;
-use crate::load::NoFile;
 use crate::{End, Listener, Sink, Source};
 use base::{Edge, Refusal};
 use captext::{write_edges, write_policy};
+use commands::{Answer, NoFile, carry_out};
 use kernel::each_table_has_one_boot_state;
 use labels::{authority, boot_authority_joins_labels_of_its_table};
 use policy::Policy;

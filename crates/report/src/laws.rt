@@ -3,9 +3,10 @@ ghost use Rattle.evtext.specs.{Log.read_log_of, Script.read_script_of};
 ghost use Rattle.claims.specs.Reading.{read_claims_of};
 ghost use Rattle.certificate.specs.Reading.{read_certificate_of};
 ghost use Rattle.reptext.specs.declared.file.File.TheVariants as file;
+ghost use Rattle.commands.specs.Files.{read_nothing};
 ghost use Rattle.report.specs.{declared.{checking.OnAccept.OnAccept, closing.OnClose.OnClose}, Alone.Lists, Answers.{Checks, Verifies}};
-ghost use Rattle.report.specs.{Answers.read_nothing, Claimed.{JudgesClaims, WritesStrongest}, Closings.Closes, OneAnswer.HaveOneAnswer};
-ghost use Rattle.report.specs.{OneAnswer.RunsInMemory, Questions.{Draws, Tells}, Replays.Replays};
+ghost use Rattle.report.specs.{Claimed.{JudgesClaims, WritesStrongest}, Closings.Closes, OneAnswer.{HaveOneAnswer, RunsInMemory}};
+ghost use Rattle.report.specs.{Questions.{Draws, Tells}, Replays.Replays};
 
 /// A law: a report is a function of the bytes of the files. What a command writes, and its status, are
 /// the same whenever and wherever it is carried out. So is the log of a run in which no call was refused

@@ -1,16 +1,13 @@
 ghost use Rattle.std.specs.Prelude.{◌≡◌, ◌≤◌, IfErr, IfOk, IfSome, false};
 ghost use Rattle.base.specs.Refusals.{out_of_memory};
 ghost use Rattle.machine.specs.{Boot.IsBoot, WellFormed.IsWellFormed};
+ghost use Rattle.commands.specs.Commands.{input, no_label, output};
 ghost use Rattle.report.specs.Answers as answers;
-ghost use Rattle.report.specs.Commands.{input, output};
 ghost use Rattle.report.specs.Replays as replays;
 
-use crate::command::{Answer, Command};
-use crate::engine::carry_out;
-use crate::load::Loaded;
-use crate::third::Entries;
 use crate::{Asked, End, Finding, Listener, Sink, Source};
 use base::Refusal;
+use commands::{Answer, Command, Entries, Loaded, carry_out};
 use kernel::boot;
 use machine::{Event, Outcome};
 use objects::State;
@@ -57,7 +54,7 @@ struct Replaying;
 impl Command for Replaying {
     type Third = Entries;
 
-    ghost lacks = { λ _. answers.no_label };
+    ghost lacks = { λ _. no_label };
 
     ghost may_judge = { λ _. Unit {0} };
 

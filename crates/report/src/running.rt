@@ -1,14 +1,11 @@
 ghost use Rattle.std.specs.{Prelude.{◌≡◌, IfErr, IfOk, false}, Thread.IsSync};
 ghost use Rattle.base.specs.Refusals.{out_of_memory};
+ghost use Rattle.commands.specs.Commands.{input, no_label, output};
 ghost use Rattle.report.specs.Answers as answers;
-ghost use Rattle.report.specs.Commands.{input, output};
 
-use crate::command::{Answer, Command, denied};
-use crate::engine::carry_out;
-use crate::load::Loaded;
-use crate::third::Script;
 use crate::{Asked, End, Listener, Sink, Source};
 use base::Refusal;
+use commands::{Answer, Command, Loaded, Script, carry_out, denied};
 use deal::Open;
 use evtext::write_run;
 use kernel::boot;
@@ -57,7 +54,7 @@ struct Running<'a, R> {
 impl<R: Threads + Sync> Command for Running<'_, R> {
     type Third = Script;
 
-    ghost lacks = { λ _. answers.no_label };
+    ghost lacks = { λ _. no_label };
 
     ghost may_judge = { λ _. IsSync R.row };
 

@@ -1,14 +1,11 @@
 ghost use Rattle.std.specs.Prelude.{◌≡◌, ◌≤◌, IfErr, IfOk, false};
 ghost use Rattle.base.specs.Refusals.{out_of_memory};
+ghost use Rattle.commands.specs.Commands.{input, no_label, output};
 ghost use Rattle.report.specs.Answers as answers;
-ghost use Rattle.report.specs.Commands.{input, output};
 
-use crate::command::{Answer, Command, denied};
-use crate::engine::carry_out;
-use crate::load::Loaded;
-use crate::third::Script;
 use crate::{Asked, End, Listener, Sink, Source};
 use base::Refusal;
+use commands::{Answer, Command, Loaded, Script, carry_out, denied};
 use cores::split;
 use deal::{Gate, Open};
 use evtext::write_log;
@@ -68,7 +65,7 @@ struct Splitting<'a, J> {
 impl<J: Fn(&Loaded<Script>) -> Result<Answer, Refusal>> Command for Splitting<'_, J> {
     type Third = Script;
 
-    ghost lacks = { λ _. answers.no_label };
+    ghost lacks = { λ _. no_label };
 
     ghost may_judge = { λ split. J.IsAlwaysCallable split.judge.now
         × ((loaded : _) (answer : _) → J.post split.judge.now loaded answer

@@ -1,13 +1,12 @@
 ghost use Rattle.std.specs.{Prelude.{◌≡◌, false}, Thread.IsSync};
+ghost use Rattle.commands.specs.Commands.{input, no_label, output};
 ghost use Rattle.report.specs.Answers as answers;
-ghost use Rattle.report.specs.Commands.{input, output};
 
-use crate::command::{Answer, Command, denied};
-use crate::engine::carry_out;
-use crate::load::Loaded;
 use crate::{Asked, End, Listener, Sink, Source};
 use base::Refusal;
-use certificate::{Certificate, NotAccepted};
+use certificate::Certificate;
+use checker::NotAccepted;
+use commands::{Answer, Command, Loaded, carry_out, denied};
 use reptext::accept_report;
 use std::alloc::Global;
 use std::thread::Threads;
@@ -61,7 +60,7 @@ struct Verifying<'a, R> {
 impl<R: Threads + Sync> Command for Verifying<'_, R> {
     type Third = Certificate;
 
-    ghost lacks = { λ _. answers.no_label };
+    ghost lacks = { λ _. no_label };
 
     ghost may_judge = { λ _. IsSync R.row };
 
@@ -72,7 +71,7 @@ impl<R: Threads + Sync> Command for Verifying<'_, R> {
     }
 
     fn judge(&self, alloc: Global, loaded: &Loaded<Certificate>) -> Result<Answer, Refusal> {
-        match certificate::verify(self.rt, alloc, &loaded.table, &loaded.policy, &loaded.third) {
+        match checker::verify(self.rt, alloc, &loaded.table, &loaded.policy, &loaded.third) {
             Ok(_) => Ok(Answer {
                 text: accept_report(alloc)?,
                 status: 0,

@@ -1,8 +1,13 @@
 -- The strongest claims are claims of the table, so that their text is read back.
-use Rattle.std.{specs.{declared.alloc.Global.Global, Prelude.Vec}, proofs.Common.{ℕ, ◌≡◌, IfOk, Ok, subst, sym}}
+use Rattle.std.{specs.{declared.alloc.Global.Global, Prelude.Vec}, proofs.Common.{ℕ, ◌≡◌, Err, IfOk, Ok, Result, subst, sym}}
 use Rattle.claims.specs.{Claims.AreClaimsOf, ClaimsText.claims_text, Reading.read_claims_of}
-use Rattle.report.{specs.Claimed.TellsStrongest, proofs.Answered.both_hold}
+use Rattle.report.specs.Claimed.{TellsStrongest}
 use Rattle.report.proofs.claiming.strongest_text.Goals as goal
+
+-- of a value two facts give a third
+both_hold : {X E : Type 0} (result : Result X E) (P Q R : X → Type 0) → ((x : X) → P x → Q x → R x) → IfOk result P → IfOk result Q → IfOk result R
+both_hold (Ok x) P Q R follows one other = follows x one other
+both_hold (Err e) P Q R follows one other = tt
 
 pub returns-clause-text : goal.returns-clause-text
 returns-clause-text c =

@@ -3,7 +3,8 @@ use Rattle.evtext.specs.{Log.read_log_of, Script.read_script_of}
 use Rattle.claims.specs.Reading.{read_claims_of}
 use Rattle.certificate.specs.Reading.{read_certificate_of}
 use Rattle.reptext.specs.declared.file.File.{File as file}
-use Rattle.report.specs.{Alone.Lists, Answers.{Checks, Verifies, read_nothing}, Claimed.{JudgesClaims, WritesStrongest}, Closings.Closes}
+use Rattle.commands.specs.Files.{read_nothing}
+use Rattle.report.specs.{Alone.Lists, Answers.{Checks, Verifies}, Claimed.{JudgesClaims, WritesStrongest}, Closings.Closes}
 use Rattle.report.{specs.{OneAnswer.RunsInMemory, Questions.{Draws, Tells}, Replays.Replays}, proofs.OneAnswer.one_answer}
 use Rattle.report.proofs.{OneClaimed.{claims_once, strongest_told_once}, OneClosing.{close_once, tell_once}, OneDrawing.draw_once}
 use Rattle.report.proofs.{OneDrawing.list_once, OneLog.{replay_once, run_told_once}, OneReport.{check_once, verify_once}}

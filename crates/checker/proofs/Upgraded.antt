@@ -7,8 +7,8 @@ use Rattle.table.specs.Rules.{kind_at}
 use Rattle.verdict.specs.{declared.denial.Denial.{Denial, Denial as denial}, Rules.{Exceeds, Excess, binding, capability, holding, pair}}
 use Rattle.verdict.specs.{Rules.{recorded, root}, Sources.{Sources, of_table}, Verdict.Breaks}
 use Rattle.certificate.specs.{declared.line.Line.Line, Certificate.{certificate_header, certificate_text}, Line.line_words}
-use Rattle.certificate.specs.declared.line.Line.TheVariants as line
 use Rattle.certificate.specs.Right.{right_certificate}
+use Rattle.certificate.specs.declared.line.Line.TheVariants as line
 
 same_sources : (t : Layout) → of_table (upgraded t) ≡ of_table t
 unfolding bound_context declared_label initial_cap initial_of initial_parent kind_at

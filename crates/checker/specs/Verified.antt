@@ -6,8 +6,8 @@ use Rattle.machine.specs.Layout.{Layout}
 use Rattle.policy.specs.Policy.{allows}
 use Rattle.verdict.specs.{declared.denial.Denial.Denial, System.{IsVerdict, System}, Verdict.IsAccepted}
 use Rattle.verdict.specs.declared.denial.Denial.TheVariants as denial
-use Rattle.certificate.specs.declared.{line.Line.Line, verifying.NotAccepted.{NotAccepted, TheVariants.{Denied, NoMemory}}}
-use Rattle.certificate.specs.Right.{right_certificate}
+use Rattle.certificate.specs.{declared.line.Line.Line, Right.right_certificate}
+use Rattle.checker.specs.declared.verifying.NotAccepted.{NotAccepted, TheVariants.{Denied, NoMemory}}
 
 -- the first line, from 1, where two lists differ: those before it agree, and there the lines differ or one list has ended
 pub record DiffersFirst (line : ℕ) (one other : List Line) : Type 0 where

@@ -5,9 +5,9 @@ use Rattle.machine.specs.Layout.{Layout}
 use Rattle.words.specs.declared.faults.Fault.{Fault}
 use Rattle.captext.specs.{Policies.read_policy_of, Tables.read_table_of}
 use Rattle.reptext.specs.declared.file.File.{File, TheVariants.{Policy, Table}}
-use Rattle.report.specs.declared.{end.Asked.Asked, engine.Unanswered.{Unanswered, Unanswered as unanswered}, load.Loaded.Loaded}
-use Rattle.report.specs.declared.load.Stop.{Stop}
-use Rattle.report.specs.declared.load.Stop.TheVariants as stop
+use Rattle.commands.specs.declared.{end.Asked.Asked, engine.Unanswered.{Unanswered, Unanswered as unanswered}, load.Loaded.Loaded}
+use Rattle.commands.specs.declared.load.Stop.{Stop}
+use Rattle.commands.specs.declared.load.Stop.TheVariants as stop
 
 -- a table, a policy and what the third file holds; or the first file that isn't a text of its kind, with its fault; or
 -- nothing is known, since a file's bytes aren't
@@ -32,6 +32,10 @@ contents_of file read table policy third =
     read_then Table table read_table_of (λ t.
     read_then Policy policy (read_policy_of t) (λ edges.
     read_then file third (read t) (λ x. whole t edges x)))
+
+-- a third file that isn't there is read so
+unfoldable pub read_nothing : Layout → List ℕ → Result (Unit {0}) Fault
+read_nothing t bytes = Ok tt
 
 -- a file of this name stopped the load, or memory did
 abbrev pub IsStopOf : File → Stop → Type 0

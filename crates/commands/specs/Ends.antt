@@ -1,8 +1,8 @@
 -- How the program ends: its exit status, what it says on standard error, and what an end tells of the devices and of what was written (confine's own).
 use Rattle.std.specs.Prelude.{ℕ, ◌++◌, Bool, List, None, Option, Some, codes, false, true}
 use Rattle.reptext.specs.{declared.file.File.File, Reports.file_word}
-use Rattle.report.specs.declared.end.{Asked.{Asked, TheVariants.{Actor, Object}}, End.{End, TheVariants.{CannotRead, CannotWrite, NoLabel}}}
-use Rattle.report.specs.declared.end.End.TheVariants.{NoMemory, Status}
+use Rattle.commands.specs.declared.end.{Asked.{Asked, TheVariants.{Actor, Object}}, End.{End, TheVariants.{CannotRead, CannotWrite}}}
+use Rattle.commands.specs.declared.end.End.TheVariants.{NoLabel, NoMemory, Status}
 
 -- the line that says that a file couldn't be read
 abbrev pub unread_message : File → List ℕ

@@ -6,7 +6,8 @@ use Rattle.machine.specs.Layout.{Layout}
 use Rattle.policy.specs.Policy.{allows}
 use Rattle.verdict.specs.{declared.denial.Denial.Denial, Verdict.IsLeastBroken}
 use Rattle.verdict.specs.declared.denial.Denial.TheVariants as denial
-use Rattle.certificate.specs.{declared.line.Line.Line, Verified.{DiffersFirst, IsDenied}}
+use Rattle.certificate.specs.declared.line.Line.{Line}
+use Rattle.checker.specs.Verified.{DiffersFirst, IsDenied}
 
 -- lists agree below a place
 abbrev pub Agree : List Line → List Line → ℕ → Type 0

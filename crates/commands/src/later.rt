@@ -6,7 +6,7 @@ ghost use Rattle.evtext.specs.{Log.read_log_of, Script.read_script_of};
 ghost use Rattle.certificate.specs.Reading.{read_certificate_of};
 ghost use Rattle.claims.specs.Reading.{read_claims_of};
 ghost use Rattle.reptext.specs.declared.file.File.{File, File as file};
-ghost use Rattle.report.specs.Answers.{read_nothing};
+ghost use Rattle.commands.specs.Files.{read_nothing};
 
 use crate::File;
 use captext::Fault;
@@ -20,7 +20,7 @@ use std::marker::Model;
 use table::Table;
 
 /// What a file holds that is read after the table.
-pub(crate) trait LaterFile: Drop {
+pub trait LaterFile: Drop {
     // The file's name, and how its text is read.
     ghost named: { File };
 
@@ -50,7 +50,7 @@ impl LaterFile for () {
         File::Policy
     }
 
-    #[tactic(auto, unfolding(crate::specs::Answers::read_nothing))]
+    #[tactic(auto, unfolding(crate::specs::Files::read_nothing))]
     fn read(_alloc: Global, _table: &Table, _bytes: &[u8]) -> Result<(), Fault> {
         Ok(())
     }
@@ -86,7 +86,7 @@ impl LaterFile for Certificate {
 
 /// The events of a script, which are few enough for a log.
 #[derive(Drop)]
-pub(crate) struct Script {
+pub struct Script {
     pub events: Vec<Event>,
 }
 
@@ -121,15 +121,15 @@ impl LaterFile for Script {
 
 /// The entries of a log.
 #[derive(Drop)]
-pub(crate) struct Entries {
+pub struct Entries {
     pub entries: Log,
 }
 
 impl Model for Entries {
     ghost use Rattle.std.specs.Prelude.{List};
-    ghost use Rattle.kernel.specs.Legal.{Entry};
+    ghost use Rattle.machine.specs.declared.call.{Event.Event as EventOf, Outcome.Outcome as OutcomeOf};
 
-    ghost Value = { List Entry };
+    ghost Value = { List (EventOf × OutcomeOf) };
 
     ghost view = { λ log. log.entries.items };
 }

@@ -3,10 +3,10 @@ ghost use Rattle.base.specs.{declared.edge.Edge.Edge, Refusals.out_of_memory};
 ghost use Rattle.machine.specs.Layout.{Layout};
 ghost use Rattle.verdict.specs.Verdict.{rule_name};
 ghost use Rattle.reptext.specs.{Places.place_names, Reports.denial_report};
-ghost use Rattle.report.specs.declared.end.Asked.{Asked};
+ghost use Rattle.commands.specs.declared.end.Asked.{Asked};
 
+use crate::later::LaterFile;
 use crate::load::Loaded;
-use crate::third::LaterFile;
 use crate::{Asked, Finding};
 use base::Refusal;
 use reptext::denial_text;
@@ -16,14 +16,14 @@ use verdict::Denial;
 
 /// What is to be written, the exit status, and what is found wrong, if anything is.
 #[derive(Drop)]
-pub(crate) struct Answer {
+pub struct Answer {
     pub text: Vec<u8>,
     pub status: u8,
     pub finding: Option<Finding>,
 }
 
 /// A command: what its third file holds, and what it answers to what the files hold.
-pub(crate) trait Command {
+pub trait Command {
     type Third: LaterFile;
 
     // Which of the labels that it asks about a table lacks first, if it asks about any.
@@ -50,7 +50,7 @@ pub(crate) trait Command {
 }
 
 /// The answer to a denial.
-pub(crate) fn denied(alloc: Global, table: &Table, denial: Denial) -> Result<Answer, AllocError>
+pub fn denied(alloc: Global, table: &Table, denial: Denial) -> Result<Answer, AllocError>
     ensures text { IfOk result (λ answer. answer.text.items ≡ denial_report (rule_name denial) (place_names table.now denial)) }
     ensures status { IfOk result (λ answer. answer.status ≡ 1) }
 {

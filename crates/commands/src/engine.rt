@@ -1,12 +1,12 @@
 ghost use Rattle.std.specs.{Io.KnownBytes.Appends, Prelude.{◌≡◌, ◌≤◌, Err, IfOk, IsOkAnd, None, Some, false, true}};
 ghost use Rattle.devices.specs.Devices.{AppendsBeginning};
-ghost use Rattle.report.specs.{Commands.{IsAnswer, IsCarriedOut, IsUnlabelled, input, output}, Ends.{IfCannotWrite, IfNoLabel, IfStatus}};
-ghost use Rattle.report.specs.{Ends.{IfUnwritten, is_unwritable, status_of, unread_file}, Files.{Contents, Gives, IfUnlabelled, unread_by}};
-ghost use Rattle.report.specs.Files.{unread_of};
+ghost use Rattle.commands.specs.{Commands.{IsAnswer, IsCarriedOut, IsUnlabelled, input, output}, Ends.{IfCannotWrite, IfNoLabel, IfStatus}};
+ghost use Rattle.commands.specs.{Ends.{IfUnwritten, is_unwritable, status_of, unread_file}, Files.{Contents, Gives, IfUnlabelled}};
+ghost use Rattle.commands.specs.Files.{unread_by, unread_of};
 
 use crate::command::{Answer, Command};
+use crate::later::LaterFile;
 use crate::load::{Loaded, Stop, load};
-use crate::third::LaterFile;
 use crate::{Asked, End, File, Heard, Listener, Sink, Source};
 use reptext::fault_report;
 use std::alloc::Global;
@@ -20,7 +20,7 @@ pub(crate) enum Unanswered {
 }
 
 /// Carries a command out on its files, and writes its answer.
-pub(crate) fn carry_out<C, T, P, S, L, O>(
+pub fn carry_out<C, T, P, S, L, O>(
     command: &C,
     alloc: Global,
     table: &mut T,

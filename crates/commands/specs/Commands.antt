@@ -1,5 +1,5 @@
 -- What a command does with its files and its output, and how it ends (confine's own).
-use Rattle.std.specs.{Io.KnownBytes.Appends, Prelude.{ℕ, ◌≡◌, ◌≤◌, ◌⊎◌, Bool, IfSome, IsOk, IsOkAnd, List, None, Option, Result, Some}}
+use Rattle.std.specs.{Io.KnownBytes.Appends, Prelude.{[], ℕ, ◌≡◌, ◌≤◌, ◌⊎◌, Bool, IfSome, IsOk, IsOkAnd, List, None, Option, Result, Some}}
 use Rattle.std.specs.Prelude.{false, true}
 use Rattle.base.specs.declared.edge.Edge.{Edge}
 use Rattle.machine.specs.Layout.{Layout}
@@ -7,8 +7,8 @@ use Rattle.words.specs.declared.faults.Fault.{Fault}
 use Rattle.captext.specs.{Policies.read_policy_of, Tables.read_table_of}
 use Rattle.devices.specs.Devices.{AppendsBeginning}
 use Rattle.reptext.specs.{declared.file.File.{File, TheVariants.{Policy, Table}}, Reports.fault_report}
-use Rattle.report.specs.{declared.end.{Asked.Asked, End.End}, Ends.{IfCannotWrite, IfNoLabel, IfStatus, IfUnwritten, is_unwritable}}
-use Rattle.report.specs.{Ends.{status_of, unread_file}, Files.{Contents, contents_of, faulty, unknown, whole}}
+use Rattle.commands.specs.{declared.{end.{Asked.Asked, End.End}, load.NoFile.NoFile}, Ends.{IfCannotWrite, IfNoLabel, IfStatus}}
+use Rattle.commands.specs.{Ends.{IfUnwritten, is_unwritable, status_of, unread_file}, Files.{Contents, contents_of, faulty, unknown, whole}}
 
 -- a source, before and after a command: the bytes that it had left, where they are known, and whether it failed
 pub record Input (S : Type 0) : Type 0 where
@@ -32,6 +32,10 @@ pub record Output (O : Type 0) : Type 0 where
 abbrev pub output : {O : Type 0} → (O → Option (List ℕ)) → (O → Bool) → (O → Bool) → O → O → Output O
 output contents failed is_flushed old new =
     record { old = old; new = new; before = contents old; after = contents new; failed = failed new; is_flushed = is_flushed new }
+
+-- the third file of a command that has none: it is empty and can't fail, so that its name is never told
+abbrev pub no_file : Input NoFile
+no_file = record { old = record {}; new = record {}; bytes = Some []; failed = false }
 
 -- a table was read, and is a text
 abbrev pub HasTable : {T : Type 0} → Input T → Type 0
@@ -62,6 +66,10 @@ abbrev pub IsUnlabelled : {X : Type 0} → (Layout → Option Asked) → Content
 IsUnlabelled lacks (whole t edges x) asked = lacks t ≡ Some asked
 IsUnlabelled lacks (faulty file fault) asked = ⊥
 IsUnlabelled lacks unknown asked = (t : Layout) × (lacks t ≡ Some asked)
+
+-- a command that asks about no label lacks none
+abbrev pub no_label : Layout → Option Asked
+no_label t = None
 
 -- a command whose third file has this name and is read so, which asks about labels so, and which judges so, was carried out
 pub record IsCarriedOut

@@ -1,7 +1,7 @@
 -- Past the shorter list, the lists are one or the longer one has a line more.
 use Rattle.std.proofs.Common.{◌≡◌, arith, length, min}
-use Rattle.certificate.proofs.Differences.{differ_at_end, same_lists}
-use Rattle.certificate.proofs.verifying.first_difference.Goals as goal
+use Rattle.checker.proofs.Differences.{differ_at_end, same_lists}
+use Rattle.checker.proofs.verifying.first_difference.Goals as goal
 
 pub returns-then-lines-others-clause-none : goal.returns-then-lines-others-clause-none
 returns-then-lines-others-clause-none c =

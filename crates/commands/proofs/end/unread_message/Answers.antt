@@ -1,5 +1,5 @@
 use Rattle.std.proofs.Common.{refl}
-use Rattle.report.proofs.end.unread_message.Goals as goal
+use Rattle.commands.proofs.end.unread_message.Goals as goal
 
 -- the longest line, which a search doesn't compute
 pub returns-in-Certificate : goal.returns-in-Certificate

@@ -1,5 +1,5 @@
-use Rattle.certificate.proofs.Differences.{Agree}
-use Rattle.certificate.proofs.verifying.first_difference.Given as goal
+use Rattle.checker.proofs.Differences.{Agree}
+use Rattle.checker.proofs.verifying.first_difference.Given as goal
 
 -- the lines so far are the same
 abbrev pub invariant-loop-index : goal.invariant-loop-index

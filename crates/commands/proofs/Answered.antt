@@ -2,10 +2,10 @@
 use Rattle.std.proofs.Common.{ℕ, ◌≡◌, Err, IfOk, IsOkAnd, List, Ok, Option, Result, Some}
 use Rattle.base.specs.declared.edge.Edge.{Edge}
 use Rattle.machine.specs.Layout.{Layout}
-use Rattle.report.specs.declared.{command.Answer.Answer, end.{Asked.Asked, End.{End, End as ends}}, engine.Unanswered.Unanswered}
-use Rattle.report.specs.{declared.{engine.Unanswered.Unanswered as unanswered, load.{Loaded.Loaded, Stop.Stop}}, Commands.IsAnswer}
-use Rattle.report.specs.{Commands.IsUnlabelled, Ends.{IfCannotWrite, IfNoLabel, IfStatus}, Files.{Contents, Gives, IfUnlabelled, faulty}}
-use Rattle.report.specs.Files.{unknown, whole}
+use Rattle.commands.specs.declared.{command.Answer.Answer, end.{Asked.Asked, End.{End, End as ends}}, engine.Unanswered.Unanswered}
+use Rattle.commands.specs.{declared.{engine.Unanswered.Unanswered as unanswered, load.{Loaded.Loaded, Stop.Stop}}, Commands.IsAnswer}
+use Rattle.commands.specs.{Commands.IsUnlabelled, Ends.{IfCannotWrite, IfNoLabel, IfStatus}, Files.{Contents, Gives, IfUnlabelled, faulty}}
+use Rattle.commands.specs.Files.{unknown, whole}
 
 -- what is judged of the values that were loaded is the answer to what the files hold
 pub answered : {X : Type 0} (judges : Layout → List Edge → X → List ℕ → ℕ → Type 0) (loaded : Loaded X) (text : List ℕ) (status : ℕ)
@@ -63,8 +63,3 @@ began (ends.CannotRead file) answer IsRight A right told = tt
 began (ends.NoLabel asked) answer IsRight A right told = tt
 began ends.CannotWrite (Ok answer) IsRight A right told = (answer.text.items, answer.status, right, told)
 began ends.CannotWrite (Err why) IsRight A right told = absurd told
-
--- of a value two facts give a third
-pub both_hold : {X E : Type 0} (result : Result X E) (P Q R : X → Type 0) → ((x : X) → P x → Q x → R x) → IfOk result P → IfOk result Q → IfOk result R
-both_hold (Ok x) P Q R follows one other = follows x one other
-both_hold (Err e) P Q R follows one other = tt

@@ -1,10 +1,10 @@
 ghost use Rattle.std.specs.Prelude.{◌≡◌, ◌≢◌, ◌⊎◌, Err, IfErr, IfOk, IfSome, Ok, false};
 ghost use Rattle.words.specs.Fault.{no_memory};
 ghost use Rattle.captext.specs.Tables.{read_table_of};
-ghost use Rattle.report.specs.{Commands.{HasPolicy, HasTable, first_failed, input}, Files.{Gives, IsDeviceStop, IsStopOf, LoadsAs}};
-ghost use Rattle.report.specs.Files.{contents_of, is_unread, unread_of};
+ghost use Rattle.commands.specs.{Commands.{HasPolicy, HasTable, first_failed, input}, Files.{Gives, IsDeviceStop, IsStopOf, LoadsAs}};
+ghost use Rattle.commands.specs.Files.{contents_of, is_unread, unread_of};
 
-use crate::third::LaterFile;
+use crate::later::LaterFile;
 use crate::{File, Listener, ReadError, Source};
 use captext::{Fault, read_table};
 use policy::Policy;
@@ -13,7 +13,7 @@ use table::Table;
 
 /// What the three files hold.
 #[derive(Drop)]
-pub(crate) struct Loaded<X: Drop> {
+pub struct Loaded<X: Drop> {
     pub table: Table,
     pub policy: Policy,
     pub third: X,
@@ -21,7 +21,7 @@ pub(crate) struct Loaded<X: Drop> {
 
 /// The third file of a command that has none: no byte is read, and no device can fail.
 #[derive(Clone, Copy)]
-pub(crate) struct NoFile;
+pub struct NoFile;
 
 impl Source for NoFile {
     ghost use Rattle.std.specs.Prelude.{[], Some, false};

@@ -1,10 +1,9 @@
 ghost use Rattle.std.specs.Prelude.{◌↔◌, ◌≡◌, IfNone, IfOk, IfSome, IsTrue};
 ghost use Rattle.policy.specs.Policy.{allows};
 ghost use Rattle.integrity.specs.Safe.{GuardsBudgets, KeepsBounds, KeepsIntegrity, LabelsObjects, StaysConfined};
-ghost use Rattle.certificate.specs.Verified.{DiffersFirst, IsVerified};
+ghost use Rattle.checker.specs.Verified.{DiffersFirst, IsVerified};
 
-use crate::line::{Certificate, Line};
-use crate::making::make;
+use certificate::{Certificate, Line, make};
 use deal::Open;
 use policy::Policy;
 use std::alloc::Global;

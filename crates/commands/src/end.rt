@@ -1,5 +1,5 @@
 ghost use Rattle.std.specs.{Option.option_copied, Prelude.◌≡◌};
-ghost use Rattle.report.specs.Ends.{message_of, status_of, unlabelled_message, unread_message};
+ghost use Rattle.commands.specs.Ends.{message_of, status_of, unlabelled_message, unread_message};
 
 use reptext::File;
 

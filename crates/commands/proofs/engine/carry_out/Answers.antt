@@ -1,7 +1,7 @@
 use Rattle.std.{specs.Io.KnownBytes.Appends, proofs.Common.◌∙◌}
 use Rattle.devices.specs.Devices.{AppendsBeginning}
-use Rattle.report.{specs.{Commands.IsAnswer, Files.contents_of}, proofs.Answered.{at_contents, began, unlabelled, written}}
-use Rattle.report.proofs.engine.carry_out.Goals as goal
+use Rattle.commands.{proofs.Answered.{at_contents, began, unlabelled, written}, specs.{Commands.IsAnswer, Files.contents_of}}
+use Rattle.commands.proofs.engine.carry_out.Goals as goal
 
 pub returns : goal.returns
 returns g c =
