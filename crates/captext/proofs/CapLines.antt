@@ -1,5 +1,5 @@
 -- A line for a capability is read just where it is the line of a filled slot that the table takes next.
-use Rattle.std.proofs.Common.{[], ℕ, ◌&&◌, ◌++◌, ◌<◌, ◌^◌, ◌∙◌, ◌∷◌, ◌≡◌, Bool, Err, List, None, Ok, Option, Result, Some, ap, codes, cond}
+use Rattle.std.proofs.Common.{ℕ, ◌&&◌, ◌<◌, ◌^◌, ◌∙◌, ◌∷◌, ◌≡◌, Bool, Err, List, None, Ok, Option, Result, Some, ap, codes, cond}
 use Rattle.std.proofs.{Common.{false, not, option_map, refl, subst, sym, true}, lemmas.Bool.{and_from, and_parts, false≢true, lt-ltb}}
 use Rattle.std.proofs.lemmas.Bool.{ltb-true, not-true}
 use Rattle.base.specs.declared.{ids.ObjId.ObjId, rights.Rights.Rights}

@@ -1,6 +1,6 @@
 -- The line of a filled slot that the table takes next is read, and its words are plain.
-use Rattle.std.{specs.List.AllByRecursion, proofs.Common.{[], ℕ, ◌++◌, ◌+◌, ◌<◌, ◌^◌, ◌∙◌, ◌∷◌, ◌≡◌, ◌≤◌, Bool, List, None, Ok, Option}}
-use Rattle.std.proofs.{Common.{Some, ap, arith, codes, cond, false, length, option_map, refl, subst, sym, true}, Math.Pow.pow_mono}
+use Rattle.std.{specs.List.AllByRecursion, proofs.Common.{ℕ, ◌+◌, ◌<◌, ◌^◌, ◌∙◌, ◌∷◌, ◌≡◌, ◌≤◌, List, None, Ok, Option}}
+use Rattle.std.proofs.{Common.{Some, ap, arith, codes, false, length, option_map, refl, subst, sym, true}, Math.Pow.pow_mono}
 use Rattle.std.proofs.lemmas.{Bool.{and_from, and_parts, cond-true, false≢true, leb-true, ltb-true}, Option.get_or_from_slice_get}
 use Rattle.std.proofs.lemmas.Option.{slice_get_within}
 use Rattle.base.specs.{declared.{ids.{ObjId.ObjId, SlotRef.SlotRef}, limits.TheConstants.MAX_RADIX, rights.Rights.Rights}, Rights.IsRights}

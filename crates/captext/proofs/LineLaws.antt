@@ -1,5 +1,5 @@
 -- What the steps of a table's line say where it was read: the words it has, the tests it passed, and the item it adds.
-use Rattle.std.proofs.Common.{[], ℕ, ◌∙◌, ◌∷◌, ◌≡◌, Bool, List, None, Ok, Option, Result, Some, ap, cond, false, refl, subst, true}
+use Rattle.std.proofs.Common.{[], ℕ, ◌∷◌, ◌≡◌, List, None, Ok, Option, Result, Some, ap, refl, true}
 use Rattle.std.proofs.lemmas.Bool.{and_from, and_parts}
 use Rattle.machine.specs.Layout.{Layout}
 use Rattle.words.specs.{declared.faults.Wrong.Wrong, Reading.{bind, or_syntax}}

@@ -1,5 +1,5 @@
 -- What a table that was read says of its text, and that the text of each table is read back.
-use Rattle.std.{specs.{Bool.{⊤, Decides}, List.AllByRecursion, Str.bytes_eq}, proofs.Common.{[], ℕ, ◌++◌, ◌<◌, ◌↔◌, ◌∙◌, ◌∷◌, ◌≡◌, Bool}}
+use Rattle.std.{specs.{Bool.{Decides}, List.AllByRecursion, Str.bytes_eq}, proofs.Common.{[], ℕ, ◌++◌, ◌<◌, ◌↔◌, ◌∙◌, ◌∷◌, ◌≡◌, Bool}}
 use Rattle.std.proofs.Common.{Err, IfOk, List, None, Ok, Option, Result, Some, ap, append_assoc, codes, cond, false, length, map, not, refl}
 use Rattle.std.proofs.{Common.{subst, sym, true}, lemmas.{List.{append-nil, Quantifiers.position-Some}, Slice.Eq.bytes_eq-Decides}}
 use Rattle.base.specs.declared.ids.SlotRef.{SlotRef}

@@ -1,5 +1,5 @@
 -- Claims that hold, by how far an authority goes, and that what they claim is kept.
-use Rattle.std.{specs.Prelude.IfNone, proofs.Common.{ℕ, ◌≡◌, All, Bool, List, None, Option, Some, false, subst, true}}
+use Rattle.std.{specs.Prelude.IfNone, proofs.Common.{ℕ, ◌≡◌, All, List, None, Option, Some, false, subst, true}}
 use Rattle.std.proofs.lemmas.List.Elements.{All-weaker}
 use Rattle.machine.specs.Layout.{Layout}
 use Rattle.policy.specs.{Domain.EdgeTest, Full.IsFull, Take.MayTake}

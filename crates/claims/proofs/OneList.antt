@@ -1,11 +1,11 @@
 -- Of a table and a policy there is one list of the strongest claims, and of claims that don't all hold one that is the first broken.
-use Rattle.std.specs.{declared.cmp.Ordering.{Ordering, TheVariants.{Equal, Greater, Less}}, List.AllByRecursion}
-use Rattle.std.specs.{List.Sorted.IsStrictlySortedBy, Ordering.{nat_cmp, ordering_reverse, ordering_then}, Prelude.{Some, slice_get}}
-use Rattle.std.{specs.Prelude.slice_index_or, proofs.Common.{[], ℕ, ◌+◌, ◌<◌, ◌∙◌, ◌∷◌, ◌≡◌, ◌⊎◌, All, Contains, List, ap, arith, get_or}}
+use Rattle.std.specs.{declared.cmp.Ordering.{Ordering, TheVariants.{Equal, Greater, Less}}}
+use Rattle.std.specs.{List.Sorted.IsStrictlySortedBy, Ordering.{nat_cmp, ordering_reverse, ordering_then}, Prelude.{slice_get}}
+use Rattle.std.{proofs.Common.{[], ℕ, ◌+◌, ◌∙◌, ◌∷◌, ◌≡◌, ◌⊎◌, All, Contains, List, ap, arith}}
 use Rattle.std.proofs.{Common.{inl, inr, refl, subst, sym}, lemmas.{Bool.{cases_order, Decides.nat_tests}, List.Elements.All-contains}}
 use Rattle.std.proofs.lemmas.List.Elements.{All-from_recursion, Contains-append_cases, Contains-append_left, Contains-append_right}
 use Rattle.std.proofs.lemmas.{List.Elements.{Contains-push, Contains-push_cases}, Option.{get_or_from_slice_get, same_Some}}
-use Rattle.std.proofs.lemmas.Option.{slice_get-get_or, slice_get_within}
+use Rattle.std.proofs.lemmas.Option.{slice_get_within}
 use Rattle.machine.specs.Layout.{Layout}
 use Rattle.policy.specs.Domain.{EdgeTest}
 use Rattle.verdict.specs.{declared.extent.Extent.Extent, Extents.GoesTo}

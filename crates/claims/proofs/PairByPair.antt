@@ -1,13 +1,13 @@
 -- The strongest claims, gathered pair by pair.
 use Rattle.std.specs.{declared.cmp.Ordering.TheVariants.Less, List.Sorted.IsStrictlySortedBy, Ordering.{nat_cmp, ordering_then}}
-use Rattle.std.{specs.Prelude.{IfSome, get_or, slice_get}, proofs.Common.{[], ℕ, ◌++◌, ◌+◌, ◌-◌, ◌<◌, ◌==◌, ◌∙◌, ◌∷◌, ◌≡◌, ◌≢◌, ◌⊎◌, All}}
-use Rattle.std.proofs.{Common.{Any, List, None, Some, ap, arith, false, inl, inr, length, refl, subst, sym, true}, lemmas.Bool.cases_lt}
+use Rattle.std.{specs.Prelude.{get_or}, proofs.Common.{[], ℕ, ◌++◌, ◌+◌, ◌-◌, ◌<◌, ◌==◌, ◌∙◌, ◌∷◌, ◌≡◌, ◌≢◌, ◌⊎◌, All}}
+use Rattle.std.proofs.{Common.{List, arith, false, inl, inr, length, refl, subst, sym, true}, lemmas.Bool.cases_lt}
 use Rattle.std.proofs.lemmas.{Bool.Decides.nat_tests, List.{get_or_append_left, length_push, Elements.{All-nil, All-push, All-weaker}}}
 use Rattle.std.proofs.lemmas.{List.Quantifiers.Any-push, Option.slice_get-get_or}
 use Rattle.machine.specs.Layout.{Layout}
 use Rattle.words.proofs.TextLaws.{both}
 use Rattle.policy.specs.{Domain.EdgeTest, Full.IsFull}
-use Rattle.claims.specs.{declared.claim.Claim.Claim, Claims.{IsAboveLast, IsClaimOf, claim_cmp, last_claim}, Holding.AreStrongest}
+use Rattle.claims.specs.{declared.claim.Claim.Claim, Claims.{IsAboveLast, IsClaimOf}, Holding.AreStrongest}
 use Rattle.claims.{specs.Holding.{AreStrongestBefore, ComesBefore, IsClaimed, IsExact}, proofs.Order.rising_appended}
 
 -- whether two labels are one

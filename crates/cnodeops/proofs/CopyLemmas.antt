@@ -8,7 +8,6 @@ use Rattle.machine.specs.{Machine.{Machine, cap_of, has_slot, object_of, parent_
 use Rattle.machine.specs.{Objects.slot_count, Step.{Copy.{copy_of, copyable, masked}, Mint.{mint_of, minted}, Move.move_of, Target.ends_of}}
 use Rattle.machine.specs.{Tree.{IsAlone, copied, parent_of_copy, with_copy, with_moved}, WellFormed.{IsWellFormed, kind_of}}
 use Rattle.machine.proofs.{Exchange.slot_itself, LookUps.{cap_of-with_cap, parent_of-with_cap}}
-use Rattle.machine.specs.declared.object.Object.TheVariants as o
 use Rattle.machine.specs.declared.object.ObjectKind.TheVariants as kind
 use Rattle.steps.proofs.{FillsFormed.{Takes, derives_formed, fills_formed}, LedSlots.{led_slot, node_slot}, MovesFormed.move_formed}
 use Rattle.steps.proofs.SlotRows.{copy_done, empty_alone, ends_found, mint_done, move_done, with_copy_fills}

@@ -7,12 +7,12 @@ use Rattle.machine.specs.declared.{object.{Context.Context, Object.{Object, Obje
 use Rattle.machine.specs.declared.object.ReplyState.TheVariants as reply
 use Rattle.machine.specs.declared.thread.RunState.TheVariants as state
 use Rattle.machine.specs.{declared.thread.Tcb.Tcb, Finalising.{IsHolding, link_after}, Machine.{Machine, object_of, queue_of}}
-use Rattle.machine.specs.{Objects.kind_of_object, Releasing.{reply_by, with_aborted, with_halted, with_unbound}}
+use Rattle.machine.specs.{Objects.kind_of_object, Releasing.{reply_by, with_aborted}}
 use Rattle.machine.specs.WellFormed.{IsCallingThrough, IsReceivingWith, IsSending, IsThread, LinksAgree, WaitsAt, WaitsAtKind, kind_of}
 use Rattle.machine.proofs.{Filters.filter_all, Leaving.rest_itself}
-use Rattle.finalising.specs.Reached.{IsReached, Reach, and_aborted, and_halted, and_unbound, has_left, nobody, object_by, queue_by}
+use Rattle.finalising.specs.Reached.{IsReached, Reach, and_aborted, has_left, nobody, object_by, queue_by}
 use Rattle.finalising.{specs.Reached.state_by, proofs.Linked.{holder_was, in_its_queue, member_was, tcb_now, thread_now, thread_was}}
-use Rattle.finalising.proofs.Releases.{aborted_step, halted_step, unbound_step}
+use Rattle.finalising.proofs.Releases.{aborted_step}
 
 module _ (old now : Machine) (reach : Reach) (reached : IsReached old reach now) (links : LinksAgree old) where
   same_kind : (id : ObjId) → kind_of now id ≡ kind_of old id

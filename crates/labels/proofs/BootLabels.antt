@@ -1,5 +1,5 @@
 -- The labels that the authority of a boot state joins are those of the table.
-use Rattle.std.proofs.{Common.{ℕ, ◌<◌, ◌∙◌, ◌≡◌, None, Option, Some, ap, length, option_map, refl, subst, sym}, lemmas.Option.none-some}
+use Rattle.std.proofs.{Common.{ℕ, ◌<◌, ◌∙◌, ◌≡◌, None, Option, Some, length, option_map, refl, subst, sym}, lemmas.Option.none-some}
 use Rattle.std.proofs.lemmas.Option.{same_Some}
 use Rattle.base.specs.declared.{ids.ObjId.ObjId, kind.Kind.Kind}
 use Rattle.machine.specs.{declared.layout.Initial.Initial, Authority.{HasAuthority, by_cap, by_link, by_pair, by_root, label_of}}

@@ -1,5 +1,5 @@
 -- Links of a forest: what follows of them, and that they stay so where a root comes under a parent.
-use Rattle.std.{specs.Prelude.{None, Option, Some}, proofs.Common.{ℕ, ◌<◌, ◌∙◌, ◌≡◌, ◌≢◌, ◌⊎◌, arith, inl, inr, refl, subst, suc, sym}}
+use Rattle.std.{specs.Prelude.{None, Option, Some}, proofs.Common.{ℕ, ◌<◌, ◌∙◌, ◌≡◌, ◌≢◌, ◌⊎◌, arith, inl, inr, refl, suc, sym}}
 use Rattle.std.proofs.Common.{zero}
 use Rattle.objects.specs.Forest.{IsForest, Joins, Links}
 

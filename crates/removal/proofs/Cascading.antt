@@ -1,5 +1,5 @@
 -- How far a cascade has come, and what it has reached where no more objects are going.
-use Rattle.std.{specs.Prelude.{None, Some, slice_get}, proofs.Common.{ℕ, ◌+◌, ◌∙◌, ◌≡◌, Bool, add-one, ap, arith, refl, true}}
+use Rattle.std.{specs.Prelude.{None, Some, slice_get}, proofs.Common.{ℕ, ◌+◌, ◌∙◌, ◌≡◌, Bool, add-one, ap, arith, true}}
 use Rattle.std.proofs.lemmas.Option.{slice_get_past}
 use Rattle.base.specs.declared.ids.{ObjId.ObjId, SlotRef.SlotRef}
 use Rattle.machine.specs.{Counts.objects_in, Machine.{Machine, cap_of}}

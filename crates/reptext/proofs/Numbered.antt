@@ -1,5 +1,5 @@
 -- A list of numbered values that have names grows by one, and ends.
-use Rattle.std.{specs.List.{enumerate_from, zip}, proofs.Common.{[], ℕ, ◌++◌, ◌+◌, ◌<◌, ◌∙◌, ◌≡◌, ◌≤◌, List, ap, arith, get_or, length}}
+use Rattle.std.{specs.List.{enumerate_from, zip}, proofs.Common.{ℕ, ◌++◌, ◌+◌, ◌<◌, ◌∙◌, ◌≡◌, ◌≤◌, List, ap, arith, get_or, length}}
 use Rattle.std.proofs.{Common.{map, sym, take}, lemmas.List.{take_all, FromFn.{get_or-enumerate_from, length-enumerate_from}}}
 use Rattle.std.proofs.lemmas.Slice.Zip.{get_or-zip, length-zip}
 use Rattle.words.specs.Text.{line_text, text_of}

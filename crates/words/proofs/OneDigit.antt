@@ -1,6 +1,6 @@
 -- A number of one digit, before a space.
-use Rattle.std.{specs.{Char.is_ascii_digit, Int.IsInRange, List.{onto_first, slice_split}}, proofs.Common.{[], ℕ, ◌+◌, ◌-◌, ◌<◌, ◌==◌, ◌∙◌}}
-use Rattle.std.proofs.Common.{◌∷◌, ◌≡◌, ◌≢◌, ◌≤◌, Bool, List, Ok, Option, Some, ap, arith, cond, drop, false, get_or, length, refl, sym}
+use Rattle.std.{specs.{Char.is_ascii_digit, Int.IsInRange, List.{onto_first}}, proofs.Common.{[], ℕ, ◌-◌, ◌∙◌}}
+use Rattle.std.proofs.Common.{◌∷◌, ◌≡◌, ◌≤◌, List, Ok, Some, ap, arith, cond, drop, get_or, length, refl, sym}
 use Rattle.std.proofs.{Common.{take, true}, lemmas.{Bool.ne_eqb, Fmt.decimal_digit, List.take_rest}}
 use Rattle.words.{specs.{Number.{dec_of, number_at}, Reading.{bind, or_syntax, word_at}, Text.words_of}, proofs.Decimals.dec_again}
 use Rattle.words.proofs.Decimals.{in_range}

@@ -1,5 +1,5 @@
 -- The claim at which the search ends is the first that doesn't hold, and each before it does.
-use Rattle.std.proofs.{Common.{ℕ, ◌<◌, ◌∙◌, ◌≡◌, ap, arith, false, get_or, inl, inr, length, refl, subst, sym, true}, lemmas.Bool.cases_lt}
+use Rattle.std.proofs.{Common.{◌<◌, ◌∙◌, ◌≡◌, ap, arith, false, get_or, inl, inr, length, refl, subst, sym, true}, lemmas.Bool.cases_lt}
 use Rattle.std.proofs.lemmas.{List.get_or_default, Option.{get_or_from_slice_get, slice_get_read}}
 use Rattle.policy.specs.Policy.{allows}
 use Rattle.verdict.specs.Extents.{GoesTo}

@@ -1,7 +1,7 @@
 use Rattle.std.proofs.Common.{ℕ, List, arith, subst, sym}
 use Rattle.std.specs.Vec.{vec_capacity}
 use Rattle.machine.specs.Machine.{Machine}
-use Rattle.cores.specs.{Rule.about, Seats.{IsOpened, ticket_of}}
+use Rattle.cores.specs.{Seats.{IsOpened, ticket_of}}
 use Rattle.cores.proofs.Seating.{in_order_first}
 use Rattle.cores.proofs.opened.begun.Goals as goal
 

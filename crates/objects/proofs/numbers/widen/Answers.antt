@@ -1,4 +1,4 @@
-use Rattle.std.specs.{HashMap.get, Prelude.{[], ℕ, ◌++◌, ◌-◌, ◌≡◌, Err, List, None, Ok, OnErr, OnOk, Option, Result, length, nat_eq, replicate, slice_get}}
+use Rattle.std.specs.{HashMap.get, Prelude.{ℕ, ◌++◌, ◌≡◌, Err, List, None, Ok, OnErr, OnOk, Option, Result, length, nat_eq, replicate, slice_get}}
 use Rattle.std.proofs.Common.{◌∙◌, ap}
 use Rattle.objects.specs.{declared.numbers.Places.Places, Places.{from_either, places_in}}
 use Rattle.objects.proofs.NumberLemmas.{widened}

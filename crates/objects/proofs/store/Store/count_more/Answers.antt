@@ -1,4 +1,4 @@
-use Rattle.std.proofs.Common.{ℕ, ◌+◌, ◌∙◌, ap, sym}
+use Rattle.std.proofs.Common.{◌+◌, ◌∙◌, ap, sym}
 use Rattle.objects.specs.{Entries.{caps_in, set_caps_in, with_entry}, Places.{entries_by_number, placed, places_in}}
 use Rattle.objects.proofs.PlaceLemmas.{IsPlaced-changed, by_number, changed_by_number}
 use Rattle.objects.proofs.store.Store.count_more.Goals as goal
