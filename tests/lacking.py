@@ -61,7 +61,7 @@ def apart(a, kind, b):
 
 # With each pattern the policy is closed, and the table accepted: what it is, and how many edges it has between four labels.
 PATTERNS = [("every edge", lambda *_: True, 272), ("granting subjects", granting, 244), ("subjects apart", apart, 198)]
-# The rules of which each is the first that one of these policies breaks. A4 is so over 256 labels: with calls P8 asks for `runs` too.
+# The rules of which each is the first that one of these policies breaks. A4 is so over 256 labels alone: with calls P8 asks for `runs` too.
 RULES = {*(f"P{number}" for number in range(1, 9)), "A1", "A2", "A3"}
 # Over 64 labels one edge of each kind is left out, between labels that differ from those of every other kind.
 SPREAD = [(number * 5 % 64, kind, number * 13 % 64) for number, kind in enumerate(texts.KINDS)]
@@ -247,12 +247,16 @@ def told(out, few):
 
 
 def compare_many(comparison, system, count, without, lacking):
-    """Compares the verdicts on policies over so many labels, each without edges of some kinds, and without one of these, or none."""
-    kinds, table = [kind for kind in texts.KINDS if kind not in without], table_of(system, range(count))
+    """Compares the verdicts on policies over so many labels, each without edges of some kinds, and without one of these, or none.
+
+    It gives the rules of which each is the first that one of them breaks.
+    """
+    first, kinds, table = set(), [kind for kind in texts.KINDS if kind not in without], table_of(system, range(count))
     whole, placed = whole_of(range(count), kinds), {int(label) for label in re.findall(r"\bl(\d+)\b", system[1])}
     for edge in lacking:
         few, line = sorted({0, 1, 2, *placed, *(edge or [])[::2]}), f"{line_of(*edge)}\n".encode() if edge else b""
         wanted, shown, _ = commands.answer("check", [table_of(system, few), whole_of(few, kinds).replace(line, b"")])
+        first.add(json.loads(shown).get("rule"))
         status, out, _ = comparison.of_program(["check"], {"table": table, "policy": whole.replace(line, b"")})
         if (status, told(out, few)) == (wanted, told(shown, few)):
             comparison.passed += 1
@@ -261,11 +265,12 @@ def compare_many(comparison, system, count, without, lacking):
         print(f"check with {count} labels, and a policy with all edges, but none of {without} and not `{line.decode().strip()}`")
         for who, status, out in [("the program", status, out.decode()), ("of a few labels the second reading", wanted, shown)]:
             print(f"{who}, with status {status}:\n{out}", end="", flush=True)
+    return first
 
 
 def compare_lacking(comparison):
     compare_each(comparison)
     hold_scan(comparison)
     compare_scanned(comparison, 64)
-    for without, lacking in LACKING:
-        compare_many(comparison, WIDE, 256, without, lacking)
+    first = [compare_many(comparison, WIDE, 256, without, lacking) for without, lacking in LACKING]
+    comparison.hold("no policy over 256 labels that lacks one edge breaks A4 first", "A4" in set().union(*first))
