@@ -1,5 +1,5 @@
-ghost use Rattle.std.specs.Prelude.{◌≤◌, IfOk, IfSome};
-ghost use Rattle.confine.specs.Requests.{HasFewWorkers, IsWithinLimits, OnInTurn};
+ghost use Rattle.std.specs.Prelude.{◌≡◌, ◌≤◌, IfOk, IfSome};
+ghost use Rattle.confine.specs.{Opening.names_of, Requests.{HasFewWorkers, IsWithinLimits, OnInTurn}};
 
 use crate::help;
 use clap::error::ErrorKind;
@@ -28,7 +28,9 @@ pub struct SplitRun<'a> {
 
 impl<'a> SplitRun<'a> {
     /// The same run, in turn.
-    pub fn invocation(self) -> Invocation<'a> {
+    pub fn invocation(self) -> Invocation<'a>
+        ensures { result.request ≡ names_of self.entry }
+    {
         Invocation {
             request: Request::OfThree(OfThree::Run, self.table, self.policy, self.script),
             explains: self.explains,
