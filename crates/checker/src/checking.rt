@@ -1,6 +1,6 @@
-ghost use Rattle.std.specs.Prelude.{◌↔◌, ◌≡◌, ◌≤◌, Err, IfOk};
+ghost use Rattle.std.specs.Prelude.{ℕ, ◌<◌, ◌↔◌, ◌≡◌, ◌≤◌, Err, IfOk};
 ghost use Rattle.policy.specs.Policy.{allows};
-ghost use Rattle.integrity.specs.Safe.{GuardsBudgets, KeepsBounds, KeepsIntegrity, LabelsObjects, StaysConfined};
+ghost use Rattle.integrity.specs.Safe.{GuardsBudgets, KeepsBounds, KeepsIntegrity, LabelsObjects, RefusesOthers, StaysConfined};
 ghost use Rattle.checker.specs.Check.{IfAccepted, IsCheck, error_refusal};
 
 use base::{Misuse, Refusal};
@@ -68,6 +68,8 @@ pub fn check<'a, R: Threads + Sync, G: Gate + Sync>(
     ensures integrity { IfOk result (λ verdict. IfAccepted verdict (KeepsIntegrity table.now (allows policy.now))) }
     ensures bounds { IfOk result (λ verdict. IfAccepted verdict (KeepsBounds table.now (allows policy.now))) }
     ensures budgets { IfOk result (λ verdict. IfAccepted verdict (GuardsBudgets table.now (allows policy.now))) }
+    ensures acting { IfOk result (λ verdict. IfAccepted verdict (RefusesOthers table.now (allows policy.now))) }
+    ensures arrived { IfOk result (λ verdict. IfAccepted verdict ((worker : ℕ) → worker < workers → G.HasArrived gate.now worker)) }
     ensures workers { (result ≡ Err CheckError.WorkerCount) ↔ ¬ ((1 ≤ workers) × (workers ≤ 16)) }
 {
     if workers < 1 || workers > 16 {

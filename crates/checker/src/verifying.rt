@@ -1,6 +1,6 @@
 ghost use Rattle.std.specs.Prelude.{◌↔◌, ◌≡◌, IfNone, IfOk, IfSome, IsTrue};
 ghost use Rattle.policy.specs.Policy.{allows};
-ghost use Rattle.integrity.specs.Safe.{GuardsBudgets, KeepsBounds, KeepsIntegrity, LabelsObjects, StaysConfined};
+ghost use Rattle.integrity.specs.Safe.{GuardsBudgets, KeepsBounds, KeepsIntegrity, LabelsObjects, RefusesOthers, StaysConfined};
 ghost use Rattle.checker.specs.Verified.{DiffersFirst, IsVerified};
 
 use certificate::{Certificate, Line, make};
@@ -43,6 +43,7 @@ pub fn verify<'a, R: Threads + Sync>(
     ensures integrity { IfOk result (λ accepted. KeepsIntegrity table.now (allows policy.now)) }
     ensures bounds { IfOk result (λ accepted. KeepsBounds table.now (allows policy.now)) }
     ensures budgets { IfOk result (λ accepted. GuardsBudgets table.now (allows policy.now)) }
+    ensures acting { IfOk result (λ accepted. RefusesOthers table.now (allows policy.now)) }
 {
     let accepted = match judge(rt, alloc, table, policy, 1, &Open) {
         Ok(Ok(accepted)) => accepted,

@@ -34,15 +34,16 @@ where
     W::Out: Send + Drop,
     requires { (1 ≤ workers) × (workers ≤ 16) }
     ensures ok { IfOk result (λ outs. outs.items ≡ map (W.answer work.now) items.now) }
+    ensures arrived { IfOk result (λ outs. (worker : ℕ) → worker < workers → G.HasArrived gate.now worker) }
     ensures err { IfErr result (λ refusal. refusal ≡ out_of_memory) }
 {
     let share = |worker: usize| -> Result<Vec<W::Out>, Refusal>
         requires { (0 < workers) × (worker < workers) }
         ensures { IfOk result (λ outs. outs.items ≡ map (W.answer work.entry.now) (share_of items.entry.now workers worker))
-            × IfErr result (λ refusal. refusal ≡ out_of_memory) }
+            × IfErr result (λ refusal. refusal ≡ out_of_memory) × G.HasArrived gate.entry.now worker }
     {
         gate.arrive(worker);
-        work_share(alloc, items, workers, worker, work)
+        work_share(alloc, items, workers, worker, gate, work)
     };
     let Ok(parts) = thread::map_indices(rt, alloc, workers, &share) else {
         return Err(Refusal::OUT_OF_MEMORY);
@@ -59,18 +60,20 @@ fn start(items: usize, workers: usize, worker: usize) -> usize
     worker * (items / workers) + worker.min(items % workers)
 }
 
-// The results of a worker's share.
+// The results of the share of a worker, who has arrived at the gate.
 #[tactic(auto, unfolding(crate::specs::Shares::share_of))]
-fn work_share<T, W: Work<T>>(
+fn work_share<T, G: Gate, W: Work<T>>(
     alloc: Global,
     items: &[T],
     workers: usize,
     worker: usize,
+    _gate: &G,
     work: &W,
 ) -> Result<Vec<W::Out>, Refusal>
 where
     W::Out: Drop,
-    requires { (0 < workers) × (worker < workers) }
+    requires worker { (0 < workers) × (worker < workers) }
+    requires arrived { G.HasArrived _gate.now worker }
     ensures ok { IfOk result (λ outs. outs.items ≡ map (W.answer work.now) (share_of items.now workers worker)) }
     ensures err { IfErr result (λ refusal. refusal ≡ out_of_memory) }
 {

@@ -1,14 +1,17 @@
 -- The boot state of a table belongs to it: in particular the label of untyped memory is found by any address in it.
-use Rattle.std.proofs.Common.{ℕ, ◌&&◌, ◌<◌, ◌∙◌, ◌≡◌, ◌≤◌, Bool, Some, ap, arith, false, nat_le, nat_lt, option_map, refl, slice_get, subst}
-use Rattle.std.proofs.{Common.{sym, true}, lemmas.{Bool.{and_from, and_parts, le-leb, leb-true, Decides.Decides-ltb}, Option.none-some}}
-use Rattle.std.proofs.lemmas.Option.{same_Some}
+use Rattle.std.proofs.Common.{ℕ, ◌&&◌, ◌<◌, ◌∙◌, ◌≡◌, ◌≤◌, Bool, None, Option, Some, ap, arith, false, inl, inr, nat_le, nat_lt, option_map}
+use Rattle.std.proofs.{Common.{refl, slice_get, subst, sym, true}, lemmas.Bool.{and_from, and_parts, le-leb, leb-true, Decides.Decides-ltb}}
+use Rattle.std.proofs.lemmas.Option.{none-some, same_Some}
 use Rattle.base.specs.declared.ids.ObjId.{ObjId}
-use Rattle.machine.specs.declared.{layout.Initial.Initial, object.{Object.{Object, Object as o}, Untyped.Untyped}, thread.Tcb.Tcb}
-use Rattle.machine.specs.{Authority.{has_memory_at, label_at, lent_of}, Boot.{IsBoot, bound}, Layout.{Layout, bound_context, initial_of}}
-use Rattle.machine.{specs.{Machine.Machine, Objects.{address_of, end_of, kind_of_object}}, proofs.Bound.{address-bound, kind-bound}}
-use Rattle.table.{specs.{Placement.{IsApart, Lies}, Rules.{IsBlank, IsLawful}}, proofs.AtBoot.{boot_label, declared_at, initial_lawful}}
-use Rattle.table.proofs.{AtBoot.{label_declared, rest_lends}, Lookups.{found_first, pair_at}}
-use Rattle.integrity.{specs.OfTable.IsOfTable, proofs.Shrinking.same_tcb}
+use Rattle.machine.specs.declared.{layout.Initial.Initial, object.{Object.{Object, Object as o}, Untyped.Untyped}, thread.RunState.RunState}
+use Rattle.machine.specs.{declared.thread.{RunState.RunState as state, Tcb.Tcb}, Authority.{has_memory_at, label_at, lent_of}, Boot.IsBoot}
+use Rattle.machine.specs.{Boot.bound, Layout.{Layout, bound_context, initial_of}, Machine.Machine, Objects.{address_of, end_of}}
+use Rattle.machine.{specs.Objects.kind_of_object, proofs.Bound.{address-bound, kind-bound}}
+use Rattle.policy.specs.Domain.{EdgeTest}
+use Rattle.table.{specs.{Placement.{IsApart, Lies}, Rules.{IsAtRest, IsBlank, IsLawful}}, proofs.AtBoot.{Declared, boot_label, declared_at}}
+use Rattle.table.proofs.{AtBoot.{initial_lawful, label_declared, rest_lends}, Lookups.{found_first, pair_at}}
+use Rattle.integrity.{specs.{Acting.MayAct.starts, OfTable.IsOfTable}, proofs.Asleep.{OthersSleep, SleepsOrActs, acts_of}}
+use Rattle.integrity.proofs.Shrinking.{same_tcb}
 use mathlib.Core.Bool.{false≢true}
 
 -- untyped memory that has an address
@@ -68,6 +71,45 @@ bound_lends t id (o.Tcb tcb) thread context blank e lends =
     let same : thread.state ≡ tcb.state = ap (λ (x : Tcb). x.state) (same_tcb thread (record tcb { context = bound_context t id }) e) in
     none-some context (sym (ap lent_of same ∙ rest_lends tcb.state blank.0) ∙ lends)
 bound_lends t id _ thread context blank e lends = cc
+
+-- at boot a thread is bound as the table says
+bound_thread_is :
+    (t : Layout) (id : ObjId) (object : Object) (thread : Tcb) → o.Tcb thread ≡ bound t id object
+    → (tcb : Tcb) × (object ≡ o.Tcb tcb) × (thread ≡ record tcb { context = bound_context t id })
+bound_thread_is t id (o.Tcb tcb) thread e = (tcb, refl, same_tcb thread (record tcb { context = bound_context t id }) e)
+bound_thread_is t id _ thread e = cc
+
+-- at boot a thread sleeps, or its label acts from boot on
+pub boot_asleep : (t : Layout) (allowed : EdgeTest) (m : Machine) → IsLawful t → IsBoot t m → OthersSleep t allowed m
+boot_asleep t allowed m lawful boot id thread at =
+    let declared = declared_at t m boot id (o.Tcb thread) at in
+    let is = bound_thread_is t id declared.initial.object thread declared.object_is in
+    let blank : IsBlank (o.Tcb is.0) =
+    subst IsBlank is.1 (initial_lawful t lawful id declared.initial declared.declares).blank in
+    by_state declared is.0 is.1 is.2 is.0.state refl blank.0 (bound_context t id) refl
+  where
+    by_state :
+        (declared : Declared t id (o.Tcb thread)) (tcb : Tcb) → declared.initial.object ≡ o.Tcb tcb
+        → thread ≡ record tcb { context = bound_context t id } → (run : RunState) → tcb.state ≡ run → IsAtRest tcb.state
+        → (context : Option ObjId) → bound_context t id ≡ context → SleepsOrActs t allowed m id thread
+    by_state declared tcb is now state.Inactive run rest context link = inl (inl (ap (λ (x : Tcb). x.state) now ∙ run))
+    by_state declared tcb is now state.Ready run rest None link =
+        inl (inr (ap (λ (x : Tcb). x.state) now ∙ run, ap (λ (x : Tcb). x.context) now ∙ link))
+    by_state declared tcb is now state.Ready run rest (Some context) link =
+        inr
+        (acts_of t allowed m id declared.initial.label (boot_label t m boot id ∙ label_declared t id declared.initial declared.declares)
+        (starts (record {
+          id = id;
+          initial = declared.initial;
+          declares = declared.declares;
+          labelled = refl;
+          thread = tcb;
+          is_thread = is;
+          ready = run;
+          context = context;
+          runs = link;
+        })))
+    by_state declared tcb is now run at rest context link = absurd (subst IsAtRest at rest)
 
 pub boot_of_table : (t : Layout) (m : Machine) → IsLawful t → IsBoot t m → IsOfTable t m
 boot_of_table t m lawful boot =

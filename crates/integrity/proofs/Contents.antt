@@ -1,14 +1,14 @@
 -- Contents that a thread, a notification, a reply and a scheduling context may get in a step, and a change within full authority, and
 -- one by which a label takes.
-use Rattle.std.proofs.Common.{ℕ, ◌+◌, ◌<◌, ◌∙◌, ◌≡◌, ◌⊎◌, List, Some, ap, inl, inr, refl, sym, true}
+use Rattle.std.proofs.Common.{ℕ, ◌+◌, ◌<◌, ◌∙◌, ◌≡◌, ◌⊎◌, List, Some, ap, inl, inr, refl, subst, sym, true}
 use Rattle.base.specs.declared.{ids.ObjId.ObjId, kind.Kind.Kind}
 use Rattle.base.specs.declared.kind.Kind.TheVariants as authority
 use Rattle.machine.specs.declared.{call.Event.Event, object.{Context.Context, Notification.Notification, Object.{Object, Object as o}}}
 use Rattle.machine.specs.{declared.{object.Reply.Reply, thread.Tcb.Tcb}, Authority.{holds_thread, label_of, lent_of, links}, Layout.Layout}
 use Rattle.machine.specs.Machine.{Machine, object_of, queue_of, with_object}
 use Rattle.policy.specs.{Domain.EdgeTest, Full.IsFull, Take.MayTake}
-use Rattle.integrity.{specs.{Bounded.MayAffect, Budgets.MayConfigure, Shrinks.Lessens}, proofs.{Losses.lessened, Shrinking.same_context}}
-use Rattle.integrity.proofs.{Shrinking.same_tcb, TouchKeeps.Fits}
+use Rattle.integrity.{specs.{Bounded.MayAffect, Budgets.MayConfigure, Shrinks.Lessens}, proofs.Asleep.{IsAwake, OthersSleep, SleepsOrActs}}
+use Rattle.integrity.proofs.{Losses.lessened, Shrinking.{same_context, same_tcb}, TouchKeeps.Fits}
 
 -- the label has full authority over the object's
 pub full :
@@ -24,16 +24,18 @@ pub loses_links :
 loses_links t allowed a m id label old new labelled take there less threads queue =
     record { label = label; labelled = inl labelled; may = inr (take, lessened m id old new threads there queue less) }
 
-module _ (t : Layout) (allowed : EdgeTest) (began : Machine) (event : Event) (m : Machine) (id : ObjId) where
-  -- a thread stays where it is, each link was there or is in the policy, and the number of what it lent was given out
+module _ (t : Layout) (allowed : EdgeTest) (began : Machine) (event : Event) (a : ℕ) (m : Machine) (id : ObjId) where
+  -- a thread stays where it is, each link was there or is in the policy, the number of what it lent was given out, and it sleeps, or
+  -- its label may act
   pub tcb_fits :
       (old new : Tcb) → object_of m id ≡ Some (o.Tcb old) → new.address ≡ old.address
       → ((end : ObjId) (k : Kind) → links (o.Tcb new) k end ≡ true
       → (links (o.Tcb old) k end ≡ true)
       ⊎ ((from to : ℕ) → label_of t m id ≡ Some from → label_of t m end ≡ Some to → allowed from k to ≡ true))
       → ((context : ObjId) → lent_of new.state ≡ Some context → context.0 < m.next)
-      → Fits t allowed began event m id (o.Tcb old) (o.Tcb new)
-  tcb_fits old new was same within below =
+      → (IsAwake t allowed began a → OthersSleep t allowed m → SleepsOrActs t allowed m id new)
+      → Fits t allowed began event a m id (o.Tcb old) (o.Tcb new)
+  tcb_fits old new was same within below sleeps =
       record {
         was = was;
         kind = refl;
@@ -41,13 +43,15 @@ module _ (t : Layout) (allowed : EdgeTest) (began : Machine) (event : Event) (m 
         end = ap (λ n. n + 1024) same;
         links = within;
         lent = λ context thread is lends. below context (ap (λ (x : Tcb). lent_of x.state) (same_tcb new thread is) ∙ lends);
+        sleeps = λ awake others thread is.
+            subst (λ (x : Tcb). SleepsOrActs t allowed m id x) (same_tcb new thread is) (sleeps awake others);
         share = λ before after e. cc;
       }
 
   -- a notification stays where it is
   pub notification_fits :
       (old new : Notification) → object_of m id ≡ Some (o.Notification old) → new.address ≡ old.address
-      → Fits t allowed began event m id (o.Notification old) (o.Notification new)
+      → Fits t allowed began event a m id (o.Notification old) (o.Notification new)
   notification_fits old new was same =
       record {
         was = was;
@@ -56,6 +60,7 @@ module _ (t : Layout) (allowed : EdgeTest) (began : Machine) (event : Event) (m 
         end = ap (λ n. n + 32) same;
         links = λ end k e. cc;
         lent = λ context thread e lends. cc;
+        sleeps = λ awake others thread e. cc;
         share = λ before after e. cc;
       }
 
@@ -64,7 +69,7 @@ module _ (t : Layout) (allowed : EdgeTest) (began : Machine) (event : Event) (m 
       (old new : Reply) → object_of m id ≡ Some (o.Reply old) → new.address ≡ old.address
       → ((end : ObjId) (from to : ℕ) → holds_thread new.state end ≡ true → label_of t m id ≡ Some from
       → label_of t m end ≡ Some to → allowed from authority.Holds to ≡ true)
-      → Fits t allowed began event m id (o.Reply old) (o.Reply new)
+      → Fits t allowed began event a m id (o.Reply old) (o.Reply new)
   reply_fits old new was same within =
       record {
         was = was;
@@ -73,6 +78,7 @@ module _ (t : Layout) (allowed : EdgeTest) (began : Machine) (event : Event) (m 
         end = ap (λ n. n + 32) same;
         links = held;
         lent = λ context thread e lends. cc;
+        sleeps = λ awake others thread e. cc;
         share = λ before after e. cc;
       }
     where
@@ -87,7 +93,7 @@ module _ (t : Layout) (allowed : EdgeTest) (began : Machine) (event : Event) (m 
   pub context_fits :
       (old new : Context) → object_of m id ≡ Some (o.Context old) → new.address ≡ old.address
       → (new.share ≡ old.share) ⊎ MayConfigure t allowed began event id
-      → Fits t allowed began event m id (o.Context old) (o.Context new)
+      → Fits t allowed began event a m id (o.Context old) (o.Context new)
   context_fits old new was same shared =
       record {
         was = was;
@@ -96,6 +102,7 @@ module _ (t : Layout) (allowed : EdgeTest) (began : Machine) (event : Event) (m 
         end = ap (λ n. n + 256) same;
         links = λ end k e. cc;
         lent = λ context thread e lends. cc;
+        sleeps = λ awake others thread e. cc;
         share = share;
       }
     where

@@ -1,6 +1,6 @@
 -- Configure, Bind and Unbind within a caller's authority: its label may use the scheduling context, a thread that comes to run on
 -- it is one that the label controls, and one that runs on it no more only loses it.
-use Rattle.std.proofs.{Common.{ℕ, ◌∙◌, ◌≡◌, ◌≢◌, None, Option, Some, ap, inr, refl, subst, sym, true}, lemmas.Option.none-some}
+use Rattle.std.proofs.{Common.{ℕ, ◌∙◌, ◌≡◌, ◌≢◌, None, Option, Some, ap, inl, inr, refl, subst, sym, true}, lemmas.Option.none-some}
 use Rattle.std.proofs.lemmas.Option.{same_Some}
 use Rattle.base.specs.declared.{ids.{ObjId.ObjId}, kind.Kind.Kind as authority}
 use Rattle.machine.specs.declared.{call.Event.Event, cap.Detail.Detail as d, object.{Context.Context, Object.Object as o}, thread.Tcb.Tcb}
@@ -10,10 +10,11 @@ use Rattle.machine.{specs.WellFormed.IsThread, proofs.{Ids.at_other, LookUps.obj
 use Rattle.steps.proofs.{ContextRow.{BindDone, ConfigureDone, UnbindDone}, ContextsFormed.{bound_is, share_is, unbound_is}}
 use Rattle.steps.proofs.{Finding.{FindsObject, found_kind}, FoundObjects.{context_of_kind, tcb_of_kind}}
 use Rattle.policy.specs.{Closed.IsClosed, Domain.EdgeTest, Full.IsFull.modifies, Take.{MayTake, MayTake.unbinds}}
-use Rattle.integrity.specs.{Budgets.{MayConfigure, configures}, Invariant.{IsHeld, IsSound}, Shrinks.{Lessens.released, Stops.goes_on}}
-use Rattle.integrity.proofs.{Contents.{context_fits, full, loses_links}, ContextTouches.{linked_keeps, runs_on, thread_keeps}, Held.held_of}
-use Rattle.integrity.proofs.{Keeps.{Keeps, unchanged}, MessageParts.{IsReached, reached, thread_label}, SetKeeps.set_keeps}
-use Rattle.integrity.proofs.{SlotKeeps.IsOpened, ThreadKeeps.{may_control, to_thread}}
+use Rattle.integrity.specs.{Acting.MayAct.started, Budgets.{MayConfigure, configures}, Invariant.{IsHeld, IsSound}}
+use Rattle.integrity.{specs.Shrinks.{Lessens.released, Stops.goes_on}, proofs.{Asleep.acts_of, Contents.{context_fits, full, loses_links}}}
+use Rattle.integrity.proofs.{ContextTouches.{linked_keeps, runs_on, thread_keeps}, Held.held_of, Keeps.{Keeps, unchanged}}
+use Rattle.integrity.proofs.{MessageParts.{IsReached, reached, thread_label}, SetKeeps.set_keeps, SlotKeeps.IsOpened}
+use Rattle.integrity.proofs.ThreadKeeps.{may_control, to_thread}
 
 module _
     (t : Layout) (allowed : EdgeTest) (event : Event) (a : ℕ) (m : Machine) (sound : IsSound t allowed m)
@@ -50,7 +51,7 @@ module _
       let new : Context = record old.0 { share = Some done.share } in
       subst (λ (n : Machine). Keeps t allowed m event a m n) (sym (done.changes ∙ share_is m done.id old.0 done.share old.1))
       (set_keeps t allowed m event a m done.id held (o.Context old.0) (o.Context new)
-      (context_fits t allowed m event m done.id old.0 new old.1 refl (inr may))
+      (context_fits t allowed m event a m done.id old.0 new old.1 refl (inr may))
       (full t allowed a m (with_object m done.id (o.Context new)) done.id to.label to.labelled
       (modifies authority.Context refl (may_use address done.id done.finds))))
 
@@ -114,6 +115,8 @@ module _
           same_Some to of_context.label
           (sym target ∙ ap (label_of t m) (sym (same_Some done.id end bound)) ∙ of_context.labelled) in
           ap (λ l. allowed l authority.Runs to) from_is ∙ ap (allowed of_thread.label authority.Runs) to_is ∙ may_run))
+          (inr (λ awake.
+          acts_of t allowed m done.thread of_thread.label of_thread.labelled (started awake.acting controls)))
           (full t allowed a m (with_object m done.thread (o.Tcb (runs_on tcb.0 (Some done.id)))) done.thread of_thread.label
           of_thread.labelled (modifies authority.Control refl controls))
 
@@ -137,7 +140,7 @@ module _
     stops : Keeps t allowed m event a m (with_object m thread (o.Tcb (runs_on tcb None)))
     stops =
         let queue = sound.well_formed.parts.queue thread (o.Tcb tcb) there in
-        thread_keeps t allowed m event a m held thread tcb None there (λ end bound. absurd (none-some end bound))
+        thread_keeps t allowed m event a m held thread tcb None there (λ end bound. absurd (none-some end bound)) (inl refl)
         (loses_links t allowed a m thread left.0 (o.Tcb tcb) (o.Tcb (runs_on tcb None)) left.1 may_lose there
         (released tcb (runs_on tcb None) refl refl refl (goes_on refl refl) (inr refl)) queue.0 queue.1)
 

@@ -10,9 +10,10 @@ use Rattle.machine.{specs.{Step.Bind.{context_under, with_bound, with_handed}, W
 use Rattle.machine.proofs.{LookUps.object_of-with_object, RunsLinks.{runs_by, runs_lent}}
 use Rattle.steps.proofs.ContextsFormed.{bound_is, unbound_is}
 use Rattle.policy.specs.Domain.{EdgeTest}
-use Rattle.integrity.{specs.{Bounded.MayAffect, Invariant.{IsHeld, IsSound}}, proofs.Contents.{context_fits, full, tcb_fits}}
-use Rattle.integrity.proofs.{Held.held_of, Keeps.{Keeps, keeps_keeps, unchanged}, ObjectLabels.{label_stays, same_label}}
-use Rattle.integrity.proofs.{SetKeeps.set_keeps, SlotKeeps.IsOpened}
+use Rattle.integrity.{specs.{Acting.MayAct, Bounded.MayAffect, Invariant.{IsHeld, IsSound}}, proofs.Asleep.{IsAwake, OthersSleep}}
+use Rattle.integrity.proofs.{Asleep.{SleepsOrActs, acts_of, unbound_sleeps}, Contents.{context_fits, full, tcb_fits}, Held.held_of}
+use Rattle.integrity.proofs.{Keeps.{Keeps, keeps_keeps, unchanged}, ObjectLabels.{label_stays, same_label}, SetKeeps.set_keeps}
+use Rattle.integrity.proofs.SlotKeeps.{IsOpened}
 
 -- the contents of a thread with another context, and of a context with another thread
 
@@ -37,6 +38,10 @@ set_here m id new = object_of-with_object m id new id ∙ at_itself id (Some new
 set_beside : (m : Machine) (id q : ObjId) (new : Object) → q ≢ id → object_of (with_object m id new) q ≡ object_of m q
 set_beside m id q new apart = object_of-with_object m id new q ∙ at_other q id (Some new) (object_of m q) apart
 
+-- if the step's label may act, so may the label of a thread
+abbrev pub ActsAt : Layout → EdgeTest → Machine → ℕ → Machine → ObjId → Type 0
+ActsAt t allowed began a m thread = IsAwake t allowed began a → (label : ℕ) → label_of t m thread ≡ Some label → MayAct t allowed label
+
 -- a thread may come to run on a context: it does so, or the policy has the edge
 abbrev pub MayRun : Layout → EdgeTest → Machine → ObjId → Tcb → ObjId → Type 0
 MayRun t allowed m thread tcb context =
@@ -45,17 +50,26 @@ MayRun t allowed m thread tcb context =
 
 module _
     (t : Layout) (allowed : EdgeTest) (began : Machine) (event : Event) (a : ℕ) (m : Machine) (held : IsHeld t allowed m) where
-  -- a thread is bound to a context that it may run on, or to none
+  -- a thread whose label may act is bound to a context that it may run on, or any thread to none
   pub thread_keeps :
       (thread : ObjId) (tcb : Tcb) (link : Option ObjId) → IsThread m thread tcb
       → ((context : ObjId) → link ≡ Some context → MayRun t allowed m thread tcb context)
+      → (link ≡ None) ⊎ ActsAt t allowed began a m thread
       → MayAffect t allowed a m (with_object m thread (o.Tcb (runs_on tcb link))) thread
       → Keeps t allowed began event a m (with_object m thread (o.Tcb (runs_on tcb link)))
-  thread_keeps thread tcb link there may_run may =
+  thread_keeps thread tcb link there may_run wakes may =
       set_keeps t allowed began event a m thread held (o.Tcb tcb) (o.Tcb (runs_on tcb link))
-      (tcb_fits t allowed began event m thread tcb (runs_on tcb link) there refl within
-      (λ context lent. held.of_table.lent thread context tcb there lent)) may
+      (tcb_fits t allowed began event a m thread tcb (runs_on tcb link) there refl within
+      (λ context lent. held.of_table.lent thread context tcb there lent) (sleeps wakes)) may
     where
+      sleeps :
+          (link ≡ None) ⊎ ActsAt t allowed began a m thread → IsAwake t allowed began a → OthersSleep t allowed m
+          → SleepsOrActs t allowed m thread (runs_on tcb link)
+      sleeps (inr acts) awake others = inr (acts awake)
+      sleeps (inl none) awake others =
+          subst (λ (x : Option ObjId). SleepsOrActs t allowed m thread (runs_on tcb x)) (sym none)
+          (elim (others thread tcb there) [ inl asleep ↦ inl (unbound_sleeps tcb asleep) | inr acts ↦ inr acts ])
+
       within :
           (end : ObjId) (k : Kind) → links (o.Tcb (runs_on tcb link)) k end ≡ true
           → (links (o.Tcb tcb) k end ≡ true)
@@ -80,15 +94,16 @@ module _
       set_beside m thread id (o.Tcb (runs_on tcb link)) (apart_by_kind m id thread context tcb its there) in
       keeps_keeps t allowed began event a m mid (with_object mid id (o.Context new)) held first
       (set_keeps t allowed began event a mid id first.held (o.Context context) (o.Context new)
-      (context_fits t allowed began event mid id context new (beside ∙ its) refl (inl refl))
+      (context_fits t allowed began event a mid id context new (beside ∙ its) refl (inl refl))
       (full t allowed a mid (with_object mid id (o.Context new)) id may.label (same_label t m mid id beside ∙ may.labelled)
       may.has))
 
 -- the label has full authority over both threads and the context that goes over, and the thread that gets it may run on it
-pub record MayHand (t : Layout) (allowed : EdgeTest) (a : ℕ) (m : Machine) (from to id : ObjId) : Type 0 where
+pub record MayHand (t : Layout) (allowed : EdgeTest) (began : Machine) (a : ℕ) (m : Machine) (from to id : ObjId) : Type 0 where
   pub gives : IsOpened t allowed m a from
   pub gets : IsOpened t allowed m a to
   pub goes : IsOpened t allowed m a id
+  pub acts : IsAwake t allowed began a → MayAct t allowed gets.label
   pub other : Tcb
   pub there : IsThread m to other
   pub may_run : (links (o.Tcb other) authority.Runs id ≡ true) ⊎ (allowed gets.label authority.Runs goes.label ≡ true)
@@ -98,7 +113,7 @@ module _
     (from to : ObjId) where
   module _
       (id : ObjId) (tcb : Tcb) (context : Context) (there : IsThread m from tcb) (runs : tcb.context ≡ Some id)
-      (its : object_of m id ≡ Some (o.Context context)) (apart : to ≢ from) (may : MayHand t allowed a m from to id) where
+      (its : object_of m id ≡ Some (o.Context context)) (apart : to ≢ from) (may : MayHand t allowed began a m from to id) where
     abbrev halfway : Machine
     halfway = with_object m from (o.Tcb (runs_on tcb None))
 
@@ -109,7 +124,7 @@ module _
     leaves =
         linked_keeps t allowed began event a m (held_of t allowed m sound) id from context tcb None None its there may.goes
         (thread_keeps t allowed began event a m (held_of t allowed m sound) from tcb None there
-        (λ q none. absurd (none-some q none))
+        (λ q none. absurd (none-some q none)) (inl refl)
         (full t allowed a m halfway from may.gives.label may.gives.labelled may.gives.has))
 
     its_between : object_of between id ≡ Some (o.Context (has_thread context None))
@@ -151,6 +166,7 @@ module _
         its_between there_between (record { label = may.goes.label; labelled = id_label; has = may.goes.has })
         (thread_keeps t allowed began event a between leaves.held to may.other (Some id) there_between
         (λ q is. subst (λ (i : ObjId). MayRun t allowed between to may.other i) (same_Some id q is) may_run_between)
+        (inr (λ awake. acts_of t allowed between to may.gets.label to_label (may.acts awake)))
         (full t allowed a between (with_object between to (o.Tcb (runs_on may.other (Some id)))) to may.gets.label to_label
         may.gets.has))
 
@@ -167,7 +183,7 @@ module _
   -- a thread's context goes over to a thread that has none
   pub handed_keeps :
       context_under (object_of m to) ≡ None
-      → ((id : ObjId) → context_under (object_of m from) ≡ Some id → MayHand t allowed a m from to id)
+      → ((id : ObjId) → context_under (object_of m from) ≡ Some id → MayHand t allowed began a m from to id)
       → Keeps t allowed began event a m (with_handed m from to)
   unfolding with_handed
   handed_keeps free may = by_content (object_of m from) refl where

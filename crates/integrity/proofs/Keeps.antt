@@ -7,8 +7,8 @@ use Rattle.machine.specs.declared.object.ObjectKind.TheVariants as kind
 use Rattle.machine.specs.{Authority.label_of, Layout.Layout, Machine.{Machine, object_of}, Objects.{address_of, kind_of_object}}
 use Rattle.policy.specs.Domain.{EdgeTest}
 use Rattle.integrity.specs.{Allowed.IsLabelled, Bounded.{MayAffect, MayModifyOrTake}, Budgets.MayConfigure, Invariant.IsHeld}
-use Rattle.integrity.{specs.Shrinks.IsSame, proofs.{ObjectLabels.{label_stays, labelled_there, same_label}, Shrinking.same_context}}
-use Rattle.integrity.proofs.Shrinking.{same_same, same_shrinks, shrinks_same, shrinks_shrinks}
+use Rattle.integrity.{specs.Shrinks.IsSame, proofs.{Asleep.{IsAwake, OthersSleep}, ObjectLabels.{label_stays, labelled_there, same_label}}}
+use Rattle.integrity.proofs.Shrinking.{same_context, same_same, same_shrinks, shrinks_same, shrinks_shrinks}
 
 -- an object is as it was, or changed within the bounds of a label
 abbrev pub Acts : Layout → EdgeTest → ℕ → Machine → Machine → ObjId → Type 0
@@ -25,6 +25,8 @@ pub record Keeps (t : Layout) (allowed : EdgeTest) (began : Machine) (event : Ev
   -- an object that is made gets a number that was free, and numbers are not used again
   pub born : (id : ObjId) (new : Object) → object_of m id ≡ None → object_of next id ≡ Some new → m.next ≤ id.0
   pub grows : m.next ≤ next.next
+  -- threads whose labels may not act sleep on, if the step's label may act
+  pub sleeps : IsAwake t allowed began a → OthersSleep t allowed m → OthersSleep t allowed next
   -- a context that is there before and after keeps its core, budget and period, unless the event may configure it
   pub budgets :
       (id : ObjId) (old new : Context) → object_of m id ≡ Some (o.Context old) → object_of next id ≡ Some (o.Context new)
@@ -45,6 +47,7 @@ unchanged t allowed began event a m held = record {
       let same = same_Some new old (sym is ∙ was) in (ap kind_of_object same, ap address_of same);
   born = λ q new gone is. absurd (none-some new (sym gone ∙ is));
   grows = omega arith;
+  sleeps = λ awake others. others;
   budgets = λ q old new was is.
       let same = same_Some (o.Context new) (o.Context old) (sym is ∙ was) in
       inl (ap (λ (c : Context). c.share) (same_context new old same));
@@ -189,6 +192,7 @@ module _
         (two.0 ∙ one.0, two.1 ∙ one.1);
     born = λ id new absent is. made id new absent is (object_of mid id) refl;
     grows = let one = first.grows in let two = more.grows in omega (arith, one, two);
+    sleeps = λ awake others. more.sleeps awake (first.sleeps awake others);
     budgets = budgets_kept;
   } where
     made :

@@ -12,8 +12,8 @@ use Rattle.machine.specs.declared.thread.RunState.TheVariants as state
 use Rattle.steps.proofs.{Lending.{GivesBack, lends, returned_or_same}, MessageRows.{lending, lending_formed, lending_receiver}}
 use Rattle.steps.proofs.MessageRows.{lending_there}
 use Rattle.policy.specs.{Domain.EdgeTest, Full.{IsFull, IsFull.{modifies, own}}, Take.MayTake}
-use Rattle.integrity.{specs.Invariant.{IsHeld, IsSound}, proofs.{ContextTouches.{MayHand, handed_keeps}, Held.held_of, Keeps.Keeps}}
-use Rattle.integrity.proofs.{Keeps.{keeps_keeps, unchanged}, MessageParts.{halts, label_kept, thread_edge, waits_keep}}
+use Rattle.integrity.{specs.{Acting.MayAct, Invariant.{IsHeld, IsSound}}, proofs.{Asleep.IsAwake, ContextTouches.{MayHand, handed_keeps}}}
+use Rattle.integrity.proofs.{Held.held_of, Keeps.{Keeps, keeps_keeps, unchanged}, MessageParts.{halts, label_kept, thread_edge, waits_keep}}
 use Rattle.integrity.proofs.MessageTouches.{sound_after}
 
 -- what runs on a context has it as its own
@@ -38,10 +38,11 @@ module _
   handing :
       (thread other id : ObjId) (tcb its : Tcb) → IsThread m thread tcb → label_of t m thread ≡ Some a → tcb.context ≡ Some id
       → IsThread m other its → (b : ℕ) → label_of t m other ≡ Some b → IsFull allowed a b
+      → (IsAwake t allowed began a → MayAct t allowed b)
       → ((s : ℕ) → label_of t m id ≡ Some s → allowed a authority.Runs s ≡ true
       → (links (o.Tcb its) authority.Runs id ≡ true) ⊎ (allowed b authority.Runs s ≡ true))
-      → MayHand t allowed a m thread other id
-  handing thread other id tcb its there mine runs at b labelled has may_run =
+      → MayHand t allowed began a m thread other id
+  handing thread other id tcb its there mine runs at b labelled has acts may_run =
       let context = sound.well_formed.links.thread_context thread id tcb there runs in
       let s = sound.of_table.labelled id (o.Context context.0) context.1 in
       let ran =
@@ -49,6 +50,7 @@ module _
       record {
         gives = record { label = a; labelled = mine; has = own refl };
         gets = record { label = b; labelled = labelled; has = has };
+        acts = acts;
         goes = record { label = s.0; labelled = s.1; has = modifies authority.Runs refl ran };
         other = its;
         there = at;
@@ -58,28 +60,29 @@ module _
   -- what a thread lent goes back to it from the thread that answers
   returned_back :
       (thread called : ObjId) (giver tcb : Tcb) → IsThread m thread giver → label_of t m thread ≡ Some a → IsThread m called tcb
-      → (l : ℕ) → label_of t m called ≡ Some l → IsFull allowed a l → GivesBack m thread called
+      → (l : ℕ) → label_of t m called ≡ Some l → IsFull allowed a l → (IsAwake t allowed began a → MayAct t allowed l)
+      → GivesBack m thread called
       → Keeps t allowed began event a m (with_handed m thread called)
-  returned_back thread called giver tcb there mine at l labelled has back =
+  returned_back thread called giver tcb there mine at l labelled has acts back =
       handed_keeps t allowed began event a m sound thread called back.free (λ id runs.
       let same : back.context ≡ id = same_Some back.context id (sym back.runs ∙ runs) in
       let lent : lent_of tcb.state ≡ Some id =
       lent_back tcb tcb.state (record { context = back.context; borrower = thread }) (sym (ap lent_in at) ∙ back.lent)
       ∙ ap (λ (i : ObjId). Some i) same in
-      handing thread called id giver tcb there mine (own_context m thread id giver there runs) at l labelled has
+      handing thread called id giver tcb there mine (own_context m thread id giver there runs) at l labelled has acts
       (λ s target ran. inl (runs_lent tcb id lent)))
 
   pub returned_keeps :
       (thread called : ObjId) (giver tcb : Tcb) → IsThread m thread giver → label_of t m thread ≡ Some a → IsThread m called tcb
-      → (l : ℕ) → label_of t m called ≡ Some l → IsFull allowed a l
+      → (l : ℕ) → label_of t m called ≡ Some l → IsFull allowed a l → (IsAwake t allowed began a → MayAct t allowed l)
       → Keeps t allowed began event a m (with_returned m thread called)
-  returned_keeps thread called giver tcb there mine at l labelled has = by_case (returned_or_same m thread called) where
+  returned_keeps thread called giver tcb there mine at l labelled has acts = by_case (returned_or_same m thread called) where
     by_case :
         (GivesBack m thread called × (with_returned m thread called ≡ with_handed m thread called))
         ⊎ (with_returned m thread called ≡ m) → Keeps t allowed began event a m (with_returned m thread called)
     by_case (inl w) =
         subst (λ (n : Machine). Keeps t allowed began event a m n) (sym w.1)
-        (returned_back thread called giver tcb there mine at l labelled has w.0)
+        (returned_back thread called giver tcb there mine at l labelled has acts w.0)
     by_case (inr same) =
         subst (λ (n : Machine). Keeps t allowed began event a m n) (sym same) (unchanged t allowed began event a m held)
 
@@ -88,7 +91,8 @@ module _
     (t : Layout) (allowed : EdgeTest) (began : Machine) (event : Event) (a : ℕ) (m : Machine) (sound : IsSound t allowed m)
     (thread receiver : ObjId) (tcb its : Tcb) (there : IsThread m thread tcb) (idle : IsIdle tcb.state)
     (receives : IsThread m receiver its) (apart : thread ≢ receiver) (mine : label_of t m thread ≡ Some a) (b : ℕ)
-    (labelled : label_of t m receiver ≡ Some b) (has : IsFull allowed a b) where
+    (labelled : label_of t m receiver ≡ Some b) (has : IsFull allowed a b)
+    (acts : IsAwake t allowed began a → MayAct t allowed b) where
   names_none : (q : ObjId) (to : ℕ) → Names tcb.state q → label_of t m q ≡ Some to → IsFull allowed a to
   names_none q to names target = absurd (idle_names tcb.state idle q names)
 
@@ -117,7 +121,8 @@ module _
 
     calls : Keeps t allowed began event a m waits
     calls =
-        waits_keep t allowed began event a m sound thread tcb there a mine (own refl) names_none waits_nowhere id own_loan free
+        waits_keep t allowed began event a m sound thread tcb there a mine (own refl) (λ awake. awake.acting) names_none waits_nowhere
+        id own_loan free
         (lends_own own_loan refl) may
 
     there_now : IsThread waits thread now
@@ -140,7 +145,7 @@ module _
         handing t allowed began event a waits waits_sound thread receiver q now its there_now
         (label_kept t allowed began event a m waits thread (o.Tcb tcb) (o.Tcb now) calls there there_now ∙ mine)
         (own_context waits thread q now there_now runs) receives_now b
-        (label_kept t allowed began event a m waits receiver (o.Tcb its) (o.Tcb its) calls receives receives_now ∙ labelled) has
+        (label_kept t allowed began event a m waits receiver (o.Tcb its) (o.Tcb its) calls receives receives_now ∙ labelled) has acts
         (λ s target ran. inr (may_lend s ran)))
 
     by_loan : (lent : Option Lent) → own_loan ≡ lent → Keeps t allowed began event a m (with_lent waits thread lent)
@@ -158,6 +163,6 @@ module _
       → ((id : ObjId) (s : ℕ) → through ≡ Some id → allowed a authority.Runs s ≡ true → allowed b authority.Runs s ≡ true)
       → Keeps t allowed began event a m (called_through m thread receiver through)
   called_through_keeps None free may may_lend =
-      halts t allowed began event a m sound thread tcb there a mine (own refl) names_none waits_nowhere
+      halts t allowed began event a m sound thread tcb there a mine (own refl) (λ awake. awake.acting) names_none waits_nowhere
   called_through_keeps (Some id) free may may_lend =
       by_loan id (free id refl) (λ r. may id r refl) (λ s. may_lend id s refl) (lent_by m thread receiver) refl

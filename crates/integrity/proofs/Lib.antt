@@ -3,6 +3,7 @@ pub mod ObjectLabels
 pub mod Reach
 pub mod Held
 pub mod Shrinking
+pub mod Asleep
 pub mod Bounds
 pub mod Keeps
 pub mod Steady
@@ -20,6 +21,7 @@ pub mod LendingKeeps
 pub mod MessageKeeps
 pub mod Runs
 pub mod Aparts
+pub mod Actors
 pub mod AtBoot
 pub mod Gains
 pub mod Losses

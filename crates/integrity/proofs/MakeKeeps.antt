@@ -1,23 +1,24 @@
 -- An object that is made from untyped memory keeps what a part of a call keeps: the memory is the caller's to control, so that all kinds
 -- of authority over it are, and its capability comes into a CNode that is the caller's to control too.
-use Rattle.std.{specs.Prelude.if◌then◌else◌, proofs.Common.{ℕ, ◌+◌, ◌<◌, ◌∙◌, ◌≡◌, ◌≢◌, ◌≤◌, Bool, None, Some, ap, arith, false, inr}}
+use Rattle.std.{specs.Prelude.if◌then◌else◌, proofs.Common.{ℕ, ◌+◌, ◌<◌, ◌∙◌, ◌≡◌, ◌≢◌, ◌≤◌, Bool, None, Some, ap, arith, false, inl, inr}}
 use Rattle.std.proofs.{Common.{option_map, refl, subst, sym, true}, lemmas.{Bool.false≢true, Nat.pow_pos, Option.{none-some, same_Some}}}
 use Rattle.base.specs.{declared.{ids.{ObjId.ObjId, SlotRef.SlotRef}, kind.Kind.{Kind, Kind as authority}}, Kinds.is_structural}
 use Rattle.machine.specs.declared.{call.Event.Event, cap.Cap.Cap, object.{MemoryKind.MemoryKind, Object.{Object, Object as o}}}
-use Rattle.machine.specs.{declared.object.Untyped.Untyped, Authority.{label_at, label_of, links}, Capabilities.{gives, kind_of_detail}}
-use Rattle.machine.specs.{Layout.Layout, Machine.{Machine, cap_of, object_of, parent_of, queue_of, same_slot, with_cap, with_new}}
-use Rattle.machine.specs.{Machine.{with_object, with_parent, words_of}, Memory.{Source, new_cap, new_detail, new_object, new_size, placed}}
-use Rattle.machine.{specs.{Memory.{taken, with_made}, Objects.{end_of, kind_of_object}, WellFormed.kind_of}, proofs.Ids.at_itself}
-use Rattle.machine.proofs.{Ids.at_other, LookUps.{cap_of-with_cap, cap_of-with_parent, object_of-with_new, object_of-with_object}}
-use Rattle.machine.proofs.{LookUps.{parent_of-with_cap, parent_of-with_parent}, ObjectMade.marked, SlotChanges.{Fills, SameObjects}}
+use Rattle.machine.specs.declared.{object.Untyped.Untyped, thread.{Inbox.Inbox as inbox, RunState.RunState as state, Tcb.Tcb}}
+use Rattle.machine.specs.{Authority.{label_at, label_of, links}, Capabilities.{gives, kind_of_detail}, Layout.Layout, Machine.Machine}
+use Rattle.machine.specs.Machine.{cap_of, object_of, parent_of, queue_of, same_slot, with_cap, with_new, with_object, with_parent, words_of}
+use Rattle.machine.specs.{Memory.{Source, new_cap, new_detail, new_object, new_size, placed, taken, with_made}, Objects.end_of}
+use Rattle.machine.{specs.{Objects.kind_of_object, WellFormed.kind_of}, proofs.{Ids.{at_itself, at_other}, LookUps.cap_of-with_cap}}
+use Rattle.machine.proofs.LookUps.{cap_of-with_parent, object_of-with_new, object_of-with_object, parent_of-with_cap, parent_of-with_parent}
+use Rattle.machine.proofs.{ObjectMade.marked, SlotChanges.{Fills, SameObjects}}
 use Rattle.machine.specs.declared.object.MemoryKind.TheVariants as memory
 use Rattle.machine.specs.declared.object.ObjectKind.TheVariants as kind
 use Rattle.steps.proofs.RetypeFormed.{new_address, new_kind}
 use Rattle.policy.specs.{Closed.IsClosed, Domain.{EdgeTest, IsInDomain}, Full.IsFull.modifies}
-use Rattle.integrity.{specs.Invariant.{IsBare, IsHeld}, proofs.{Contents.full, FillKeeps.{MayFill, fill_fits, given_of_use, in_node}}}
-use Rattle.integrity.proofs.{FillKeeps.slots_elsewhere, Joined.{IsJoined, joined_set}, Keeps.{Keeps, keeps_keeps}, NewKeeps.IsMakeable}
-use Rattle.integrity.proofs.{NewKeeps.{new_keeps, new_label}, ObjectLabels.{kind_there, same_label}, Reach.IsControlled, SetKeeps.set_keeps}
-use Rattle.integrity.proofs.SlotKeeps.{SlotsFit, slots_keep}
+use Rattle.integrity.{specs.Invariant.{IsBare, IsHeld}, proofs.{Asleep.IsAsleep, Contents.full, FillKeeps.{MayFill, fill_fits}}}
+use Rattle.integrity.proofs.{FillKeeps.{given_of_use, in_node, slots_elsewhere}, Joined.{IsJoined, joined_set}, Keeps.{Keeps, keeps_keeps}}
+use Rattle.integrity.proofs.{NewKeeps.{IsMakeable, new_keeps, new_label}, ObjectLabels.{kind_there, same_label}, Reach.IsControlled}
+use Rattle.integrity.proofs.{SetKeeps.set_keeps, Shrinking.same_tcb, SlotKeeps.{SlotsFit, slots_keep}}
 
 -- a new object links to nothing
 new_alone : (of : MemoryKind) (bits at : ℕ) (k : Kind) (end : ObjId) → links (new_object of bits at) k end ≡ false
@@ -31,6 +32,13 @@ new_alone memory.Endpoint bits at k end = refl
 new_alone memory.Notification bits at k end = refl
 new_alone memory.Context bits at k end = refl
 new_alone memory.Frame bits at k end = refl
+
+-- a new thread is inactive
+new_sleeps : (of : MemoryKind) (bits at : ℕ) (thread : Tcb) → new_object of bits at ≡ o.Tcb thread → IsAsleep thread
+new_sleeps memory.Tcb bits at thread is =
+    let new : Tcb = record { address = at; state = state.Inactive; inbox = inbox.Empty; context = None } in
+    inl (sym (ap (λ (x : Tcb). x.state) (same_tcb new thread is)))
+new_sleeps _ bits at thread is = cc
 
 -- and takes memory
 new_takes : (of : MemoryKind) (bits : ℕ) → 0 < new_size of bits
@@ -123,6 +131,7 @@ module _
         end = refl;
         links = λ end k e. cc;
         lent = λ context thread e lends. cc;
+        sleeps = λ awake others thread e. cc;
         share = λ before after e. cc;
       })
       (full t allowed a m m1 source.id may.label may.labelled (modifies authority.Control refl may.controls))
@@ -146,6 +155,7 @@ module _
         let end = range.1 in
         lies address (omega (arith, base, from)) (omega (arith, end, below));
     alone = new_alone of bits at;
+    sleeps = new_sleeps of bits at;
   }
 
   joined1 : IsJoined m1

@@ -22,14 +22,20 @@ use Rattle.steps.proofs.{MessageRows.received_sender, ReceiveRow.ReceiveDone, Re
 use Rattle.steps.proofs.SendRow.{SendDone}
 use Rattle.policy.specs.{Closed.{IsClosed, caller, server}, Domain.EdgeTest, Full.{IsFull, IsFull.{links as links_to, modifies, receives}}}
 use Rattle.policy.specs.{Full.IsFull.{replies, sends}, Take.MayTake}
-use Rattle.integrity.{specs.Invariant.{IsHeld, IsSound}, proofs.{ArrivalKeeps.arrival_keeps, Held.held_of, Keeps.{Keeps, keeps_keeps}}}
-use Rattle.integrity.proofs.{Keeps.unchanged, LendingKeeps.{called_through_keeps, returned_keeps}, MessageParts.IsReached}
-use Rattle.integrity.proofs.MessageParts.{answers_allowed, at_reached, blocked_beside, deliver_keeps, halt_keeps, holds_edge, label_kept}
-use Rattle.integrity.proofs.MessageParts.{link_keeps, reached, receiver_receives, receiver_replies, same_kept, sender_calls, sender_grants}
-use Rattle.integrity.proofs.{MessageParts.{sender_sends, thread_label}, MessageTouches.{blocked_keeps, emptied_keeps, holding_keeps}}
-use Rattle.integrity.proofs.{MessageTouches.{released_keeps, sound_after}, ObjectLabels.same_label}
+use Rattle.integrity.{specs.{Acting.MayAct, Invariant.{IsHeld, IsSound}, Shrinks.IsBlocked}, proofs.ArrivalKeeps.arrival_keeps}
+use Rattle.integrity.proofs.{Asleep.{IsAwake, blocked_acts}, Held.held_of, Keeps.{Keeps, keeps_keeps, unchanged}}
+use Rattle.integrity.proofs.{LendingKeeps.{called_through_keeps, returned_keeps}, MessageParts.{IsReached, answers_allowed, at_reached}}
+use Rattle.integrity.proofs.MessageParts.{blocked_beside, deliver_keeps, halt_keeps, holds_edge, label_kept, link_keeps, reached}
+use Rattle.integrity.proofs.MessageParts.{receiver_receives, receiver_replies, same_kept, sender_calls, sender_grants, sender_sends}
+use Rattle.integrity.proofs.{MessageParts.thread_label, MessageTouches.{blocked_keeps, emptied_keeps, holding_keeps, released_keeps}}
+use Rattle.integrity.proofs.{MessageTouches.sound_after, ObjectLabels.same_label}
 
--- who waits for an answer is in no queue
+-- who waits for an answer is blocked, and is in no queue
+
+calling_blocked : (run : RunState) (id : ObjId) → IsCallingThrough run id → IsBlocked run
+calling_blocked (state.Called _) id calls = tt
+calling_blocked _ id calls = absurd calls
+
 calling_waits : (run : RunState) (id q : ObjId) → IsCallingThrough run id → ¬ (WaitsAt run q)
 calling_waits (state.Called _) id q calls waits = waits
 calling_waits _ id q calls waits = absurd calls
@@ -118,7 +124,7 @@ module _
       message_keeps =
           deliver_keeps t allowed m event a m sound closed thread sending open_to.id receiver receiving mine waits to_end.label
           to_end.labelled
-          may_send may_grant
+          may_send may_grant (λ awake. awake.others)
 
       abbrev after : Machine
       after = delivered m thread sending receiver receiving
@@ -171,7 +177,10 @@ module _
           (label_kept t allowed m event a m after thread (o.Tcb is.thread) (o.Tcb is.thread) message_keeps is.there after_there
           ∙ mine)
           b.0 (label_kept t allowed m event a m after receiver (o.Tcb waits.tcb) (o.Tcb _) message_keeps waits.there got ∙ b.1)
-          (sends to_end.label may_send receives) (answer_through sending receiving.reply)
+          (sends to_end.label may_send receives)
+          (λ awake.
+          blocked_acts t allowed m receiver waits.tcb awake.others waits.there (subst IsBlocked (sym waits.state) tt) b.0 b.1)
+          (answer_through sending receiving.reply)
           (λ id through.
           delivered_free m thread sending open_to.id receiver receiving sound.well_formed waits id
           (answers_through sending receiving.reply id through))
@@ -253,6 +262,7 @@ module _
       by_named (Some q) names =
           let found = by_reply q names in
           halt_keeps t allowed m event a m sound q found.label found.labelled (found.edge authority.Reply refl refl)
+          (λ awake. awake.others)
 
     ended_sound : IsSound t allowed ended
     ended_sound = sound_after t allowed m event a m ended sound ends ended_formed
@@ -306,6 +316,12 @@ module _
           (sender_sends t allowed m event a ended ended_sound id sender sending waits to_sender.0 from_end.label to_sender.1
           end_label)
 
+      -- its label may act, since it is blocked
+      sender_acts : IsAwake t allowed m a → MayAct t allowed to_sender.0
+      sender_acts awake =
+          blocked_acts t allowed ended sender waits.tcb (ends.sleeps awake awake.others) waits.there
+          (subst IsBlocked (sym waits.state) tt) to_sender.0 to_sender.1
+
       names_none : (q : ObjId) (to : ℕ) → Names waits.tcb.state q → label_of t arrived q ≡ Some to → IsFull allowed a to
       names_none q to names target = absurd (subst (λ run. Names run q) waits.state names)
 
@@ -328,7 +344,7 @@ module _
             (if call then linked arrived sender (answer_through sending done.reply) else with_ready arrived sender)
         by_call true calls =
             link_keeps t allowed m event a arrived arrived_sound sender waits.tcb sender_there to_sender.0
-            (label_arrived sender ∙ to_sender.1) sender_full
+            (label_arrived sender ∙ to_sender.1) sender_full sender_acts
             names_none end_full (answer_through sending done.reply)
             (λ q through.
             received_arrived_free m thread address named slot next sound.well_formed done sender sending waits q
@@ -344,7 +360,7 @@ module _
             ))
         by_call false calls =
             released_keeps t allowed m event a arrived takes.held sender waits.tcb ready sender_there refl refl tt to_sender.0
-            (label_arrived sender ∙ to_sender.1) sender_full (λ q to names target. inl (names_none q to names target)) end_full
+            (label_arrived sender ∙ to_sender.1) sender_full sender_acts (λ q to names target. inl (names_none q to names target)) end_full
 
       received_keeps : Makes m (sent arrived sender sending done.reply)
       received_keeps =
@@ -440,13 +456,15 @@ module _
         to_reply.label l.0 there
         (itself called) to_reply.labelled l.1) in
         let mid = with_returned m thread called in
-        let back = returned_keeps t allowed m event a m sound thread called is.thread w.0 is.there mine w.1 l.0 l.1 has in
+        let acts : IsAwake t allowed m a → MayAct t allowed l.0 =
+        λ awake. blocked_acts t allowed m called w.0 awake.others w.1 (calling_blocked w.0.state done.id w.2) l.0 l.1 in
+        let back = returned_keeps t allowed m event a m sound thread called is.thread w.0 is.there mine w.1 l.0 l.1 has acts in
         let link = returned_there m thread called w.0 sound.well_formed w.1 in
         keeps_keeps t allowed m event a m mid (with_given mid called message) before back
         (released_keeps t allowed m event a mid back.held called (record w.0 { context = link.0 }) (given message) link.1 refl refl
         tt l.0
         (label_kept t allowed m event a m mid called (o.Tcb w.0) (o.Tcb (record w.0 { context = link.0 })) back w.1 link.1 ∙ l.1)
-        has
+        has acts
         (λ q to names target.
         let same = names_one w.0.state done.id q (calling_names w.0.state done.id w.2) names in
         let to_is =

@@ -19,9 +19,10 @@ use Rattle.steps.proofs.{Arrival.arrival_same, Beside.{HolderLeaves, holder_leav
 use Rattle.steps.proofs.{Finding.FindsObject, MessageRows.{arrived_there, delivered_is, halted_between}}
 use Rattle.policy.specs.{Closed.IsClosed, Domain.{EdgeTest, SubjectsAgree}, Full.{IsFull, IsFull.{links as links_to, modifies, replies}}}
 use Rattle.policy.specs.{Full.IsFull.sends, Take.{MayTake, MayTake.ends}}
-use Rattle.integrity.{specs.Invariant.{IsHeld, IsSound}, proofs.{ArrivalKeeps.arrival_keeps, Held.held_of, Keeps.{Keeps, keeps_keeps}}}
-use Rattle.integrity.proofs.{Keeps.unchanged, MessageTouches.{called_keeps, released_keeps}, ObjectLabels.{label_stays, labelled_there}}
-use Rattle.integrity.proofs.{ObjectLabels.same_label, Reach.found_in_reach}
+use Rattle.integrity.{specs.{Acting.MayAct, Invariant.{IsHeld, IsSound}, Shrinks.IsBlocked}, proofs.ArrivalKeeps.arrival_keeps}
+use Rattle.integrity.proofs.{Asleep.{IsAwake, OthersSleep, blocked_acts}, Held.held_of, Keeps.{Keeps, keeps_keeps, unchanged}}
+use Rattle.integrity.proofs.{MessageTouches.{called_keeps, released_keeps}, ObjectLabels.{label_stays, labelled_there, same_label}}
+use Rattle.integrity.proofs.Reach.{found_in_reach}
 
 -- an answer goes through a reply only where the sender may be answered
 pub answers_allowed :
@@ -30,6 +31,12 @@ answers_allowed sending named id e = by_leave sending.can_reply refl where
   by_leave : (leave : Bool) → sending.can_reply ≡ leave → sending.can_reply ≡ true
   by_leave true is = is
   by_leave false is = absurd (none-some id (sym (ap (λ (b : Bool). if b then named else None) is) ∙ e))
+
+-- a thread that names a reply is blocked
+pub names_blocked : (run : RunState) (id : ObjId) → Names run id → IsBlocked run
+names_blocked (state.Receiving receiving) id names = tt
+names_blocked (state.Called calling) id names = tt
+names_blocked _ id names = absurd names
 
 -- a thread that comes to wait changes no other object
 
@@ -161,7 +168,8 @@ module _ (t : Layout) (allowed : EdgeTest) (began : Machine) (event : Event) (a 
     module _ (closed : IsClosed allowed) (sender : ObjId) (sending : Sending) (id receiver : ObjId) (receiving : Receiving)
         (mine : label_of t m sender ≡ Some a) (is : IsReceiver m id receiver receiving) (e : ℕ) (at : label_of t m id ≡ Some e)
         (may_send : allowed a authority.Send e ≡ true)
-        (may_grant : sending.grant ≡ true → allowed a authority.Grant e ≡ true) where
+        (may_grant : sending.grant ≡ true → allowed a authority.Grant e ≡ true)
+        (others : IsAwake t allowed began a → OthersSleep t allowed m) where
       abbrev mid : Machine
       mid = with_arrival m (arrival_of m sender sending receiver receiving.slot)
 
@@ -170,6 +178,12 @@ module _ (t : Layout) (allowed : EdgeTest) (began : Machine) (event : Event) (a 
 
       to_receiver : (label : ℕ) × (label_of t m receiver ≡ Some label)
       to_receiver = thread_label receiver is.tcb is.there
+
+      -- its label may act, since it is blocked
+      it_acts : IsAwake t allowed began a → MayAct t allowed to_receiver.0
+      it_acts awake =
+          blocked_acts t allowed m receiver is.tcb (others awake) is.there (subst IsBlocked (sym is.state) tt) to_receiver.0
+          to_receiver.1
 
       it_receives : allowed to_receiver.0 authority.Receive e ≡ true
       it_receives = receiver_receives id receiver receiving is to_receiver.0 to_receiver.1 e at
@@ -194,7 +208,7 @@ module _ (t : Layout) (allowed : EdgeTest) (began : Machine) (event : Event) (a 
           released_keeps t allowed began event a mid arrives.held receiver is.tcb (given message)
           (arrived_there m sender sending id receiver receiving sound.well_formed is) refl refl tt to_receiver.0
           (label_mid receiver ∙ to_receiver.1)
-          (sends e may_send it_receives)
+          (sends e may_send it_receives) it_acts
           (λ q to names target.
           inl (named_full q to (subst (λ run. Names run q) is.state names) (sym (label_mid q) ∙ target)))
           (λ q to waits target.
@@ -209,13 +223,13 @@ module _ (t : Layout) (allowed : EdgeTest) (began : Machine) (event : Event) (a 
 
     -- a thread whose call was delivered can't run, or waits for its answer
     module _ (thread : ObjId) (tcb : Tcb) (there : IsThread m thread tcb) (l : ℕ) (labelled : label_of t m thread ≡ Some l)
-        (has : IsFull allowed a l)
+        (has : IsFull allowed a l) (acts : IsAwake t allowed began a → MayAct t allowed l)
         (names : (id : ObjId) (to : ℕ) → Names tcb.state id → label_of t m id ≡ Some to → IsFull allowed a to)
         (waits : (id : ObjId) (to : ℕ) → WaitsAt tcb.state id → label_of t m id ≡ Some to
         → IsFull allowed a to ⊎ MayTake allowed a to) where
       pub halts : Does m (with_halted m thread)
       halts =
-          released_keeps t allowed began event a m held thread tcb halted there refl refl tt l labelled has
+          released_keeps t allowed began event a m held thread tcb halted there refl refl tt l labelled has acts
           (λ id to named target. inl (names id to named target)) waits
 
       given_out : (context : ObjId) → tcb.context ≡ Some context → context.0 < (with_halted m thread).next
@@ -242,7 +256,7 @@ module _ (t : Layout) (allowed : EdgeTest) (began : Machine) (event : Event) (a 
           keeps_keeps t allowed began event a m next (with_called next thread (record { reply = id; lent = lent })) held halts
           (called_keeps t allowed began event a next halts.held thread (halted tcb) (record { reply = id; lent = lent }) is
           between.1 between.2 (λ context loan. (lends context loan, given_out context (lends context loan))) after.1 l
-          (label_kept m next thread (o.Tcb tcb) (o.Tcb (halted tcb)) halts there between.1 ∙ labelled) has r.0
+          (label_kept m next thread (o.Tcb tcb) (o.Tcb (halted tcb)) halts there between.1 ∙ labelled) has acts r.0
           (label_kept m next id (o.Reply was) (o.Reply is) halts before.1 after.1 ∙ r.1) allows.0 allows.1)
 
       pub link_keeps :
@@ -255,7 +269,8 @@ module _ (t : Layout) (allowed : EdgeTest) (began : Machine) (event : Event) (a 
           waits_keep id None (free id refl) (λ context loan. absurd (none-some context loan)) (λ r. may id r refl)
 
     -- the thread that a reply holds is halted
-    module _ (id : ObjId) (r : ℕ) (labelled : label_of t m id ≡ Some r) (may_reply : allowed a authority.Reply r ≡ true) where
+    module _ (id : ObjId) (r : ℕ) (labelled : label_of t m id ≡ Some r) (may_reply : allowed a authority.Reply r ≡ true)
+        (others : IsAwake t allowed began a → OthersSleep t allowed m) where
       module _ (h : HolderLeaves m id) where
         to_held : (label : ℕ) × (label_of t m h.thread ≡ Some label)
         to_held = thread_label h.thread h.tcb h.there
@@ -276,6 +291,11 @@ module _ (t : Layout) (allowed : EdgeTest) (began : Machine) (event : Event) (a 
               let answers : Reply = record { address = w.0; state = reply.Called h.thread } in
               holds_edge id h.thread answers r to_held.0 w.1 (itself h.thread) labelled to_held.1
           by_run _ is names = absurd names
+
+        -- its label may act, since it is blocked
+        holder_acts : IsAwake t allowed began a → MayAct t allowed to_held.0
+        holder_acts awake =
+            blocked_acts t allowed m h.thread h.tcb (others awake) h.there (names_blocked h.tcb.state id h.names) to_held.0 to_held.1
 
         named_one : (run : RunState) (q : ObjId) → Names run id → Names run q → id ≡ q
         named_one (state.Receiving receiving) q one two = same_Some id q (sym one ∙ two)
@@ -308,7 +328,7 @@ module _ (t : Layout) (allowed : EdgeTest) (began : Machine) (event : Event) (a 
         holder_keeps : Does m (with_holder_halted m id)
         holder_keeps =
             subst (λ (n : Machine). Does m n) (sym h.changes)
-            (halts h.thread h.tcb h.there to_held.0 to_held.1 (replies r may_reply holds_it) names_full waits_taken)
+            (halts h.thread h.tcb h.there to_held.0 to_held.1 (replies r may_reply holds_it) holder_acts names_full waits_taken)
 
       pub halt_keeps : Does m (with_holder_halted m id)
       halt_keeps = by_holder (holder_leaves m id sound.well_formed.links) where

@@ -17,9 +17,9 @@ use Rattle.machine.proofs.{Leaving.{released_there, tcb_is, without}, LookUps.{c
 use Rattle.machine.proofs.{LookUps.{object_of-with_queue, one_id, queue_of-with_queue, words_of-with_queue}, RunsLinks.runs_also}
 use Rattle.machine.proofs.RunsLinks.{runs_bound, runs_by}
 use Rattle.policy.specs.{Domain.EdgeTest, Full.{IsFull, IsFull.own}, Take.MayTake}
-use Rattle.integrity.{specs.{Invariant.{IsHeld, IsSound}, Shrinks.Lessens.{as_it_was, freed}}, proofs.Contents.{full, loses_links}}
-use Rattle.integrity.proofs.{Contents.{reply_fits, tcb_fits}, Keeps.{Keeps, keeps_keeps, unchanged}, ObjectLabels.{label_stays, same_label}}
-use Rattle.integrity.proofs.{RemovalShrinks.part_of_all, SetKeeps.{queue_keeps, set_keeps}}
+use Rattle.integrity.{specs.{Acting.MayAct, Invariant.{IsHeld, IsSound}, Shrinks.Lessens.{as_it_was, freed}}, proofs.Asleep.IsAwake}
+use Rattle.integrity.proofs.{Asleep.acts_of, Contents.{full, loses_links, reply_fits, tcb_fits}, Keeps.{Keeps, keeps_keeps, unchanged}}
+use Rattle.integrity.proofs.{ObjectLabels.{label_stays, same_label}, RemovalShrinks.part_of_all, SetKeeps.{queue_keeps, set_keeps}}
 
 -- what each change is
 
@@ -189,7 +189,7 @@ module _
   holding_keeps id old holds label there labelled has within =
       subst (λ (n : Machine). Keeps t allowed began event a m n) (sym (holding_is m id old holds there))
       (set_keeps t allowed began event a m id held (o.Reply old) (o.Reply (record old { state = holds }))
-      (reply_fits t allowed began event m id old (record old { state = holds }) there refl
+      (reply_fits t allowed began event a m id old (record old { state = holds }) there refl
       (λ end from to is source target.
       ap (λ x. allowed x authority.Holds to) (same_Some from label (sym source ∙ labelled)) ∙ within end to is target))
       (full t allowed a m _ id label labelled has))
@@ -209,7 +209,7 @@ module _
         let next : Machine = with_object m id (o.Reply new) in
         subst (λ (n : Machine). Keeps t allowed began event a m n) (sym (holding_is m id old reply.Free there))
         (set_keeps t allowed began event a m id held (o.Reply old) (o.Reply new)
-        (reply_fits t allowed began event m id old new there refl (λ end from to is. absurd (false≢true is)))
+        (reply_fits t allowed began event a m id old new there refl (λ end from to is. absurd (false≢true is)))
         (loses_links t allowed a m id label (o.Reply old) (o.Reply new) labelled take.0 there (freed old new refl refl refl refl)
         take.1 take.2))
 
@@ -311,10 +311,11 @@ module _
       (thread : ObjId) (tcb : Tcb) (change : Tcb → Tcb) → IsThread m thread tcb → (change tcb).address ≡ tcb.address
       → (change tcb).context ≡ tcb.context → IsIdle (change tcb).state
       → (label : ℕ) → label_of t m thread ≡ Some label → IsFull allowed a label
+      → (IsAwake t allowed began a → MayAct t allowed label)
       → ((id : ObjId) (to : ℕ) → Names tcb.state id → label_of t m id ≡ Some to → MayLessen allowed a m id to)
       → ((id : ObjId) (to : ℕ) → WaitsAt tcb.state id → label_of t m id ≡ Some to → IsFull allowed a to ⊎ MayTake allowed a to)
       → Keeps t allowed began event a m (with_released m thread change)
-  released_keeps thread tcb change there address context idle label labelled has names waits =
+  released_keeps thread tcb change there address context idle label labelled has acts names waits =
       let mid = unblocked m thread tcb.state in
       let new : Tcb = change tcb in
       let left = unblocked_keeps thread tcb.state names waits in
@@ -322,8 +323,9 @@ module _
       let label_kept = same_label t m mid thread (at ∙ sym there) in
       let set =
       set_keeps t allowed began event a mid thread left.held (o.Tcb tcb) (o.Tcb new)
-      (tcb_fits t allowed began event mid thread tcb new at address (λ end k e. inl (links_left tcb new context idle k end e))
-      (λ end lent. absurd (idle_lends new.state end idle lent)))
+      (tcb_fits t allowed began event a mid thread tcb new at address (λ end k e. inl (links_left tcb new context idle k end e))
+      (λ end lent. absurd (idle_lends new.state end idle lent))
+      (λ awake others. inr (acts_of t allowed mid thread label (label_kept ∙ labelled) (acts awake))))
       (full t allowed a mid _ thread label (label_kept ∙ labelled) has) in
       subst (λ (n : Machine). Keeps t allowed began event a m n)
       (sym (released_there m thread tcb change there ∙ tcb_is mid thread tcb new at))
@@ -358,8 +360,9 @@ module _
       set : Keeps t allowed began event a m mid
       set =
           set_keeps t allowed began event a m caller held (o.Tcb tcb) (o.Tcb blocked)
-          (tcb_fits t allowed began event m caller tcb blocked there refl links_within
-          (λ context lent. absurd (none-some context (sym alone ∙ lent))))
+          (tcb_fits t allowed began event a m caller tcb blocked there refl links_within
+          (λ context lent. absurd (none-some context (sym alone ∙ lent)))
+          (λ awake others. inr (acts_of t allowed m caller a mine awake.acting)))
           (full t allowed a m mid caller a mine (own refl))
 
       same : object_of mid id ≡ object_of m id
@@ -382,16 +385,18 @@ module _
       → ((context : ObjId) → lent_of (state.Called calling) ≡ Some context → (tcb.context ≡ Some context) × (context.0 < m.next))
       → object_of m calling.reply ≡ Some (o.Reply old)
       → (label : ℕ) → label_of t m thread ≡ Some label → IsFull allowed a label
+      → (IsAwake t allowed began a → MayAct t allowed label)
       → (holder : ℕ) → label_of t m calling.reply ≡ Some holder → IsFull allowed a holder
       → allowed holder authority.Holds label ≡ true → Keeps t allowed began event a m (with_called m thread calling)
-  called_keeps thread tcb calling old there idle lends at label labelled has holder reply_labelled reply_has holds =
+  called_keeps thread tcb calling old there idle lends at label labelled has acts holder reply_labelled reply_has holds =
       let id = calling.reply in
       let calls : Tcb = record tcb { state = state.Called calling } in
       let mid = with_object m thread (o.Tcb calls) in
       let set =
       set_keeps t allowed began event a m thread held (o.Tcb tcb) (o.Tcb calls)
-      (tcb_fits t allowed began event m thread tcb calls there refl (λ end k e. inl (links_kept k end e))
-      (λ context lent. (lends context lent).1))
+      (tcb_fits t allowed began event a m thread tcb calls there refl (λ end k e. inl (links_kept k end e))
+      (λ context lent. (lends context lent).1)
+      (λ awake others. inr (acts_of t allowed m thread label labelled (acts awake))))
       (full t allowed a m mid thread label labelled has) in
       let apart : id ≢ thread = λ same. apart_by_kind m id thread old tcb at there (sym same) in
       let same : object_of mid id ≡ object_of m id =
@@ -425,8 +430,9 @@ module _
       let new : Tcb = record tcb { inbox = inbox.Empty } in
       subst (λ (n : Machine). Keeps t allowed began event a m n) (sym (emptied_is m caller tcb there))
       (set_keeps t allowed began event a m caller held (o.Tcb tcb) (o.Tcb new)
-      (tcb_fits t allowed began event m caller tcb new there refl (λ end k e. inl (links_kept k end e))
-      (λ context lent. held.of_table.lent caller context tcb there lent))
+      (tcb_fits t allowed began event a m caller tcb new there refl (λ end k e. inl (links_kept k end e))
+      (λ context lent. held.of_table.lent caller context tcb there lent)
+      (λ awake others. inr (acts_of t allowed m caller a mine awake.acting)))
       (full t allowed a m (with_object m caller (o.Tcb new)) caller a mine (own refl)))
     where
       links_kept :

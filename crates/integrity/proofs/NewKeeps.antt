@@ -6,14 +6,14 @@ use Rattle.std.proofs.lemmas.Option.{none-some, same_Some, slice_get_within}
 use Rattle.base.specs.declared.{ids.ObjId.ObjId, kind.Kind.Kind}
 use Rattle.base.specs.declared.kind.Kind.TheVariants as authority
 use Rattle.machine.specs.declared.{call.Event.Event, layout.Initial.Initial, object.{Context.Context, Object.{Object, Object as o}}}
-use Rattle.machine.specs.{declared.object.Untyped.Untyped, Authority.{label_at, label_of, links, HasAuthority.{by_cap, by_link, by_pair}}}
-use Rattle.machine.specs.{Authority.HasAuthority.by_root, Layout.{Layout, declared_label, initial_of}, Machine.{Machine, object_of}}
-use Rattle.machine.specs.{Machine.{queue_of, with_new, words_of}, Objects.{address_of, end_of, kind_of_object, word_count}}
+use Rattle.machine.specs.{declared.{object.Untyped.Untyped, thread.Tcb.Tcb}, Authority.{label_at, label_of, links, HasAuthority.by_cap}}
+use Rattle.machine.specs.{Authority.HasAuthority.{by_link, by_pair, by_root}, Layout.{Layout, declared_label, initial_of}, Machine.Machine}
+use Rattle.machine.specs.{Machine.{object_of, queue_of, with_new, words_of}, Objects.{address_of, end_of, kind_of_object, word_count}}
 use Rattle.machine.{specs.WellFormed.kind_of, proofs.{Ids.{at_itself, at_other, one_or_two}, LookUps.{cap_of-with_new, object_of-with_new}}}
 use Rattle.machine.proofs.{LookUps.{parent_of-with_new, queue_of-with_new, words_of-with_new}, RunsLinks.runs_lent}
 use Rattle.policy.specs.{Domain.EdgeTest, Full.IsFull}
-use Rattle.integrity.{specs.{Confined.IsConfined, Invariant.{IsBare, IsHeld}, OfTable.IsOfTable}, proofs.{Joined.IsJoined, Keeps.Acts}}
-use Rattle.integrity.proofs.{Keeps.Keeps, ObjectLabels.{kind_there, same_label}, Shrinking.same_context}
+use Rattle.integrity.{specs.{Confined.IsConfined, Invariant.{IsBare, IsHeld}, OfTable.IsOfTable}, proofs.Asleep.{IsAsleep, sleeps_on}}
+use Rattle.integrity.proofs.{Joined.IsJoined, Keeps.{Acts, Keeps}, ObjectLabels.{kind_there, same_label}, Shrinking.same_context}
 
 -- an object that may be made in a step of a label's thread
 pub record IsMakeable (t : Layout) (allowed : EdgeTest) (a : ℕ) (object : Object) : Type 0 where
@@ -26,6 +26,8 @@ pub record IsMakeable (t : Layout) (allowed : EdgeTest) (a : ℕ) (object : Obje
       (memory : Untyped) (address : ℕ) → object ≡ o.Untyped memory → memory.base ≤ address → address < end_of (o.Untyped memory)
       → label_at t address ≡ Some label
   pub alone : (k : Kind) (end : ObjId) → links object k end ≡ false
+  -- a thread is made asleep
+  pub sleeps : (thread : Tcb) → object ≡ o.Tcb thread → IsAsleep thread
 
 module _
     (t : Layout) (allowed : EdgeTest) (began : Machine) (event : Event) (a : ℕ) (m : Machine) (held : IsHeld t allowed m)
@@ -212,6 +214,10 @@ module _
       | inr made_now ↦ let number : q.0 ≡ m.next = ap (λ (i : ObjId). i.0) made_now.0 in omega (arith, number)
     ];
     grows = omega (arith, more);
+    sleeps = λ awake others q thread at. elim (was_or_made q (o.Tcb thread) at) [
+      | inl was ↦ sleeps_on t allowed m next q thread (label_same q (o.Tcb thread) was) (others q thread was)
+      | inr new ↦ inl (made.sleeps thread (sym new.1))
+    ];
     budgets = λ q old new was is.
         let same = same_Some (o.Context new) (o.Context old) (sym is ∙ there_same q (o.Context old) was ∙ was) in
         inl (ap (λ (c : Context). c.share) (same_context new old same));

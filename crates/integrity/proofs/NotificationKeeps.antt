@@ -10,9 +10,9 @@ use Rattle.machine.proofs.{Leaving.Names, LookUps.one_id}
 use Rattle.steps.proofs.{Admission.IsCaller, MessageRows.caller_idle, NotificationRow.IsOpen, PollRow.PollDone, SignalRow.SignalDone}
 use Rattle.steps.proofs.{SignalRow.{Wakes, marked, roused}, WaitRow.WaitDone}
 use Rattle.policy.specs.{Domain.{EdgeTest, SubjectsAgree}, Full.{IsFull, IsFull.{modifies, notifies}}}
-use Rattle.integrity.{specs.Invariant.{IsHeld, IsSound}, proofs.{Contents.{full, notification_fits}, Held.held_of, Keeps.Keeps}}
-use Rattle.integrity.proofs.{MessageParts.{IsReached, at_reached, reached, thread_edge}, MessageTouches.{blocked_keeps, released_keeps}}
-use Rattle.integrity.proofs.SetKeeps.{set_keeps}
+use Rattle.integrity.{specs.{Invariant.{IsHeld, IsSound}, Shrinks.IsBlocked}, proofs.{Asleep.blocked_acts, Contents.full}}
+use Rattle.integrity.proofs.{Contents.notification_fits, Held.held_of, Keeps.Keeps, MessageParts.{IsReached, at_reached, reached}}
+use Rattle.integrity.proofs.{MessageParts.thread_edge, MessageTouches.{blocked_keeps, released_keeps}, SetKeeps.set_keeps}
 
 module _
     (t : Layout) (allowed : EdgeTest) (event : Event) (a : ℕ) (m : Machine) (sound : IsSound t allowed m)
@@ -37,7 +37,7 @@ module _
       → Keeps t allowed m event a m (with_object m id (o.Notification new))
   word_keeps id old new label was same labelled has =
       set_keeps t allowed m event a m id held (o.Notification old) (o.Notification new)
-      (notification_fits t allowed m event m id old new was same) (full t allowed a m _ id label labelled has)
+      (notification_fits t allowed m event a m id old new was same) (full t allowed a m _ id label labelled has)
 
   -- the first who waits at a notification is woken
   wake_keeps :
@@ -50,7 +50,10 @@ module _
       (ap (λ run. state_links run authority.Await id) wakes.waits ∙ itself id) source.1 labelled in
       subst (λ (after : Machine). Keeps t allowed m event a m after) (sym wakes.changes)
       (released_keeps t allowed m event a m held wakes.first wakes.thread (roused badge) wakes.there refl refl tt source.0 source.1
-      (notifies label edge awaits) (λ q to names. absurd (subst (λ (run : RunState). Names run q) wakes.waits names))
+      (notifies label edge awaits)
+      (λ awake.
+      blocked_acts t allowed m wakes.first wakes.thread awake.others wakes.there (subst IsBlocked (sym wakes.waits) tt) source.0 source.1)
+      (λ q to names. absurd (subst (λ (run : RunState). Names run q) wakes.waits names))
       (λ q to waits target.
       let at = subst (λ (run : RunState). WaitsAt run q) wakes.waits waits in
       inl

@@ -1,15 +1,21 @@
 -- A removal keeps what a part of a call keeps: the machine stays within the policy, and what differs shrinks and is of labels that
 -- may be taken from.
-use Rattle.std.proofs.{Common.{ℕ, ◌∙◌, ◌≡◌, ◌⊎◌, Bool, Some, ap, arith, inl, inr, sym}, lemmas.Option.{none-some, same_Some}}
+use Rattle.std.proofs.{Common.{ℕ, ◌∙◌, ◌≡◌, ◌⊎◌, Bool, Some, ap, arith, inl, inr, refl, sym}, lemmas.Option.{none-some, same_Some}}
 use Rattle.base.specs.declared.ids.{ObjId.ObjId, SlotRef.SlotRef}
-use Rattle.machine.specs.{declared.{call.Event.Event, object.{Context.Context, Object.{Object, Object as o}}}, Authority.label_of}
-use Rattle.machine.specs.{Finalising.finalised, Layout.Layout, Machine.{Machine, object_of}, Objects.{address_of, kind_of_object}}
-use Rattle.machine.{specs.Removal.{removed, vanishes}, proofs.{RemovalLooks.next-removed, RemovalStays.{like_finalised, object_was}}}
+use Rattle.machine.specs.declared.{call.Event.Event, object.{Context.Context, Object.{Object, Object as o}, ObjectKind.ObjectKind as kind}}
+use Rattle.machine.specs.{declared.thread.Tcb.Tcb, Authority.label_of, Finalising.finalised, Layout.Layout, Machine.{Machine, object_of}}
+use Rattle.machine.{specs.{Objects.{address_of, kind_of_object}, Removal.{removed, vanishes}}, proofs.RemovalLooks.next-removed}
+use Rattle.machine.proofs.RemovalStays.{like_finalised, object_was}
 use Rattle.steps.proofs.RemovalLinks.{removed_formed}
 use Rattle.policy.specs.{Closed.IsClosed, Domain.EdgeTest, Take.{MayRemoveNear, MayTake.removes}}
-use Rattle.integrity.{specs.{Invariant.IsSound, Removals.MayRemove, Shrinks.IsSame}, proofs.{Held.held_of, Keeps.{Acts, Keeps}}}
-use Rattle.integrity.proofs.{ObjectLabels.labelled_there, RemovalConfined.{removed_confined, removed_of_table}, RemovalCuts.removed_cuts}
+use Rattle.integrity.{specs.{Invariant.IsSound, Removals.MayRemove, Shrinks.IsSame}, proofs.Asleep.{OthersSleep, SleepsOrActs}}
+use Rattle.integrity.proofs.{Asleep.shrunk_asleep, Held.held_of, Keeps.{Acts, Keeps}, ObjectLabels.labelled_there}
+use Rattle.integrity.proofs.{RemovalConfined.{label_was, removed_confined, removed_of_table}, RemovalCuts.removed_cuts}
 use Rattle.integrity.proofs.{RemovalShrinks.removed_shrinks, Shrinking.same_context}
+
+thread_by_kind : (object : Object) → kind_of_object object ≡ kind.Tcb → (thread : Tcb) × (object ≡ o.Tcb thread)
+thread_by_kind (o.Tcb thread) is = (thread, refl)
+thread_by_kind _ is = cc
 
 module _ (m : Machine) (chosen : SlotRef → Bool) (id : ObjId) where
   -- what stays is what it was, finalised
@@ -53,8 +59,24 @@ module _
     born = λ id new absent is.
         let before = object_was m chosen id new is in absurd (none-some before.0 (sym absent ∙ before.1));
     grows = let number = next-removed m chosen in omega (arith, number);
+    sleeps = λ awake. sleep_on;
     budgets = λ id old new was is. inl (share_stays m chosen id old new was is);
   } where
+    sleep_on : OthersSleep t allowed m → OthersSleep t allowed after
+    sleep_on others id thread at =
+        let was = object_was m chosen id (o.Tcb thread) at in
+        let like = like_finalised m (vanishes m chosen) was.0 in
+        let tcb = thread_by_kind was.0 (sym like.kind ∙ ap kind_of_object was.3) in
+        let there : object_of m id ≡ Some (o.Tcb tcb.0) = was.1 ∙ ap (λ (x : Object). Some x) tcb.1 in
+        by_thread tcb.0 there (others id tcb.0 there)
+      where
+        by_thread :
+            (tcb : Tcb) → object_of m id ≡ Some (o.Tcb tcb) → SleepsOrActs t allowed m id tcb
+            → SleepsOrActs t allowed after id thread
+        by_thread tcb there (inl asleep) =
+            inl (shrunk_asleep m after id tcb thread (removed_shrinks m chosen sound.well_formed id (o.Tcb tcb) there) there at asleep)
+        by_thread tcb there (inr acts) = inr (λ a labelled. acts a (label_was t m chosen id a labelled))
+
     by_change : (id : ObjId) → IsSame m after id ⊎ ((label : ℕ) × (label_of t m id ≡ Some label) × MayRemoveNear allowed a label) → Acts t allowed a m after id
     by_change id (inl same) = inl same
     by_change id (inr cut) =

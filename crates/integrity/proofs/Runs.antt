@@ -1,19 +1,23 @@
 -- Every run from a sound machine is safe: by induction over its events, with one clause for each call.
-use Rattle.std.proofs.{Common.{[], ℕ, ◌∙◌, ◌∷◌, ◌≡◌, ◌⊎◌, List, Some, ap, inl, inr, refl, subst, sym}, lemmas.Option.same_Some}
-use Rattle.base.specs.declared.ids.ObjId.{ObjId}
-use Rattle.machine.specs.declared.{call.{Call.Call, Event.Event, Outcome.Outcome}, object.{Context.Context, Object.Object as o}}
-use Rattle.machine.specs.{Authority.label_of, Boot.IsBoot, Layout.Layout, Machine.Machine, Run.Run, Step.Step}
+use Rattle.std.proofs.Common.{[], ℕ, ◌∙◌, ◌∷◌, ◌≡◌, ◌⊎◌, Err, List, Ok, Result, Some, ap, inl, inr, refl, subst, sym}
+use Rattle.std.proofs.lemmas.Option.{same_Some}
+use Rattle.base.specs.declared.{ids.ObjId.ObjId, refusal.Cause.Cause}
+use Rattle.machine.specs.declared.{call.{Call.Call, Event.Event, Made.Made, Outcome.Outcome}, object.{Context.Context, Object.Object as o}}
+use Rattle.machine.specs.{declared.{object.Share.Share, thread.Tcb.Tcb}, Authority.label_of, Boot.IsBoot, Layout.Layout, Machine.Machine}
+use Rattle.machine.specs.{Machine.object_of, Outcomes.IsRefused, Run.Run, Step.{Step, admitted, made_by, running_share, settled, step_of}}
+use Rattle.machine.specs.Step.{thread_in, Step.{ends, lacks}}
 use Rattle.machine.specs.declared.call.Call.TheVariants as call
-use Rattle.steps.proofs.{Admission.IsCaller, Calls.{CallDone, EventDone, step_done, step_formed}}
+use Rattle.steps.proofs.{Admission.{IsCaller, admits}, Calls.{CallDone, EventDone, step_done, step_formed}, Conditions.{both_done, same_ok}}
+use Rattle.steps.proofs.Steps.{refused_changes_nothing}
 use Rattle.policy.specs.{Closed.IsClosed, Domain.EdgeTest}
-use Rattle.integrity.specs.{Bounded.{IsAffected, IsBoundedStep}, Budgets.{KeepsBudgets, configures}, Invariant.IsSound, Safe.IsReached}
-use Rattle.integrity.{specs.{Safe.{IsSafe, KeepsBounds}, Shrinks.IsSame}, proofs.{Bounds.bounded_allowed, ContextKeeps.bind_keeps}}
-use Rattle.integrity.proofs.{ContextKeeps.{configure_keeps, may_configure, unbind_keeps}, Keeps.{Acts, Keeps}}
-use Rattle.integrity.proofs.MessageKeeps.{endpoint_call_keeps, fetch_keeps, receive_keeps, reply_keeps, send_keeps}
-use Rattle.integrity.proofs.{NotificationKeeps.{poll_keeps, signal_keeps, wait_keeps}, RemovalCalls.{delete_keeps, revoke_keeps}}
-use Rattle.integrity.proofs.{RetypeKeeps.retype_keeps, Shrinking.same_context, SlotCalls.{derive_keeps, move_keeps}}
-use Rattle.integrity.proofs.{SpaceKeeps.{clear_space_keeps, set_space_keeps}, ThreadKeeps.{resume_keeps, suspend_keeps}}
-use Rattle.integrity.proofs.WordsKeeps.{read_keeps, write_keeps}
+use Rattle.integrity.specs.{Acting.MayAct, Bounded.{IsAffected, IsBoundedStep}, Budgets.{KeepsBudgets, configures}, Invariant.IsSound}
+use Rattle.integrity.{specs.{Safe.{IsReached, IsSafe, KeepsBounds}, Shrinks.IsSame}, proofs.Asleep.{IsAsleep, OthersSleep, SleepsOrActs}}
+use Rattle.integrity.proofs.{Asleep.acts_of, Bounds.bounded_allowed, ContextKeeps.{bind_keeps, configure_keeps, may_configure}}
+use Rattle.integrity.proofs.{ContextKeeps.unbind_keeps, Keeps.{Acts, Keeps}, MessageKeeps.{endpoint_call_keeps, fetch_keeps, receive_keeps}}
+use Rattle.integrity.proofs.{MessageKeeps.{reply_keeps, send_keeps}, NotificationKeeps.{poll_keeps, signal_keeps, wait_keeps}}
+use Rattle.integrity.proofs.{RemovalCalls.{delete_keeps, revoke_keeps}, RetypeKeeps.retype_keeps, Shrinking.same_context}
+use Rattle.integrity.proofs.{SlotCalls.{derive_keeps, move_keeps}, SpaceKeeps.{clear_space_keeps, set_space_keeps}}
+use Rattle.integrity.proofs.{ThreadKeeps.{resume_keeps, suspend_keeps}, WordsKeeps.{read_keeps, write_keeps}}
 
 -- one clause for each call
 call_keeps :
@@ -70,11 +74,56 @@ call_keeps t allowed event a m next sound closed (call.Bind context thread) by l
 call_keeps t allowed event a m next sound closed (call.Unbind context) by labelled is done =
     unbind_keeps t allowed event a m sound closed event.thread labelled next context done
 
--- a step is bounded and guards budgets, and keeps what belongs to the table and what is confined
+-- a thread that sleeps can't make a call
+not_running : (m : Machine) (thread : Tcb) (share : Share) → running_share m thread ≡ Ok share → IsAsleep thread → ⊥
+not_running m thread share e (inl inactive) = let err = rw inactive at e in cc
+not_running m thread share e (inr ready) = let err = rw (ready.0, ready.1) at e in cc
+
+-- so a thread that is admitted is of a label that may act
+admitted_acts :
+    (t : Layout) (allowed : EdgeTest) (m : Machine) (core : ℕ) (caller : ObjId) (share : Share) → OthersSleep t allowed m
+    → admitted m core caller ≡ Ok share → (a : ℕ) → label_of t m caller ≡ Some a → MayAct t allowed a
+unfolding admitted
+admitted_acts t allowed m core caller share others e a labelled =
+    let found = both_done (thread_in (object_of m caller)) _ share e in
+    let runs = both_done (running_share m found.0) _ share found.2 in
+    let is = admits m core caller share e in
+    let same : found.0 ≡ is.thread = same_ok (sym found.1 ∙ ap thread_in is.there) in
+    by is.thread runs.0 (subst (λ (thread : Tcb). running_share m thread ≡ Ok runs.0) same runs.1) (others caller is.thread is.there)
+  where
+    by :
+        (thread : Tcb) (running : Share) → running_share m thread ≡ Ok running → SleepsOrActs t allowed m caller thread
+        → MayAct t allowed a
+    by thread running can (inl asleep) = absurd (not_running m thread running can asleep)
+    by thread running can (inr acts) = acts a labelled
+
+-- the thread of an event has a label that may act
+abbrev IsOfActing : Layout → EdgeTest → Machine → Event → Type 0
+IsOfActing t allowed m event = (a : ℕ) × (label_of t m event.thread ≡ Some a) × MayAct t allowed a
+
+-- a step that isn't refused is of such a thread
+step_acts :
+    (t : Layout) (allowed : EdgeTest) (m next : Machine) (event : Event) (outcome : Outcome) → IsSound t allowed m
+    → OthersSleep t allowed m → Step m event outcome next → IsRefused outcome ⊎ IsOfActing t allowed m event
+unfolding step_of made_by
+step_acts t allowed m next event outcome sound others (lacks without) = inl (subst IsRefused (sym without.refused) tt)
+step_acts t allowed m next event outcome sound others (ends e) = by_made (made_by m event) refl e where
+  by_made :
+      (r : Result (Made × Machine) Cause) → made_by m event ≡ r → settled m r ≡ (outcome, next)
+      → IsRefused outcome ⊎ IsOfActing t allowed m event
+  by_made (Ok made) is same =
+      let admission = both_done (admitted m event.core event.thread) _ made is in
+      let caller = admits m event.core event.thread admission.0 admission.1 in
+      let label = sound.of_table.labelled event.thread (o.Tcb caller.thread) caller.there in
+      inr (label.0, label.1, admitted_acts t allowed m event.core event.thread admission.0 others admission.1 label.0 label.1)
+  by_made (Err cause) is same = inl (subst IsRefused (ap (λ p. p.0) same) tt)
+
+-- a step is bounded and guards budgets, keeps what belongs to the table and what is confined, and lets those who sleep sleep on
 record StepKeeps (t : Layout) (allowed : EdgeTest) (m : Machine) (event : Event) (next : Machine) : Type 0 where
   sound : IsSound t allowed next
   bounds : IsBoundedStep t allowed m event next
   budgets : KeepsBudgets t allowed m event next
+  asleep : OthersSleep t allowed m → OthersSleep t allowed next
 
 -- each change is within the bounds of the caller's label
 by_caller :
@@ -88,6 +137,14 @@ step_keeps :
     (t : Layout) (allowed : EdgeTest) (m next : Machine) → IsSound t allowed m → IsClosed allowed
     → (event : Event) (outcome : Outcome) → Step m event outcome next → StepKeeps t allowed m event next
 step_keeps t allowed m next sound closed event outcome step = by (step_done m event outcome next sound.well_formed step) where
+  sleep_on :
+      (a : ℕ) → label_of t m event.thread ≡ Some a → Keeps t allowed m event a m next → OthersSleep t allowed m
+      → IsRefused outcome ⊎ IsOfActing t allowed m event → OthersSleep t allowed next
+  sleep_on a labelled keeps others (inl refused) =
+      subst (λ (after : Machine). OthersSleep t allowed after) (sym (refused_changes_nothing m event outcome next step refused)) others
+  sleep_on a labelled keeps others (inr of) =
+      keeps.sleeps (record { acting = acts_of t allowed m event.thread of.0 of.1 of.2 a labelled; others = others }) others
+
   by : EventDone m event next ⊎ (next ≡ m) → StepKeeps t allowed m event next
   by (inl done) =
       let label = sound.of_table.labelled event.thread (o.Tcb done.caller.thread) done.caller.there in
@@ -100,6 +157,7 @@ step_keeps t allowed m next sound closed event outcome step = by (step_done m ev
         };
         bounds = λ id. by_caller t allowed event label.0 m next id label.1 (keeps.acts id);
         budgets = keeps.budgets;
+        asleep = λ others. sleep_on label.0 label.1 keeps others (step_acts t allowed m next event outcome sound others step);
       }
   by (inr same) = subst (λ (after : Machine). StepKeeps t allowed m event after) (sym same) (record {
     sound = sound;
@@ -107,35 +165,42 @@ step_keeps t allowed m next sound closed event outcome step = by (step_done m ev
     budgets = λ id old new was is.
         let same = same_context new old (same_Some (o.Context new) (o.Context old) (sym is ∙ was)) in
         inl (ap (λ (context : Context). context.share) same);
+    asleep = λ others. others;
   })
 
--- sound machines lead to sound machines
+-- sound machines, where each thread sleeps whose label may not act, lead to such machines
 run_sound :
     (t : Layout) (allowed : EdgeTest) → IsClosed allowed → (first m : Machine) (events : List Event)
-    (outcomes : List Outcome) → IsSound t allowed first → Run first events outcomes m → IsSound t allowed m
-run_sound t allowed closed first m [] [] sound run = subst (λ (after : Machine). IsSound t allowed after) run sound
+    (outcomes : List Outcome) → IsSound t allowed first × OthersSleep t allowed first → Run first events outcomes m
+    → IsSound t allowed m × OthersSleep t allowed m
+run_sound t allowed closed first m [] [] sound run =
+    subst (λ (after : Machine). IsSound t allowed after × OthersSleep t allowed after) run sound
 run_sound t allowed closed first m [] (outcome ∷ outcomes) sound run = absurd run
 run_sound t allowed closed first m (event ∷ events) [] sound run = absurd run
 run_sound t allowed closed first m (event ∷ events) (outcome ∷ outcomes) sound run =
-    run_sound t allowed closed run.0 m events outcomes (step_keeps t allowed first run.0 sound closed event outcome run.1).sound run.2
+    let keeps = step_keeps t allowed first run.0 sound.0 closed event outcome run.1 in
+    run_sound t allowed closed run.0 m events outcomes (keeps.sound, keeps.asleep sound.1) run.2
 
--- the headline, where the boot state is sound
+-- the headline, where the boot state is such a machine
 pub safe_from :
     (t : Layout) (allowed : EdgeTest) → IsClosed allowed
-    → ((boot : Machine) → IsBoot t boot → IsSound t allowed boot) → IsSafe t allowed
+    → ((boot : Machine) → IsBoot t boot → IsSound t allowed boot × OthersSleep t allowed boot) → IsSafe t allowed
 safe_from t allowed closed at_boot =
     record {
-      labelled = λ m reached. (sound_at m reached).of_table.labelled;
-      confined = λ m reached. (sound_at m reached).confined;
+      labelled = λ m reached. (sound_at m reached).0.of_table.labelled;
+      confined = λ m reached. (sound_at m reached).0.confined;
       integrity = λ m next event outcome reached step. bounded_allowed t allowed m next event (bounded m next event outcome reached step);
       bounds = bounded;
-      budgets = λ m next event outcome reached step. (step_keeps t allowed m next (sound_at m reached) closed event outcome step).budgets;
+      budgets = λ m next event outcome reached step.
+          (step_keeps t allowed m next (sound_at m reached).0 closed event outcome step).budgets;
+      acting = λ m next event outcome reached step.
+          let sound = sound_at m reached in step_acts t allowed m next event outcome sound.0 sound.1 step;
     }
   where
-    sound_at : (m : Machine) → IsReached t m → IsSound t allowed m
+    sound_at : (m : Machine) → IsReached t m → IsSound t allowed m × OthersSleep t allowed m
     sound_at m reached =
         run_sound t allowed closed reached.boot m reached.events reached.outcomes
         (at_boot reached.boot reached.booted) reached.run
 
     bounded : KeepsBounds t allowed
-    bounded m next event outcome reached step = (step_keeps t allowed m next (sound_at m reached) closed event outcome step).bounds
+    bounded m next event outcome reached step = (step_keeps t allowed m next (sound_at m reached).0 closed event outcome step).bounds

@@ -11,7 +11,7 @@ use Rattle.integrity.{specs.{Bounded.MayAffect, Invariant.IsHeld}, proofs.{Keeps
 
 module _ (t : Layout) (allowed : EdgeTest) (began : Machine) (event : Event) (a : ℕ) (m : Machine) (id : ObjId) (held : IsHeld t allowed m) where
   pub set_keeps :
-      (old new : Object) → Fits t allowed began event m id old new → MayAffect t allowed a m (with_object m id new) id
+      (old new : Object) → Fits t allowed began event a m id old new → MayAffect t allowed a m (with_object m id new) id
       → Keeps t allowed began event a m (with_object m id new)
   set_keeps old new fits may =
       touch_keeps t allowed began event a m id old new (with_object m id new) held fits
@@ -30,7 +30,7 @@ module _ (t : Layout) (allowed : EdgeTest) (began : Machine) (event : Event) (a 
       → MayAffect t allowed a m (with_queue m id threads) id → Keeps t allowed began event a m (with_queue m id threads)
   queue_keeps object threads there may =
       touch_keeps t allowed began event a m id object object (with_queue m id threads) held
-      (same_fits t allowed began event m id held object there)
+      (same_fits t allowed began event a m id held object there)
       (record {
         contents = λ q apart. object_of-with_queue m id threads q;
         queues = λ q apart. queue_of-with_queue m id threads q ∙ at_other q id (Some threads) (queue_of m q) apart;

@@ -10,8 +10,8 @@ use Rattle.machine.{specs.WellFormed.kind_of, proofs.SlotChanges.SameObjects}
 use Rattle.machine.specs.declared.object.ObjectKind.TheVariants as kind
 use Rattle.steps.proofs.SameObjects.{kinds_same}
 use Rattle.policy.specs.{Domain.EdgeTest, Full.{IsFull, IsFull.modifies}}
-use Rattle.integrity.{specs.{Confined.IsConfined, Invariant.{IsBare, IsHeld}, OfTable.IsOfTable}, proofs.{Contents.full, Keeps.Acts}}
-use Rattle.integrity.proofs.{Keeps.Keeps, ObjectLabels.same_label, Reach.IsControlled, Shrinking.same_context}
+use Rattle.integrity.{specs.{Confined.IsConfined, Invariant.{IsBare, IsHeld}, OfTable.IsOfTable}, proofs.{Asleep.sleeps_on, Contents.full}}
+use Rattle.integrity.proofs.{Keeps.{Acts, Keeps}, ObjectLabels.same_label, Reach.IsControlled, Shrinking.same_context}
 
 -- a label has full authority over an object's
 pub record IsOpened (t : Layout) (allowed : EdgeTest) (m : Machine) (a : ℕ) (id : ObjId) : Type 0 where
@@ -130,6 +130,7 @@ module _
         (ap kind_of_object one, ap address_of one);
     born = λ q object absent is. absurd (none-some object (sym absent ∙ was q object is));
     grows = let number = fit.same.number in omega (arith, number);
+    sleeps = λ awake others q thread at. sleeps_on t allowed m next q thread (labels q) (others q thread (was q (o.Tcb thread) at));
     budgets = λ q before after there is.
         let one = same_Some (o.Context after) (o.Context before) (sym (was q (o.Context after) is) ∙ there) in
         inl (ap (λ (c : Context). c.share) (same_context after before one));

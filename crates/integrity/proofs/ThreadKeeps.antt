@@ -12,8 +12,8 @@ use Rattle.machine.specs.declared.thread.RunState.TheVariants as state
 use Rattle.steps.proofs.{Finding.{FindsObject, found_kind}, FoundObjects.tcb_of_kind, ThreadRow.{ResumeDone, SuspendDone}}
 use Rattle.policy.specs.{Closed.IsClosed, Cut.{IsNear, IsNear.{against, along, stays}}, Domain.EdgeTest, Full.{IsFull, IsFull.modifies}}
 use Rattle.policy.specs.Take.{MayTake, MayTake.removes}
-use Rattle.integrity.{specs.Invariant.IsSound, proofs.{Held.held_of, Keeps.{Keeps, unchanged}, MessageParts.{IsReached, holds_edge}}}
-use Rattle.integrity.proofs.{MessageParts.{reached, thread_edge}, MessageTouches.{MayLessen, released_keeps}}
+use Rattle.integrity.{specs.{Acting.MayAct.started, Invariant.IsSound}, proofs.{Held.held_of, Keeps.{Keeps, unchanged}}}
+use Rattle.integrity.proofs.{MessageParts.{IsReached, holds_edge, reached, thread_edge}, MessageTouches.{MayLessen, released_keeps}}
 
 -- a thread that goes on is as it was, or can run, or is aborted
 data Resumes (m : Machine) (thread : ObjId) (next : Machine) : Type 0 where
@@ -117,7 +117,8 @@ module _
           → IsIdle (change tcb).state → Keeps t allowed m event a m (with_released m thread change)
       release_keeps change address context idle =
           released_keeps t allowed m event a m (held_of t allowed m sound) thread tcb change there address context idle
-          to_thread.label to_thread.labelled (modifies authority.Control refl may_control) names_loses waits_loses
+          to_thread.label to_thread.labelled (modifies authority.Control refl may_control) (λ awake. started awake.acting may_control)
+          names_loses waits_loses
 
   pub suspend_keeps : SuspendDone m caller address next → Keeps t allowed m event a m next
   suspend_keeps done =

@@ -9,9 +9,9 @@ use Rattle.machine.specs.{declared.thread.Tcb.Tcb, Authority.{label_at, label_of
 use Rattle.machine.specs.{Machine.{Machine, cap_of, object_of, parent_of, queue_of, words_of}, Objects.{address_of, end_of, kind_of_object}}
 use Rattle.machine.proofs.Ids.{one_or_two}
 use Rattle.policy.specs.Domain.{EdgeTest}
-use Rattle.integrity.{specs.{Bounded.MayAffect, Budgets.MayConfigure, Invariant.{IsBare, IsHeld}, OfTable.IsOfTable}, proofs.Keeps.Acts}
-use Rattle.integrity.proofs.{Keeps.Keeps, ObjectLabels.{kind_stays, label_stays, same_label}, Shrinking.same_context, Steady.IsSteady}
-use Rattle.integrity.proofs.Steady.{LinksAllowed, steady_confined}
+use Rattle.integrity.{specs.{Bounded.MayAffect, Budgets.MayConfigure, Invariant.{IsBare, IsHeld}, OfTable.IsOfTable}, proofs.Asleep.IsAwake}
+use Rattle.integrity.proofs.{Asleep.{OthersSleep, SleepsOrActs, sleeps_on}, Keeps.{Acts, Keeps}, ObjectLabels.{kind_stays, label_stays}}
+use Rattle.integrity.proofs.{ObjectLabels.same_label, Shrinking.same_context, Steady.{IsSteady, LinksAllowed, steady_confined}}
 
 -- all but one object's content, queue and words is as it was
 pub record Touches (m : Machine) (id : ObjId) (next : Machine) : Type 0 where
@@ -23,7 +23,9 @@ pub record Touches (m : Machine) (id : ObjId) (next : Machine) : Type 0 where
   pub number : next.next ≡ m.next
 
 -- a content that an object may get in a step of a label's thread
-pub record Fits (t : Layout) (allowed : EdgeTest) (began : Machine) (event : Event) (m : Machine) (id : ObjId) (old new : Object) : Type 0 where
+pub record Fits
+    (t : Layout) (allowed : EdgeTest) (began : Machine) (event : Event) (a : ℕ) (m : Machine) (id : ObjId)
+    (old new : Object) : Type 0 where
   pub was : object_of m id ≡ Some old
   pub kind : kind_of_object new ≡ kind_of_object old
   pub address : address_of new ≡ address_of old
@@ -35,21 +37,26 @@ pub record Fits (t : Layout) (allowed : EdgeTest) (began : Machine) (event : Eve
       ⊎ ((from to : ℕ) → label_of t m id ≡ Some from → label_of t m end ≡ Some to → allowed from k to ≡ true)
   -- the number of a context that a thread lent was given out
   pub lent : (context : ObjId) (thread : Tcb) → new ≡ o.Tcb thread → lent_of thread.state ≡ Some context → context.0 < m.next
+  -- a thread sleeps, or its label may act
+  pub sleeps :
+      IsAwake t allowed began a → OthersSleep t allowed m → (thread : Tcb) → new ≡ o.Tcb thread
+      → SleepsOrActs t allowed m id thread
   pub share :
       (before after : Context) → old ≡ o.Context before → new ≡ o.Context after
       → (after.share ≡ before.share) ⊎ MayConfigure t allowed began event id
 
 -- it may keep the content that it has
 pub same_fits :
-    (t : Layout) (allowed : EdgeTest) (began : Machine) (event : Event) (m : Machine) (id : ObjId) → IsHeld t allowed m
-    → (object : Object) → object_of m id ≡ Some object → Fits t allowed began event m id object object
-same_fits t allowed began event m id held object there = record {
+    (t : Layout) (allowed : EdgeTest) (began : Machine) (event : Event) (a : ℕ) (m : Machine) (id : ObjId) → IsHeld t allowed m
+    → (object : Object) → object_of m id ≡ Some object → Fits t allowed began event a m id object object
+same_fits t allowed began event a m id held object there = record {
   was = there;
   kind = refl;
   address = refl;
   end = refl;
   links = λ end k had. inl had;
   lent = λ context thread is lends. held.of_table.lent id context thread (there ∙ ap Some is) lends;
+  sleeps = λ awake others thread is. others id thread (there ∙ ap Some is);
   share = λ before after was is. inl (ap (λ (c : Context). c.share) (same_context after before (sym is ∙ was)));
 }
 
@@ -59,7 +66,7 @@ memory_by_kind _ is = cc
 
 module _
     (t : Layout) (allowed : EdgeTest) (began : Machine) (event : Event) (a : ℕ) (m : Machine) (id : ObjId) (old new : Object)
-    (next : Machine) (held : IsHeld t allowed m) (fits : Fits t allowed began event m id old new) (touches : Touches m id next)
+    (next : Machine) (held : IsHeld t allowed m) (fits : Fits t allowed began event a m id old new) (touches : Touches m id next)
     (here : object_of next id ≡ Some new) (may : MayAffect t allowed a m next id) where
   -- an object is as it was, or it is the one
   Seen : ObjId → Type 0
@@ -181,6 +188,17 @@ module _
     ]
   ]
 
+  -- each other thread sleeps on
+  sleeps : IsAwake t allowed began a → OthersSleep t allowed m → OthersSleep t allowed next
+  unfolding Seen
+  sleeps awake others q thread at =
+      sleeps_on t allowed m next q thread (steady.labels q) (elim (seen q) [
+        | inl same ↦ others q thread (sym same ∙ at)
+        | inr same ↦
+            subst (λ (x : ObjId). SleepsOrActs t allowed m x thread) (sym same)
+            (fits.sleeps awake others thread (sym (new_at q (o.Tcb thread) same at)))
+      ])
+
   before_there : (q : ObjId) (object : Object) → object_of next q ≡ Some object → (before : Object) × (object_of m q ≡ Some before)
   unfolding Seen
   before_there q object at = elim (seen q) [ inl same ↦ (object, sym same ∙ at) | inr same ↦ (old, was_at q same) ]
@@ -205,5 +223,6 @@ module _
     ];
     born = λ q object absent is. let before = before_there q object is in absurd (none-some before.0 (sym absent ∙ before.1));
     grows = let number = touches.number in omega (arith, number);
+    sleeps = sleeps;
     budgets = budgets;
   }

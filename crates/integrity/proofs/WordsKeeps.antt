@@ -34,7 +34,7 @@ module _
   unfolding object_of queue_of words_of cap_of parent_of with_words
   words_keep object words there may =
       touch_keeps t allowed began event a m id object object (with_words m id words) held
-      (same_fits t allowed began event m id held object there)
+      (same_fits t allowed began event a m id held object there)
       (record {
         contents = λ q apart. refl;
         queues = λ q apart. refl;

@@ -3,6 +3,7 @@ pub mod Shrinks
 pub mod Allowed
 pub mod Bounded
 pub mod Budgets
+pub mod Acting
 pub mod Safe
 pub mod Apart
 pub mod OfTable

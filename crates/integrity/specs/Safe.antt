@@ -1,11 +1,11 @@
 -- The headline: confinement and integrity of every run from a table's boot state ('seL4 Enforces Integrity', sections 4 and 5,
 -- authority confinement and integrity).
-use Rattle.std.specs.Prelude.{ℕ, ◌≡◌, List, Some}
+use Rattle.std.specs.Prelude.{ℕ, ◌≡◌, ◌⊎◌, List, Some}
 use Rattle.base.specs.declared.ids.ObjId.{ObjId}
 use Rattle.machine.specs.{declared.{call.{Event.Event, Outcome.Outcome}, object.Object.Object}, Authority.label_of, Boot.IsBoot}
-use Rattle.machine.specs.{Layout.Layout, Machine.{Machine, object_of}, Run.Run, Step.Step}
+use Rattle.machine.specs.{Layout.Layout, Machine.{Machine, object_of}, Outcomes.IsRefused, Run.Run, Step.Step}
 use Rattle.policy.specs.Domain.{EdgeTest}
-use Rattle.integrity.specs.{Allowed.IsAllowedStep, Bounded.IsBoundedStep, Budgets.KeepsBudgets, Confined.IsConfined}
+use Rattle.integrity.specs.{Acting.MayAct, Allowed.IsAllowedStep, Bounded.IsBoundedStep, Budgets.KeepsBudgets, Confined.IsConfined}
 
 -- some list of events, by any threads on any cores, leads from the table's boot state to the machine
 pub record IsReached (t : Layout) (m : Machine) : Type 0 where
@@ -44,9 +44,16 @@ LabelsObjects t =
     (m : Machine) → IsReached t m → (id : ObjId) (object : Object) → object_of m id ≡ Some object
     → (label : ℕ) × (label_of t m id ≡ Some label)
 
+-- each step is refused, or is of a thread whose label may act
+abbrev pub RefusesOthers : Layout → EdgeTest → Type 0
+RefusesOthers t allowed =
+    (m next : Machine) (event : Event) (outcome : Outcome) → IsReached t m → Step m event outcome next
+    → IsRefused outcome ⊎ ((a : ℕ) × (label_of t m event.thread ≡ Some a) × MayAct t allowed a)
+
 pub record IsSafe (t : Layout) (allowed : EdgeTest) : Type 0 where
   pub labelled : LabelsObjects t
   pub confined : StaysConfined t allowed
   pub integrity : KeepsIntegrity t allowed
   pub bounds : KeepsBounds t allowed
   pub budgets : GuardsBudgets t allowed
+  pub acting : RefusesOthers t allowed

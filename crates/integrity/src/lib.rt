@@ -15,4 +15,7 @@ pub use removing::{
     a_removal_changes_what_may_be_taken, deletes_and_revokes_stay_within_authority,
     removals_stay_confined, removals_stay_within_authority, what_a_removal_changes_shrinks,
 };
-pub use safe::{bounded_systems_keep_labels_apart, confined_systems_are_safe};
+pub use safe::{
+    bounded_systems_keep_labels_apart, changes_are_of_labels_that_act, confined_systems_are_safe,
+    labels_act_from_boot_or_by_control, only_labels_that_act_use_their_authority,
+};

@@ -1,4 +1,4 @@
-ghost use Rattle.std.specs.{List.find, Option.option_and_then, Prelude.{◌≡◌, ◌≤◌, IfErr, IfOk, map}};
+ghost use Rattle.std.specs.{List.find, Option.option_and_then, Prelude.{ℕ, ◌<◌, ◌≡◌, ◌≤◌, IfErr, IfOk, map}};
 ghost use Rattle.base.specs.Refusals.{out_of_memory};
 ghost use Rattle.policy.specs.{Places.FindsLeast, Policy.allows};
 ghost use Rattle.verdict.specs.{Slots.{BreaksSlots, denial_by, is_missing, missing_edge, rule_of}, Verdict.place_of};
@@ -25,6 +25,7 @@ pub fn first_at_slots<R: Threads + Sync, G: Gate + Sync>(
 ) -> Result<Option<Denial>, Refusal>
     requires workers { (1 ≤ workers) × (workers ≤ 16) }
     ensures least { IfOk result (FindsLeast place_of (BreaksSlots table.now (allows policy.now))) }
+    ensures arrived { IfOk result (λ found. (worker : ℕ) → worker < workers → G.HasArrived gate.now worker) }
     ensures memory { IfErr result (λ refusal. refusal ≡ out_of_memory) }
 {
     let check = SlotCheck {
