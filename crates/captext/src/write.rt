@@ -7,14 +7,14 @@ ghost use Rattle.table.specs.Rules.{kind_at};
 ghost use Rattle.captext.specs.{Policies.read_policy_of, PolicyText.{IsEdgeOf, edge_lines, edge_words, label_name, policy_text}};
 ghost use Rattle.captext.specs.{Spelling.place_word, TableText.{binding_words, cap_words, content_words, detail_words}};
 ghost use Rattle.captext.specs.TableText.{label_lines, object_lines, object_name, object_words, pair_words, place_in, share_words, slot_name};
-ghost use Rattle.captext.specs.{TableText.{table_lines, table_text}, Tables.read_table_of};
+ghost use Rattle.captext.specs.{TableText.{table_header as header_words, table_lines, table_text}, Tables.read_table_of};
 
 use crate::shapes::Place;
 use crate::tables::{table_header, tables_are_read_back};
 use base::{Edge, Label, ObjId, Refusal, SlotRef};
 use machine::{
     Binding, CNode, Context, Control, Detail, Endpoint, Filled, Frame, Initial, Notification,
-    Object, ObjectKind, Pair, Reply, RunState, Share, Tcb, Untyped,
+    Object, ObjectKind, Pair, Reply, RunState, Share, Tcb, Untyped, Version,
 };
 use policy::Policy;
 use std::alloc::{AllocError, Global};
@@ -74,10 +74,20 @@ pub fn write_edges(alloc: Global, edges: &[Edge], table: &Table) -> Result<Vec<u
     Ok(text.into_bytes())
 }
 
+// The header of the table's text.
+fn header_of(table: &Table) -> &'static str
+    ensures { result.now ++ 10 ∷ [] ≡ line_text (header_words table.now.version) }
+{
+    match table.version() {
+        1 => table_header(Version::One),
+        _ => table_header(Version::Two),
+    }
+}
+
 fn table_string(alloc: Global, table: &Table) -> Result<String, AllocError>
     ensures { IfOk result (λ text. string_bytes text ≡ table_text table.now) }
 {
-    let mut text = String::from_str(alloc, table_header(table.version()))?;
+    let mut text = String::from_str(alloc, header_of(table))?;
     text.push('\n')?;
     write_items(&mut text, table)?;
     text.push_str("end\n")?;

@@ -284,8 +284,10 @@ impl State {
         self.going.len() as u64
     }
 
-    /// Notes that the object has lost its last capability in a removal that is under way.
+    /// Notes that the object, which is there, has lost its last capability in a removal that is under way.
     pub fn add_going(&mut self, id: ObjId)
+        requires there { IsSome (object_of self.old id) }
+        requires lost { caps_to self.old id ≡ 0 }
         requires room { length self.old.going < objects_in self.old }
         ensures { self.new ≡ with_going self.old id }
     {

@@ -1,12 +1,14 @@
 -- What is told of a table that is made one of version 2 is what was told of it before.
-use Rattle.std.proofs.Common.{ℕ, ◌≡◌, List, refl}
-use Rattle.base.specs.declared.edge.Edge.{Edge}
-use Rattle.machine.specs.Layout.{Layout, initial_of, upgraded}
-use Rattle.policy.specs.declared.broken.Broken.{Broken}
+use Rattle.std.{specs.Prelude.Option, proofs.Common.{ℕ, ◌↔◌, ◌≡◌, List, refl, subst, sym}}
+use Rattle.base.specs.declared.{edge.Edge.Edge, ids.ObjId.ObjId}
+use Rattle.machine.specs.{declared.object.ObjectKind.ObjectKind, Authority.{label_at, label_of}, Layout.{Layout, declared_label, initial_of, upgraded}}
+use Rattle.machine.specs.Machine.{Machine}
+use Rattle.policy.specs.{declared.broken.Broken.Broken, Domain.EdgeTest, Places.IsLeast}
 use Rattle.policy.specs.declared.broken.Broken.TheVariants as broken
 use Rattle.table.specs.Rules.{kind_at}
-use Rattle.verdict.specs.declared.denial.Denial.{Denial, Denial as denial}
-use Rattle.reptext.specs.{Places.{broken_names, place_names}, Reports.IsCheckReport}
+use Rattle.verdict.specs.{declared.denial.Denial.{Denial, Denial as denial}, Rules.{Exceeds, Excess, excess_place}, Sources.{Sources, of_machine}}
+use Rattle.verdict.specs.Verdict.{IsOutside}
+use Rattle.reptext.specs.{Places.{broken_names, place_names, place_names_by}, Reports.IsCheckReport}
 
 pub reported : (t : Layout) (edges : List Edge) (text : List ℕ) → IsCheckReport (upgraded t) edges text → IsCheckReport t edges text
 reported t edges text h = record { cut = h.cut; full = h.full; cuts = h.cuts; fulls = h.fulls; told = h.told }
@@ -24,13 +26,28 @@ same_broken t (broken.ContextLacks subject context) = refl
 same_broken t (broken.ReplyLacks reply thread) = refl
 same_broken t (broken.LentLacks borrower context) = refl
 
+-- by whichever kinds the objects are of
+pub same_names :
+    (kinds : ObjId → Option ObjectKind) (t : Layout) (d : Denial) → place_names_by kinds (upgraded t) d ≡ place_names_by kinds t d
+same_names kinds t (denial.Policy broken) = same_broken t broken
+same_names kinds t (denial.Capability slot kind label) = refl
+same_names kinds t (denial.Root slot label) = refl
+same_names kinds t (denial.Pair child parent) = refl
+same_names kinds t (denial.Binding thread context) = refl
+same_names kinds t (denial.Holding reply thread) = refl
+same_names kinds t (denial.Recorded thread kind label) = refl
+same_names kinds t (denial.Certificate line) = refl
+
 pub same_places : (t : Layout) (d : Denial) → place_names (upgraded t) d ≡ place_names t d
 unfolding initial_of kind_at
-same_places t (denial.Policy broken) = same_broken t broken
-same_places t (denial.Capability slot kind label) = refl
-same_places t (denial.Root slot label) = refl
-same_places t (denial.Pair child parent) = refl
-same_places t (denial.Binding thread context) = refl
-same_places t (denial.Holding reply thread) = refl
-same_places t (denial.Recorded thread kind label) = refl
-same_places t (denial.Certificate line) = refl
+same_places t d = same_names (kind_at t) t d
+
+same_sources : (t : Layout) (m : Machine) → of_machine (upgraded t) m ≡ of_machine t m
+unfolding label_of declared_label label_at initial_of
+same_sources t m = refl
+
+pub same_outside :
+    (t : Layout) (allowed : EdgeTest) (m : Machine) (place : Excess) → IsOutside (upgraded t) allowed m place ↔ IsOutside t allowed m place
+same_outside t allowed m place =
+    let At : Sources → Type 0 = λ s. IsLeast excess_place (Exceeds s allowed) place in
+    (subst At (same_sources t m), subst At (sym (same_sources t m)))

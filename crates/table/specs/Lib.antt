@@ -7,3 +7,4 @@ pub mod Building
 pub mod Inventory
 pub mod Aims
 pub mod Items
+pub mod Versions

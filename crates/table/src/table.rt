@@ -2,7 +2,7 @@ ghost use Rattle.std.specs.{List.find, Option.option_copied, Prelude.{◌<◌, �
 ghost use Rattle.base.specs.declared.label.TheConstants.Label as LabelLimits;
 ghost use Rattle.machine.specs.{Authority.label_at, Layout.{bound_context, bound_thread, initial_cap, initial_of, initial_parent}};
 ghost use Rattle.machine.specs.{Layout.upgraded, Machine.same_id};
-ghost use Rattle.table.specs.{Names.{label_named, object_named}, Rules.{IsLawful, kind_at}};
+ghost use Rattle.table.specs.{Names.{label_named, object_named}, Rules.{IsLawful, kind_at}, Versions.version_number};
 
 use crate::draft::Draft;
 use crate::tree::{cap_in, parent_in};
@@ -38,11 +38,14 @@ impl Table {
         Table { draft }
     }
 
-    /// The version, which its text begins with.
-    pub fn version(&self) -> Version
-        ensures { result ≡ self.now.version }
+    /// Returns the version, 1 or 2, with which its text begins.
+    pub fn version(&self) -> u64
+        ensures { result ≡ version_number self.now.version }
     {
-        self.draft.version()
+        match self.draft.version() {
+            Version::One => 1,
+            Version::Two => 2,
+        }
     }
 
     /// Makes it a table of version 2, which may have more labels, and changes nothing else. It takes no

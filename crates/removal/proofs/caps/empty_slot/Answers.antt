@@ -1,5 +1,6 @@
 -- There is room for what has lost its last capability, and it comes to be going as the others are.
 use Rattle.std.proofs.Common.{◌∙◌, sym}
+use Rattle.machine.specs.Machine.{object_of, without_cap}
 use Rattle.removal.proofs.Going.{one_more_going, room_in, same_going}
 use Rattle.removal.proofs.caps.empty_slot.Goals as goal
 
@@ -7,9 +8,14 @@ pub take_cap-requires : goal.take_cap-requires
 take_cap-requires c = c.requires.place
 
 pub add_going-requires : goal.add_going-requires
+unfolding without_cap object_of
 add_going-requires c =
     rw c.take_cap.ensures
-    (record { room = room_in c.args.state.now c.args.slot c.in-Some.cap c.requires.going (sym c.in-Some.ensures) (c.caps_are_for_objects.ensures _ _ (sym c.in-Some.ensures)) })
+    (record {
+      there = c.caps_are_for_objects.ensures _ _ (sym c.in-Some.ensures);
+      lost = rw (sym c.take_cap.ensures) (sym c.cap_count.ensures.value ∙ c.if-cap_count-eq0.true);
+      room = room_in c.args.state.now c.args.slot c.in-Some.cap c.requires.going (sym c.in-Some.ensures) (c.caps_are_for_objects.ensures _ _ (sym c.in-Some.ensures));
+    })
 
 pub returns-then-cap_count-eq0-clause-going : goal.returns-then-cap_count-eq0-clause-going
 returns-then-cap_count-eq0-clause-going c =
