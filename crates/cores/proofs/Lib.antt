@@ -8,3 +8,5 @@ pub mod Safe
 pub mod OneCore
 pub mod Counting
 pub mod AllCores
+pub mod AfterMeeting
+pub mod BusyCores

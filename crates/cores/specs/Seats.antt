@@ -5,7 +5,7 @@ use Rattle.atomic_table.specs.Seated.{TableId, table_id_coded}
 use Rattle.machine.specs.{declared.call.{Event.Event, Outcome.Outcome}, Machine.{Machine, empty_machine}, WellFormed.IsWellFormed}
 use Rattle.kernel.specs.Legal.{Entry, Leads}
 use Rattle.cores.specs.{declared.view.{About.About, Hand.Hand, Keeping.Keeping, Noted.Noted, View.View}, History.{IsExactFor, IsLegal}}
-use Rattle.cores.specs.{History.{OnCores, log_of}, Rule.{about, keeper_view}, Tokens.{IsAt, Token}}
+use Rattle.cores.specs.{History.{OnCores, log_of, own}, Rule.{about, keeper_view}, Tokens.{IsAt, Token}}
 use mathlib.Core.List.{IsPrefix}
 
 -- a seat: which word it is of, what its kernel was opened with, the kernel's number, its own number and core, the beginning of the
@@ -162,14 +162,20 @@ pub record Looks (before after : Known) : Type 0 where
   pub exact : IsExactFor after.number after.seen after.mine
   pub made : after.mine ≡ before.mine
 
--- one legal history begins with what each of two seats has seen, and is exact for both
+-- two seats of one kernel have seen one legal history, which is exact for both
 pub record Meet (first second : Known) : Type 0 where
-  pub history : List Noted
-  pub legal : IsLegal first.start.boot first.start.cores history
-  pub begins_first : IsPrefix first.seen history
-  pub begins_second : IsPrefix second.seen history
-  pub exact_first : IsExactFor first.number history first.mine
-  pub exact_second : IsExactFor second.number history second.mine
+  pub start : second.start ≡ first.start
+  pub seen : second.seen ≡ first.seen
+  pub legal : IsLegal first.start.boot first.start.cores first.seen
+  pub exact_first : IsExactFor first.number first.seen first.mine
+  pub exact_second : IsExactFor second.number second.seen second.mine
+
+-- a call of the second seat stands in a legal history after all that the first had seen, and none of the entries between is the second's
+pub record ComesAfter (first second : Known) (event : Event) (outcome : Outcome) (after : Known) : Type 0 where
+  pub between : List Noted
+  pub seen : after.seen ≡ (first.seen ++ between) ++ record { seat = second.number; event = event; outcome = outcome } ∷ []
+  pub by_others : own second.number between ≡ []
+  pub legal : IsLegal after.start.boot after.start.cores after.seen
 
 -- a kernel's state and its log, once nobody calls it any more: they are those of the whole history, which each seat that is shown
 -- has seen then

@@ -4,6 +4,7 @@
 
 mod board;
 mod desk;
+mod meeting;
 mod naming;
 mod opened;
 mod running;
@@ -14,6 +15,7 @@ mod view;
 mod word;
 mod workers;
 
+pub use meeting::calls_after_a_meeting_come_after_both;
 pub use naming::Naming;
 pub use opened::{MAX_SEATS, Opened};
 pub use running::Kernel;

@@ -1,6 +1,7 @@
 //! The workers, one for each core.
-ghost use Rattle.std.specs.Prelude.{[], ℕ, ◌<◌, ◌≡◌, All, IfOk, length, slice_index_or};
-ghost use Rattle.cores.specs.{Seats.{IsOf, Known}, Workers.{IsFresh, Worked}};
+ghost use Rattle.std.specs.Prelude.{[], ℕ, ◌<◌, ◌≡◌, All, IfOk, List, length, slice_index_or};
+ghost use Rattle.machine.specs.declared.call.Event.{Event as Made};
+ghost use Rattle.cores.specs.{Seats.{IsOf, Known}, Workers.{AreBusy, IsFresh, Worked, worker_number}};
 
 use crate::{Kernel, Naming, Seat};
 use base::{CoreNo, Misuse, Refusal};
@@ -17,10 +18,18 @@ pub(crate) const CORES: usize = CoreNo::COUNT as usize;
 /// For each core, whether the script has events on it.
 pub(crate) type Busy = [bool; CORES];
 
-// The seat's core makes its events of the script. It ends before their end only where the log is full.
-fn work<J: Naming, R: Wait>(rt: &R, kernel: &Kernel<J>, events: &[Event], mut seat: Seat) -> Seat
+// The seat's core, whose worker has arrived at the gate, makes its events of the script. It ends before their end only where the log
+// is full.
+fn work<J: Naming, R: Wait, G: Gate>(
+    rt: &R,
+    kernel: &Kernel<J>,
+    events: &[Event],
+    _gate: &G,
+    mut seat: Seat,
+) -> Seat
     requires of { IsOf J.ticket seat }
     requires new { seat.mine ≡ [] }
+    requires arrived { G.HasArrived _gate.now (worker_number events.now seat.core) }
     ensures { Worked J.ticket events.now seat result }
 {
     let core = seat.core();
@@ -35,7 +44,8 @@ fn work<J: Naming, R: Wait>(rt: &R, kernel: &Kernel<J>, events: &[Event], mut se
 
 /// The cores that the script has events on. Each event is on a core that there can be.
 pub(crate) fn busy_cores(events: &[Event]) -> Busy
-    ensures { All (λ event. event.core < CoreNo.COUNT) events.now }
+    ensures below { All (λ event. event.core < CoreNo.COUNT) events.now }
+    ensures busy { AreBusy events.now result }
 {
     let mut busy = [false; CORES];
     for event in events {
@@ -44,17 +54,38 @@ pub(crate) fn busy_cores(events: &[Event]) -> Busy
     busy
 }
 
-// The worker of this core arrives at the gate, if it has events: as the worker of a number that counts the busy cores below it.
-fn arrive<G: Gate>(gate: &G, busy: &Busy, core: CoreNo) {
-    let core = usize::from(core.number());
-    if busy[core] {
-        gate.arrive(
-            busy[..core]
-                .iter()
-                .filter(|has_events: &&bool| -> bool { **has_events })
-                .count(),
-        );
+// The number of the core's worker at the gate.
+fn number_of_worker(busy: &Busy, core: CoreNo) -> usize
+    ensures { (events : List Made) → AreBusy events busy.now → result ≡ worker_number events core }
+{
+    let mut number = 0;
+    for below in 0..usize::from(core.number()) {
+        if busy[below] {
+            number += 1;
+        }
     }
+    number
+}
+
+// The worker of the seat's core arrives at the gate and makes its events, if the script has some on its core.
+fn serve<J: Naming, R: Wait, G: Gate>(
+    rt: &R,
+    kernel: &Kernel<J>,
+    events: &[Event],
+    busy: &Busy,
+    gate: &G,
+    seat: Seat,
+) -> Seat
+    requires fresh { IsFresh J.ticket seat }
+    requires busy { AreBusy events.now busy.now }
+    ensures { Worked J.ticket events.now seat result }
+{
+    let core = seat.core();
+    if !busy[usize::from(core.number())] {
+        return seat;
+    }
+    gate.arrive(number_of_worker(busy, core));
+    work(rt, kernel, events, gate, seat)
 }
 
 /// Each seat's worker makes its events of the script, side by side. It gives the seats back.
@@ -66,7 +97,8 @@ pub(crate) fn all_workers<J: Naming + Send + Sync, R: Threads + Wait + Sync, G: 
     busy: &Busy,
     gate: &G,
 ) -> Result<Vec<Seat>, AllocError>
-    requires { All (IsFresh J.ticket) seats.items }
+    requires fresh { All (IsFresh J.ticket) seats.items }
+    requires busy { AreBusy events.now busy.now }
     ensures count { IfOk result (λ worked. length worked.items ≡ length seats.items) }
     ensures worked { IfOk result (λ worked. (i : ℕ) (d : Known) → i < length seats.items
         → Worked J.ticket events.now (slice_index_or seats.items i d) (slice_index_or worked.items i d)) }
@@ -75,11 +107,8 @@ pub(crate) fn all_workers<J: Naming + Send + Sync, R: Threads + Wait + Sync, G: 
         rt,
         seats,
         &|seat: Seat| -> Seat
-            requires { IsFresh J.ticket seat }
+            requires { IsFresh J.ticket seat × AreBusy events.now busy.now }
             ensures { Worked J.ticket events.entry.now seat result }
-        {
-            arrive(gate, busy, seat.core());
-            work(rt, kernel, events, seat)
-        },
+        { serve(rt, kernel, events, busy, gate, seat) },
     )
 }

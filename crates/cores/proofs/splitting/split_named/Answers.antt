@@ -3,8 +3,8 @@ use Rattle.cores.specs.Seats.{Closes, Known}
 use Rattle.cores.proofs.AllCores.{all_fresh, is_split}
 use Rattle.cores.proofs.splitting.split_named.Goals as goal
 
-pub all_workers-requires-after_bounds : goal.all_workers-requires-after_bounds
-all_workers-requires-after_bounds g c κs within = all_fresh g.J.Naming.ticket c.args.seats.items c.requires.new c.requires.of
+pub all_workers-requires-clause-fresh : goal.all_workers-requires-clause-fresh
+all_workers-requires-clause-fresh g c κs within = all_fresh g.J.Naming.ticket c.args.seats.items c.requires.new c.requires.of
 
 pub returns-clause-split : goal.returns-clause-split
 returns-clause-split g c =
@@ -17,7 +17,7 @@ returns-clause-split g c =
           (record {
             all = c.requires.cores;
             new = c.requires.new;
-            below = c.busy_cores-busy.ensures;
+            below = c.busy_cores-busy.ensures.below;
             room = c.requires.room;
             count = c.in-Ok.ensures.count;
             each = c.in-Ok.ensures.worked;
