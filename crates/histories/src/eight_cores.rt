@@ -1,7 +1,7 @@
 //! Eight threads of the host, which call at the same time.
 use crate::callers::{Caller, Ended, Running, closed};
 use crate::legal::{entries_on, is_legal};
-use crate::memory::lend;
+use crate::memory::lend_mut;
 use crate::rounds::make_rounds;
 use crate::scenes::{Plan, Scene, carry_out};
 use crate::systems::EIGHT_CORES;
@@ -104,7 +104,7 @@ pub fn play_rounds<J: Naming + Send + Sync, R: Abort + AllocGlobal + Threads + W
     room: u64,
 ) -> Result<(), Fail> {
     make_calls(rt, room, &running.kernel, running.callers.as_mut_slice());
-    lend(closed(rt, running), |ended: &Ended| {
+    lend_mut(closed(rt, running), |ended: &mut Ended| {
         has_all(rt, room, ended);
         is_legal(rt, &EIGHT_CORES, table, ended, report(room))
     })

@@ -3,7 +3,7 @@ ghost use Rattle.std.specs.Prelude.{IfOk};
 ghost use Rattle.machine.specs.WellFormed.{IsWellFormed};
 
 use crate::callers::{Ended, Running, closed, closed_alone};
-use crate::memory::{lend, made};
+use crate::memory::{lend_mut, made};
 use crate::same::are_same;
 use crate::systems::System;
 use cores::{Kernel, Naming};
@@ -84,15 +84,19 @@ fn outcomes_are(rt: &impl Abort, outcomes: &[Outcome], log: &[Entry]) {
     }
 }
 
-// A run of the log's events on the boot state comes to the log's outcomes and to the state.
-fn is_run_on<R: Abort + AllocGlobal>(rt: &R, state: &mut State, ended: &Ended) -> Result<(), Fail>
+// A run of the log's events on the boot state has the log's outcomes, and ends in the same state.
+fn is_run_on<R: Abort + AllocGlobal>(
+    rt: &R,
+    state: &mut State,
+    ended: &mut Ended,
+) -> Result<(), Fail>
     requires { IsWellFormed state.old }
 {
     let events = events_of(rt, &ended.log)?;
     let mut outcomes = Vec::new(rt.alloc());
     made(run(state, &events, &mut outcomes))?;
     outcomes_are(rt, &outcomes, &ended.log);
-    are_same(rt, state, &ended.state);
+    are_same(rt, state, &mut ended.state);
     Ok(())
 }
 
@@ -102,18 +106,18 @@ fn booted<R: AllocGlobal>(rt: &R, table: &Table) -> Result<State, Fail>
     made(boot(rt.alloc(), table))
 }
 
-fn is_run<R: Abort + AllocGlobal>(rt: &R, table: &Table, ended: &Ended) -> Result<(), Fail> {
+fn is_run<R: Abort + AllocGlobal>(rt: &R, table: &Table, ended: &mut Ended) -> Result<(), Fail> {
     let mut state = booted(rt, table)?;
     is_run_on(rt, &mut state, ended)
 }
 
 /// Asserts that the log is read back from its text, is that of a run with this state at its end, and that the engine of `replay`
-/// writes this report of it.
+/// writes this report of it. All queues of the state are empty afterwards.
 pub fn is_legal<R: Abort + AllocGlobal>(
     rt: &R,
     system: &System,
     table: &Table,
-    ended: &Ended,
+    ended: &mut Ended,
     report: &str,
 ) -> Result<(), Fail> {
     has_text(rt, system, ended, report)?;
@@ -127,7 +131,7 @@ fn leaves<R: Abort + AllocGlobal>(
     ended: Result<Ended, Fail>,
     report: &str,
 ) -> Result<(), Fail> {
-    lend(ended, |ended: &Ended| {
+    lend_mut(ended, |ended: &mut Ended| {
         is_legal(rt, system, table, ended, report)
     })
 }

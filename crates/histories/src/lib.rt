@@ -3,6 +3,8 @@
 #![tactic(auto)]
 
 #[cfg(test)]
+mod all_wait;
+#[cfg(test)]
 mod callers;
 #[cfg(test)]
 mod eight_cores;

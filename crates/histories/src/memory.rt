@@ -21,3 +21,14 @@ pub fn lend<T: Drop, F: FnOnce(&T) -> Result<(), Fail> + Drop>(
     let value = made?;
     test(&value)
 }
+
+/// Lends a value as [`lend`] does, to be changed.
+pub fn lend_mut<T: Drop, F: FnOnce(&mut T) -> Result<(), Fail> + Drop>(
+    made: Result<T, Fail>,
+    test: F,
+) -> Result<(), Fail>
+    requires { F.IsAlwaysCallable test }
+{
+    let mut value = made?;
+    test(&mut value)
+}

@@ -1,31 +1,68 @@
-//! Whether two states are the same, object by object, slot by slot, parent by parent.
+//! Whether two states are the same: their objects, slots, derivation trees, words of frames and queues.
 use base::{ObjId, SlotRef};
 use objects::State;
 use std::process::Abort;
 
 fn have_same_slot(rt: &impl Abort, state: &State, other: &State, slot: SlotRef) {
-    assert_eq!(rt; state.cap(slot), other.cap(slot));
-    assert_eq!(rt; state.parent(slot), other.parent(slot));
+    assert_eq!(rt; state.cap(slot), other.cap(slot), "{slot:?}");
+    assert_eq!(rt; state.parent(slot), other.parent(slot), "{slot:?}");
 }
 
-fn have_same_object(rt: &impl Abort, state: &State, other: &State, id: ObjId) {
-    assert_eq!(rt; state.object(id), other.object(id));
-    assert_eq!(rt; state.cap_count(id), other.cap_count(id));
-    assert_eq!(rt; state.first_waiting(id), other.first_waiting(id));
-    let slots = match state.object(id) {
-        Some(object) => object.slot_count(),
-        None => 0,
-    };
-    for index in 0..slots {
+fn have_same_slots(rt: &impl Abort, state: &State, other: &State, id: ObjId, count: u64) {
+    for index in 0..count {
         have_same_slot(rt, state, other, SlotRef { holder: id, index });
     }
 }
 
-/// Asserts that two states are the same.
-pub fn are_same(rt: &impl Abort, state: &State, other: &State) {
-    assert_eq!(rt; state.next_id(), other.next_id());
-    assert_eq!(rt; state.object_count(), other.object_count());
+fn have_same_words(rt: &impl Abort, state: &State, other: &State, id: ObjId, count: u64) {
+    for index in 0..count {
+        assert_eq!(rt;
+            state.word(id, index),
+            other.word(id, index),
+            "{id:?}, word {index}"
+        );
+    }
+}
+
+fn have_same_object(rt: &impl Abort, state: &State, other: &State, id: ObjId) {
+    assert_eq!(rt; state.object(id), other.object(id), "{id:?}");
+    assert_eq!(rt; state.cap_count(id), other.cap_count(id), "{id:?}");
+    if let Some(object) = state.object(id) {
+        have_same_slots(rt, state, other, id, object.slot_count());
+        have_same_words(rt, state, other, id, object.word_count());
+    }
+}
+
+fn have_same_objects(rt: &impl Abort, state: &State, other: &State) {
     for number in 0..state.next_id() {
         have_same_object(rt, state, other, ObjId(number));
     }
+}
+
+// Takes the threads out of both queues, first to last. A thread waits in at most one queue, so no queue is longer than the number of
+// threads.
+fn empty_same_queue(rt: &impl Abort, state: &mut State, other: &mut State, id: ObjId) {
+    for _ in 0..state.thread_count() {
+        assert_eq!(rt; state.pop_waiting(id), other.pop_waiting(id), "{id:?}");
+    }
+    assert_eq!(rt; state.first_waiting(id), None, "{id:?}");
+    assert_eq!(rt; other.first_waiting(id), None, "{id:?}");
+}
+
+fn empty_same_queues(rt: &impl Abort, state: &mut State, other: &mut State) {
+    for number in 0..state.next_id() {
+        empty_same_queue(rt, state, other, ObjId(number));
+    }
+}
+
+/// Asserts that two states are the same, and that no removal is under way in them.
+///
+/// It reads a queue by taking the threads out, first to last. So all queues of both states are empty afterwards.
+pub fn are_same(rt: &impl Abort, state: &mut State, other: &mut State) {
+    assert_eq!(rt; state.next_id(), other.next_id());
+    assert_eq!(rt; state.object_count(), other.object_count());
+    assert_eq!(rt; state.going_count(), 0);
+    assert_eq!(rt; other.going_count(), 0);
+    have_same_objects(rt, state, other);
+    empty_same_queues(rt, state, other);
 }

@@ -2,6 +2,7 @@
 ghost use Rattle.std.specs.Prelude.{◌≡◌, All};
 ghost use Rattle.cores.specs.Seats.{IsOf};
 
+use crate::all_wait::play_all_wait;
 use crate::callers::{Running, with_callers};
 use crate::eight_cores::play_rounds;
 use crate::limits::{play_no_thread, play_one_core, play_vanished, refuse_sizes_and_seats};
@@ -36,6 +37,8 @@ pub enum Scene {
     NoThread,
     /// A thread that another removes between its calls, by seats of which one is gone by then.
     Vanished,
+    /// Each of three threads sets a word of a frame, and waits for the same notification.
+    AllWait,
 }
 
 /// What a test does with a system.
@@ -76,6 +79,7 @@ fn play<J: Naming + Send + Sync, R: Abort + AllocGlobal + Threads + Wait + Sync>
         Scene::OneCore => play_one_core(rt, table, running),
         Scene::NoThread => play_no_thread(rt, table, running),
         Scene::Vanished => play_vanished(rt, table, running),
+        Scene::AllWait => play_all_wait(rt, table, running),
     }
 }
 

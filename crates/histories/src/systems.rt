@@ -25,6 +25,12 @@ pub const ONE_HAS_THE_OTHER: System = System {
     policy: ONE_LABEL_POLICY,
 };
 
+/// Threads 1 to 3 on cores 0 to 2, which share a notification and a frame, objects 7 and 8.
+pub const THREE_CORES: System = System {
+    table: THREE_CORES_TABLE,
+    policy: ONE_LABEL_POLICY,
+};
+
 const TWO_CORES_TABLE: &str = "\
 confine-table 1
 label a
@@ -126,6 +132,29 @@ cap t0.root c 62 0x0
 cap t1.root c 62 0x0
 bind t0 x0
 bind t1 x1
+end
+";
+
+const THREE_CORES_TABLE: &str = "\
+confine-table 1
+label a
+cnode c a 0x1000 1
+tcb t0 a 0x2000 ready
+tcb t1 a 0x2400 ready
+tcb t2 a 0x2800 ready
+context x0 a 0x4000 0 10 10
+context x1 a 0x4100 1 10 10
+context x2 a 0x4200 2 10 10
+notification n a 0x5000
+frame f a 0x8000
+cap c.0 n r 0
+cap c.1 f rw
+cap t0.root c 63 0x0
+cap t1.root c 63 0x0
+cap t2.root c 63 0x0
+bind t0 x0
+bind t1 x1
+bind t2 x2
 end
 ";
 

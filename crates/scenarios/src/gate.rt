@@ -4,7 +4,9 @@ use captext::{read_policy, read_table};
 use checker::{CheckError, Gate, Open};
 use policy::Policy;
 use report::{End, OnAccept, Silence, Watched};
+use std::alloc::{AllocError, Global};
 use std::process::Abort;
+use std::sync::Wait;
 use std::sync::atomic::{AtomicU64, Ordering};
 use std::test::Fail;
 use std::thread::{self, Threads};
@@ -122,7 +124,8 @@ fn gate_check(rt: HostRuntime) {
     assert_eq!(rt; end, End::Status(0));
 }
 
-const TWO_CORES: &str = "\
+// Two threads, each on a core of its own, up to the cores of their contexts.
+const TWO_THREADS: &str = "\
 confine-table 1
 label a
 label b
@@ -131,8 +134,10 @@ cnode cb b 0x1040 1
 tcb ta a 0x2000 ready
 tcb tb b 0x2400 ready
 notification n b 0x3000
-context xa a 0x4000 1 10 10
-context xb b 0x4100 0 10 10
+";
+
+// What they have, and what they run on.
+const CAPS_AND_BINDINGS: &str = "\
 cap ca.0 n w 4
 cap cb.0 n r 0
 cap ta.root ca 63 0x0
@@ -157,23 +162,32 @@ edge b runs b
 end
 ";
 
-const SIGNAL_AND_POLLS: &str = "\
-confine-script 1
-1 2 signal 0
-0 3 poll 0
-0 3 poll 0
-end
-";
+/// A system of two threads on two cores, and a script in which the first signals and the other polls twice.
+fn texts_on(alloc: Global, signals: u64, polls: u64) -> Result<(String, String), AllocError> {
+    let table = format!(in alloc;
+        "{TWO_THREADS}context xa a 0x4000 {signals} 10 10\ncontext xb b 0x4100 {polls} 10 10\n{CAPS_AND_BINDINGS}"
+    )?;
+    let script = format!(in alloc;
+        "confine-script 1\n{signals} 2 signal 0\n{polls} 3 poll 0\n{polls} 3 poll 0\nend\n"
+    )?;
+    Ok((table, script))
+}
 
-#[test]
-fn gate_split(rt: HostRuntime) {
+/// Splits the script of two threads on these cores over a gate at which workers 0 and 1 meet: whatever the cores' numbers, their
+/// workers are numbered so.
+fn gate_split_on<R: Abort + AllocGlobal + Threads + Wait + Sync>(
+    rt: &R,
+    signals: u64,
+    polls: u64,
+) -> Result<(), Fail> {
     let meeting = Meeting::new();
-    let mut table = Watched::new(TWO_CORES.as_bytes());
+    let (table, script) = texts_on(rt.alloc(), signals, polls)?;
+    let mut table = Watched::new(table.as_bytes());
     let mut policy = Watched::new(FROM_A_TO_B.as_bytes());
-    let mut script = Watched::new(SIGNAL_AND_POLLS.as_bytes());
+    let mut script = Watched::new(script.as_bytes());
     let mut out = Watched::new(Vec::new(rt.alloc()));
     let end = report::run_split(
-        &rt,
+        rt,
         rt.alloc(),
         &mut table,
         &mut policy,
@@ -182,8 +196,24 @@ fn gate_split(rt: HostRuntime) {
         &mut Silence,
         &mut out,
     );
-    meeting.took_place(&rt);
+    meeting.took_place(rt);
     assert_eq!(rt; end, End::Status(0));
+    Ok(())
+}
+
+#[test]
+fn gate_split(rt: HostRuntime) -> Result<(), Fail> {
+    gate_split_on(&rt, 1, 0)
+}
+
+#[test]
+fn gate_split_on_cores_1_and_3(rt: HostRuntime) -> Result<(), Fail> {
+    gate_split_on(&rt, 1, 3)
+}
+
+#[test]
+fn gate_split_on_cores_7_and_2(rt: HostRuntime) -> Result<(), Fail> {
+    gate_split_on(&rt, 7, 2)
 }
 
 fn are_too_few_or_many<R: Abort + AllocGlobal + Threads + Sync>(
