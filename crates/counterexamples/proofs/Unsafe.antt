@@ -5,8 +5,9 @@ use Rattle.base.specs.{declared.kind.Kind.{Kind, TheVariants.{Derive, Holds, Not
 use Rattle.machine.specs.{Boot.IsBoot, Machine.Machine}
 use Rattle.policy.specs.{Domain.EdgeTest, Needed.subjects_agree}
 use Rattle.table.proofs.BootState.{boot_state, boot_state_is}
-use Rattle.integrity.specs.{Confined.IsConfined, Safe.{IsReached, IsSafe}}
-use Rattle.counterexamples.{specs.Counterexamples.UnsafeWithout, proofs.{FewLabels.among, SmallSystem.signalling, Unallowed.after_signal}}
+use Rattle.integrity.specs.{Confined.IsConfined, Safe.IsReached}
+use Rattle.counterexamples.specs.Counterexamples.{HoldsHeadline, UnsafeWithout}
+use Rattle.counterexamples.proofs.{FewLabels.among, SmallSystem.signalling, Unallowed.after_signal}
 use Rattle.counterexamples.proofs.{Unallowed.{signal, signal_unallowed, signals}, UnsafeBy.{Needs, needs_by_tests, tests, unsafe_without}}
 
 abbrev joins : EdgeTest
@@ -33,7 +34,7 @@ runs_on_its_own : parted 0 Runs 2 ≡ false
 unfolding among
 runs_on_its_own = refl
 
-not_safe : ¬ IsSafe signalling parted
+not_safe : ¬ HoldsHeadline signalling parted
 not_safe safe =
     let m = boot_state signalling in
     let boot = boot_state_is signalling in

@@ -6,8 +6,8 @@ use Rattle.machine.specs.{declared.call.{Event.Event, Outcome.Outcome}, Authorit
 use Rattle.machine.specs.{Machine.Machine, Run.Run, Step.{step_of, Step.ends}}
 use Rattle.policy.specs.{Domain.EdgeTest, Needed.{Obeys, Rule}, Policy.allows}
 use Rattle.table.{specs.Rules.{IsLawful, kind_at}, proofs.BootState.{boot_state, boot_state_is}}
-use Rattle.integrity.specs.{Confined.IsConfined, Safe.{IsReached, IsSafe}}
-use Rattle.counterexamples.{specs.Counterexamples.UnsafeWithout, proofs.{TestPolicies.IsWithin, FewLabels.{among, few_within}}}
+use Rattle.integrity.specs.{Confined.IsConfined, Safe.IsReached}
+use Rattle.counterexamples.{specs.Counterexamples.{HoldsHeadline, UnsafeWithout}, proofs.{TestPolicies.IsWithin, FewLabels.{among, few_within}}}
 use Rattle.counterexamples.proofs.{FewLabels.{others_obeyed, passes_others, trying}, LineByLine.{confined_by_lines, is_within}}
 use Rattle.counterexamples.proofs.{TestPolicies.{allows_policy, is_policy, policy_of}, TestTables.{is_rebuilt, lawful_by_tests}}
 use Rattle.counterexamples.proofs.TestTables.{marked_again, rebuilding}
@@ -41,7 +41,7 @@ led_by_one t allowed m event outcome next made from k to has missing = record {
   missing = missing;
 }
 
-pub not_safe : (t : Layout) (allowed : EdgeTest) → ((m : Machine) → IsBoot t m → LeadsOutside t allowed m) → ¬ IsSafe t allowed
+pub not_safe : (t : Layout) (allowed : EdgeTest) → ((m : Machine) → IsBoot t m → LeadsOutside t allowed m) → ¬ HoldsHeadline t allowed
 not_safe t allowed leads safe =
     let out = leads (boot_state t) (boot_state_is t) in
     let reached : IsReached t out.next =
@@ -60,7 +60,7 @@ pub record Needs (rule : Rule) (t : Layout) (allowed : EdgeTest) : Type 0 where
   pub labels : IsWithin allowed
   pub others : (other : Rule) → other ≢ rule → Obeys allowed other
   pub confined : (m : Machine) → IsBoot t m → IsConfined t allowed m
-  pub unsafe : ¬ IsSafe t allowed
+  pub unsafe : ¬ HoldsHeadline t allowed
 
 -- the tests of a table and of a policy of few labels
 unfoldable pub pass : Rule → Layout → ℕ → EdgeTest → Bool
@@ -73,7 +73,7 @@ tests = true
 
 pub needs_by_tests :
     (rule : Rule) (t : Layout) (n : ℕ) (joins : EdgeTest) → n ≤ Label.COUNT → pass rule t n joins ≡ true → marked_again t ≡ t
-    → ¬ IsSafe t (among n joins) → Needs rule t (among n joins)
+    → ¬ HoldsHeadline t (among n joins) → Needs rule t (among n joins)
 unfolding pass
 needs_by_tests rule t n joins few e same unsafe =
     let l = and_parts (is_rebuilt t) _ e in
@@ -101,7 +101,7 @@ unsafe_keeping rule t allowed Keeps needs keeps =
       policy = is_policy allowed needs.labels;
       others = λ other differ. subst (λ test. Obeys test other) (sym same) (needs.others other differ);
       confined = λ m boot. subst (λ test. IsConfined t test m) (sym same) (needs.confined m boot);
-      unsafe = λ safe. needs.unsafe (subst (IsSafe t) same safe);
+      unsafe = λ safe. needs.unsafe (subst (HoldsHeadline t) same safe);
     } in
     (system, subst Keeps (sym same) keeps)
 

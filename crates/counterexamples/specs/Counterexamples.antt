@@ -6,7 +6,8 @@ use Rattle.machine.specs.{declared.{cap.Badged.Badged, object.Object.Object}, Au
 use Rattle.machine.specs.{Machine.{Machine, with_object}, Step.{Step, Find.find_notification}}
 use Rattle.policy.specs.{Domain.EdgeTest, Needed.{Obeys, Rule}, Policy.{IsPolicy, allows}}
 use Rattle.table.specs.Rules.{IsLawful}
-use Rattle.integrity.specs.{Allowed.IsAllowedStep, Confined.IsConfined, Safe.IsSafe}
+use Rattle.integrity.specs.{Allowed.IsAllowedStep, Confined.IsConfined, Safe.{GuardsBudgets, KeepsBounds, KeepsIntegrity, LabelsObjects}}
+use Rattle.integrity.specs.Safe.{StaysConfined}
 
 -- from the boot state of a lawful table a thread signals a notification, and the signal is done; a policy lacks the edge of
 -- kind notify from the thread's label to the notification's, and doesn't allow the step
@@ -31,8 +32,16 @@ pub record UnallowedSignal : Type 0 where
   pub missing : allowed caller authority.Notify label ≡ false
   pub not_allowed : ¬ IsAllowedStep t allowed m event next
 
+-- the headline holds of every run: all that a safe system keeps, whichever labels act
+pub record HoldsHeadline (t : Layout) (allowed : EdgeTest) : Type 0 where
+  pub labelled : LabelsObjects t
+  pub confined : StaysConfined t allowed
+  pub integrity : KeepsIntegrity t allowed
+  pub bounds : KeepsBounds t allowed
+  pub budgets : GuardsBudgets t allowed
+
 -- a lawful table and a policy that obeys every rule of closed policies but one; the table's boot state is confined, and the
--- system isn't safe
+-- headline doesn't hold
 pub record UnsafeWithout (rule : Rule) : Type 0 where
   pub t : Layout
   pub edges : List Edge
@@ -40,7 +49,7 @@ pub record UnsafeWithout (rule : Rule) : Type 0 where
   pub policy : IsPolicy edges
   pub others : (other : Rule) → other ≢ rule → Obeys (allows edges) other
   pub confined : (boot : Machine) → IsBoot t boot → IsConfined t (allows edges) boot
-  pub unsafe : ¬ IsSafe t (allows edges)
+  pub unsafe : ¬ HoldsHeadline t (allows edges)
 
 -- in some system a state lies in a policy where an object has the lesser content, and doesn't where it has the greater, and nothing
 -- else differs
