@@ -1,14 +1,16 @@
 -- What a command does with its files and its output, and how it ends (confine's own).
-use Rattle.std.specs.{Io.KnownBytes.Appends, Prelude.{[], ℕ, ◌≡◌, ◌≤◌, ◌⊎◌, Bool, IfSome, IsOk, IsOkAnd, List, None, Option, Result, Some}}
+use Rattle.std.specs.{Io.KnownBytes.Appends, Prelude.{[], ℕ, ◌≡◌, ◌≤◌, ◌⊎◌, ◌∷◌, Bool, Err, IfSome, IsOk, IsOkAnd, List, None, Ok, Option, Result, Some}}
 use Rattle.std.specs.Prelude.{false, true}
 use Rattle.base.specs.declared.edge.Edge.{Edge}
 use Rattle.machine.specs.Layout.{Layout}
 use Rattle.words.specs.declared.faults.Fault.{Fault}
 use Rattle.captext.specs.{Policies.read_policy_of, Tables.read_table_of}
 use Rattle.devices.specs.Devices.{AppendsBeginning}
-use Rattle.reptext.specs.{declared.file.File.{File, TheVariants.{Policy, Table}}, Reports.fault_report}
-use Rattle.commands.specs.{declared.{end.{Asked.Asked, End.End}, load.NoFile.NoFile}, Ends.{IfCannotWrite, IfNoLabel, IfStatus}}
-use Rattle.commands.specs.{Ends.{IfUnwritten, is_unwritable, status_of, unread_file}, Files.{Contents, contents_of, faulty, unknown, whole}}
+use Rattle.forms.specs.declared.file.File.{File, TheVariants.{Policy, Table}}
+use Rattle.reptext.specs.Reports.{fault_report}
+use Rattle.commands.specs.declared.{answer.Answer.Answer, end.{Asked.Asked, End.End}, load.{Stop.{Stop, Stop as stop}, System.System, Three.Three}}
+use Rattle.commands.specs.{Ends.{IfCannotWrite, IfNoLabel, IfStatus, IfUnwritten, is_unwritable, status_of, unread_file}, Files.{Contents, faulty, first_failed}}
+use Rattle.commands.specs.Files.{system_contents, table_contents, three_contents, unknown, unread_of, whole}
 
 -- a source, before and after a command: the bytes that it had left, where they are known, and whether it failed
 pub record Input (S : Type 0) : Type 0 where
@@ -33,10 +35,6 @@ abbrev pub output : {O : Type 0} → (O → Option (List ℕ)) → (O → Bool) 
 output contents failed is_flushed old new =
     record { old = old; new = new; before = contents old; after = contents new; failed = failed new; is_flushed = is_flushed new }
 
--- the third file of a command that has none: it is empty and can't fail, so that its name is never told
-abbrev pub no_file : Input NoFile
-no_file = record { old = record {}; new = record {}; bytes = Some []; failed = false }
-
 -- a table was read, and is a text
 abbrev pub HasTable : {T : Type 0} → Input T → Type 0
 HasTable table = (table.failed ≡ false) × IfSome table.bytes (λ t. IsOk (read_table_of t))
@@ -47,47 +45,101 @@ HasPolicy table policy =
     (table.failed ≡ false) × (policy.failed ≡ false)
     × IfSome table.bytes (λ t. IsOkAnd (read_table_of t) (λ layout. IfSome policy.bytes (λ p. IsOk (read_policy_of layout p))))
 
--- the first of a table, a policy and a third file whose device failed
-abbrev pub first_failed : File → Bool → Bool → Bool → Option File
-first_failed name true _ _ = Some Table
-first_failed name false true _ = Some Policy
-first_failed name false false true = Some name
-first_failed name false false false = None
-
 -- a text and a status are the answer to what the files hold, where that is known: the report of the first fault, or what the
 -- command judges of the values
-abbrev pub IsAnswer : {X : Type 0} → (Layout → List Edge → X → List ℕ → ℕ → Type 0) → Contents X → List ℕ → ℕ → Type 0
-IsAnswer judges (whole t edges x) text status = judges t edges x text status
+abbrev pub IsAnswer : {X : Type 0} → (X → List ℕ → ℕ → Type 0) → Contents X → List ℕ → ℕ → Type 0
+IsAnswer judges (whole x) text status = judges x text status
 IsAnswer judges (faulty file fault) text status = (text ≡ fault_report fault.number file fault.line) × (status ≡ 2)
 IsAnswer judges unknown text status = Unit {0}
 
 -- of a command that asks about labels this is the first that the table lacks
-abbrev pub IsUnlabelled : {X : Type 0} → (Layout → Option Asked) → Contents X → Asked → Type 0
-IsUnlabelled lacks (whole t edges x) asked = lacks t ≡ Some asked
+abbrev pub IsUnlabelled : {X : Type 0} → (X → Option Asked) → Contents X → Asked → Type 0
+IsUnlabelled lacks (whole x) asked = lacks x ≡ Some asked
 IsUnlabelled lacks (faulty file fault) asked = ⊥
-IsUnlabelled lacks unknown asked = (t : Layout) × (lacks t ≡ Some asked)
+IsUnlabelled {X} lacks unknown asked = (x : X) × (lacks x ≡ Some asked)
 
 -- a command that asks about no label lacks none
 abbrev pub no_label : Layout → Option Asked
 no_label t = None
 
--- a command whose third file has this name and is read so, which asks about labels so, and which judges so, was carried out
+-- a command that asks about labels so, and judges what its files hold so, was carried out on files that hold this; and the first of them
+-- whose device failed is this
 pub record IsCarriedOut
-    {T P S O X : Type 0} (name : File) (read : Layout → List ℕ → Result X Fault) (lacks : Layout → Option Asked) (judges : Layout → List Edge → X → List ℕ → ℕ → Type 0)
-    (table : Input T) (policy : Input P) (third : Input S) (out : Output O) (end : End) : Type 0 where
+    {X O : Type 0} (lacks : X → Option Asked) (judges : X → List ℕ → ℕ → Type 0) (contents : Contents X) (failed : Option File)
+    (out : Output O) (end : End) : Type 0 where
   -- what was written is the answer to the bytes of the files, or a beginning of it, or nothing
-  pub answered : IfStatus end (λ status. (text : List ℕ)
-      × IsAnswer judges (contents_of name read table.bytes policy.bytes third.bytes) text status × Appends out.before out.after text)
-  pub begun : IfCannotWrite end ((text : List ℕ) × (status : ℕ)
-      × IsAnswer judges (contents_of name read table.bytes policy.bytes third.bytes) text status × AppendsBeginning out.before out.after text)
+  pub answered : IfStatus end (λ status. (text : List ℕ) × IsAnswer judges contents text status × Appends out.before out.after text)
+  pub begun : IfCannotWrite end ((text : List ℕ) × (status : ℕ) × IsAnswer judges contents text status
+      × AppendsBeginning out.before out.after text)
   pub unwritten : IfUnwritten end (out.new ≡ out.old)
   -- a label is told that the table lacks
-  pub unlabelled : IfNoLabel end (IsUnlabelled lacks (contents_of name read table.bytes policy.bytes third.bytes))
+  pub unlabelled : IfNoLabel end (IsUnlabelled lacks contents)
   pub flushed : IfStatus end (λ status. out.is_flushed ≡ true)
   pub exit : status_of end ≤ 2
+  -- a device's failure is told exactly where it failed
+  pub unread : unread_file end ≡ failed
+  pub unwritable : is_unwritable end ≡ out.failed
+
+-- a command of a table alone was carried out
+abbrev pub IsDoneOnTable :
+    {T O : Type 0} → (Layout → Option Asked) → (Layout → List ℕ → ℕ → Type 0) → Input T → Output O → End → Type 0
+IsDoneOnTable lacks judges table = IsCarriedOut lacks judges (table_contents table.bytes) (first_failed ((Table, table.failed) ∷ []))
+
+-- a command of a table and a policy was carried out
+pub record IsDoneOnSystem
+    {T P O : Type 0} (lacks : Layout → Option Asked) (judges : Layout → List Edge → List ℕ → ℕ → Type 0)
+    (table : Input T) (policy : Input P) (out : Output O) (end : End) : Type 0 where
+  pub done : IsCarriedOut (λ (s : System). lacks s.table) (λ (s : System). judges s.table s.policy) (system_contents table.bytes policy.bytes)
+      (first_failed ((Table, table.failed) ∷ (Policy, policy.failed) ∷ [])) out end
   -- each file is as it was, or those before it were read and are texts
   pub policy_waits : (policy.new ≡ policy.old) ⊎ HasTable table
+
+-- a command of a table, a policy and a third file of this name, which is read so, was carried out
+pub record IsDoneOnThree
+    {T P S O X : Type 0} (name : File) (read : Layout → List ℕ → Result X Fault) (judges : Layout → List Edge → X → List ℕ → ℕ → Type 0)
+    (table : Input T) (policy : Input P) (third : Input S) (out : Output O) (end : End) : Type 0 where
+  pub done : IsCarriedOut (λ (s : Three X). no_label s.table) (λ (s : Three X). judges s.table s.policy s.third)
+      (three_contents name read table.bytes policy.bytes third.bytes)
+      (first_failed ((Table, table.failed) ∷ (Policy, policy.failed) ∷ (name, third.failed) ∷ [])) out end
+  pub policy_waits : (policy.new ≡ policy.old) ⊎ HasTable table
   pub third_waits : (third.new ≡ third.old) ⊎ HasPolicy table policy
-  -- a device's failure is told exactly where it failed
-  pub unread : unread_file end ≡ first_failed name table.failed policy.failed third.failed
+
+-- where no label is lacking, an answer is what the command judges, and only memory stands in its way; else the label is told
+abbrev pub IsJudgedSo : Option Asked → (List ℕ → ℕ → Type 0) → Result Answer Stop → Type 0
+IsJudgedSo (Some asked) judges answer = answer ≡ Err (stop.NoLabel asked)
+IsJudgedSo None judges (Ok answer) = judges answer.text.items answer.status × (answer.status ≤ 2)
+IsJudgedSo None judges (Err why) = why ≡ stop.NoMemory
+
+-- what was loaded was judged so; and why it wasn't loaded is why there is no answer
+abbrev pub IsJudged : {X : Type 0} → (X → Option Asked) → (X → List ℕ → ℕ → Type 0) → Result X Stop → Result Answer Stop → Type 0
+IsJudged lacks judges (Ok x) answer = IsJudgedSo (lacks x) (judges x) answer
+IsJudged lacks judges (Err why) answer = answer ≡ Err why
+
+-- a system was judged so
+abbrev pub SystemIsJudged : (Layout → Option Asked) → (Layout → List Edge → List ℕ → ℕ → Type 0) → Result System Stop → Result Answer Stop → Type 0
+SystemIsJudged lacks judges = IsJudged (λ s. lacks s.table) (λ s. judges s.table s.policy)
+
+-- what three files hold was judged so
+abbrev pub ThreeIsJudged : {X : Type 0} → (Layout → List Edge → X → List ℕ → ℕ → Type 0) → Result (Three X) Stop → Result Answer Stop → Type 0
+ThreeIsJudged judges = IsJudged (λ s. no_label s.table) (λ s. judges s.table s.policy s.third)
+
+-- the text and the status that are told: the answer's, or those of the report of a fault
+abbrev pub report_of : Result Answer Stop → Option (List ℕ × ℕ)
+report_of (Ok answer) = Some (answer.text.items, answer.status)
+report_of (Err (stop.Faulty file fault)) = Some (fault_report fault.number file fault.line, 2)
+report_of (Err _) = None
+
+-- a text with its status was written, or a beginning of it, or nothing
+pub record IsWritten {O : Type 0} (report : Option (List ℕ × ℕ)) (out : Output O) (end : End) : Type 0 where
+  pub whole : IfStatus end (λ status. (text : List ℕ) × (report ≡ Some (text, status)) × Appends out.before out.after text)
+  pub begun : IfCannotWrite end ((text : List ℕ) × (status : ℕ) × (report ≡ Some (text, status))
+      × AppendsBeginning out.before out.after text)
+  pub unwritten : IfUnwritten end (out.new ≡ out.old)
+  pub flushed : IfStatus end (λ status. out.is_flushed ≡ true)
   pub unwritable : is_unwritable end ≡ out.failed
+
+-- an answer was told, or why there is none
+pub record IsTold {O : Type 0} (answer : Result Answer Stop) (out : Output O) (end : End) : Type 0 where
+  pub written : IsWritten (report_of answer) out end
+  pub unlabelled : IfNoLabel end (λ asked. answer ≡ Err (stop.NoLabel asked))
+  pub unread : unread_file end ≡ unread_of answer

@@ -1,19 +1,19 @@
-ghost use Rattle.std.specs.Prelude.{ℕ, ◌≡◌, List, Result};
-ghost use Rattle.machine.specs.Layout.{Layout};
+ghost use Rattle.std.specs.Prelude.{ℕ, ◌≡◌, List, None, Option, Result, Some, option_copied, option_map};
+ghost use Rattle.machine.specs.{declared.call.{Event.Event as EventOf, Outcome.Outcome as OutcomeOf}, Layout.Layout};
 ghost use Rattle.words.specs.{declared.faults.Fault.Fault, Reading.Reads};
 ghost use Rattle.captext.specs.Policies.{read_policy_of};
 ghost use Rattle.evtext.specs.{Log.read_log_of, Script.read_script_of};
 ghost use Rattle.certificate.specs.Reading.{read_certificate_of};
 ghost use Rattle.claims.specs.Reading.{read_claims_of};
-ghost use Rattle.reptext.specs.declared.file.File.{File, File as file};
-ghost use Rattle.commands.specs.Files.{read_nothing};
+ghost use Rattle.forms.specs.declared.file.File.{File, File as file};
+ghost use Rattle.commands.specs.{declared.answer.Made.Made, Hearing.{entries_of, made_of}};
 
-use crate::File;
+use crate::{File, Made, Outcomes};
 use captext::Fault;
 use certificate::Certificate;
 use claims::Claims;
 use evtext::{read_log, read_script};
-use machine::{Event, Log, Outcome};
+use machine::{Event, Log};
 use policy::Policy;
 use std::alloc::Global;
 use std::marker::Model;
@@ -34,26 +34,12 @@ pub trait LaterFile: Drop {
     fn read(alloc: Global, table: &Table, bytes: &[u8]) -> Result<Self, Fault>
         ensures { Reads (λ held. held) result (read_of table.now bytes.now) };
 
-    /// The entries of the log that it holds, if it holds one.
-    fn log(&self) -> Option<&[(Event, Outcome)]> {
-        None
-    }
-}
+    // The calls that it holds, or that were made of it, each with what it came to.
+    ghost calls: { Self → Option Made → Option (List (EventOf × OutcomeOf)) } = { λ held made. None };
 
-/// No third file: it has a name that is never told, as no device can fail.
-impl LaterFile for () {
-    ghost named = { file.Policy };
-
-    ghost read_of = { read_nothing };
-
-    fn name() -> File {
-        File::Policy
-    }
-
-    #[tactic(auto, unfolding(crate::specs::Files::read_nothing))]
-    fn read(_alloc: Global, _table: &Table, _bytes: &[u8]) -> Result<(), Fault> {
-        Ok(())
-    }
+    /// The calls that it holds, or that were made of it, with what they came to.
+    fn outcomes<'a>(&'a self, made: Option<&'a Made>) -> Option<Outcomes<'a>>
+        ensures { option_map entries_of result ≡ calls self.now (option_copied made.entry) };
 }
 
 impl LaterFile for Policy {
@@ -68,6 +54,10 @@ impl LaterFile for Policy {
     fn read(alloc: Global, table: &Table, bytes: &[u8]) -> Result<Policy, Fault> {
         captext::read_policy(alloc, bytes, table)
     }
+
+    fn outcomes<'a>(&'a self, _made: Option<&'a Made>) -> Option<Outcomes<'a>> {
+        None
+    }
 }
 
 impl LaterFile for Certificate {
@@ -81,6 +71,10 @@ impl LaterFile for Certificate {
 
     fn read(alloc: Global, table: &Table, bytes: &[u8]) -> Result<Certificate, Fault> {
         certificate::read(alloc, bytes, table)
+    }
+
+    fn outcomes<'a>(&'a self, _made: Option<&'a Made>) -> Option<Outcomes<'a>> {
+        None
     }
 }
 
@@ -117,6 +111,16 @@ impl LaterFile for Script {
             Err(fault) => Err(fault),
         }
     }
+
+    ghost calls = { made_of };
+
+    fn outcomes<'a>(&'a self, made: Option<&'a Made>) -> Option<Outcomes<'a>> {
+        match made {
+            Some(Made::InTurn(outcomes)) => Some(Outcomes::OfRun(&self.events, outcomes)),
+            Some(Made::ByWorkers(log)) => Some(Outcomes::OfLog(log)),
+            None => None,
+        }
+    }
 }
 
 /// The entries of a log.
@@ -150,8 +154,10 @@ impl LaterFile for Entries {
         }
     }
 
-    fn log(&self) -> Option<&[(Event, Outcome)]> {
-        Some(self.entries.as_slice())
+    ghost calls = { λ log made. Some log };
+
+    fn outcomes<'a>(&'a self, _made: Option<&'a Made>) -> Option<Outcomes<'a>> {
+        Some(Outcomes::OfLog(&self.entries))
     }
 }
 
@@ -166,5 +172,9 @@ impl LaterFile for Claims {
 
     fn read(alloc: Global, table: &Table, bytes: &[u8]) -> Result<Claims, Fault> {
         claims::read(alloc, bytes, table)
+    }
+
+    fn outcomes<'a>(&'a self, _made: Option<&'a Made>) -> Option<Outcomes<'a>> {
+        None
     }
 }

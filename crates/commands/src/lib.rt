@@ -1,20 +1,20 @@
-//! What a command of the program `confine` does: it loads its files one after another, judges what they hold, writes its answer, and
-//! has a listener hear of it.
+//! What each command of the program `confine` is made of: its files are loaded, what they hold is judged, and the answer is told, which
+//! a listener hears and the output gets.
 #![tactic(auto)]
 
-mod command;
+mod answer;
 mod end;
-mod engine;
 mod later;
 mod listener;
 mod load;
+mod telling;
 
+pub use answer::{Answer, Made, denied};
 pub use captext::Fault;
-pub use command::{Answer, Command, denied};
 pub use devices::{ReadError, Sink, Source};
 pub use end::{Asked, End};
-pub use engine::carry_out;
 pub use later::{Entries, LaterFile, Script};
-pub use listener::{Finding, Heard, Listener, Silence};
-pub use load::{Loaded, NoFile};
+pub use listener::{Finding, Heard, Listener, Outcomes, Silence};
+pub use load::{Held, Stop, System, Three, load_system, load_table, load_three};
 pub use reptext::File;
+pub use telling::tell;

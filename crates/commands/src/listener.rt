@@ -1,3 +1,6 @@
+ghost use Rattle.std.specs.Prelude.{Option, option_copied};
+ghost use Rattle.commands.specs.Hearing.{Hearing, faulty, hearing_of, unlabelled};
+
 use crate::{Asked, File};
 use captext::Fault;
 use claims::BrokenClaim;
@@ -19,30 +22,44 @@ pub enum Finding {
     Broken(BrokenClaim),
 }
 
+/// What calls came to, in their order.
+#[derive(Clone, Copy)]
+pub enum Outcomes<'a> {
+    /// The entries of a log: of one that was read, or of one that workers made.
+    OfLog(&'a [(Event, Outcome)]),
+    /// The calls of a script, and what each came to.
+    OfRun(&'a [Event], &'a [Outcome]),
+}
+
 /// What was judged, and what came of it.
 #[derive(Clone, Copy)]
 pub struct Heard<'a> {
     pub table: &'a Table,
-    pub policy: &'a Policy,
-    /// The entries of the log that was read, if one was.
-    pub log: Option<&'a [(Event, Outcome)]>,
+    /// The policy, if one was read.
+    pub policy: Option<&'a Policy>,
+    /// What calls came to, if any were read or made.
+    pub outcomes: Option<Outcomes<'a>>,
     /// What is found wrong, if anything is.
     pub finding: Option<&'a Finding>,
-    /// What is written.
-    pub text: &'a [u8],
 }
 
 /// Hears what a command finds, to tell a person of it. What is answered doesn't depend on it.
 pub trait Listener {
+    // What it hears, and what it is before and after that. No caller knows it but by these calls: so a promise of it is a call.
+    ghost Hears: { Self → Hearing → Self → Type 0 } = { λ before hearing after. Unit {0} };
+
     /// The text of a file has this fault; `table` is what it was read by, if the table is another file.
     /// It isn't told of a fault that is want of memory.
-    fn hear_fault(&mut self, file: File, text: &[u8], table: Option<&Table>, fault: Fault);
+    fn hear_fault(&mut self, file: File, text: &[u8], table: Option<&Table>, fault: Fault)
+        ensures { Hears self.old (faulty file text.now (option_copied table.entry) fault) self.new };
 
     /// The files were judged.
-    fn hear_answer(&mut self, heard: &Heard<'_>);
+    fn hear_answer(&mut self, heard: &Heard<'_>)
+        ensures { Hears self.old (hearing_of heard.now) self.new };
 
     /// The table lacks a label that is asked about.
-    fn hear_unlabelled(&mut self, table: &Table, asked: Asked);
+    fn hear_unlabelled(&mut self, table: &Table, asked: Asked)
+        ensures { Hears self.old (unlabelled table.now asked) self.new };
 }
 
 /// Nobody listens.

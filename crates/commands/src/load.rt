@@ -1,46 +1,138 @@
-ghost use Rattle.std.specs.Prelude.{◌≡◌, ◌≢◌, ◌⊎◌, Err, IfErr, IfOk, IfSome, Ok, false};
+ghost use Rattle.std.specs.Prelude.{◌≡◌, ◌≢◌, ◌⊎◌, ◌∷◌, [], Err, IfErr, IfOk, IfSome, None, Ok, Some, false, option_copied};
+ghost use Rattle.machine.specs.Layout.{Layout};
 ghost use Rattle.words.specs.Fault.{no_memory};
 ghost use Rattle.captext.specs.Tables.{read_table_of};
-ghost use Rattle.commands.specs.{Commands.{HasPolicy, HasTable, first_failed, input}, Files.{Gives, IsDeviceStop, IsStopOf, LoadsAs}};
-ghost use Rattle.commands.specs.Files.{contents_of, is_unread, unread_of};
+ghost use Rattle.forms.specs.declared.file.File.TheVariants as file;
+ghost use Rattle.commands.specs.Commands.{HasPolicy, HasTable, input};
+ghost use Rattle.commands.specs.Files.{Gives, IsDeviceStop, IsStopOf, LoadsAs, first_failed, is_unread, lacking_of, system_contents, table_contents, three_contents, unread_of};
+ghost use Rattle.commands.specs.Hearing.{Hearing, HearsFault, HearsStop, answered, hearing_of};
+ghost use Rattle.commands.specs.declared.{answer.Answer.Answer, load.Stop.Stop};
 
 use crate::later::LaterFile;
-use crate::{File, Listener, ReadError, Source};
+use crate::{Answer, Asked, File, Heard, Listener, ReadError, Source};
+use base::Refusal;
 use captext::{Fault, read_table};
 use policy::Policy;
-use std::alloc::Global;
+use std::alloc::{AllocError, Global};
 use table::Table;
 
-/// What the three files hold.
+/// Why a command has no answer.
+#[derive(Clone, Copy, PartialEq, Eq, Debug)]
+pub enum Stop {
+    /// Memory was refused.
+    NoMemory,
+    /// The file couldn't be read.
+    CannotRead(File),
+    /// The text of the file has a fault.
+    Faulty(File, Fault),
+    /// The table has no label of the name that is asked about.
+    NoLabel(Asked),
+}
+
+impl From<AllocError> for Stop {
+    ghost from_gives = { λ error stop. stop ≡ Stop.NoMemory };
+
+    fn from(_error: AllocError) -> Stop {
+        Stop::NoMemory
+    }
+}
+
+/// Of what is asked of a table, a policy or a script that were read, memory alone is refused.
+impl From<Refusal> for Stop {
+    ghost from_gives = { λ refusal stop. stop ≡ Stop.NoMemory };
+
+    fn from(_refusal: Refusal) -> Stop {
+        Stop::NoMemory
+    }
+}
+
+/// A table and a policy.
 #[derive(Drop)]
-pub struct Loaded<X: Drop> {
+pub struct System {
+    pub table: Table,
+    pub policy: Policy,
+}
+
+/// A table, a policy, and what a third file holds.
+#[derive(Drop)]
+pub struct Three<X: Drop> {
     pub table: Table,
     pub policy: Policy,
     pub third: X,
 }
 
-/// The third file of a command that has none: no byte is read, and no device can fail.
-#[derive(Clone, Copy)]
-pub struct NoFile;
+/// What the files of a command hold, of which a listener hears.
+pub trait Held: Drop {
+    // Its table.
+    ghost layout: { Self → Layout };
 
-impl Source for NoFile {
-    ghost use Rattle.std.specs.Prelude.{[], Some, false};
+    // What is heard of it with an answer.
+    ghost hears: { Self → Answer → Hearing };
 
-    ghost remaining = { λ _. Some [] };
+    /// Its table.
+    fn table(&self) -> &Table
+        ensures { result.now ≡ layout self.now };
 
-    ghost failed = { λ _. false };
+    /// What a listener hears of it with an answer.
+    fn heard<'a>(&'a self, answer: &'a Answer) -> Heard<'a>
+        ensures { hearing_of result ≡ hears self.now answer.now };
+}
 
-    fn read(&mut self, _buf: &mut [u8]) -> Result<usize, ReadError> {
-        Ok(0)
+impl Held for Table {
+    ghost layout = { λ table. table };
+
+    ghost hears = { λ table answer. answered table None None answer.finding };
+
+    fn table(&self) -> &Table {
+        self
+    }
+
+    fn heard<'a>(&'a self, answer: &'a Answer) -> Heard<'a> {
+        Heard {
+            table: self,
+            policy: None,
+            outcomes: None,
+            finding: answer.finding.as_ref(),
+        }
     }
 }
 
-/// Why a file wasn't loaded.
-#[derive(Clone, Copy)]
-pub(crate) enum Stop {
-    NoMemory,
-    CannotRead(File),
-    Faulty(File, Fault),
+impl Held for System {
+    ghost layout = { λ system. system.table };
+
+    ghost hears = { λ system answer. answered system.table (Some system.policy) None answer.finding };
+
+    fn table(&self) -> &Table {
+        &self.table
+    }
+
+    fn heard<'a>(&'a self, answer: &'a Answer) -> Heard<'a> {
+        Heard {
+            table: &self.table,
+            policy: Some(&self.policy),
+            outcomes: None,
+            finding: answer.finding.as_ref(),
+        }
+    }
+}
+
+impl<X: LaterFile> Held for Three<X> {
+    ghost layout = { λ three. three.table };
+
+    ghost hears = { λ three answer. answered three.table (Some three.policy) (X.calls three.third answer.made) answer.finding };
+
+    fn table(&self) -> &Table {
+        &self.table
+    }
+
+    fn heard<'a>(&'a self, answer: &'a Answer) -> Heard<'a> {
+        Heard {
+            table: &self.table,
+            policy: Some(&self.policy),
+            outcomes: self.third.outcomes(answer.made.as_ref()),
+            finding: answer.finding.as_ref(),
+        }
+    }
 }
 
 /// The bytes of a file.
@@ -67,6 +159,7 @@ fn stopped<L: Listener>(
 ) -> Stop
     ensures memory { fault ≡ no_memory → result ≡ Stop.NoMemory }
     ensures faulty { fault ≢ no_memory → result ≡ Stop.Faulty file fault }
+    ensures heard { HearsStop L.Hears text.now (option_copied table.entry) result listener.old listener.new }
 {
     if fault == Fault::MEMORY {
         Stop::NoMemory
@@ -76,26 +169,27 @@ fn stopped<L: Listener>(
     }
 }
 
-/// The table; the bytes are let go.
-fn load_table<S: Source, L: Listener>(
+/// Loads a table; its bytes are let go.
+pub fn load_table<T: Source, L: Listener>(
     alloc: Global,
-    source: &mut S,
+    table: &mut T,
     listener: &mut L,
 ) -> Result<Table, Stop>
-    requires { S.failed source.old ≡ false }
-    ensures loaded { IfSome (S.remaining source.old) (λ bytes.
-        LoadsAs result (read_table_of bytes)) }
-    ensures stops { IfErr result (λ stop. IsStopOf File.Table stop) }
-    ensures device { S.failed source.new ≡ is_unread result }
+    requires { T.failed table.old ≡ false }
+    ensures loaded { Gives (table_contents (T.remaining table.old)) result }
+    ensures stops { IfErr result (λ stop. IsStopOf file.Table stop) }
+    ensures unread { unread_of result ≡ first_failed ((file.Table, T.failed table.new) ∷ []) }
+    ensures labels { lacking_of result ≡ None }
+    ensures heard { HearsFault L.Hears result listener.old listener.new }
 {
-    let bytes = read_file(alloc, File::Table, source)?;
+    let bytes = read_file(alloc, File::Table, table)?;
     match read_table(alloc, &bytes) {
         Ok(table) => Ok(table),
         Err(fault) => Err(stopped(File::Table, &bytes, None, fault, listener)),
     }
 }
 
-/// What a later file holds; its bytes are let go.
+/// Loads what a later file holds; its bytes are let go.
 fn load_later<X: LaterFile, S: Source, L: Listener>(
     alloc: Global,
     table: &Table,
@@ -103,10 +197,10 @@ fn load_later<X: LaterFile, S: Source, L: Listener>(
     listener: &mut L,
 ) -> Result<X, Stop>
     requires { S.failed source.old ≡ false }
-    ensures loaded { IfSome (S.remaining source.old) (λ bytes.
-        LoadsAs result (X.read_of table.now bytes)) }
+    ensures loaded { IfSome (S.remaining source.old) (λ bytes. LoadsAs result (X.read_of table.now bytes)) }
     ensures stops { IfErr result (λ stop. IsStopOf X.named stop) }
     ensures device { S.failed source.new ≡ is_unread result }
+    ensures heard { HearsFault L.Hears result listener.old listener.new }
 {
     let bytes = read_file(alloc, X::name(), source)?;
     match X::read(alloc, table, &bytes) {
@@ -115,42 +209,61 @@ fn load_later<X: LaterFile, S: Source, L: Listener>(
     }
 }
 
-/// Loads the files one after another, up to the first that stops it.
-pub(crate) fn load<X: LaterFile, T: Source, P: Source, S: Source, L: Listener>(
+/// Loads a table and a policy one after another, up to the first that stops it.
+pub fn load_system<T: Source, P: Source, L: Listener>(
+    alloc: Global,
+    table: &mut T,
+    policy: &mut P,
+    listener: &mut L,
+) -> Result<System, Stop>
+    requires table { T.failed table.old ≡ false }
+    requires policy { P.failed policy.old ≡ false }
+    ensures loaded { Gives (system_contents (T.remaining table.old) (P.remaining policy.old)) result }
+    ensures policy_waits { (policy.new ≡ policy.old) ⊎ HasTable (input T.remaining T.failed table.old table.new) }
+    ensures unread { unread_of result ≡ first_failed ((file.Table, T.failed table.new) ∷ (file.Policy, P.failed policy.new) ∷ []) }
+    ensures labels { lacking_of result ≡ None }
+    ensures heard { HearsFault L.Hears result listener.old listener.new }
+{
+    let table = load_table(alloc, table, listener)?;
+    match load_later::<Policy, P, L>(alloc, &table, policy, listener) {
+        Ok(policy) => Ok(System { table, policy }),
+        Err(stop) => {
+            drop(table);
+            Err(stop)
+        }
+    }
+}
+
+/// Loads a table, a policy and a third file one after another, up to the first that stops it.
+pub fn load_three<X: LaterFile, T: Source, P: Source, S: Source, L: Listener>(
     alloc: Global,
     table: &mut T,
     policy: &mut P,
     third: &mut S,
     listener: &mut L,
-) -> Result<Loaded<X>, Stop>
+) -> Result<Three<X>, Stop>
     requires table { T.failed table.old ≡ false }
     requires policy { P.failed policy.old ≡ false }
     requires third { S.failed third.old ≡ false }
-    ensures loaded { Gives (contents_of X.named X.read_of (T.remaining table.old) (P.remaining policy.old) (S.remaining third.old)) result }
+    ensures loaded { Gives (three_contents X.named X.read_of (T.remaining table.old) (P.remaining policy.old) (S.remaining third.old)) result }
     ensures policy_waits { (policy.new ≡ policy.old) ⊎ HasTable (input T.remaining T.failed table.old table.new) }
     ensures third_waits { (third.new ≡ third.old)
         ⊎ HasPolicy (input T.remaining T.failed table.old table.new) (input P.remaining P.failed policy.old policy.new) }
-    ensures unread { unread_of result ≡ first_failed X.named (T.failed table.new) (P.failed policy.new) (S.failed third.new) }
+    ensures unread { unread_of result ≡ first_failed ((file.Table, T.failed table.new) ∷ (file.Policy, P.failed policy.new) ∷ (X.named, S.failed third.new) ∷ []) }
+    ensures labels { lacking_of result ≡ None }
+    ensures heard { HearsFault L.Hears result listener.old listener.new }
 {
-    let table = load_table(alloc, table, listener)?;
-    let policy = match load_later::<Policy, P, L>(alloc, &table, policy, listener) {
-        Ok(policy) => policy,
-        Err(stop) => {
-            drop(table);
-            return Err(stop);
-        }
-    };
-    let third = match load_later::<X, S, L>(alloc, &table, third, listener) {
-        Ok(third) => third,
+    let System { table, policy } = load_system(alloc, table, policy, listener)?;
+    match load_later::<X, S, L>(alloc, &table, third, listener) {
+        Ok(third) => Ok(Three {
+            table,
+            policy,
+            third,
+        }),
         Err(stop) => {
             drop(policy);
             drop(table);
-            return Err(stop);
+            Err(stop)
         }
-    };
-    Ok(Loaded {
-        table,
-        policy,
-        third,
-    })
+    }
 }

@@ -4,8 +4,8 @@ use Rattle.either.specs.declared.Either.{Either}
 use Rattle.devices.specs.{declared.{opened.Unopened.Unopened, watched.Watched.Watched}, Opened.{bytes_left, opened}, Watched.device_of}
 use Rattle.devices.specs.Watched.{failed_of, is_flushed_of}
 use Rattle.commands.specs.{declared.end.End.End, Commands.{Input, Output, input, output}, Ends.status_of}
-use Rattle.report.specs.{Alone.IsListed, Answers.{IsChecked, IsRun, IsRunSplit, IsVerifiedWith}, Claimed.{AreJudged, AreWritten}}
-use Rattle.report.specs.{Closings.{IsClosedOver, IsStarted}, Questions.{IsDrawn, IsTold}, Replays.IsReplayed}
+use Rattle.report.specs.{Answers.{IsChecked, IsRun, IsRunSplit, IsVerifiedWith}, Claimed.{AreJudged, AreWritten}}
+use Rattle.report.specs.{Closings.{IsClosedOver, IsStarted}, Questions.{IsDrawn, IsListed, IsTold}, Replays.IsReplayed}
 use Rattle.confine.specs.declared.request.{OfSystem.{OfSystem, TheVariants.{Check, Close, Draw, Strongest, Why}}, SplitRun.SplitRun}
 use Rattle.confine.specs.declared.request.{OfTable.{OfTable, OfTable as of_table}, OfThree.OfThree, Request.Request}
 use Rattle.confine.specs.declared.request.OfThree.TheVariants.{Claims, Replay, Run, Verify}

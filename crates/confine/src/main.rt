@@ -5,19 +5,20 @@ ghost use Rattle.std.specs.{Fn.FnReturnsAt, Prelude.{◌≡◌, ◌≤◌, IfOk,
 ghost use Rattle.devices.specs.Watched.{failed_of};
 ghost use Rattle.commands.specs.{Commands.{input, output}, Ends.status_of};
 ghost use Rattle.confine.specs.Opening.{AreSound, IsServed, RunsSplit, names_of, Serves, ServesSystem, ServesTable, ServesThree, written};
-ghost use Rattle.confine.specs.Requests.{HasFewWorkers, IsWithinLimits, OnInTurn};
+ghost use Rattle.confine.specs.Requests.{HasFewWorkers, HaveArrived, IsWithinLimits, OnInTurn, SystemHasArrived};
 
 mod explaining;
 mod files;
 mod help;
+mod meaning;
 mod request;
 
 use clap::error::ErrorKind;
-use explaining::{Explainer, tell_kept};
+use explaining::Explainer;
 use files::{Opened, open_all, open_by};
 use report::{
-    End, Listener, Open, Sink, Source, Watched, check, check_claims, close, draw, list, replay,
-    run, run_split, start, verify, why, write_claims,
+    End, Gate, Listener, Open, Sink, Source, Watched, check, check_claims, close, draw, list,
+    replay, run, run_split, start, verify, why, write_claims,
 };
 use request::{
     CommandLine, Invocation, OfSystem, OfTable, OfThree, Request, SplitRun, read_request,
@@ -35,7 +36,7 @@ fn main(rt: HostRuntime) -> ExitCode {
     let words = words(&rt);
     let mut out = Watched::new(io::writer(&rt));
     let status = match asked(rt.alloc(), &words) {
-        Ok(CommandLine::InTurn(invocation)) => answer(&rt, invocation, &opener, &mut out).0,
+        Ok(CommandLine::InTurn(invocation)) => answer(&rt, invocation, &opener, &Open, &mut out).0,
         Ok(CommandLine::Split(run)) => answer_split(&rt, run, &opener, &mut out).0,
         Err(unasked) => refuse(&rt, unasked),
     };
@@ -74,32 +75,32 @@ fn asked<'a>(alloc: Global, words: &'a io::Result<Vec<String>>) -> Result<Comman
 }
 
 /// Does what is asked for, on files that `opener` opens by their names, and writes the answer to `out`;
-/// gives the exit status, and the files back.
-fn answer<'a, R, F, O, W>(
+/// gives the exit status, and the files back. Where a system is accepted, all workers that were asked for arrived at the gate.
+fn answer<'a, R, F, O, G, W>(
     rt: &R,
     invocation: Invocation<'a>,
     opener: &O,
+    gate: &G,
     out: &mut Watched<W>,
 ) -> (u8, Request<'a, Opened<F>>)
 where
     R: Eprint + AllocGlobal + Threads + Sync,
     F: Read + Drop,
     O: Fn(&str) -> io::Result<F>,
+    G: Gate + Sync,
     W: Write,
     requires opener { O.IsAlwaysCallable opener.now }
     requires limits { IsWithinLimits invocation.request }
     requires out { failed_of out.old ≡ false }
     ensures served { IsServed (FnReturnsAt O.Fn opener.now) (Serves F.remaining (written W.contents out.old out.new)) invocation.entry.request result.1 result.0 }
     ensures exit { result.0 ≤ 2 }
+    ensures arrived { result.0 ≡ 0 → HaveArrived (G.HasArrived gate.now) invocation.entry.request }
 {
     let files = open_all(opener, invocation.request);
     let mut explainer = Explainer::new(rt, invocation);
-    let (end, files) = serve(rt, files, &mut explainer, out);
+    let (end, files) = serve(rt, files, gate, &mut explainer, out);
     let status = tell(rt, end);
     explainer.hear_end(end, &files);
-    if let Some((table, policy)) = explainer.kept() {
-        tell_kept(rt, invocation.request, table, policy);
-    }
     (status, files)
 }
 
@@ -142,15 +143,17 @@ where
 }
 
 /// Does what was asked for, on these files; gives them back.
-fn serve<'a, R, F, L, W>(
+fn serve<'a, R, F, G, L, W>(
     rt: &R,
     files: Request<'a, Opened<F>>,
+    gate: &G,
     listener: &mut L,
     out: &mut Watched<W>,
 ) -> (End, Request<'a, Opened<F>>)
 where
     R: AllocGlobal + Threads + Sync,
     F: Read + Drop,
+    G: Gate + Sync,
     L: Listener,
     W: Write,
     requires files { AreSound files }
@@ -158,6 +161,7 @@ where
     requires out { failed_of out.old ≡ false }
     ensures served { Serves F.remaining (written W.contents out.old out.new) files.entry result.1 result.0 }
     ensures exit { status_of result.0 ≤ 2 }
+    ensures arrived { status_of result.0 ≡ 0 → HaveArrived (G.HasArrived gate.now) files.entry }
 {
     match files {
         Request::OfTable(asked, mut table) => {
@@ -165,7 +169,7 @@ where
             (end, Request::OfTable(asked, table))
         }
         Request::OfSystem(asked, mut table, mut policy) => {
-            let end = serve_system(rt, asked, &mut table, &mut policy, listener, out);
+            let end = serve_system(rt, asked, &mut table, &mut policy, gate, listener, out);
             (end, Request::OfSystem(asked, table, policy))
         }
         Request::OfThree(asked, mut table, mut policy, mut third) => {
@@ -203,11 +207,12 @@ fn serve_table<T: Source, L: Listener, O: Sink>(
 }
 
 /// Does what is asked of a table and a policy.
-fn serve_system<R, T, P, L, O>(
+fn serve_system<R, T, P, G, L, O>(
     rt: &R,
     asked: OfSystem<'_>,
     table: &mut T,
     policy: &mut P,
+    gate: &G,
     listener: &mut L,
     out: &mut O,
 ) -> End
@@ -215,6 +220,7 @@ where
     R: AllocGlobal + Threads + Sync,
     T: Source,
     P: Source,
+    G: Gate + Sync,
     L: Listener,
     O: Sink,
     requires table { T.failed table.old ≡ false }
@@ -224,11 +230,12 @@ where
     ensures served { ServesSystem asked.entry (input T.remaining T.failed table.old table.new)
         (input P.remaining P.failed policy.old policy.new) (output O.contents O.failed O.is_flushed out.old out.new) result }
     ensures exit { status_of result ≤ 2 }
+    ensures arrived { status_of result ≡ 0 → SystemHasArrived (G.HasArrived gate.now) asked.entry }
 {
     let alloc = rt.alloc();
     match asked {
         OfSystem::Check { workers, on_accept } => check(
-            rt, alloc, table, policy, on_accept, workers, &Open, listener, out,
+            rt, alloc, table, policy, on_accept, workers, gate, listener, out,
         ),
         OfSystem::Close(on_close) => close(alloc, table, policy, on_close, listener, out),
         OfSystem::Why { actor, object } => {

@@ -1,7 +1,10 @@
-ghost use Rattle.std.specs.Prelude.{◌≡◌, ◌≤◌, IfOk, IfSome};
-ghost use Rattle.confine.specs.{Opening.names_of, Requests.{HasFewWorkers, IsWithinLimits, OnInTurn}};
+ghost use Rattle.std.specs.Prelude.{◌≡◌, IfNone, IfOk, IfSome, None, codes, option_copied};
+ghost use Rattle.clap.specs.Matches.{first_value, found_of};
+ghost use Rattle.confine.specs.{Meaning.{AreFound, IsAskedIn}, Opening.names_of, Requests.{IsWithinLimits, OnInTurn}};
+ghost use Rattle.confine.specs.Requests.{file_name_of, file_of, label_of};
 
 use crate::help;
+use crate::meaning::{Verb, Words};
 use clap::error::ErrorKind;
 use clap::{Arg, ArgAction, ArgMatches, Command, Error};
 use report::{Asked, File, OnAccept, OnClose};
@@ -34,7 +37,6 @@ impl<'a> SplitRun<'a> {
         Invocation {
             request: Request::OfThree(OfThree::Run, self.table, self.policy, self.script),
             explains: self.explains,
-            is_split: true,
         }
     }
 }
@@ -45,8 +47,6 @@ pub struct Invocation<'a> {
     pub request: Request<'a, &'a str>,
     /// Whether a person is told on standard error what is found.
     pub explains: bool,
-    /// Whether a script's calls are made by workers, so that the log needn't have them in the script's order.
-    pub is_split: bool,
 }
 
 /// What a command is to do, and of which files: by their names, or as opening them gave them.
@@ -99,7 +99,9 @@ pub enum OfThree {
 
 impl<'a, N> Request<'a, N> {
     /// One of its files, if it has that; the third is of whatever name.
-    pub fn file(&self, file: File) -> Option<&N> {
+    pub fn file(&self, file: File) -> Option<&N>
+        ensures { option_copied result ≡ file_of self.now file }
+    {
         match (self, file) {
             (
                 Request::OfTable(_, table)
@@ -115,7 +117,9 @@ impl<'a, N> Request<'a, N> {
     }
 
     /// The word for a label that it asks about; none, which is an empty word, where it asks about none.
-    pub fn word_of(&self, asked: Asked) -> &'a str {
+    pub fn word_of(&self, asked: Asked) -> &'a str
+        ensures { result.now ≡ label_of self.now asked }
+    {
         match (asked, self) {
             (Asked::Actor, Request::OfSystem(OfSystem::Why { actor, .. }, _, _)) => actor,
             (Asked::Object, Request::OfSystem(OfSystem::Why { object, .. }, _, _)) => object,
@@ -126,18 +130,15 @@ impl<'a, N> Request<'a, N> {
 
 impl<'a> Request<'a, &'a str> {
     /// The name of one of its files; none, which is an empty name, of a file that it doesn't have.
-    pub fn name_of(&self, file: File) -> &'a str {
+    pub fn name_of(&self, file: File) -> &'a str
+        ensures { result.now ≡ file_name_of self.now file }
+    {
         match self.file(file) {
             Some(name) => name,
             None => "",
         }
     }
 }
-
-// The numbers of workers, as they are written.
-const COUNTS: [&str; 16] = [
-    "1", "2", "3", "4", "5", "6", "7", "8", "9", "10", "11", "12", "13", "14", "15", "16",
-];
 
 /// Reads the command line; an `Err` is for its user, and so is a request for help.
 pub fn read_request<'a>(alloc: Global, words: &'a [String]) -> Result<CommandLine<'a>, Error>
@@ -170,96 +171,37 @@ fn read_by<'a>(command: &mut Command<'a>, words: &'a [String]) -> Result<Command
 
 // What the subcommand asks for, and how.
 fn line_of<'a>(matches: &ArgMatches<'a>) -> Option<CommandLine<'a>>
-    ensures { IfSome result (λ line. OnInTurn line IsWithinLimits) }
+    ensures meaning { IfSome result (λ line. IsAskedIn matches.now line) }
+    ensures limits { IfSome result (λ line. OnInTurn line IsWithinLimits) }
 {
     let (name, found) = matches.subcommand()?;
-    let request = request_of(name, found)?;
-    let explains = found.get_flag("explain");
-    match request {
-        Request::OfThree(OfThree::Run, table, policy, script) if found.get_flag("split") => {
-            Some(CommandLine::Split(SplitRun {
-                table,
-                policy,
-                script,
-                explains,
-            }))
-        }
-        request => Some(CommandLine::InTurn(Invocation {
-            request,
-            explains,
-            is_split: false,
-        })),
-    }
+    words_of(Verb::from_name(name)?, found)?.line()
 }
 
-// What the subcommand of this name asks for.
-fn request_of<'a>(name: &str, found: &ArgMatches<'a>) -> Option<Request<'a, &'a str>>
-    ensures { IfSome result IsWithinLimits }
+// The words of this command, each by its id.
+fn words_of<'a>(verb: Verb, found: &ArgMatches<'a>) -> Option<Words<'a>>
+    ensures command { IfSome result (λ words. words.verb ≡ verb) }
+    ensures found { IfSome result (λ words. AreFound (found_of found.now) words) }
+    ensures none { IfNone result (first_value (found_of found.now) (codes "table") ≡ None) }
 {
-    let table = found.get_str("table")?;
-    match (name, found.get_str("policy")) {
-        ("list", _) => Some(Request::OfTable(OfTable::List, table)),
-        ("close", None) => Some(Request::OfTable(OfTable::Start(closing_of(found)), table)),
-        (_, None) => None,
-        (name, Some(policy)) => match third_of(name, found) {
-            Some((asked, third)) => Some(Request::OfThree(asked, table, policy, third)),
-            None => Some(Request::OfSystem(of_system(name, found)?, table, policy)),
-        },
-    }
-}
-
-// What the subcommand of this name asks of a table, a policy and a third file, and the name of that, if it names one.
-fn third_of<'a>(name: &str, found: &ArgMatches<'a>) -> Option<(OfThree, &'a str)> {
-    match name {
-        "verify" => Some((OfThree::Verify, found.get_str("certificate")?)),
-        "run" => Some((OfThree::Run, found.get_str("script")?)),
-        "replay" => Some((OfThree::Replay, found.get_str("log")?)),
-        "claims" => Some((OfThree::Claims, found.get_str("claims")?)),
-        _ => None,
-    }
-}
-
-// What the subcommand of this name asks of a table and a policy.
-fn of_system<'a>(name: &str, found: &ArgMatches<'a>) -> Option<OfSystem<'a>>
-    ensures { IfSome result HasFewWorkers }
-{
-    match name {
-        "check" => Some(OfSystem::Check {
-            workers: workers_of(found)?,
-            on_accept: if found.get_flag("cert") {
-                OnAccept::Certificate
-            } else {
-                OnAccept::Report
-            },
-        }),
-        "close" => Some(OfSystem::Close(closing_of(found))),
-        "why" => Some(OfSystem::Why {
-            actor: found.get_str("actor")?,
-            object: found.get_str("object")?,
-        }),
-        "draw" => Some(OfSystem::Draw),
-        "claims" => Some(OfSystem::Strongest),
-        _ => None,
-    }
-}
-
-// What closing is to write.
-fn closing_of(found: &ArgMatches<'_>) -> OnClose {
-    if found.get_flag("missing") {
-        OnClose::Missing
-    } else if found.get_flag("surplus") {
-        OnClose::Surplus
-    } else {
-        OnClose::Policy
-    }
-}
-
-// How many workers are asked for.
-fn workers_of(found: &ArgMatches<'_>) -> Option<usize>
-    ensures { IfSome result (λ workers. (1 ≤ workers) × (workers ≤ 16)) }
-{
-    let workers = found.get_str("workers")?;
-    Some(COUNTS.iter().position(|count| *count == workers)? + 1)
+    Some(Words {
+        verb,
+        table: found.get_str("table")?,
+        policy: found.get_str("policy"),
+        certificate: found.get_str("certificate"),
+        script: found.get_str("script"),
+        log: found.get_str("log"),
+        claims: found.get_str("claims"),
+        actor: found.get_str("actor"),
+        object: found.get_str("object"),
+        workers: found.get_str("workers"),
+        explain: found.get_flag("explain"),
+        cert: found.get_flag("cert"),
+        missing: found.get_flag("missing"),
+        surplus: found.get_flag("surplus"),
+        split: found.get_flag("split"),
+        all: found.get_flag("all"),
+    })
 }
 
 fn command<'a>(alloc: Global) -> Result<Command<'a>, AllocError> {

@@ -1,94 +1,19 @@
-//! The texts, and the forms of their lines.
+//! The forms of the lines of files.
+use crate::file::File;
 use crate::lines::{has_word, part, word};
 
-/// A text that is read.
-#[derive(Clone, Copy, PartialEq, Eq)]
-pub enum Text {
-    Table,
-    Policy,
-    Certificate,
-    Script,
-    Log,
-    Claims,
-}
-
-impl Text {
-    /// All of them.
-    pub const ALL: [Text; 6] = [
-        Text::Table,
-        Text::Policy,
-        Text::Certificate,
-        Text::Script,
-        Text::Log,
-        Text::Claims,
-    ];
-
-    /// Its first line.
-    pub fn header(self) -> &'static str {
-        match self {
-            Text::Table => "confine-table 1",
-            Text::Policy => "confine-policy 1",
-            Text::Certificate => "confine-cert 1",
-            Text::Script => "confine-script 1",
-            Text::Log => "confine-log 1",
-            Text::Claims => "confine-claims 1",
-        }
-    }
-
-    /// The first line of its second version, which a table has.
-    pub fn later_header(self) -> Option<&'static str> {
-        match self {
-            Text::Table => Some("confine-table 2"),
-            _ => None,
-        }
-    }
-
-    /// Whether a line is the first of a version.
-    pub fn has_header(self, line: &str) -> bool {
-        match self.later_header() {
-            Some(later) if later == line => true,
-            _ => self.header() == line,
-        }
-    }
-
-    /// What it is called.
-    pub fn name(self) -> &'static str {
-        match self {
-            Text::Table => "table",
-            Text::Policy => "policy",
-            Text::Certificate => "certificate",
-            Text::Script => "script",
-            Text::Log => "log",
-            Text::Claims => "claim list",
-        }
-    }
-
-    /// How many words of a line stand before the one by which its form is known.
-    pub fn words_before(self) -> u64 {
-        match self {
-            Text::Script | Text::Log => 2,
-            _ => 0,
-        }
-    }
-
-    /// Whether its lines have a form, which a log's share with a script's.
-    pub fn has(self, form: Form) -> bool {
-        form.text() == self || (self == Text::Log && form.text() == Text::Script)
-    }
-}
-
-/// The form by whose word a line of the text is known.
-pub fn form_of(kind: Text, line: &str) -> Option<Form> {
-    let word = word(line, kind.words_before())?;
+/// The form by whose word a line of the file is known.
+pub fn form_of(file: File, line: &str) -> Option<Form> {
+    let word = word(line, file.words_before())?;
     for form in &Form::ALL {
-        if kind.has(*form) && form.word() == word {
+        if file.has(*form) && form.word() == word {
             return Some(*form);
         }
     }
     None
 }
 
-/// A form of the lines of a text.
+/// A form of the lines of a file.
 #[derive(Clone, Copy, PartialEq, Eq)]
 pub enum Form {
     Label,
@@ -137,7 +62,7 @@ pub enum Form {
 }
 
 impl Form {
-    /// All forms, those of a text in the order in which its lines may come.
+    /// All forms, those of a file in the order in which its lines may come.
     pub const ALL: [Form; 43] = [
         Form::Label,
         Form::Untyped,
@@ -184,15 +109,15 @@ impl Form {
         Form::ClaimTake,
     ];
 
-    /// The text that has such lines.
-    pub fn text(self) -> Text {
+    /// The file that has such lines.
+    pub fn file(self) -> File {
         match self {
-            Form::Edge => Text::Policy,
-            Form::ClaimNothing | Form::ClaimTake => Text::Claims,
+            Form::Edge => File::Policy,
+            Form::ClaimNothing | Form::ClaimTake => File::Claims,
             Form::CertifiedCap
             | Form::CertifiedSpace
             | Form::CertifiedDerive
-            | Form::CertifiedRuns => Text::Certificate,
+            | Form::CertifiedRuns => File::Certificate,
             Form::Signal
             | Form::Poll
             | Form::Wait
@@ -215,8 +140,8 @@ impl Form {
             | Form::Resume
             | Form::Configure
             | Form::BindContext
-            | Form::Unbind => Text::Script,
-            _ => Text::Table,
+            | Form::Unbind => File::Script,
+            _ => File::Table,
         }
     }
 
@@ -320,7 +245,7 @@ impl Form {
         }
     }
 
-    /// Which section of its text such lines are of. Sections come one after another.
+    /// Which section of its file such lines are of. Sections come one after another.
     pub fn section(self) -> u8 {
         match self {
             Form::Cap => 2,

@@ -1,13 +1,14 @@
 //! Whether a line is one of its text at all: 50.
 use crate::classes::Class;
-use crate::form::{Form, Text, form_of};
+use crate::file::File;
+use crate::form::{Form, form_of};
 use crate::lines::{Line, text_of, word};
 
 /// What is wrong with a line, whatever its words are.
 #[derive(Clone, Copy)]
 pub enum LayoutFlaw<'a> {
     /// The header of another text.
-    HeaderOf(Text),
+    HeaderOf(File),
     NoHeader,
     NoLineFeed,
     AfterEnd,
@@ -31,9 +32,9 @@ pub enum LayoutFlaw<'a> {
 
 /// What is wrong with the first line.
 pub fn header_flaw(line: &str) -> LayoutFlaw<'_> {
-    for kind in &Text::ALL {
-        if kind.has_header(line) {
-            return LayoutFlaw::HeaderOf(*kind);
+    for file in &File::ALL {
+        if file.has_header(line) {
+            return LayoutFlaw::HeaderOf(*file);
         }
     }
     LayoutFlaw::NoHeader
@@ -81,22 +82,22 @@ fn spaces_flaw<'a>(line: &str) -> Option<LayoutFlaw<'a>> {
 }
 
 /// What is wrong with a line that has no form.
-pub fn formless_flaw<'a>(kind: Text, line: &'a str, before: &str) -> LayoutFlaw<'a> {
-    let Some(first) = word(line, kind.words_before()) else {
+pub fn formless_flaw<'a>(file: File, line: &'a str, before: &str) -> LayoutFlaw<'a> {
+    let Some(first) = word(line, file.words_before()) else {
         return LayoutFlaw::NoCall;
     };
     if Class::Capital.is_in(first.as_bytes()) {
         return LayoutFlaw::Capitals(first);
     }
-    match kind {
-        Text::Script | Text::Log => LayoutFlaw::UnknownCall(first),
-        _ => LayoutFlaw::Unknown(first, form_of(kind, before)),
+    match file {
+        File::Script | File::Log => LayoutFlaw::UnknownCall(first),
+        _ => LayoutFlaw::Unknown(first, form_of(file, before)),
     }
 }
 
 /// What is wrong with the section in which a line stands, if anything is.
-pub fn section_flaw<'a>(kind: Text, form: Form, before: &str) -> Option<LayoutFlaw<'a>> {
-    let last = form_of(kind, before)?;
+pub fn section_flaw<'a>(file: File, form: Form, before: &str) -> Option<LayoutFlaw<'a>> {
+    let last = form_of(file, before)?;
     if form.section() < last.section() {
         Some(LayoutFlaw::Below(form, last))
     } else {
@@ -115,6 +116,6 @@ pub fn before_of(line: Option<Line<'_>>) -> &str {
 /// What is wrong with the layout of a line of a text.
 #[derive(Clone, Copy)]
 pub struct OfLayout<'a> {
-    pub kind: Text,
+    pub file: File,
     pub flaw: LayoutFlaw<'a>,
 }

@@ -1,7 +1,8 @@
-//! The forms of the lines of all texts, and what is said of a line that isn't spelled as its form has it.
+//! The files, the forms of their lines, and what is said of a line that isn't spelled as its form has it.
 #![tactic(auto)]
 
 mod classes;
+mod file;
 mod form;
 mod layout;
 mod lines;
@@ -10,7 +11,8 @@ mod shapes;
 mod telling;
 mod wanted;
 
-pub use form::{Form, Text, form_of};
+pub use file::File;
+pub use form::{Form, form_of};
 pub use layout::{
     LayoutFlaw, OfLayout, before_of, bytes_flaw, formless_flaw, header_flaw, section_flaw,
 };

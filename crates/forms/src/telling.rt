@@ -1,5 +1,6 @@
 //! What is said of the layout of a line, and of an outcome.
-use crate::form::{Form, Text};
+use crate::file::File;
+use crate::form::Form;
 use crate::layout::{LayoutFlaw, OfLayout};
 use crate::outcomes::OutcomeFlaw;
 use std::fmt::{self, Display};
@@ -7,13 +8,13 @@ use std::fmt::{self, Display};
 impl fmt::Display for OfLayout<'_> {
     fn fmt<W: fmt::Write>(&self, f: &mut fmt::Formatter<W>) -> fmt::Result {
         match self.flaw {
-            LayoutFlaw::HeaderOf(other) => tell_header(f, other, self.kind),
-            LayoutFlaw::NoHeader => tell_headers(f, self.kind),
+            LayoutFlaw::HeaderOf(other) => tell_header(f, other, self.file),
+            LayoutFlaw::NoHeader => tell_headers(f, self.file),
             LayoutFlaw::Capitals(word) => write!(f, "`{word}` is to be in small letters"),
             LayoutFlaw::NoCall => f.write_str("core, thread and call are missing"),
             LayoutFlaw::NoOutcome => f.write_str("` = ` and an outcome are missing"),
             LayoutFlaw::UnknownCall(word) => tell_calls(f, word),
-            LayoutFlaw::Unknown(word, before) => tell_lines(f, self.kind, word, before),
+            LayoutFlaw::Unknown(word, before) => tell_lines(f, self.file, word, before),
             LayoutFlaw::Below(form, above) => tell_order(f, form, above),
             flaw => f.write_str(plain(flaw)),
         }
@@ -21,7 +22,7 @@ impl fmt::Display for OfLayout<'_> {
 }
 
 // That a line is the header of another text.
-fn tell_header<W: fmt::Write>(f: &mut fmt::Formatter<W>, is: Text, wanted: Text) -> fmt::Result {
+fn tell_header<W: fmt::Write>(f: &mut fmt::Formatter<W>, is: File, wanted: File) -> fmt::Result {
     let (name, wanted) = (is.name(), wanted.name());
     write!(
         f,
@@ -30,10 +31,10 @@ fn tell_header<W: fmt::Write>(f: &mut fmt::Formatter<W>, is: Text, wanted: Text)
 }
 
 // Which headers a text may have.
-fn tell_headers<W: fmt::Write>(f: &mut fmt::Formatter<W>, kind: Text) -> fmt::Result {
-    let (name, header) = (kind.name(), kind.header());
+fn tell_headers<W: fmt::Write>(f: &mut fmt::Formatter<W>, file: File) -> fmt::Result {
+    let (name, header) = (file.name(), file.header());
     write!(f, "a {name} begins with `{header}`")?;
-    match kind.later_header() {
+    match file.later_header() {
         Some(later) => write!(f, " or `{later}`"),
         None => Ok(()),
     }
@@ -42,17 +43,17 @@ fn tell_headers<W: fmt::Write>(f: &mut fmt::Formatter<W>, kind: Text) -> fmt::Re
 // Which calls there are, in place of a word.
 fn tell_calls<W: fmt::Write>(f: &mut fmt::Formatter<W>, word: &str) -> fmt::Result {
     write!(f, "`{word}` is no call: calls are ")?;
-    words_of(f, Text::Script, 0, ", ")
+    words_of(f, File::Script, 0, ", ")
 }
 
 // Which lines may stand there, in place of one that begins with a word.
 fn tell_lines<W: fmt::Write>(
     f: &mut fmt::Formatter<W>,
-    kind: Text,
+    file: File,
     word: &str,
     before: Option<Form>,
 ) -> fmt::Result {
-    let name = kind.name();
+    let name = file.name();
     write!(
         f,
         "no line of a {name} begins with `{word}`: here stands one of `"
@@ -61,7 +62,7 @@ fn tell_lines<W: fmt::Write>(
         Some(form) => form.section(),
         None => 0,
     };
-    words_of(f, kind, section, "`, `")?;
+    words_of(f, file, section, "`, `")?;
     f.write_str("`, or `end`")
 }
 
@@ -91,13 +92,13 @@ fn plain(flaw: LayoutFlaw<'_>) -> &'static str {
 // The words of the lines that a text has from a section on.
 fn words_of<W: fmt::Write>(
     f: &mut fmt::Formatter<W>,
-    kind: Text,
+    file: File,
     section: u8,
     separator: &str,
 ) -> fmt::Result {
     let mut between = "";
     for form in &Form::ALL {
-        if kind.has(*form) && form.section() >= section {
+        if file.has(*form) && form.section() >= section {
             f.write_str(between)?;
             f.write_str(form.word())?;
             between = separator;

@@ -1,3 +1,4 @@
+mod Denied
 mod ClosedLabels
 mod Missing
 mod ClosedText

@@ -1,41 +1,44 @@
--- Two answers to the bytes of three files are one, where two answers to what such files hold are.
+-- Two answers to the bytes of files are one, where two answers to what such files hold are.
 use Rattle.std.proofs.Common.{ℕ, ◌∙◌, ◌≡◌, Err, List, Ok, Result, Some, sym}
 use Rattle.base.specs.declared.edge.Edge.{Edge}
 use Rattle.machine.specs.Layout.{Layout}
 use Rattle.words.specs.declared.faults.Fault.{Fault}
 use Rattle.captext.specs.{Policies.read_policy_of, Tables.read_table_of}
-use Rattle.reptext.specs.declared.file.File.{File, TheVariants.{Policy, Table}}
-use Rattle.commands.specs.{Commands.IsAnswer, Files.{Contents, and_then, read_then, whole}}
-use Rattle.report.specs.OneAnswer.{HaveOneAnswer}
+use Rattle.forms.specs.declared.file.File.{File, TheVariants.{Policy, Table}}
+use Rattle.commands.specs.{declared.load.{System.System, Three.Three}, Files.{Contents, and_then, read_then, whole}}
+use Rattle.report.specs.OneAnswer.{IsAnsweredOnce, SystemHasOneAnswer, TableHasOneAnswer, ThreeHaveOneAnswer}
 
--- two answers to a table, a policy and what a third file holds are one
-abbrev pub JudgesOne : {X : Type 0} → (Layout → List Edge → X → List ℕ → ℕ → Type 0) → Type 0
-JudgesOne {X} judges =
-    (t : Layout) (edges : List Edge) (x : X) (text other : List ℕ) (status another : ℕ) → judges t edges x text status
-    → judges t edges x other another → (text ≡ other) × (status ≡ another)
+-- two answers to one value are one
+abbrev pub IsOne : (List ℕ → ℕ → Type 0) → Type 0
+IsOne judges =
+    (text other : List ℕ) (status another : ℕ) → judges text status → judges other another → (text ≡ other) × (status ≡ another)
 
-module _
-    {X : Type 0} (name : File) (read : Layout → List ℕ → Result X Fault) (judges : Layout → List Edge → X → List ℕ → ℕ → Type 0)
-    (one : JudgesOne judges) where
-  abbrev Same : Contents X → Type 0
-  Same contents =
-      (text other : List ℕ) (status another : ℕ) → IsAnswer judges contents text status → IsAnswer judges contents other another
-      → (text ≡ other) × (status ≡ another)
+abbrev pub JudgesSystemOnce : (Layout → List Edge → List ℕ → ℕ → Type 0) → Type 0
+JudgesSystemOnce judges = (t : Layout) (edges : List Edge) → IsOne (judges t edges)
 
-  of_third : (t : Layout) (edges : List Edge) (found : Result X Fault) → Same (and_then name found (λ x. whole t edges x))
-  of_third t edges (Ok x) = one t edges x
-  of_third t edges (Err fault) = λ text other status another is also. (is.0 ∙ sym also.0, is.1 ∙ sym also.1)
+abbrev pub JudgesOnce : {X : Type 0} → (Layout → List Edge → X → List ℕ → ℕ → Type 0) → Type 0
+JudgesOnce {X} judges = (t : Layout) (edges : List Edge) (x : X) → IsOne (judges t edges x)
 
-  of_policy : (t : Layout) (third : List ℕ) (found : Result (List Edge) Fault)
-      → Same (and_then Policy found (λ edges. read_then name (Some third) (read t) (λ x. whole t edges x)))
-  of_policy t third (Ok edges) = of_third t edges (read t third)
-  of_policy t third (Err fault) = λ text other status another is also. (is.0 ∙ sym also.0, is.1 ∙ sym also.1)
+-- where what follows a text is answered once, so is the text
+module _ {X : Type 0} (judges : X → List ℕ → ℕ → Type 0) where
+  then_once : {Y : Type 0} (file : File) (found : Result Y Fault) (next : Y → Contents X) → ((y : Y) → IsAnsweredOnce judges (next y))
+      → IsAnsweredOnce judges (and_then file found next)
+  then_once file (Ok y) next once = once y
+  then_once file (Err fault) next once = λ text other status another is also. (is.0 ∙ sym also.0, is.1 ∙ sym also.1)
 
-  of_table : (policy third : List ℕ) (found : Result Layout Fault)
-      → Same (and_then Table found (λ t.
-      read_then Policy (Some policy) (read_policy_of t) (λ edges. read_then name (Some third) (read t) (λ x. whole t edges x))))
-  of_table policy third (Ok t) = of_policy t third (read_policy_of t policy)
-  of_table policy third (Err fault) = λ text other status another is also. (is.0 ∙ sym also.0, is.1 ∙ sym also.1)
+pub of_table : (judges : Layout → List ℕ → ℕ → Type 0) → ((t : Layout) → IsOne (judges t)) → TableHasOneAnswer judges
+of_table judges one table = then_once judges Table (read_table_of table) whole one
 
-  pub one_answer : HaveOneAnswer name read judges
-  one_answer table policy third = of_table policy third (read_table_of table)
+pub of_system : (judges : Layout → List Edge → List ℕ → ℕ → Type 0) → JudgesSystemOnce judges → SystemHasOneAnswer judges
+of_system judges one table policy =
+    let judged : System → List ℕ → ℕ → Type 0 = λ s. judges s.table s.policy in
+    then_once judged Table (read_table_of table) _ (λ t.
+    then_once judged Policy (read_policy_of t policy) (λ edges. whole (record { table = t; policy = edges })) (one t))
+
+pub of_three : {X : Type 0} (name : File) (read : Layout → List ℕ → Result X Fault) (judges : Layout → List Edge → X → List ℕ → ℕ → Type 0)
+    → JudgesOnce judges → ThreeHaveOneAnswer name read judges
+of_three {X} name read judges one table policy third =
+    let judged : Three X → List ℕ → ℕ → Type 0 = λ s. judges s.table s.policy s.third in
+    then_once judged Table (read_table_of table) _ (λ t.
+    then_once judged Policy (read_policy_of t policy) _ (λ edges.
+    then_once judged name (read t third) (λ x. whole (record { table = t; policy = edges; third = x })) (one t edges)))

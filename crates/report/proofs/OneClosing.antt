@@ -12,7 +12,7 @@ use Rattle.labels.proofs.EdgeLists.{allows-append}
 use Rattle.verdict.proofs.OneVerdict.{one_least}
 use Rattle.reptext.proofs.OneText.{same_answer}
 use Rattle.report.specs.{declared.closing.OnClose.{OnClose, OnClose as on_close}, Closings.{Closes, IsClosing, TellsClosing, kept_edges}}
-use Rattle.report.{specs.{Questions.{Tells, why_status, why_text}}, proofs.OneAnswer.JudgesOne}
+use Rattle.report.{specs.{Questions.{Tells, why_status, why_text}}, proofs.OneAnswer.JudgesSystemOnce}
 
 -- the closing of a policy
 
@@ -47,8 +47,8 @@ closing_told on_close.Policy t edges policy text other status another is also = 
 closing_told on_close.Missing t edges policy text other status another is also = (is.0 ∙ sym also.0, is.1 ∙ sym also.1)
 closing_told on_close.Surplus t edges policy text other status another is also = (is.0 ∙ sym also.0, is.1 ∙ sym also.1)
 
-pub close_once : (written : OnClose) → JudgesOne (λ t edges (none : Unit {0}). Closes written t edges)
-close_once written t edges none text other status another is also =
+pub close_once : (written : OnClose) → JudgesSystemOnce (Closes written)
+close_once written t edges text other status another is also =
     closing_told written t edges also.0 text other status another
     (subst (λ policy. TellsClosing written t edges policy text status) (closing_once t (kept_edges written edges) is.0 also.0 is.1 also.1) is.2) also.2
 
@@ -87,8 +87,8 @@ module _ (t : Layout) (test : EdgeTest) (a l : ℕ) where
   why_once why.Nothing (why.Take ys) is also = absurd (is.1 also.1.has.0)
   why_once why.Nothing why.Nothing is also = (refl, refl)
 
-pub tell_once : (actor object : List ℕ) → JudgesOne (λ t edges (none : Unit {0}). Tells actor object t edges)
-tell_once actor object t edges none text other status another is also =
+pub tell_once : (actor object : List ℕ) → JudgesSystemOnce (Tells actor object)
+tell_once actor object t edges text other status another is also =
     let of_actor = same_Some _ _ (sym is.actor_named ∙ also.actor_named) in
     let of_object = same_Some _ _ (sym is.object_named ∙ also.object_named) in
     let same =

@@ -6,7 +6,7 @@ use Rattle.policy.specs.{Domain.EdgeTest, Places.IsLeast, Policy.allows, Reasons
 use Rattle.reptext.specs.Drawing.{IsArrow, arrow_line, label_line, pairs_of, IsArrow.{dashed, itself, nothing, solid}}
 use Rattle.reptext.specs.Drawing as drawing
 use Rattle.verdict.proofs.OneVerdict.{one_least}
-use Rattle.report.{specs.{Alone.Lists, Questions.Draws}, proofs.{OneAnswer.JudgesOne, OneClosing.place_once}}
+use Rattle.report.{specs.Questions.{Draws, Lists}, proofs.{OneAnswer.{IsOne, JudgesSystemOnce}, OneClosing.place_once}}
 
 module _ (test : EdgeTest) (t : Layout) where
   -- the least reason has one first edge
@@ -43,8 +43,8 @@ module _ (test : EdgeTest) (t : Layout) where
       ∙ ap (λ text. again ++ text) (arrows_once pairs rest left drawn too)
       ∙ sym pieces
 
-pub draw_once : JudgesOne (λ t edges (none : Unit {0}). Draws t edges)
-draw_once t edges none text other status another is also =
+pub draw_once : JudgesSystemOnce Draws
+draw_once t edges text other status another is also =
     let same = arrows_once (allows edges) t (pairs_of (length t.labels)) is.0.arrows also.0.arrows is.0.drawn also.0.drawn in (
       is.0.is
           ∙ ap (λ arrows. codes "digraph authority {\n" ++ (flat_map label_line t.labels ++ (arrows ++ codes "}\n"))) same
@@ -52,5 +52,5 @@ draw_once t edges none text other status another is also =
       is.1 ∙ sym also.1,
     )
 
-pub list_once : JudgesOne (λ t edges (none : Unit {0}). Lists t)
-list_once t edges none text other status another is also = (is.0 ∙ sym also.0, is.1 ∙ sym also.1)
+pub list_once : (t : Layout) → IsOne (Lists t)
+list_once t text other status another is also = (is.0 ∙ sym also.0, is.1 ∙ sym also.1)

@@ -15,7 +15,7 @@ use Rattle.verdict.{specs.Verdict.{place_of, rule_name}, proofs.{OneVerdict.{one
 use Rattle.verdict.specs.declared.denial.Denial.TheVariants as denial
 use Rattle.reptext.specs.{Places.place_names_by, Reports.{illegal_data, line_of, outside_data}}
 use Rattle.report.specs.{OneAnswer.{IsLogInMemory, RunsInMemory}, Replays.{IsFirstOutside, IsReplayedTo, Replays, illegal, outside, within}}
-use Rattle.report.proofs.{OneAnswer.JudgesOne, OneReport.verdict_once}
+use Rattle.report.proofs.{OneAnswer.JudgesOnce, OneReport.verdict_once}
 
 -- the log of a run
 
@@ -52,7 +52,7 @@ log_once t events text other is also =
     (subst (λ (m : Machine). Run m events is.log.outcomes is.log.last) boot is.log.ran) also.log.ran is.unrefused also.unrefused in
     is.log.told ∙ ap (λ (os : List Outcome). log_text (zip events os)) outcomes ∙ sym also.log.told
 
-pub run_told_once : JudgesOne RunsInMemory
+pub run_told_once : JudgesOnce RunsInMemory
 run_told_once t edges events = verdict_once t edges (IsLogInMemory t events) (log_once t events)
 
 -- a replay
@@ -134,5 +134,5 @@ module _ (t : Layout) (edges : List Edge) (entries : List Entry) where
       one_stop begin entries at to (subst (λ (b : Machine). StopsAt b entries at) (boot_one t boot begin booted began) stops) ends in
       (told ∙ ap (λ k. line_of (illegal_data (k + 1))) same ∙ sym says, zero ∙ sym exit)
 
-pub replay_once : JudgesOne Replays
+pub replay_once : JudgesOnce Replays
 replay_once = replay_at_once

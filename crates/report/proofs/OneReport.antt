@@ -10,7 +10,7 @@ use Rattle.certificate.specs.{declared.line.Line.Line, Right.right_certificate}
 use Rattle.checker.specs.{declared.verifying.NotAccepted.{NotAccepted as not_accepted}, Verified.{DiffersFirst, IsDenied, IsVerified}}
 use Rattle.reptext.{specs.{Places.place_names, Reports.{accept_data, denial_report, line_of}}, proofs.OneText.report_once}
 use Rattle.report.specs.{declared.checking.OnAccept.{OnAccept, OnAccept as on_accept}, Answers.{Answers, AnswersVerdict, Checks}}
-use Rattle.report.{specs.Answers.{TellsCheck, Verifies, accepted, denied}, proofs.OneAnswer.JudgesOne}
+use Rattle.report.{specs.Answers.{TellsCheck, Verifies, accepted, denied}, proofs.OneAnswer.{JudgesOnce, JudgesSystemOnce}}
 
 -- an acceptance that is told by one text, and denials of which there is one, and none beside an acceptance
 module _
@@ -48,8 +48,8 @@ check_told :
 check_told on_accept.Report t edges text other is also = report_once t edges text other is also
 check_told on_accept.Certificate t edges text other is also = is ∙ sym also
 
-pub check_once : (written : OnAccept) → JudgesOne (λ t edges (none : Unit {0}). Checks written t edges)
-check_once written t edges none = verdict_once t edges (TellsCheck written t edges) (check_told written t edges)
+pub check_once : (written : OnAccept) → JudgesSystemOnce (Checks written)
+check_once written t edges = verdict_once t edges (TellsCheck written t edges) (check_told written t edges)
 
 -- a certificate
 
@@ -72,7 +72,7 @@ module _ (t : Layout) (edges : List Edge) (lines : List Line) where
   never_denied (denial.Certificate m) is broken = broken.1.differ (ap (λ (ls : List Line). slice_get ls broken.1.before) is.1)
   never_denied d is broken = is.0.1 d broken.has
 
-pub verify_once : JudgesOne Verifies
+pub verify_once : JudgesOnce Verifies
 verify_once t edges lines =
     answers_once t (IsVerified t edges lines (Ok (record { table = t; policy = edges })))
     (λ d. IsVerified t edges lines (Err (not_accepted.Denied d))) (λ text. text ≡ line_of accept_data) (denied_once t edges lines)

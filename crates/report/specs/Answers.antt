@@ -10,8 +10,8 @@ use Rattle.cores.specs.SplitRun.{IsSplitRun}
 use Rattle.certificate.specs.{declared.line.Line.Line, Certificate.certificate_text, Reading.read_certificate_of, Right.right_certificate}
 use Rattle.checker.specs.{declared.verifying.NotAccepted.{NotAccepted as not_accepted}, Verified.IsVerified}
 use Rattle.reptext.specs.{Places.place_names, Reports.{IsCheckReport, accept_data, denial_report, line_of}}
-use Rattle.reptext.specs.declared.file.File.TheVariants as file
-use Rattle.commands.specs.{declared.end.End.End, Commands.{Input, IsCarriedOut, Output, no_file, no_label}, Files.read_nothing}
+use Rattle.forms.specs.declared.file.File.TheVariants as file
+use Rattle.commands.specs.{declared.end.End.End, Commands.{Input, IsDoneOnSystem, IsDoneOnThree, Output, no_label}}
 use Rattle.report.specs.declared.checking.OnAccept.{OnAccept, OnAccept as on_accept}
 
 -- a table and a policy are accepted and the text tells it, with status 0; or they are denied and it tells why, with status 1
@@ -69,17 +69,16 @@ RunsSplit t edges events = AnswersVerdict t edges (IsLogOfSplit t events)
 
 -- a table was checked against a policy
 abbrev pub IsChecked : {T P O : Type 0} → OnAccept → Input T → Input P → Output O → End → Type 0
-IsChecked written table policy out end =
-    IsCarriedOut file.Policy read_nothing no_label (λ t edges none. Checks written t edges) table policy no_file out end
+IsChecked written = IsDoneOnSystem no_label (Checks written)
 
 -- a certificate was verified with a table and a policy
 abbrev pub IsVerifiedWith : {T P S O : Type 0} → Input T → Input P → Input S → Output O → End → Type 0
-IsVerifiedWith = IsCarriedOut file.Certificate read_certificate_of no_label Verifies
+IsVerifiedWith = IsDoneOnThree file.Certificate read_certificate_of Verifies
 
 -- a script was run on a table and a policy, where they are accepted
 abbrev pub IsRun : {T P S O : Type 0} → Input T → Input P → Input S → Output O → End → Type 0
-IsRun = IsCarriedOut file.Script (λ t. read_script_of) no_label Runs
+IsRun = IsDoneOnThree file.Script (λ t. read_script_of) Runs
 
 -- a script was run on a table and a policy, where they are accepted, by a worker for each core
 abbrev pub IsRunSplit : {T P S O : Type 0} → Input T → Input P → Input S → Output O → End → Type 0
-IsRunSplit = IsCarriedOut file.Script (λ t. read_script_of) no_label RunsSplit
+IsRunSplit = IsDoneOnThree file.Script (λ t. read_script_of) RunsSplit

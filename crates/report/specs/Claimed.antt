@@ -7,8 +7,9 @@ use Rattle.policy.specs.Policy.{allows}
 use Rattle.verdict.specs.{declared.denial.Denial.Denial, Verdict.{IsAccepted, IsLeastBroken, rule_name}}
 use Rattle.claims.specs.{declared.{claim.Claim.Claim, holding.BrokenClaim.BrokenClaim}, ClaimsText.claims_text, Holding.AreStrongest}
 use Rattle.claims.specs.{Holding.{Holds, IsFirstBroken, IsKept}, Reading.read_claims_of}
-use Rattle.reptext.specs.{declared.file.File.File as file, Places.place_names, Reports.{broken_data, denial_report, hold_data, line_of}}
-use Rattle.commands.specs.{declared.end.End.End, Commands.{Input, IsCarriedOut, Output, no_file, no_label}, Files.read_nothing}
+use Rattle.forms.specs.declared.file.File.{File as file}
+use Rattle.reptext.specs.{Places.place_names, Reports.{broken_data, denial_report, hold_data, line_of}}
+use Rattle.commands.specs.{declared.end.End.End, Commands.{Input, IsDoneOnSystem, IsDoneOnThree, Output, no_label}}
 use Rattle.report.specs.Answers.{AnswersVerdict}
 
 -- the answer to claims on a table and a policy: these are denied; or they are accepted, and all claims hold, so that what they claim is
@@ -23,7 +24,7 @@ pub data JudgesClaims (t : Layout) (edges : List Edge) (claims : List Claim) (te
 
 -- claims were judged on a table and a policy
 abbrev pub AreJudged : {T P S O : Type 0} → Input T → Input P → Input S → Output O → End → Type 0
-AreJudged = IsCarriedOut file.Claims read_claims_of no_label JudgesClaims
+AreJudged = IsDoneOnThree file.Claims read_claims_of JudgesClaims
 
 -- a text is that of the strongest claims that hold of a table and a policy that are accepted. It is read as these, and what they claim
 -- is kept in every run
@@ -40,5 +41,4 @@ WritesStrongest t edges = AnswersVerdict t edges (TellsStrongest t edges)
 
 -- the strongest claims were written of a table and a policy
 abbrev pub AreWritten : {T P O : Type 0} → Input T → Input P → Output O → End → Type 0
-AreWritten table policy out end =
-    IsCarriedOut file.Policy read_nothing no_label (λ t edges none. WritesStrongest t edges) table policy no_file out end
+AreWritten = IsDoneOnSystem no_label WritesStrongest

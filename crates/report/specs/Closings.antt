@@ -6,9 +6,8 @@ use Rattle.machine.specs.{Authority.HasAuthority, Boot.IsBoot, Layout.Layout, Ma
 use Rattle.policy.specs.{Closing.{IsLeastClosed, IsWithin}, Policy.{IsRising, allows}}
 use Rattle.captext.specs.{Policies.read_policy_of, PolicyText.{IsPolicyOf, edge_lines, policy_text}}
 use Rattle.verdict.specs.Verdict.{IsAccepted}
-use Rattle.reptext.specs.declared.file.File.{File as file}
-use Rattle.commands.specs.{declared.end.End.End, Commands.{Input, IsCarriedOut, Output, no_file, no_label}, Files.read_nothing}
-use Rattle.report.specs.{declared.closing.OnClose.{OnClose, OnClose as on_close}, Alone.IsAlone}
+use Rattle.commands.specs.{declared.end.End.End, Commands.{Input, IsDoneOnSystem, IsDoneOnTable, Output, no_label}}
+use Rattle.report.specs.declared.closing.OnClose.{OnClose, OnClose as on_close}
 
 -- these edges are the authority of the table's boot state
 abbrev pub IsAuthorityOf : Layout → List Edge → Type 0
@@ -63,9 +62,8 @@ Closes written t edges text status =
 
 -- a policy was closed over a table
 abbrev pub IsClosedOver : {T P O : Type 0} → OnClose → Input T → Input P → Output O → End → Type 0
-IsClosedOver written table policy out end =
-    IsCarriedOut file.Policy read_nothing no_label (λ t edges none. Closes written t edges) table policy no_file out end
+IsClosedOver written = IsDoneOnSystem no_label (Closes written)
 
 -- a policy was made for a table alone: one without an edge was closed over it
 abbrev pub IsStarted : {T O : Type 0} → OnClose → Input T → Output O → End → Type 0
-IsStarted written table out end = IsAlone (λ policy. IsClosedOver written table policy out end)
+IsStarted written = IsDoneOnTable no_label (λ t. Closes written t [])

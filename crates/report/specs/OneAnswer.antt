@@ -4,17 +4,29 @@ use Rattle.base.specs.declared.edge.Edge.{Edge}
 use Rattle.machine.specs.{declared.call.Event.Event, Layout.Layout}
 use Rattle.words.specs.declared.faults.Fault.{Fault}
 use Rattle.kernel.specs.Legal.{IsLack}
-use Rattle.reptext.specs.declared.file.File.{File}
-use Rattle.commands.specs.{Commands.IsAnswer, Files.contents_of}
+use Rattle.forms.specs.declared.file.File.{File}
+use Rattle.commands.specs.{declared.load.{System.System, Three.Three}, Commands.IsAnswer}
+use Rattle.commands.specs.Files.{Contents, system_contents, table_contents, three_contents}
 use Rattle.report.specs.Answers.{AnswersVerdict, IsLogOfRun}
 
--- whatever bytes the three files hold, two answers to them have the same text and the same status
-abbrev pub HaveOneAnswer : {X : Type 0} → File → (Layout → List ℕ → Result X Fault) → (Layout → List Edge → X → List ℕ → ℕ → Type 0) → Type 0
-HaveOneAnswer name read judges =
-    (table policy third text other : List ℕ) (status another : ℕ)
-    → IsAnswer judges (contents_of name read (Some table) (Some policy) (Some third)) text status
-    → IsAnswer judges (contents_of name read (Some table) (Some policy) (Some third)) other another
+-- two answers to what files hold have the same text and the same status
+abbrev pub IsAnsweredOnce : {X : Type 0} → (X → List ℕ → ℕ → Type 0) → Contents X → Type 0
+IsAnsweredOnce judges contents =
+    (text other : List ℕ) (status another : ℕ) → IsAnswer judges contents text status → IsAnswer judges contents other another
     → (text ≡ other) × (status ≡ another)
+
+-- whatever bytes the files of a command hold, they have one answer
+abbrev pub TableHasOneAnswer : (Layout → List ℕ → ℕ → Type 0) → Type 0
+TableHasOneAnswer judges = (table : List ℕ) → IsAnsweredOnce judges (table_contents (Some table))
+
+abbrev pub SystemHasOneAnswer : (Layout → List Edge → List ℕ → ℕ → Type 0) → Type 0
+SystemHasOneAnswer judges =
+    (table policy : List ℕ) → IsAnsweredOnce (λ (s : System). judges s.table s.policy) (system_contents (Some table) (Some policy))
+
+abbrev pub ThreeHaveOneAnswer : {X : Type 0} → File → (Layout → List ℕ → Result X Fault) → (Layout → List Edge → X → List ℕ → ℕ → Type 0) → Type 0
+ThreeHaveOneAnswer {X} name read judges =
+    (table policy third : List ℕ)
+    → IsAnsweredOnce (λ (s : Three X). judges s.table s.policy s.third) (three_contents name read (Some table) (Some policy) (Some third))
 
 -- a text is the log of a run of the events from the boot state of the table, in which no call was refused memory
 pub record IsLogInMemory (t : Layout) (events : List Event) (text : List ℕ) : Type 0 where

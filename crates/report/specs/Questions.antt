@@ -1,14 +1,13 @@
--- What is told of a label's authority on another, and drawn of all labels' (the authority is that of 'seL4 Enforces Integrity', section 4,
--- restated; telling why it is there, and drawing it, are confine's own).
+-- What is told of a label's authority on another, drawn of all labels', and listed of a table (the authority is that of 'seL4 Enforces
+-- Integrity', section 4, restated; telling why it is there, drawing it, and listing are confine's own).
 use Rattle.std.specs.Prelude.{ℕ, ◌++◌, ◌≡◌, List, None, Option, Some, codes}
 use Rattle.base.specs.declared.edge.Edge.{Edge}
 use Rattle.machine.specs.Layout.{Layout}
 use Rattle.policy.specs.{declared.why.Why.{Why, Why as why}, Policy.allows, Reasons.IsWhy}
 use Rattle.table.specs.Names.{label_named}
 use Rattle.captext.specs.PolicyText.{edge_lines}
-use Rattle.reptext.specs.{declared.file.File.File as file, Drawing.IsDrawing}
-use Rattle.commands.specs.{declared.end.{Asked.{Asked, Asked as asked}, End.End}, Commands.{Input, IsCarriedOut, Output, no_file, no_label}}
-use Rattle.commands.specs.Files.{read_nothing}
+use Rattle.reptext.specs.{Drawing.IsDrawing, Objects.objects_text}
+use Rattle.commands.specs.{declared.end.{Asked.{Asked, Asked as asked}, End.End}, Commands.{Input, IsDoneOnSystem, IsDoneOnTable, Output, no_label}}
 
 -- of two labels that may be there, the first that isn't
 abbrev pub first_absent : Option ℕ → Option ℕ → Option Asked
@@ -45,8 +44,7 @@ pub record Tells (actor object : List ℕ) (t : Layout) (edges : List Edge) (tex
 
 -- it was told which authority a label has on another
 abbrev pub IsTold : {T P O : Type 0} → List ℕ → List ℕ → Input T → Input P → Output O → End → Type 0
-IsTold actor object table policy out end =
-    IsCarriedOut file.Policy read_nothing (λ t. unlabelled t actor object) (λ t edges none. Tells actor object t edges) table policy no_file out end
+IsTold actor object = IsDoneOnSystem (λ t. unlabelled t actor object) (Tells actor object)
 
 -- the answer to a table and a policy: the drawing of who may change or take from whom, with status 0
 abbrev pub Draws : Layout → List Edge → List ℕ → ℕ → Type 0
@@ -54,5 +52,12 @@ Draws t edges text status = IsDrawing t (allows edges) text × (status ≡ 0)
 
 -- who may change or take from whom was drawn
 abbrev pub IsDrawn : {T P O : Type 0} → Input T → Input P → Output O → End → Type 0
-IsDrawn table policy out end =
-    IsCarriedOut file.Policy read_nothing no_label (λ t edges none. Draws t edges) table policy no_file out end
+IsDrawn = IsDoneOnSystem no_label Draws
+
+-- the answer to a table: the list of its objects, with status 0
+abbrev pub Lists : Layout → List ℕ → ℕ → Type 0
+Lists t text status = (text ≡ objects_text t) × (status ≡ 0)
+
+-- a table's objects were listed
+abbrev pub IsListed : {T O : Type 0} → Input T → Output O → End → Type 0
+IsListed = IsDoneOnTable no_label Lists

@@ -1,5 +1,5 @@
 -- What the command `replay` answers to a table, a policy and a log (confine's own).
-use Rattle.std.specs.Prelude.{ℕ, ◌+◌, ◌≡◌, List, Some, length, slice_get, take}
+use Rattle.std.specs.Prelude.{ℕ, ◌+◌, ◌≡◌, ◌⊎◌, List, None, Option, Some, length, slice_get, take}
 use Rattle.base.specs.declared.edge.Edge.{Edge}
 use Rattle.machine.specs.{declared.call.Outcome.Outcome, Boot.IsBoot, Layout.Layout, Machine.Machine, Step.Step, WellFormed.kind_of}
 use Rattle.policy.specs.Policy.{allows}
@@ -7,9 +7,10 @@ use Rattle.evtext.specs.Log.{read_log_of}
 use Rattle.kernel.specs.Legal.{Entry, Leads, StopsAt}
 use Rattle.integrity.specs.Confined.{IsConfined}
 use Rattle.verdict.specs.{declared.denial.Denial.Denial, Rules.Excess, Verdict.{IsOutside, excess_of, rule_name}}
-use Rattle.reptext.specs.{declared.file.File.File as file, Places.place_names_by, Reports.{illegal_data, line_of, outside_data}}
+use Rattle.forms.specs.declared.file.File.{File as file}
+use Rattle.reptext.specs.{Places.place_names_by, Reports.{illegal_data, line_of, outside_data}}
 use Rattle.reptext.specs.Reports.{within_data}
-use Rattle.commands.specs.{declared.end.End.End, Commands.{Input, IsCarriedOut, Output, no_label}}
+use Rattle.commands.specs.{declared.end.End.End, Commands.{Input, IsDoneOnThree, Output}}
 
 -- the log's last state: its entries are a run from the boot state of the table to there
 abbrev pub IsReplayedTo : Layout → List Entry → Machine → Type 0
@@ -23,6 +24,12 @@ pub record IsAnsweredAt (t : Layout) (entries : List Entry) (at : ℕ) (came : O
   pub led : IsReplayedTo t (take at entries) before
   pub next : Machine
   pub stepped : Step before entry.0 came next
+
+-- what the kernel answers to the event of an entry is this; or there is none, as there is no such entry, or those before it are no run
+-- from the table's boot state
+abbrev pub AnswersAt : Layout → List Entry → ℕ → Option Outcome → Type 0
+AnswersAt t entries at (Some came) = IsAnsweredAt t entries at came
+AnswersAt t entries at None = (slice_get entries at ≡ None) ⊎ ((boot : Machine) × (stop : ℕ) × IsBoot t boot × StopsAt boot (take at entries) stop)
 
 -- the least place where a machine's authority lies outside the policy
 abbrev pub IsFirstOutside : Layout → List Edge → Machine → Denial → Type 0
@@ -41,4 +48,4 @@ pub data Replays (t : Layout) (edges : List Edge) (entries : List Entry) (text :
 
 -- a log was replayed on a table and a policy, accepted or not
 abbrev pub IsReplayed : {T P S O : Type 0} → Input T → Input P → Input S → Output O → End → Type 0
-IsReplayed = IsCarriedOut file.Log (λ t. read_log_of) no_label Replays
+IsReplayed = IsDoneOnThree file.Log (λ t. read_log_of) Replays

@@ -1,19 +1,17 @@
-ghost use Rattle.std.specs.{Prelude.{◌≡◌, ◌≤◌, All, IfErr, IfNone, IfOk, IfSome, false, length}, Thread.IsSync};
-ghost use Rattle.base.specs.Refusals.{out_of_memory};
+ghost use Rattle.std.specs.Prelude.{◌≡◌, ◌≤◌, All, IfNone, IfOk, IfSome, false, length};
 ghost use Rattle.claims.specs.Holding.{Holds, IsFirstBroken, IsKept};
-ghost use Rattle.commands.specs.Commands.{input, no_label, output};
+ghost use Rattle.commands.specs.Commands.{SystemIsJudged, ThreeIsJudged, input, no_label, output};
 ghost use Rattle.report.specs.Answers as answers;
 ghost use Rattle.report.specs.Claimed as claimed;
 
-use crate::{Asked, End, Finding, Listener, Sink, Source};
+use crate::{End, Finding, Listener, Sink, Source};
 use base::Refusal;
 use claims::{Claims, first_broken, strongest};
-use commands::{Answer, Command, Loaded, NoFile, carry_out, denied};
+use commands::{Answer, Stop, System, Three, denied, load_system, load_three, tell};
 use deal::Open;
 use reptext::{broken_report, hold_report};
 use std::alloc::Global;
 use std::thread::Threads;
-use table::Table;
 use verdict::{Accepted, judge};
 
 /// Checks a table against a policy, and tells whether claims hold where they are accepted. Where they hold,
@@ -46,41 +44,30 @@ where
         (input P.remaining P.failed policy.old policy.new) (input S.remaining S.failed claims.old claims.new)
         (output O.contents O.failed O.is_flushed out.old out.new) result }
 {
-    carry_out(
-        &Claiming { rt },
-        alloc,
+    let three = load_three::<Claims, T, P, S, L>(alloc, table, policy, claims, listener);
+    let answer = claims_judged(rt, alloc, &three);
+    tell(alloc, &three, answer, listener, out)
+}
+
+/// Whether claims hold of a system, which were loaded, or why the system is denied.
+fn claims_judged<R: Threads + Sync>(
+    rt: &R,
+    alloc: Global,
+    loaded: &Result<Three<Claims>, Stop>,
+) -> Result<Answer, Stop>
+    ensures { ThreeIsJudged claimed.JudgesClaims loaded.now result }
+{
+    let Three {
         table,
         policy,
-        claims,
-        listener,
-        out,
-    )
-}
-
-/// The command `claims`.
-#[derive(Drop)]
-struct Claiming<'a, R> {
-    rt: &'a R,
-}
-
-impl<R: Threads + Sync> Command for Claiming<'_, R> {
-    type Third = Claims;
-
-    ghost lacks = { λ _. no_label };
-
-    ghost may_judge = { λ _. IsSync R.row };
-
-    ghost judges = { λ claiming. claimed.JudgesClaims };
-
-    fn unlabelled(&self, _table: &Table) -> Option<Asked> {
-        None
-    }
-
-    fn judge(&self, alloc: Global, loaded: &Loaded<Claims>) -> Result<Answer, Refusal> {
-        match judge(self.rt, alloc, &loaded.table, &loaded.policy, 1, &Open)? {
-            Ok(accepted) => claims_answer(alloc, &accepted, &loaded.third),
-            Err(denial) => Ok(denied(alloc, &loaded.table, denial)?),
-        }
+        third,
+    } = match loaded {
+        Ok(three) => three,
+        Err(stop) => return Err(*stop),
+    };
+    match judge(rt, alloc, table, policy, 1, &Open)? {
+        Ok(accepted) => Ok(claims_answer(alloc, &accepted, third)?),
+        Err(denial) => Ok(denied(alloc, table, denial)?),
     }
 }
 
@@ -89,21 +76,15 @@ fn claims_answer(alloc: Global, accepted: &Accepted<'_>, claims: &Claims) -> Res
     ensures right { IfOk result (λ answer.
         claimed.JudgesClaims accepted.now.table accepted.now.policy claims.now answer.text.items answer.status) }
     ensures exit { IfOk result (λ answer. answer.status ≤ 2) }
-    ensures memory { IfErr result (λ refusal. refusal ≡ out_of_memory) }
 {
     // That it is accepted, a system tells with its table.
     let _ = accepted.table();
     match first_broken(accepted, claims) {
-        None => Ok(Answer {
-            text: hold_report(alloc, claims.as_slice().len())?,
-            status: 0,
-            finding: None,
-        }),
-        Some(broken) => Ok(Answer {
-            text: broken_report(alloc, broken.extent, broken.number)?,
-            status: 1,
-            finding: Some(Finding::Broken(broken)),
-        }),
+        None => Ok(Answer::plain(hold_report(alloc, claims.as_slice().len())?, 0)),
+        Some(broken) => Ok(Answer::found(
+            broken_report(alloc, broken.extent, broken.number)?,
+            Finding::Broken(broken),
+        )),
     }
 }
 
@@ -131,45 +112,32 @@ where
     ensures { claimed.AreWritten (input T.remaining T.failed table.old table.new)
         (input P.remaining P.failed policy.old policy.new) (output O.contents O.failed O.is_flushed out.old out.new) result }
 {
-    let command = Strongest { rt };
-    carry_out(&command, alloc, table, policy, &mut NoFile, listener, out)
+    let system = load_system(alloc, table, policy, listener);
+    let answer = strongest_judged(rt, alloc, &system);
+    tell(alloc, &system, answer, listener, out)
 }
 
-/// The command `claims` with `--all`.
-#[derive(Drop)]
-struct Strongest<'a, R> {
-    rt: &'a R,
-}
-
-impl<R: Threads + Sync> Command for Strongest<'_, R> {
-    type Third = ();
-
-    ghost lacks = { λ _. no_label };
-
-    ghost may_judge = { λ _. IsSync R.row };
-
-    ghost judges = { λ _ t edges none. claimed.WritesStrongest t edges };
-
-    fn unlabelled(&self, _table: &Table) -> Option<Asked> {
-        None
-    }
-
-    fn judge(&self, alloc: Global, loaded: &Loaded<()>) -> Result<Answer, Refusal> {
-        match judge(self.rt, alloc, &loaded.table, &loaded.policy, 1, &Open)? {
-            Ok(accepted) => Ok(Answer {
-                text: strongest_text(alloc, &accepted)?,
-                status: 0,
-                finding: None,
-            }),
-            Err(denial) => Ok(denied(alloc, &loaded.table, denial)?),
-        }
+/// The strongest claims that hold of a system that was loaded, or why it is denied.
+fn strongest_judged<R: Threads + Sync>(
+    rt: &R,
+    alloc: Global,
+    loaded: &Result<System, Stop>,
+) -> Result<Answer, Stop>
+    ensures { SystemIsJudged no_label claimed.WritesStrongest loaded.now result }
+{
+    let System { table, policy } = match loaded {
+        Ok(system) => system,
+        Err(stop) => return Err(*stop),
+    };
+    match judge(rt, alloc, table, policy, 1, &Open)? {
+        Ok(accepted) => Ok(Answer::plain(strongest_text(alloc, &accepted)?, 0)),
+        Err(denial) => Ok(denied(alloc, table, denial)?),
     }
 }
 
 /// The text of the strongest claims that hold of an accepted system.
 fn strongest_text(alloc: Global, accepted: &Accepted<'_>) -> Result<Vec<u8>, Refusal>
     ensures text { IfOk result (λ text. claimed.TellsStrongest accepted.now.table accepted.now.policy text.items) }
-    ensures memory { IfErr result (λ refusal. refusal ≡ out_of_memory) }
 {
     let claims = strongest(alloc, accepted)?;
     claims::write(alloc, &claims, accepted.table())

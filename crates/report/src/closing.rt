@@ -1,15 +1,12 @@
-ghost use Rattle.std.specs.Prelude.{◌≡◌, ◌≤◌, IfErr, IfOk, false};
-ghost use Rattle.base.specs.Refusals.{out_of_memory};
+ghost use Rattle.std.specs.Prelude.{[], ◌≡◌, ◌≤◌, IfOk, false};
 ghost use Rattle.captext.specs.PolicyText.{edge_lines};
-ghost use Rattle.commands.specs.Commands.{input, output};
+ghost use Rattle.commands.specs.Commands.{IsJudged, SystemIsJudged, input, no_label, output};
 ghost use Rattle.report.specs.Closings as closings;
 
-use crate::asking::Asking;
-use crate::known::no_policy;
 use crate::{End, Listener, Sink, Source};
 use base::{Edge, Refusal};
 use captext::{write_edges, write_policy};
-use commands::{Answer, NoFile, carry_out};
+use commands::{Answer, Stop, System, load_system, load_table, tell};
 use kernel::each_table_has_one_boot_state;
 use labels::{authority, boot_authority_joins_labels_of_its_table};
 use policy::Policy;
@@ -53,11 +50,26 @@ where
     ensures { closings.IsClosedOver on_close (input T.remaining T.failed table.old table.new)
         (input P.remaining P.failed policy.old policy.new) (output O.contents O.failed O.is_flushed out.old out.new) result }
 {
-    let asking = Asking::Close(on_close);
-    carry_out(&asking, alloc, table, policy, &mut NoFile, listener, out)
+    let system = load_system(alloc, table, policy, listener);
+    let answer = system_closed(alloc, &system, on_close);
+    tell(alloc, &system, answer, listener, out)
 }
 
-/// Makes a policy for a table alone, as closing one without an edge does.
+/// What is asked for of the least policy over a policy that was loaded.
+fn system_closed(
+    alloc: Global,
+    loaded: &Result<System, Stop>,
+    on_close: OnClose,
+) -> Result<Answer, Stop>
+    ensures { SystemIsJudged no_label (closings.Closes on_close) loaded.now result }
+{
+    match loaded {
+        Ok(System { table, policy }) => Ok(closed(alloc, table, policy, on_close)?),
+        Err(stop) => Err(*stop),
+    }
+}
+
+/// Makes a policy for a table alone: closes one without an edge over it.
 pub fn start<T, L, O>(
     alloc: Global,
     table: &mut T,
@@ -74,11 +86,27 @@ where
     ensures { closings.IsStarted on_close (input T.remaining T.failed table.old table.new)
         (output O.contents O.failed O.is_flushed out.old out.new) result }
 {
-    close(alloc, table, &mut no_policy(), on_close, listener, out)
+    let table = load_table(alloc, table, listener);
+    let answer = table_closed(alloc, &table, on_close);
+    tell(alloc, &table, answer, listener, out)
+}
+
+/// What is asked for of the least policy for a table that was loaded.
+fn table_closed(
+    alloc: Global,
+    loaded: &Result<Table, Stop>,
+    on_close: OnClose,
+) -> Result<Answer, Stop>
+    ensures { IsJudged no_label (λ t. closings.Closes on_close t []) loaded.now result }
+{
+    match loaded {
+        Ok(table) => Ok(closed(alloc, table, &Policy::new(alloc), on_close)?),
+        Err(stop) => Err(*stop),
+    }
 }
 
 /// What is asked for of the least policy.
-pub(crate) fn closed(
+fn closed(
     alloc: Global,
     table: &Table,
     policy: &Policy,
@@ -86,7 +114,6 @@ pub(crate) fn closed(
 ) -> Result<Answer, Refusal>
     ensures right { IfOk result (λ answer. closings.Closes on_close table.now policy.now answer.text.items answer.status) }
     ensures exit { IfOk result (λ answer. answer.status ≤ 2) }
-    ensures memory { IfErr result (λ refusal. refusal ≡ out_of_memory) }
 {
     match on_close {
         OnClose::Policy => whole_answer(alloc, table, policy),
@@ -98,7 +125,6 @@ pub(crate) fn closed(
 /// The least policy that has a policy's edges and to which the table keeps.
 fn least(alloc: Global, table: &Table, policy: &Policy) -> Result<Policy, Refusal>
     ensures closing { IfOk result (λ closed. closings.IsClosing table.now policy.now closed) }
-    ensures memory { IfErr result (λ refusal. refusal ≡ out_of_memory) }
 {
     a_verdict_is_on_the_boot_state();
     let _ = table.objects();
@@ -112,25 +138,19 @@ fn least(alloc: Global, table: &Table, policy: &Policy) -> Result<Policy, Refusa
 fn whole_answer(alloc: Global, table: &Table, policy: &Policy) -> Result<Answer, Refusal>
     ensures right { IfOk result (λ answer. closings.Closes OnClose.Policy table.now policy.now answer.text.items answer.status) }
     ensures exit { IfOk result (λ answer. answer.status ≤ 2) }
-    ensures memory { IfErr result (λ refusal. refusal ≡ out_of_memory) }
 {
     // Laws about tables and their boot states.
     each_table_has_one_boot_state();
     boot_authority_joins_labels_of_its_table();
     let _ = table.objects();
     let closed = least(alloc, table, policy)?;
-    Ok(Answer {
-        text: write_policy(alloc, &closed, table)?,
-        status: 0,
-        finding: None,
-    })
+    Ok(Answer::plain(write_policy(alloc, &closed, table)?, 0))
 }
 
 /// The lines of the edges that the policy lacks, and whether there are any.
 fn missing_answer(alloc: Global, table: &Table, policy: &Policy) -> Result<Answer, Refusal>
     ensures right { IfOk result (λ answer. closings.Closes OnClose.Missing table.now policy.now answer.text.items answer.status) }
     ensures exit { IfOk result (λ answer. answer.status ≤ 2) }
-    ensures memory { IfErr result (λ refusal. refusal ≡ out_of_memory) }
 {
     // Laws about tables, their boot states, and verdicts on these.
     a_verdict_is_on_the_boot_state();
@@ -145,7 +165,6 @@ fn missing_answer(alloc: Global, table: &Table, policy: &Policy) -> Result<Answe
 fn surplus_answer(alloc: Global, table: &Table, policy: &Policy) -> Result<Answer, Refusal>
     ensures right { IfOk result (λ answer. closings.Closes OnClose.Surplus table.now policy.now answer.text.items answer.status) }
     ensures exit { IfOk result (λ answer. answer.status ≤ 2) }
-    ensures memory { IfErr result (λ refusal. refusal ≡ out_of_memory) }
 {
     // Laws about tables, their boot states, and verdicts on these.
     a_verdict_is_on_the_boot_state();
@@ -165,20 +184,15 @@ fn lacked_answer(
     ensures text { IfOk result (λ answer. answer.text.items ≡ edge_lines table.now (closings.missing_edges policy.now other.now)) }
     ensures status { IfOk result (λ answer. answer.status ≡ closings.missing_status (closings.missing_edges policy.now other.now)) }
     ensures exit { IfOk result (λ answer. answer.status ≤ 2) }
-    ensures memory { IfErr result (λ refusal. refusal ≡ out_of_memory) }
 {
     let missing = missing_edges(alloc, policy, other)?;
-    Ok(Answer {
-        text: write_edges(alloc, &missing, table)?,
-        status: if missing.is_empty() { 0 } else { 1 },
-        finding: None,
-    })
+    let status = if missing.is_empty() { 0 } else { 1 };
+    Ok(Answer::plain(write_edges(alloc, &missing, table)?, status))
 }
 
 /// The edges of the second policy that the first lacks.
 fn missing_edges(alloc: Global, policy: &Policy, other: &Policy) -> Result<Vec<Edge>, Refusal>
     ensures missing { IfOk result (λ missing. missing.items ≡ closings.missing_edges policy.now other.now) }
-    ensures memory { IfErr result (λ refusal. refusal ≡ out_of_memory) }
 {
     let mut missing = other.edges(alloc)?;
     missing.retain(|edge| !policy.has(*edge));

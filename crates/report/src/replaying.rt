@@ -1,13 +1,12 @@
-ghost use Rattle.std.specs.Prelude.{◌≡◌, ◌≤◌, IfErr, IfOk, IfSome, false};
-ghost use Rattle.base.specs.Refusals.{out_of_memory};
+ghost use Rattle.std.specs.Prelude.{◌≡◌, ◌≤◌, IfOk, false};
 ghost use Rattle.machine.specs.{Boot.IsBoot, WellFormed.IsWellFormed};
-ghost use Rattle.commands.specs.Commands.{input, no_label, output};
+ghost use Rattle.commands.specs.Commands.{ThreeIsJudged, input, output};
 ghost use Rattle.report.specs.Answers as answers;
 ghost use Rattle.report.specs.Replays as replays;
 
-use crate::{Asked, End, Finding, Listener, Sink, Source};
+use crate::{End, Finding, Listener, Sink, Source};
 use base::Refusal;
-use commands::{Answer, Command, Entries, Loaded, carry_out};
+use commands::{Answer, Entries, Stop, Three, load_three, tell};
 use kernel::boot;
 use machine::{Event, Outcome};
 use objects::State;
@@ -44,28 +43,18 @@ where
         (input P.remaining P.failed policy.old policy.new) (input S.remaining S.failed log.old log.new)
         (output O.contents O.failed O.is_flushed out.old out.new) result }
 {
-    carry_out(&Replaying, alloc, table, policy, log, listener, out)
+    let three = load_three::<Entries, T, P, S, L>(alloc, table, policy, log, listener);
+    let answer = log_replayed(alloc, &three);
+    tell(alloc, &three, answer, listener, out)
 }
 
-/// The command `replay`.
-#[derive(Clone, Copy)]
-struct Replaying;
-
-impl Command for Replaying {
-    type Third = Entries;
-
-    ghost lacks = { λ _. no_label };
-
-    ghost may_judge = { λ _. Unit {0} };
-
-    ghost judges = { λ replay. replays.Replays };
-
-    fn unlabelled(&self, _table: &Table) -> Option<Asked> {
-        None
-    }
-
-    fn judge(&self, alloc: Global, loaded: &Loaded<Entries>) -> Result<Answer, Refusal> {
-        replayed(alloc, &loaded.table, &loaded.policy, &loaded.third)
+/// What the replay of a log comes to, which was loaded with its system.
+fn log_replayed(alloc: Global, loaded: &Result<Three<Entries>, Stop>) -> Result<Answer, Stop>
+    ensures { ThreeIsJudged replays.Replays loaded.now result }
+{
+    match loaded {
+        Ok(three) => Ok(replayed(alloc, &three.table, &three.policy, &three.third)?),
+        Err(stop) => Err(*stop),
     }
 }
 
@@ -73,7 +62,6 @@ impl Command for Replaying {
 fn replayed(alloc: Global, table: &Table, policy: &Policy, log: &Entries) -> Result<Answer, Refusal>
     ensures right { IfOk result (λ answer. replays.Replays table.now policy.now log.now answer.text.items answer.status) }
     ensures exit { IfOk result (λ answer. answer.status ≤ 2) }
-    ensures memory { IfErr result (λ refusal. refusal ≡ out_of_memory) }
 {
     let mut state = boot(alloc, table)?;
     let answer = replayed_from(alloc, table, policy, log.entries.as_slice(), &mut state);
@@ -93,48 +81,42 @@ fn replayed_from(
     requires well_formed { IsWellFormed state.old }
     ensures right { IfOk result (λ answer. replays.Replays table.now policy.now entries.now answer.text.items answer.status) }
     ensures exit { IfOk result (λ answer. answer.status ≤ 2) }
-    ensures memory { IfErr result (λ refusal. refusal ≡ out_of_memory) }
 {
     if let Some(at) = kernel::replay(state, entries)? {
-        return Ok(Answer {
-            text: illegal_report(alloc, at + 1)?,
-            status: 1,
-            finding: Some(Finding::Illegal(at + 1)),
-        });
+        let text = illegal_report(alloc, at + 1)?;
+        return Ok(Answer::found(text, Finding::Illegal(at + 1)));
     }
     match outside(table, policy, state) {
-        None => Ok(Answer {
-            text: within_report(alloc, entries.len())?,
-            status: 0,
-            finding: None,
-        }),
+        None => Ok(Answer::plain(within_report(alloc, entries.len())?, 0)),
         Some(denial) => {
             let place = place_names(alloc, table, &*state, &denial)?;
-            Ok(Answer {
-                text: outside_report(alloc, entries.len(), denial.rule(), &place)?,
-                status: 1,
-                finding: Some(Finding::Outside(denial)),
-            })
+            let text = outside_report(alloc, entries.len(), denial.rule(), &place)?;
+            Ok(Answer::found(text, Finding::Outside(denial)))
         }
     }
 }
 
 /// What the kernel answers to the event of an entry, from 0, where it makes the steps of the entries before: none where
-/// these are no steps, where there is no such entry, and where memory is refused.
+/// these are no steps, and where there is no such entry.
+///
+/// # Errors
+///
+/// 40 where memory is refused.
 pub fn answer_at(
     alloc: Global,
     table: &Table,
     entries: &[(Event, Outcome)],
     at: usize,
-) -> Option<Outcome>
-    ensures { IfSome result (λ came. replays.IsAnsweredAt table.now entries.now at came) }
+) -> Result<Option<Outcome>, Refusal>
+    ensures { IfOk result (replays.AnswersAt table.now entries.now at) }
 {
-    let (event, _) = entries.get(at)?;
-    let Ok(mut state) = boot(alloc, table) else {
-        return None;
+    let Some((event, _)) = entries.get(at) else {
+        return Ok(None);
     };
+    let mut state = boot(alloc, table)?;
     match kernel::replay(&mut state, &entries[..at]) {
-        Ok(None) => Some(kernel::step(&mut state, *event)),
-        _ => None,
+        Ok(None) => Ok(Some(kernel::step(&mut state, *event))),
+        Ok(Some(_)) => Ok(None),
+        Err(refusal) => Err(refusal),
     }
 }

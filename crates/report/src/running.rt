@@ -1,11 +1,10 @@
-ghost use Rattle.std.specs.{Prelude.{◌≡◌, IfErr, IfOk, false}, Thread.IsSync};
-ghost use Rattle.base.specs.Refusals.{out_of_memory};
-ghost use Rattle.commands.specs.Commands.{input, no_label, output};
+ghost use Rattle.std.specs.Prelude.{◌≡◌, IfOk, None, false};
+ghost use Rattle.commands.specs.Commands.{ThreeIsJudged, input, output};
 ghost use Rattle.report.specs.Answers as answers;
 
-use crate::{Asked, End, Listener, Sink, Source};
+use crate::{End, Listener, Sink, Source};
 use base::Refusal;
-use commands::{Answer, Command, Loaded, Script, carry_out, denied};
+use commands::{Answer, Made, Script, Stop, Three, denied, load_three, tell};
 use deal::Open;
 use evtext::write_run;
 use kernel::boot;
@@ -42,44 +41,37 @@ where
         (input P.remaining P.failed policy.old policy.new) (input S.remaining S.failed script.old script.new)
         (output O.contents O.failed O.is_flushed out.old out.new) result }
 {
-    carry_out(&Running { rt }, alloc, table, policy, script, listener, out)
+    let three = load_three::<Script, T, P, S, L>(alloc, table, policy, script, listener);
+    let answer = ran(rt, alloc, &three);
+    tell(alloc, &three, answer, listener, out)
 }
 
-/// The command `run`.
-#[derive(Drop)]
-struct Running<'a, R> {
-    rt: &'a R,
-}
-
-impl<R: Threads + Sync> Command for Running<'_, R> {
-    type Third = Script;
-
-    ghost lacks = { λ _. no_label };
-
-    ghost may_judge = { λ _. IsSync R.row };
-
-    ghost judges = { λ run. answers.Runs };
-
-    fn unlabelled(&self, _table: &Table) -> Option<Asked> {
-        None
-    }
-
-    fn judge(&self, alloc: Global, loaded: &Loaded<Script>) -> Result<Answer, Refusal> {
-        match judge(self.rt, alloc, &loaded.table, &loaded.policy, 1, &Open)? {
-            Ok(_) => Ok(Answer {
-                text: log_of_run(alloc, &loaded.table, &loaded.third)?,
-                status: 0,
-                finding: None,
-            }),
-            Err(denial) => Ok(denied(alloc, &loaded.table, denial)?),
-        }
+/// The log of a script on a system, which were loaded, or why the system is denied.
+fn ran<R: Threads + Sync>(
+    rt: &R,
+    alloc: Global,
+    loaded: &Result<Three<Script>, Stop>,
+) -> Result<Answer, Stop>
+    ensures { ThreeIsJudged answers.Runs loaded.now result }
+{
+    let Three {
+        table,
+        policy,
+        third,
+    } = match loaded {
+        Ok(three) => three,
+        Err(stop) => return Err(*stop),
+    };
+    match judge(rt, alloc, table, policy, 1, &Open)? {
+        Ok(_) => Ok(run_answer(alloc, table, third)?),
+        Err(denial) => Ok(denied(alloc, table, denial)?),
     }
 }
 
-/// The text of the log of a run of the events from the boot state of the table.
-fn log_of_run(alloc: Global, table: &Table, script: &Script) -> Result<Vec<u8>, Refusal>
-    ensures log { IfOk result (λ text. answers.IsLogOfRun table.now script.now text.items) }
-    ensures memory { IfErr result (λ refusal. refusal ≡ out_of_memory) }
+/// The log of a run of the events from the boot state of the table.
+fn run_answer(alloc: Global, table: &Table, script: &Script) -> Result<Answer, Refusal>
+    ensures log { IfOk result (λ answer. answers.IsLogOfRun table.now script.now answer.text.items) }
+    ensures status { IfOk result (λ answer. (answer.status ≡ 0) × (answer.finding ≡ None)) }
 {
     let mut state = boot(alloc, table)?;
     let mut outcomes = Vec::new(alloc);
@@ -87,5 +79,10 @@ fn log_of_run(alloc: Global, table: &Table, script: &Script) -> Result<Vec<u8>, 
     let ran = kernel::run(&mut state, events, &mut outcomes);
     drop(state);
     ran?;
-    write_run(alloc, events, &outcomes)
+    Ok(Answer {
+        text: write_run(alloc, events, &outcomes)?,
+        status: 0,
+        finding: None,
+        made: Some(Made::InTurn(outcomes)),
+    })
 }

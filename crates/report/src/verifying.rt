@@ -1,16 +1,14 @@
-ghost use Rattle.std.specs.{Prelude.{◌≡◌, false}, Thread.IsSync};
-ghost use Rattle.commands.specs.Commands.{input, no_label, output};
+ghost use Rattle.std.specs.Prelude.{◌≡◌, false};
+ghost use Rattle.commands.specs.Commands.{ThreeIsJudged, input, output};
 ghost use Rattle.report.specs.Answers as answers;
 
-use crate::{Asked, End, Listener, Sink, Source};
-use base::Refusal;
+use crate::{End, Listener, Sink, Source};
 use certificate::Certificate;
 use checker::NotAccepted;
-use commands::{Answer, Command, Loaded, carry_out, denied};
+use commands::{Answer, Stop, Three, denied, load_three, tell};
 use reptext::accept_report;
 use std::alloc::Global;
 use std::thread::Threads;
-use table::Table;
 
 /// Verifies a certificate with a table and a policy.
 ///
@@ -40,45 +38,30 @@ where
         (input P.remaining P.failed policy.old policy.new) (input S.remaining S.failed certificate.old certificate.new)
         (output O.contents O.failed O.is_flushed out.old out.new) result }
 {
-    carry_out(
-        &Verifying { rt },
-        alloc,
+    let three = load_three::<Certificate, T, P, S, L>(alloc, table, policy, certificate, listener);
+    let answer = verified(rt, alloc, &three);
+    tell(alloc, &three, answer, listener, out)
+}
+
+/// The verdict on a system and a certificate, which were loaded.
+fn verified<R: Threads + Sync>(
+    rt: &R,
+    alloc: Global,
+    loaded: &Result<Three<Certificate>, Stop>,
+) -> Result<Answer, Stop>
+    ensures { ThreeIsJudged answers.Verifies loaded.now result }
+{
+    let Three {
         table,
         policy,
-        certificate,
-        listener,
-        out,
-    )
-}
-
-/// The command `verify`.
-#[derive(Drop)]
-struct Verifying<'a, R> {
-    rt: &'a R,
-}
-
-impl<R: Threads + Sync> Command for Verifying<'_, R> {
-    type Third = Certificate;
-
-    ghost lacks = { λ _. no_label };
-
-    ghost may_judge = { λ _. IsSync R.row };
-
-    ghost judges = { λ verify. answers.Verifies };
-
-    fn unlabelled(&self, _table: &Table) -> Option<Asked> {
-        None
-    }
-
-    fn judge(&self, alloc: Global, loaded: &Loaded<Certificate>) -> Result<Answer, Refusal> {
-        match checker::verify(self.rt, alloc, &loaded.table, &loaded.policy, &loaded.third) {
-            Ok(_) => Ok(Answer {
-                text: accept_report(alloc)?,
-                status: 0,
-                finding: None,
-            }),
-            Err(NotAccepted::Denied(denial)) => Ok(denied(alloc, &loaded.table, denial)?),
-            Err(NotAccepted::NoMemory) => Err(Refusal::OUT_OF_MEMORY),
-        }
+        third,
+    } = match loaded {
+        Ok(three) => three,
+        Err(stop) => return Err(*stop),
+    };
+    match checker::verify(rt, alloc, table, policy, third) {
+        Ok(_) => Ok(Answer::plain(accept_report(alloc)?, 0)),
+        Err(NotAccepted::Denied(denial)) => Ok(denied(alloc, table, denial)?),
+        Err(NotAccepted::NoMemory) => Err(Stop::NoMemory),
     }
 }

@@ -8,16 +8,8 @@ use Rattle.policy.specs.{Cut.IsCut, Full.IsFull, Policy.allows}
 use Rattle.captext.specs.PolicyText.{label_name}
 use Rattle.verdict.specs.declared.extent.Extent.{Extent}
 use Rattle.verdict.specs.declared.extent.Extent.TheVariants as extent
-use Rattle.reptext.specs.{declared.file.File.{File, TheVariants.{Certificate, Claims, Log, Policy, Script, Table}}, Relations.Decides}
-
--- the word for a file
-abbrev pub file_word : File → List ℕ
-file_word Table = codes "table"
-file_word Policy = codes "policy"
-file_word Certificate = codes "certificate"
-file_word Script = codes "script"
-file_word Log = codes "log"
-file_word Claims = codes "claims"
+use Rattle.forms.specs.{Files.file_word, declared.file.File.{File}}
+use Rattle.reptext.specs.Relations.{Decides}
 
 -- a value on a line, where 10 is the line feed
 abbrev pub line_of : Data → List ℕ

@@ -3,7 +3,6 @@
 #![tactic(auto)]
 
 mod drawing;
-mod file;
 mod laws;
 mod listing;
 mod places;
@@ -11,7 +10,7 @@ mod relations;
 mod reports;
 
 pub use drawing::write_drawing;
-pub use file::File;
+pub use forms::File;
 pub use laws::upgraded_tables_are_reported_alike;
 pub use listing::write_objects;
 pub use places::{KindsOfObjects, place_names};

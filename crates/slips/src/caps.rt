@@ -1,5 +1,5 @@
 //! Whether objects fit, 55, and slots and guards are within limits, 54.
-use crate::declared::{Declared, Object, Row, power, radix_of};
+use crate::declared::{Declared, Row, Rows, Sought, power, radix_of};
 use crate::names::holder_of;
 use forms::{Form, decimal, hexadecimal};
 
@@ -131,8 +131,8 @@ pub(crate) fn slot_flaw<'a>(
     if let Some(flaw) = index_flaw(declared, row.word(1)) {
         return Some(flaw);
     }
-    match form {
-        Form::Cap => guard_flaw(declared, row),
+    match (form, declared) {
+        (Form::Cap, Declared::Rows(rows)) => guard_flaw(rows, row),
         _ => index_flaw(declared, row.word(2)),
     }
 }
@@ -140,22 +140,15 @@ pub(crate) fn slot_flaw<'a>(
 fn index_flaw<'a>(declared: Declared<'_>, slot: &'a str) -> Option<SlotFlaw<'a>> {
     let (name, index) = slot.split_once('.')?;
     let index = decimal(index)?;
-    let slots = power(radix_of_object(declared.object(name)?)?);
+    let slots = declared.object(name)?.slots;
     if index < slots {
         return None;
     }
     Some(SlotFlaw::Index(index, name, slots))
 }
 
-fn radix_of_object(object: Object<'_>) -> Option<u64> {
-    match object.form {
-        Form::CNode => radix_of(object.row.text),
-        _ => None,
-    }
-}
-
-fn guard_flaw<'a>(declared: Declared<'_>, row: Row<'a>) -> Option<SlotFlaw<'a>> {
-    let radix = radix_of_object(declared.object(row.word(2))?)?;
+fn guard_flaw<'a>(rows: Rows<'_>, row: Row<'a>) -> Option<SlotFlaw<'a>> {
+    let radix = radix_of(rows.row(Sought::Object(row.word(2)))?.text)?;
     let size = decimal(row.word(3))?;
     let bits = size.saturating_add(radix);
     if bits > 64 {

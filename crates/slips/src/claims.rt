@@ -1,7 +1,8 @@
 //! Whether claims rise, and are on two labels each: 50.
-use crate::declared::{Declared, Row};
+use crate::declared::Row;
 use crate::edges::{Numbered, label_of};
-use forms::{Text, form_of};
+use forms::{File, form_of};
+use table::Table;
 
 /// A claim on one label, or one that doesn't come after the one before.
 #[derive(Clone, Copy)]
@@ -16,14 +17,14 @@ pub(crate) enum ClaimFlaw<'a> {
 
 /// What is wrong with a claim of labels of the table, in the order of the reader's tests.
 pub(crate) fn claim_flaw<'a>(
-    declared: Declared<'_>,
+    table: &Table,
     row: Row<'a>,
     before: Row<'a>,
 ) -> Option<ClaimFlaw<'a>> {
     let line = before.line;
-    let here = label_of(declared, row.word(1))?;
-    let last = match form_of(Text::Claims, before.text) {
-        Some(_) => label_of(declared, before.word(1)),
+    let here = label_of(table, row.word(1))?;
+    let last = match form_of(File::Claims, before.text) {
+        Some(_) => label_of(table, before.word(1)),
         None => None,
     };
     if let Some(last) = last {
@@ -37,8 +38,8 @@ pub(crate) fn claim_flaw<'a>(
     if here.number != last?.number {
         return None;
     }
-    let here = label_of(declared, row.word(2))?;
-    let last = label_of(declared, before.word(2))?;
+    let here = label_of(table, row.word(2))?;
+    let last = label_of(table, before.word(2))?;
     if here.number == last.number {
         return Some(ClaimFlaw::Twice(line));
     }

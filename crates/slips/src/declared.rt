@@ -1,9 +1,20 @@
-//! What a table declares, by its lines.
-use forms::{Form, Lines, Text, decimal, form_of, has_word, hexadecimal, text_of, word};
+//! What a table declares, by its lines or as a value.
+use forms::{File, Form, Lines, decimal, form_of, has_word, hexadecimal, text_of, word};
+use machine::ObjectKind;
+use table::Table;
+
+/// What declares the names of a line.
+#[derive(Clone, Copy)]
+pub(crate) enum Declared<'a> {
+    /// The lines of its own text.
+    Rows(Rows<'a>),
+    /// A table that was read.
+    Table(&'a Table),
+}
 
 /// The lines of a table, or those of them that stand above one.
 #[derive(Clone, Copy)]
-pub(crate) struct Declared<'a> {
+pub(crate) struct Rows<'a> {
     pub text: &'a [u8],
     /// The number of the line above which they stand.
     pub end: u64,
@@ -37,11 +48,14 @@ pub(crate) struct Row<'a> {
     pub text: &'a str,
 }
 
-/// An object, as its line declares it.
+/// An object that a table declares.
 #[derive(Clone, Copy)]
-pub(crate) struct Object<'a> {
+pub(crate) struct Object {
     pub form: Form,
-    pub row: Row<'a>,
+    /// The number of its line.
+    pub line: u64,
+    /// How many slots it has.
+    pub slots: u64,
 }
 
 impl<'a> Row<'a> {
@@ -54,16 +68,53 @@ impl<'a> Row<'a> {
     }
 }
 
-impl<'a> Declared<'a> {
+impl Declared<'_> {
+    /// The number of the line of the label of this name: labels stand first.
+    pub fn label(self, name: &str) -> Option<u64> {
+        match self {
+            Declared::Rows(rows) => Some(rows.row(Sought::Label(name))?.line),
+            Declared::Table(table) => Some(u64::from(table.label_named(name)?.number()) + 2),
+        }
+    }
+
+    /// The object of this name: objects follow the labels.
+    pub fn object(self, name: &str) -> Option<Object> {
+        match self {
+            Declared::Rows(rows) => rows.object(name),
+            Declared::Table(table) => {
+                let id = table.object_named(name)?;
+                let object = &table.objects().get(id.0 as usize)?.object;
+                let above = table.label_count() as u64 + 2;
+                Some(Object {
+                    form: form_of_kind(object.kind()),
+                    line: id.0.saturating_add(above),
+                    slots: object.slot_count(),
+                })
+            }
+        }
+    }
+}
+
+// The form of the lines that declare objects of a kind.
+fn form_of_kind(kind: ObjectKind) -> Form {
+    match kind {
+        ObjectKind::Untyped => Form::Untyped,
+        ObjectKind::CNode => Form::CNode,
+        ObjectKind::Tcb => Form::Tcb,
+        ObjectKind::Endpoint => Form::Endpoint,
+        ObjectKind::Notification => Form::Notification,
+        ObjectKind::Reply => Form::Reply,
+        ObjectKind::Context => Form::Context,
+        ObjectKind::Frame => Form::Frame,
+        ObjectKind::Control => Form::Control,
+    }
+}
+
+impl<'a> Rows<'a> {
     /// Whether the table is one of the second version.
     pub fn is_later(self) -> bool {
-        match (
-            Lines::new(self.text).next_line(),
-            Text::Table.later_header(),
-        ) {
-            (Some(line), Some(later)) => text_of(line) == later,
-            _ => false,
-        }
+        let header = Lines::new(self.text).next_line().map(|line| text_of(line));
+        header == File::Table.later_header()
     }
 
     /// The first line that is sought.
@@ -94,10 +145,13 @@ impl<'a> Declared<'a> {
     }
 
     /// The object of this name.
-    pub fn object(self, name: &str) -> Option<Object<'a>> {
+    pub fn object(self, name: &str) -> Option<Object> {
         let row = self.row(Sought::Object(name))?;
-        let form = form_of(Text::Table, row.text)?;
-        Some(Object { form, row })
+        Some(Object {
+            form: form_of(File::Table, row.text)?,
+            line: row.line,
+            slots: slots_of(row.text),
+        })
     }
 
     /// The number of the object of this name: objects follow the labels.
@@ -105,12 +159,6 @@ impl<'a> Declared<'a> {
         let row = self.row(Sought::Object(name))?;
         let labels = self.count(Sought::Form(Form::Label));
         Some(row.line.saturating_sub(labels).saturating_sub(2))
-    }
-
-    /// The number of the label of this name: labels stand first.
-    pub fn label(self, name: &str) -> Option<u64> {
-        let row = self.row(Sought::Label(name))?;
-        Some(row.line.saturating_sub(2))
     }
 
     /// How many slots the objects have.
@@ -129,7 +177,7 @@ impl<'a> Declared<'a> {
 
 /// How many slots a line's object has, if it declares one.
 pub(crate) fn slots_of(line: &str) -> u64 {
-    match form_of(Text::Table, line) {
+    match form_of(File::Table, line) {
         Some(Form::CNode) => match radix_of(line) {
             Some(radix) => power(radix),
             None => 0,
@@ -162,7 +210,7 @@ pub(crate) fn address_of(line: &str) -> Option<u64> {
 }
 
 fn is_sought(sought: Sought<'_>, line: &str) -> bool {
-    let Some(form) = form_of(Text::Table, line) else {
+    let Some(form) = form_of(File::Table, line) else {
         return false;
     };
     match sought {

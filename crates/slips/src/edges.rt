@@ -1,6 +1,7 @@
 //! Whether the edges of a policy rise: 50.
-use crate::declared::{Declared, Row};
+use crate::declared::Row;
 use forms::kind_number;
+use table::Table;
 
 /// An edge that doesn't come after the one before.
 #[derive(Clone, Copy)]
@@ -20,15 +21,11 @@ pub(crate) struct Numbered<'a> {
 }
 
 /// Whether an edge is above the one before.
-pub(crate) fn edge_flaw<'a>(
-    declared: Declared<'_>,
-    row: Row<'a>,
-    before: Row<'a>,
-) -> Option<EdgeFlaw<'a>> {
+pub(crate) fn edge_flaw<'a>(table: &Table, row: Row<'a>, before: Row<'a>) -> Option<EdgeFlaw<'a>> {
     let line = before.line;
     let (here, last) = (
-        label_of(declared, row.word(1))?,
-        label_of(declared, before.word(1))?,
+        label_of(table, row.word(1))?,
+        label_of(table, before.word(1))?,
     );
     if here.number != last.number {
         return fallen(here, last, EdgeFlaw::Labels(here, last, line));
@@ -38,8 +35,8 @@ pub(crate) fn edge_flaw<'a>(
         return fallen(here, last, EdgeFlaw::Kinds(here, last, line));
     }
     let (here, last) = (
-        label_of(declared, row.word(3))?,
-        label_of(declared, before.word(3))?,
+        label_of(table, row.word(3))?,
+        label_of(table, before.word(3))?,
     );
     if here.number == last.number {
         return Some(EdgeFlaw::Twice(line));
@@ -56,8 +53,8 @@ fn fallen<'a>(here: Numbered<'a>, last: Numbered<'a>, flaw: EdgeFlaw<'a>) -> Opt
     }
 }
 
-pub(crate) fn label_of<'a>(declared: Declared<'_>, word: &'a str) -> Option<Numbered<'a>> {
-    let number = declared.label(word)?;
+pub(crate) fn label_of<'a>(table: &Table, word: &'a str) -> Option<Numbered<'a>> {
+    let number = u64::from(table.label_named(word)?.number());
     Some(Numbered { word, number })
 }
 

@@ -1,31 +1,33 @@
 use crate::caps::{kind_flaw, slot_flaw};
 use crate::claims::claim_flaw;
-use crate::declared::{Declared, Row};
+use crate::declared::{Declared, Row, Rows};
 use crate::edges::edge_flaw;
 use crate::flaws::Flaw;
-use crate::limits::limit_flaw;
+use crate::limits::{event_flaw, limit_flaw};
 use crate::memory::placed_flaw;
 use crate::names::{known_flaw, twice_flaw};
 use crate::order::order_flaw;
 use crate::tree::tree_flaw;
 use forms::{
-    Form, LayoutFlaw, Line, Shown, Text, before_of, bytes_flaw, form_of, formless_flaw,
+    File, Form, LayoutFlaw, Line, Shown, before_of, bytes_flaw, form_of, formless_flaw,
     header_flaw, line_at, outcome_flaw, section_flaw, shape_flaw, text_of,
 };
 use std::alloc::{AllocError, Global};
+use table::Table;
 use words::Fault;
 
-/// A fault of a text: the file's line, and which condition it doesn't meet. Of the file `name` all of
-/// its `text` is wanted, and the line is found in it; `table` is the text of the table by which a policy or a
-/// certificate was read, and is empty for the others.
+/// Says which line of a file has a fault, and which condition the line doesn't meet.
+///
+/// `text` is all of the file called `name`, and the line is found in it. `table` is the table by which a policy, a
+/// certificate or claims were read. For the other files it doesn't matter.
 ///
 /// Where memory was refused that is said, and no line.
 pub fn explain_fault(
     alloc: Global,
-    kind: Text,
+    file: File,
     name: &str,
     text: &[u8],
-    table: &[u8],
+    table: Option<&Table>,
     fault: Fault,
 ) -> Result<String, AllocError> {
     if fault == Fault::MEMORY {
@@ -35,66 +37,68 @@ pub fn explain_fault(
     match line_at(text, number) {
         Some(line) => {
             let shown = Shown { bytes: line.bytes };
-            let declared = declared(kind, text, table, fault);
+            let declared = declared(file, text, table, fault);
             let above = line_at(text, number.saturating_sub(1));
-            let flaw = flaw_of(kind, declared, fault, line, before_of(above));
+            let flaw = flaw_of(file, declared, fault, line, before_of(above));
             format!(in alloc; "{name}:{number}: `{shown}`: {flaw}")
         }
         None => {
-            let flaw = Flaw::NoLine(kind, number);
+            let flaw = Flaw::NoLine(file, number);
             format!(in alloc; "{name}:{number}: the line is missing: {flaw}")
         }
     }
 }
 
-// The lines that declare what a line may name: those of its table that stand above it.
-fn declared<'a>(kind: Text, text: &'a [u8], table: &'a [u8], fault: Fault) -> Declared<'a> {
-    match kind {
-        Text::Table if fault.number == 56 => Declared {
-            text,
-            end: u64::MAX,
-        },
-        Text::Table => Declared {
-            text,
-            end: fault.line,
-        },
-        _ => Declared {
-            text: table,
-            end: u64::MAX,
-        },
+// What declares the names of a line: of a table's those above it, or all once the text has ended.
+fn declared<'a>(
+    file: File,
+    text: &'a [u8],
+    table: Option<&'a Table>,
+    fault: Fault,
+) -> Option<Declared<'a>> {
+    match file {
+        File::Table => {
+            let end = match fault.number {
+                56 => u64::MAX,
+                _ => fault.line,
+            };
+            Some(Declared::Rows(Rows { text, end }))
+        }
+        File::Policy | File::Certificate | File::Claims => Some(Declared::Table(table?)),
+        File::Script | File::Log => None,
     }
 }
 
 // The condition that a line doesn't meet.
 fn flaw_of<'a>(
-    kind: Text,
-    declared: Declared<'a>,
+    file: File,
+    declared: Option<Declared<'a>>,
     fault: Fault,
     line: Line<'a>,
     before: &'a str,
 ) -> Flaw<'a> {
     let text = text_of(line.bytes);
     if fault.line == 1 {
-        return match kind.has_header(text) {
-            true => Flaw::Layout(kind, LayoutFlaw::NoLineFeed),
-            false => Flaw::Layout(kind, header_flaw(text)),
+        return match file.has_header(text) {
+            true => Flaw::Layout(file, LayoutFlaw::NoLineFeed),
+            false => Flaw::Layout(file, header_flaw(text)),
         };
     }
     if fault.number == 50 {
         if let Some(flaw) = bytes_flaw(line, before) {
-            return Flaw::Layout(kind, flaw);
+            return Flaw::Layout(file, flaw);
         }
     }
-    let Some(form) = form_of(kind, text) else {
-        return Flaw::Layout(kind, formless_flaw(kind, text, before));
+    let Some(form) = form_of(file, text) else {
+        return Flaw::Layout(file, formless_flaw(file, text, before));
     };
     let row = Row {
         line: fault.line,
         text,
     };
     let flaw = match fault.number {
-        50 => syntax_flaw(kind, declared, form, row, before),
-        number => meaning_flaw(kind, declared, number, form, row),
+        50 => syntax_flaw(file, declared, form, row, before),
+        number => meaning_flaw(declared, number, form, row),
     };
     match flaw {
         Some(flaw) => flaw,
@@ -104,66 +108,58 @@ fn flaw_of<'a>(
 
 // Of the form and the order of lines: 50.
 fn syntax_flaw<'a>(
-    kind: Text,
-    declared: Declared<'a>,
+    file: File,
+    declared: Option<Declared<'a>>,
     form: Form,
     row: Row<'a>,
     before: &'a str,
 ) -> Option<Flaw<'a>> {
-    let event = match kind {
-        Text::Log => match row.text.split_once(" = ") {
+    let event = match file {
+        File::Log => match row.text.split_once(" = ") {
             Some((event, _)) => event,
-            None => return Some(Flaw::Layout(kind, LayoutFlaw::NoOutcome)),
+            None => return Some(Flaw::Layout(file, LayoutFlaw::NoOutcome)),
         },
         _ => row.text,
     };
-    if let Some(flaw) = section_flaw(kind, form, before) {
-        return Some(Flaw::Layout(kind, flaw));
+    if let Some(flaw) = section_flaw(file, form, before) {
+        return Some(Flaw::Layout(file, flaw));
     }
     if let Some(flaw) = shape_flaw(form, event) {
         return Some(Flaw::Word(form, flaw));
     }
-    let flaw = match kind {
-        Text::Log => Flaw::Outcome(outcome_flaw(row.text.split_once(" = ")?.1)?),
-        Text::Policy => Flaw::Edge(edge_flaw(declared, row, above(row, before))?),
-        Text::Claims => Flaw::Claim(claim_flaw(declared, row, above(row, before))?),
-        Text::Table => Flaw::Order(order_flaw(declared, form, row)?),
-        _ => return None,
-    };
-    Some(flaw)
-}
-
-// The line before.
-fn above<'a>(row: Row<'a>, before: &'a str) -> Row<'a> {
-    Row {
+    let above = Row {
         line: row.line.saturating_sub(1),
         text: before,
-    }
+    };
+    Some(match (file, declared) {
+        (File::Log, _) => Flaw::Outcome(outcome_flaw(row.text.split_once(" = ")?.1)?),
+        (File::Policy, Some(Declared::Table(table))) => Flaw::Edge(edge_flaw(table, row, above)?),
+        (File::Claims, Some(Declared::Table(table))) => Flaw::Claim(claim_flaw(table, row, above)?),
+        (_, Some(Declared::Rows(rows))) => Flaw::Order(order_flaw(rows, form, row)?),
+        _ => return None,
+    })
 }
 
 // Of what a line's words mean: 51 to 56. Without a table nothing is said of a name.
 fn meaning_flaw<'a>(
-    kind: Text,
-    declared: Declared<'a>,
+    declared: Option<Declared<'a>>,
     number: u64,
     form: Form,
     row: Row<'a>,
 ) -> Option<Flaw<'a>> {
-    let is_numbers = number == 54 && !has_slots(form);
-    if declared.text.is_empty() && !is_numbers {
-        return None;
-    }
-    let flaw = match number {
-        51 => Flaw::Known(known_flaw(declared, kind, form, row)?),
-        52 => Flaw::Twice(twice_flaw(declared, form, row)?),
-        53 => Flaw::Placed(placed_flaw(declared, form, row)?),
-        54 if is_numbers => Flaw::Limit(limit_flaw(declared, kind, form, row)?),
-        54 => Flaw::Slot(slot_flaw(declared, form, row)?),
-        55 => Flaw::Kind(kind_flaw(declared, form, row)?),
-        56 => Flaw::Tree(tree_flaw(declared, row)?),
-        _ => return None,
+    let Some(declared) = declared else {
+        return Some(Flaw::Limit(event_flaw(row)?));
     };
-    Some(flaw)
+    Some(match (number, declared) {
+        (51, _) => Flaw::Known(known_flaw(declared, form, row)?),
+        (52, Declared::Rows(rows)) => Flaw::Twice(twice_flaw(rows, form, row)?),
+        (53, Declared::Rows(rows)) => Flaw::Placed(placed_flaw(rows, form, row)?),
+        (54, _) if has_slots(form) => Flaw::Slot(slot_flaw(declared, form, row)?),
+        (54, Declared::Rows(rows)) => Flaw::Limit(limit_flaw(rows, form, row)?),
+        (55, _) => Flaw::Kind(kind_flaw(declared, form, row)?),
+        (56, Declared::Rows(rows)) => Flaw::Tree(tree_flaw(rows, row)?),
+        _ => return None,
+    })
 }
 
 fn has_slots(form: Form) -> bool {

@@ -1,21 +1,22 @@
 //! What is said of a line that doesn't meet a condition.
 use crate::caps::{KindFlaw, SlotFlaw};
 use crate::claims::ClaimFlaw;
+use crate::declared::Declared;
 use crate::edges::{EdgeFlaw, Numbered};
 use crate::limits::LimitFlaw;
 use crate::memory::PlacedFlaw;
 use crate::names::{KnownFlaw, TwiceFlaw};
 use crate::order::{OrderFlaw, Ranked};
 use crate::tree::TreeFlaw;
-use forms::{Form, LayoutFlaw, OfLayout, OutcomeFlaw, Text, WordFlaw};
+use forms::{File, Form, LayoutFlaw, OfLayout, OutcomeFlaw, WordFlaw};
 use std::fmt::{self, Display};
 
 /// The condition that a line doesn't meet.
 #[derive(Clone, Copy)]
 pub(crate) enum Flaw<'a> {
     /// The text ends before it.
-    NoLine(Text, u64),
-    Layout(Text, LayoutFlaw<'a>),
+    NoLine(File, u64),
+    Layout(File, LayoutFlaw<'a>),
     Word(Form, WordFlaw<'a>),
     Outcome(OutcomeFlaw<'a>),
     Order(OrderFlaw<'a>),
@@ -35,12 +36,12 @@ pub(crate) enum Flaw<'a> {
 impl fmt::Display for Flaw<'_> {
     fn fmt<W: fmt::Write>(&self, f: &mut fmt::Formatter<W>) -> fmt::Result {
         match *self {
-            Flaw::NoLine(kind, 1) => {
+            Flaw::NoLine(file, 1) => {
                 let flaw = LayoutFlaw::NoHeader;
-                OfLayout { kind, flaw }.fmt(f)
+                OfLayout { file, flaw }.fmt(f)
             }
             Flaw::NoLine(_, _) => f.write_str("the text ends without the line `end`"),
-            Flaw::Layout(kind, flaw) => OfLayout { kind, flaw }.fmt(f),
+            Flaw::Layout(file, flaw) => OfLayout { file, flaw }.fmt(f),
             Flaw::Word(form, flaw) => match flaw {
                 WordFlaw::Missing(_) | WordFlaw::TooMany(_) => {
                     let words = form.words();
@@ -158,8 +159,8 @@ impl fmt::Display for ClaimFlaw<'_> {
 impl fmt::Display for KnownFlaw<'_> {
     fn fmt<W: fmt::Write>(&self, f: &mut fmt::Formatter<W>) -> fmt::Result {
         match *self {
-            KnownFlaw::NoLabel(name, text) => write!(f, "{} `{name}`", no_label(text)),
-            KnownFlaw::NoObject(name, text) => write!(f, "{} `{name}`", no_object(text)),
+            KnownFlaw::NoLabel(name, declared) => write_unknown(f, "label", name, declared),
+            KnownFlaw::NoObject(name, declared) => write_unknown(f, "object", name, declared),
             KnownFlaw::ObjectForLabel(name, line) => write!(
                 f,
                 "`{name}` is an object, of line {line} of the table, and a label stands here"
@@ -172,19 +173,16 @@ impl fmt::Display for KnownFlaw<'_> {
     }
 }
 
-// That there is no such label, before its name.
-fn no_label(text: Text) -> &'static str {
-    match text {
-        Text::Table => "no label above is called",
-        _ => "the table has no label",
-    }
-}
-
-// That there is no such object, before its name.
-fn no_object(text: Text) -> &'static str {
-    match text {
-        Text::Table => "no object above is called",
-        _ => "the table has no object",
+// That there is no such label or object.
+fn write_unknown<W: fmt::Write>(
+    f: &mut fmt::Formatter<W>,
+    what: &str,
+    name: &str,
+    declared: Declared<'_>,
+) -> fmt::Result {
+    match declared {
+        Declared::Rows(_) => write!(f, "no {what} above is called `{name}`"),
+        Declared::Table(_) => write!(f, "the table has no {what} `{name}`"),
     }
 }
 

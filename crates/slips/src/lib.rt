@@ -1,5 +1,4 @@
-//! Words on a line of a text: which condition it doesn't meet; that a thread can't call, or which bits of an address a root
-//! doesn't read.
+//! Words on a faulty line: which condition it doesn't meet.
 #![tactic(auto)]
 
 mod caps;
@@ -12,11 +11,6 @@ mod limits;
 mod memory;
 mod names;
 mod order;
-mod roots;
-mod threads;
 mod tree;
 
 pub use faults::explain_fault;
-pub use forms::Text;
-pub use roots::explain_roots;
-pub use threads::explain_threads;

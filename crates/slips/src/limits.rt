@@ -1,7 +1,7 @@
 //! Whether numbers are within limits: 54.
-use crate::declared::{Declared, Row, Sought, address_of, slots_of};
+use crate::declared::{Row, Rows, Sought, address_of, slots_of};
 use crate::memory::size_of;
-use forms::{Form, Text, decimal};
+use forms::{Form, decimal};
 
 /// A number past its limit.
 #[derive(Clone, Copy)]
@@ -25,23 +25,22 @@ pub(crate) enum LimitFlaw {
     Events,
 }
 
-/// What is past its limit in a line that declares a label or an object, or tells an event.
-pub(crate) fn limit_flaw(
-    declared: Declared<'_>,
-    kind: Text,
-    form: Form,
-    row: Row<'_>,
-) -> Option<LimitFlaw> {
-    match kind {
-        Text::Script | Text::Log => Some(match core_flaw(decimal(row.word(0))?) {
-            Some(flaw) => flaw,
-            None => LimitFlaw::Events,
-        }),
-        _ if form == Form::Label && declared.is_later() => Some(LimitFlaw::LaterLabels),
-        _ if form == Form::Label => Some(LimitFlaw::Labels),
+/// What is past its limit in a line that tells an event.
+pub(crate) fn event_flaw(row: Row<'_>) -> Option<LimitFlaw> {
+    match core_flaw(decimal(row.word(0))?) {
+        Some(flaw) => Some(flaw),
+        None => Some(LimitFlaw::Events),
+    }
+}
+
+/// What is past its limit in a line that declares a label or an object.
+pub(crate) fn limit_flaw(rows: Rows<'_>, form: Form, row: Row<'_>) -> Option<LimitFlaw> {
+    match form {
+        Form::Label if rows.is_later() => Some(LimitFlaw::LaterLabels),
+        Form::Label => Some(LimitFlaw::Labels),
         _ => match own_flaw(form, row) {
             Some(flaw) => Some(flaw),
-            None => object_flaw(declared, form, row),
+            None => object_flaw(rows, form, row),
         },
     }
 }
@@ -97,19 +96,19 @@ fn share_flaw(row: Row<'_>) -> Option<LimitFlaw> {
 }
 
 // What is past a limit of all objects together.
-fn object_flaw(declared: Declared<'_>, form: Form, row: Row<'_>) -> Option<LimitFlaw> {
+fn object_flaw(rows: Rows<'_>, form: Form, row: Row<'_>) -> Option<LimitFlaw> {
     if let (Some(address), Some(size)) = (address_of(row.text), size_of(form, row.text)) {
         if address.saturating_add(size) > 0x1_0000_0000_0000 {
             return Some(LimitFlaw::End);
         }
     }
-    if declared.count(Sought::Objects) >= 4096 {
+    if rows.count(Sought::Objects) >= 4096 {
         return Some(LimitFlaw::Objects);
     }
-    if form == Form::Tcb && declared.count(Sought::Form(Form::Tcb)) >= 1024 {
+    if form == Form::Tcb && rows.count(Sought::Form(Form::Tcb)) >= 1024 {
         return Some(LimitFlaw::Threads);
     }
-    let slots = declared.slots().saturating_add(slots_of(row.text));
+    let slots = rows.slots().saturating_add(slots_of(row.text));
     if slots > 65_536 {
         return Some(LimitFlaw::Slots(slots));
     }

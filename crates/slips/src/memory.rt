@@ -1,6 +1,6 @@
 //! Whether an object lies where it may: 53.
-use crate::declared::{Declared, Row, address_of, power, radix_of};
-use forms::{Form, Lines, Text, form_of, text_of};
+use crate::declared::{Row, Rows, address_of, power, radix_of};
+use forms::{File, Form, Lines, form_of, text_of};
 
 /// An object that lies where it may not.
 #[derive(Clone, Copy)]
@@ -19,18 +19,14 @@ pub(crate) struct Range {
 }
 
 /// Why an object doesn't lie where it may.
-pub(crate) fn placed_flaw<'a>(
-    declared: Declared<'a>,
-    form: Form,
-    row: Row<'_>,
-) -> Option<PlacedFlaw<'a>> {
+pub(crate) fn placed_flaw<'a>(rows: Rows<'a>, form: Form, row: Row<'_>) -> Option<PlacedFlaw<'a>> {
     let range = range_of(form, row.text)?;
     let size = size_of(form, row.text)?;
     if range.first.checked_rem(size) != Some(0) {
         return Some(PlacedFlaw::Misaligned(range.first, size));
     }
-    let mut lines = Lines::new(declared.text);
-    for line in 1..declared.end {
+    let mut lines = Lines::new(rows.text);
+    for line in 1..rows.end {
         let text = text_of(lines.next_line()?);
         if let Some(other) = range_of_line(text) {
             if other.first <= range.last && range.first <= other.last {
@@ -42,7 +38,7 @@ pub(crate) fn placed_flaw<'a>(
 }
 
 fn range_of_line(line: &str) -> Option<Range> {
-    range_of(form_of(Text::Table, line)?, line)
+    range_of(form_of(File::Table, line)?, line)
 }
 
 fn range_of(form: Form, line: &str) -> Option<Range> {

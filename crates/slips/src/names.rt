@@ -1,14 +1,14 @@
 //! Whether names are known, 51, and new, 52.
-use crate::declared::{Declared, Row, Sought};
-use forms::{Form, Text};
+use crate::declared::{Declared, Row, Rows, Sought};
+use forms::Form;
 
 /// A name that isn't known, or isn't new.
 #[derive(Clone, Copy)]
 pub(crate) enum KnownFlaw<'a> {
-    NoLabel(&'a str, Text),
+    NoLabel(&'a str, Declared<'a>),
     /// An object's name where a label's is wanted, and the object's line in the table.
     ObjectForLabel(&'a str, u64),
-    NoObject(&'a str, Text),
+    NoObject(&'a str, Declared<'a>),
     LabelForObject(&'a str, u64),
 }
 
@@ -24,16 +24,15 @@ pub(crate) enum TwiceFlaw<'a> {
 
 /// The first name of a line that isn't known.
 pub(crate) fn known_flaw<'a>(
-    declared: Declared<'_>,
-    kind: Text,
+    declared: Declared<'a>,
     form: Form,
     row: Row<'a>,
 ) -> Option<KnownFlaw<'a>> {
     let mut at = 1u64;
     for role in roles(form).as_bytes() {
         let flaw = match *role {
-            b'L' => label_flaw(declared, kind, row.word(at)),
-            b'O' => object_flaw(declared, kind, row.word(at)),
+            b'L' => label_flaw(declared, row.word(at)),
+            b'O' => object_flaw(declared, row.word(at)),
             _ => None,
         };
         if flaw.is_some() {
@@ -57,25 +56,25 @@ fn roles(form: Form) -> &'static str {
     }
 }
 
-fn label_flaw<'a>(declared: Declared<'_>, kind: Text, name: &'a str) -> Option<KnownFlaw<'a>> {
-    if declared.row(Sought::Label(name)).is_some() {
+fn label_flaw<'a>(declared: Declared<'a>, name: &'a str) -> Option<KnownFlaw<'a>> {
+    if declared.label(name).is_some() {
         return None;
     }
-    match declared.row(Sought::Object(name)) {
+    match declared.object(name) {
         Some(object) => Some(KnownFlaw::ObjectForLabel(name, object.line)),
-        None => Some(KnownFlaw::NoLabel(name, kind)),
+        None => Some(KnownFlaw::NoLabel(name, declared)),
     }
 }
 
 // Of a slot its holder's name.
-fn object_flaw<'a>(declared: Declared<'_>, kind: Text, word: &'a str) -> Option<KnownFlaw<'a>> {
+fn object_flaw<'a>(declared: Declared<'a>, word: &'a str) -> Option<KnownFlaw<'a>> {
     let name = holder_of(word);
-    if declared.row(Sought::Object(name)).is_some() {
+    if declared.object(name).is_some() {
         return None;
     }
-    match declared.row(Sought::Label(name)) {
-        Some(label) => Some(KnownFlaw::LabelForObject(name, label.line)),
-        None => Some(KnownFlaw::NoObject(name, kind)),
+    match declared.label(name) {
+        Some(line) => Some(KnownFlaw::LabelForObject(name, line)),
+        None => Some(KnownFlaw::NoObject(name, declared)),
     }
 }
 
@@ -88,30 +87,26 @@ pub(crate) fn holder_of(word: &str) -> &str {
 }
 
 /// What a line of a table gives a second time.
-pub(crate) fn twice_flaw<'a>(
-    declared: Declared<'_>,
-    form: Form,
-    row: Row<'a>,
-) -> Option<TwiceFlaw<'a>> {
+pub(crate) fn twice_flaw<'a>(rows: Rows<'_>, form: Form, row: Row<'a>) -> Option<TwiceFlaw<'a>> {
     let (one, two) = (row.word(1), row.word(2));
     match form {
         Form::Label => {
-            let first = declared.row(Sought::Label(one))?;
+            let first = rows.row(Sought::Label(one))?;
             Some(TwiceFlaw::Label(one, first.line))
         }
         Form::Cap => {
-            let first = declared.row(Sought::CapFor(two))?;
+            let first = rows.row(Sought::CapFor(two))?;
             Some(TwiceFlaw::Untyped(two, first.line))
         }
         Form::Bind => {
-            let first = declared.row(Sought::Bound(two))?;
+            let first = rows.row(Sought::Bound(two))?;
             Some(TwiceFlaw::Bound(two, first.line))
         }
-        _ => match declared.row(Sought::Object(one)) {
+        _ => match rows.row(Sought::Object(one)) {
             Some(first) => Some(TwiceFlaw::Object(one, first.line)),
             None => {
                 let core = row.word(3);
-                let first = declared.row(Sought::Control(core))?;
+                let first = rows.row(Sought::Control(core))?;
                 Some(TwiceFlaw::Control(core, first.line))
             }
         },

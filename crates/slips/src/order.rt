@@ -1,6 +1,6 @@
 //! Whether lines rise: 50.
-use crate::declared::{Declared, Row};
-use forms::{Form, Lines, Text, decimal, form_of, text_of};
+use crate::declared::{Row, Rows};
+use forms::{File, Form, Lines, decimal, form_of, text_of};
 
 /// A line that doesn't come after an earlier one: what is compared, and the number of that line.
 #[derive(Clone, Copy)]
@@ -22,19 +22,15 @@ pub(crate) struct Ranked<'a> {
 }
 
 /// Whether a line of a table is above the last one of its form.
-pub(crate) fn order_flaw<'a>(
-    declared: Declared<'a>,
-    form: Form,
-    row: Row<'a>,
-) -> Option<OrderFlaw<'a>> {
+pub(crate) fn order_flaw<'a>(rows: Rows<'a>, form: Form, row: Row<'a>) -> Option<OrderFlaw<'a>> {
     let at = match form {
         Form::Cap | Form::Bind => 1,
         Form::Child => 2,
         _ => return None,
     };
-    let last = last_row(declared, form)?;
-    let here = rank_of(declared, row.word(at))?;
-    let before = rank_of(declared, last.word(at))?;
+    let last = last_row(rows, form)?;
+    let here = rank_of(rows, row.word(at))?;
+    let before = rank_of(rows, last.word(at))?;
     if (here.number, here.index) > (before.number, before.index) {
         return None;
     }
@@ -55,12 +51,12 @@ fn what_rises(form: Form) -> &'static str {
 }
 
 // The last line of the form.
-fn last_row<'a>(declared: Declared<'a>, form: Form) -> Option<Row<'a>> {
+fn last_row<'a>(rows: Rows<'a>, form: Form) -> Option<Row<'a>> {
     let mut last = None;
-    let mut lines = Lines::new(declared.text);
-    for line in 1..declared.end {
+    let mut lines = Lines::new(rows.text);
+    for line in 1..rows.end {
         let text = text_of(lines.next_line()?);
-        if form_of(Text::Table, text) == Some(form) {
+        if form_of(File::Table, text) == Some(form) {
             last = Some(Row { line, text });
         }
     }
@@ -68,7 +64,7 @@ fn last_row<'a>(declared: Declared<'a>, form: Form) -> Option<Row<'a>> {
 }
 
 // By what a slot or an object is compared.
-fn rank_of<'a>(declared: Declared<'_>, word: &'a str) -> Option<Ranked<'a>> {
+fn rank_of<'a>(rows: Rows<'_>, word: &'a str) -> Option<Ranked<'a>> {
     let (name, index) = match word.split_once('.') {
         Some((name, "root")) => (name, 0),
         Some((name, index)) => (name, decimal(index)?),
@@ -77,7 +73,7 @@ fn rank_of<'a>(declared: Declared<'_>, word: &'a str) -> Option<Ranked<'a>> {
     Some(Ranked {
         word,
         name,
-        number: declared.number_of(name)?,
+        number: rows.number_of(name)?,
         index,
     })
 }

@@ -1,5 +1,5 @@
 //! Whether a pair of the derivation tree keeps its rules: 56.
-use crate::declared::{Declared, Row, Sought};
+use crate::declared::{Row, Rows, Sought};
 use forms::{Form, decimal, right_number};
 
 /// The rule that a pair of the derivation tree breaks.
@@ -19,43 +19,43 @@ pub(crate) enum TreeFlaw<'a> {
 }
 
 /// Which rule a `child` line of a whole table breaks.
-pub(crate) fn tree_flaw<'a>(table: Declared<'a>, row: Row<'a>) -> Option<TreeFlaw<'a>> {
+pub(crate) fn tree_flaw<'a>(rows: Rows<'a>, row: Row<'a>) -> Option<TreeFlaw<'a>> {
     let (one, two) = (row.word(1), row.word(2));
-    let Some(parent) = table.row(Sought::Cap(one)) else {
+    let Some(parent) = rows.row(Sought::Cap(one)) else {
         return Some(TreeFlaw::Empty(one));
     };
-    let Some(child) = table.row(Sought::Cap(two)) else {
+    let Some(child) = rows.row(Sought::Cap(two)) else {
         return Some(TreeFlaw::Empty(two));
     };
     if parent.word(2) != child.word(2) {
         return Some(TreeFlaw::Objects(parent.word(2), child.word(2)));
     }
-    if table.object(parent.word(2))?.form == Form::Untyped {
+    if rows.object(parent.word(2))?.form == Form::Untyped {
         return Some(TreeFlaw::Untyped(parent.word(2)));
     }
-    if let Some(flaw) = copied_flaw(table, parent) {
+    if let Some(flaw) = copied_flaw(rows, parent) {
         return Some(flaw);
     }
-    let (above, below) = (badge_of(table, parent), badge_of(table, child));
+    let (above, below) = (badge_of(rows, parent), badge_of(rows, child));
     if above != 0 && above != below {
         return Some(TreeFlaw::Badges(above, below));
     }
-    right_flaw(table, parent, child)
+    right_flaw(rows, parent, child)
 }
 
 // Whether a parent isn't original: its badge is that of its own parent.
-fn copied_flaw<'a>(table: Declared<'a>, parent: Row<'a>) -> Option<TreeFlaw<'a>> {
-    let pair = table.row(Sought::Child(parent.word(1)))?;
-    let source = table.row(Sought::Cap(pair.word(1)))?;
-    if badge_of(table, source) != badge_of(table, parent) {
+fn copied_flaw<'a>(rows: Rows<'a>, parent: Row<'a>) -> Option<TreeFlaw<'a>> {
+    let pair = rows.row(Sought::Child(parent.word(1)))?;
+    let source = rows.row(Sought::Cap(pair.word(1)))?;
+    if badge_of(rows, source) != badge_of(rows, parent) {
         return None;
     }
     Some(TreeFlaw::Copied(parent.word(1), pair.word(1), pair.line))
 }
 
 // The badge of a capability; of a kind without badges it is 0.
-fn badge_of(table: Declared<'_>, cap: Row<'_>) -> u64 {
-    match table.object(cap.word(2)) {
+fn badge_of(rows: Rows<'_>, cap: Row<'_>) -> u64 {
+    match rows.object(cap.word(2)) {
         Some(object) if matches!(object.form, Form::Endpoint | Form::Notification) => {
             match decimal(cap.word(4)) {
                 Some(badge) => badge,
@@ -67,8 +67,8 @@ fn badge_of(table: Declared<'_>, cap: Row<'_>) -> u64 {
 }
 
 // The first right of a child that the parent lacks.
-fn right_flaw<'a>(table: Declared<'_>, parent: Row<'_>, child: Row<'_>) -> Option<TreeFlaw<'a>> {
-    match table.object(parent.word(2))?.form {
+fn right_flaw<'a>(rows: Rows<'_>, parent: Row<'_>, child: Row<'_>) -> Option<TreeFlaw<'a>> {
+    match rows.object(parent.word(2))?.form {
         Form::Endpoint | Form::Notification | Form::Frame => {}
         _ => return None,
     }

@@ -4,13 +4,15 @@ use Rattle.policy.specs.Closing.{IsLeastClosed}
 use Rattle.report.proofs.ClosedText.{is_closing}
 use Rattle.report.proofs.closing.least.Goals as goal
 
-pub returns-clause-closing : goal.returns-clause-closing
-returns-clause-closing c =
-    let t = c.args.table.now in
-    let edges = c.args.policy.now in
-    let closed = c.in_ok-closed.closed in
-    is_closing t edges c.in_ok-edges.edges.items closed
-    (λ m from kind to booted. c.in_ok-edges.ensures.edges m from kind to booted)
-    c.edges_rise.ensures.rising
-    (subst (λ kept. IsLeastClosed (edges ++ kept) closed) c.deref.ensures.value c.in_ok-closed.ensures.least)
-    (c.a_verdict_is_on_the_boot_state.ensures.accepted t closed c.objects.ensures.lawful)
+pub returns : goal.returns
+returns c = record {
+  closing =
+      let t = c.args.table.now in
+      let edges = c.args.policy.now in
+      let closed = c.in_ok-closed.closed in
+      is_closing t edges c.in_ok-edges.edges.items closed
+      (λ m from kind to booted. c.in_ok-edges.ensures.edges m from kind to booted)
+      c.edges_rise.ensures.rising
+      (subst (λ kept. IsLeastClosed (edges ++ kept) closed) c.deref.ensures.value c.in_ok-closed.ensures.least)
+      (c.a_verdict_is_on_the_boot_state.ensures.accepted t closed c.objects.ensures.lawful);
+}

@@ -3,7 +3,7 @@ use Rattle.base.specs.declared.edge.Edge.{Edge}
 use Rattle.policy.specs.Policy.{allows}
 use Rattle.report.proofs.closing.missing_edges.Goals as goal
 
-pub returns-clause-missing : goal.returns-clause-missing
-returns-clause-missing c =
+pub returns : goal.returns
+returns c =
     let lacked : Edge → Bool = λ edge. not (allows c.args.policy.now edge.from edge.kind edge.to) in
-    filter_same _ lacked _ (λ x b f' k. search rules) _ _ c.retain.ensures.filtered ∙ ap (filter lacked) c.in_ok-missing.ensures.all
+    record { missing = filter_same _ lacked _ (λ x b f' k. search rules) _ _ c.retain.ensures.filtered ∙ ap (filter lacked) c.in_ok-missing.ensures.all }

@@ -1,6 +1,6 @@
-use Rattle.std.{specs.Prelude.Some, proofs.Common.{ap, refl}}
+use Rattle.commands.proofs.Carried.{carried_out}
 use Rattle.report.proofs.closing.start.Goals as goal
 
--- the source that is left is that of the engine
 pub returns : goal.returns
-returns g c = record { policy = _; bytes = ap Some c.no_policy.ensures; is_sound = refl; done = c.close.ensures }
+returns g c =
+    carried_out c.load_table-table.result c.load_table-table.ensures.loaded c.load_table-table.ensures.unread c.load_table-table.ensures.labels c.table_closed-answer.ensures c.tell.ensures.told

@@ -1,0 +1,68 @@
+ghost use Rattle.std.specs.Prelude.{◌≡◌, IfOk, None, Some};
+ghost use Rattle.machine.specs.Layout.{Layout};
+ghost use Rattle.verdict.specs.Verdict.{rule_name};
+ghost use Rattle.reptext.specs.{Places.place_names, Reports.denial_report};
+ghost use Rattle.commands.specs.declared.listener.Finding.TheVariants as finding;
+
+use crate::Finding;
+use machine::{Log, Outcome};
+use reptext::denial_text;
+use std::alloc::{AllocError, Global};
+use table::Table;
+use verdict::Denial;
+
+/// What is to be written, with the exit status; and what a listener is to hear of it besides.
+#[derive(Drop)]
+pub struct Answer {
+    pub text: Vec<u8>,
+    pub status: u8,
+    /// What is found wrong, if anything is.
+    pub finding: Option<Finding>,
+    /// What the calls of a script came to, if any were made.
+    pub made: Option<Made>,
+}
+
+/// What the calls of a script came to.
+#[derive(Drop)]
+pub enum Made {
+    /// The outcome of each, in the script's order.
+    InTurn(Vec<Outcome>),
+    /// Each with its outcome, in the order in which workers made them.
+    ByWorkers(Log),
+}
+
+impl Answer {
+    /// A text and a status alone.
+    pub fn plain(text: Vec<u8>, status: u8) -> Answer
+        ensures { (result.text ≡ text) × (result.status ≡ status) × (result.finding ≡ None) × (result.made ≡ None) }
+    {
+        Answer {
+            text,
+            status,
+            finding: None,
+            made: None,
+        }
+    }
+
+    /// The text that tells what is found wrong, with status 1.
+    pub fn found(text: Vec<u8>, finding: Finding) -> Answer
+        ensures { (result.text ≡ text) × (result.status ≡ 1) × (result.finding ≡ Some finding) × (result.made ≡ None) }
+    {
+        Answer {
+            text,
+            status: 1,
+            finding: Some(finding),
+            made: None,
+        }
+    }
+}
+
+/// The answer to a denial.
+pub fn denied(alloc: Global, table: &Table, denial: Denial) -> Result<Answer, AllocError>
+    ensures text { IfOk result (λ answer. answer.text.items ≡ denial_report (rule_name denial) (place_names table.now denial)) }
+    ensures status { IfOk result (λ answer. answer.status ≡ 1) }
+    ensures finding { IfOk result (λ answer. answer.finding ≡ Some (finding.Denied denial)) }
+{
+    let text = denial_text(alloc, table, &denial)?;
+    Ok(Answer::found(text, Finding::Denied(denial)))
+}

@@ -1,0 +1,12 @@
+-- The files that an engine reads.
+use Rattle.std.specs.Prelude.{ℕ, List, codes}
+use Rattle.forms.specs.declared.file.File.{File, TheVariants.{Certificate, Claims, Log, Policy, Script, Table}}
+
+-- the word for a file
+abbrev pub file_word : File → List ℕ
+file_word Table = codes "table"
+file_word Policy = codes "policy"
+file_word Certificate = codes "certificate"
+file_word Script = codes "script"
+file_word Log = codes "log"
+file_word Claims = codes "claims"

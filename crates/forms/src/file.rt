@@ -1,0 +1,100 @@
+//! The files that an engine reads.
+ghost use Rattle.std.specs.Prelude.{◌≡◌, Some};
+ghost use Rattle.forms.specs.Files.{file_word};
+
+use crate::form::Form;
+use std::fmt;
+
+/// A file that an engine reads.
+#[derive(Clone, Copy, PartialEq, Eq, Debug)]
+pub enum File {
+    Table,
+    Policy,
+    Certificate,
+    Script,
+    Log,
+    Claims,
+}
+
+impl File {
+    /// All of them.
+    pub const ALL: [File; 6] = [
+        File::Table,
+        File::Policy,
+        File::Certificate,
+        File::Script,
+        File::Log,
+        File::Claims,
+    ];
+
+    /// Its first line.
+    pub fn header(self) -> &'static str {
+        match self {
+            File::Table => "confine-table 1",
+            File::Policy => "confine-policy 1",
+            File::Certificate => "confine-cert 1",
+            File::Script => "confine-script 1",
+            File::Log => "confine-log 1",
+            File::Claims => "confine-claims 1",
+        }
+    }
+
+    /// The first line of its second version, which a table has.
+    pub fn later_header(self) -> Option<&'static str> {
+        match self {
+            File::Table => Some("confine-table 2"),
+            _ => None,
+        }
+    }
+
+    /// Whether a line is the first of a version.
+    pub fn has_header(self, line: &str) -> bool {
+        match self.later_header() {
+            Some(later) if later == line => true,
+            _ => self.header() == line,
+        }
+    }
+
+    /// The word by which reports and messages name it.
+    pub fn as_str(self) -> &'static str
+        ensures { result.now ≡ file_word self }
+    {
+        match self {
+            File::Table => "table",
+            File::Policy => "policy",
+            File::Certificate => "certificate",
+            File::Script => "script",
+            File::Log => "log",
+            File::Claims => "claims",
+        }
+    }
+
+    /// What sentences on faults call it.
+    pub fn name(self) -> &'static str {
+        match self {
+            File::Claims => "claim list",
+            file => file.as_str(),
+        }
+    }
+
+    /// How many words of a line stand before the one by which its form is known.
+    pub fn words_before(self) -> u64 {
+        match self {
+            File::Script | File::Log => 2,
+            _ => 0,
+        }
+    }
+
+    /// Whether its lines have a form, which a log's share with a script's.
+    pub fn has(self, form: Form) -> bool {
+        form.file() == self || (self == File::Log && form.file() == File::Script)
+    }
+}
+
+impl fmt::Display for File {
+    ghost output = { λ file. Some (file_word file) };
+
+    fn fmt<W: fmt::Write>(&self, f: &mut fmt::Formatter<W>) -> fmt::Result {
+        f.write_str(self.as_str())
+    }
+}
