@@ -1,11 +1,14 @@
 //! A signal and two polls on two cores, and a kernel whose log is full.
 use crate::callers::{Caller, Running};
 use crate::legal::ends_in;
+use crate::memory::made;
 use crate::scenes::{Plan, Scene, carry_out};
 use crate::systems::TWO_CORES;
 use base::{Misuse, ObjId, Refusal};
+use captext::{read_table, write_table};
 use cores::{Kernel, Naming};
 use machine::{Answer, Call, Outcome};
+use std::alloc::Global;
 use std::process::Abort;
 use std::sync::Wait;
 use std::test::Fail;
@@ -127,4 +130,20 @@ fn a_signal_and_two_polls(rt: HostRuntime) -> Result<(), Fail> {
 #[test]
 fn the_second_poll_finds_the_log_full(rt: HostRuntime) -> Result<(), Fail> {
     signal_and_poll(&rt, 2)
+}
+
+/// The text of a table, once that is one of version 2.
+fn upgraded(alloc: Global, text: &str) -> Result<Vec<u8>, Fail> {
+    let mut table = made(read_table(alloc, text.as_bytes()))?;
+    table.upgrade();
+    made(write_table(alloc, &table))
+}
+
+#[test]
+fn an_upgraded_table_is_written_with_the_later_header(rt: HostRuntime) -> Result<(), Fail> {
+    let text = upgraded(rt.alloc(), TWO_CORES.table)?;
+    let lines = TWO_CORES.table.as_bytes().strip_prefix(b"confine-table 1");
+    assert!(rt; lines.is_some());
+    assert_eq!(rt; text.strip_prefix(b"confine-table 2"), lines);
+    Ok(())
 }
