@@ -14,10 +14,13 @@ pub mod Unbroken
 pub mod RowEdges
 pub mod Members
 pub mod Stepping
+pub mod Gathering
+pub mod ChangeSets
 pub mod FullSets
 pub mod CutSets
 pub mod TakeSets
 pub mod Taking
+pub mod Changing
 pub mod WalkOrder
 pub mod Walking
 pub mod Leading
@@ -25,3 +28,6 @@ pub mod StepWalks
 pub mod FullWalks
 pub mod PathWalks
 pub mod TakeWalks
+pub mod GuardedWalking
+pub mod ChangeWalks
+pub mod ShrinkWalks

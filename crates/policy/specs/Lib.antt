@@ -10,8 +10,12 @@ pub mod Settling
 pub mod Full
 pub mod Cut
 pub mod Take
+pub mod Change
+pub mod NarrowTake
 pub mod Reasons
+pub mod ActorReasons
 pub mod Search
 pub mod Sweep
 pub mod Steps
 pub mod Walks
+pub mod Guarded

@@ -1,17 +1,26 @@
 //! Policies: the edges of authority that a system may have.
 #![tactic(auto)]
 
+mod acting;
+mod actor_why;
 mod broken;
+mod change;
 mod closing;
 mod cut;
 mod full;
+mod guarded;
 mod laws;
+mod narrow_take;
 mod policy;
 mod steps;
 mod take;
 mod walks;
 mod why;
 
+pub use acting::{
+    changes_follow_paths, shrinks_follow_paths, what_may_be_changed_is_within_full_authority,
+    what_may_shrink_may_be_taken,
+};
 pub use broken::{Broken, first_broken};
 pub use closing::close;
 pub use laws::{

@@ -129,8 +129,8 @@ impl Policy {
         }
     }
 
-    // The labels from which a step leads to a label of the set.
-    fn before(&self, step: &Step, goals: Labels) -> Labels
+    /// The labels from which a step leads to a label of the set.
+    pub(crate) fn before(&self, step: &Step, goals: Labels) -> Labels
         ensures { (from : ℕ) → (is_in result from ≡ true)
             ↔ ((edge : Edge) × Leads (allows self.now) step.now from goals edge) }
     {
@@ -138,8 +138,8 @@ impl Policy {
             .union(self.targets(goals, step.against))
     }
 
-    // The first edge by which a step leads to a label of the set.
-    fn first_edge(&self, step: &Step, from: Label, goals: Labels) -> Option<Edge>
+    /// The first edge by which a step leads to a label of the set.
+    pub(crate) fn first_edge(&self, step: &Step, from: Label, goals: Labels) -> Option<Edge>
         ensures { FindsFirst (Leads (allows self.now) step.now from goals) result }
     {
         for number in 0..self.span() {
@@ -195,8 +195,8 @@ fn labels_if(taken: bool, labels: Labels) -> Labels
     if taken { labels } else { Labels::none() }
 }
 
-// The end of an edge that isn't this one, if they are two.
-fn end(edge: &Edge, from: Label) -> Label
+/// The end of an edge that isn't this one, if they are two.
+pub(crate) fn end(edge: &Edge, from: Label) -> Label
     ensures { result ≡ other_end edge.now from }
 {
     if edge.from == from {

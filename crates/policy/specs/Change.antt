@@ -1,0 +1,76 @@
+-- What a label may change: on which labels' objects the acts of a label may have any effect, where only threads of some labels act. It
+-- is within full authority (the integrity property of 'seL4 Enforces Integrity', section 4, restated for this profile; the labels that
+-- act, and the narrower cases, are confine's own).
+use Rattle.std.specs.Prelude.{ℕ, ◌≡◌, Bool, false, true}
+use Rattle.base.specs.declared.kind.Kind.{Kind, TheVariants.{Await, Call, Context, Control, Grant, Holds, Notify, Receive, Reply, Runs}}
+use Rattle.base.specs.declared.kind.Kind.TheVariants.{SchedControl, Send, Write}
+use Rattle.policy.specs.Domain.{EdgeTest}
+
+-- whether threads of a label act
+abbrev pub ActorTest : Type 0
+ActorTest = ℕ → Bool
+
+-- the kinds whose use changes the object itself, which isn't a context
+abbrev pub is_changing : Kind → Bool
+is_changing Control = true
+is_changing Send = true
+is_changing Receive = true
+is_changing Notify = true
+is_changing Await = true
+is_changing Write = true
+is_changing Reply = true
+is_changing _ = false
+
+pub data MayChangeContext (test : EdgeTest) (a l : ℕ) : Type 0 where
+  -- a context's share of a core
+  configures : (core : ℕ) → test a Context l ≡ true → test a SchedControl core ≡ true → MayChangeContext test a l
+  -- the thread that a context is bound to
+  binds : (thread : ℕ) → test a Context l ≡ true → test a Control thread ≡ true → MayChangeContext test a l
+  -- a context that a runs on goes to another thread by a call, and back by an answer
+  lends : (endpoint : ℕ) → test a Runs l ≡ true → test a Call endpoint ≡ true → MayChangeContext test a l
+  returns : (reply : ℕ) → test a Runs l ≡ true → test a Reply reply ≡ true → MayChangeContext test a l
+
+-- this reply may hold threads of l that called: a server that names the reply receives their calls
+pub record MayHoldCaller (test : EdgeTest) (acts : ActorTest) (reply l : ℕ) : Type 0 where
+  pub holds : test reply Holds l ≡ true
+  pub server : ℕ
+  pub names : test server Reply reply ≡ true
+  pub serves : acts server ≡ true
+  pub endpoint : ℕ
+  pub receives : test server Receive endpoint ≡ true
+  pub calls : test l Call endpoint ≡ true
+  pub waits : acts l ≡ true
+
+-- a may answer calls of l
+pub record MayAnswer (test : EdgeTest) (acts : ActorTest) (a l : ℕ) : Type 0 where
+  pub reply : ℕ
+  pub uses : test a Reply reply ≡ true
+  pub called : MayHoldCaller test acts reply l
+
+-- the ways in which a thread of a may change objects of l; only threads of labels that act wait
+pub data WayToChange (test : EdgeTest) (acts : ActorTest) (a l : ℕ) : Type 0 where
+  -- its own objects
+  own : l ≡ a → WayToChange test acts a l
+  -- what it has a capability to
+  modifies : (kind : Kind) → is_changing kind ≡ true → test a kind l ≡ true → WayToChange test acts a l
+  -- a context
+  shares : MayChangeContext test a l → WayToChange test acts a l
+  -- who waits at an endpoint or a notification that it uses
+  sends : (endpoint : ℕ) → test a Send endpoint ≡ true → test l Receive endpoint ≡ true → acts l ≡ true → WayToChange test acts a l
+  receives : (endpoint : ℕ) → test a Receive endpoint ≡ true → test l Send endpoint ≡ true → acts l ≡ true → WayToChange test acts a l
+  notifies :
+      (notification : ℕ) → test a Notify notification ≡ true → test l Await notification ≡ true → acts l ≡ true
+      → WayToChange test acts a l
+  -- the replies of who receives its calls
+  links : (endpoint receiver : ℕ) → test a Send endpoint ≡ true → test a Call endpoint ≡ true → test receiver Receive endpoint ≡ true
+      → acts receiver ≡ true → test receiver Reply l ≡ true → WayToChange test acts a l
+  -- where who receives its capabilities keeps them
+  grants : (endpoint receiver : ℕ) → test a Grant endpoint ≡ true → test receiver Receive endpoint ≡ true → acts receiver ≡ true
+      → test receiver Control l ≡ true → WayToChange test acts a l
+  -- who called, and is held by a reply that it uses
+  replies : MayAnswer test acts a l → WayToChange test acts a l
+
+-- a may change objects of l: a acts, and there is a way
+pub record MayChange (test : EdgeTest) (acts : ActorTest) (a l : ℕ) : Type 0 where
+  pub actor : acts a ≡ true
+  pub way : WayToChange test acts a l

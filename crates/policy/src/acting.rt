@@ -1,0 +1,182 @@
+ghost use Rattle.std.specs.Prelude.{ℕ, ◌≡◌, ◌⊎◌, true};
+ghost use Rattle.base.specs.declared.kind.Kind.{Kind};
+ghost use Rattle.base.specs.declared.kind.Kind.TheVariants as authority;
+ghost use Rattle.policy.specs.{Change.{ActorTest, MayChange, is_changing}, Closing.IsWithin, Domain.EdgeTest, Full.IsFull};
+ghost use Rattle.policy.specs.NarrowTake.{MaySendTo, MayShrink, is_removed, is_waiting};
+ghost use Rattle.policy.specs.Take.{HasNone, MayTake};
+
+/// A law: a label has full authority on each label whose objects it may change, whichever labels act. It
+/// may change no fewer where the policy has more edges or more labels act; and a label that doesn't act
+/// may change nothing.
+pub fn what_may_be_changed_is_within_full_authority()
+    ensures full { (test : EdgeTest) (acts : ActorTest) (a l : ℕ) → MayChange test acts a l → IsFull test a l }
+    ensures grows { (test other : EdgeTest) (acts more : ActorTest)
+        → IsWithin test other
+        → ((x : ℕ) → acts x ≡ true → more x ≡ true)
+        → (a l : ℕ) → MayChange test acts a l → MayChange other more a l }
+    ensures acts { (test : EdgeTest) (acts : ActorTest) (a l : ℕ) → MayChange test acts a l → acts a ≡ true }
+{}
+
+/// A law: where an object of a label may shrink by what another label does, that one may take from it or
+/// has full authority on it, whichever labels act. There is no less of it where the policy has more edges
+/// or more labels act. Nothing shrinks by a label that doesn't act; and by one without an edge of control,
+/// context or reply nothing but the replies of those to whom it may send.
+pub fn what_may_shrink_may_be_taken()
+    ensures take { (test : EdgeTest) (acts : ActorTest) (a l : ℕ) → MayShrink test acts a l → MayTake test a l ⊎ IsFull test a l }
+    ensures grows { (test other : EdgeTest) (acts more : ActorTest)
+        → IsWithin test other
+        → ((x : ℕ) → acts x ≡ true → more x ≡ true)
+        → (a l : ℕ) → MayShrink test acts a l → MayShrink other more a l }
+    ensures acts { (test : EdgeTest) (acts : ActorTest) (a l : ℕ) → MayShrink test acts a l → acts a ≡ true }
+    ensures replies { (test : EdgeTest) (acts : ActorTest) (a : ℕ)
+        → HasNone test a authority.Control
+        → HasNone test a authority.Context
+        → HasNone test a authority.Reply
+        → (l : ℕ) → MayShrink test acts a l → MaySendTo test a l }
+    ensures nobody { (test : EdgeTest) (acts : ActorTest) (a : ℕ)
+        → HasNone test a authority.Control
+        → HasNone test a authority.Context
+        → HasNone test a authority.Reply
+        → HasNone test a authority.Send
+        → (l : ℕ) → ¬ MayShrink test acts a l }
+{}
+
+/// A law: a label that acts may change its own objects, what it has a capability to that changes it, a
+/// context by its own case, those who wait where it sends, receives or notifies, the replies of those who
+/// receive its calls, where those keep capabilities who receive them from it, and those who called and are
+/// held by a reply of its.
+pub fn changes_follow_paths()
+    ensures own { (test : EdgeTest) (acts : ActorTest) (a : ℕ) → acts a ≡ true → MayChange test acts a a }
+    ensures modifies { (test : EdgeTest) (acts : ActorTest) (a l : ℕ) (k : Kind)
+        → acts a ≡ true
+        → is_changing k ≡ true
+        → test a k l ≡ true
+        → MayChange test acts a l }
+    ensures configures { (test : EdgeTest) (acts : ActorTest) (a l core : ℕ)
+        → acts a ≡ true
+        → test a authority.Context l ≡ true
+        → test a authority.SchedControl core ≡ true
+        → MayChange test acts a l }
+    ensures binds { (test : EdgeTest) (acts : ActorTest) (a l thread : ℕ)
+        → acts a ≡ true
+        → test a authority.Context l ≡ true
+        → test a authority.Control thread ≡ true
+        → MayChange test acts a l }
+    ensures lends { (test : EdgeTest) (acts : ActorTest) (a l endpoint : ℕ)
+        → acts a ≡ true
+        → test a authority.Runs l ≡ true
+        → test a authority.Call endpoint ≡ true
+        → MayChange test acts a l }
+    ensures returns { (test : EdgeTest) (acts : ActorTest) (a l reply : ℕ)
+        → acts a ≡ true
+        → test a authority.Runs l ≡ true
+        → test a authority.Reply reply ≡ true
+        → MayChange test acts a l }
+    ensures sends { (test : EdgeTest) (acts : ActorTest) (a l endpoint : ℕ)
+        → acts a ≡ true
+        → test a authority.Send endpoint ≡ true
+        → test l authority.Receive endpoint ≡ true
+        → acts l ≡ true
+        → MayChange test acts a l }
+    ensures receives { (test : EdgeTest) (acts : ActorTest) (a l endpoint : ℕ)
+        → acts a ≡ true
+        → test a authority.Receive endpoint ≡ true
+        → test l authority.Send endpoint ≡ true
+        → acts l ≡ true
+        → MayChange test acts a l }
+    ensures notifies { (test : EdgeTest) (acts : ActorTest) (a l notification : ℕ)
+        → acts a ≡ true
+        → test a authority.Notify notification ≡ true
+        → test l authority.Await notification ≡ true
+        → acts l ≡ true
+        → MayChange test acts a l }
+    ensures links { (test : EdgeTest) (acts : ActorTest) (a l endpoint receiver : ℕ)
+        → acts a ≡ true
+        → test a authority.Send endpoint ≡ true
+        → test a authority.Call endpoint ≡ true
+        → test receiver authority.Receive endpoint ≡ true
+        → acts receiver ≡ true
+        → test receiver authority.Reply l ≡ true
+        → MayChange test acts a l }
+    ensures grants { (test : EdgeTest) (acts : ActorTest) (a l endpoint receiver : ℕ)
+        → acts a ≡ true
+        → test a authority.Grant endpoint ≡ true
+        → test receiver authority.Receive endpoint ≡ true
+        → acts receiver ≡ true
+        → test receiver authority.Control l ≡ true
+        → MayChange test acts a l }
+    ensures replies { (test : EdgeTest) (acts : ActorTest) (a l reply server endpoint : ℕ)
+        → acts a ≡ true
+        → test a authority.Reply reply ≡ true
+        → test reply authority.Holds l ≡ true
+        → test server authority.Reply reply ≡ true
+        → acts server ≡ true
+        → test server authority.Receive endpoint ≡ true
+        → test l authority.Call endpoint ≡ true
+        → acts l ≡ true
+        → MayChange test acts a l }
+{}
+
+/// A law: by a label that acts may shrink the contexts that it has and those who run on them; who may wait
+/// with a reply of its, and where that one receives; the replies of those who receive from it; and, where it
+/// controls a label, what that label has to do with and who waits for what it may delete.
+pub fn shrinks_follow_paths()
+    ensures unbinds { (test : EdgeTest) (acts : ActorTest) (a l : ℕ)
+        → acts a ≡ true
+        → test a authority.Context l ≡ true
+        → MayShrink test acts a l }
+    ensures stops { (test : EdgeTest) (acts : ActorTest) (a l context : ℕ)
+        → acts a ≡ true
+        → test a authority.Context context ≡ true
+        → test l authority.Runs context ≡ true
+        → MayShrink test acts a l }
+    ensures halts { (test : EdgeTest) (acts : ActorTest) (a l reply : ℕ)
+        → acts a ≡ true
+        → test a authority.Reply reply ≡ true
+        → test reply authority.Holds l ≡ true
+        → test l authority.Reply reply ≡ true
+        → acts l ≡ true
+        → MayShrink test acts a l }
+    ensures ends { (test : EdgeTest) (acts : ActorTest) (a l reply receiver : ℕ)
+        → acts a ≡ true
+        → test a authority.Reply reply ≡ true
+        → test receiver authority.Reply reply ≡ true
+        → acts receiver ≡ true
+        → test receiver authority.Receive l ≡ true
+        → MayShrink test acts a l }
+    ensures frees { (test : EdgeTest) (acts : ActorTest) (a l endpoint receiver : ℕ)
+        → acts a ≡ true
+        → test a authority.Send endpoint ≡ true
+        → test receiver authority.Receive endpoint ≡ true
+        → acts receiver ≡ true
+        → test receiver authority.Reply l ≡ true
+        → MayShrink test acts a l }
+    ensures removes { (test : EdgeTest) (acts : ActorTest) (a l controlled : ℕ) (k : Kind)
+        → acts a ≡ true
+        → is_removed k ≡ true
+        → test a authority.Control controlled ≡ true
+        → test controlled k l ≡ true
+        → MayShrink test acts a l }
+    ensures releases { (test : EdgeTest) (acts : ActorTest) (a l caller : ℕ)
+        → acts a ≡ true
+        → test a authority.Control caller ≡ true
+        → acts caller ≡ true
+        → test l authority.Holds caller ≡ true
+        → MayShrink test acts a l }
+    ensures wakes { (test : EdgeTest) (acts : ActorTest) (a l controlled end : ℕ) (k : Kind)
+        → acts a ≡ true
+        → is_waiting k ≡ true
+        → test a authority.Control controlled ≡ true
+        → test controlled authority.Reset end ≡ true
+        → test l k end ≡ true
+        → acts l ≡ true
+        → MayShrink test acts a l }
+    ensures drops { (test : EdgeTest) (acts : ActorTest) (a l controlled endpoint receiver : ℕ)
+        → acts a ≡ true
+        → test a authority.Control controlled ≡ true
+        → test controlled authority.Reset endpoint ≡ true
+        → test receiver authority.Receive endpoint ≡ true
+        → acts receiver ≡ true
+        → test receiver authority.Reply l ≡ true
+        → MayShrink test acts a l }
+{}
